@@ -1,0 +1,2 @@
+//! Sets of events and relations between them.
+#![tactic(auto)]

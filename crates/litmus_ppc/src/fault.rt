@@ -1,0 +1,62 @@
+//! Why the text of a test is refused.
+
+use std::alloc::AllocError;
+use thiserror::Error;
+
+/// The rule that a text breaks, with its number.
+#[derive(Clone, Copy, Debug, PartialEq, Eq)]
+pub enum LitmusRule {
+    NotPpc,
+    Name,
+    Init,
+    TypedDeclaration,
+    Header,
+    Columns,
+    Instruction,
+    ZeroBase,
+    Offset,
+    Label,
+    BackwardBranch,
+    Condition,
+    Filter,
+    OpenComment,
+    NotAscii,
+    TooLong,
+    TooManyThreads,
+}
+
+impl LitmusRule {
+    /// The number that a refusal is printed with, from 1 to 17.
+    pub fn number(self) -> u8 {
+        match self {
+            LitmusRule::NotPpc => 1,
+            LitmusRule::Name => 2,
+            LitmusRule::Init => 3,
+            LitmusRule::TypedDeclaration => 4,
+            LitmusRule::Header => 5,
+            LitmusRule::Columns => 6,
+            LitmusRule::Instruction => 7,
+            LitmusRule::ZeroBase => 8,
+            LitmusRule::Offset => 9,
+            LitmusRule::Label => 10,
+            LitmusRule::BackwardBranch => 11,
+            LitmusRule::Condition => 12,
+            LitmusRule::Filter => 13,
+            LitmusRule::OpenComment => 14,
+            LitmusRule::NotAscii => 15,
+            LitmusRule::TooLong => 16,
+            LitmusRule::TooManyThreads => 17,
+        }
+    }
+}
+
+/// Why no test was read.
+#[derive(Debug, Drop, Error)]
+pub enum LitmusFault {
+    /// The rule that the text breaks, and the byte place of the first token that cannot stand.
+    #[error("the text is refused at byte {place}")]
+    Refused { rule: LitmusRule, place: usize },
+    /// A growth was refused.
+    #[error("out of memory")]
+    OutOfMemory(#[from(alloc)] AllocError),
+}

@@ -1,0 +1,4 @@
+//! (to be written)
+#![tactic(auto)]
+
+fn main() {}

@@ -1,0 +1,40 @@
+//! Why a test has no list of candidates.
+
+use std::alloc::AllocError;
+use thiserror::Error;
+
+/// A bound that a test passes, or an access to no location.
+#[derive(Clone, Copy, Debug, PartialEq, Eq)]
+pub enum EvalRefusal {
+    TooManyEvents,
+    TooManyValues,
+    TooManyRuns,
+    TooManyCandidates,
+    AddressFault,
+    TooManyCombinations,
+}
+
+impl EvalRefusal {
+    /// The number that it is printed with, from 1 to 6.
+    pub fn number(self) -> u8 {
+        match self {
+            EvalRefusal::TooManyEvents => 1,
+            EvalRefusal::TooManyValues => 2,
+            EvalRefusal::TooManyRuns => 3,
+            EvalRefusal::TooManyCandidates => 4,
+            EvalRefusal::AddressFault => 5,
+            EvalRefusal::TooManyCombinations => 6,
+        }
+    }
+}
+
+/// Why no domain, or no list of candidates, was made.
+#[derive(Debug, Drop, Error)]
+pub enum SpaceFault {
+    /// The test is refused.
+    #[error("the test is refused")]
+    Refused(EvalRefusal),
+    /// A growth was refused.
+    #[error("out of memory")]
+    OutOfMemory(#[from(alloc)] AllocError),
+}
