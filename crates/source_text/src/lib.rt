@@ -1,9 +1,13 @@
 //! What the readers of tests and of models share: names, blanks, comments, strings and the limit of length.
 #![tactic(auto)]
 
+mod layout;
 mod name;
+mod put;
 
+pub use layout::{comment_length, is_blank, line_length, quoted_length};
 pub use name::Name;
+pub use put::{put_bytes, put_decimal};
 
 /// The greatest length of a text, in bytes.
 pub const MAX_BYTES: usize = 65_536;
