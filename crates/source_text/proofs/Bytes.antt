@@ -1,9 +1,9 @@
 -- Where the search for a byte ends, and the turns of the loop over a comment.
-use Rattle.std.proofs.Common.{◌≡◌, ℕ, zero, suc, ◌+◌, ◌-◌, ◌<◌, ◌≤◌, Bool, true, false, List, [], ◌∷◌, length, get_or, drop, Some, None, refl, sym, ap, ◌∙◌, arith}
+use Rattle.std.proofs.Common.{◌≡◌, ℕ, zero, suc, ◌+◌, ◌-◌, ◌<◌, ◌≤◌, Bool, true, false, List, [], ◌∷◌, length, get_or, take, drop, subst, Some, None, refl, sym, ap, ◌∙◌, arith}
 use Rattle.std.specs.Prelude.{◌==◌, ◌&&◌, if◌then◌else◌, slice_index}
 use Rattle.std.specs.List.{position_or_len}
 use Rattle.std.proofs.lemmas.Bool.Decides.{nat_tests}
-use Rattle.std.proofs.lemmas.List.{at_drop_more, at_drop_all, get_or-drop}
+use Rattle.std.proofs.lemmas.List.{at_drop_more, at_drop_all, take_all, get_or-drop}
 use Rattle.std.proofs.lemmas.List.Sums.{position_or_len_is}
 use Rattle.memchr.specs.Find.{IsFirstByte, is_byte}
 use Rattle.source_text.specs.Layout.{is_quote, quoted_from, comment_from, comment_of}
@@ -29,17 +29,18 @@ ends_before p n lt = grind (arith, nat_tests)
 does_not_end : (p n : ℕ) → p ≡ n → None ≡ (if p == n then None else Some (p + 2))
 does_not_end p n e = grind (arith, nat_tests)
 
-pub quote_found : (bytes : List ℕ) (at : ℕ) → 0 < length bytes → IsFirstByte (is_byte 34) (drop 1 bytes) (Some at) → Some (at + 2) ≡ quoted_from bytes
+pub quote_found : (bytes : List ℕ) (at : ℕ) → 0 < length bytes → IsFirstByte (is_byte 34) (take (length bytes - 1) (drop 1 bytes)) (Some at) → Some (at + 2) ≡ quoted_from bytes
 quote_found [] at lt h = absurd (omega arith)
 quote_found (b ∷ bs) at lt h =
-    let e : at ≡ position_or_len is_quote bs = first_found 34 bs at h in
-    let n = h.0 in
+    let found : IsFirstByte (is_byte 34) bs (Some at) = subst (λ (l : List ℕ). IsFirstByte (is_byte 34) l (Some at)) (take_all (length (b ∷ bs) - 1) bs (omega arith)) h in
+    let e : at ≡ position_or_len is_quote bs = first_found 34 bs at found in
+    let n = found.0 in
     let below : at < length bs = let x = n.high in omega arith in
     ap (λ p. Some (p + 2)) e ∙ ends_before (position_or_len is_quote bs) (length bs) (omega arith)
 
-pub no_quote : (bytes : List ℕ) → 0 < length bytes → IsFirstByte (is_byte 34) (drop 1 bytes) None → None ≡ quoted_from bytes
+pub no_quote : (bytes : List ℕ) → 0 < length bytes → IsFirstByte (is_byte 34) (take (length bytes - 1) (drop 1 bytes)) None → None ≡ quoted_from bytes
 no_quote [] lt h = absurd (omega arith)
-no_quote (b ∷ bs) lt h = does_not_end (position_or_len is_quote bs) (length bs) (sym (none_found 34 bs h))
+no_quote (b ∷ bs) lt h = does_not_end (position_or_len is_quote bs) (length bs) (sym (none_found 34 bs (subst (λ (l : List ℕ). IsFirstByte (is_byte 34) l None) (take_all (length (b ∷ bs) - 1) bs (omega arith)) h)))
 
 -- fewer than two bytes are no comment
 pub no_comment : (bytes : List ℕ) → length bytes < 2 → None ≡ comment_of bytes
