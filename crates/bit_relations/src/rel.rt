@@ -1,0 +1,390 @@
+//! Relations between events.
+ghost use Rattle.std.specs.Prelude.{◌≡◌, ℕ, ◌<◌, ◌≤◌, ◌-◌, ◌↔◌, length, slice_index, IsTrue};
+ghost use Rattle.bit_relations.specs.Relation.{Columns, Events};
+
+use crate::set::EventSet;
+use crate::words;
+use crate::words::{MAX_EVENTS, end_of_high, in_high, in_low, lowest_bits};
+use std::alloc::AllocError;
+use std::marker::Model;
+
+/// A relation between the events below a count.
+#[derive(Clone, Copy)]
+pub struct Rel {
+    count: usize,
+    low: [u64; MAX_EVENTS],
+    high: [u64; MAX_EVENTS],
+}
+
+impl Model for Rel {
+    ghost use Rattle.std.specs.Prelude.{◌≤◌};
+    ghost use Rattle.bit_relations.specs.Relation.{Columns};
+
+    ghost Value = { Columns };
+
+    ghost view = { λ r. record { count = r.count; low = r.low; high = r.high } };
+
+    ghost invariant = { λ r. r.count ≤ 128 };
+
+    ghost inverse = { λ v. record { count = v.count; low = v.low; high = v.high } };
+}
+
+impl Rel {
+    /// The relation with no pair, of a count.
+    pub fn empty(count: usize) -> Rel
+        requires { count ≤ 128 }
+        ensures { result.count ≡ count }
+    {
+        Rel {
+            count,
+            low: words::none(),
+            high: words::none(),
+        }
+    }
+
+    /// Each event below a count with itself.
+    pub fn identity(count: usize) -> Rel
+        requires { count ≤ 128 }
+        ensures { result.count ≡ count }
+    {
+        let mut made = Rel::empty(count);
+        made.add_identity();
+        made
+    }
+
+    /// The pairs from an event of one set to an event of another.
+    pub fn product(left: &EventSet, right: &EventSet) -> Rel
+        requires { right.now.count ≡ left.now.count }
+        ensures { result.count ≡ left.now.count }
+    {
+        let mut made = Rel::empty(left.count());
+        made.set_product(left, right);
+        made
+    }
+
+    /// Each event of a set with itself.
+    pub fn on(events: &EventSet) -> Rel
+        ensures { result.count ≡ events.now.count }
+    {
+        let mut made = Rel::empty(events.count());
+        made.set_on(events);
+        made
+    }
+
+    /// The count that its events are below.
+    pub fn count(&self) -> usize
+        ensures value { result ≡ self.now.count }
+        ensures few { result ≤ 128 }
+    {
+        self.count
+    }
+
+    /// Adds a pair.
+    pub fn insert(&mut self, from: usize, to: usize)
+        requires from { from < self.old.count }
+        requires to { to < self.old.count }
+        ensures { self.new.count ≡ self.old.count }
+    {
+        if to < 64 {
+            words::set_bit(&mut self.low, from, to);
+        } else {
+            words::set_bit(&mut self.high, from, to - 64);
+        }
+    }
+
+    /// Whether it has the pair.
+    pub fn contains(&self, from: usize, to: usize) -> bool
+        requires from { from < self.now.count }
+        requires to { to < self.now.count }
+    {
+        words::has_pair(&self.low, &self.high, from, to)
+    }
+
+    /// The pairs of both together.
+    pub fn union(&self, other: &Rel) -> Rel
+        requires { other.now.count ≡ self.now.count }
+        ensures { result.count ≡ self.now.count }
+    {
+        let mut made = *self;
+        made.union_with(other);
+        made
+    }
+
+    /// The pairs that are in both.
+    pub fn inter(&self, other: &Rel) -> Rel
+        requires { other.now.count ≡ self.now.count }
+        ensures { result.count ≡ self.now.count }
+    {
+        let mut made = *self;
+        made.inter_with(other);
+        made
+    }
+
+    /// The pairs of this one that are not in the other.
+    pub fn minus(&self, other: &Rel) -> Rel
+        requires { other.now.count ≡ self.now.count }
+        ensures { result.count ≡ self.now.count }
+    {
+        let mut made = *self;
+        made.minus_with(other);
+        made
+    }
+
+    /// The pairs that a pair of this one and then a pair of the other join, by an event in the middle.
+    pub fn compose(&self, other: &Rel) -> Rel
+        requires { other.now.count ≡ self.now.count }
+        ensures { result.count ≡ self.now.count }
+    {
+        let mut made = Rel::empty(self.count);
+        made.set_composed(self, other);
+        made
+    }
+
+    /// The pairs of events below the count that are not in it.
+    pub fn complement(&self) -> Rel
+        ensures { result.count ≡ self.now.count }
+    {
+        let mut made = *self;
+        made.turn();
+        made
+    }
+
+    /// Its pairs turned round.
+    pub fn inverse(&self) -> Rel
+        ensures { result.count ≡ self.now.count }
+    {
+        let mut made = Rel::empty(self.count);
+        made.set_inverse(self);
+        made
+    }
+
+    /// The pairs that a path of one step or more joins.
+    pub fn plus(&self) -> Rel
+        ensures { result.count ≡ self.now.count }
+    {
+        let mut made = *self;
+        made.close();
+        made
+    }
+
+    /// The pairs that a path joins, and each event with itself.
+    pub fn star(&self) -> Rel
+        ensures { result.count ≡ self.now.count }
+    {
+        let mut made = self.plus();
+        made.add_identity();
+        made
+    }
+
+    /// Its pairs, and each event with itself.
+    pub fn opt(&self) -> Rel
+        ensures { result.count ≡ self.now.count }
+    {
+        let mut made = *self;
+        made.add_identity();
+        made
+    }
+
+    /// Its pairs with both ends in a set.
+    pub fn restrict(&self, events: &EventSet) -> Rel
+        requires { events.now.count ≡ self.now.count }
+        ensures { result.count ≡ self.now.count }
+    {
+        let mut made = *self;
+        made.keep_within(events);
+        made
+    }
+
+    /// Whether it has no pair.
+    pub fn is_empty(&self) -> bool {
+        words::are_empty(&self.low, self.count)
+            && words::are_empty(&self.high, end_of_high(self.count))
+    }
+
+    /// Whether no event is paired with itself.
+    pub fn is_irreflexive(&self) -> bool {
+        words::is_low_diagonal_free(&self.low, in_low(self.count))
+            && words::is_high_diagonal_free(&self.high, in_high(self.count))
+    }
+
+    /// Whether no path of one step or more leads back to where it began.
+    pub fn is_acyclic(&self) -> bool {
+        self.plus().is_irreflexive()
+    }
+
+    /// Whether both have the same count and pairs.
+    pub fn is_same(&self, other: &Rel) -> bool
+        ensures { IsTrue result → (self.now.count ≡ other.now.count) }
+    {
+        self.count == other.count
+            && words::are_same(&self.low, &other.low, self.count)
+            && words::are_same(&self.high, &other.high, end_of_high(self.count))
+    }
+}
+
+/// The operations in place: each touches only rows below the counts.
+impl Rel {
+    /// Becomes the relation with no pair, of a count.
+    pub fn clear(&mut self, count: usize)
+        requires { count ≤ 128 }
+        ensures { self.new.count ≡ count }
+    {
+        words::clear(&mut self.low, self.count);
+        words::clear(&mut self.high, end_of_high(self.count));
+        self.count = count;
+    }
+
+    /// Becomes the other.
+    pub fn copy_from(&mut self, other: &Rel)
+        ensures { self.new.count ≡ other.now.count }
+    {
+        let most = self.count.max(other.count);
+        words::copy(&mut self.low, &other.low, most);
+        words::copy(&mut self.high, &other.high, end_of_high(most));
+        self.count = other.count;
+    }
+
+    /// Adds the pairs of another.
+    pub fn union_with(&mut self, other: &Rel)
+        requires { other.now.count ≡ self.old.count }
+        ensures { self.new.count ≡ self.old.count }
+    {
+        words::join(&mut self.low, &other.low, self.count);
+        words::join(&mut self.high, &other.high, end_of_high(self.count));
+    }
+
+    /// Keeps the pairs that are in another too.
+    pub fn inter_with(&mut self, other: &Rel)
+        requires { other.now.count ≡ self.old.count }
+        ensures { self.new.count ≡ self.old.count }
+    {
+        words::meet(&mut self.low, &other.low, self.count);
+        words::meet(&mut self.high, &other.high, end_of_high(self.count));
+    }
+
+    /// Drops the pairs that are in another.
+    pub fn minus_with(&mut self, other: &Rel)
+        requires { other.now.count ≡ self.old.count }
+        ensures { self.new.count ≡ self.old.count }
+    {
+        words::drop_bits(&mut self.low, &other.low, self.count);
+        words::drop_bits(&mut self.high, &other.high, end_of_high(self.count));
+    }
+
+    /// Becomes its complement.
+    pub fn turn(&mut self)
+        ensures { self.new.count ≡ self.old.count }
+    {
+        let low = lowest_bits(in_low(self.count));
+        let high = lowest_bits(in_high(self.count));
+        words::turn(&mut self.low, low, self.count);
+        words::turn(&mut self.high, high, end_of_high(self.count));
+    }
+
+    /// Becomes its closure over paths of one step or more.
+    pub fn close(&mut self)
+        ensures { self.new.count ≡ self.old.count }
+    {
+        words::close(&mut self.low, &mut self.high, self.count);
+    }
+
+    /// Adds each event below the count with itself.
+    pub fn add_identity(&mut self)
+        ensures { self.new.count ≡ self.old.count }
+    {
+        words::add_low_diagonal(&mut self.low, in_low(self.count));
+        words::add_high_diagonal(&mut self.high, in_high(self.count));
+    }
+
+    /// Keeps the pairs with both ends in a set.
+    pub fn keep_within(&mut self, events: &EventSet)
+        requires { events.now.count ≡ self.old.count }
+        ensures { self.new.count ≡ self.old.count }
+    {
+        let low = events.low();
+        let high = events.high();
+        words::keep(&mut self.low, low, high, low, self.count);
+        words::keep(&mut self.high, low, high, high, end_of_high(self.count));
+    }
+
+    /// Becomes the composition of two others.
+    pub fn set_composed(&mut self, left: &Rel, right: &Rel)
+        requires { right.now.count ≡ left.now.count }
+        ensures { self.new.count ≡ left.now.count }
+    {
+        self.clear(left.count);
+        words::compose(
+            &mut self.low,
+            &left.low,
+            &left.high,
+            &right.low,
+            left.count,
+            left.count,
+        );
+        words::compose(
+            &mut self.high,
+            &left.low,
+            &left.high,
+            &right.high,
+            left.count,
+            end_of_high(left.count),
+        );
+    }
+
+    /// Becomes the inverse of another.
+    pub fn set_inverse(&mut self, of: &Rel)
+        ensures { self.new.count ≡ of.now.count }
+    {
+        self.clear(of.count);
+        words::invert_low(&mut self.low, &of.low, &of.high, of.count);
+        words::invert_high(&mut self.high, &of.low, &of.high, of.count);
+    }
+
+    /// Becomes the pairs from an event of one set to an event of another.
+    pub fn set_product(&mut self, left: &EventSet, right: &EventSet)
+        requires { right.now.count ≡ left.now.count }
+        ensures { self.new.count ≡ left.now.count }
+    {
+        let count = left.count();
+        self.clear(count);
+        words::fill(&mut self.low, left.low(), left.high(), right.low(), count);
+        words::fill(
+            &mut self.high,
+            left.low(),
+            left.high(),
+            right.high(),
+            end_of_high(count),
+        );
+    }
+
+    /// Becomes each event of a set with itself.
+    pub fn set_on(&mut self, events: &EventSet)
+        ensures { self.new.count ≡ events.now.count }
+    {
+        self.clear(events.count());
+        self.add_identity();
+        self.keep_within(events);
+    }
+
+    /// The words of its rows: the low ones, then the high ones where the count is over 64.
+    pub(crate) fn append_to(&self, words: &mut Vec<u64>) -> Result<(), AllocError> {
+        words.extend_from_slice(words::first(&self.low, self.count))?;
+        words.extend_from_slice(words::first(&self.high, end_of_high(self.count)))?;
+        Ok(())
+    }
+
+    /// Becomes the relation of a count whose words stand in a list from a place on.
+    pub(crate) fn read_from(&mut self, count: usize, words: &[u64], at: usize)
+        requires { count ≤ 128 }
+        ensures { self.new.count ≡ count }
+    {
+        self.clear(count);
+        words::read(&mut self.low, words, at, count);
+        words::read(
+            &mut self.high,
+            words,
+            at.saturating_add(count),
+            end_of_high(count),
+        );
+    }
+}
