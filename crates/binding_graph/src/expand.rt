@@ -1,0 +1,159 @@
+//! Expressions with the functions that they apply put in.
+
+use crate::function::{Function, MAX_SIZE};
+use crate::plan::{Node, Piece};
+use std::alloc::{AllocError, Global};
+
+/// Where an operand begins.
+#[derive(Clone, Copy, Debug, PartialEq, Eq)]
+struct Operand {
+    start: usize,
+    /// Whether it is left out, since it is too large to be ever used.
+    is_oversized: bool,
+}
+
+/// An expression in postfix order without applications.
+#[derive(Drop)]
+pub struct Expansion {
+    pub pieces: Vec<Piece>,
+    operands: Vec<Operand>,
+}
+
+/// How many operands a piece takes.
+fn operands_of(piece: Piece) -> usize {
+    match piece {
+        Piece::Value(_) => 0,
+        Piece::Parameter(_) => 0,
+        Piece::Everything => 0,
+        Piece::NoPairs => 0,
+        Piece::NoEvents => 0,
+        Piece::Joined(_) => 2,
+        Piece::Marked(_) => 1,
+        Piece::Complement => 1,
+        Piece::Identity => 1,
+    }
+}
+
+impl Expansion {
+    fn new(alloc: Global) -> Expansion {
+        Expansion {
+            pieces: Vec::new(alloc),
+            operands: Vec::new(alloc),
+        }
+    }
+
+    /// Whether it is left out, or larger than an application may be.
+    pub fn is_oversized(&self) -> bool {
+        match self.operands.last() {
+            Some(whole) => whole.is_oversized || self.pieces.len() > MAX_SIZE,
+            None => true,
+        }
+    }
+
+    /// The whole expression.
+    pub fn into_pieces(self) -> Vec<Piece> {
+        let Expansion { pieces, .. } = self;
+        pieces
+    }
+
+    fn begin(&mut self, is_oversized: bool) -> Result<(), AllocError> {
+        self.operands.push(Operand {
+            start: self.pieces.len(),
+            is_oversized,
+        })?;
+        Ok(())
+    }
+
+    /// The last two operands become one.
+    fn join(&mut self) {
+        if let Some(right) = self.operands.pop() {
+            if let Some(left) = self.operands.last_mut() {
+                left.is_oversized = left.is_oversized || right.is_oversized;
+            }
+        }
+    }
+
+    fn put(&mut self, piece: Piece) -> Result<(), AllocError> {
+        match operands_of(piece) {
+            0 => self.begin(false)?,
+            1 => {}
+            _ => self.join(),
+        }
+        self.pieces.push(piece)?;
+        Ok(())
+    }
+
+    /// The operand at that place, unless it is too large.
+    fn operand(&self, place: usize) -> Option<&[Piece]> {
+        let one = self.operands.get(place)?;
+        if one.is_oversized {
+            return None;
+        }
+        let end = match self.operands.get(place.saturating_add(1)) {
+            Some(next) => next.start,
+            None => self.pieces.len(),
+        };
+        self.pieces.as_slice().get(one.start..end)
+    }
+
+    /// Appends a template whose parameters are the operands from `first` on, and says whether it
+    /// is not too large.
+    fn fill(
+        &self,
+        template: &[Piece],
+        first: usize,
+        made: &mut Vec<Piece>,
+    ) -> Result<bool, AllocError> {
+        for piece in template {
+            match piece {
+                Piece::Parameter(place) => match self.operand(first.saturating_add(*place)) {
+                    Some(operand) if operand.len() <= MAX_SIZE => made.extend_from_slice(operand)?,
+                    _ => return Ok(false),
+                },
+                other => made.push(*other)?,
+            }
+            if made.len() > MAX_SIZE {
+                return Ok(false);
+            }
+        }
+        Ok(true)
+    }
+
+    /// The last operands become what the function makes of them.
+    fn apply(&mut self, alloc: Global, function: &Function) -> Result<(), AllocError> {
+        let first = self.operands.len().saturating_sub(function.arity);
+        let mut made = Vec::new(alloc);
+        let fits = !function.is_oversized && self.fill(&function.template, first, &mut made)?;
+        if let Some(argument) = self.operands.get(first) {
+            self.pieces.truncate(argument.start);
+        }
+        self.operands.truncate(first);
+        self.begin(!fits)?;
+        if fits {
+            self.pieces.extend_from_slice(&made)?;
+            return Ok(());
+        }
+        self.pieces.push(Piece::NoPairs)?;
+        Ok(())
+    }
+}
+
+/// The expression with the functions put in.
+pub fn expand(
+    alloc: Global,
+    functions: &[Function],
+    nodes: &[Node],
+) -> Result<Expansion, AllocError> {
+    let mut expansion = Expansion::new(alloc);
+    for node in nodes {
+        match node {
+            Node::Plain(piece) => expansion.put(*piece)?,
+            Node::Applied(function) => {
+                if let Some(one) = functions.get(*function) {
+                    expansion.apply(alloc, one)?;
+                }
+            }
+        }
+    }
+    Ok(expansion)
+}

@@ -1,0 +1,64 @@
+//! What an item uses, and which items are used.
+
+use crate::resolved::{Input, Resolved, ResolvedItem, Role};
+use std::alloc::{AllocError, Global};
+
+/// The names of other items that the item at that place uses, each once, in the order of first
+/// use: none where no item stands there.
+pub fn inputs_of(resolved: &Resolved, item: usize) -> &[Input] {
+    match resolved.items.get(item) {
+        Some(one) => one.inputs.as_slice(),
+        None => &[],
+    }
+}
+
+fn is_check(item: &ResolvedItem) -> bool {
+    match item.role {
+        Role::Check(_) => true,
+        Role::Group { .. } => false,
+        Role::Silent => false,
+    }
+}
+
+fn mark(marks: &mut Vec<bool>, item: usize) {
+    if let Some(place) = marks.get_mut(item) {
+        *place = true;
+    }
+}
+
+fn is_marked(marks: &[bool], item: usize) -> bool {
+    match marks.get(item) {
+        Some(place) => *place,
+        None => false,
+    }
+}
+
+fn mark_used(marks: &mut Vec<bool>, item: &ResolvedItem) {
+    for input in &item.inputs {
+        mark(marks, input.item);
+    }
+    for function in &item.functions {
+        mark(marks, *function);
+    }
+}
+
+/// The places of the items that checks and flags reach, themselves and the functions that are
+/// applied among them, rising.
+pub fn used(alloc: Global, resolved: &Resolved) -> Result<Vec<usize>, AllocError> {
+    let mut marks = Vec::new(alloc);
+    for item in &resolved.items {
+        marks.push(is_check(item))?;
+    }
+    for (place, item) in resolved.items.iter().enumerate().rev() {
+        if is_marked(&marks, place) {
+            mark_used(&mut marks, item);
+        }
+    }
+    let mut places = Vec::new(alloc);
+    for (place, marked) in marks.iter().enumerate() {
+        if *marked {
+            places.push(place)?;
+        }
+    }
+    Ok(places)
+}

@@ -1,0 +1,98 @@
+//! What names stand for.
+
+use crate::function::Function;
+use crate::resolved::{Input, Kind};
+use cat_syntax::{PREDEFINED, Predefined};
+use source_text::Name;
+use std::alloc::{AllocError, Global};
+
+/// What binds a name.
+#[derive(Clone, Copy, Debug, PartialEq, Eq)]
+pub enum Binder {
+    Predefined(Predefined),
+    /// A name of a group.
+    Bound(Input),
+    /// A function, by its place among the functions of the scope.
+    Applicable(usize),
+}
+
+/// A name that stands for something.
+#[derive(Drop)]
+pub struct Entry {
+    pub name: Name,
+    pub kind: Kind,
+    pub binder: Binder,
+}
+
+/// Where a name is bound, as a place in the scope, and what it stands for there.
+#[derive(Clone, Copy, PartialEq, Eq)]
+pub struct Found {
+    pub slot: usize,
+    pub kind: Kind,
+    pub binder: Binder,
+}
+
+/// The names that are seen, the latest last. A name's place, its slot, stays the same as the
+/// scope grows.
+#[derive(Drop)]
+pub struct Scope {
+    pub entries: Vec<Entry>,
+    pub functions: Vec<Function>,
+}
+
+/// The last entry of that name.
+pub fn find(entries: &[Entry], name: &Name) -> Option<Found> {
+    let mut last = None;
+    for (slot, entry) in entries.iter().enumerate() {
+        if entry.name.is_same(name) {
+            last = Some(Found {
+                slot,
+                kind: entry.kind,
+                binder: entry.binder,
+            });
+        }
+    }
+    last
+}
+
+fn kind_of_predefined(one: Predefined) -> Kind {
+    if one.is_set() {
+        Kind::OfSet
+    } else {
+        Kind::OfRelation
+    }
+}
+
+impl Scope {
+    /// The predefined names.
+    pub fn new(alloc: Global) -> Result<Scope, AllocError> {
+        let mut entries = Vec::new(alloc);
+        for one in PREDEFINED {
+            entries.push(Entry {
+                name: Name::new(alloc, one.spelling())?,
+                kind: kind_of_predefined(one),
+                binder: Binder::Predefined(one),
+            })?;
+        }
+        Ok(Scope {
+            entries,
+            functions: Vec::new(alloc),
+        })
+    }
+
+    /// Adds a name.
+    pub fn declare(
+        &mut self,
+        alloc: Global,
+        name: &Name,
+        kind: Kind,
+        binder: Binder,
+    ) -> Result<(), AllocError> {
+        self.entries.push(Entry {
+            name: name.copied(alloc)?,
+            kind,
+            binder,
+        })?;
+        Ok(())
+    }
+}
