@@ -2,12 +2,22 @@
 #![tactic(auto)]
 
 mod fault;
+mod items;
+mod lets;
+mod lexer;
 mod model;
 mod predefined;
+mod print;
+mod read;
+mod terms;
+mod token;
+mod words;
 
 pub use fault::{CatFault, CatRule};
 pub use model::{
     Binding, Check, CheckWord, Expression, Infix, Item, ModelText, Postfix, ShownExpression,
 };
 pub use predefined::{PREDEFINED, PREDEFINED_COUNT, Predefined};
+pub use print::{print_item, print_model};
+pub use read::{read_item, read_model};
 pub use source_text::Name;

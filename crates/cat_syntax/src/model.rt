@@ -95,9 +95,15 @@ pub enum Item {
         body: Expression,
     },
     /// A check that executions are kept by.
-    Check { check: Check, label: Option<Name> },
+    Check {
+        check: Check,
+        label: Option<Name>,
+    },
     /// A check whose name is raised.
-    Flag { check: Check, label: Name },
+    Flag {
+        check: Check,
+        label: Name,
+    },
     /// `show`, or `unshow` where it is hidden.
     Show {
         hidden: bool,

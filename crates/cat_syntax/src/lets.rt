@@ -1,0 +1,166 @@
+//! Reads what stands before the expressions of a `let`.
+
+use crate::fault::CatRule;
+use crate::items::{Head, Part, body_begun};
+use crate::model::{Binding, Expression, Item};
+use crate::terms::StepError;
+use crate::token::Token;
+use source_text::Name;
+use std::alloc::{AllocError, Global};
+
+/// How many names a group may have.
+pub const MAX_NAMES: usize = 64;
+
+/// How many parameters a function may have.
+pub const MAX_PARAMETERS: usize = 8;
+
+/// The bindings of a `let` so far.
+#[derive(Debug, Drop)]
+pub struct Group {
+    pub recursive: bool,
+    pub bindings: Vec<Binding>,
+}
+
+/// Where in the head of a `let` the reader stands.
+#[derive(Debug, Drop)]
+pub enum LetPart {
+    /// After `let`.
+    Keyword,
+    /// After `let` and a name, which may be a function's.
+    Named(Name),
+    /// After `let rec` or `and`.
+    And(Group),
+    /// After a name that is no function's.
+    Bound(Group, Name),
+    /// Where a parameter is wanted.
+    Parameter(Name, Vec<Name>),
+    /// After a parameter.
+    AfterParameter(Name, Vec<Name>),
+    /// After all parameters.
+    Parameters(Name, Vec<Name>),
+}
+
+impl Group {
+    fn new(alloc: Global, recursive: bool) -> Group {
+        Group {
+            recursive,
+            bindings: Vec::new(alloc),
+        }
+    }
+
+    /// One more binding.
+    pub fn with(self, name: Name, body: Expression) -> Result<Group, AllocError> {
+        let Group {
+            recursive,
+            mut bindings,
+        } = self;
+        bindings.push(Binding { name, body })?;
+        Ok(Group {
+            recursive,
+            bindings,
+        })
+    }
+
+    /// The item of the group.
+    pub fn into_item(self) -> Item {
+        let Group {
+            recursive,
+            bindings,
+        } = self;
+        Item::Let {
+            recursive,
+            group: bindings,
+        }
+    }
+}
+
+// A token after `let`.
+fn keyword_read(alloc: Global, token: Token) -> Result<LetPart, StepError> {
+    match token {
+        Token::Rec => Ok(LetPart::And(Group::new(alloc, true))),
+        Token::Name(name) => Ok(LetPart::Named(name)),
+        other => Err(StepError::Refused(other.rule())),
+    }
+}
+
+// The next name of a group.
+fn bound_name(group: Group, token: Token) -> Result<LetPart, StepError> {
+    match token {
+        Token::Name(name) => {
+            if group.bindings.len() >= MAX_NAMES {
+                return Err(StepError::Refused(CatRule::TooMany));
+            }
+            Ok(LetPart::Bound(group, name))
+        }
+        other => Err(StepError::Refused(other.rule())),
+    }
+}
+
+fn parameter_read(name: Name, parameters: Vec<Name>, token: Token) -> Result<LetPart, StepError> {
+    match token {
+        Token::Name(parameter) => {
+            let mut parameters = parameters;
+            if parameters.len() >= MAX_PARAMETERS {
+                return Err(StepError::Refused(CatRule::TooMany));
+            }
+            parameters.push(parameter)?;
+            Ok(LetPart::AfterParameter(name, parameters))
+        }
+        other => Err(StepError::Refused(other.rule())),
+    }
+}
+
+fn after_parameter(name: Name, parameters: Vec<Name>, token: Token) -> Result<LetPart, StepError> {
+    match token {
+        Token::Comma => Ok(LetPart::Parameter(name, parameters)),
+        Token::Close => Ok(LetPart::Parameters(name, parameters)),
+        other => Err(StepError::Refused(other.rule())),
+    }
+}
+
+// A token after `let` and a name.
+fn after_name(alloc: Global, name: Name, token: Token) -> Result<Part, StepError> {
+    match token {
+        Token::Equals => Ok(body_begun(alloc, Head::Bound(Group::new(alloc, false), name))),
+        Token::Open => Ok(Part::Let(LetPart::Parameter(name, Vec::new(alloc)))),
+        other => Err(StepError::Refused(other.rule())),
+    }
+}
+
+// A token after a name that is no function's. A parenthesis would make it one, which is not supported here.
+fn after_bound(alloc: Global, group: Group, name: Name, token: Token) -> Result<Part, StepError> {
+    match token {
+        Token::Equals => Ok(body_begun(alloc, Head::Bound(group, name))),
+        Token::Open => Err(StepError::Refused(CatRule::Unsupported)),
+        other => Err(StepError::Refused(other.rule())),
+    }
+}
+
+fn after_parameters(
+    alloc: Global,
+    name: Name,
+    parameters: Vec<Name>,
+    token: Token,
+) -> Result<Part, StepError> {
+    match token {
+        Token::Equals => Ok(body_begun(alloc, Head::Function(name, parameters))),
+        other => Err(StepError::Refused(other.rule())),
+    }
+}
+
+/// A token in the head of a `let`.
+pub fn after_let(alloc: Global, part: LetPart, token: Token) -> Result<Part, StepError> {
+    match part {
+        LetPart::Keyword => Ok(Part::Let(keyword_read(alloc, token)?)),
+        LetPart::Named(name) => after_name(alloc, name, token),
+        LetPart::And(group) => Ok(Part::Let(bound_name(group, token)?)),
+        LetPart::Bound(group, name) => after_bound(alloc, group, name, token),
+        LetPart::Parameter(name, parameters) => {
+            Ok(Part::Let(parameter_read(name, parameters, token)?))
+        }
+        LetPart::AfterParameter(name, parameters) => {
+            Ok(Part::Let(after_parameter(name, parameters, token)?))
+        }
+        LetPart::Parameters(name, parameters) => after_parameters(alloc, name, parameters, token),
+    }
+}
