@@ -1,6 +1,6 @@
 //! Runs of a thread, and the values that its loads may take.
 
-use crate::program::{Event, RunStep};
+use crate::instruction::{Event, RunStep};
 use crate::value::Value;
 use arrayvec::ArrayVec;
 

@@ -56,3 +56,9 @@ pub struct RunStep {
     pub instruction: Instruction,
     pub loaded: Value,
 }
+
+impl Default for Event {
+    fn default() -> Event {
+        Event::Orders(Fence::Sync)
+    }
+}
