@@ -254,7 +254,13 @@ pub fn feed(
                 let place = Place::Location(constant_name(alloc, value)?);
                 Ok(Fed::Goes(frames, operators, Hole::WantsValue(place)))
             }
-            other => behind(alloc, frames, operators, Proposition::Constant(value), other),
+            other => behind(
+                alloc,
+                frames,
+                operators,
+                Proposition::Constant(value),
+                other,
+            ),
         },
         Hole::HasNot => after_not(alloc, threads, frames, operators, token),
         Hole::InPlace(within) => {

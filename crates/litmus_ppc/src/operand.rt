@@ -42,7 +42,7 @@ pub enum Want {
 }
 
 /// The registers and the number read so far.
-#[derive(Clone, Copy, Debug)]
+#[derive(Debug, Drop)]
 pub struct Operands {
     count: usize,
     first: Register,
@@ -153,14 +153,11 @@ impl DataOpcode {
     }
 
     /// The instruction of these operands.
-    pub fn instruction(self, operands: Operands) -> Instruction {
-        let Operands {
-            count: _,
-            first,
-            second,
-            third,
-            value,
-        } = operands;
+    pub fn instruction(self, operands: &Operands) -> Instruction {
+        let first = operands.first;
+        let second = operands.second;
+        let third = operands.third;
+        let value = operands.value;
         match self {
             DataOpcode::LoadImmediate => Instruction::LoadImmediate {
                 target: first,

@@ -182,12 +182,7 @@ impl Reader {
         }
     }
 
-    fn init_read(
-        &mut self,
-        hole: InitHole,
-        token: Token,
-        place: usize,
-    ) -> Result<Part, StepError> {
+    fn init_read(&mut self, hole: InitHole, token: Token, place: usize) -> Result<Part, StepError> {
         match self.init.step(hole, token, place)? {
             InitStep::Goes(hole) => Ok(Part::Init(hole)),
             InitStep::Ends => {

@@ -16,7 +16,7 @@ enum Cell {
     Begins,
     Labelled,
     /// Within an instruction, of which so many tokens were taken.
-    Within(DataOpcode, usize, Operands),
+    Within(DataOpcode, usize),
     WantsLabel(Option<BranchCondition>),
     Whole,
 }
@@ -29,6 +29,8 @@ pub struct Table {
     // The number of the thread whose cell is read.
     column: usize,
     cell: Cell,
+    // Those of the instruction that is read.
+    operands: Operands,
 }
 
 impl Table {
@@ -39,6 +41,7 @@ impl Table {
             threads: Vec::new(alloc),
             column: 0,
             cell: Cell::Begins,
+            operands: Operands::new(),
         }
     }
 
@@ -84,13 +87,13 @@ impl Table {
     pub fn is_cell_whole(&self) -> bool {
         match self.cell {
             Cell::Begins | Cell::Labelled | Cell::Whole => true,
-            Cell::Within(_, _, _) | Cell::WantsLabel(_) => false,
+            Cell::Within(_, _) | Cell::WantsLabel(_) => false,
         }
     }
 
     fn want(&self) -> Option<Want> {
         match self.cell {
-            Cell::Within(opcode, taken, _) => opcode.want(taken),
+            Cell::Within(opcode, taken) => opcode.want(taken),
             _ => None,
         }
     }
@@ -133,9 +136,7 @@ impl Table {
                 other => self.instruction_begun(other, place),
             },
             Cell::Labelled => self.instruction_begun(token, place),
-            Cell::Within(opcode, taken, operands) => {
-                self.operand_read(opcode, taken, operands, &token, place)
-            }
+            Cell::Within(opcode, taken) => self.operand_read(opcode, taken, &token, place),
             Cell::WantsLabel(condition) => self.target_read(condition, token, place),
             Cell::Whole => self.cell_ended(&token),
         }
@@ -146,7 +147,8 @@ impl Table {
         match token {
             Token::Word(word) => match opcode_of(word.as_bytes()) {
                 Some(Opcode::Data(opcode)) => {
-                    self.cell = Cell::Within(opcode, 0, Operands::new());
+                    self.operands = Operands::new();
+                    self.cell = Cell::Within(opcode, 0);
                     Ok(())
                 }
                 Some(Opcode::Branch(condition)) => {
@@ -164,23 +166,21 @@ impl Table {
         &mut self,
         opcode: DataOpcode,
         taken: usize,
-        operands: Operands,
         token: &Token,
         place: usize,
     ) -> Result<(), StepError> {
-        let mut operands = operands;
         let Some(want) = opcode.want(taken) else {
             return Err(StepError::Refused);
         };
-        if !operands.take(want, token) {
+        if !self.operands.take(want, token) {
             return Err(StepError::Refused);
         }
         let taken = taken.saturating_add(1);
         if taken < opcode.form().len() {
-            self.cell = Cell::Within(opcode, taken, operands);
+            self.cell = Cell::Within(opcode, taken);
             Ok(())
         } else {
-            self.finish(opcode.instruction(operands), place)
+            self.finish(opcode.instruction(&self.operands), place)
         }
     }
 
