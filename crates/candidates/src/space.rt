@@ -65,3 +65,13 @@ pub struct Execution {
     /// For each thread, what the registers hold at the end.
     pub registers: Vec<[Value; 32]>,
 }
+
+impl Space {
+    pub fn len(&self) -> usize {
+        let mut n = 0usize;
+        for c in &self.combinations {
+            n = n.saturating_add(c.sources.len().saturating_mul(c.orders.len()));
+        }
+        n
+    }
+}
