@@ -1,7 +1,2 @@
-//! One test under one model: what is computed, and in which order.
+//! (to be written)
 #![tactic(auto)]
-
-mod cell;
-pub mod fixtures;
-
-pub use cell::eval_cell;

@@ -1,0 +1,148 @@
+//! Candidate executions, shared by combinations of runs.
+
+use litmus_ppc::Fence;
+use ppc_semantics::Value;
+use source_text::Name;
+use std::alloc::{AllocError, Global};
+
+/// What an event does.
+#[derive(Clone, Copy)]
+pub enum Action {
+    Read { location: usize, value: Value },
+    Write { location: usize, value: Value },
+    Fence(Fence),
+}
+
+/// An event: an initial store, which has no thread, or an access or fence of a thread.
+#[derive(Clone, Copy)]
+pub struct Event {
+    pub thread: Option<usize>,
+    pub action: Action,
+}
+
+/// One run for each thread, with all ways to read and all orders of the stores that make
+/// candidates of it: each way to read with each order is one candidate, the ways outside.
+/// Events are numbered: initial stores by location, then threads in order, each in program
+/// order. There are at most 128.
+#[derive(Drop)]
+pub struct Combination {
+    pub events: Vec<Event>,
+    pub addr_pairs: Vec<(usize, usize)>,
+    pub data_pairs: Vec<(usize, usize)>,
+    pub ctrl_pairs: Vec<(usize, usize)>,
+    pub ctrlisync_pairs: Vec<(usize, usize)>,
+    /// For each thread, the place of its run in `Space::registers`.
+    pub runs: Vec<usize>,
+    /// Each a way to read: for each load in event order, the number of the store that it reads.
+    pub sources: Vec<Vec<u8>>,
+    /// Each an order of the stores: those of each location after one another, locations in order,
+    /// the initial store first.
+    pub orders: Vec<Vec<u8>>,
+}
+
+/// All candidates of a test: those of each combination in turn.
+#[derive(Drop)]
+pub struct Space {
+    /// The test's locations, sorted by name bytes.
+    pub locations: Vec<Name>,
+    /// For each thread and each of its runs that is kept, what the registers hold at the end.
+    pub registers: Vec<Vec<[Value; 32]>>,
+    /// The combinations that have candidates, in the order of their runs.
+    pub combinations: Vec<Combination>,
+}
+
+/// One candidate as plain data.
+#[derive(Drop)]
+pub struct Execution {
+    pub events: Vec<Event>,
+    pub addr_pairs: Vec<(usize, usize)>,
+    pub data_pairs: Vec<(usize, usize)>,
+    pub ctrl_pairs: Vec<(usize, usize)>,
+    pub ctrlisync_pairs: Vec<(usize, usize)>,
+    /// For each load in event order, the number of the store that it reads.
+    pub sources: Vec<u8>,
+    /// The stores of each location after one another, in coherence order.
+    pub order: Vec<u8>,
+    /// For each thread, what the registers hold at the end.
+    pub registers: Vec<[Value; 32]>,
+}
+
+impl Combination {
+    /// How many candidates it has.
+    pub fn candidate_count(&self) -> usize {
+        self.sources.len().saturating_mul(self.orders.len())
+    }
+
+    /// The candidate at this place among those of the combination.
+    fn execution(
+        &self,
+        alloc: Global,
+        registers: &[Vec<[Value; 32]>],
+        place: usize,
+    ) -> Result<Option<Execution>, AllocError> {
+        let orders = self.orders.len();
+        if orders == 0 {
+            return Ok(None);
+        }
+        let Some(sources) = self.sources.get(place / orders) else {
+            return Ok(None);
+        };
+        let Some(order) = self.orders.get(place % orders) else {
+            return Ok(None);
+        };
+        Ok(Some(Execution {
+            events: Vec::from_slice(alloc, &self.events)?,
+            addr_pairs: Vec::from_slice(alloc, &self.addr_pairs)?,
+            data_pairs: Vec::from_slice(alloc, &self.data_pairs)?,
+            ctrl_pairs: Vec::from_slice(alloc, &self.ctrl_pairs)?,
+            ctrlisync_pairs: Vec::from_slice(alloc, &self.ctrlisync_pairs)?,
+            sources: Vec::from_slice(alloc, sources)?,
+            order: Vec::from_slice(alloc, order)?,
+            registers: final_registers(alloc, registers, &self.runs)?,
+        }))
+    }
+}
+
+/// What the registers of each thread hold at the end of its run.
+fn final_registers(
+    alloc: Global,
+    registers: &[Vec<[Value; 32]>],
+    runs: &[usize],
+) -> Result<Vec<[Value; 32]>, AllocError> {
+    let mut found = Vec::with_capacity(alloc, runs.len())?;
+    for (thread, run) in registers.iter().zip(runs) {
+        if let Some(values) = thread.get(*run) {
+            found.push(*values)?;
+        }
+    }
+    Ok(found)
+}
+
+impl Space {
+    /// How many candidates there are.
+    pub fn len(&self) -> usize {
+        let mut count = 0usize;
+        for combination in &self.combinations {
+            count = count.saturating_add(combination.candidate_count());
+        }
+        count
+    }
+
+    /// Whether there is no candidate.
+    pub fn is_empty(&self) -> bool {
+        self.len() == 0
+    }
+
+    /// The candidate at a place, from 0; `None` where there are no more than `place`.
+    pub fn execution(&self, alloc: Global, place: usize) -> Result<Option<Execution>, AllocError> {
+        let mut left = place;
+        for combination in &self.combinations {
+            let count = combination.candidate_count();
+            if left < count {
+                return combination.execution(alloc, &self.registers, left);
+            }
+            left -= count;
+        }
+        Ok(None)
+    }
+}

@@ -1,0 +1,114 @@
+//! The orders of the stores of a combination of runs.
+
+use crate::candidate::{Action, Combination, Event};
+use bit_relations::MAX_EVENTS;
+use std::alloc::{AllocError, Global};
+
+/// How many orders the stores have, or the greatest number where that is less.
+pub fn order_count(events: &[Event]) -> usize {
+    let mut stored = [0usize; MAX_EVENTS];
+    let mut count = 1usize;
+    for event in events {
+        if let (Some(_), Action::Write { location, .. }) = (event.thread, event.action) {
+            if let Some(others) = stored.get_mut(location) {
+                *others = others.saturating_add(1);
+                count = count.saturating_mul(*others);
+            }
+        }
+    }
+    count
+}
+
+/// The stores of a location by threads, by their numbers.
+fn stores_at(alloc: Global, events: &[Event], location: usize) -> Result<Vec<u8>, AllocError> {
+    let mut stores = Vec::new(alloc);
+    for (number, event) in events.iter().take(MAX_EVENTS).enumerate() {
+        if let (Some(_), Action::Write { location: place, .. }) = (event.thread, event.action) {
+            if place == location {
+                stores.push(number as u8)?;
+            }
+        }
+    }
+    Ok(stores)
+}
+
+/// The front with the rest behind it.
+fn joined(alloc: Global, front: &[u8], rest: &[u8]) -> Result<Vec<u8>, AllocError> {
+    let mut whole = Vec::with_capacity(alloc, front.len() + rest.len())?;
+    whole.extend_from_slice(front)?;
+    whole.extend_from_slice(rest)?;
+    Ok(whole)
+}
+
+/// Each front with each store that it lacks.
+fn with_each(
+    alloc: Global,
+    fronts: &[Vec<u8>],
+    stores: &[u8],
+) -> Result<Vec<Vec<u8>>, AllocError> {
+    let mut longer = Vec::new(alloc);
+    for front in fronts {
+        for store in stores {
+            if !front.contains(store) {
+                longer.push(joined(alloc, front, &[*store])?)?;
+            }
+        }
+    }
+    Ok(longer)
+}
+
+/// The orders of the stores of one location, in lexicographic order: the first one, then the
+/// others in any order.
+fn orders_at(alloc: Global, first: u8, stores: &[u8]) -> Result<Vec<Vec<u8>>, AllocError> {
+    let mut fronts = Vec::new(alloc);
+    fronts.push(Vec::from_slice(alloc, &[first])?)?;
+    for _ in 0..stores.len() {
+        fronts = with_each(alloc, &fronts, stores)?;
+    }
+    Ok(fronts)
+}
+
+/// Each front with each of the others behind it.
+fn with_all(
+    alloc: Global,
+    fronts: &[Vec<u8>],
+    others: &[Vec<u8>],
+) -> Result<Vec<Vec<u8>>, AllocError> {
+    let mut longer = Vec::new(alloc);
+    for front in fronts {
+        for other in others {
+            longer.push(joined(alloc, front, other)?)?;
+        }
+    }
+    Ok(longer)
+}
+
+/// The orders of all stores, in lexicographic order: those of each location after one another,
+/// the initial store first.
+fn orders(
+    alloc: Global,
+    events: &[Event],
+    locations: usize,
+) -> Result<Vec<Vec<u8>>, AllocError> {
+    let mut orders = Vec::new(alloc);
+    orders.push(Vec::new(alloc))?;
+    for location in 0..locations.min(MAX_EVENTS) {
+        let stores = stores_at(alloc, events, location)?;
+        let others = orders_at(alloc, location as u8, &stores)?;
+        orders = with_all(alloc, &orders, &others)?;
+    }
+    Ok(orders)
+}
+
+/// Gives each combination the orders of its stores.
+pub fn put_orders(
+    alloc: Global,
+    combinations: &mut [Combination],
+    locations: usize,
+) -> Result<(), AllocError> {
+    for combination in combinations.iter_mut() {
+        let made = orders(alloc, &combination.events, locations)?;
+        combination.orders = made;
+    }
+    Ok(())
+}
