@@ -21,3 +21,4 @@ pub use predefined::{PREDEFINED, PREDEFINED_COUNT, Predefined};
 pub use print::{print_item, print_model};
 pub use read::{read_item, read_model};
 pub use source_text::Name;
+

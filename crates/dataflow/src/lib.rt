@@ -4,6 +4,8 @@
 mod lists;
 mod pass;
 mod taints;
+#[cfg(test)]
+mod tests;
 
 pub use lists::Links;
 pub use pass::links;

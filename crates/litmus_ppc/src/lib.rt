@@ -1,13 +1,36 @@
 //! Litmus tests of Power: what they are, and how they are read and printed.
 #![tactic(auto)]
 
+mod condition;
 mod fault;
+mod init;
 mod instruction;
+mod late;
+mod lexer;
+mod operand;
+mod place;
+mod print;
+mod read;
+mod reader;
+mod stage;
+mod step;
+mod table;
 mod test;
+mod token;
+mod word;
 
 pub use fault::{LitmusFault, LitmusRule};
 pub use instruction::{BranchCondition, Fence, Instruction, Operation, Register};
+pub use print::{print_condition, print_test, put_place, put_value};
+pub use read::{read_cond, read_init, read_locations, read_test, read_thread};
 pub use source_text::Name;
 pub use test::{
     Condition, Connective, InitEntry, Place, Proposition, Quantifier, Step, Test, Thread, Value,
 };
+
+use std::alloc::{AllocError, Global};
+
+pub fn print_condition(alloc: Global, condition: &Condition) -> Result<Vec<u8>, AllocError> {
+    let _ = condition;
+    Ok(Vec::new(alloc))
+}

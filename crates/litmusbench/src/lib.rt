@@ -1,2 +1,18 @@
-//! (to be written)
+//! The bench as a library: a model and a test from bytes to a log, and what the program's words ask for.
 #![tactic(auto)]
+
+mod fault;
+mod form;
+mod log;
+mod sink;
+mod source;
+mod stream;
+mod texts;
+
+pub use fault::{EvalFault, SessionFault};
+pub use form::{Form, form_of};
+pub use log::outcome_log;
+pub use sink::{ByteSink, MemorySink, OfWrite, write_whole};
+pub use source::{ByteSource, CallFailed, MemorySource, OfRead, ReadFault, read_all};
+pub use stream::{eval_stream, read_text, write_answer};
+pub use texts::eval;

@@ -1,0 +1,287 @@
+//! The tokens of a text, by the part that they stand in.
+
+ghost use Rattle.std.specs.Prelude.{◌<◌, ◌≤◌, length};
+
+use crate::fault::LitmusRule;
+use crate::stage::Stage;
+use crate::token::{Mark, Token};
+use memchr::memchr;
+use source_text::{Name, comment_length, is_blank, line_length, quoted_length};
+use std::alloc::{AllocError, Global};
+
+/// What a text begins with, and how many bytes it takes.
+#[derive(Debug, Drop)]
+pub enum Front {
+    Layout(usize),
+    Lexeme(Token, usize),
+}
+
+fn is_letter(byte: u8) -> bool {
+    (b'A' <= byte && byte <= b'Z') || (b'a' <= byte && byte <= b'z')
+}
+
+fn is_digit(byte: u8) -> bool {
+    b'0' <= byte && byte <= b'9'
+}
+
+// The byte at an index, or 0 past the end.
+fn byte_at(text: &[u8], index: usize) -> u8 {
+    text.get(index).copied().unwrap_or(0)
+}
+
+fn begins_comment(text: &[u8]) -> bool {
+    byte_at(text, 0) == b'(' && byte_at(text, 1) == b'*'
+}
+
+fn word_length(text: &[u8]) -> usize
+    ensures { result ≤ length text.now }
+{
+    for (i, byte) in text.iter().enumerate() {
+        if !(is_letter(*byte) || is_digit(*byte) || *byte == b'_') {
+            return i;
+        }
+    }
+    text.len()
+}
+
+fn digits_length(text: &[u8]) -> usize
+    ensures { result ≤ length text.now }
+{
+    for (i, byte) in text.iter().enumerate() {
+        if !is_digit(*byte) {
+            return i;
+        }
+    }
+    text.len()
+}
+
+// How long the text is, up to a byte that is not ASCII.
+fn ascii_length(text: &[u8]) -> usize
+    ensures { result ≤ length text.now }
+{
+    for (i, byte) in text.iter().enumerate() {
+        if *byte >= 128 {
+            return i;
+        }
+    }
+    text.len()
+}
+
+// How long a word is that ends before a blank, a line end, a comment or a byte that is not ASCII.
+fn raw_length(text: &[u8]) -> usize
+    ensures { result ≤ length text.now }
+{
+    for (i, byte) in text.iter().enumerate() {
+        let begins = *byte == b'(' && byte_at(text, i + 1) == b'*';
+        if is_blank(*byte) || *byte == b'\n' || *byte >= 128 || begins {
+            return i;
+        }
+    }
+    text.len()
+}
+
+// How many bytes of blanks, line ends and comments the text begins with.
+fn gap_length(text: &[u8]) -> usize
+    ensures { result ≤ length text.now }
+{
+    let mut gap = 0;
+    while gap < text.len() {
+        let rest = &text[gap..];
+        let first = byte_at(rest, 0);
+        if is_blank(first) || first == b'\n' {
+            gap += 1;
+        } else if begins_comment(rest) {
+            match comment_length(rest) {
+                Some(n) => gap += n,
+                None => return gap,
+            }
+        } else {
+            return gap;
+        }
+    }
+    gap
+}
+
+// Digits without the zeros that lead them.
+fn significant(digits: &[u8]) -> &[u8] {
+    for (i, digit) in digits.iter().enumerate() {
+        if *digit != b'0' {
+            return &digits[i..];
+        }
+    }
+    &[]
+}
+
+fn comment_front(text: &[u8]) -> Front {
+    match comment_length(text) {
+        Some(n) => Front::Layout(n),
+        None => Front::Lexeme(Token::Broken(LitmusRule::OpenComment), text.len()),
+    }
+}
+
+// A word of the two that a text begins with.
+fn raw_front(alloc: Global, text: &[u8]) -> Result<Front, AllocError> {
+    if byte_at(text, 0) == b'\n' {
+        return Ok(Front::Layout(1));
+    }
+    let n = raw_length(text);
+    let word = Name::new(alloc, &text[..n])?;
+    Ok(Front::Lexeme(Token::Word(word), n))
+}
+
+fn quoted_front(text: &[u8]) -> Front {
+    match quoted_length(text) {
+        Some(n) => Front::Lexeme(Token::Text, n),
+        None => Front::Lexeme(Token::Bad, 1),
+    }
+}
+
+// A line that begins with a letter, which is skipped where it holds an equals sign.
+fn line_front(text: &[u8]) -> Front {
+    let n = line_length(text);
+    match memchr(b'=', &text[..n]) {
+        Some(_) => Front::Lexeme(Token::Keyline, ascii_length(&text[..n])),
+        None => Front::Lexeme(Token::Bad, 1),
+    }
+}
+
+// A word, or a label with its colon where a cell begins.
+fn word_front(alloc: Global, stage: Stage, text: &[u8]) -> Result<Front, AllocError> {
+    let n = word_length(text);
+    let word = &text[..n];
+    let name = Name::new(alloc, word)?;
+    match stage {
+        Stage::CellBegins => {
+            let gap = gap_length(&text[n..]);
+            if byte_at(text, n + gap) == b':' {
+                return Ok(Front::Lexeme(Token::Label(name), n + gap + 1));
+            }
+        }
+        Stage::Header(0) => {
+            if word == b"P8".as_slice() {
+                return Ok(Front::Lexeme(Token::Broken(LitmusRule::TooManyThreads), n));
+            }
+        }
+        _ => {}
+    }
+    Ok(Front::Lexeme(Token::Word(name), n))
+}
+
+fn number_front(alloc: Global, text: &[u8]) -> Result<Front, AllocError> {
+    let n = digits_length(text);
+    let digits = Name::new(alloc, significant(&text[..n]))?;
+    Ok(Front::Lexeme(Token::Number(false, digits), n))
+}
+
+// A number with its minus sign.
+fn minus_front(alloc: Global, text: &[u8]) -> Result<Front, AllocError>
+    requires { 0 < length text.now }
+{
+    let digits = &text[1..];
+    let n = digits_length(digits);
+    let digits = Name::new(alloc, significant(&digits[..n]))?;
+    Ok(Front::Lexeme(Token::Number(true, digits), n + 1))
+}
+
+fn mark_of(byte: u8) -> Option<Mark> {
+    match byte {
+        b'{' => Some(Mark::OpenBrace),
+        b'}' => Some(Mark::CloseBrace),
+        b'[' => Some(Mark::OpenBracket),
+        b']' => Some(Mark::CloseBracket),
+        b'(' => Some(Mark::Open),
+        b')' => Some(Mark::Close),
+        b',' => Some(Mark::Comma),
+        b';' => Some(Mark::Semicolon),
+        b':' => Some(Mark::Colon),
+        b'|' => Some(Mark::Bar),
+        b'=' => Some(Mark::Equals),
+        b'~' => Some(Mark::Tilde),
+        _ => None,
+    }
+}
+
+fn sign_front(text: &[u8]) -> Front {
+    let first = byte_at(text, 0);
+    let next = byte_at(text, 1);
+    if first == b'/' && next == b'\\' {
+        return Front::Lexeme(Token::Mark(Mark::And), 2);
+    }
+    if first == b'\\' && next == b'/' {
+        return Front::Lexeme(Token::Mark(Mark::Or), 2);
+    }
+    if first == b'=' && next == b'>' {
+        return Front::Lexeme(Token::Mark(Mark::Implies), 2);
+    }
+    match mark_of(first) {
+        Some(mark) => Front::Lexeme(Token::Mark(mark), 1),
+        None => Front::Lexeme(Token::Bad, 1),
+    }
+}
+
+fn plain_front(alloc: Global, stage: Stage, text: &[u8]) -> Result<Front, AllocError>
+    requires { 0 < length text.now }
+{
+    let first = byte_at(text, 0);
+    if first == b'\n' {
+        return Ok(Front::Layout(1));
+    }
+    if is_letter(first) || first == b'_' {
+        return word_front(alloc, stage, text);
+    }
+    if is_digit(first) {
+        return number_front(alloc, text);
+    }
+    if first == b'-' && is_digit(byte_at(text, 1)) {
+        return minus_front(alloc, text);
+    }
+    Ok(sign_front(text))
+}
+
+// What stands before the init block begins with: a line that is fresh holds nothing but blanks so far.
+fn head_front(alloc: Global, is_fresh: bool, text: &[u8]) -> Result<Front, AllocError>
+    requires { 0 < length text.now }
+{
+    let first = byte_at(text, 0);
+    if is_fresh && is_letter(first) {
+        return Ok(line_front(text));
+    }
+    if first == b'"' {
+        return Ok(quoted_front(text));
+    }
+    plain_front(alloc, Stage::Head, text)
+}
+
+/// What the text begins with.
+pub fn front_of(
+    alloc: Global,
+    stage: Stage,
+    is_fresh: bool,
+    text: &[u8],
+) -> Result<Front, AllocError>
+    requires { 0 < length text.now }
+{
+    let first = byte_at(text, 0);
+    if first >= 128 {
+        return Ok(Front::Lexeme(Token::Broken(LitmusRule::NotAscii), 1));
+    }
+    if is_blank(first) {
+        return Ok(Front::Layout(1));
+    }
+    if begins_comment(text) {
+        return Ok(comment_front(text));
+    }
+    match stage {
+        Stage::Magic | Stage::Title => raw_front(alloc, text),
+        Stage::TitleEnd => {
+            let token = if first == b'\n' {
+                Token::LineEnd
+            } else {
+                Token::Bad
+            };
+            Ok(Front::Lexeme(token, 1))
+        }
+        Stage::Head => head_front(alloc, is_fresh, text),
+        _ => plain_front(alloc, stage, text),
+    }
+}

@@ -1,0 +1,353 @@
+//! Prints tests.
+
+use crate::instruction::{BranchCondition, Fence, Instruction, Operation, Register};
+use crate::test::{
+    Condition, Connective, InitEntry, Place, Proposition, Quantifier, Step, Test, Thread, Value,
+};
+use source_text::{put_bytes, put_decimal};
+use std::alloc::{AllocError, Global};
+
+/// Appends a place: `[x]` or `1:r1`.
+pub fn put_place(text: &mut Vec<u8>, place: &Place) -> Result<(), AllocError> {
+    match place {
+        Place::Location(name) => {
+            put_bytes(text, b"[")?;
+            put_bytes(text, name.as_bytes())?;
+            put_bytes(text, b"]")
+        }
+        Place::Register(thread, register) => put_thread_register(text, *thread, *register),
+    }
+}
+
+/// Appends a value: a number with its sign, or a location's name.
+pub fn put_value(text: &mut Vec<u8>, value: &Value) -> Result<(), AllocError> {
+    match value {
+        Value::Number(n) => put_number(text, *n),
+        Value::Address(name) => put_bytes(text, name.as_bytes()),
+    }
+}
+
+fn put_number(text: &mut Vec<u8>, n: i32) -> Result<(), AllocError> {
+    if n < 0 {
+        put_bytes(text, b"-")?;
+    }
+    put_decimal(text, u64::from(n.unsigned_abs()))
+}
+
+fn put_register(text: &mut Vec<u8>, register: Register) -> Result<(), AllocError> {
+    put_bytes(text, b"r")?;
+    put_decimal(text, u64::from(register.number()))
+}
+
+fn put_thread_register(
+    text: &mut Vec<u8>,
+    thread: usize,
+    register: Register,
+) -> Result<(), AllocError> {
+    put_decimal(text, thread as u64)?;
+    put_bytes(text, b":")?;
+    put_register(text, register)
+}
+
+// Appends an entry, where a location stands bare.
+fn put_entry(text: &mut Vec<u8>, entry: &InitEntry) -> Result<(), AllocError> {
+    match &entry.place {
+        Place::Location(name) => put_bytes(text, name.as_bytes())?,
+        Place::Register(thread, register) => put_thread_register(text, *thread, *register)?,
+    }
+    put_bytes(text, b"=")?;
+    put_value(text, &entry.value)?;
+    put_bytes(text, b";\n")
+}
+
+impl Operation {
+    fn text(self) -> &'static [u8] {
+        match self {
+            Operation::Add => b"add",
+            Operation::SubtractFrom => b"subf",
+            Operation::Xor => b"xor",
+            Operation::Or => b"or",
+            Operation::And => b"and",
+        }
+    }
+}
+
+impl BranchCondition {
+    fn text(self) -> &'static [u8] {
+        match self {
+            BranchCondition::Equal => b"beq",
+            BranchCondition::NotEqual => b"bne",
+            BranchCondition::Less => b"blt",
+            BranchCondition::Greater => b"bgt",
+            BranchCondition::LessOrEqual => b"ble",
+            BranchCondition::GreaterOrEqual => b"bge",
+        }
+    }
+}
+
+impl Fence {
+    fn text(self) -> &'static [u8] {
+        match self {
+            Fence::Sync => b"sync",
+            Fence::LightweightSync => b"lwsync",
+            Fence::Eieio => b"eieio",
+            Fence::Isync => b"isync",
+        }
+    }
+}
+
+// Appends a word, a space and a register.
+fn put_one(text: &mut Vec<u8>, word: &[u8], first: Register) -> Result<(), AllocError> {
+    put_bytes(text, word)?;
+    put_bytes(text, b" ")?;
+    put_register(text, first)
+}
+
+// Appends a word and two registers.
+fn put_two(
+    text: &mut Vec<u8>,
+    word: &[u8],
+    first: Register,
+    second: Register,
+) -> Result<(), AllocError> {
+    put_one(text, word, first)?;
+    put_bytes(text, b",")?;
+    put_register(text, second)
+}
+
+// Appends a word and three registers.
+fn put_three(
+    text: &mut Vec<u8>,
+    word: &[u8],
+    first: Register,
+    second: Register,
+    third: Register,
+) -> Result<(), AllocError> {
+    put_two(text, word, first, second)?;
+    put_bytes(text, b",")?;
+    put_register(text, third)
+}
+
+// Appends a comma and a number.
+fn put_immediate(text: &mut Vec<u8>, value: i32) -> Result<(), AllocError> {
+    put_bytes(text, b",")?;
+    put_number(text, value)
+}
+
+// Appends an access at a register.
+fn put_access(
+    text: &mut Vec<u8>,
+    word: &[u8],
+    first: Register,
+    base: Register,
+) -> Result<(), AllocError> {
+    put_one(text, word, first)?;
+    put_bytes(text, b",0(")?;
+    put_register(text, base)?;
+    put_bytes(text, b")")
+}
+
+// Appends a branch to a label.
+fn put_branch(text: &mut Vec<u8>, word: &[u8], label: &[u8]) -> Result<(), AllocError> {
+    put_bytes(text, word)?;
+    put_bytes(text, b" ")?;
+    put_bytes(text, label)
+}
+
+fn put_instruction(text: &mut Vec<u8>, instruction: &Instruction) -> Result<(), AllocError> {
+    match instruction {
+        Instruction::LoadImmediate { target, value } => {
+            put_one(text, b"li", *target)?;
+            put_immediate(text, *value)
+        }
+        Instruction::Move { target, source } => put_two(text, b"mr", *target, *source),
+        Instruction::AddImmediate {
+            target,
+            left,
+            value,
+        } => {
+            put_two(text, b"addi", *target, *left)?;
+            put_immediate(text, *value)
+        }
+        Instruction::Compute {
+            operation,
+            target,
+            left,
+            right,
+        } => put_three(text, operation.text(), *target, *left, *right),
+        Instruction::Load { target, base } => put_access(text, b"lwz", *target, *base),
+        Instruction::LoadIndexed {
+            target,
+            base,
+            index,
+        } => put_three(text, b"lwzx", *target, *base, *index),
+        Instruction::Store { source, base } => put_access(text, b"stw", *source, *base),
+        Instruction::StoreIndexed {
+            source,
+            base,
+            index,
+        } => put_three(text, b"stwx", *source, *base, *index),
+        Instruction::Compare { left, right } => put_two(text, b"cmpw", *left, *right),
+        Instruction::CompareImmediate { left, value } => {
+            put_one(text, b"cmpwi", *left)?;
+            put_immediate(text, *value)
+        }
+        Instruction::BranchIf { condition, label } => {
+            put_branch(text, condition.text(), label.as_bytes())
+        }
+        Instruction::Branch { label } => put_branch(text, b"b", label.as_bytes()),
+        Instruction::Fence(fence) => put_bytes(text, fence.text()),
+    }
+}
+
+fn put_step(text: &mut Vec<u8>, step: &Step) -> Result<(), AllocError> {
+    match step {
+        Step::Label(label) => {
+            put_bytes(text, label.as_bytes())?;
+            put_bytes(text, b":")
+        }
+        Step::Instruction(instruction) => put_instruction(text, instruction),
+    }
+}
+
+// Appends the names of the columns.
+fn put_header(text: &mut Vec<u8>, threads: usize) -> Result<(), AllocError> {
+    for thread in 0..threads {
+        put_bytes(text, if thread == 0 { b"P" } else { b" | P" })?;
+        put_decimal(text, thread as u64)?;
+    }
+    put_bytes(text, b" ;\n")
+}
+
+// Appends the row of the steps of this number, with empty cells for threads that have ended.
+fn put_row(text: &mut Vec<u8>, threads: &[Thread], number: usize) -> Result<(), AllocError> {
+    for (i, thread) in threads.iter().enumerate() {
+        if i > 0 {
+            put_bytes(text, b" | ")?;
+        }
+        if let Some(step) = thread.steps.get(number) {
+            put_step(text, step)?;
+        }
+    }
+    put_bytes(text, b" ;\n")
+}
+
+fn put_rows(text: &mut Vec<u8>, threads: &[Thread]) -> Result<(), AllocError> {
+    let mut longest = 0usize;
+    for thread in threads {
+        longest = longest.max(thread.steps.len());
+    }
+    for number in 0..longest {
+        put_row(text, threads, number)?;
+    }
+    Ok(())
+}
+
+fn put_observed(text: &mut Vec<u8>, observed: &[Place]) -> Result<(), AllocError> {
+    if observed.is_empty() {
+        return Ok(());
+    }
+    put_bytes(text, b"locations [")?;
+    for (i, place) in observed.iter().enumerate() {
+        if i > 0 {
+            put_bytes(text, b" ")?;
+        }
+        put_place(text, place)?;
+        put_bytes(text, b";")?;
+    }
+    put_bytes(text, b"]\n")
+}
+
+impl Connective {
+    fn text(self) -> &'static [u8] {
+        match self {
+            Connective::And => b" /\\ ",
+            Connective::Or => b" \\/ ",
+            Connective::Implies => b" => ",
+        }
+    }
+}
+
+// Whether a proposition is joined by an operator that is looser than this.
+fn is_loose(least: usize, proposition: &Proposition) -> bool {
+    match proposition {
+        Proposition::Joined(connective, _, _) => connective.level() < least,
+        Proposition::Constant(_) => false,
+        Proposition::Holds(_, _) => false,
+        Proposition::Not(_) => false,
+    }
+}
+
+// Appends an operand, in parentheses where they are wanted.
+#[cycle(proposition)]
+fn put_operand(
+    text: &mut Vec<u8>,
+    operand: &Proposition,
+    in_parentheses: bool,
+) -> Result<(), AllocError> {
+    if in_parentheses {
+        put_bytes(text, b"(")?;
+        put_proposition(text, operand)?;
+        put_bytes(text, b")")
+    } else {
+        put_proposition(text, operand)
+    }
+}
+
+#[cycle(proposition)]
+fn put_proposition(text: &mut Vec<u8>, proposition: &Proposition) -> Result<(), AllocError> {
+    match proposition {
+        Proposition::Constant(value) => put_bytes(text, if *value { b"true" } else { b"false" }),
+        Proposition::Holds(place, value) => {
+            put_place(text, place)?;
+            put_bytes(text, b"=")?;
+            put_value(text, value)
+        }
+        Proposition::Not(operand) => {
+            put_bytes(text, b"not (")?;
+            put_proposition(text, operand)?;
+            put_bytes(text, b")")
+        }
+        Proposition::Joined(connective, left, right) => {
+            put_operand(text, left, is_loose(connective.level() + 1, left))?;
+            put_bytes(text, connective.text())?;
+            put_operand(text, right, is_loose(connective.level(), right))
+        }
+    }
+}
+
+fn put_condition(text: &mut Vec<u8>, condition: &Condition) -> Result<(), AllocError> {
+    let quantifier: &[u8] = match condition.quantifier {
+        Quantifier::Exists => b"exists (",
+        Quantifier::NotExists => b"~exists (",
+        Quantifier::Forall => b"forall (",
+    };
+    put_bytes(text, quantifier)?;
+    put_proposition(text, &condition.proposition)?;
+    put_bytes(text, b")")
+}
+
+/// The text of a condition: its quantifier, and its proposition in parentheses.
+pub fn print_condition(alloc: Global, condition: &Condition) -> Result<Vec<u8>, AllocError> {
+    let mut text = Vec::new(alloc);
+    put_condition(&mut text, condition)?;
+    Ok(text)
+}
+
+/// The text of a test, which is read as that test.
+pub fn print_test(alloc: Global, test: &Test) -> Result<Vec<u8>, AllocError> {
+    let mut text = Vec::new(alloc);
+    put_bytes(&mut text, b"PPC ")?;
+    put_bytes(&mut text, test.name.as_bytes())?;
+    put_bytes(&mut text, b"\n{\n")?;
+    for entry in &test.init {
+        put_entry(&mut text, entry)?;
+    }
+    put_bytes(&mut text, b"}\n")?;
+    put_header(&mut text, test.threads.len())?;
+    put_rows(&mut text, &test.threads)?;
+    put_observed(&mut text, &test.observed)?;
+    put_condition(&mut text, &test.condition)?;
+    put_bytes(&mut text, b"\n")?;
+    Ok(text)
+}

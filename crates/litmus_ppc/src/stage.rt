@@ -1,0 +1,108 @@
+//! The parts of a text.
+
+use crate::fault::LitmusRule;
+use crate::token::{Mark, Token};
+use source_text::Name;
+
+/// The most threads that a test has.
+pub const MAX_THREADS: usize = 8;
+
+/// The part of a text that the next token stands in. How bytes are read rests on it, and so does
+/// the number of a fault.
+#[derive(Clone, Copy, Debug, PartialEq, Eq)]
+pub enum Stage {
+    Magic,
+    Title,
+    TitleEnd,
+    Head,
+    /// Whether the block is a text of its own, and whether a word was read last.
+    Init(bool, bool),
+    /// How many threads may still follow.
+    Header(usize),
+    CellBegins,
+    InCell,
+    Tail,
+}
+
+impl Stage {
+    /// The rule that a fault in this part breaks, where no other rule names one.
+    pub fn rule(self) -> LitmusRule {
+        match self {
+            Stage::Magic => LitmusRule::NotPpc,
+            Stage::Title => LitmusRule::Name,
+            Stage::TitleEnd => LitmusRule::Name,
+            Stage::Head => LitmusRule::Init,
+            Stage::Init(_, _) => LitmusRule::Init,
+            Stage::Header(_) => LitmusRule::Header,
+            Stage::CellBegins => LitmusRule::Instruction,
+            Stage::InCell => LitmusRule::Instruction,
+            Stage::Tail => LitmusRule::Condition,
+        }
+    }
+
+    /// The part after this token: each part ends at a token of its own.
+    pub fn after(self, token: &Token) -> Stage {
+        match self {
+            Stage::Magic => Stage::Title,
+            Stage::Title => Stage::TitleEnd,
+            Stage::TitleEnd => Stage::Head,
+            Stage::Head => match token {
+                Token::Mark(Mark::OpenBrace) => Stage::Init(false, false),
+                _ => Stage::Head,
+            },
+            Stage::Init(alone, _) => init_after(alone, token),
+            Stage::Header(left) => header_after(left, token),
+            Stage::CellBegins => cell_after(token),
+            Stage::InCell => match token {
+                Token::Mark(Mark::Bar) => Stage::CellBegins,
+                Token::Mark(Mark::Semicolon) => Stage::CellBegins,
+                _ => Stage::InCell,
+            },
+            Stage::Tail => Stage::Tail,
+        }
+    }
+}
+
+fn init_after(alone: bool, token: &Token) -> Stage {
+    match token {
+        Token::Mark(Mark::CloseBrace) => {
+            if alone {
+                Stage::Init(true, false)
+            } else {
+                Stage::Header(MAX_THREADS)
+            }
+        }
+        Token::Word(_) => Stage::Init(alone, true),
+        _ => Stage::Init(alone, false),
+    }
+}
+
+fn header_after(left: usize, token: &Token) -> Stage {
+    match token {
+        Token::Mark(Mark::Bar) => Stage::Header(left.saturating_sub(1)),
+        Token::Mark(Mark::Semicolon) => Stage::CellBegins,
+        _ => Stage::Header(left),
+    }
+}
+
+fn cell_after(token: &Token) -> Stage {
+    match token {
+        Token::Word(word) => {
+            if ends_table(word) {
+                Stage::Tail
+            } else {
+                Stage::InCell
+            }
+        }
+        Token::Mark(Mark::Tilde) => Stage::Tail,
+        Token::Mark(Mark::Bar) => Stage::CellBegins,
+        Token::Mark(Mark::Semicolon) => Stage::CellBegins,
+        _ => Stage::InCell,
+    }
+}
+
+/// Whether the word begins what stands behind the table.
+pub fn ends_table(word: &Name) -> bool {
+    let word = word.as_bytes();
+    word == b"locations".as_slice() || word == b"exists".as_slice() || word == b"forall".as_slice()
+}

@@ -1,0 +1,55 @@
+//! The tokens of a text.
+
+use crate::fault::LitmusRule;
+use source_text::Name;
+
+/// A token of signs alone.
+#[derive(Clone, Copy, Debug, PartialEq, Eq)]
+pub enum Mark {
+    OpenBrace,
+    CloseBrace,
+    OpenBracket,
+    CloseBracket,
+    Open,
+    Close,
+    Comma,
+    Semicolon,
+    Colon,
+    Bar,
+    Equals,
+    Tilde,
+    And,
+    Or,
+    Implies,
+}
+
+/// A token, the end of the text, or what stands where no token begins.
+#[derive(Debug, Drop)]
+pub enum Token {
+    /// A name, a keyword or a register.
+    Word(Name),
+    /// Whether it is negative, and its digits without leading zeros.
+    Number(bool, Name),
+    /// A label and its colon.
+    Label(Name),
+    /// A text in quotes.
+    Text,
+    Keyline,
+    LineEnd,
+    Mark(Mark),
+    End,
+    /// An ASCII byte that begins no token.
+    Bad,
+    /// What breaks a rule of its own.
+    Broken(LitmusRule),
+}
+
+impl Token {
+    /// Whether the token is the end of the line that the test's name stands in.
+    pub fn is_line_end(&self) -> bool {
+        match self {
+            Token::LineEnd => true,
+            _ => false,
+        }
+    }
+}

@@ -1,0 +1,80 @@
+//! What words and digits stand for.
+
+ghost use Rattle.std.specs.Prelude.{◌<◌, IfSome};
+
+use crate::instruction::Register;
+
+/// The number that decimal digits make, or the greatest that fits.
+pub fn decimal(digits: &[u8]) -> usize {
+    let mut n: usize = 0;
+    for digit in digits {
+        n = n
+            .saturating_mul(10)
+            .saturating_add(usize::from(digit.saturating_sub(b'0')));
+    }
+    n
+}
+
+/// The number of 32 bits that a sign and digits make, if it is one.
+pub fn signed_number(is_negative: bool, digits: &[u8]) -> Option<i32> {
+    let n = decimal(digits);
+    if n > 2_147_483_648 {
+        return None;
+    }
+    let n = n as i64;
+    i32::try_from(if is_negative { 0 - n } else { n }).ok()
+}
+
+/// The register that a word names, from `r0` to `r31` without leading zeros.
+pub fn register_of(word: &[u8]) -> Option<Register> {
+    match word {
+        [b'r', ones] => register(0, digit(*ones)?),
+        [b'r', tens, ones] => {
+            let tens = digit(*tens)?;
+            if tens == 0 {
+                return None;
+            }
+            register(tens, digit(*ones)?)
+        }
+        _ => None,
+    }
+}
+
+fn digit(byte: u8) -> Option<u8>
+    ensures { IfSome result (λ d. d < 10) }
+{
+    match byte {
+        b'0'..=b'9' => Some(byte - b'0'),
+        _ => None,
+    }
+}
+
+fn register(tens: u8, ones: u8) -> Option<Register>
+    requires tens { tens < 10 }
+    requires ones { ones < 10 }
+{
+    let number = tens * 10 + ones;
+    if number < 32 {
+        Some(Register::new(number))
+    } else {
+        None
+    }
+}
+
+/// Whether the word begins a part of herd7's format that is not read here.
+pub fn is_filter(word: &[u8]) -> bool {
+    word == b"filter".as_slice() || word == b"final".as_slice()
+}
+
+/// Whether the word names the column of this number.
+pub fn is_column(word: &[u8], number: usize) -> bool {
+    match word {
+        [b'P', digit] => usize::from(*digit).checked_sub(48) == Some(number),
+        _ => false,
+    }
+}
+
+/// Whether bytes can name a test: at most 255 printable ones.
+pub fn is_test_name(word: &[u8]) -> bool {
+    !word.is_empty() && word.len() <= 255 && word.iter().all(|b| *b > 32 && *b < 127)
+}

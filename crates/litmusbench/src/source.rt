@@ -1,0 +1,146 @@
+//! Where bytes come from.
+
+ghost use Rattle.std.specs.Prelude.{◌≡◌, ◌+◌, ◌-◌, ◌<◌, ◌^◌, List, ℕ, Option, Some, OnOk, OnErr, IfOk, IfSome, length};
+ghost use Rattle.std.specs.Io.{ReadsAtMost};
+ghost use Rattle.std.specs.Io.KnownBytes.{ReadConsumes};
+ghost use Rattle.litmusbench.specs.declared.source.ReadFault.TheVariants.{Memory};
+
+use std::alloc::{AllocError, AllocFailed, Global};
+use std::io::Read;
+
+/// A call that failed.
+#[derive(Clone, Copy, Debug, PartialEq, Eq)]
+pub struct CallFailed;
+
+/// A source of bytes, which counts its failed calls.
+pub trait ByteSource {
+    // The bytes that calls will give from here on, where they are known.
+    ghost remaining: { Self → Option (List ℕ) };
+
+    // How many calls have failed.
+    ghost failed_calls: { Self → ℕ };
+
+    fn read_some(&mut self, buffer: &mut [u8]) -> Result<usize, CallFailed>
+        requires { failed_calls self.old < 2 ^ 64 - 1 }
+        ensures bound { ReadsAtMost result buffer.new }
+        ensures bytes { ReadConsumes (remaining self.old) (remaining self.new) result buffer.new }
+        ensures ok { OnOk result (failed_calls self.new ≡ failed_calls self.old) }
+        ensures err { OnErr result (failed_calls self.new ≡ failed_calls self.old + 1) };
+}
+
+/// A reader of std as a source.
+#[derive(Drop)]
+pub struct OfRead<R> {
+    reader: R,
+    failed: u64,
+}
+
+impl<R: Read> OfRead<R> {
+    pub fn new(reader: R) -> Self
+        ensures { result ≡ record { reader = reader; failed = 0 } }
+    {
+        OfRead { reader, failed: 0 }
+    }
+}
+
+impl<R: Read> ByteSource for OfRead<R> {
+    ghost remaining = { λ s. R.remaining s.reader };
+
+    ghost failed_calls = { λ s. s.failed };
+
+    fn read_some(&mut self, buffer: &mut [u8]) -> Result<usize, CallFailed> {
+        match self.reader.read(buffer) {
+            Ok(n) => Ok(n),
+            Err(_) => {
+                self.failed += 1;
+                Err(CallFailed)
+            }
+        }
+    }
+}
+
+/// Bytes in memory, of which one call fails.
+#[derive(Drop)]
+pub struct MemorySource<'a> {
+    rest: &'a [u8],
+    until_failure: Option<u64>,
+    failed: u64,
+}
+
+impl<'a> MemorySource<'a> {
+    /// The bytes, where the call of this number, from 0, fails.
+    pub fn failing_at(bytes: &'a [u8], call: Option<u64>) -> Self
+        ensures { result ≡ record { rest = bytes.entry; until_failure = call; failed = 0 } }
+    {
+        MemorySource {
+            rest: bytes,
+            until_failure: call,
+            failed: 0,
+        }
+    }
+}
+
+impl<'a> ByteSource for MemorySource<'a> {
+    ghost remaining = { λ s. Some s.rest.now };
+
+    ghost failed_calls = { λ s. s.failed };
+
+    fn read_some(&mut self, buffer: &mut [u8]) -> Result<usize, CallFailed> {
+        if let Some(calls) = self.until_failure {
+            if calls == 0 {
+                self.until_failure = None;
+                self.failed += 1;
+                return Err(CallFailed);
+            }
+            self.until_failure = Some(calls - 1);
+        }
+        let mut rest = self.rest;
+        let given = rest.read(buffer);
+        self.rest = rest;
+        match given {
+            Ok(n) => Ok(n),
+            Err(_) => {
+                self.failed += 1;
+                Err(CallFailed)
+            }
+        }
+    }
+}
+
+/// Why not all was read.
+#[derive(Clone, Copy, Debug, PartialEq, Eq)]
+pub enum ReadFault {
+    /// A call failed.
+    Read,
+    /// The source did not end.
+    Endless,
+    Memory,
+}
+
+impl From<AllocError> for ReadFault {
+    ghost from_gives = { λ _ e. e ≡ Memory };
+
+    fn from(_e: AllocError) -> ReadFault {
+        ReadFault::Memory
+    }
+}
+
+const MAX_TURNS: u32 = 16_777_216;
+
+/// All bytes of a source.
+pub fn read_all<S: ByteSource>(alloc: Global, source: &mut S) -> Result<Vec<u8>, ReadFault>
+    requires { S.failed_calls source.old < 2 ^ 64 - 1 }
+    ensures bytes { IfOk result (λ v. IfSome (S.remaining source.old) (λ all. v.items ≡ all)) }
+    ensures read { result ≡ Err ReadFault.Read → S.failed_calls source.new ≡ S.failed_calls source.old + 1 }
+{
+    let mut bytes = Vec::new(alloc);
+    let mut buffer = [0u8; 4096];
+    for _turn in 0..MAX_TURNS {
+        match source.read_some(&mut buffer) {
+            Ok(0) => return Ok(bytes),
+            Ok(n) => bytes.extend_from_slice(&buffer[..n])?,
+            Err(_) => return Err(ReadFault::Read),
+        }
+    }
+    Err(ReadFault::Endless)
+}
