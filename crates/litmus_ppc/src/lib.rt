@@ -27,10 +27,3 @@ pub use source_text::Name;
 pub use test::{
     Condition, Connective, InitEntry, Place, Proposition, Quantifier, Step, Test, Thread, Value,
 };
-
-use std::alloc::{AllocError, Global};
-
-pub fn print_condition(alloc: Global, condition: &Condition) -> Result<Vec<u8>, AllocError> {
-    let _ = condition;
-    Ok(Vec::new(alloc))
-}
