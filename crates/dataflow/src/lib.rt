@@ -1,6 +1,7 @@
 //! Dependencies between the events of a run.
 #![tactic(auto)]
 
+pub mod laws;
 mod lists;
 mod pass;
 mod taints;

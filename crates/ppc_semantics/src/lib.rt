@@ -21,4 +21,5 @@ pub use instruction::{Event, Instruction, Line, Program, RunStep};
 pub use lowering::program;
 pub use rounds::{MAX_COMBINATIONS, MAX_EVENTS, domain, domain_of};
 pub use run::{Domain, Run};
-pub use value::Value;
+pub use state::State;
+pub use value::{Comparison, Value};

@@ -1,0 +1,4 @@
+pub mod Agreement
+pub mod Walks
+pub mod Inversion
+pub mod DomainLaw

@@ -1,0 +1,44 @@
+-- What a store needs: the first step of the law of the domain.
+use Rattle.std.specs.Prelude.{ℕ, zero, suc, ◌≡◌, ◌<◌, ◌≤◌, List, [], ◌∷◌, ◌++◌, ◌+◌, if◌then◌else◌, length, IsTrue}
+use Rattle.ppc_semantics.specs.declared.value.Value.{Value}
+use Rattle.ppc_semantics.specs.declared.instruction.Event.{Event}
+use Rattle.ppc_semantics.specs.declared.instruction.Line.{Line}
+use Rattle.ppc_semantics.specs.declared.instruction.Line.TheVariants.{Label, Does}
+use Rattle.ppc_semantics.specs.declared.state.State.{State}
+use Rattle.ppc_semantics.specs.Machine.{after, event_of, register, is_load}
+use Rattle.ppc_semantics.specs.Runs.{Walk, executed, loaded_at}
+use Rattle.dataflow.specs.Chains.{Executed, Register, IsNeed, IsStoredRegister}
+
+-- the state before the n-th of these instructions, where each load takes the value given for its place
+abbrev pub state_at : Executed → (ℕ → Value) → State → ℕ → State
+state_at at loaded s zero = s
+state_at at loaded s (suc n) = after (at n) (loaded n) (state_at at loaded s n)
+
+-- a stored register has the same value where the loads that the store needs have the same values
+abbrev pub StoresTheSame : Executed → State → (ℕ → Value) → (ℕ → Value) → ℕ → Type 0
+StoresTheSame at s loaded loaded' j =
+    ((i : ℕ) → IsNeed at i j → loaded i ≡ loaded' i)
+    → (r : ℕ) → IsStoredRegister (at j) (Register r)
+    → register (state_at at loaded s j) r ≡ register (state_at at loaded' s j) r
+
+-- the events of the instructions before a place
+abbrev pub events_before : Executed → (ℕ → Value) → State → ℕ → List Event
+events_before at loaded s zero = []
+events_before at loaded s (suc n) = events_before at loaded s n ++ event_of (at n) (loaded n) (state_at at loaded s n)
+
+-- the walk's state and events are those of its steps
+pub record IsWalk (s : State) (w : Walk) : Type 0 where
+  pub state : w.state ≡ state_at (executed w.steps) (loaded_at w.steps) s (length w.steps)
+  pub events : w.events ≡ events_before (executed w.steps) (loaded_at w.steps) s (length w.steps)
+
+-- the second walk begins with the instructions of the first, and its loads among them take what is picked
+pub record IsPicked (pick : ℕ → Value) (w u : Walk) : Type 0 where
+  pub long : length w.steps ≤ length u.steps
+  pub same : (n : ℕ) → n < length w.steps → executed u.steps n ≡ executed w.steps n
+  pub picked : (n : ℕ) → n < length w.steps → IsTrue (is_load (executed w.steps n)) → loaded_at u.steps n ≡ pick n
+
+-- how many load instructions there are in the text of a thread
+abbrev pub loads_in : List Line → ℕ
+loads_in [] = 0
+loads_in (Label m ∷ xs) = loads_in xs
+loads_in (Does i ∷ xs) = if is_load i then loads_in xs + 1 else loads_in xs
