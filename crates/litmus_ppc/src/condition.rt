@@ -1,9 +1,11 @@
 //! Reads what a condition says, token by token.
 
+ghost use Rattle.std.specs.Prelude.{◌≤◌};
+
 use crate::place::{PlaceHole, PlaceStep, is_there, place_step, value_read};
 use crate::step::StepError;
 use crate::test::{Connective, Place, Proposition};
-use crate::token::{Mark, Token};
+use litmus_tokens::{Mark, Token};
 use source_text::Name;
 use std::alloc::{AllocError, Global};
 
@@ -41,8 +43,10 @@ pub enum Fed {
 }
 
 impl Connective {
-    /// How tightly the operator binds; each groups to the right.
-    pub fn level(self) -> usize {
+    /// How tightly the operator binds, from 1 to 3; each groups to the right.
+    pub fn level(self) -> usize
+        ensures { result ≤ 3 }
+    {
         match self {
             Connective::And => 3,
             Connective::Or => 2,

@@ -1,54 +1,8 @@
 //! Why the text of a test is refused.
 
+use litmus_tokens::LitmusRule;
 use std::alloc::AllocError;
 use thiserror::Error;
-
-/// The rule that a text breaks, with its number.
-#[derive(Clone, Copy, Debug, PartialEq, Eq)]
-pub enum LitmusRule {
-    NotPpc,
-    Name,
-    Init,
-    TypedDeclaration,
-    Header,
-    Columns,
-    Instruction,
-    ZeroBase,
-    Offset,
-    Label,
-    BackwardBranch,
-    Condition,
-    Filter,
-    OpenComment,
-    NotAscii,
-    TooLong,
-    TooManyThreads,
-}
-
-impl LitmusRule {
-    /// The number that a refusal is printed with, from 1 to 17.
-    pub fn number(self) -> u8 {
-        match self {
-            LitmusRule::NotPpc => 1,
-            LitmusRule::Name => 2,
-            LitmusRule::Init => 3,
-            LitmusRule::TypedDeclaration => 4,
-            LitmusRule::Header => 5,
-            LitmusRule::Columns => 6,
-            LitmusRule::Instruction => 7,
-            LitmusRule::ZeroBase => 8,
-            LitmusRule::Offset => 9,
-            LitmusRule::Label => 10,
-            LitmusRule::BackwardBranch => 11,
-            LitmusRule::Condition => 12,
-            LitmusRule::Filter => 13,
-            LitmusRule::OpenComment => 14,
-            LitmusRule::NotAscii => 15,
-            LitmusRule::TooLong => 16,
-            LitmusRule::TooManyThreads => 17,
-        }
-    }
-}
 
 /// Why no test was read.
 #[derive(Debug, Drop, Error)]

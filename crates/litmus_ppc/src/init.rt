@@ -1,10 +1,10 @@
 //! Reads the block of initial values.
 
-use crate::fault::{LitmusFault, LitmusRule};
+use crate::fault::LitmusFault;
 use crate::place::{PlaceHole, PlaceStep, place_step, value_read};
 use crate::step::StepError;
 use crate::test::{InitEntry, Place};
-use crate::token::{Mark, Token};
+use litmus_tokens::{LitmusRule, Mark, Token};
 use source_text::Name;
 use std::alloc::Global;
 use std::collections::BTreeSet;

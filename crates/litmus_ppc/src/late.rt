@@ -1,8 +1,9 @@
 //! The checks of labels, made once a whole text is read.
 
-use crate::fault::{LitmusFault, LitmusRule};
+use crate::fault::LitmusFault;
 use crate::instruction::Instruction;
 use crate::test::{Step, Thread};
+use litmus_tokens::LitmusRule;
 use source_text::Name;
 use std::alloc::{AllocError, Global};
 use std::collections::BTreeMap;

@@ -1,8 +1,8 @@
 //! Words that begin instructions, and what follows each.
 
 use crate::instruction::{BranchCondition, Fence, Instruction, Operation, Register};
-use crate::token::{Mark, Token};
-use crate::word::{register_of, signed_number};
+use crate::place::register_of;
+use litmus_tokens::{Mark, Token, signed_number};
 
 /// The word that begins an instruction.
 #[derive(Clone, Copy, Debug, PartialEq, Eq)]
@@ -41,9 +41,12 @@ pub enum Want {
     Close,
 }
 
-/// The registers and the number read so far.
+/// An instruction of which a part was read.
 #[derive(Debug, Drop)]
-pub struct Operands {
+pub struct Pending {
+    opcode: DataOpcode,
+    // How many tokens were taken, and how many registers among them.
+    taken: usize,
     count: usize,
     first: Register,
     second: Register,
@@ -146,19 +149,16 @@ impl DataOpcode {
             ],
         }
     }
+}
 
-    /// The token wanted once so many were taken, or none at the end.
-    pub fn want(self, taken: usize) -> Option<Want> {
-        self.form().get(taken).copied()
-    }
-
-    /// The instruction of these operands.
-    pub fn instruction(self, operands: &Operands) -> Instruction {
-        let first = operands.first;
-        let second = operands.second;
-        let third = operands.third;
-        let value = operands.value;
-        match self {
+impl Pending {
+    // The instruction of the operands.
+    fn instruction(&self) -> Instruction {
+        let first = self.first;
+        let second = self.second;
+        let third = self.third;
+        let value = self.value;
+        match self.opcode {
             DataOpcode::LoadImmediate => Instruction::LoadImmediate {
                 target: first,
                 value,
@@ -205,9 +205,11 @@ impl DataOpcode {
     }
 }
 
-impl Operands {
-    pub fn new() -> Operands {
-        Operands {
+impl Pending {
+    pub fn new(opcode: DataOpcode) -> Pending {
+        Pending {
+            opcode,
+            taken: 0,
             count: 0,
             first: Register::new(0),
             second: Register::new(0),
@@ -216,8 +218,32 @@ impl Operands {
         }
     }
 
+    /// The token that is wanted, or none at the end.
+    pub fn want(&self) -> Option<Want> {
+        self.opcode.form().get(self.taken).copied()
+    }
+
     /// Takes a token, and says whether it is what is wanted.
-    pub fn take(&mut self, want: Want, token: &Token) -> bool {
+    pub fn take(&mut self, token: &Token) -> bool {
+        match self.want() {
+            Some(want) => {
+                self.taken = self.taken.saturating_add(1);
+                self.fits(want, token)
+            }
+            None => false,
+        }
+    }
+
+    /// The instruction, once all its tokens were taken.
+    pub fn finished(&self) -> Option<Instruction> {
+        match self.want() {
+            Some(_) => None,
+            None => Some(self.instruction()),
+        }
+    }
+
+    // Takes what the token says, and answers whether it is what is wanted.
+    fn fits(&mut self, want: Want, token: &Token) -> bool {
         match want {
             Want::Register => match register_in(token) {
                 Some(register) => self.put(register),

@@ -3,8 +3,7 @@
 use crate::instruction::Register;
 use crate::step::StepError;
 use crate::test::{Place, Value};
-use crate::token::{Mark, Token};
-use crate::word::{decimal, register_of, signed_number};
+use litmus_tokens::{Mark, Token, decimal, register_number, signed_number};
 use source_text::Name;
 
 /// Where in a place the reader stands.
@@ -80,6 +79,14 @@ fn register_read(thread: Name, token: Token) -> Result<PlaceStep, StepError> {
             None => Err(StepError::Refused),
         },
         _ => Err(StepError::Refused),
+    }
+}
+
+/// The register that a word names, if it names one.
+pub fn register_of(word: &[u8]) -> Option<Register> {
+    match register_number(word) {
+        Some(number) => Some(Register::new(number)),
+        None => None,
     }
 }
 

@@ -1,10 +1,9 @@
 //! Reads texts.
 
-use crate::fault::{LitmusFault, LitmusRule};
-use crate::lexer::{Front, front_of};
+use crate::fault::LitmusFault;
 use crate::reader::{Reader, TextKind};
 use crate::test::{Condition, InitEntry, Place, Test, Thread};
-use crate::token::Token;
+use litmus_tokens::{Front, LitmusRule, Token, front_of};
 use source_text::{MAX_BYTES, is_blank};
 use std::alloc::Global;
 

@@ -1,15 +1,13 @@
 //! Takes the tokens of a text one after another.
 
 use crate::condition::{Fed, Frame, Hole, feed};
-use crate::fault::{LitmusFault, LitmusRule};
+use crate::fault::LitmusFault;
 use crate::init::{InitBlock, InitHole, InitStep};
 use crate::place::{PlaceHole, PlaceStep, is_there, place_step};
-use crate::stage::{Stage, ends_table};
 use crate::step::StepError;
 use crate::table::Table;
 use crate::test::{Condition, InitEntry, Place, Proposition, Quantifier, Test, Thread};
-use crate::token::{Mark, Token};
-use crate::word::{is_filter, is_test_name};
+use litmus_tokens::{LitmusRule, Mark, Stage, Token, ends_table, is_filter, is_test_name};
 use source_text::Name;
 use std::alloc::{AllocError, Global};
 use std::mem;
@@ -362,7 +360,7 @@ fn is_end(token: &Token) -> bool {
 // Whether the token begins what stands behind the table.
 fn begins_tail(token: &Token) -> bool {
     match token {
-        Token::Word(word) => ends_table(word),
+        Token::Word(word) => ends_table(word.as_bytes()),
         Token::Mark(Mark::Tilde) => true,
         _ => false,
     }

@@ -1,13 +1,12 @@
 //! Reads the table of threads.
 
-use crate::fault::{LitmusFault, LitmusRule};
+use crate::fault::LitmusFault;
 use crate::instruction::{BranchCondition, Instruction};
 use crate::late::PlacedThread;
-use crate::operand::{DataOpcode, Opcode, Operands, Want, number_in, opcode_of, register_in};
+use crate::operand::{DataOpcode, Opcode, Pending, Want, number_in, opcode_of, register_in};
 use crate::step::StepError;
 use crate::test::{Step, Thread};
-use crate::token::{Mark, Token};
-use crate::word::{is_column, is_filter};
+use litmus_tokens::{LitmusRule, Mark, Token, is_column, is_filter};
 use std::alloc::{AllocError, Global};
 
 /// Where in a cell the reader stands.
@@ -15,8 +14,8 @@ use std::alloc::{AllocError, Global};
 enum Cell {
     Begins,
     Labelled,
-    /// Within an instruction, of which so many tokens were taken.
-    Within(DataOpcode, usize),
+    /// Within the instruction that is pending.
+    Within,
     WantsLabel(Option<BranchCondition>),
     Whole,
 }
@@ -29,8 +28,7 @@ pub struct Table {
     // The number of the thread whose cell is read.
     column: usize,
     cell: Cell,
-    // Those of the instruction that is read.
-    operands: Operands,
+    pending: Pending,
 }
 
 impl Table {
@@ -41,7 +39,7 @@ impl Table {
             threads: Vec::new(alloc),
             column: 0,
             cell: Cell::Begins,
-            operands: Operands::new(),
+            pending: Pending::new(DataOpcode::Move),
         }
     }
 
@@ -87,13 +85,13 @@ impl Table {
     pub fn is_cell_whole(&self) -> bool {
         match self.cell {
             Cell::Begins | Cell::Labelled | Cell::Whole => true,
-            Cell::Within(_, _) | Cell::WantsLabel(_) => false,
+            Cell::Within | Cell::WantsLabel(_) => false,
         }
     }
 
     fn want(&self) -> Option<Want> {
         match self.cell {
-            Cell::Within(opcode, taken) => opcode.want(taken),
+            Cell::Within => self.pending.want(),
             _ => None,
         }
     }
@@ -127,18 +125,23 @@ impl Table {
     /// Takes a token that stands at this byte.
     pub fn step(&mut self, token: Token, place: usize) -> Result<(), StepError> {
         match self.cell {
-            Cell::Begins => match token {
-                Token::Label(name) => {
-                    self.put(Step::Label(name), place)?;
-                    self.cell = Cell::Labelled;
-                    Ok(())
-                }
-                other => self.instruction_begun(other, place),
-            },
+            Cell::Begins => self.cell_begun(token, place),
             Cell::Labelled => self.instruction_begun(token, place),
-            Cell::Within(opcode, taken) => self.operand_read(opcode, taken, &token, place),
+            Cell::Within => self.operand_read(&token, place),
             Cell::WantsLabel(condition) => self.target_read(condition, token, place),
             Cell::Whole => self.cell_ended(&token),
+        }
+    }
+
+    // A token where a cell begins.
+    fn cell_begun(&mut self, token: Token, place: usize) -> Result<(), StepError> {
+        match token {
+            Token::Label(name) => {
+                self.put(Step::Label(name), place)?;
+                self.cell = Cell::Labelled;
+                Ok(())
+            }
+            other => self.instruction_begun(other, place),
         }
     }
 
@@ -147,8 +150,8 @@ impl Table {
         match token {
             Token::Word(word) => match opcode_of(word.as_bytes()) {
                 Some(Opcode::Data(opcode)) => {
-                    self.operands = Operands::new();
-                    self.cell = Cell::Within(opcode, 0);
+                    self.pending = Pending::new(opcode);
+                    self.cell = Cell::Within;
                     Ok(())
                 }
                 Some(Opcode::Branch(condition)) => {
@@ -162,25 +165,13 @@ impl Table {
         }
     }
 
-    fn operand_read(
-        &mut self,
-        opcode: DataOpcode,
-        taken: usize,
-        token: &Token,
-        place: usize,
-    ) -> Result<(), StepError> {
-        let Some(want) = opcode.want(taken) else {
-            return Err(StepError::Refused);
-        };
-        if !self.operands.take(want, token) {
+    fn operand_read(&mut self, token: &Token, place: usize) -> Result<(), StepError> {
+        if !self.pending.take(token) {
             return Err(StepError::Refused);
         }
-        let taken = taken.saturating_add(1);
-        if taken < opcode.form().len() {
-            self.cell = Cell::Within(opcode, taken);
-            Ok(())
-        } else {
-            self.finish(opcode.instruction(&self.operands), place)
+        match self.pending.finished() {
+            Some(instruction) => self.finish(instruction, place),
+            None => Ok(()),
         }
     }
 

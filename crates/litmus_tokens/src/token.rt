@@ -1,6 +1,6 @@
 //! The tokens of a text.
 
-use crate::fault::LitmusRule;
+use crate::rule::LitmusRule;
 use source_text::Name;
 
 /// A token of signs alone.

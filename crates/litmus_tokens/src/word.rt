@@ -2,8 +2,6 @@
 
 ghost use Rattle.std.specs.Prelude.{◌<◌, IfSome};
 
-use crate::instruction::Register;
-
 /// The number that decimal digits make, or the greatest that fits.
 pub fn decimal(digits: &[u8]) -> usize {
     let mut n: usize = 0;
@@ -25,17 +23,13 @@ pub fn signed_number(is_negative: bool, digits: &[u8]) -> Option<i32> {
     i32::try_from(if is_negative { 0 - n } else { n }).ok()
 }
 
-/// The register that a word names, from `r0` to `r31` without leading zeros.
-pub fn register_of(word: &[u8]) -> Option<Register> {
+/// The number of the register that a word names, from `r0` to `r31` without leading zeros.
+pub fn register_number(word: &[u8]) -> Option<u8>
+    ensures { IfSome result (λ n. n < 32) }
+{
     match word {
-        [b'r', ones] => register(0, digit(*ones)?),
-        [b'r', tens, ones] => {
-            let tens = digit(*tens)?;
-            if tens == 0 {
-                return None;
-            }
-            register(tens, digit(*ones)?)
-        }
+        [b'r', ones] => digit(*ones),
+        [b'r', tens, ones] => two_digits(digit(*tens)?, digit(*ones)?),
         _ => None,
     }
 }
@@ -49,13 +43,15 @@ fn digit(byte: u8) -> Option<u8>
     }
 }
 
-fn register(tens: u8, ones: u8) -> Option<Register>
+// The number of these digits, if it needs both and is below 32.
+fn two_digits(tens: u8, ones: u8) -> Option<u8>
     requires tens { tens < 10 }
     requires ones { ones < 10 }
+    ensures { IfSome result (λ n. n < 32) }
 {
     let number = tens * 10 + ones;
-    if number < 32 {
-        Some(Register::new(number))
+    if tens > 0 && number < 32 {
+        Some(number)
     } else {
         None
     }
@@ -77,4 +73,9 @@ pub fn is_column(word: &[u8], number: usize) -> bool {
 /// Whether bytes can name a test: at most 255 printable ones.
 pub fn is_test_name(word: &[u8]) -> bool {
     !word.is_empty() && word.len() <= 255 && word.iter().all(|b| *b > 32 && *b < 127)
+}
+
+/// Whether the word begins what stands behind the table.
+pub fn ends_table(word: &[u8]) -> bool {
+    word == b"locations".as_slice() || word == b"exists".as_slice() || word == b"forall".as_slice()
 }

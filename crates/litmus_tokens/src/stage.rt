@@ -1,11 +1,11 @@
 //! The parts of a text.
 
-use crate::fault::LitmusRule;
+use crate::rule::LitmusRule;
 use crate::token::{Mark, Token};
-use source_text::Name;
+use crate::word::ends_table;
 
-/// The most threads that a test has.
-pub const MAX_THREADS: usize = 8;
+// The most threads that a test has.
+const MAX_THREADS: usize = 8;
 
 /// The part of a text that the next token stands in. How bytes are read rests on it, and so does
 /// the number of a fault.
@@ -88,7 +88,7 @@ fn header_after(left: usize, token: &Token) -> Stage {
 fn cell_after(token: &Token) -> Stage {
     match token {
         Token::Word(word) => {
-            if ends_table(word) {
+            if ends_table(word.as_bytes()) {
                 Stage::Tail
             } else {
                 Stage::InCell
@@ -99,10 +99,4 @@ fn cell_after(token: &Token) -> Stage {
         Token::Mark(Mark::Semicolon) => Stage::CellBegins,
         _ => Stage::InCell,
     }
-}
-
-/// Whether the word begins what stands behind the table.
-pub fn ends_table(word: &Name) -> bool {
-    let word = word.as_bytes();
-    word == b"locations".as_slice() || word == b"exists".as_slice() || word == b"forall".as_slice()
 }

@@ -2,7 +2,7 @@
 
 ghost use Rattle.std.specs.Prelude.{◌<◌, ◌≤◌, length};
 
-use crate::fault::LitmusRule;
+use crate::rule::LitmusRule;
 use crate::stage::Stage;
 use crate::token::{Mark, Token};
 use memchr::memchr;
