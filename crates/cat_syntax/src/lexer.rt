@@ -1,6 +1,9 @@
 //! Cuts a text into tokens.
 
-ghost use Rattle.std.specs.Prelude.{◌<◌, ◌≤◌, length};
+ghost use Rattle.std.specs.Prelude.{◌≡◌, ◌<◌, ◌≤◌, length, slice_index, IfOk};
+ghost use Rattle.std.specs.List.{position_or_len};
+ghost use Rattle.source_text.specs.Layout.{quoted_from, comment_of};
+ghost use Rattle.cat_syntax.specs.Lexer.{is_letter, is_name_byte, ends_name, is_layout, comment_front, quoted_front, sign_token, sign_front, front};
 
 use crate::fault::CatRule;
 use crate::token::{Mark, Sign, Token};
@@ -15,16 +18,31 @@ pub enum Front {
     Lexeme(Token, usize),
 }
 
-fn is_letter(byte: u8) -> bool {
-    byte.is_ascii_alphabetic()
+fn is_layout(byte: u8) -> bool
+    ensures { result ≡ is_layout byte }
+{
+    is_blank(byte) || byte == b'\n'
 }
 
-fn is_name_byte(byte: u8) -> bool {
-    is_letter(byte) || byte.is_ascii_digit() || byte == b'_' || byte == b'.' || byte == b'-'
+fn is_letter(byte: u8) -> bool
+    ensures { result ≡ is_letter byte }
+{
+    (b'A' <= byte && byte <= b'Z') || (b'a' <= byte && byte <= b'z')
+}
+
+fn is_name_byte(byte: u8) -> bool
+    ensures { result ≡ is_name_byte byte }
+{
+    is_letter(byte)
+        || (b'0' <= byte && byte <= b'9')
+        || byte == b'_'
+        || byte == b'.'
+        || byte == b'-'
 }
 
 fn name_length(text: &[u8]) -> usize
-    ensures { result ≤ length text.now }
+    ensures value { result ≡ position_or_len ends_name text.now }
+    ensures within { result ≤ length text.now }
 {
     for (i, byte) in text.iter().enumerate() {
         if !is_name_byte(*byte) {
@@ -35,18 +53,24 @@ fn name_length(text: &[u8]) -> usize
 }
 
 // The byte at an index, or 0 past the end.
-fn byte_at(text: &[u8], i: usize) -> u8 {
+fn byte_at(text: &[u8], i: usize) -> u8
+    ensures { result ≡ slice_index text.now i }
+{
     if i < text.len() { text[i] } else { 0 }
 }
 
-fn comment(text: &[u8]) -> Front {
+fn comment(text: &[u8]) -> Front
+    ensures { result ≡ comment_front (length text.now) (comment_of text.now) }
+{
     match comment_length(text) {
         Some(n) => Front::Layout(n),
         None => Front::Lexeme(Token::Broken(CatRule::Syntax), text.len()),
     }
 }
 
-fn quoted(alloc: Global, text: &[u8]) -> Result<Front, AllocError> {
+fn quoted(alloc: Global, text: &[u8]) -> Result<Front, AllocError>
+    ensures { IfOk result (λ f. f ≡ quoted_front text.now (quoted_from text.now)) }
+{
     match quoted_length(text) {
         Some(n) => Ok(Front::Lexeme(Token::Quoted(Name::new(alloc, &text[1..n - 1])?), n)),
         None => Ok(Front::Lexeme(Token::Broken(CatRule::Syntax), text.len())),
@@ -54,7 +78,10 @@ fn quoted(alloc: Global, text: &[u8]) -> Result<Front, AllocError> {
 }
 
 // The token of one byte.
-fn sign_token(byte: u8) -> Token {
+#[tactic(auto, unfolding(crate::specs::Lexer::sign_token))]
+fn sign_token(byte: u8) -> Token
+    ensures { result ≡ sign_token byte }
+{
     match byte {
         b'|' => Token::Sign(Sign::Bar),
         b';' => Token::Sign(Sign::Semicolon),
@@ -79,7 +106,12 @@ fn sign_token(byte: u8) -> Token {
 }
 
 // What a text begins with that is neither a blank nor a word.
-fn mark_or_sign(text: &[u8], byte: u8, next: u8) -> Front {
+fn mark_or_sign(text: &[u8]) -> Front
+    requires { 0 < length text.now }
+    ensures { result ≡ sign_front text.now }
+{
+    let byte = text[0];
+    let next = byte_at(text, 1);
     if byte == b'+' && next == b'+' {
         return Front::Lexeme(Token::Broken(CatRule::Unsupported), 2);
     }
@@ -90,12 +122,14 @@ fn mark_or_sign(text: &[u8], byte: u8, next: u8) -> Front {
 }
 
 /// What the text begins with.
+#[tactic(auto, unfolding(crate::specs::Lexer::front))]
 pub fn front_of(alloc: Global, text: &[u8]) -> Result<Front, AllocError>
     requires { 0 < length text.now }
+    ensures { IfOk result (λ f. f ≡ front text.now) }
 {
     let byte = text[0];
     let next = byte_at(text, 1);
-    if is_blank(byte) || byte == b'\n' {
+    if is_layout(byte) {
         return Ok(Front::Layout(1));
     }
     if is_letter(byte) {
@@ -111,5 +145,5 @@ pub fn front_of(alloc: Global, text: &[u8]) -> Result<Front, AllocError>
     if byte == b'"' {
         return quoted(alloc, text);
     }
-    Ok(mark_or_sign(text, byte, next))
+    Ok(mark_or_sign(text))
 }

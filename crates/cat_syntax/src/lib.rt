@@ -22,3 +22,5 @@ pub use print::{print_item, print_model};
 pub use read::{read_item, read_model};
 pub use source_text::Name;
 
+#[cfg(test)]
+mod tests;
