@@ -1,2 +1,14 @@
-//! (to be written)
+//! The predefined names of a model, as sets of events and relations over a candidate execution
+//! (the herd7 manual, chapter on cat; Alglave, Maranget and Tautschnig, Herding Cats, TOPLAS
+//! 36(2), 2014).
 #![tactic(auto)]
+
+mod changing;
+mod env;
+mod fixed;
+mod names;
+mod sets;
+
+
+pub use env::{BaseEnv, base};
+pub use names::Base;

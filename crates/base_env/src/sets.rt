@@ -1,0 +1,39 @@
+//! The predefined sets.
+ghost use Rattle.std.specs.Prelude.{◌≡◌, ◌≤◌};
+
+use bit_relations::EventSet;
+use candidates::{Action, Event};
+use cat_syntax::Predefined;
+use litmus_ppc::Fence;
+
+/// Whether an event is in a predefined set; no event is in a name that is no set.
+fn is_member(name: Predefined, event: &Event) -> bool {
+    match name {
+        Predefined::Loads => matches!(event.action, Action::Read { .. }),
+        Predefined::Stores => matches!(event.action, Action::Write { .. }),
+        Predefined::Accesses => !matches!(event.action, Action::Fence(_)),
+        Predefined::Fences => matches!(event.action, Action::Fence(_)),
+        Predefined::InitialStores => event.thread.is_none(),
+        Predefined::SyncFences => matches!(event.action, Action::Fence(Fence::Sync)),
+        Predefined::LwsyncFences => matches!(event.action, Action::Fence(Fence::LightweightSync)),
+        Predefined::EieioFences => matches!(event.action, Action::Fence(Fence::Eieio)),
+        Predefined::IsyncFences => matches!(event.action, Action::Fence(Fence::Isync)),
+        _ => false,
+    }
+}
+
+/// The predefined set over the events, of which there are at most 128.
+pub fn set_of(name: Predefined, count: usize, events: &[Event]) -> EventSet
+    requires { count ≤ 128 }
+    ensures { result.count ≡ count }
+{
+    let mut set = EventSet::empty(count);
+    for number in 0..count {
+        if let Some(event) = events.get(number) {
+            if is_member(name, event) {
+                set.insert(number);
+            }
+        }
+    }
+    set
+}
