@@ -10,7 +10,8 @@ mod orders;
 mod part;
 mod reading;
 mod search;
-
+#[cfg(test)]
+mod tests;
 
 pub use candidate::{Action, Combination, Event, Execution, Space};
 
