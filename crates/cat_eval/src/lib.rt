@@ -1,2 +1,21 @@
-//! (to be written)
+//! The groups and checks of a model, evaluated over all candidate executions of a test.
+//!
+//! The meaning of the operators and of `let rec` is that of Alglave, Maranget and Tautschnig,
+//! Herding Cats, TOPLAS 36(2), 2014, and of the herd7 manual, chapter on cat.
 #![tactic(auto)]
+
+mod check;
+mod column;
+mod group;
+mod machine;
+mod names;
+pub mod rounds;
+mod stack;
+mod walk;
+
+pub use check::eval_check;
+pub use column::Column;
+pub use group::eval_group;
+
+#[cfg(test)]
+mod tests;

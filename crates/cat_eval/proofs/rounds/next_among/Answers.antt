@@ -1,0 +1,23 @@
+use Rattle.std.proofs.Common.{arith, IsTrue}
+use Rattle.cat_eval.proofs.Among.{among_none, next_used, next_unused}
+use Rattle.cat_eval.proofs.rounds.next_among.Goals as goal
+use Rattle.cat_eval.proofs.rounds.next_among.Goals.{then-uses_any, else-uses_any}
+
+pub loop-position-init : goal.loop-position-init
+loop-position-init c = λ k few. ((λ h. absurd (among_none k h)), (λ h. absurd (omega (arith, h.0))))
+
+pub loop-position-preserved : goal.loop-position-preserved
+loop-position-preserved c = elim c.if-uses_any.branch [
+  | then-uses_any w ↦
+      rw w.names-is (next_used _ _ _ _ _ _ c.loop-position-test.true c.index-bodies-position.is
+      (rw (c.deref.ensures.value, ← c.index-bodies-position.is) at (c.uses_any.ensures.0 w.if-uses_any.true)) w.with_name-names.ensures c.loop-position.invariant)
+  | else-uses_any w ↦
+      rw w.names-is (next_unused _ _ _ _ _ c.loop-position-test.true c.index-bodies-position.is
+      (λ uses. let t : IsTrue c.uses_any.result = c.uses_any.ensures.1 (rw (c.deref.ensures.value, ← c.index-bodies-position.is) uses) in cc) c.loop-position.invariant)
+]
+
+pub returns : goal.returns
+returns c = λ k few. (
+  (λ h. ((c.loop-position.invariant k few).0 h).1),
+  (λ at. (c.loop-position.invariant k few).1 (omega (arith, at.1, c.loop-position-test.false), at)),
+)

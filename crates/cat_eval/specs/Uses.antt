@@ -1,0 +1,42 @@
+-- Which names of its own group an expression uses.
+use Rattle.std.specs.Prelude.{ℕ, ◌≡◌, ◌<◌, ◌⊎◌, List, length, slice_index_or, Any}
+use Rattle.std.specs.Int.{bit_at}
+use Rattle.binding_graph.specs.declared.resolved.Step.{Step}
+use Rattle.binding_graph.specs.declared.resolved.Step.TheVariants as steps
+use Rattle.binding_graph.specs.declared.resolved.Body.{Body}
+use Rattle.binding_graph.specs.declared.resolved.Source.{Source}
+use Rattle.binding_graph.specs.declared.resolved.Source.TheVariants as sources
+
+-- the name at this position of a group is among the names
+unfoldable pub IsAmong : ℕ → ℕ → Type 0
+IsAmong names position = bit_at names position ≡ 1
+
+-- it stands for one of these names of the group
+abbrev pub StandsForOne : ℕ → Source → Type 0
+StandsForOne names (sources.Predefined name) = ⊥
+StandsForOne names (sources.Input place) = ⊥
+StandsForOne names (sources.Own position) = IsAmong names position
+
+-- the step uses one of these names of the group
+abbrev pub UsesOne : ℕ → Step → Type 0
+UsesOne names (steps.PushSet source) = StandsForOne names source
+UsesOne names steps.PushAllEvents = ⊥
+UsesOne names steps.PushNoEvents = ⊥
+UsesOne names (steps.BlendSets how) = ⊥
+UsesOne names steps.TurnSet = ⊥
+UsesOne names (steps.PushRelation source) = StandsForOne names source
+UsesOne names steps.PushNoPairs = ⊥
+UsesOne names (steps.BlendRelations how) = ⊥
+UsesOne names steps.Compose = ⊥
+UsesOne names steps.Multiply = ⊥
+UsesOne names steps.Restrict = ⊥
+UsesOne names (steps.Close how) = ⊥
+UsesOne names steps.TurnRelation = ⊥
+
+-- some step uses one of these names of the group
+abbrev pub UsesAny : ℕ → List Step → Type 0
+UsesAny names xs = Any (UsesOne names) xs
+
+-- the body at this position of a group uses one of these names
+abbrev pub UsesAt : ℕ → List Body → ℕ → Type 0
+UsesAt names bodies position = (body : Body) × (position < length bodies) × (slice_index_or bodies position body ≡ body) × UsesAny names body.code.steps.items

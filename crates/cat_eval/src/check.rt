@@ -1,0 +1,59 @@
+//! Whether a check holds.
+
+use crate::column::Column;
+use crate::machine::Machine;
+use crate::names::Names;
+use crate::walk::{Visit, visit_all};
+use base_env::Base;
+use binding_graph::{CheckCode, ResolvedItem, Role};
+use candidates::Space;
+use std::alloc::{AllocError, Global};
+
+/// A check on its way through the candidates.
+#[derive(Drop)]
+struct CheckRun<'a> {
+    check: &'a CheckCode,
+    inputs: &'a [&'a Column],
+    machine: Machine,
+    answers: Vec<bool>,
+}
+
+impl Visit for CheckRun<'_> {
+    fn visit(&mut self, base: &Base) -> Result<(), AllocError> {
+        let names = Names {
+            base,
+            inputs: self.inputs,
+            own: &[],
+            candidate: self.answers.len(),
+        };
+        self.machine.run(&self.check.code.steps, &names)?;
+        let met = self
+            .machine
+            .is_as_asked(self.check.code.kind, self.check.word, base.count());
+        self.answers.push(met != self.check.negated)?;
+        Ok(())
+    }
+}
+
+/// Whether a check or flag holds, for each candidate of a space. `inputs` are the values of the
+/// item's inputs, in their order. An item of another kind has no answers.
+pub fn eval_check(
+    alloc: Global,
+    item: &ResolvedItem,
+    space: &Space,
+    inputs: &[&Column],
+) -> Result<Vec<bool>, AllocError> {
+    match &item.role {
+        Role::Check(check) => {
+            let mut run = CheckRun {
+                check,
+                inputs,
+                machine: Machine::new(alloc),
+                answers: Vec::new(alloc),
+            };
+            visit_all(alloc, space, &mut run)?;
+            Ok(run.answers)
+        }
+        Role::Group { .. } | Role::Silent => Ok(Vec::new(alloc)),
+    }
+}

@@ -1,0 +1,58 @@
+//! What the names of an item stand for in one candidate.
+
+ghost use Rattle.std.specs.Prelude.{◌≤◌};
+
+use crate::column::Column;
+use base_env::Base;
+use binding_graph::Source;
+use bit_relations::{EventSet, Rel};
+
+/// The values of all names that an item can use, in one candidate.
+#[derive(Clone, Copy)]
+pub(crate) struct Names<'a> {
+    /// The predefined names of the candidate.
+    pub(crate) base: &'a Base,
+    /// The values of the item's inputs in all candidates.
+    pub(crate) inputs: &'a [&'a Column],
+    /// The present values of the names of its own recursive group.
+    pub(crate) own: &'a [Rel],
+    /// The number of the candidate.
+    pub(crate) candidate: usize,
+}
+
+impl Names<'_> {
+    /// How many events the candidate has.
+    pub(crate) fn count(&self) -> usize
+        ensures { result ≤ 128 }
+    {
+        self.base.count()
+    }
+
+    /// The set that a name stands for: empty where it stands for none.
+    pub(crate) fn set(&self, source: Source) -> EventSet {
+        match source {
+            Source::Predefined(name) => self.base.set(name),
+            Source::Input(place) => match self.inputs.get(place) {
+                Some(column) => column.set(self.candidate, self.count()),
+                None => EventSet::empty(self.count()),
+            },
+            Source::Own(_) => EventSet::empty(self.count()),
+        }
+    }
+
+    /// Writes the relation that a name stands for to a place: the empty one where it stands for
+    /// none.
+    pub(crate) fn write_relation(&self, source: Source, place: &mut Rel) {
+        match source {
+            Source::Predefined(name) => self.base.write_relation(name, place),
+            Source::Input(input) => match self.inputs.get(input) {
+                Some(column) => column.write_relation(self.candidate, self.count(), place),
+                None => place.clear(self.count()),
+            },
+            Source::Own(position) => match self.own.get(position) {
+                Some(value) => place.copy_from(value),
+                None => place.clear(self.count()),
+            },
+        }
+    }
+}
