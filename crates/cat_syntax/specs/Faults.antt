@@ -1,0 +1,15 @@
+-- What a refusal says.
+use Rattle.std.specs.Prelude.{◌≡◌, ℕ, ◌≤◌}
+use Rattle.cat_syntax.specs.declared.fault.CatFault.{CatFault}
+use Rattle.cat_syntax.specs.declared.fault.CatFault.TheVariants.{Refused, OutOfMemory}
+use Rattle.cat_syntax.specs.declared.fault.CatRule.TheVariants.{TooLong}
+
+-- the place is at most this
+abbrev pub IsWithin : ℕ → CatFault → Type 0
+IsWithin n (Refused rule place) = place ≤ n
+IsWithin n (OutOfMemory e) = Unit {0}
+
+-- the text is longer than any may be
+abbrev pub IsTooLong : CatFault → Type 0
+IsTooLong (Refused rule place) = (rule ≡ TooLong) × (place ≡ 65536)
+IsTooLong (OutOfMemory e) = ⊥
