@@ -46,7 +46,11 @@ fn coherence_of_one_location(rt: HostRuntime) -> Result<(), Fail> {
     has_pairs(&rt, &second.rfe_rel, &[]);
     has_pairs(&rt, &second.fr_rel, &[]);
     has_pairs(&rt, &second.int_rel, &[(1, 1), (1, 2), (2, 1), (2, 2)]);
-    has_pairs(&rt, &second.ext_rel, &[(0, 0), (0, 1), (0, 2), (1, 0), (2, 0)]);
+    has_pairs(
+        &rt,
+        &second.ext_rel,
+        &[(0, 0), (0, 1), (0, 2), (1, 0), (2, 0)],
+    );
     has_pairs(&rt, &second.loc_rel.complement(), &[]);
     assert!(rt; second.loc_rel.count() == 3 && second.iw_set.count() == 3);
     assert!(rt; second.iw_set.contains(0) && !second.iw_set.contains(1));
@@ -60,7 +64,20 @@ fn fences_and_initial_stores(rt: HostRuntime) -> Result<(), Fail> {
     has_pairs(&rt, &env.lwsync_rel, &[(2, 4)]);
     has_pairs(&rt, &env.sync_rel, &[]);
     has_pairs(&rt, &env.co_rel, &[(0, 2), (1, 4)]);
-    has_pairs(&rt, &env.loc_rel, &[(0, 0), (0, 2), (1, 1), (1, 4), (2, 0), (2, 2), (4, 1), (4, 4)]);
+    has_pairs(
+        &rt,
+        &env.loc_rel,
+        &[
+            (0, 0),
+            (0, 2),
+            (1, 1),
+            (1, 4),
+            (2, 0),
+            (2, 2),
+            (4, 1),
+            (4, 4),
+        ],
+    );
     has_pairs(&rt, &env.id_rel, &[(0, 0), (1, 1), (2, 2), (3, 3), (4, 4)]);
     has_pairs(&rt, &Rel::on(&env.w_set), &[(0, 0), (1, 1), (2, 2), (4, 4)]);
     has_pairs(&rt, &Rel::on(&env.lwsync_set), &[(3, 3)]);

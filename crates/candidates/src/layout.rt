@@ -1,8 +1,8 @@
 //! What a test's candidates are made of: initial stores, and runs of each thread.
 
+use crate::candidate::{Action, Event};
 use crate::keys::{KeySet, key_of};
 use crate::part::{Part, Sketch, parts, sift, sketches};
-use crate::candidate::{Action, Event};
 use litmus_ppc::Test;
 use ppc_semantics::{Domain, Program, Run, SpaceFault, Value, domain_of, program, runs_of};
 use source_text::Name;

@@ -14,7 +14,6 @@ mod search;
 mod tests;
 
 pub use candidate::{Action, Combination, Event, Execution, Space};
-
 use layout::Layout;
 use litmus_ppc::Test;
 use ppc_semantics::{EvalRefusal, SpaceFault};

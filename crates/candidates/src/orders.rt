@@ -23,7 +23,14 @@ pub fn order_count(events: &[Event]) -> usize {
 fn stores_at(alloc: Global, events: &[Event], location: usize) -> Result<Vec<u8>, AllocError> {
     let mut stores = Vec::new(alloc);
     for (number, event) in events.iter().take(MAX_EVENTS).enumerate() {
-        if let (Some(_), Action::Write { location: place, .. }) = (event.thread, event.action) {
+        if let (
+            Some(_),
+            Action::Write {
+                location: place,
+                ..
+            },
+        ) = (event.thread, event.action)
+        {
             if place == location {
                 stores.push(number as u8)?;
             }
@@ -41,11 +48,7 @@ fn joined(alloc: Global, front: &[u8], rest: &[u8]) -> Result<Vec<u8>, AllocErro
 }
 
 /// Each front with each store that it lacks.
-fn with_each(
-    alloc: Global,
-    fronts: &[Vec<u8>],
-    stores: &[u8],
-) -> Result<Vec<Vec<u8>>, AllocError> {
+fn with_each(alloc: Global, fronts: &[Vec<u8>], stores: &[u8]) -> Result<Vec<Vec<u8>>, AllocError> {
     let mut longer = Vec::new(alloc);
     for front in fronts {
         for store in stores {
@@ -85,11 +88,7 @@ fn with_all(
 
 /// The orders of all stores, in lexicographic order: those of each location after one another,
 /// the initial store first.
-fn orders(
-    alloc: Global,
-    events: &[Event],
-    locations: usize,
-) -> Result<Vec<Vec<u8>>, AllocError> {
+fn orders(alloc: Global, events: &[Event], locations: usize) -> Result<Vec<Vec<u8>>, AllocError> {
     let mut orders = Vec::new(alloc);
     orders.push(Vec::new(alloc))?;
     for location in 0..locations.min(MAX_EVENTS) {

@@ -1,7 +1,7 @@
 //! Runs of one thread, as parts of candidates.
 
-use crate::keys::{KeySet, key_of};
 use crate::candidate::{Action, Event};
+use crate::keys::{KeySet, key_of};
 use dataflow::{Links, links};
 use ppc_semantics::{Run, Value};
 use std::alloc::{AllocError, Global};

@@ -1,12 +1,12 @@
 //! The combinations of runs that have candidates.
 
 use crate::MAX_CANDIDATES;
+use crate::candidate::{Combination, Event};
 use crate::keys::KeySet;
 use crate::layout::{Layout, ThreadParts};
 use crate::orders::order_count;
 use crate::part::Part;
 use crate::reading::Reading;
-use crate::candidate::{Combination, Event};
 use dataflow::Links;
 use ppc_semantics::{EvalRefusal, SpaceFault};
 use std::alloc::{AllocError, Global};
@@ -43,12 +43,7 @@ fn fits(front: &Front, part: &Part, later: &KeySet) -> bool {
 }
 
 /// The front with one run more.
-fn extended(
-    alloc: Global,
-    front: &Front,
-    run: usize,
-    part: &Part,
-) -> Result<Front, AllocError> {
+fn extended(alloc: Global, front: &Front, run: usize, part: &Part) -> Result<Front, AllocError> {
     let mut runs = Vec::with_capacity(alloc, front.runs.len() + 1)?;
     runs.extend_from_slice(&front.runs)?;
     runs.push(run)?;

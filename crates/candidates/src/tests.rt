@@ -78,17 +78,22 @@ fn pairs(alloc: Global, count: u64) -> Result<Vec<u8>, AllocError> {
 
 /// A thread with a store and a number of `sync`.
 fn syncs(alloc: Global, count: u64) -> Result<Vec<u8>, AllocError> {
-    let mut text = Vec::from_slice(alloc, b"PPC SYNCS\n{ 0:r2=x; }\nP0;\nli r1,1;\nstw r1,0(r2);\n")?;
+    let mut text = Vec::from_slice(
+        alloc,
+        b"PPC SYNCS\n{ 0:r2=x; }\nP0;\nli r1,1;\nstw r1,0(r2);\n",
+    )?;
     put_times(&mut text, count, b"sync;\n")?;
     put_bytes(&mut text, b"exists ([x]=1)")?;
     Ok(text)
 }
 
 /// Two threads with twelve loads and eight, of a location that no value but 0 is stored to.
-const LOADS: &[u8] = b"PPC LOADS\n{ y=1; 0:r2=x; 1:r2=x; }\nP0|P1;\nlwz r1,0(r2)|lwz r1,0(r2);\nlwz r1,0(r2)|lwz r1,0(r2);\nlwz r1,0(r2)|lwz r1,0(r2);\nlwz r1,0(r2)|lwz r1,0(r2);\nlwz r1,0(r2)|lwz r1,0(r2);\nlwz r1,0(r2)|lwz r1,0(r2);\nlwz r1,0(r2)|lwz r1,0(r2);\nlwz r1,0(r2)|lwz r1,0(r2);\nlwz r1,0(r2)|;\nlwz r1,0(r2)|;\nlwz r1,0(r2)|;\nlwz r1,0(r2)|;\nexists (0:r1=0)";
+const LOADS: &[u8] =
+    b"PPC LOADS\n{ y=1; 0:r2=x; 1:r2=x; }\nP0|P1;\nlwz r1,0(r2)|lwz r1,0(r2);\nlwz r1,0(r2)|lwz r1,0(r2);\nlwz r1,0(r2)|lwz r1,0(r2);\nlwz r1,0(r2)|lwz r1,0(r2);\nlwz r1,0(r2)|lwz r1,0(r2);\nlwz r1,0(r2)|lwz r1,0(r2);\nlwz r1,0(r2)|lwz r1,0(r2);\nlwz r1,0(r2)|lwz r1,0(r2);\nlwz r1,0(r2)|;\nlwz r1,0(r2)|;\nlwz r1,0(r2)|;\nlwz r1,0(r2)|;\nexists (0:r1=0)";
 
 /// Each thread stores what it loads.
-const COPIES: &[u8] = b"PPC LB+copies\n{ 0:r2=x; 0:r4=y; 1:r2=y; 1:r4=x; }\nP0|P1;\nlwz r1,0(r2)|lwz r1,0(r2);\nstw r1,0(r4)|stw r1,0(r4);\nexists (0:r1=0)";
+const COPIES: &[u8] =
+    b"PPC LB+copies\n{ 0:r2=x; 0:r4=y; 1:r2=y; 1:r4=x; }\nP0|P1;\nlwz r1,0(r2)|lwz r1,0(r2);\nstw r1,0(r4)|stw r1,0(r4);\nexists (0:r1=0)";
 
 /// A store and then a load of one location.
 const SAME: &[u8] =
