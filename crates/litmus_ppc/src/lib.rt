@@ -24,3 +24,6 @@ pub use source_text::Name;
 pub use test::{
     Condition, Connective, InitEntry, Place, Proposition, Quantifier, Step, Test, Thread, Value,
 };
+
+#[cfg(test)]
+mod tests;
