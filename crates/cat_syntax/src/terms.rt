@@ -1,6 +1,10 @@
 //! Reads an expression, a token after the other.
 
-ghost use Rattle.std.specs.Prelude.{◌≡◌};
+ghost use Rattle.std.specs.Prelude.{◌≡◌, ◌+◌, IfOk};
+ghost use Rattle.cat_syntax.specs.Machine.{level, left_level, open_count, is_outermost, fold_to, opened, operand, after_brace, infix_at, ended, closed, square_closed, comma_read, after, after_name, after_star, after_star_tilde, feed};
+ghost use Rattle.cat_syntax.specs.Reading.{limits, term_of, frame_of, stack_of, hole_of, Feeds};
+ghost use Rattle.cat_syntax.specs.declared.token.Token.{Token};
+ghost use Rattle.cat_syntax.specs.declared.token.Token.TheVariants.{Close, CloseSquare, Comma};
 ghost use Rattle.cat_syntax.specs.declared.terms.StepError.TheVariants.{OutOfMemory};
 
 use crate::fault::CatRule;
@@ -85,7 +89,9 @@ pub const MAX_OPERATORS: usize = 1024;
 
 impl Infix {
     // How tightly the operator binds.
-    fn level(self) -> usize {
+    fn level(self) -> usize
+        ensures { result ≡ level self }
+    {
         match self {
             Infix::Union => 1,
             Infix::Sequence => 2,
@@ -96,7 +102,9 @@ impl Infix {
     }
 
     // How tight its left operand must be. `\` alone groups to the left.
-    fn left_level(self) -> usize {
+    fn left_level(self) -> usize
+        ensures { result ≡ left_level self }
+    {
         match self {
             Infix::Union => 2,
             Infix::Sequence => 3,
@@ -108,8 +116,12 @@ impl Infix {
 }
 
 impl Frame {
+    ghost use Rattle.cat_syntax.specs.Reading.{is_open, is_no_bracket};
+
     // Whether it counts as open.
-    fn is_open(&self) -> bool {
+    fn is_open(&self) -> bool
+        ensures { result ≡ is_open self.now }
+    {
         match self {
             Frame::Group => true,
             Frame::Square => true,
@@ -120,7 +132,9 @@ impl Frame {
     }
 
     // Whether it is no bracket.
-    fn is_no_bracket(&self) -> bool {
+    fn is_no_bracket(&self) -> bool
+        ensures { result ≡ is_no_bracket self.now }
+    {
         match self {
             Frame::Group => false,
             Frame::Square => false,
@@ -137,7 +151,10 @@ fn joined(
     level: usize,
     frames: &mut Vec<Frame>,
     operand: Expression,
-) -> Result<Expression, AllocError> {
+) -> Result<Expression, AllocError>
+    ensures { IfOk result (λ v. fold_to level (stack_of frames.old.items) (term_of operand)
+        ≡ (stack_of frames.new.items, term_of v)) }
+{
     let mut operand = operand;
     while let Some(frame) = frames.pop() {
         match frame {
@@ -169,12 +186,16 @@ fn joined(
 }
 
 // How many brackets and prefixes are open.
-fn open_frames(frames: &[Frame]) -> usize {
+fn open_frames(frames: &[Frame]) -> usize
+    ensures { result ≡ open_count (stack_of frames.now) }
+{
     frames.iter().filter(|f| f.is_open()).count()
 }
 
 // Whether no bracket is open.
-fn are_outermost(frames: &[Frame]) -> bool {
+fn are_outermost(frames: &[Frame]) -> bool
+    ensures { result ≡ is_outermost (stack_of frames.now) }
+{
     for f in frames {
         if !f.is_no_bracket() {
             return false;
@@ -184,7 +205,9 @@ fn are_outermost(frames: &[Frame]) -> bool {
 }
 
 // Opens a bracket or a prefix.
-fn opened(frames: Vec<Frame>, operators: usize, frame: Frame) -> Result<Fed, StepError> {
+fn opened(frames: Vec<Frame>, operators: usize, frame: Frame) -> Result<Fed, StepError>
+    ensures { (t : Token) → Feeds t result (opened limits (stack_of frames.items) operators (frame_of frame)) }
+{
     let mut frames = frames;
     if open_frames(&frames) >= MAX_NESTING {
         return Err(StepError::Refused(CatRule::TooDeep));
@@ -194,7 +217,9 @@ fn opened(frames: Vec<Frame>, operators: usize, frame: Frame) -> Result<Fed, Ste
 }
 
 // A token where an operand is wanted.
-fn operand(frames: Vec<Frame>, operators: usize, token: Token) -> Result<Fed, StepError> {
+fn operand(frames: Vec<Frame>, operators: usize, token: Token) -> Result<Fed, StepError>
+    ensures { Feeds token result (operand limits (stack_of frames.items) operators token) }
+{
     match token {
         Token::Name(name) => Ok(Fed::Goes(frames, operators, Hole::Named(name))),
         Token::Underscore => Ok(Fed::Goes(frames, operators, Hole::Has(Expression::Everything))),
@@ -208,7 +233,9 @@ fn operand(frames: Vec<Frame>, operators: usize, token: Token) -> Result<Fed, St
 }
 
 // A token after `{`.
-fn after_brace(frames: Vec<Frame>, operators: usize, token: Token) -> Result<Fed, StepError> {
+fn after_brace(frames: Vec<Frame>, operators: usize, token: Token) -> Result<Fed, StepError>
+    ensures { Feeds token result (after_brace (stack_of frames.items) operators token) }
+{
     match token {
         Token::CloseBrace => Ok(Fed::Goes(frames, operators, Hole::Has(Expression::NoEvents))),
         other => Err(StepError::Refused(other.rule())),
@@ -221,7 +248,9 @@ fn infix_after(
     frames: Vec<Frame>,
     op: Infix,
     left: Expression,
-) -> Result<Vec<Frame>, AllocError> {
+) -> Result<Vec<Frame>, AllocError>
+    ensures { IfOk result (λ fs. stack_of fs.items ≡ infix_at op (stack_of frames.items) (term_of left)) }
+{
     let mut frames = frames;
     let left = joined(alloc, op.left_level(), &mut frames, left)?;
     frames.push(Frame::Left(op, left))?;
@@ -234,7 +263,9 @@ fn closed(
     frames: Vec<Frame>,
     operators: usize,
     operand: Expression,
-) -> Result<Fed, StepError> {
+) -> Result<Fed, StepError>
+    ensures { Feeds Close result (closed operators (fold_to 0 (stack_of frames.items) (term_of operand))) }
+{
     let mut frames = frames;
     let operand = joined(alloc, 0, &mut frames, operand)?;
     match frames.pop() {
@@ -258,7 +289,9 @@ fn square_closed(
     frames: Vec<Frame>,
     operators: usize,
     operand: Expression,
-) -> Result<Fed, StepError> {
+) -> Result<Fed, StepError>
+    ensures { Feeds CloseSquare result (square_closed operators (fold_to 0 (stack_of frames.items) (term_of operand))) }
+{
     let mut frames = frames;
     let operand = joined(alloc, 0, &mut frames, operand)?;
     match frames.pop() {
@@ -280,7 +313,9 @@ fn comma_read(
     frames: Vec<Frame>,
     operators: usize,
     operand: Expression,
-) -> Result<Fed, StepError> {
+) -> Result<Fed, StepError>
+    ensures { Feeds Comma result (comma_read operators (fold_to 0 (stack_of frames.items) (term_of operand))) }
+{
     let mut frames = frames;
     let operand = joined(alloc, 0, &mut frames, operand)?;
     match frames.pop() {
@@ -304,7 +339,9 @@ fn ended(
     frames: Vec<Frame>,
     operand: Expression,
     token: Token,
-) -> Result<Fed, StepError> {
+) -> Result<Fed, StepError>
+    ensures { Feeds token result (ended token (fold_to 0 (stack_of frames.items) (term_of operand))) }
+{
     let mut frames = frames;
     let operand = joined(alloc, 0, &mut frames, operand)?;
     match frames.pop() {
@@ -320,7 +357,9 @@ fn after(
     operators: usize,
     operand: Expression,
     token: Token,
-) -> Result<Fed, StepError> {
+) -> Result<Fed, StepError>
+    ensures { Feeds token result (after limits (stack_of frames.items) operators (term_of operand) token) }
+{
     match token {
         Token::Sign(sign) => {
             if operators >= MAX_OPERATORS {
@@ -356,7 +395,9 @@ fn after_name(
     operators: usize,
     name: Name,
     token: Token,
-) -> Result<Fed, StepError> {
+) -> Result<Fed, StepError>
+    ensures { Feeds token result (after_name limits (stack_of frames.items) operators name token) }
+{
     match token {
         Token::Open => opened(frames, operators, Frame::Applied(name, Vec::new(alloc))),
         other => after(alloc, frames, operators, Expression::Named(name), other),
@@ -370,7 +411,9 @@ fn after_star(
     operators: usize,
     left: Expression,
     token: Token,
-) -> Result<Fed, StepError> {
+) -> Result<Fed, StepError>
+    ensures { Feeds token result (after_star limits (stack_of frames.items) operators (term_of left) token) }
+{
     match token {
         Token::Tilde => {
             if are_outermost(&frames) {
@@ -397,7 +440,9 @@ fn after_star_tilde(
     operators: usize,
     left: Expression,
     token: Token,
-) -> Result<Fed, StepError> {
+) -> Result<Fed, StepError>
+    ensures { Feeds token result (after_star_tilde limits (stack_of frames.items) operators (term_of left) token) }
+{
     match token {
         Token::Check(word) => {
             let mut frames = frames;
@@ -420,7 +465,9 @@ pub fn feed(
     operators: usize,
     hole: Hole,
     token: Token,
-) -> Result<Fed, StepError> {
+) -> Result<Fed, StepError>
+    ensures { Feeds token result (feed limits (stack_of frames.items) operators (hole_of hole) token) }
+{
     match hole {
         Hole::Wants => operand(frames, operators, token),
         Hole::Brace => after_brace(frames, operators, token),

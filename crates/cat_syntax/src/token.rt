@@ -1,5 +1,8 @@
 //! The tokens of a text.
 
+ghost use Rattle.std.specs.Prelude.{◌≡◌};
+ghost use Rattle.cat_syntax.specs.Machine.{infix_of, postfix_of, rule_of, begins_operand};
+
 use crate::fault::CatRule;
 use crate::model::{CheckWord, Infix, Postfix};
 use source_text::Name;
@@ -57,7 +60,9 @@ pub enum Token {
 
 impl Sign {
     /// The operator that the sign stands for.
-    pub fn infix(self) -> Infix {
+    pub fn infix(self) -> Infix
+        ensures { result ≡ infix_of self }
+    {
         match self {
             Sign::Bar => Infix::Union,
             Sign::Semicolon => Infix::Sequence,
@@ -69,7 +74,9 @@ impl Sign {
 
 impl Mark {
     /// The operator that the mark stands for.
-    pub fn postfix(self) -> Postfix {
+    pub fn postfix(self) -> Postfix
+        ensures { result ≡ postfix_of self }
+    {
         match self {
             Mark::Plus => Postfix::Transitive,
             Mark::Question => Postfix::Reflexive,
@@ -80,7 +87,9 @@ impl Mark {
 
 impl Token {
     /// The rule that the token breaks where it cannot stand.
-    pub fn rule(&self) -> CatRule {
+    pub fn rule(&self) -> CatRule
+        ensures { result ≡ rule_of self.now }
+    {
         match self {
             Token::Broken(rule) => *rule,
             _ => CatRule::Syntax,
@@ -88,7 +97,9 @@ impl Token {
     }
 
     /// Whether an operand begins with the token, the prefix `~` aside.
-    pub fn begins_operand(&self) -> bool {
+    pub fn begins_operand(&self) -> bool
+        ensures { result ≡ begins_operand self.now }
+    {
         match self {
             Token::Name(_) => true,
             Token::Open => true,

@@ -1,0 +1,12 @@
+use Rattle.std.proofs.Common.{ap, sym, ◌∙◌}
+use Rattle.cat_syntax.specs.declared.terms.Frame.TheVariants.{Left}
+use Rattle.cat_syntax.specs.Machine.{fold_to, left_frames}
+use Rattle.cat_syntax.specs.Reading.{stack_of, term_of}
+use Rattle.cat_syntax.proofs.Stack.{stack_of-push}
+use Rattle.cat_syntax.proofs.terms.infix_after.Goals as goal
+
+pub returns : goal.returns
+returns c =
+    ap stack_of c.in_ok-push.ensures.items
+    ∙ stack_of-push c.joined.new.frames.items (Left c.args.op c.in_ok-left.left)
+    ∙ sym (ap (λ n. left_frames c.args.op (fold_to n (stack_of c.args.frames.items) (term_of c.args.left))) (sym c.left_level.ensures) ∙ ap (left_frames c.args.op) c.in_ok-left.ensures)

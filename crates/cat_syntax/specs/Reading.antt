@@ -1,0 +1,84 @@
+-- What the reader holds of an expression, as the machine sees it.
+use Rattle.std.specs.Prelude.{◌≡◌, List, [], ◌∷◌, Bool, true, false, map, Result, Ok, Err}
+use Rattle.cat_syntax.specs.declared.fault.CatRule.{CatRule}
+use Rattle.cat_syntax.specs.declared.terms.StepError.{StepError}
+use Rattle.cat_syntax.specs.declared.terms.StepError.TheVariants as errors
+use Rattle.cat_syntax.specs.declared.model.Expression.{Expression, Row_of-Expression, end_of-Expression, more_of-Expression}
+use Rattle.cat_syntax.specs.declared.model.Expression.TheVariants.{Named, Everything, NoPairs, NoEvents, Joined', Marked', Complement', Identity', Applied'}
+use Rattle.cat_syntax.specs.declared.terms.Frame as code_frame
+use Rattle.cat_syntax.specs.declared.terms.Frame.TheVariants as frames
+use Rattle.cat_syntax.specs.declared.terms.Hole as code_hole
+use Rattle.cat_syntax.specs.declared.terms.Hole.TheVariants as holes
+use Rattle.cat_syntax.specs.declared.terms.Fed as code_fed
+use Rattle.cat_syntax.specs.declared.terms.Fed.TheVariants as fed
+use Rattle.cat_syntax.specs.declared.token.Token.{Token}
+use Rattle.cat_syntax.specs.declared.token.Token.TheVariants as tokens
+use Rattle.cat_syntax.specs.Value.{Term, Terms, Atom, AllEvents, EmptyRelation, EmptySet, Join, Mark, Not, On, Apply, NoTerm, OneMore}
+use Rattle.cat_syntax.specs.Machine as machine
+
+-- the limits of the reader
+abbrev pub limits : machine.Limits
+limits = record { nesting = 64; operators = 1024 }
+
+abbrev mutual
+  -- an expression without where it lies in memory
+  pub term_of : Expression → Term
+  term_of (Named n) = Atom n
+  term_of Everything = AllEvents
+  term_of NoPairs = EmptyRelation
+  term_of NoEvents = EmptySet
+  term_of (Joined' op p a q b) = Join op (term_of a) (term_of b)
+  term_of (Marked' op p a) = Mark op (term_of a)
+  term_of (Complement' p a) = Not (term_of a)
+  term_of (Identity' p a) = On (term_of a)
+  term_of (Applied' n shape row) = Apply n (terms_of row)
+
+  pub terms_of : {m : _} → Row_of-Expression m → Terms
+  terms_of end_of-Expression = NoTerm
+  terms_of (more_of-Expression a others) = OneMore (term_of a) (terms_of others)
+
+abbrev pub frame_of : code_frame.Frame → machine.Frame
+frame_of frames.Group = machine.InGroup
+frame_of frames.Square = machine.InSquare
+frame_of frames.Prefix = machine.InPrefix
+frame_of (frames.Left op a) = machine.LeftOf op (term_of a)
+frame_of (frames.Applied n args) = machine.InArguments n (map term_of args.items)
+
+-- the frames, the innermost first
+abbrev pub stacked : List code_frame.Frame → List machine.Frame → List machine.Frame
+stacked [] below = below
+stacked (f ∷ fs) below = stacked fs (frame_of f ∷ below)
+
+abbrev pub stack_of : List code_frame.Frame → List machine.Frame
+stack_of fs = stacked fs []
+
+abbrev pub hole_of : code_hole.Hole → machine.Hole
+hole_of holes.Wants = machine.Wants
+hole_of holes.Brace = machine.HasBrace
+hole_of (holes.Named n) = machine.HasName n
+hole_of (holes.Has a) = machine.Has (term_of a)
+hole_of (holes.HasStar a) = machine.HasStar (term_of a)
+hole_of (holes.HasStarTilde a) = machine.HasStarTilde (term_of a)
+
+-- what a token did to an expression, read before this token, is what the machine does, unless memory ran out
+abbrev pub Feeds : Token → Result code_fed.Fed StepError → machine.Fed → Type 0
+Feeds t (Ok (fed.Goes fs used hole)) made = made ≡ machine.Goes (stack_of fs.items) used (hole_of hole)
+Feeds t (Ok (fed.Ends v back)) made = (made ≡ machine.Ends (term_of v)) × (back ≡ t)
+Feeds t (Ok (fed.EndsTilde v w)) made = (made ≡ machine.EndsTilde (term_of v)) × (t ≡ tokens.Check w)
+Feeds t (Err errors.OutOfMemory) made = Unit {0}
+Feeds t (Err (errors.Refused k)) made = made ≡ machine.Refuses k
+Feeds t (Err (errors.RefusedBefore k)) made = ⊥
+
+abbrev pub is_open : code_frame.Frame → Bool
+is_open frames.Group = true
+is_open frames.Square = true
+is_open frames.Prefix = true
+is_open (frames.Left op a) = false
+is_open (frames.Applied n args) = true
+
+abbrev pub is_no_bracket : code_frame.Frame → Bool
+is_no_bracket frames.Group = false
+is_no_bracket frames.Square = false
+is_no_bracket frames.Prefix = true
+is_no_bracket (frames.Left op a) = true
+is_no_bracket (frames.Applied n args) = false
