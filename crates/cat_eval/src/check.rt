@@ -3,6 +3,7 @@
 use crate::column::Column;
 use crate::machine::Machine;
 use crate::names::Names;
+use crate::needs::Needs;
 use crate::walk::{Visit, visit_all};
 use base_env::Base;
 use binding_graph::{CheckCode, ResolvedItem, Role};
@@ -51,7 +52,7 @@ pub fn eval_check(
                 machine: Machine::new(alloc),
                 answers: Vec::new(alloc),
             };
-            visit_all(alloc, space, &mut run)?;
+            visit_all(alloc, space, &Needs::of(alloc, item)?, &mut run)?;
             Ok(run.answers)
         }
         Role::Group { .. } | Role::Silent => Ok(Vec::new(alloc)),

@@ -5,6 +5,7 @@ ghost use Rattle.std.specs.Prelude.{◌≤◌};
 use crate::column::Column;
 use crate::machine::Machine;
 use crate::names::Names;
+use crate::needs::Needs;
 use crate::rounds::{has_name, next_of, with_name};
 use crate::walk::{Visit, visit_all};
 use base_env::Base;
@@ -199,7 +200,7 @@ pub fn eval_group(
                 columns: columns_of(alloc, bodies)?,
                 candidate: 0,
             };
-            visit_all(alloc, space, &mut run)?;
+            visit_all(alloc, space, &Needs::of(alloc, item)?, &mut run)?;
             Ok(run.columns)
         }
         Role::Check(_) | Role::Silent => Ok(Vec::new(alloc)),

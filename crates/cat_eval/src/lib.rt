@@ -9,6 +9,7 @@ mod column;
 mod group;
 mod machine;
 mod names;
+mod needs;
 pub mod rounds;
 mod stack;
 mod walk;

@@ -1,5 +1,6 @@
 //! All candidates of a space, one after another.
 
+use crate::needs::Needs;
 use base_env::Base;
 use candidates::{Combination, Space};
 use std::alloc::{AllocError, Global};
@@ -13,11 +14,14 @@ pub(crate) trait Visit {
 /// Visits the candidates of a combination that read in the present way.
 fn visit_orders<V: Visit>(
     combination: &Combination,
+    needs: &Needs,
     base: &mut Base,
     visitor: &mut V,
 ) -> Result<(), AllocError> {
     for order in &combination.orders {
-        base.order(combination, order);
+        if needs.orders {
+            base.order(combination, order);
+        }
         visitor.visit(base)?;
     }
     Ok(())
@@ -25,26 +29,31 @@ fn visit_orders<V: Visit>(
 
 /// Visits the candidates of a combination.
 fn visit_combination<V: Visit>(
-    alloc: Global,
     combination: &Combination,
+    needs: &Needs,
+    base: &mut Base,
     visitor: &mut V,
 ) -> Result<(), AllocError> {
-    let mut base = Base::new(alloc, combination)?;
+    base.enter(combination);
     for sources in &combination.sources {
-        base.read_from(combination, sources);
-        visit_orders(combination, &mut base, visitor)?;
+        if needs.reads {
+            base.read_from(combination, sources);
+        }
+        visit_orders(combination, needs, base, visitor)?;
     }
     Ok(())
 }
 
-/// Visits all candidates of a space, in order.
+/// Visits all candidates of a space, in order, with the predefined names that are needed.
 pub(crate) fn visit_all<V: Visit>(
     alloc: Global,
     space: &Space,
+    needs: &Needs,
     visitor: &mut V,
 ) -> Result<(), AllocError> {
+    let mut base = Base::of_names(alloc, &needs.names)?;
     for combination in &space.combinations {
-        visit_combination(alloc, combination, visitor)?;
+        visit_combination(combination, needs, &mut base, visitor)?;
     }
     Ok(())
 }
