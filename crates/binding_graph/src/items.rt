@@ -1,5 +1,7 @@
 //! The items of a model, one after another.
 
+ghost use Rattle.std.specs.Prelude.{◌≡◌, ◌+◌, vec_len, IfOk, OnOk};
+
 use crate::expand::expand;
 use crate::fault::{ModelFault, ResolveFault};
 use crate::function::{Function, count_parts};
@@ -19,7 +21,9 @@ use std::alloc::{AllocError, Global};
 ///
 /// The fault that is answered is the first by item and then by place in the text; at one place
 /// the order is M1, M4, M6, M7, M3, M2, M5.
-pub fn resolve(alloc: Global, text: &ModelText) -> Result<Resolved, ResolveFault> {
+pub fn resolve(alloc: Global, text: &ModelText) -> Result<Resolved, ResolveFault>
+    ensures { IfOk result (λ r. vec_len r.items ≡ vec_len text.now.items) }
+{
     let mut scope = Scope::new(alloc)?;
     let mut items = Vec::new(alloc);
     for (place, item) in text.items.iter().enumerate() {
@@ -29,7 +33,9 @@ pub fn resolve(alloc: Global, text: &ModelText) -> Result<Resolved, ResolveFault
     Ok(Resolved { items })
 }
 
-fn push_item(items: &mut Vec<ResolvedItem>, item: ResolvedItem) -> Result<(), AllocError> {
+fn push_item(items: &mut Vec<ResolvedItem>, item: ResolvedItem) -> Result<(), AllocError>
+    ensures { OnOk result (vec_len items.new ≡ vec_len items.old + 1) }
+{
     items.push(item)?;
     Ok(())
 }

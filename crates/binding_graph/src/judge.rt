@@ -1,12 +1,18 @@
 //! The kinds and the first fault of expressions and groups.
 
+ghost use Rattle.std.specs.Prelude.{◌≡◌, [], List, reverse, map};
+ghost use Rattle.binding_graph.specs.Value.{Naming, entry_of, term_of, bound_of, IsPlain, ArePlain};
+ghost use Rattle.binding_graph.specs.Kinds.{kind, kind_found, found, joined, takes, marked, narrowed, is_set, is_relation};
+ghost use Rattle.binding_graph.specs.Verdict.{first_of, first_in, of_binding, is_seen, or_else, unless, of_name, of_slot};
+ghost use Rattle.binding_graph.specs.Seen.{names_of};
+
 use crate::fault::ModelFault;
 use crate::function::{Function, MAX_SIZE};
 use crate::kinds::{is_turned, joined, takes};
 use crate::resolved::Kind;
-use crate::scope::{Binder, Scope, find};
+use crate::scope::{Binder, Found, Scope, find, kind_found};
 use crate::signature::weighed;
-use cat_syntax::{Binding, Expression};
+use cat_syntax::{Binding, Expression, Infix};
 use source_text::Name;
 
 /// The kind of an expression, its size and its first fault.
@@ -29,7 +35,9 @@ struct Arguments {
 }
 
 /// The first fault that is there.
-pub fn or_else(first: Option<ModelFault>, later: Option<ModelFault>) -> Option<ModelFault> {
+pub fn or_else(first: Option<ModelFault>, later: Option<ModelFault>) -> Option<ModelFault>
+    ensures { result ≡ or_else first later }
+{
     match first {
         None => later,
         Some(fault) => Some(fault),
@@ -37,7 +45,9 @@ pub fn or_else(first: Option<ModelFault>, later: Option<ModelFault>) -> Option<M
 }
 
 /// The fault, unless the test holds.
-pub fn unless(holds: bool, fault: ModelFault) -> Option<ModelFault> {
+pub fn unless(holds: bool, fault: ModelFault) -> Option<ModelFault>
+    ensures { result ≡ unless holds fault }
+{
     if holds { None } else { Some(fault) }
 }
 
@@ -50,25 +60,52 @@ fn faulty(fault: ModelFault) -> Judged {
     }
 }
 
-fn sign(kind: Kind) -> Judged {
+/// `_`, `0` or `{}`.
+fn sign(of: Kind) -> Judged
+    ensures kind { result.kind ≡ of }
+    ensures fault { result.fault ≡ None }
+{
     Judged {
-        kind,
+        kind: of,
         size: 1,
         fault: None,
     }
 }
 
-fn judge_name(scope: &Scope, from: usize, under: bool, name: &Name) -> Judged {
-    match find(&scope.entries, name) {
-        None => faulty(ModelFault::Unbound),
+/// The fault of a name without arguments that was looked for.
+fn name_fault(from: usize, under: bool, found: Option<Found>) -> Option<ModelFault>
+    ensures { result ≡ of_name from under found }
+{
+    match found {
+        None => Some(ModelFault::Unbound),
         Some(found) => match found.binder {
-            Binder::Applicable(_) => faulty(ModelFault::Arity),
-            Binder::Predefined(_) | Binder::Bound(_) => Judged {
-                kind: found.kind,
-                size: 1,
-                fault: unless(!under || found.slot < from, ModelFault::NotMonotone),
-            },
+            Binder::Applicable(_) => Some(ModelFault::Arity),
+            Binder::Predefined(_) => recursive_fault(from, under, found.slot),
+            Binder::Bound(_) => recursive_fault(from, under, found.slot),
         },
+    }
+}
+
+/// The fault of a name that may be recursive.
+fn recursive_fault(from: usize, under: bool, slot: usize) -> Option<ModelFault>
+    ensures { result ≡ of_slot from under slot }
+{
+    if under && from <= slot {
+        Some(ModelFault::NotMonotone)
+    } else {
+        None
+    }
+}
+
+fn judge_name(scope: &Scope, from: usize, under: bool, name: &Name) -> Judged
+    ensures kind { result.kind ≡ kind_found (found (reverse (map entry_of scope.now.entries.items)) name.now) }
+    ensures fault { result.fault ≡ of_name from under (found (reverse (map entry_of scope.now.entries.items)) name.now) }
+{
+    let found = find(&scope.entries, name);
+    Judged {
+        kind: kind_found(found),
+        size: 1,
+        fault: name_fault(from, under, found),
     }
 }
 
@@ -129,9 +166,63 @@ impl Arguments {
     }
 }
 
+/// What an infix operator makes.
+fn judged_infix(op: Infix, first: Judged, second: Judged) -> Judged
+    ensures kind { result.kind ≡ joined op first.kind second.kind }
+    ensures fault { result.fault ≡ or_else first.fault (or_else (unless (takes op first.kind second.kind) ModelFault.Kind) second.fault) }
+{
+    let here = unless(takes(op, first.kind, second.kind), ModelFault::Kind);
+    Judged {
+        kind: joined(op, first.kind, second.kind),
+        size: first.size.saturating_add(second.size).saturating_add(1),
+        fault: or_else(first.fault, or_else(here, second.fault)),
+    }
+}
+
+/// What a postfix operator makes.
+fn judged_postfix(inner: Judged) -> Judged
+    ensures kind { result.kind ≡ marked inner.kind }
+    ensures fault { result.fault ≡ or_else inner.fault (unless (is_relation inner.kind) ModelFault.Kind) }
+{
+    let here = unless(inner.kind.is_relation(), ModelFault::Kind);
+    Judged {
+        kind: inner.kind.marked(),
+        size: inner.size.saturating_add(1),
+        fault: or_else(inner.fault, here),
+    }
+}
+
+/// A complement.
+fn judged_complement(inner: Judged) -> Judged
+    ensures kind { result.kind ≡ inner.kind }
+    ensures fault { result.fault ≡ inner.fault }
+{
+    Judged {
+        kind: inner.kind,
+        size: inner.size.saturating_add(1),
+        fault: inner.fault,
+    }
+}
+
+/// An identity.
+fn judged_identity(inner: Judged) -> Judged
+    ensures kind { result.kind ≡ narrowed inner.kind }
+    ensures fault { result.fault ≡ or_else (unless (is_set inner.kind) ModelFault.Kind) inner.fault }
+{
+    let here = unless(inner.kind.is_set(), ModelFault::Kind);
+    Judged {
+        kind: inner.kind.narrowed(),
+        size: inner.size.saturating_add(1),
+        fault: or_else(here, inner.fault),
+    }
+}
+
 /// The kind, the size and the first fault of an expression, seen under a complement or not.
 /// The names of the item itself have the slot `from` and those behind it.
-pub fn judge(scope: &Scope, from: usize, under: bool, term: &Expression) -> Judged {
+pub fn judge(scope: &Scope, from: usize, under: bool, term: &Expression) -> Judged
+    ensures kind { IsPlain (term_of term.now) → result.kind ≡ kind (reverse (map entry_of scope.now.entries.items)) (term_of term.now) }
+    ensures fault { IsPlain (term_of term.now) → result.fault ≡ first_of (reverse (map entry_of scope.now.entries.items)) from under (term_of term.now) }
+{
     match term {
         Expression::Named(name) => judge_name(scope, from, under, name),
         Expression::Everything => sign(Kind::OfSet),
@@ -140,39 +231,11 @@ pub fn judge(scope: &Scope, from: usize, under: bool, term: &Expression) -> Judg
         Expression::Joined(op, left, right) => {
             let first = judge(scope, from, under, left);
             let second = judge(scope, from, is_turned(*op, under), right);
-            let here = unless(takes(*op, first.kind, second.kind), ModelFault::Kind);
-            Judged {
-                kind: joined(*op, first.kind, second.kind),
-                size: first.size.saturating_add(second.size).saturating_add(1),
-                fault: or_else(first.fault, or_else(here, second.fault)),
-            }
+            judged_infix(*op, first, second)
         }
-        Expression::Marked(_, operand) => {
-            let inner = judge(scope, from, under, operand);
-            let here = unless(inner.kind.is_relation(), ModelFault::Kind);
-            Judged {
-                kind: inner.kind.marked(),
-                size: inner.size.saturating_add(1),
-                fault: or_else(inner.fault, here),
-            }
-        }
-        Expression::Complement(operand) => {
-            let inner = judge(scope, from, true, operand);
-            Judged {
-                kind: inner.kind,
-                size: inner.size.saturating_add(1),
-                fault: inner.fault,
-            }
-        }
-        Expression::Identity(operand) => {
-            let inner = judge(scope, from, under, operand);
-            let here = unless(inner.kind.is_set(), ModelFault::Kind);
-            Judged {
-                kind: inner.kind.narrowed(),
-                size: inner.size.saturating_add(1),
-                fault: or_else(here, inner.fault),
-            }
-        }
+        Expression::Marked(_, operand) => judged_postfix(judge(scope, from, under, operand)),
+        Expression::Complement(operand) => judged_complement(judge(scope, from, true, operand)),
+        Expression::Identity(operand) => judged_identity(judge(scope, from, under, operand)),
         Expression::Applied(name, arguments) => match function_of(scope, name, arguments.len()) {
             Err(fault) => faulty(fault),
             Ok(function) => {
@@ -188,7 +251,9 @@ pub fn judge(scope: &Scope, from: usize, under: bool, term: &Expression) -> Judg
 }
 
 /// Whether one of the bindings has the name.
-fn is_seen(before: &[Binding], name: &Name) -> bool {
+fn is_seen(before: &[Binding], name: &Name) -> bool
+    ensures { result ≡ is_seen (names_of before.now) name.now }
+{
     let mut seen = false;
     for binding in before {
         if binding.name.is_same(name) {
@@ -204,7 +269,9 @@ fn binding_fault(
     recursive: bool,
     before: &[Binding],
     binding: &Binding,
-) -> Option<ModelFault> {
+) -> Option<ModelFault>
+    ensures { (names : List Naming) → body ≡ kind names (bound_of binding.now).body → result ≡ of_binding names recursive (names_of before.now) (bound_of binding.now) }
+{
     if is_seen(before, &binding.name) {
         return Some(ModelFault::Duplicate);
     }
@@ -220,7 +287,9 @@ pub fn group_fault(
     from: usize,
     recursive: bool,
     group: &[Binding],
-) -> Option<ModelFault> {
+) -> Option<ModelFault>
+    ensures { ArePlain (map bound_of group.now) → result ≡ first_in (reverse (map entry_of scope.now.entries.items)) from recursive [] (map bound_of group.now) }
+{
     for (place, binding) in group.iter().enumerate() {
         let body = judge(scope, from, false, &binding.body);
         let own = binding_fault(body.kind, recursive, &group[..place], binding);

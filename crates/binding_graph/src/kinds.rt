@@ -1,11 +1,16 @@
 //! The kinds of expressions.
 
+ghost use Rattle.std.specs.Prelude.{◌≡◌};
+ghost use Rattle.binding_graph.specs.Kinds.{joined, takes, marked, narrowed, is_set, is_relation, takes_body, is_turned};
+
 use crate::resolved::Kind;
 use cat_syntax::{CheckWord, Infix};
 
 impl Kind {
     /// Whether it may stand where a set is wanted.
-    pub(crate) fn is_set(self) -> bool {
+    pub(crate) fn is_set(self) -> bool
+        ensures { result ≡ is_set self }
+    {
         match self {
             Kind::OfSet => true,
             Kind::OfRelation => false,
@@ -14,7 +19,9 @@ impl Kind {
     }
 
     /// Whether it may stand where a relation is wanted.
-    pub(crate) fn is_relation(self) -> bool {
+    pub(crate) fn is_relation(self) -> bool
+        ensures { result ≡ is_relation self }
+    {
         match self {
             Kind::OfSet => false,
             Kind::OfRelation => true,
@@ -23,7 +30,9 @@ impl Kind {
     }
 
     /// The kind of a closure.
-    pub(crate) fn marked(self) -> Kind {
+    pub(crate) fn marked(self) -> Kind
+        ensures { result ≡ marked self }
+    {
         match self {
             Kind::OfSet => Kind::OfAny,
             Kind::OfRelation => Kind::OfRelation,
@@ -32,7 +41,9 @@ impl Kind {
     }
 
     /// The kind of an identity.
-    pub(crate) fn narrowed(self) -> Kind {
+    pub(crate) fn narrowed(self) -> Kind
+        ensures { result ≡ narrowed self }
+    {
         match self {
             Kind::OfSet => Kind::OfRelation,
             Kind::OfRelation => Kind::OfAny,
@@ -42,7 +53,9 @@ impl Kind {
 }
 
 /// Whether the operator takes operands of these kinds.
-pub(crate) fn takes(op: Infix, left: Kind, right: Kind) -> bool {
+pub(crate) fn takes(op: Infix, left: Kind, right: Kind) -> bool
+    ensures { result ≡ takes op left right }
+{
     match op {
         Infix::Union | Infix::Intersection | Infix::Difference => match left {
             Kind::OfSet => right.is_set(),
@@ -55,7 +68,9 @@ pub(crate) fn takes(op: Infix, left: Kind, right: Kind) -> bool {
 }
 
 /// The kind of what the operator makes.
-pub(crate) fn joined(op: Infix, left: Kind, right: Kind) -> Kind {
+pub(crate) fn joined(op: Infix, left: Kind, right: Kind) -> Kind
+    ensures { result ≡ joined op left right }
+{
     if !takes(op, left, right) {
         return Kind::OfAny;
     }
@@ -69,7 +84,9 @@ pub(crate) fn joined(op: Infix, left: Kind, right: Kind) -> Kind {
 }
 
 /// Whether the check takes an expression of this kind.
-pub(crate) fn takes_body(word: CheckWord, body: Kind) -> bool {
+pub(crate) fn takes_body(word: CheckWord, body: Kind) -> bool
+    ensures { result ≡ takes_body word body }
+{
     match word {
         CheckWord::Acyclic => body.is_relation(),
         CheckWord::Irreflexive => body.is_relation(),
@@ -78,7 +95,9 @@ pub(crate) fn takes_body(word: CheckWord, body: Kind) -> bool {
 }
 
 /// Whether what stands right of the operator must not grow.
-pub(crate) fn is_turned(op: Infix, under: bool) -> bool {
+pub(crate) fn is_turned(op: Infix, under: bool) -> bool
+    ensures { result ≡ is_turned op under }
+{
     match op {
         Infix::Difference => true,
         Infix::Union => under,

@@ -182,19 +182,17 @@ impl Plan {
                 self.put_term(sight, under, operand, uses)?;
                 self.put(Node::Plain(Piece::Identity))
             }
-            Expression::Applied(name, arguments) => {
-                match sight.function(name, arguments.len()) {
-                    Err(fault) => self.put_fault(fault),
-                    Ok(function) => {
-                        uses.add_function(sight, function)?;
-                        for (place, argument) in arguments.iter().enumerate() {
-                            let inner = under || sight.is_under(function, place);
-                            self.put_term(sight, inner, argument, uses)?;
-                        }
-                        self.put(Node::Applied(function))
+            Expression::Applied(name, arguments) => match sight.function(name, arguments.len()) {
+                Err(fault) => self.put_fault(fault),
+                Ok(function) => {
+                    uses.add_function(sight, function)?;
+                    for (place, argument) in arguments.iter().enumerate() {
+                        let inner = under || sight.is_under(function, place);
+                        self.put_term(sight, inner, argument, uses)?;
                     }
+                    self.put(Node::Applied(function))
                 }
-            }
+            },
         }
     }
 }

@@ -1,5 +1,7 @@
 //! What an item uses, and which items are used.
 
+ghost use Rattle.std.specs.Prelude.{◌≡◌, ◌<◌, length, vec_len, All, IfOk};
+
 use crate::resolved::{Input, Resolved, ResolvedItem, Role};
 use std::alloc::{AllocError, Global};
 
@@ -20,7 +22,9 @@ fn is_check(item: &ResolvedItem) -> bool {
     }
 }
 
-fn mark(marks: &mut Vec<bool>, item: usize) {
+fn mark(marks: &mut Vec<bool>, item: usize)
+    ensures { vec_len marks.new ≡ vec_len marks.old }
+{
     if let Some(place) = marks.get_mut(item) {
         *place = true;
     }
@@ -33,7 +37,9 @@ fn is_marked(marks: &[bool], item: usize) -> bool {
     }
 }
 
-fn mark_used(marks: &mut Vec<bool>, item: &ResolvedItem) {
+fn mark_used(marks: &mut Vec<bool>, item: &ResolvedItem)
+    ensures { vec_len marks.new ≡ vec_len marks.old }
+{
     for input in &item.inputs {
         mark(marks, input.item);
     }
@@ -44,18 +50,20 @@ fn mark_used(marks: &mut Vec<bool>, item: &ResolvedItem) {
 
 /// The places of the items that checks and flags reach, themselves and the functions that are
 /// applied among them, rising.
-pub fn used(alloc: Global, resolved: &Resolved) -> Result<Vec<usize>, AllocError> {
+pub fn used(alloc: Global, resolved: &Resolved) -> Result<Vec<usize>, AllocError>
+    ensures { IfOk result (λ v. All (λ i. i < vec_len resolved.now.items) v.items) }
+{
     let mut marks = Vec::new(alloc);
-    for item in &resolved.items {
+    'count: for item in &resolved.items {
         marks.push(is_check(item))?;
     }
-    for (place, item) in resolved.items.iter().enumerate().rev() {
+    'spread: for (place, item) in resolved.items.iter().enumerate().rev() {
         if is_marked(&marks, place) {
             mark_used(&mut marks, item);
         }
     }
     let mut places = Vec::new(alloc);
-    for (place, marked) in marks.iter().enumerate() {
+    'list: for (place, marked) in marks.iter().enumerate() {
         if *marked {
             places.push(place)?;
         }

@@ -1,5 +1,9 @@
 //! What names stand for.
 
+ghost use Rattle.std.specs.Prelude.{◌≡◌, reverse, map};
+ghost use Rattle.binding_graph.specs.Value.{entry_of};
+ghost use Rattle.binding_graph.specs.Kinds.{found, kind_found};
+
 use crate::function::Function;
 use crate::resolved::{Input, Kind};
 use cat_syntax::{PREDEFINED, Predefined};
@@ -41,10 +45,13 @@ pub struct Scope {
 }
 
 /// The last entry of that name.
-pub fn find(entries: &[Entry], name: &Name) -> Option<Found> {
+#[tactic(auto, using(crate::proofs::Scopes::rev_more))]
+pub fn find(entries: &[Entry], name: &Name) -> Option<Found>
+    ensures { result ≡ found (reverse (map entry_of entries.now)) name.now }
+{
     let mut last = None;
     for (slot, entry) in entries.iter().enumerate() {
-        if entry.name.is_same(name) {
+        if entry.name.as_bytes() == name.as_bytes() {
             last = Some(Found {
                 slot,
                 kind: entry.kind,
@@ -53,6 +60,16 @@ pub fn find(entries: &[Entry], name: &Name) -> Option<Found> {
         }
     }
     last
+}
+
+/// The kind of a name that was looked for.
+pub fn kind_found(found: Option<Found>) -> Kind
+    ensures { result ≡ kind_found found }
+{
+    match found {
+        None => Kind::OfAny,
+        Some(found) => found.kind,
+    }
 }
 
 fn kind_of_predefined(one: Predefined) -> Kind {

@@ -6,6 +6,7 @@ use crate::kinds::{joined, takes};
 use crate::plan::{Node, Piece};
 use crate::resolved::Kind;
 use crate::scope::Scope;
+use cat_syntax::Infix;
 use std::alloc::{AllocError, Global};
 
 /// What an application makes of arguments of some kinds.
@@ -85,40 +86,39 @@ fn taken(kinds: &mut Vec<Kind>) -> Kind {
     }
 }
 
+/// What makes an expression of that kind, whatever it is given.
+fn plain(kind: Kind) -> Signature {
+    Signature {
+        kind,
+        clashes: false,
+    }
+}
+
+fn kind_of_slot(scope: &Scope, slot: usize) -> Kind {
+    match scope.entries.get(slot) {
+        Some(entry) => entry.kind,
+        None => Kind::OfAny,
+    }
+}
+
+fn sign_infix(op: Infix, kinds: &mut Vec<Kind>) -> Signature {
+    let right = taken(kinds);
+    let left = taken(kinds);
+    Signature {
+        kind: joined(op, left, right),
+        clashes: !takes(op, left, right),
+    }
+}
+
 /// What a part of a body makes, where the parameters have the kinds of the combination.
 fn sign_piece(scope: &Scope, combination: usize, piece: Piece, kinds: &mut Vec<Kind>) -> Signature {
     match piece {
-        Piece::Value(slot) => Signature {
-            kind: match scope.entries.get(slot) {
-                Some(entry) => entry.kind,
-                None => Kind::OfAny,
-            },
-            clashes: false,
-        },
-        Piece::Parameter(place) => Signature {
-            kind: kind_at(combination, place),
-            clashes: false,
-        },
-        Piece::Everything => Signature {
-            kind: Kind::OfSet,
-            clashes: false,
-        },
-        Piece::NoPairs => Signature {
-            kind: Kind::OfRelation,
-            clashes: false,
-        },
-        Piece::NoEvents => Signature {
-            kind: Kind::OfSet,
-            clashes: false,
-        },
-        Piece::Joined(op) => {
-            let right = taken(kinds);
-            let left = taken(kinds);
-            Signature {
-                kind: joined(op, left, right),
-                clashes: !takes(op, left, right),
-            }
-        }
+        Piece::Value(slot) => plain(kind_of_slot(scope, slot)),
+        Piece::Parameter(place) => plain(kind_at(combination, place)),
+        Piece::Everything => plain(Kind::OfSet),
+        Piece::NoPairs => plain(Kind::OfRelation),
+        Piece::NoEvents => plain(Kind::OfSet),
+        Piece::Joined(op) => sign_infix(op, kinds),
         Piece::Marked(_) => {
             let operand = taken(kinds);
             Signature {
@@ -126,10 +126,7 @@ fn sign_piece(scope: &Scope, combination: usize, piece: Piece, kinds: &mut Vec<K
                 clashes: !operand.is_relation(),
             }
         }
-        Piece::Complement => Signature {
-            kind: taken(kinds),
-            clashes: false,
-        },
+        Piece::Complement => plain(taken(kinds)),
         Piece::Identity => {
             let operand = taken(kinds);
             Signature {
@@ -140,15 +137,13 @@ fn sign_piece(scope: &Scope, combination: usize, piece: Piece, kinds: &mut Vec<K
     }
 }
 
+/// What a node of a body makes, where the parameters have the kinds of the combination.
 fn sign_node(scope: &Scope, combination: usize, node: Node, kinds: &mut Vec<Kind>) -> Signature {
     match node {
         Node::Plain(piece) => sign_piece(scope, combination, piece, kinds),
         Node::Applied(function) => match scope.functions.get(function) {
             Some(one) => one.signature(take_arguments(kinds, one.arity)),
-            None => Signature {
-                kind: Kind::OfAny,
-                clashes: false,
-            },
+            None => plain(Kind::OfAny),
         },
     }
 }

@@ -42,7 +42,10 @@ fn refusals_at_applications(rt: HostRuntime) -> Result<(), Fail> {
     let alloc = rt.alloc();
     assert_eq!(rt; number(&rt, alloc, b"let f(a) = a;a acyclic f(R)"), 2);
     assert_eq!(rt; number(&rt, alloc, b"let f(a) = a;a let rec r = f(~r)"), 3);
-    assert_eq!(rt; number(&rt, alloc, b"let f(a) = a|(po|R) acyclic f(zzz)"), 2);
+    assert_eq!(rt;
+        number(&rt, alloc, b"let f(a) = a|(po|R) acyclic f(zzz)"),
+        2
+    );
     let small = b"let f(a)=a|a let g(a)=f(f(a)) let h(a)=g(g(a)) let i(a)=h(h(a)) acyclic i(po)";
     assert_eq!(rt; number(&rt, alloc, small), 0);
     let large = b"let f(a)=a|a let g(a)=f(f(a)) let h(a)=g(g(a)) let i(a)=h(h(a)) acyclic i(i(po))";

@@ -59,6 +59,7 @@ impl Uses {
         }
     }
 
+    /// Notes a slot at its first use.
     fn note_slot(&mut self, slot: usize) -> Result<(), AllocError> {
         let next = self.slots.len();
         if let Some(place) = self.places.get_mut(slot) {

@@ -1,0 +1,5 @@
+pub mod Value
+pub mod Kinds
+pub mod Faults
+pub mod Verdict
+pub mod Seen
