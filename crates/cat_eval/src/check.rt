@@ -1,5 +1,8 @@
 //! Whether a check holds.
 
+ghost use Rattle.std.specs.Prelude.{◌≡◌, length, IfOk};
+ghost use Rattle.cat_eval.specs.Candidates.{candidate_count, answer_count};
+
 use crate::column::Column;
 use crate::machine::Machine;
 use crate::names::Names;
@@ -20,6 +23,8 @@ struct CheckRun<'a> {
 }
 
 impl Visit for CheckRun<'_> {
+    ghost has_taken = { λ run lists n. length run.answers.items ≡ n };
+
     fn visit(&mut self, base: &Base) -> Result<(), AllocError> {
         let names = Names {
             base,
@@ -43,7 +48,9 @@ pub fn eval_check(
     item: &ResolvedItem,
     space: &Space,
     inputs: &[&Column],
-) -> Result<Vec<bool>, AllocError> {
+) -> Result<Vec<bool>, AllocError>
+    ensures { IfOk result (λ v. length v.items ≡ answer_count item.now.role (candidate_count space.now)) }
+{
     match &item.role {
         Role::Check(check) => {
             let mut run = CheckRun {

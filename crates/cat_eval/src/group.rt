@@ -1,146 +1,88 @@
 //! The values of the names of a group.
 
-ghost use Rattle.std.specs.Prelude.{◌≤◌};
+ghost use Rattle.std.specs.Prelude.{◌≡◌, ◌≤◌, length, IfOk};
+ghost use Rattle.cat_eval.specs.Candidates.{name_count};
 
 use crate::column::Column;
-use crate::machine::Machine;
-use crate::names::Names;
 use crate::needs::Needs;
-use crate::rounds::{has_name, next_of, with_name};
+use crate::solver::Solver;
 use crate::walk::{Visit, visit_all};
 use base_env::Base;
 use binding_graph::{Body, Kind, ResolvedItem, Role};
-use bit_relations::{EventSet, MAX_EVENTS, Rel};
+use bit_relations::{EventSet, Rel};
 use candidates::Space;
 use std::alloc::{AllocError, Global};
-
-/// How many rounds there can be in which some name of a group gains a pair, and one more.
-const MAX_ROUNDS: usize = 64 * MAX_EVENTS * MAX_EVENTS + 1;
 
 /// A group on its way through the candidates.
 #[derive(Drop)]
 struct GroupRun<'a> {
     bodies: &'a [Body],
-    recursive: bool,
     inputs: &'a [&'a Column],
-    /// For each name of a recursive group, the names whose bodies use it.
-    users: Vec<u64>,
-    /// The present values of the names of a recursive group.
-    own: Vec<Rel>,
-    machine: Machine,
+    recursive: bool,
+    solver: Solver,
     columns: Vec<Column>,
     /// The number of the next candidate.
     candidate: usize,
 }
 
+/// Adds a value to one of the columns: what is of its kind.
+fn put(
+    columns: &mut Vec<Column>,
+    position: usize,
+    set: &EventSet,
+    relation: &Rel,
+) -> Result<(), AllocError>
+    ensures { length columns.new.items ≡ length columns.old.items }
+{
+    if let Some(column) = columns.get_mut(position) {
+        column.push(set, relation)?;
+    }
+    Ok(())
+}
+
+/// Adds to each column its relation.
+fn put_all(columns: &mut Vec<Column>, values: &[Rel], count: usize) -> Result<(), AllocError>
+    requires { count ≤ 128 }
+    ensures { length columns.new.items ≡ length columns.old.items }
+{
+    let none = EventSet::empty(count);
+    for (position, value) in values.iter().enumerate() {
+        put(columns, position, &none, value)?;
+    }
+    Ok(())
+}
+
 impl GroupRun<'_> {
-    /// Evaluates one body.
-    fn evaluate(&mut self, body: &Body, base: &Base) -> Result<(), AllocError> {
-        let names = Names {
-            base,
-            inputs: self.inputs,
-            own: &self.own,
-            candidate: self.candidate,
-        };
-        self.machine.run(&body.code.steps, &names)
-    }
-
     /// Evaluates each body once.
-    fn evaluate_each(&mut self, base: &Base) -> Result<(), AllocError> {
+    fn evaluate_each(&mut self, base: &Base) -> Result<(), AllocError>
+        ensures { length self.new.columns.items ≡ length self.old.columns.items }
+    {
         let bodies = self.bodies;
         for (position, body) in bodies.iter().enumerate() {
-            self.evaluate(body, base)?;
-            if let Some(column) = self.columns.get_mut(position) {
-                self.machine.store(base.count(), column)?;
-            }
+            self.solver
+                .evaluate(body, base, self.inputs, self.candidate)?;
+            let set = self.solver.set(base.count());
+            put(&mut self.columns, position, &set, self.solver.relation())?;
         }
         Ok(())
     }
 
-    /// Evaluates these names anew, and says which of them grew.
-    fn round(&mut self, base: &Base, names: u64) -> Result<u64, AllocError> {
-        let mut grew = 0;
-        let bodies = self.bodies;
-        for (position, body) in bodies.iter().enumerate() {
-            if has_name(names, position) {
-                self.evaluate(body, base)?;
-                if self.keep(position) {
-                    grew = with_name(grew, position);
-                }
-            }
-        }
-        Ok(grew)
-    }
-
-    /// Makes what was evaluated the present value of a name, and says whether that is a change.
-    fn keep(&mut self, position: usize) -> bool {
-        let value = self.machine.relation();
-        match self.own.get_mut(position) {
-            Some(own) => {
-                if own.is_same(value) {
-                    return false;
-                }
-                own.copy_from(value);
-                true
-            }
-            None => false,
-        }
-    }
-
-    /// The names whose bodies use one of these.
-    fn users_of(&self, names: u64) -> u64 {
-        let mut all = 0;
-        for (position, users) in self.users.iter().enumerate() {
-            if has_name(names, position) {
-                all |= *users;
-            }
-        }
-        all
-    }
-
-    /// Makes all names empty.
-    fn clear(&mut self, count: usize)
-        requires { count ≤ 128 }
+    /// Makes the names the least values that satisfy the equations.
+    fn solve(&mut self, base: &Base) -> Result<(), AllocError>
+        ensures { length self.new.columns.items ≡ length self.old.columns.items }
     {
-        for value in &mut self.own {
-            value.clear(count);
-        }
-    }
-
-    /// Repeats rounds until nothing grows: a round after the first evaluates only the names one
-    /// of whose used names grew in the round before.
-    fn solve(&mut self, base: &Base) -> Result<(), AllocError> {
-        self.clear(base.count());
-        let mut names = u64::MAX;
-        for _ in 0..MAX_ROUNDS {
-            let grew = self.round(base, names)?;
-            if grew == 0 {
-                break;
-            }
-            names = self.users_of(grew);
-        }
-        Ok(())
-    }
-
-    /// Adds the present values to the columns.
-    fn store_own(&mut self, count: usize) -> Result<(), AllocError>
-        requires { count ≤ 128 }
-    {
-        let none = EventSet::empty(count);
-        for (position, value) in self.own.iter().enumerate() {
-            if let Some(column) = self.columns.get_mut(position) {
-                column.push(&none, value)?;
-            }
-        }
-        Ok(())
+        self.solver
+            .solve(self.bodies, base, self.inputs, self.candidate)?;
+        put_all(&mut self.columns, self.solver.values(), base.count())
     }
 }
 
 impl Visit for GroupRun<'_> {
+    ghost has_taken = { λ run lists n. length run.columns.items ≡ lists };
+
     fn visit(&mut self, base: &Base) -> Result<(), AllocError> {
         if self.recursive {
             self.solve(base)?;
-            self.store_own(base.count())?;
         } else {
             self.evaluate_each(base)?;
         }
@@ -150,7 +92,9 @@ impl Visit for GroupRun<'_> {
 }
 
 /// A column without a value for each body.
-fn columns_of(alloc: Global, bodies: &[Body]) -> Result<Vec<Column>, AllocError> {
+fn columns_of(alloc: Global, bodies: &[Body]) -> Result<Vec<Column>, AllocError>
+    ensures { IfOk result (λ v. length v.items ≡ length bodies.now) }
+{
     let mut columns = Vec::new(alloc);
     for body in bodies {
         columns.push(match body.code.kind {
@@ -161,24 +105,6 @@ fn columns_of(alloc: Global, bodies: &[Body]) -> Result<Vec<Column>, AllocError>
     Ok(columns)
 }
 
-/// For each body, the names whose bodies use its name.
-fn users_of(alloc: Global, item: &ResolvedItem, bodies: &[Body]) -> Result<Vec<u64>, AllocError> {
-    let mut users = Vec::new(alloc);
-    for position in 0..bodies.len() {
-        users.push(next_of(item, with_name(0, position)))?;
-    }
-    Ok(users)
-}
-
-/// A relation for each body.
-fn values_of(alloc: Global, bodies: &[Body]) -> Result<Vec<Rel>, AllocError> {
-    let mut values = Vec::new(alloc);
-    for _ in bodies {
-        values.push(Rel::empty(0))?;
-    }
-    Ok(values)
-}
-
 /// The value of each name of a group, for each candidate of a space. `inputs` are the values of
 /// the item's inputs, in their order. The names of a `let rec` have the least values that satisfy
 /// its equations. An item of another kind has no names.
@@ -187,16 +113,16 @@ pub fn eval_group(
     item: &ResolvedItem,
     space: &Space,
     inputs: &[&Column],
-) -> Result<Vec<Column>, AllocError> {
+) -> Result<Vec<Column>, AllocError>
+    ensures { IfOk result (λ v. length v.items ≡ name_count item.now.role) }
+{
     match &item.role {
         Role::Group { recursive, bodies } => {
             let mut run = GroupRun {
                 bodies,
-                recursive: *recursive,
                 inputs,
-                users: users_of(alloc, item, bodies)?,
-                own: values_of(alloc, bodies)?,
-                machine: Machine::new(alloc),
+                recursive: *recursive,
+                solver: Solver::new(alloc, item, bodies)?,
                 columns: columns_of(alloc, bodies)?,
                 candidate: 0,
             };

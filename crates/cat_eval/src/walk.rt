@@ -1,5 +1,8 @@
 //! All candidates of a space, one after another.
 
+ghost use Rattle.std.specs.Prelude.{◌≡◌, ℕ, ◌+◌, ◌*◌, length, OnOk};
+ghost use Rattle.cat_eval.specs.Candidates.{combined_count, candidate_count};
+
 use crate::needs::Needs;
 use base_env::Base;
 use candidates::{Combination, Space};
@@ -7,8 +10,12 @@ use std::alloc::{AllocError, Global};
 
 /// What is done with each candidate.
 pub(crate) trait Visit {
+    /// So many lists of values it has, and it has taken so many candidates.
+    ghost has_taken: { Self → ℕ → ℕ → Type 0 };
+
     /// Takes the next candidate, of which the predefined names are given.
-    fn visit(&mut self, base: &Base) -> Result<(), AllocError>;
+    fn visit(&mut self, base: &Base) -> Result<(), AllocError>
+        ensures { (lists n : ℕ) → has_taken self.old lists n → OnOk result (has_taken self.new lists (n + 1)) };
 }
 
 /// Visits the candidates of a combination that read in the present way.
@@ -17,7 +24,9 @@ fn visit_orders<V: Visit>(
     needs: &Needs,
     base: &mut Base,
     visitor: &mut V,
-) -> Result<(), AllocError> {
+) -> Result<(), AllocError>
+    ensures { (lists n : ℕ) → V.has_taken visitor.old lists n → OnOk result (V.has_taken visitor.new lists (n + length combination.now.orders.items)) }
+{
     for order in &combination.orders {
         if needs.orders {
             base.order(combination, order);
@@ -33,7 +42,9 @@ fn visit_combination<V: Visit>(
     needs: &Needs,
     base: &mut Base,
     visitor: &mut V,
-) -> Result<(), AllocError> {
+) -> Result<(), AllocError>
+    ensures { (lists n : ℕ) → V.has_taken visitor.old lists n → OnOk result (V.has_taken visitor.new lists (n + combined_count combination.now)) }
+{
     base.enter(combination);
     for sources in &combination.sources {
         if needs.reads {
@@ -50,7 +61,9 @@ pub(crate) fn visit_all<V: Visit>(
     space: &Space,
     needs: &Needs,
     visitor: &mut V,
-) -> Result<(), AllocError> {
+) -> Result<(), AllocError>
+    ensures { (lists : ℕ) → V.has_taken visitor.old lists 0 → OnOk result (V.has_taken visitor.new lists (candidate_count space.now)) }
+{
     let mut base = Base::of_names(alloc, &needs.names)?;
     for combination in &space.combinations {
         visit_combination(combination, needs, &mut base, visitor)?;
