@@ -17,8 +17,12 @@ pub struct State {
 }
 
 impl State {
+    ghost use Rattle.ppc_semantics.specs.AllRuns as all;
+
     /// The state in which a thread begins. CR0 starts as equal.
-    pub fn first(program: &Program, thread: usize) -> State {
+    pub fn first(program: &Program, thread: usize) -> State
+        ensures { result ≡ all.first_of program.now thread }
+    {
         let registers = match program.registers.get(thread) {
             Some(file) => *file,
             None => [Value::Number(0); 32],

@@ -1,0 +1,3 @@
+pub mod MapInPlace
+pub mod RunList
+pub mod RunsExact
