@@ -1,3 +1,5 @@
 pub mod Scopes
 pub mod First
 pub mod FirstGroup
+pub mod FirstItem
+pub mod Grown

@@ -1,13 +1,13 @@
 -- The faults of an expression and of a group, each at its place, and the first of them.
-use Rattle.std.specs.Prelude.{◌≡◌, ℕ, ◌+◌, ◌<◌, ◌≤◌, ◌⊎◌, List, [], ◌∷◌, length, Bool, true, false, IsTrue, IsFalse, Option, Some, None}
+use Rattle.std.specs.Prelude.{◌≡◌, ℕ, suc, ◌+◌, ◌<◌, ◌≤◌, ◌⊎◌, List, [], ◌∷◌, length, Bool, true, false, IsTrue, IsFalse, Option, Some, None}
 use Rattle.binding_graph.specs.declared.fault.ModelFault.{ModelFault}
 use Rattle.binding_graph.specs.declared.fault.ModelFault.TheVariants as faults
-use Rattle.binding_graph.specs.declared.resolved.Kind.TheVariants.{OfSet}
+use Rattle.binding_graph.specs.declared.resolved.Kind.TheVariants.{OfSet, OfRelation}
 use Rattle.binding_graph.specs.declared.scope.Found.{Found}
 use Rattle.binding_graph.specs.declared.scope.Binder.{Binder}
 use Rattle.binding_graph.specs.declared.scope.Binder.TheVariants as binders
-use Rattle.binding_graph.specs.Value.{Term, Word, Everything, NoPairs, NoEvents, Join, Mark, Not, Only, Call, Naming, Bound}
-use Rattle.binding_graph.specs.Kinds.{found, kind, takes, is_relation, is_set, is_turned}
+use Rattle.binding_graph.specs.Value.{Term, Word, Everything, NoPairs, NoEvents, Join, Mark, Not, Only, Call, Naming, Bound, Clause, Group, Check, Mute, Defined}
+use Rattle.binding_graph.specs.Kinds.{found, kind, takes, is_relation, is_set, is_turned, takes_body}
 
 -- how many names, signs and brackets an expression has: its places are those below
 abbrev pub width : Term → ℕ
@@ -69,6 +69,43 @@ IsFaultIn names from recursive seen (b ∷ bs) place k =
     ⊎ (((after : ℕ) × (place ≡ 1 + after) × IsFaultAt names from false b.body after k)
     ⊎ ((after : ℕ) × (place ≡ 1 + width b.body + after) × IsFaultIn names from recursive (b.name ∷ seen) bs after k))
 
+-- the recursive names of a group, from that position of the item on, seen after the names
+abbrev pub with_own : List Naming → ℕ → ℕ → List Bound → List Naming
+with_own names item at [] = names
+with_own names item at (b ∷ bs) =
+    with_own (record { name = b.name; kind = OfRelation; binder = binders.Bound (record { item = item; position = at }) } ∷ names) item (suc at) bs
+
+-- the names of a group that is not recursive, whose bodies see the outer names
+abbrev pub with_all : List Naming → List Naming → ℕ → ℕ → List Bound → List Naming
+with_all outer names item at [] = names
+with_all outer names item at (b ∷ bs) =
+    with_all outer (record { name = b.name; kind = kind outer b.body; binder = binders.Bound (record { item = item; position = at }) } ∷ names) item (suc at) bs
+
+-- the names that are seen after the item of that number
+abbrev pub extended : List Naming → ℕ → Clause → List Naming
+extended names item (Group true bs) = with_own names item 0 bs
+extended names item (Group false bs) = with_all names names item 0 bs
+extended names item (Check w e) = names
+extended names item Mute = names
+extended names item (Defined n) = names
+
+-- the item of that number has this fault at this place
+abbrev pub IsFaultOfItem : List Naming → ℕ → Clause → ℕ → ModelFault → Type 0
+IsFaultOfItem names item (Group true bs) place k = IsFaultIn (with_own names item 0 bs) (length names) true [] bs place k
+IsFaultOfItem names item (Group false bs) place k = IsFaultIn names (length names) false [] bs place k
+IsFaultOfItem names item (Check w e) place k =
+    ((place ≡ 0) × IsFalse (takes_body w (kind names e)) × (k ≡ faults.Kind))
+    ⊎ ((after : ℕ) × (place ≡ 1 + after) × IsFaultAt names (length names) false e after k)
+IsFaultOfItem names item Mute place k = ⊥
+IsFaultOfItem names item (Defined n) place k = ⊥
+
+-- Of the items, the first of which has the number `from`, the one that many behind the first has this fault at this place.
+abbrev pub IsFault : List Naming → ℕ → List Clause → ℕ → ℕ → ModelFault → Type 0
+IsFault names from [] item place k = ⊥
+IsFault names from (c ∷ cs) item place k =
+    ((item ≡ 0) × IsFaultOfItem names from c place k)
+    ⊎ ((after : ℕ) × (item ≡ 1 + after) × IsFault (extended names from c) (from + 1) cs after place k)
+
 -- which fault is answered at one place
 abbrev pub rank : ModelFault → ℕ
 rank faults.Unbound = 0
@@ -88,3 +125,13 @@ pub record IsFirst (Faulty : ℕ → ModelFault → Type 0) (k : ModelFault) : T
   pub place : ℕ
   pub there : Faulty place k
   pub none_before : (other : ℕ) (l : ModelFault) → Faulty other l → IsNoLater place k other l
+
+-- the items have this fault as the first, by item and then by place
+pub record FirstFault (names : List Naming) (from : ℕ) (items : List Clause) (k : ModelFault) : Type 0 where
+  pub item : ℕ
+  pub place : ℕ
+  pub there : IsFault names from items item place k
+  pub none_before : (i p : ℕ) (l : ModelFault) → IsFault names from items i p l → (item < i) ⊎ ((item ≡ i) × IsNoLater place k p l)
+
+abbrev pub HasNoFault : List Naming → ℕ → List Clause → Type 0
+HasNoFault names from items = (i p : ℕ) (l : ModelFault) → IsFault names from items i p l → ⊥

@@ -6,6 +6,8 @@ use Rattle.cat_syntax.specs.declared.model.CheckWord.{CheckWord}
 use Rattle.cat_syntax.specs.declared.model.Expression.{Expression}
 use Rattle.cat_syntax.specs.declared.model.Expression.TheVariants as code
 use Rattle.cat_syntax.specs.declared.model.Binding as code_binding
+use Rattle.cat_syntax.specs.declared.model.Item as code_item
+use Rattle.cat_syntax.specs.declared.model.Item.TheVariants as items
 use Rattle.binding_graph.specs.declared.resolved.Kind.{Kind}
 use Rattle.binding_graph.specs.declared.scope.Binder.{Binder}
 use Rattle.binding_graph.specs.declared.scope.Entry as code_entry
@@ -27,6 +29,13 @@ pub record Bound : Type 0 where
   pub name : List ℕ
   pub body : Term
 
+-- an item
+pub data Clause : Type 0 where
+  Group : (recursive : Bool) (bounds : List Bound) → Clause
+  Check : (word : CheckWord) (body : Term) → Clause
+  Mute : Clause
+  Defined : (name : List ℕ) → Clause
+
 -- a name that stands for something
 pub record Naming : Type 0 where
   pub name : List ℕ
@@ -47,6 +56,14 @@ term_of (code.Applied' n shape all) = Call n
 abbrev pub bound_of : code_binding.Binding → Bound
 bound_of b = record { name = b.name; body = term_of b.body }
 
+abbrev pub clause_of : code_item.Item → Clause
+clause_of (items.Let r g) = Group r (map bound_of g.items)
+clause_of (items.Function n ps b) = Defined n
+clause_of (items.Check c l) = Check c.word (term_of c.body)
+clause_of (items.Flag c l) = Check c.word (term_of c.body)
+clause_of (items.Show h s) = Mute
+clause_of (items.Include n) = Mute
+
 abbrev pub entry_of : code_entry.Entry → Naming
 entry_of e = record { name = e.name; kind = e.kind; binder = e.binder }
 
@@ -66,3 +83,14 @@ IsPlain (Call n) = ⊥
 abbrev pub ArePlain : List Bound → Type 0
 ArePlain [] = Unit {0}
 ArePlain (b ∷ bs) = IsPlain b.body × ArePlain bs
+
+-- the item is no function and applies none
+abbrev pub IsPlainClause : Clause → Type 0
+IsPlainClause (Group r bs) = ArePlain bs
+IsPlainClause (Check w e) = IsPlain e
+IsPlainClause Mute = Unit {0}
+IsPlainClause (Defined n) = ⊥
+
+abbrev pub ArePlainClauses : List Clause → Type 0
+ArePlainClauses [] = Unit {0}
+ArePlainClauses (c ∷ cs) = IsPlainClause c × ArePlainClauses cs

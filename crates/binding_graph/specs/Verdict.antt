@@ -1,5 +1,5 @@
 -- The first fault, as it is looked for.
-use Rattle.std.specs.Prelude.{ℕ, List, [], ◌∷◌, length, Bool, true, false, ◌&&◌, nat_le, bytes_eq, if◌then◌else◌, Option, Some, None, ◌||◌}
+use Rattle.std.specs.Prelude.{ℕ, ◌+◌, List, [], ◌∷◌, length, Bool, true, false, ◌&&◌, nat_le, bytes_eq, if◌then◌else◌, Option, Some, None, ◌||◌}
 use Rattle.binding_graph.specs.declared.fault.ModelFault.{ModelFault}
 use Rattle.binding_graph.specs.declared.fault.ModelFault.TheVariants as faults
 use Rattle.binding_graph.specs.declared.resolved.Kind.{Kind}
@@ -7,8 +7,9 @@ use Rattle.binding_graph.specs.declared.resolved.Kind.TheVariants.{OfSet, OfRela
 use Rattle.binding_graph.specs.declared.scope.Found.{Found}
 use Rattle.binding_graph.specs.declared.scope.Binder.{Binder}
 use Rattle.binding_graph.specs.declared.scope.Binder.TheVariants as binders
-use Rattle.binding_graph.specs.Value.{Term, Word, Everything, NoPairs, NoEvents, Join, Mark, Not, Only, Call, Naming, Bound}
-use Rattle.binding_graph.specs.Kinds.{found, kind, takes, is_relation, is_set, is_turned}
+use Rattle.binding_graph.specs.Value.{Term, Word, Everything, NoPairs, NoEvents, Join, Mark, Not, Only, Call, Naming, Bound, Clause, Group, Check, Mute, Defined}
+use Rattle.binding_graph.specs.Kinds.{found, kind, takes, is_relation, is_set, is_turned, takes_body}
+use Rattle.binding_graph.specs.Faults.{with_own, extended}
 
 -- the first fault that is there
 abbrev pub or_else : Option ModelFault → Option ModelFault → Option ModelFault
@@ -64,3 +65,14 @@ first_in names from recursive seen [] = None
 first_in names from recursive seen (b ∷ bs) =
     or_else (of_binding names recursive seen b)
     (or_else (first_of names from false b.body) (first_in names from recursive (b.name ∷ seen) bs))
+
+abbrev pub first_of_item : List Naming → ℕ → Clause → Option ModelFault
+first_of_item names item (Group true bs) = first_in (with_own names item 0 bs) (length names) true [] bs
+first_of_item names item (Group false bs) = first_in names (length names) false [] bs
+first_of_item names item (Check w e) = or_else (unless (takes_body w (kind names e)) faults.Kind) (first_of names (length names) false e)
+first_of_item names item Mute = None
+first_of_item names item (Defined n) = None
+
+abbrev pub first : List Naming → ℕ → List Clause → Option ModelFault
+first names from [] = None
+first names from (c ∷ cs) = or_else (first_of_item names from c) (first (extended names from c) (from + 1) cs)

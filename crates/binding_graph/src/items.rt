@@ -1,18 +1,18 @@
 //! The items of a model, one after another.
 
-ghost use Rattle.std.specs.Prelude.{◌≡◌, ◌+◌, vec_len, IfOk, OnOk};
+ghost use Rattle.std.specs.Prelude.{◌≡◌, ◌+◌, vec_len, IfOk, OnOk, MatchResult, reverse, map, length};
+ghost use Rattle.binding_graph.specs.Value.{entry_of, clause_of, ArePlainClauses};
+ghost use Rattle.binding_graph.specs.Faults.{HasNoFault, FirstFault};
+ghost use Rattle.binding_graph.specs.Verdict.{first};
 
+use crate::declare::item_fault;
 use crate::expand::expand;
 use crate::fault::{ModelFault, ResolveFault};
-use crate::function::{Function, count_parts};
-use crate::judge::{group_fault, judge, or_else, parameter_fault, unless};
-use crate::kinds::takes_body;
 use crate::lower::lower;
 use crate::plan::{Plan, Sight};
-use crate::resolved::{Body, CheckCode, Code, Input, Kind, Resolved, ResolvedItem, Role};
-use crate::scope::{Binder, Scope};
-use crate::signature::signatures;
-use crate::uses::Uses;
+use crate::resolved::{Body, CheckCode, Code, Resolved, ResolvedItem, Role};
+use crate::scope::Scope;
+use crate::uses::{Uses, inputs_at, items_of};
 use cat_syntax::{Binding, Check, Expression, Item, ModelText};
 use source_text::Name;
 use std::alloc::{AllocError, Global};
@@ -25,12 +25,48 @@ pub fn resolve(alloc: Global, text: &ModelText) -> Result<Resolved, ResolveFault
     ensures { IfOk result (λ r. vec_len r.items ≡ vec_len text.now.items) }
 {
     let mut scope = Scope::new(alloc)?;
-    let mut items = Vec::new(alloc);
-    for (place, item) in text.items.iter().enumerate() {
-        let one = resolve_item(alloc, &mut scope, place, item)?;
-        push_item(&mut items, one)?;
+    match resolve_items(alloc, &mut scope, &text.items)? {
+        Ok(items) => Ok(Resolved { items }),
+        Err(fault) => Err(ResolveFault::Refused(fault)),
     }
-    Ok(Resolved { items })
+}
+
+/// The items resolved, or the first fault.
+fn find_items(
+    alloc: Global,
+    scope: &mut Scope,
+    items: &[Item],
+) -> Result<(Vec<ResolvedItem>, Option<ModelFault>), AllocError>
+    ensures fault { ArePlainClauses (map clause_of items.now) → IfOk result (λ r. r.1 ≡ first (reverse (map entry_of scope.old.entries.items)) 0 (map clause_of items.now)) }
+    ensures whole { IfOk result (λ r. r.1 ≡ None → vec_len r.0 ≡ length items.now) }
+{
+    let mut resolved = Vec::new(alloc);
+    for (place, item) in items.iter().enumerate() {
+        let from = scope.entries.len();
+        let fault = item_fault(alloc, scope, place, item)?;
+        if fault.is_some() {
+            return Ok((resolved, fault));
+        }
+        let one = lower_item(alloc, scope, from, item)?;
+        push_item(&mut resolved, one)?;
+    }
+    Ok((resolved, None))
+}
+
+/// The items resolved, or the first fault, by item and then by place.
+pub fn resolve_items(
+    alloc: Global,
+    scope: &mut Scope,
+    items: &[Item],
+) -> Result<Result<Vec<ResolvedItem>, ModelFault>, AllocError>
+    ensures fault { ArePlainClauses (map clause_of items.now) → IfOk result (λ r. MatchResult r (λ _. HasNoFault (reverse (map entry_of scope.old.entries.items)) 0 (map clause_of items.now)) (λ k. FirstFault (reverse (map entry_of scope.old.entries.items)) 0 (map clause_of items.now) k)) }
+    ensures whole { IfOk result (λ r. IfOk r (λ v. vec_len v ≡ length items.now)) }
+{
+    let (resolved, fault) = find_items(alloc, scope, items)?;
+    match fault {
+        None => Ok(Ok(resolved)),
+        Some(fault) => Ok(Err(fault)),
+    }
 }
 
 fn push_item(items: &mut Vec<ResolvedItem>, item: ResolvedItem) -> Result<(), AllocError>
@@ -38,13 +74,6 @@ fn push_item(items: &mut Vec<ResolvedItem>, item: ResolvedItem) -> Result<(), Al
 {
     items.push(item)?;
     Ok(())
-}
-
-fn refuse(fault: Option<ModelFault>) -> Result<(), ResolveFault> {
-    match fault {
-        None => Ok(()),
-        Some(fault) => Err(ResolveFault::Refused(fault)),
-    }
 }
 
 fn silent(alloc: Global) -> ResolvedItem {
@@ -59,110 +88,78 @@ fn copied_label(alloc: Global, label: &Name) -> Result<Option<Name>, AllocError>
     Ok(Some(label.copied(alloc)?))
 }
 
-fn resolve_item(
+/// An item without fault, whose names are added: before it there were so many.
+fn lower_item(
     alloc: Global,
-    scope: &mut Scope,
-    place: usize,
+    scope: &Scope,
+    from: usize,
     item: &Item,
-) -> Result<ResolvedItem, ResolveFault> {
+) -> Result<ResolvedItem, AllocError> {
     match item {
-        Item::Let { recursive, group } => {
-            let from = scope.entries.len();
-            if *recursive {
-                declare_own(alloc, scope, place, group)?;
-            }
-            refuse(group_fault(scope, from, *recursive, group))?;
-            let resolved = resolve_group(alloc, scope, from, *recursive, group)?;
-            if !*recursive {
-                declare_bodies(alloc, scope, place, &resolved)?;
-            }
-            Ok(resolved)
-        }
-        Item::Check { check, .. } => {
-            refuse(check_fault(scope, check))?;
-            Ok(resolve_check(alloc, scope, check, None)?)
-        }
+        Item::Let { recursive, group } => lower_group(alloc, scope, from, *recursive, group),
+        Item::Check { check, .. } => lower_check(alloc, scope, check, None),
         Item::Flag { check, label } => {
-            refuse(check_fault(scope, check))?;
-            Ok(resolve_check(alloc, scope, check, copied_label(alloc, label)?)?)
+            lower_check(alloc, scope, check, copied_label(alloc, label)?)
         }
-        Item::Function {
-            name,
-            parameters,
-            body,
-        } => resolve_function(alloc, scope, place, name, parameters, body),
+        Item::Function { .. } => lower_function(alloc, scope),
         Item::Show { .. } => Ok(silent(alloc)),
         Item::Include(_) => Ok(silent(alloc)),
     }
 }
 
-/// Adds the names of a recursive group.
-fn declare_own(
-    alloc: Global,
-    scope: &mut Scope,
-    place: usize,
-    group: &[Binding],
-) -> Result<(), AllocError> {
-    for (position, binding) in group.iter().enumerate() {
-        let binder = Binder::Bound(Input {
-            item: place,
-            position,
-        });
-        scope.declare(alloc, &binding.name, Kind::OfRelation, binder)?;
+/// What the latest function uses.
+fn lower_function(alloc: Global, scope: &Scope) -> Result<ResolvedItem, AllocError> {
+    match scope.functions.last() {
+        None => Ok(silent(alloc)),
+        Some(function) => Ok(ResolvedItem {
+            role: Role::Silent,
+            inputs: inputs_at(alloc, &scope.entries, &function.slots)?,
+            functions: items_of(alloc, &scope.functions, &function.functions)?,
+        }),
     }
-    Ok(())
 }
 
-/// Adds the names of a group whose bodies see the names before it.
-fn declare_bodies(
-    alloc: Global,
-    scope: &mut Scope,
-    place: usize,
-    item: &ResolvedItem,
-) -> Result<(), AllocError> {
-    if let Role::Group { bodies, .. } = &item.role {
-        for (position, body) in bodies.iter().enumerate() {
-            let binder = Binder::Bound(Input {
-                item: place,
-                position,
-            });
-            scope.declare(alloc, &body.name, body.code.kind, binder)?;
-        }
+/// The names that a body sees of which the item's own begin at that slot.
+fn sight_of(scope: &Scope, from: usize, recursive: bool) -> Sight<'_> {
+    let all = scope.entries.as_slice();
+    let entries = match all.get(..from) {
+        Some(before) if !recursive => before,
+        _ => all,
+    };
+    Sight {
+        entries,
+        functions: &scope.functions,
+        parameters: &[],
+        from,
     }
-    Ok(())
 }
 
-/// The steps of an expression without fault.
+/// The steps of an expression.
 fn code_of(
     alloc: Global,
-    scope: &Scope,
-    from: usize,
+    sight: &Sight,
     term: &Expression,
     uses: &mut Uses,
 ) -> Result<Code, AllocError> {
-    let sight = Sight {
-        scope,
-        parameters: &[],
-        from,
-    };
     let mut plan = Plan::new(alloc);
-    plan.put_term(&sight, false, term, uses)?;
-    let expansion = expand(alloc, &scope.functions, &plan.nodes)?;
-    lower(alloc, scope, uses, from, &expansion.pieces)
+    plan.put_term(sight, false, term, uses)?;
+    let expansion = expand(alloc, sight.functions, &plan.nodes)?;
+    lower(alloc, sight.entries, uses, sight.from, &expansion.pieces)
 }
 
-/// The steps of a group without fault.
-fn resolve_group(
+/// The steps of a group.
+fn lower_group(
     alloc: Global,
     scope: &Scope,
     from: usize,
     recursive: bool,
     group: &[Binding],
 ) -> Result<ResolvedItem, AllocError> {
+    let sight = sight_of(scope, from, recursive);
     let mut uses = Uses::new(alloc, scope)?;
     let mut bodies = Vec::new(alloc);
     for binding in group {
-        let code = code_of(alloc, scope, from, &binding.body, &mut uses)?;
+        let code = code_of(alloc, &sight, &binding.body, &mut uses)?;
         bodies.push(Body {
             name: binding.name.copied(alloc)?,
             code,
@@ -170,27 +167,21 @@ fn resolve_group(
     }
     Ok(ResolvedItem {
         role: Role::Group { recursive, bodies },
-        inputs: uses.inputs(alloc, scope)?,
-        functions: uses.function_items(alloc, scope)?,
+        inputs: inputs_at(alloc, &scope.entries, &uses.slots)?,
+        functions: items_of(alloc, &scope.functions, &uses.functions)?,
     })
 }
 
-/// The first fault of a check or a flag.
-fn check_fault(scope: &Scope, check: &Check) -> Option<ModelFault> {
-    let body = judge(scope, scope.entries.len(), false, &check.body);
-    let here = unless(takes_body(check.word, body.kind), ModelFault::Kind);
-    or_else(here, body.fault)
-}
-
-/// The steps of a check or a flag without fault.
-fn resolve_check(
+/// The steps of a check or a flag.
+fn lower_check(
     alloc: Global,
     scope: &Scope,
     check: &Check,
     flag: Option<Name>,
 ) -> Result<ResolvedItem, AllocError> {
+    let sight = sight_of(scope, scope.entries.len(), false);
     let mut uses = Uses::new(alloc, scope)?;
-    let code = code_of(alloc, scope, scope.entries.len(), &check.body, &mut uses)?;
+    let code = code_of(alloc, &sight, &check.body, &mut uses)?;
     Ok(ResolvedItem {
         role: Role::Check(CheckCode {
             negated: check.negated,
@@ -198,88 +189,7 @@ fn resolve_check(
             code,
             flag,
         }),
-        inputs: uses.inputs(alloc, scope)?,
-        functions: uses.function_items(alloc, scope)?,
-    })
-}
-
-/// Resolves a function, and adds its name.
-fn resolve_function(
-    alloc: Global,
-    scope: &mut Scope,
-    place: usize,
-    name: &Name,
-    parameters: &[Name],
-    body: &Expression,
-) -> Result<ResolvedItem, ResolveFault> {
-    refuse(parameter_fault(parameters))?;
-    let mut uses = Uses::new(alloc, scope)?;
-    let plan = plan_of(alloc, scope, parameters, body, &mut uses)?;
-    refuse(plan.fault)?;
-    let item = ResolvedItem {
-        role: Role::Silent,
-        inputs: uses.inputs(alloc, scope)?,
-        functions: uses.function_items(alloc, scope)?,
-    };
-    let function = function_of(alloc, scope, place, parameters.len(), plan, uses)?;
-    let binder = Binder::Applicable(scope.functions.len());
-    push_function(scope, function)?;
-    scope.declare(alloc, name, Kind::OfAny, binder)?;
-    Ok(item)
-}
-
-fn push_function(scope: &mut Scope, function: Function) -> Result<(), AllocError> {
-    scope.functions.push(function)?;
-    Ok(())
-}
-
-/// The body of a function.
-fn plan_of(
-    alloc: Global,
-    scope: &Scope,
-    parameters: &[Name],
-    body: &Expression,
-    uses: &mut Uses,
-) -> Result<Plan, AllocError> {
-    let sight = Sight {
-        scope,
-        parameters,
-        from: scope.entries.len(),
-    };
-    let mut plan = Plan::new(alloc);
-    plan.put_term(&sight, false, body, uses)?;
-    Ok(plan)
-}
-
-/// What is kept of a function.
-fn function_of(
-    alloc: Global,
-    scope: &Scope,
-    place: usize,
-    arity: usize,
-    plan: Plan,
-    uses: Uses,
-) -> Result<Function, AllocError> {
-    let signatures = signatures(alloc, scope, arity, &plan.nodes)?;
-    let expansion = expand(alloc, &scope.functions, &plan.nodes)?;
-    let is_oversized = expansion.is_oversized();
-    let template = if is_oversized {
-        Vec::new(alloc)
-    } else {
-        expansion.into_pieces()
-    };
-    let (constant, factors) = count_parts(&template);
-    let (slots, functions) = uses.into_lists();
-    Ok(Function {
-        item: place,
-        arity,
-        under: plan.under,
-        template,
-        is_oversized,
-        constant,
-        factors,
-        signatures,
-        slots,
-        functions,
+        inputs: inputs_at(alloc, &scope.entries, &uses.slots)?,
+        functions: items_of(alloc, &scope.functions, &uses.functions)?,
     })
 }

@@ -10,7 +10,7 @@ use crate::fault::ModelFault;
 use crate::function::{Function, MAX_SIZE};
 use crate::kinds::{is_turned, joined, takes};
 use crate::resolved::Kind;
-use crate::scope::{Binder, Found, Scope, find, kind_found};
+use crate::scope::{Binder, Entry, Found, find, kind_found};
 use crate::signature::weighed;
 use cat_syntax::{Binding, Expression, Infix};
 use source_text::Name;
@@ -97,11 +97,11 @@ fn recursive_fault(from: usize, under: bool, slot: usize) -> Option<ModelFault>
     }
 }
 
-fn judge_name(scope: &Scope, from: usize, under: bool, name: &Name) -> Judged
-    ensures kind { result.kind ≡ kind_found (found (reverse (map entry_of scope.now.entries.items)) name.now) }
-    ensures fault { result.fault ≡ of_name from under (found (reverse (map entry_of scope.now.entries.items)) name.now) }
+fn judge_name(entries: &[Entry], from: usize, under: bool, name: &Name) -> Judged
+    ensures kind { result.kind ≡ kind_found (found (reverse (map entry_of entries.now)) name.now) }
+    ensures fault { result.fault ≡ of_name from under (found (reverse (map entry_of entries.now)) name.now) }
 {
-    let found = find(&scope.entries, name);
+    let found = find(entries, name);
     Judged {
         kind: kind_found(found),
         size: 1,
@@ -111,15 +111,16 @@ fn judge_name(scope: &Scope, from: usize, under: bool, name: &Name) -> Judged
 
 /// The function that a name with so many arguments stands for.
 fn function_of<'a>(
-    scope: &'a Scope,
+    entries: &[Entry],
+    functions: &'a [Function],
     name: &Name,
     count: usize,
 ) -> Result<&'a Function, ModelFault> {
-    let Some(found) = find(&scope.entries, name) else {
+    let Some(found) = find(entries, name) else {
         return Err(ModelFault::Unbound);
     };
     match found.binder {
-        Binder::Applicable(function) => match scope.functions.get(function) {
+        Binder::Applicable(function) => match functions.get(function) {
             Some(one) if one.arity == count => Ok(one),
             _ => Err(ModelFault::Arity),
         },
@@ -219,30 +220,51 @@ fn judged_identity(inner: Judged) -> Judged
 
 /// The kind, the size and the first fault of an expression, seen under a complement or not.
 /// The names of the item itself have the slot `from` and those behind it.
-pub fn judge(scope: &Scope, from: usize, under: bool, term: &Expression) -> Judged
-    ensures kind { IsPlain (term_of term.now) → result.kind ≡ kind (reverse (map entry_of scope.now.entries.items)) (term_of term.now) }
-    ensures fault { IsPlain (term_of term.now) → result.fault ≡ first_of (reverse (map entry_of scope.now.entries.items)) from under (term_of term.now) }
+pub fn judge(
+    entries: &[Entry],
+    functions: &[Function],
+    from: usize,
+    under: bool,
+    term: &Expression,
+) -> Judged
+    ensures kind { IsPlain (term_of term.now) → result.kind ≡ kind (reverse (map entry_of entries.now)) (term_of term.now) }
+    ensures fault { IsPlain (term_of term.now) → result.fault ≡ first_of (reverse (map entry_of entries.now)) from under (term_of term.now) }
 {
     match term {
-        Expression::Named(name) => judge_name(scope, from, under, name),
+        Expression::Named(name) => judge_name(entries, from, under, name),
         Expression::Everything => sign(Kind::OfSet),
         Expression::NoPairs => sign(Kind::OfRelation),
         Expression::NoEvents => sign(Kind::OfSet),
         Expression::Joined(op, left, right) => {
-            let first = judge(scope, from, under, left);
-            let second = judge(scope, from, is_turned(*op, under), right);
+            let first = judge(entries, functions, from, under, left);
+            let second = judge(entries, functions, from, is_turned(*op, under), right);
             judged_infix(*op, first, second)
         }
-        Expression::Marked(_, operand) => judged_postfix(judge(scope, from, under, operand)),
-        Expression::Complement(operand) => judged_complement(judge(scope, from, true, operand)),
-        Expression::Identity(operand) => judged_identity(judge(scope, from, under, operand)),
-        Expression::Applied(name, arguments) => match function_of(scope, name, arguments.len()) {
+        Expression::Marked(_, operand) => judged_postfix(judge(
+            entries, functions, from, under, operand,
+        )),
+        Expression::Complement(operand) => judged_complement(judge(
+            entries, functions, from, true, operand,
+        )),
+        Expression::Identity(operand) => judged_identity(judge(
+            entries, functions, from, under, operand,
+        )),
+        Expression::Applied(name, arguments) => match function_of(
+            entries,
+            functions,
+            name,
+            arguments.len(),
+        ) {
             Err(fault) => faulty(fault),
             Ok(function) => {
                 let mut all = Arguments::of(function);
                 for (place, argument) in arguments.iter().enumerate() {
                     let inner = under || function.is_under(place);
-                    all = all.with(function, place, judge(scope, from, inner, argument));
+                    all = all.with(
+                        function,
+                        place,
+                        judge(entries, functions, from, inner, argument),
+                    );
                 }
                 all.applied(function)
             }
@@ -283,15 +305,16 @@ fn binding_fault(
 
 /// The first fault of the bindings of a group.
 pub fn group_fault(
-    scope: &Scope,
+    entries: &[Entry],
+    functions: &[Function],
     from: usize,
     recursive: bool,
     group: &[Binding],
 ) -> Option<ModelFault>
-    ensures { ArePlain (map bound_of group.now) → result ≡ first_in (reverse (map entry_of scope.now.entries.items)) from recursive [] (map bound_of group.now) }
+    ensures { ArePlain (map bound_of group.now) → result ≡ first_in (reverse (map entry_of entries.now)) from recursive [] (map bound_of group.now) }
 {
     for (place, binding) in group.iter().enumerate() {
-        let body = judge(scope, from, false, &binding.body);
+        let body = judge(entries, functions, from, false, &binding.body);
         let own = binding_fault(body.kind, recursive, &group[..place], binding);
         let fault = or_else(own, body.fault);
         if fault.is_some() {

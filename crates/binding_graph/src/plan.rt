@@ -1,9 +1,9 @@
 //! Expressions in postfix order, whose names are resolved.
 
 use crate::fault::ModelFault;
-use crate::function::MAX_PARAMETERS;
+use crate::function::{Function, MAX_PARAMETERS};
 use crate::kinds::is_turned;
-use crate::scope::{Binder, Scope, find};
+use crate::scope::{Binder, Entry, find};
 use crate::uses::Uses;
 use cat_syntax::{Expression, Infix, Postfix};
 use source_text::Name;
@@ -36,7 +36,8 @@ pub enum Node {
 /// The names that an expression sees.
 #[derive(Clone, Copy)]
 pub struct Sight<'a> {
-    pub scope: &'a Scope,
+    pub entries: &'a [Entry],
+    pub functions: &'a [Function],
     /// The parameters of the function whose body it is.
     pub parameters: &'a [Name],
     /// The names of the item itself have this slot and those behind it.
@@ -70,7 +71,7 @@ impl Sight<'_> {
         if let Some(place) = parameter(self.parameters, name) {
             return Ok(Piece::Parameter(place));
         }
-        match find(&self.scope.entries, name) {
+        match find(self.entries, name) {
             None => Err(ModelFault::Unbound),
             Some(found) => match found.binder {
                 Binder::Applicable(_) => Err(ModelFault::Arity),
@@ -85,11 +86,11 @@ impl Sight<'_> {
         if parameter(self.parameters, name).is_some() {
             return Err(ModelFault::Arity);
         }
-        let Some(found) = find(&self.scope.entries, name) else {
+        let Some(found) = find(self.entries, name) else {
             return Err(ModelFault::Unbound);
         };
         match found.binder {
-            Binder::Applicable(function) => match self.scope.functions.get(function) {
+            Binder::Applicable(function) => match self.functions.get(function) {
                 Some(one) if one.arity == count => Ok(function),
                 _ => Err(ModelFault::Arity),
             },
@@ -99,7 +100,7 @@ impl Sight<'_> {
 
     /// Whether the function has that parameter under a complement or right of a difference.
     fn is_under(&self, function: usize, place: usize) -> bool {
-        match self.scope.functions.get(function) {
+        match self.functions.get(function) {
             Some(one) => one.is_under(place),
             None => false,
         }

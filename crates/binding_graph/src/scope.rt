@@ -96,20 +96,4 @@ impl Scope {
             functions: Vec::new(alloc),
         })
     }
-
-    /// Adds a name.
-    pub fn declare(
-        &mut self,
-        alloc: Global,
-        name: &Name,
-        kind: Kind,
-        binder: Binder,
-    ) -> Result<(), AllocError> {
-        self.entries.push(Entry {
-            name: name.copied(alloc)?,
-            kind,
-            binder,
-        })?;
-        Ok(())
-    }
 }

@@ -1,8 +1,9 @@
 //! What an item uses.
 
+use crate::function::Function;
 use crate::plan::Sight;
 use crate::resolved::Input;
-use crate::scope::{Binder, Scope};
+use crate::scope::{Binder, Entry, Scope};
 use std::alloc::{AllocError, Global};
 
 /// The names of other items that an item uses, and the functions that it applies, through others
@@ -49,7 +50,7 @@ impl Uses {
         if slot >= sight.from {
             return Ok(());
         }
-        match sight.scope.entries.get(slot) {
+        match sight.entries.get(slot) {
             Some(entry) => match entry.binder {
                 Binder::Bound(_) => self.note_slot(slot),
                 Binder::Predefined(_) => Ok(()),
@@ -89,7 +90,7 @@ impl Uses {
         if !self.note_function(function)? {
             return Ok(());
         }
-        if let Some(one) = sight.scope.functions.get(function) {
+        if let Some(one) = sight.functions.get(function) {
             for inner in &one.functions {
                 self.note_function(*inner)?;
             }
@@ -109,28 +110,36 @@ impl Uses {
         } = self;
         (slots, functions)
     }
+}
 
-    /// The names that are used, as those of items.
-    pub fn inputs(&self, alloc: Global, scope: &Scope) -> Result<Vec<Input>, AllocError> {
-        let mut inputs = Vec::new(alloc);
-        for slot in &self.slots {
-            if let Some(entry) = scope.entries.get(*slot) {
-                if let Binder::Bound(input) = entry.binder {
-                    inputs.push(input)?;
-                }
+/// The names of those slots, as those of items.
+pub fn inputs_at(
+    alloc: Global,
+    entries: &[Entry],
+    slots: &[usize],
+) -> Result<Vec<Input>, AllocError> {
+    let mut inputs = Vec::new(alloc);
+    for slot in slots {
+        if let Some(entry) = entries.get(*slot) {
+            if let Binder::Bound(input) = entry.binder {
+                inputs.push(input)?;
             }
         }
-        Ok(inputs)
     }
+    Ok(inputs)
+}
 
-    /// The items of the functions that are applied.
-    pub fn function_items(&self, alloc: Global, scope: &Scope) -> Result<Vec<usize>, AllocError> {
-        let mut items = Vec::new(alloc);
-        for function in &self.functions {
-            if let Some(one) = scope.functions.get(*function) {
-                items.push(one.item)?;
-            }
+/// The items of those functions.
+pub fn items_of(
+    alloc: Global,
+    functions: &[Function],
+    places: &[usize],
+) -> Result<Vec<usize>, AllocError> {
+    let mut items = Vec::new(alloc);
+    for place in places {
+        if let Some(function) = functions.get(*place) {
+            items.push(function.item)?;
         }
-        Ok(items)
     }
+    Ok(items)
 }

@@ -8,5 +8,5 @@ abbrev pub invariant-loop-place : goal.invariant-loop-place
 invariant-loop-place l =
     ArePlain (map bound_of l.group) →
     ArePlain (map bound_of (drop l.place l.group))
-    × (first_in (reverse (map entry_of l.scope.entries.items)) l.from l.recursive [] (map bound_of l.group)
-    ≡ first_in (reverse (map entry_of l.scope.entries.items)) l.from l.recursive (names_of (take l.place l.group)) (map bound_of (drop l.place l.group)))
+    × (first_in (reverse (map entry_of l.entries)) l.from l.recursive [] (map bound_of l.group)
+    ≡ first_in (reverse (map entry_of l.entries)) l.from l.recursive (names_of (take l.place l.group)) (map bound_of (drop l.place l.group)))

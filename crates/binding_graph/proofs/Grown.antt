@@ -1,0 +1,23 @@
+-- One more name of a group.
+use Rattle.std.proofs.Common.{ℕ, ◌≡◌, ◌<◌, ◌+◌, List, [], ◌∷◌, ◌++◌, length, map, reverse, drop, get_or, refl, add-one}
+use Rattle.std.proofs.Math.Seq.{drop-cons}
+use Rattle.cat_syntax.specs.declared.model.Binding.{Binding}
+use Rattle.binding_graph.specs.declared.scope.Entry.{Entry}
+use Rattle.binding_graph.specs.declared.scope.Binder.TheVariants as binders
+use Rattle.binding_graph.specs.declared.resolved.Kind.TheVariants.{OfRelation}
+use Rattle.binding_graph.specs.Value.{Naming, entry_of, bound_of, term_of, IsPlain, ArePlain}
+use Rattle.binding_graph.specs.Kinds.{kind}
+use Rattle.binding_graph.specs.Faults.{with_own, with_all}
+use Rattle.binding_graph.proofs.Scopes.{rev_push}
+
+-- one more recursive name
+pub own_more : (g : List Binding) (i item : ℕ) (d : Binding) (s : List Entry) (e : Entry) → i < length g → e.name ≡ (get_or g i d).name → e.kind ≡ OfRelation → e.binder ≡ binders.Bound (record { item = item; position = i }) → with_own (reverse (map entry_of s)) item i (map bound_of (drop i g)) ≡ with_own (reverse (map entry_of (s ++ e ∷ []))) item (i + 1) (map bound_of (drop (i + 1) g))
+own_more g i item d s e lt name k b = rw (drop-cons g i d lt, rev_push entry_of s e, name, k, b, add-one i) refl
+
+-- one more name whose body sees the outer names
+pub all_more : (outer : List Naming) (g : List Binding) (i item : ℕ) (d : Binding) (s : List Entry) (e : Entry) → i < length g → e.name ≡ (get_or g i d).name → e.kind ≡ kind outer (term_of (get_or g i d).body) → e.binder ≡ binders.Bound (record { item = item; position = i }) → with_all outer (reverse (map entry_of s)) item i (map bound_of (drop i g)) ≡ with_all outer (reverse (map entry_of (s ++ e ∷ []))) item (i + 1) (map bound_of (drop (i + 1) g))
+all_more outer g i item d s e lt name k b = rw (drop-cons g i d lt, rev_push entry_of s e, name, k, b, add-one i) refl
+
+-- the next body, and those behind it
+pub plain_more : (g : List Binding) (i : ℕ) (d : Binding) → i < length g → ArePlain (map bound_of (drop i g)) → IsPlain (term_of (get_or g i d).body) × ArePlain (map bound_of (drop (i + 1) g))
+plain_more g i d lt h = rw (add-one i) (rw (drop-cons g i d lt) at h)

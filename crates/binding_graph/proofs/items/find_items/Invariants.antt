@@ -1,0 +1,13 @@
+use Rattle.std.proofs.Common.{◌≡◌, reverse, map, drop, vec_len}
+use Rattle.binding_graph.specs.Value.{entry_of, clause_of, ArePlainClauses}
+use Rattle.binding_graph.specs.Verdict.{first}
+use Rattle.binding_graph.proofs.items.find_items.Given as goal
+
+abbrev pub invariant-loop-place : goal.invariant-loop-place
+invariant-loop-place l = record {
+  count : vec_len l.resolved ≡ l.place;
+  rest : ArePlainClauses (map clause_of l.items) →
+      ArePlainClauses (map clause_of (drop l.place l.items))
+      × (first (reverse (map entry_of l.fn.scope.entries.items)) 0 (map clause_of l.items)
+      ≡ first (reverse (map entry_of l.scope.entries.items)) l.place (map clause_of (drop l.place l.items)));
+}

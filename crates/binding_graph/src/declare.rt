@@ -1,0 +1,193 @@
+//! The names that an item adds, and its first fault.
+
+ghost use Rattle.std.specs.Prelude.{◌≡◌, IfOk, OnOk, reverse, map, length, false};
+ghost use Rattle.binding_graph.specs.Value.{entry_of, bound_of, clause_of, term_of, IsPlain, ArePlain, IsPlainClause};
+ghost use Rattle.binding_graph.specs.Kinds.{kind, takes_body};
+ghost use Rattle.binding_graph.specs.Faults.{with_own, with_all, extended};
+ghost use Rattle.binding_graph.specs.Verdict.{first_of, first_of_item, or_else, unless};
+
+use crate::expand::expand;
+use crate::fault::ModelFault;
+use crate::function::{Function, count_parts};
+use crate::judge::{group_fault, judge, or_else, parameter_fault, unless};
+use crate::kinds::takes_body;
+use crate::plan::{Plan, Sight};
+use crate::resolved::{Input, Kind};
+use crate::scope::{Binder, Entry, Scope};
+use crate::signature::signatures;
+use crate::uses::Uses;
+use cat_syntax::{Binding, Check, Expression, Item};
+use source_text::Name;
+use std::alloc::{AllocError, Global};
+
+/// Adds the names of a recursive group.
+#[tactic(auto, using(crate::proofs::Scopes::rev_push))]
+fn declare_own(
+    alloc: Global,
+    entries: &mut Vec<Entry>,
+    item: usize,
+    group: &[Binding],
+) -> Result<(), AllocError>
+    ensures { OnOk result (reverse (map entry_of entries.new.items) ≡ with_own (reverse (map entry_of entries.old.items)) item 0 (map bound_of group.now)) }
+{
+    for (position, binding) in group.iter().enumerate() {
+        entries.push(Entry {
+            name: binding.name.copied(alloc)?,
+            kind: Kind::OfRelation,
+            binder: Binder::Bound(Input { item, position }),
+        })?;
+    }
+    Ok(())
+}
+
+/// Adds the names of a group whose bodies see the names before it.
+#[tactic(auto, using(crate::proofs::Scopes::rev_push))]
+fn declare_all(
+    alloc: Global,
+    entries: &mut Vec<Entry>,
+    functions: &[Function],
+    item: usize,
+    group: &[Binding],
+) -> Result<(), AllocError>
+    ensures { ArePlain (map bound_of group.now) → OnOk result (reverse (map entry_of entries.new.items) ≡ with_all (reverse (map entry_of entries.old.items)) (reverse (map entry_of entries.old.items)) item 0 (map bound_of group.now)) }
+{
+    let before = entries.len();
+    for (position, binding) in group.iter().enumerate() {
+        let body = judge(&entries[..before], functions, before, false, &binding.body);
+        entries.push(Entry {
+            name: binding.name.copied(alloc)?,
+            kind: body.kind,
+            binder: Binder::Bound(Input { item, position }),
+        })?;
+    }
+    Ok(())
+}
+
+/// The first fault of a check or a flag.
+fn check_fault(entries: &[Entry], functions: &[Function], check: &Check) -> Option<ModelFault>
+    ensures { let names = reverse (map entry_of entries.now) in IsPlain (term_of check.now.body) → result ≡ or_else (unless (takes_body check.now.word (kind names (term_of check.now.body))) ModelFault.Kind) (first_of names (length entries.now) false (term_of check.now.body)) }
+{
+    let body = judge(entries, functions, entries.len(), false, &check.body);
+    let here = unless(takes_body(check.word, body.kind), ModelFault::Kind);
+    or_else(here, body.fault)
+}
+
+/// The first fault of an item, whose names are added.
+pub fn item_fault(
+    alloc: Global,
+    scope: &mut Scope,
+    place: usize,
+    item: &Item,
+) -> Result<Option<ModelFault>, AllocError>
+    ensures fault { IsPlainClause (clause_of item.now) → IfOk result (λ f. f ≡ first_of_item (reverse (map entry_of scope.old.entries.items)) place (clause_of item.now)) }
+    ensures names { IsPlainClause (clause_of item.now) → OnOk result (reverse (map entry_of scope.new.entries.items) ≡ extended (reverse (map entry_of scope.old.entries.items)) place (clause_of item.now)) }
+{
+    let from = scope.entries.len();
+    match item {
+        Item::Let {
+            recursive: true,
+            group,
+        } => {
+            declare_own(alloc, &mut scope.entries, place, group)?;
+            Ok(group_fault(&scope.entries, &scope.functions, from, true, group))
+        }
+        Item::Let {
+            recursive: false,
+            group,
+        } => {
+            let fault = group_fault(&scope.entries, &scope.functions, from, false, group);
+            declare_all(alloc, &mut scope.entries, &scope.functions, place, group)?;
+            Ok(fault)
+        }
+        Item::Check { check, .. } => Ok(check_fault(&scope.entries, &scope.functions, check)),
+        Item::Flag { check, .. } => Ok(check_fault(&scope.entries, &scope.functions, check)),
+        Item::Function {
+            name,
+            parameters,
+            body,
+        } => declare_function(alloc, scope, place, name, parameters, body),
+        Item::Show { .. } => Ok(None),
+        Item::Include(_) => Ok(None),
+    }
+}
+
+/// Adds a function, unless it has a fault: then the first one.
+fn declare_function(
+    alloc: Global,
+    scope: &mut Scope,
+    place: usize,
+    name: &Name,
+    parameters: &[Name],
+    body: &Expression,
+) -> Result<Option<ModelFault>, AllocError> {
+    let fault = parameter_fault(parameters);
+    if fault.is_some() {
+        return Ok(fault);
+    }
+    let mut uses = Uses::new(alloc, scope)?;
+    let plan = plan_of(alloc, scope, parameters, body, &mut uses)?;
+    if plan.fault.is_some() {
+        return Ok(plan.fault);
+    }
+    let function = function_of(alloc, scope, place, parameters.len(), plan, uses)?;
+    let binder = Binder::Applicable(scope.functions.len());
+    scope.functions.push(function)?;
+    scope.entries.push(Entry {
+        name: name.copied(alloc)?,
+        kind: Kind::OfAny,
+        binder,
+    })?;
+    Ok(None)
+}
+
+/// The body of a function.
+fn plan_of(
+    alloc: Global,
+    scope: &Scope,
+    parameters: &[Name],
+    body: &Expression,
+    uses: &mut Uses,
+) -> Result<Plan, AllocError> {
+    let sight = Sight {
+        entries: &scope.entries,
+        functions: &scope.functions,
+        parameters,
+        from: scope.entries.len(),
+    };
+    let mut plan = Plan::new(alloc);
+    plan.put_term(&sight, false, body, uses)?;
+    Ok(plan)
+}
+
+/// What is kept of a function.
+fn function_of(
+    alloc: Global,
+    scope: &Scope,
+    place: usize,
+    arity: usize,
+    plan: Plan,
+    uses: Uses,
+) -> Result<Function, AllocError> {
+    let signatures = signatures(alloc, scope, arity, &plan.nodes)?;
+    let expansion = expand(alloc, &scope.functions, &plan.nodes)?;
+    let is_oversized = expansion.is_oversized();
+    let template = if is_oversized {
+        Vec::new(alloc)
+    } else {
+        expansion.into_pieces()
+    };
+    let (constant, factors) = count_parts(&template);
+    let (slots, functions) = uses.into_lists();
+    Ok(Function {
+        item: place,
+        arity,
+        under: plan.under,
+        template,
+        is_oversized,
+        constant,
+        factors,
+        signatures,
+        slots,
+        functions,
+    })
+}
