@@ -1,6 +1,7 @@
 //! The bench as a library: a model and a test from bytes to a log, and what the program's words ask for.
 #![tactic(auto)]
 
+mod cut;
 mod fault;
 mod form;
 mod log;

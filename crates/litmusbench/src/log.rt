@@ -1,11 +1,18 @@
 //! Outcomes as they are printed.
 
-use litmus_ppc::Quantifier;
+ghost use Rattle.std.specs.Prelude.{◌≡◌, ◌++◌, List, ℕ, OnOk, IfOk, codes, length, decimal};
+ghost use Rattle.std.specs.List.{flat_map};
+ghost use Rattle.litmusbench.specs.Log.{kind_word, observation_word, met_word, line_end, state_line, flag_line, state_lines, witness_lines, counts, condition_line, observation_line, evaluation_lines, head_line, IsLog, IsRefusalLine};
+
+use litmus_ppc::{Name, Quantifier};
 use source_text::{put_bytes, put_decimal};
 use std::alloc::{AllocError, Global};
 use verdict::{CountedState, Evaluation, Observation, Outcome, OutcomeResult, Refusal};
 
-fn kind_word(kind: Quantifier) -> &'static [u8] {
+#[tactic(auto, unfolding(crate::specs::Log::kind_word))]
+fn kind_word(kind: Quantifier) -> &'static [u8]
+    ensures { result.now ≡ kind_word kind }
+{
     match kind {
         Quantifier::Exists => b"Allowed",
         Quantifier::NotExists => b"Forbidden",
@@ -13,7 +20,10 @@ fn kind_word(kind: Quantifier) -> &'static [u8] {
     }
 }
 
-fn observation_word(observation: Observation) -> &'static [u8] {
+#[tactic(auto, unfolding(crate::specs::Log::observation_word))]
+fn observation_word(observation: Observation) -> &'static [u8]
+    ensures { result.now ≡ observation_word observation }
+{
     match observation {
         Observation::Never => b"Never",
         Observation::Sometimes => b"Sometimes",
@@ -21,54 +31,114 @@ fn observation_word(observation: Observation) -> &'static [u8] {
     }
 }
 
-fn put_refusal(text: &mut Vec<u8>, refusal: Refusal) -> Result<(), AllocError> {
+#[tactic(auto, unfolding(crate::specs::Log::met_word))]
+fn met_word(ok: bool) -> &'static [u8]
+    ensures { result.now ≡ met_word ok }
+{
+    if ok { b"Ok" } else { b"No" }
+}
+
+fn put_refusal(text: &mut Vec<u8>, refusal: Refusal) -> Result<(), AllocError>
+    ensures { OnOk result ((line : List ℕ) × (text.new.items ≡ text.old.items ++ line) × IsRefusalLine refusal line) }
+{
     let (letter, number) = match refusal {
         Refusal::Model(fault) => (b'M', fault.number()),
         Refusal::Space(refusal) => (b'E', refusal.number()),
     };
+    put_bytes(text, b"Refused ")?;
     text.push(letter)?;
-    put_decimal(text, u64::from(number))
+    put_decimal(text, u64::from(number))?;
+    put_bytes(text, b"\n")
 }
 
-fn put_states(text: &mut Vec<u8>, states: &[CountedState]) -> Result<(), AllocError> {
-    put_bytes(text, b"States ")?;
-    put_decimal(text, states.len() as u64)?;
-    put_bytes(text, b"\n")?;
+fn put_state(text: &mut Vec<u8>, state: &CountedState) -> Result<(), AllocError>
+    ensures { OnOk result (text.new.items ≡ text.old.items ++ state_line state.now) }
+{
+    put_bytes(text, &state.text)?;
+    put_bytes(text, b"\n")
+}
+
+fn put_each_state(text: &mut Vec<u8>, states: &[CountedState]) -> Result<(), AllocError>
+    ensures { OnOk result (text.new.items ≡ text.old.items ++ flat_map state_line states.now) }
+{
     for state in states {
-        put_bytes(text, &state.text)?;
-        put_bytes(text, b"\n")?;
+        put_state(text, state)?;
     }
     Ok(())
 }
 
-fn put_witnesses(text: &mut Vec<u8>, found: &Evaluation) -> Result<(), AllocError> {
-    let met: &[u8] = if found.ok { b"Ok\n" } else { b"No\n" };
-    put_bytes(text, met)?;
-    put_bytes(text, b"Witnesses\nPositive: ")?;
+#[tactic(auto, unfolding(crate::specs::Log::state_lines))]
+fn put_states(text: &mut Vec<u8>, states: &[CountedState]) -> Result<(), AllocError>
+    ensures { OnOk result (text.new.items ≡ text.old.items ++ state_lines states.now) }
+{
+    put_bytes(text, b"States ")?;
+    put_decimal(text, states.len() as u64)?;
+    put_bytes(text, b"\n")?;
+    put_each_state(text, states)
+}
+
+#[tactic(auto, unfolding(crate::specs::Log::witness_lines))]
+fn put_witnesses(text: &mut Vec<u8>, found: &Evaluation) -> Result<(), AllocError>
+    ensures { OnOk result (text.new.items ≡ text.old.items ++ witness_lines found.now) }
+{
+    put_bytes(text, met_word(found.ok))?;
+    put_bytes(text, b"\nWitnesses\nPositive: ")?;
     put_decimal(text, found.positive)?;
     put_bytes(text, b" Negative: ")?;
     put_decimal(text, found.negative)?;
     put_bytes(text, b"\n")
 }
 
-fn put_flags(text: &mut Vec<u8>, found: &Evaluation) -> Result<(), AllocError> {
-    for flag in &found.flags {
-        put_bytes(text, b"Flag ")?;
-        put_bytes(text, flag.as_bytes())?;
-        put_bytes(text, b"\n")?;
+fn put_flag(text: &mut Vec<u8>, name: &Name) -> Result<(), AllocError>
+    ensures { OnOk result (text.new.items ≡ text.old.items ++ flag_line name.now) }
+{
+    put_bytes(text, b"Flag ")?;
+    put_bytes(text, name.as_bytes())?;
+    put_bytes(text, b"\n")
+}
+
+fn put_flags(text: &mut Vec<u8>, flags: &[Name]) -> Result<(), AllocError>
+    ensures { OnOk result (text.new.items ≡ text.old.items ++ flat_map flag_line flags.now) }
+{
+    for flag in flags {
+        put_flag(text, flag)?;
     }
     Ok(())
 }
 
-fn put_observation(text: &mut Vec<u8>, name: &[u8], found: &Evaluation) -> Result<(), AllocError> {
-    put_bytes(text, b"Observation ")?;
-    put_bytes(text, name)?;
-    put_bytes(text, b" ")?;
-    put_bytes(text, observation_word(found.observation))?;
+#[tactic(auto, unfolding(crate::specs::Log::counts))]
+fn put_counts(text: &mut Vec<u8>, found: &Evaluation) -> Result<(), AllocError>
+    ensures { OnOk result (text.new.items ≡ text.old.items ++ counts found.now) }
+{
     put_bytes(text, b" ")?;
     put_decimal(text, found.positive)?;
     put_bytes(text, b" ")?;
     put_decimal(text, found.negative)?;
+    put_bytes(text, b"\n")
+}
+
+fn put_label(text: &mut Vec<u8>, label: &[u8], word: &[u8]) -> Result<(), AllocError>
+    ensures { OnOk result (text.new.items ≡ text.old.items ++ (label.now ++ word.now)) }
+{
+    put_bytes(text, label)?;
+    put_bytes(text, word)
+}
+
+fn put_observation(text: &mut Vec<u8>, name: &[u8], found: &Evaluation) -> Result<(), AllocError>
+    ensures { OnOk result (text.new.items ≡ text.old.items ++ observation_line name.now found.now) }
+{
+    put_label(text, b"Observation ", name)?;
+    put_label(text, b" ", observation_word(found.observation))?;
+    put_counts(text, found)?;
+    Ok(())
+}
+
+#[tactic(auto, unfolding(crate::specs::Log::condition_line))]
+fn put_condition(text: &mut Vec<u8>, condition: &[u8]) -> Result<(), AllocError>
+    ensures { OnOk result (text.new.items ≡ text.old.items ++ condition_line condition.now) }
+{
+    put_bytes(text, b"Condition ")?;
+    put_bytes(text, condition)?;
     put_bytes(text, b"\n")
 }
 
@@ -77,30 +147,35 @@ fn put_evaluation(
     name: &[u8],
     condition: &[u8],
     found: &Evaluation,
-) -> Result<(), AllocError> {
+) -> Result<(), AllocError>
+    ensures { OnOk result (text.new.items ≡ text.old.items ++ evaluation_lines name.now condition.now found.now) }
+{
     put_states(text, &found.states)?;
     put_witnesses(text, found)?;
-    put_flags(text, found)?;
-    put_bytes(text, b"Condition ")?;
-    put_bytes(text, condition)?;
-    put_bytes(text, b"\n")?;
+    put_flags(text, &found.flags)?;
+    put_condition(text, condition)?;
     put_observation(text, name, found)
 }
 
+#[tactic(auto, unfolding(crate::specs::Log::head_line))]
+fn put_head(text: &mut Vec<u8>, name: &[u8], kind: Quantifier) -> Result<(), AllocError>
+    ensures { OnOk result (text.new.items ≡ text.old.items ++ head_line name.now kind) }
+{
+    put_bytes(text, b"Test ")?;
+    put_bytes(text, name)?;
+    put_bytes(text, b" ")?;
+    put_bytes(text, kind_word(kind))?;
+    put_bytes(text, b"\n")
+}
+
 /// The log of a test of this name: each line ends with a line feed.
-pub fn outcome_log(alloc: Global, name: &[u8], outcome: &Outcome) -> Result<Vec<u8>, AllocError> {
+pub fn outcome_log(alloc: Global, name: &[u8], outcome: &Outcome) -> Result<Vec<u8>, AllocError>
+    ensures { IfOk result (λ log. IsLog name.now outcome.now log.items) }
+{
     let mut text = Vec::new(alloc);
-    put_bytes(&mut text, b"Test ")?;
-    put_bytes(&mut text, name)?;
-    put_bytes(&mut text, b" ")?;
-    put_bytes(&mut text, kind_word(outcome.kind))?;
-    put_bytes(&mut text, b"\n")?;
+    put_head(&mut text, name, outcome.kind)?;
     match &outcome.result {
-        OutcomeResult::Refused(refusal) => {
-            put_bytes(&mut text, b"Refused ")?;
-            put_refusal(&mut text, *refusal)?;
-            put_bytes(&mut text, b"\n")?;
-        }
+        OutcomeResult::Refused(refusal) => put_refusal(&mut text, *refusal)?,
         OutcomeResult::Evaluated(found) => {
             put_evaluation(&mut text, name, &outcome.condition, found)?;
         }

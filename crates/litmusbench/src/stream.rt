@@ -2,13 +2,14 @@
 
 ghost use Rattle.std.specs.Prelude.{◌≡◌, ◌≢◌, ◌+◌, ◌-◌, ◌<◌, ◌^◌, IfOk, IfSome};
 
+use crate::cut::cut_at_dot;
 use crate::fault::{EvalFault, SessionFault};
 use crate::sink::{ByteSink, write_whole};
 use crate::source::{ByteSource, ReadFault, read_all};
 use crate::texts::eval;
 use cat_syntax::CatFault;
 use litmus_ppc::LitmusFault;
-use source_text::{line_length, put_bytes, put_decimal};
+use source_text::{put_bytes, put_decimal};
 use std::alloc::{AllocError, Global};
 
 // What is printed, and whether a text was refused.
@@ -82,22 +83,6 @@ pub fn read_text<S: ByteSource>(alloc: Global, source: &mut S) -> Result<Vec<u8>
         Err(ReadFault::Read) => Err(SessionFault::Read),
         Err(ReadFault::Endless) => Err(SessionFault::Read),
     }
-}
-
-// The bytes before the first line that is exactly `.`, and those after it: all and none where there
-// is no such line.
-fn cut_at_dot(bytes: &[u8]) -> (&[u8], &[u8]) {
-    let mut at = 0;
-    while at < bytes.len() {
-        let line = line_length(&bytes[at..]);
-        let end = at + line;
-        if line == 1 && bytes[at] == b'.' {
-            let after = (end + 1).min(bytes.len());
-            return (&bytes[..at], &bytes[after..]);
-        }
-        at = end + 1;
-    }
-    (bytes, &[])
 }
 
 /// Reads all input, which holds a model, a line that is exactly `.` and a test, and writes what

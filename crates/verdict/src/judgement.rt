@@ -1,5 +1,8 @@
 //! From candidates, checks and flags to an outcome.
 
+ghost use Rattle.std.specs.Prelude.{◌≡◌, IfOk};
+ghost use Rattle.verdict.specs.Judgement.{observation_of, is_met, IsJudged, IsOutcomeOf};
+
 use crate::answer::{CountedState, Evaluation, Observation, Outcome, OutcomeResult};
 use crate::final_states::{StateCounts, final_states};
 use crate::formula::{Formula, formula_over, satisfies};
@@ -82,7 +85,9 @@ fn total(states: &[CountedState], holds: bool) -> u64 {
     all
 }
 
-fn observation(positive: u64, negative: u64) -> Observation {
+fn observation(positive: u64, negative: u64) -> Observation
+    ensures { result ≡ observation_of positive negative }
+{
     if positive == 0 {
         Observation::Never
     } else if negative == 0 {
@@ -92,7 +97,9 @@ fn observation(positive: u64, negative: u64) -> Observation {
     }
 }
 
-fn is_met(quantifier: Quantifier, positive: u64, negative: u64) -> bool {
+fn is_met(quantifier: Quantifier, positive: u64, negative: u64) -> bool
+    ensures { result ≡ is_met quantifier positive negative }
+{
     match quantifier {
         Quantifier::Exists => positive > 0,
         Quantifier::NotExists => positive == 0,
@@ -107,7 +114,9 @@ fn evaluation(
     observed: &[Place],
     checks: &[Vec<bool>],
     flags: &[Raised],
-) -> Result<Evaluation, AllocError> {
+) -> Result<Evaluation, AllocError>
+    ensures { IfOk result (λ e. IsJudged condition.now.quantifier e) }
+{
     let kept = kept_candidates(alloc, space.len(), checks)?;
     let places = shown_places(alloc, &space.locations, &condition.proposition, observed)?;
     let formula = formula_over(alloc, &places, &space.locations, &condition.proposition)?;
@@ -134,7 +143,9 @@ pub fn outcome(
     observed: &[Place],
     checks: &[Vec<bool>],
     flags: &[Raised],
-) -> Result<Outcome, AllocError> {
+) -> Result<Outcome, AllocError>
+    ensures { IfOk result (λ o. IsOutcomeOf condition.now.quantifier o) }
+{
     let found = evaluation(alloc, space, condition, observed, checks, flags)?;
     Ok(Outcome {
         kind: condition.quantifier,

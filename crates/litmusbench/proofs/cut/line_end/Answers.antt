@@ -1,0 +1,11 @@
+use Rattle.std.proofs.Common.{◌≡◌, ℕ, ◌+◌, ◌-◌, ◌<◌, ◌≤◌, List, length, get_or, take, drop, arith, Bool, true, false, sym, ◌∙◌, ap}
+use Rattle.litmusbench.proofs.Lines.{inside_line, end_of_line}
+use Rattle.litmusbench.proofs.cut.line_end.Goals as goal
+
+pub returns-clause-inside : goal.returns-clause-inside
+returns-clause-inside c =
+    inside_line c.args.bytes.now c.args.start c.line_length-line.result (omega arith) c.line_length-line.ensures.value
+
+pub returns-clause-ends : goal.returns-clause-ends
+returns-clause-ends c =
+    end_of_line c.args.bytes.now c.args.start c.line_length-line.result (omega arith) c.line_length-line.ensures.value

@@ -1,0 +1,83 @@
+-- The bytes of a log.
+use Rattle.std.specs.Prelude.{◌≡◌, ℕ, List, [], ◌∷◌, ◌++◌, Bool, true, false, decimal, length, codes}
+use Rattle.std.specs.List.{flat_map}
+use Rattle.litmus_ppc.specs.declared.test.Quantifier.{Quantifier}
+use Rattle.litmus_ppc.specs.declared.test.Quantifier.TheVariants.{Exists, NotExists, Forall}
+use Rattle.verdict.specs.declared.answer.CountedState.{CountedState}
+use Rattle.verdict.specs.declared.answer.Evaluation.{Evaluation}
+use Rattle.verdict.specs.declared.answer.Observation.{Observation}
+use Rattle.verdict.specs.declared.answer.Observation.TheVariants.{Never, Sometimes, Always}
+use Rattle.verdict.specs.declared.answer.Outcome.{Outcome}
+use Rattle.verdict.specs.declared.answer.OutcomeResult.{OutcomeResult}
+use Rattle.verdict.specs.declared.answer.OutcomeResult.TheVariants.{Refused, Evaluated}
+use Rattle.verdict.specs.declared.answer.Refusal.{Refusal}
+use Rattle.verdict.specs.declared.answer.Refusal.TheVariants.{Model, Space}
+
+-- a line feed
+abbrev pub line_end : List ℕ
+line_end = 10 ∷ []
+
+-- the kind of a test, by its condition
+unfoldable pub kind_word : Quantifier → List ℕ
+kind_word Exists = codes "Allowed"
+kind_word NotExists = codes "Forbidden"
+kind_word Forall = codes "Required"
+
+unfoldable pub observation_word : Observation → List ℕ
+observation_word Never = codes "Never"
+observation_word Sometimes = codes "Sometimes"
+observation_word Always = codes "Always"
+
+-- whether the condition is met
+unfoldable pub met_word : Bool → List ℕ
+met_word true = codes "Ok"
+met_word false = codes "No"
+
+-- a state, on a line
+abbrev pub state_line : CountedState → List ℕ
+state_line s = s.text.items ++ line_end
+
+-- a raised flag, on a line
+abbrev pub flag_line : List ℕ → List ℕ
+flag_line name = codes "Flag " ++ name ++ line_end
+
+-- the states and how many they are
+unfoldable pub state_lines : List CountedState → List ℕ
+state_lines states = codes "States " ++ decimal (length states) ++ line_end ++ flat_map state_line states
+
+-- what the condition found
+unfoldable pub witness_lines : Evaluation → List ℕ
+witness_lines e =
+    met_word e.ok ++ codes "\nWitnesses\nPositive: " ++ decimal e.positive ++ codes " Negative: " ++ decimal e.negative ++ line_end
+
+-- how many kept candidates satisfy the proposition, and how many do not
+unfoldable pub counts : Evaluation → List ℕ
+counts e = codes " " ++ decimal e.positive ++ codes " " ++ decimal e.negative ++ line_end
+
+unfoldable pub observation_line : List ℕ → Evaluation → List ℕ
+observation_line name e = codes "Observation " ++ name ++ (codes " " ++ observation_word e.observation) ++ counts e
+
+unfoldable pub condition_line : List ℕ → List ℕ
+condition_line condition = codes "Condition " ++ condition ++ line_end
+
+-- an evaluation, of a test of this name and this printed condition
+abbrev pub evaluation_lines : List ℕ → List ℕ → Evaluation → List ℕ
+evaluation_lines name condition e =
+    state_lines e.states.items ++ witness_lines e ++ flat_map flag_line e.flags.items ++ condition_line condition ++ observation_line name e
+
+unfoldable pub head_line : List ℕ → Quantifier → List ℕ
+head_line name kind = codes "Test " ++ name ++ codes " " ++ kind_word kind ++ line_end
+
+-- a refusal of a model or of a test, with its number
+abbrev pub IsRefusalLine : Refusal → List ℕ → Type 0
+IsRefusalLine (Model _) line = (n : ℕ) × (line ≡ codes "Refused M" ++ decimal n ++ line_end)
+IsRefusalLine (Space _) line = (n : ℕ) × (line ≡ codes "Refused E" ++ decimal n ++ line_end)
+
+-- what stands behind the head
+abbrev pub IsResult : List ℕ → List ℕ → OutcomeResult → List ℕ → Type 0
+IsResult name condition (Refused r) text = IsRefusalLine r text
+IsResult name condition (Evaluated e) text = text ≡ evaluation_lines name condition e
+
+-- the log of a test of this name
+abbrev pub IsLog : List ℕ → Outcome → List ℕ → Type 0
+IsLog name o log = (text : List ℕ) × (log ≡ head_line name o.kind ++ text) × IsResult name o.condition.items o.result text

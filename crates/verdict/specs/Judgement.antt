@@ -1,0 +1,33 @@
+-- What the numbers of kept candidates say of a condition.
+use Rattle.std.specs.Prelude.{◌≡◌, ℕ, Bool, ◌==◌, nat_lt, if◌then◌else◌}
+use Rattle.litmus_ppc.specs.declared.test.Quantifier.{Quantifier}
+use Rattle.litmus_ppc.specs.declared.test.Quantifier.TheVariants.{Exists, NotExists, Forall}
+use Rattle.verdict.specs.declared.answer.Evaluation.{Evaluation}
+use Rattle.verdict.specs.declared.answer.Observation.{Observation}
+use Rattle.verdict.specs.declared.answer.Observation.TheVariants.{Never, Sometimes, Always}
+use Rattle.verdict.specs.declared.answer.Outcome.{Outcome}
+use Rattle.verdict.specs.declared.answer.OutcomeResult.{OutcomeResult}
+use Rattle.verdict.specs.declared.answer.OutcomeResult.TheVariants.{Refused, Evaluated}
+
+-- of so many kept candidates that satisfy the proposition, and so many that do not
+abbrev pub observation_of : ℕ → ℕ → Observation
+observation_of positive negative = if positive == 0 then Never else (if negative == 0 then Always else Sometimes)
+
+-- whether a condition is met
+abbrev pub is_met : Quantifier → ℕ → ℕ → Bool
+is_met Exists positive negative = nat_lt 0 positive
+is_met NotExists positive negative = positive == 0
+is_met Forall positive negative = negative == 0
+
+-- the words follow from the numbers
+abbrev pub IsJudged : Quantifier → Evaluation → Type 0
+IsJudged kind e = (e.observation ≡ observation_of e.positive e.negative) × (e.ok ≡ is_met kind e.positive e.negative)
+
+-- an evaluation, and no refusal
+abbrev pub IsEvaluated : Quantifier → OutcomeResult → Type 0
+IsEvaluated kind (Refused _) = ⊥
+IsEvaluated kind (Evaluated e) = IsJudged kind e
+
+-- an evaluation of a test of this kind
+abbrev pub IsOutcomeOf : Quantifier → Outcome → Type 0
+IsOutcomeOf kind o = (o.kind ≡ kind) × IsEvaluated kind o.result
