@@ -1,5 +1,5 @@
 -- How many candidates there are.
-use Rattle.std.specs.Prelude.{ℕ, ◌+◌, ◌*◌, length, sum_by, if◌then◌else◌, true, false}
+use Rattle.std.specs.Prelude.{ℕ, ◌*◌, length, sum_by}
 use Rattle.candidates.specs.declared.candidate.Combination.{Combination}
 use Rattle.candidates.specs.declared.candidate.Space.{Space}
 use Rattle.binding_graph.specs.declared.resolved.Role.{Role}

@@ -10,7 +10,8 @@ use std::test::Fail;
 
 /// Events: 0 the initial store, 1 the store, 2 the load. The load reads 0 in the first candidate
 /// and 1 in the second.
-const COWR: &[u8] = b"PPC CoWR\n{\n0:r2=x;\n}\n P0 ;\n li r1,1 ;\n stw r1,0(r2) ;\n lwz r3,0(r2) ;\nexists (0:r3=0)\n";
+const COWR: &[u8] =
+    b"PPC CoWR\n{\n0:r2=x;\n}\n P0 ;\n li r1,1 ;\n stw r1,0(r2) ;\n lwz r3,0(r2) ;\nexists (0:r3=0)\n";
 
 /// A digit below ten.
 fn digit(number: usize) -> u8 {
@@ -149,7 +150,10 @@ fn means_pairs(rt: HostRuntime) -> Result<(), Fail> {
         ("let a = _ \\ W", "2 ;2 ;"),
         ("let a = ~{}", "0 1 2 ;0 1 2 ;"),
         ("let rec a = co | po | (a;a)", "01 02 12 ;01 02 12 ;"),
-        ("let rec a = co | (b;po) and b = a | (a;rf)", "01 02 ;01 02 ;01 02 ;01 02 ;"),
+        (
+            "let rec a = co | (b;po) and b = a | (a;rf)",
+            "01 02 ;01 02 ;01 02 ;01 02 ;",
+        ),
         ("let a = co | po let b = R let c = a;[b]", "12 ;12 ;"),
     ] {
         let got = meaning(rt.alloc(), model.as_bytes())?;

@@ -1,5 +1,4 @@
 use Rattle.std.proofs.Common.{rules}
-use Rattle.cat_eval.specs.Candidates.{answer_count, candidate_count}
 use Rattle.cat_eval.proofs.check.eval_check.Goals as goal
 
 pub returns-in_ok-visit_all-in-Check : goal.returns-in_ok-visit_all-in-Check

@@ -1,6 +1,5 @@
-use Rattle.std.proofs.Common.{ℕ, ◌≡◌, arith, take, sum_by, length, ap, subst}
+use Rattle.std.proofs.Common.{◌≡◌, arith, take}
 use Rattle.std.proofs.lemmas.List.{take_all}
-use Rattle.cat_eval.specs.Candidates.{combined_count, candidate_count}
 use Rattle.cat_eval.proofs.walk.visit_all.Goals as goal
 
 pub returns : goal.returns
