@@ -1,6 +1,7 @@
 //! Reads what a condition says, token by token.
 
-ghost use Rattle.std.specs.Prelude.{◌≤◌};
+ghost use Rattle.std.specs.Prelude.{◌≡◌, ◌≤◌};
+ghost use Rattle.litmus_ppc.specs.Printing.{level};
 
 use crate::place::{PlaceHole, PlaceStep, is_there, place_step, value_read};
 use crate::step::StepError;
@@ -45,7 +46,8 @@ pub enum Fed {
 impl Connective {
     /// How tightly the operator binds, from 1 to 3; each groups to the right.
     pub fn level(self) -> usize
-        ensures { result ≤ 3 }
+        ensures value { result ≡ level self }
+        ensures bound { result ≤ 3 }
     {
         match self {
             Connective::And => 3,

@@ -1,5 +1,10 @@
 //! Prints tests.
 
+ghost use Rattle.std.specs.Prelude.{◌≡◌, ◌++◌, ◌+◌, OnOk, IfOk, codes};
+ghost use Rattle.std.specs.Fmt.{decimal, signed_decimal};
+ghost use Rattle.litmus_ppc.specs.Value.{formula_of};
+ghost use Rattle.litmus_ppc.specs.Printing.{level, line, register_text, value_text, place_text, entry_text, operation_text, branch_text, fence_text, instruction_text, step_text, connective_text, bracketed, is_loose, formula_text, condition_text};
+
 use crate::instruction::{BranchCondition, Fence, Instruction, Operation, Register};
 use crate::test::{
     Condition, Connective, InitEntry, Place, Proposition, Quantifier, Step, Test, Thread, Value,
@@ -8,7 +13,9 @@ use source_text::{put_bytes, put_decimal};
 use std::alloc::{AllocError, Global};
 
 /// Appends a place: `[x]` or `1:r1`.
-pub fn put_place(text: &mut Vec<u8>, place: &Place) -> Result<(), AllocError> {
+pub fn put_place(text: &mut Vec<u8>, place: &Place) -> Result<(), AllocError>
+    ensures { OnOk result (text.new.items ≡ text.old.items ++ place_text place.now) }
+{
     match place {
         Place::Location(name) => {
             put_bytes(text, b"[")?;
@@ -20,21 +27,27 @@ pub fn put_place(text: &mut Vec<u8>, place: &Place) -> Result<(), AllocError> {
 }
 
 /// Appends a value: a number with its sign, or a location's name.
-pub fn put_value(text: &mut Vec<u8>, value: &Value) -> Result<(), AllocError> {
+pub fn put_value(text: &mut Vec<u8>, value: &Value) -> Result<(), AllocError>
+    ensures { OnOk result (text.new.items ≡ text.old.items ++ value_text value.now) }
+{
     match value {
         Value::Number(n) => put_number(text, *n),
         Value::Address(name) => put_bytes(text, name.as_bytes()),
     }
 }
 
-fn put_number(text: &mut Vec<u8>, n: i32) -> Result<(), AllocError> {
+fn put_number(text: &mut Vec<u8>, n: i32) -> Result<(), AllocError>
+    ensures { OnOk result (text.new.items ≡ text.old.items ++ signed_decimal n) }
+{
     if n < 0 {
         put_bytes(text, b"-")?;
     }
     put_decimal(text, u64::from(n.unsigned_abs()))
 }
 
-fn put_register(text: &mut Vec<u8>, register: Register) -> Result<(), AllocError> {
+fn put_register(text: &mut Vec<u8>, register: Register) -> Result<(), AllocError>
+    ensures { OnOk result (text.new.items ≡ text.old.items ++ register_text register) }
+{
     put_bytes(text, b"r")?;
     put_decimal(text, u64::from(register.number()))
 }
@@ -43,14 +56,18 @@ fn put_thread_register(
     text: &mut Vec<u8>,
     thread: usize,
     register: Register,
-) -> Result<(), AllocError> {
+) -> Result<(), AllocError>
+    ensures { OnOk result (text.new.items ≡ text.old.items ++ (decimal thread ++ (codes ":" ++ register_text register))) }
+{
     put_decimal(text, thread as u64)?;
     put_bytes(text, b":")?;
     put_register(text, register)
 }
 
 // Appends an entry, where a location stands bare.
-fn put_entry(text: &mut Vec<u8>, entry: &InitEntry) -> Result<(), AllocError> {
+fn put_entry(text: &mut Vec<u8>, entry: &InitEntry) -> Result<(), AllocError>
+    ensures { OnOk result (text.new.items ≡ text.old.items ++ line (entry_text entry.now)) }
+{
     match &entry.place {
         Place::Location(name) => put_bytes(text, name.as_bytes())?,
         Place::Register(thread, register) => put_thread_register(text, *thread, *register)?,
@@ -61,7 +78,9 @@ fn put_entry(text: &mut Vec<u8>, entry: &InitEntry) -> Result<(), AllocError> {
 }
 
 impl Operation {
-    fn text(self) -> &'static [u8] {
+    fn text(self) -> &'static [u8]
+        ensures { result.now ≡ operation_text self }
+    {
         match self {
             Operation::Add => b"add",
             Operation::SubtractFrom => b"subf",
@@ -73,7 +92,9 @@ impl Operation {
 }
 
 impl BranchCondition {
-    fn text(self) -> &'static [u8] {
+    fn text(self) -> &'static [u8]
+        ensures { result.now ≡ branch_text self }
+    {
         match self {
             BranchCondition::Equal => b"beq",
             BranchCondition::NotEqual => b"bne",
@@ -86,7 +107,9 @@ impl BranchCondition {
 }
 
 impl Fence {
-    fn text(self) -> &'static [u8] {
+    fn text(self) -> &'static [u8]
+        ensures { result.now ≡ fence_text self }
+    {
         match self {
             Fence::Sync => b"sync",
             Fence::LightweightSync => b"lwsync",
@@ -97,7 +120,9 @@ impl Fence {
 }
 
 // Appends a word, a space and a register.
-fn put_one(text: &mut Vec<u8>, word: &[u8], first: Register) -> Result<(), AllocError> {
+fn put_one(text: &mut Vec<u8>, word: &[u8], first: Register) -> Result<(), AllocError>
+    ensures { OnOk result (text.new.items ≡ text.old.items ++ (word.now ++ (codes " " ++ register_text first))) }
+{
     put_bytes(text, word)?;
     put_bytes(text, b" ")?;
     put_register(text, first)
@@ -109,7 +134,9 @@ fn put_two(
     word: &[u8],
     first: Register,
     second: Register,
-) -> Result<(), AllocError> {
+) -> Result<(), AllocError>
+    ensures { OnOk result (text.new.items ≡ text.old.items ++ (word.now ++ (codes " " ++ (register_text first ++ (codes "," ++ register_text second))))) }
+{
     put_one(text, word, first)?;
     put_bytes(text, b",")?;
     put_register(text, second)
@@ -122,14 +149,18 @@ fn put_three(
     first: Register,
     second: Register,
     third: Register,
-) -> Result<(), AllocError> {
+) -> Result<(), AllocError>
+    ensures { OnOk result (text.new.items ≡ text.old.items ++ (word.now ++ (codes " " ++ (register_text first ++ (codes "," ++ (register_text second ++ (codes "," ++ register_text third))))))) }
+{
     put_two(text, word, first, second)?;
     put_bytes(text, b",")?;
     put_register(text, third)
 }
 
 // Appends a comma and a number.
-fn put_immediate(text: &mut Vec<u8>, value: i32) -> Result<(), AllocError> {
+fn put_immediate(text: &mut Vec<u8>, value: i32) -> Result<(), AllocError>
+    ensures { OnOk result (text.new.items ≡ text.old.items ++ (codes "," ++ signed_decimal value)) }
+{
     put_bytes(text, b",")?;
     put_number(text, value)
 }
@@ -140,7 +171,9 @@ fn put_access(
     word: &[u8],
     first: Register,
     base: Register,
-) -> Result<(), AllocError> {
+) -> Result<(), AllocError>
+    ensures { OnOk result (text.new.items ≡ text.old.items ++ (word.now ++ (codes " " ++ (register_text first ++ (codes "," ++ (codes "0(" ++ (register_text base ++ codes ")"))))))) }
+{
     put_one(text, word, first)?;
     put_bytes(text, b",0(")?;
     put_register(text, base)?;
@@ -148,13 +181,17 @@ fn put_access(
 }
 
 // Appends a branch to a label.
-fn put_branch(text: &mut Vec<u8>, word: &[u8], label: &[u8]) -> Result<(), AllocError> {
+fn put_branch(text: &mut Vec<u8>, word: &[u8], label: &[u8]) -> Result<(), AllocError>
+    ensures { OnOk result (text.new.items ≡ text.old.items ++ (word.now ++ (codes " " ++ label.now))) }
+{
     put_bytes(text, word)?;
     put_bytes(text, b" ")?;
     put_bytes(text, label)
 }
 
-fn put_instruction(text: &mut Vec<u8>, instruction: &Instruction) -> Result<(), AllocError> {
+fn put_instruction(text: &mut Vec<u8>, instruction: &Instruction) -> Result<(), AllocError>
+    ensures { OnOk result (text.new.items ≡ text.old.items ++ instruction_text instruction.now) }
+{
     match instruction {
         Instruction::LoadImmediate { target, value } => {
             put_one(text, b"li", *target)?;
@@ -200,7 +237,9 @@ fn put_instruction(text: &mut Vec<u8>, instruction: &Instruction) -> Result<(), 
     }
 }
 
-fn put_step(text: &mut Vec<u8>, step: &Step) -> Result<(), AllocError> {
+fn put_step(text: &mut Vec<u8>, step: &Step) -> Result<(), AllocError>
+    ensures { OnOk result (text.new.items ≡ text.old.items ++ step_text step.now) }
+{
     match step {
         Step::Label(label) => {
             put_bytes(text, label.as_bytes())?;
@@ -259,7 +298,9 @@ fn put_observed(text: &mut Vec<u8>, observed: &[Place]) -> Result<(), AllocError
 }
 
 impl Connective {
-    fn text(self) -> &'static [u8] {
+    fn text(self) -> &'static [u8]
+        ensures { result.now ≡ connective_text self }
+    {
         match self {
             Connective::And => b" /\\ ",
             Connective::Or => b" \\/ ",
@@ -269,7 +310,9 @@ impl Connective {
 }
 
 // Whether a proposition is joined by an operator that is looser than this.
-fn is_loose(least: usize, proposition: &Proposition) -> bool {
+fn is_loose(least: usize, proposition: &Proposition) -> bool
+    ensures { result ≡ is_loose least (formula_of proposition.now) }
+{
     match proposition {
         Proposition::Joined(connective, _, _) => connective.level() < least,
         Proposition::Constant(_) => false,
@@ -284,7 +327,9 @@ fn put_operand(
     text: &mut Vec<u8>,
     operand: &Proposition,
     in_parentheses: bool,
-) -> Result<(), AllocError> {
+) -> Result<(), AllocError>
+    ensures { OnOk result (text.new.items ≡ text.old.items ++ bracketed in_parentheses (formula_text (formula_of operand.now))) }
+{
     if in_parentheses {
         put_bytes(text, b"(")?;
         put_proposition(text, operand)?;
@@ -295,7 +340,9 @@ fn put_operand(
 }
 
 #[cycle(proposition)]
-fn put_proposition(text: &mut Vec<u8>, proposition: &Proposition) -> Result<(), AllocError> {
+fn put_proposition(text: &mut Vec<u8>, proposition: &Proposition) -> Result<(), AllocError>
+    ensures { OnOk result (text.new.items ≡ text.old.items ++ formula_text (formula_of proposition.now)) }
+{
     match proposition {
         Proposition::Constant(value) => put_bytes(text, if *value { b"true" } else { b"false" }),
         Proposition::Holds(place, value) => {
@@ -316,7 +363,9 @@ fn put_proposition(text: &mut Vec<u8>, proposition: &Proposition) -> Result<(), 
     }
 }
 
-fn put_condition(text: &mut Vec<u8>, condition: &Condition) -> Result<(), AllocError> {
+fn put_condition(text: &mut Vec<u8>, condition: &Condition) -> Result<(), AllocError>
+    ensures { OnOk result (text.new.items ≡ text.old.items ++ condition_text condition.now.quantifier (formula_of condition.now.proposition)) }
+{
     let quantifier: &[u8] = match condition.quantifier {
         Quantifier::Exists => b"exists (",
         Quantifier::NotExists => b"~exists (",
@@ -328,7 +377,9 @@ fn put_condition(text: &mut Vec<u8>, condition: &Condition) -> Result<(), AllocE
 }
 
 /// The text of a condition: its quantifier, and its proposition in parentheses.
-pub fn print_condition(alloc: Global, condition: &Condition) -> Result<Vec<u8>, AllocError> {
+pub fn print_condition(alloc: Global, condition: &Condition) -> Result<Vec<u8>, AllocError>
+    ensures { IfOk result (λ v. v.items ≡ condition_text condition.now.quantifier (formula_of condition.now.proposition)) }
+{
     let mut text = Vec::new(alloc);
     put_condition(&mut text, condition)?;
     Ok(text)

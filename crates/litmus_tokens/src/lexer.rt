@@ -1,6 +1,10 @@
 //! The tokens of a text, by the part that they stand in.
 
-ghost use Rattle.std.specs.Prelude.{◌<◌, ◌≤◌, length};
+ghost use Rattle.std.specs.Prelude.{◌≡◌, ◌<◌, ◌≤◌, length, take, drop, slice_index, IfOk};
+ghost use Rattle.std.specs.List.{position_or_len};
+ghost use Rattle.litmus_tokens.specs.Words.{is_letter, is_digit};
+ghost use Rattle.litmus_tokens.specs.Lexer.{is_not_ascii, is_space, ends_raw, is_word_byte, ends_word, ends_digits, begins_comment, gap_from, raw_from, comment_front, raw_front, quoted_front, line_front, word_front, number_front, minus_front, significant, mark_of, sign_front, plain_front, head_front, front};
+ghost use Rattle.source_text.specs.Layout.{is_line_end, quoted_from, comment_of};
 
 use crate::rule::LitmusRule;
 use crate::stage::Stage;
@@ -16,28 +20,64 @@ pub enum Front {
     Lexeme(Token, usize),
 }
 
-fn is_letter(byte: u8) -> bool {
+fn is_letter(byte: u8) -> bool
+    ensures { result ≡ is_letter byte }
+{
     (b'A' <= byte && byte <= b'Z') || (b'a' <= byte && byte <= b'z')
 }
 
-fn is_digit(byte: u8) -> bool {
+fn is_digit(byte: u8) -> bool
+    ensures { result ≡ is_digit byte }
+{
     b'0' <= byte && byte <= b'9'
 }
 
-// The byte at an index, or 0 past the end.
-fn byte_at(text: &[u8], index: usize) -> u8 {
-    text.get(index).copied().unwrap_or(0)
+fn is_word_byte(byte: u8) -> bool
+    ensures { result ≡ is_word_byte byte }
+{
+    is_letter(byte) || is_digit(byte) || byte == b'_'
 }
 
-fn begins_comment(text: &[u8]) -> bool {
+fn is_not_ascii(byte: u8) -> bool
+    ensures { result ≡ is_not_ascii byte }
+{
+    byte >= 128
+}
+
+// Whether a byte is a blank or a line end.
+fn is_space(byte: u8) -> bool
+    ensures { result ≡ is_space byte }
+{
+    is_blank(byte) || byte == b'\n'
+}
+
+// Whether a byte, with the one behind it, ends a word of the two that a text begins with.
+fn ends_raw(byte: u8, next: u8) -> bool
+    ensures { result ≡ ends_raw byte next }
+{
+    is_space(byte) || is_not_ascii(byte) || (byte == b'(' && next == b'*')
+}
+
+// The byte at an index, or 0 past the end.
+fn byte_at(text: &[u8], index: usize) -> u8
+    ensures value { result ≡ slice_index text.now index }
+    ensures within { 0 < result → index < length text.now }
+{
+    if index < text.len() { text[index] } else { 0 }
+}
+
+fn begins_comment(text: &[u8]) -> bool
+    ensures { result ≡ begins_comment text.now }
+{
     byte_at(text, 0) == b'(' && byte_at(text, 1) == b'*'
 }
 
 fn word_length(text: &[u8]) -> usize
-    ensures { result ≤ length text.now }
+    ensures value { result ≡ position_or_len ends_word text.now }
+    ensures within { result ≤ length text.now }
 {
     for (i, byte) in text.iter().enumerate() {
-        if !(is_letter(*byte) || is_digit(*byte) || *byte == b'_') {
+        if !is_word_byte(*byte) {
             return i;
         }
     }
@@ -45,7 +85,8 @@ fn word_length(text: &[u8]) -> usize
 }
 
 fn digits_length(text: &[u8]) -> usize
-    ensures { result ≤ length text.now }
+    ensures value { result ≡ position_or_len ends_digits text.now }
+    ensures within { result ≤ length text.now }
 {
     for (i, byte) in text.iter().enumerate() {
         if !is_digit(*byte) {
@@ -57,10 +98,11 @@ fn digits_length(text: &[u8]) -> usize
 
 // How long the text is, up to a byte that is not ASCII.
 fn ascii_length(text: &[u8]) -> usize
-    ensures { result ≤ length text.now }
+    ensures value { result ≡ position_or_len is_not_ascii text.now }
+    ensures within { result ≤ length text.now }
 {
     for (i, byte) in text.iter().enumerate() {
-        if *byte >= 128 {
+        if is_not_ascii(*byte) {
             return i;
         }
     }
@@ -69,11 +111,11 @@ fn ascii_length(text: &[u8]) -> usize
 
 // How long a word is that ends before a blank, a line end, a comment or a byte that is not ASCII.
 fn raw_length(text: &[u8]) -> usize
-    ensures { result ≤ length text.now }
+    ensures value { result ≡ raw_from 0 text.now }
+    ensures within { result ≤ length text.now }
 {
     for (i, byte) in text.iter().enumerate() {
-        let begins = *byte == b'(' && byte_at(text, i + 1) == b'*';
-        if is_blank(*byte) || *byte == b'\n' || *byte >= 128 || begins {
+        if ends_raw(*byte, byte_at(text, i + 1)) {
             return i;
         }
     }
@@ -82,13 +124,13 @@ fn raw_length(text: &[u8]) -> usize
 
 // How many bytes of blanks, line ends and comments the text begins with.
 fn gap_length(text: &[u8]) -> usize
-    ensures { result ≤ length text.now }
+    ensures value { result ≡ gap_from 0 0 text.now }
+    ensures within { result ≤ length text.now }
 {
     let mut gap = 0;
     while gap < text.len() {
         let rest = &text[gap..];
-        let first = byte_at(rest, 0);
-        if is_blank(first) || first == b'\n' {
+        if is_space(byte_at(rest, 0)) {
             gap += 1;
         } else if begins_comment(rest) {
             match comment_length(rest) {
@@ -103,7 +145,9 @@ fn gap_length(text: &[u8]) -> usize
 }
 
 // Digits without the zeros that lead them.
-fn significant(digits: &[u8]) -> &[u8] {
+fn significant(digits: &[u8]) -> &[u8]
+    ensures { result.now ≡ significant digits.now }
+{
     for (i, digit) in digits.iter().enumerate() {
         if *digit != b'0' {
             return &digits[i..];
@@ -112,7 +156,9 @@ fn significant(digits: &[u8]) -> &[u8] {
     &[]
 }
 
-fn comment_front(text: &[u8]) -> Front {
+fn comment_front(text: &[u8]) -> Front
+    ensures { result ≡ comment_front (length text.now) (comment_of text.now) }
+{
     match comment_length(text) {
         Some(n) => Front::Layout(n),
         None => Front::Lexeme(Token::Broken(LitmusRule::OpenComment), text.len()),
@@ -120,7 +166,9 @@ fn comment_front(text: &[u8]) -> Front {
 }
 
 // A word of the two that a text begins with.
-fn raw_front(alloc: Global, text: &[u8]) -> Result<Front, AllocError> {
+fn raw_front(alloc: Global, text: &[u8]) -> Result<Front, AllocError>
+    ensures { IfOk result (λ f. f ≡ raw_front text.now (raw_from 0 text.now)) }
+{
     if byte_at(text, 0) == b'\n' {
         return Ok(Front::Layout(1));
     }
@@ -129,7 +177,9 @@ fn raw_front(alloc: Global, text: &[u8]) -> Result<Front, AllocError> {
     Ok(Front::Lexeme(Token::Word(word), n))
 }
 
-fn quoted_front(text: &[u8]) -> Front {
+fn quoted_front(text: &[u8]) -> Front
+    ensures { result ≡ quoted_front (quoted_from text.now) }
+{
     match quoted_length(text) {
         Some(n) => Front::Lexeme(Token::Text, n),
         None => Front::Lexeme(Token::Bad, 1),
@@ -137,7 +187,9 @@ fn quoted_front(text: &[u8]) -> Front {
 }
 
 // A line that begins with a letter, which is skipped where it holds an equals sign.
-fn line_front(text: &[u8]) -> Front {
+fn line_front(text: &[u8]) -> Front
+    ensures { result ≡ line_front (take (position_or_len is_line_end text.now) text.now) }
+{
     let n = line_length(text);
     match memchr(b'=', &text[..n]) {
         Some(_) => Front::Lexeme(Token::Keyline, ascii_length(&text[..n])),
@@ -146,28 +198,32 @@ fn line_front(text: &[u8]) -> Front {
 }
 
 // A word, or a label with its colon where a cell begins.
-fn word_front(alloc: Global, stage: Stage, text: &[u8]) -> Result<Front, AllocError> {
+fn word_front(alloc: Global, stage: Stage, text: &[u8]) -> Result<Front, AllocError>
+    ensures { IfOk result (λ f. f ≡ word_front stage text.now (position_or_len ends_word text.now)) }
+{
     let n = word_length(text);
-    let word = &text[..n];
-    let name = Name::new(alloc, word)?;
+    let name = Name::new(alloc, &text[..n])?;
     match stage {
         Stage::CellBegins => {
             let gap = gap_length(&text[n..]);
             if byte_at(text, n + gap) == b':' {
                 return Ok(Front::Lexeme(Token::Label(name), n + gap + 1));
             }
+            Ok(Front::Lexeme(Token::Word(name), n))
         }
         Stage::Header(0) => {
-            if word == b"P8".as_slice() {
+            if name.as_bytes() == b"P8".as_slice() {
                 return Ok(Front::Lexeme(Token::Broken(LitmusRule::TooManyThreads), n));
             }
+            Ok(Front::Lexeme(Token::Word(name), n))
         }
-        _ => {}
+        _ => Ok(Front::Lexeme(Token::Word(name), n)),
     }
-    Ok(Front::Lexeme(Token::Word(name), n))
 }
 
-fn number_front(alloc: Global, text: &[u8]) -> Result<Front, AllocError> {
+fn number_front(alloc: Global, text: &[u8]) -> Result<Front, AllocError>
+    ensures { IfOk result (λ f. f ≡ number_front text.now (position_or_len ends_digits text.now)) }
+{
     let n = digits_length(text);
     let digits = Name::new(alloc, significant(&text[..n]))?;
     Ok(Front::Lexeme(Token::Number(false, digits), n))
@@ -176,6 +232,7 @@ fn number_front(alloc: Global, text: &[u8]) -> Result<Front, AllocError> {
 // A number with its minus sign.
 fn minus_front(alloc: Global, text: &[u8]) -> Result<Front, AllocError>
     requires { 0 < length text.now }
+    ensures { IfOk result (λ f. f ≡ minus_front (drop 1 text.now) (position_or_len ends_digits (drop 1 text.now))) }
 {
     let digits = &text[1..];
     let n = digits_length(digits);
@@ -183,7 +240,9 @@ fn minus_front(alloc: Global, text: &[u8]) -> Result<Front, AllocError>
     Ok(Front::Lexeme(Token::Number(true, digits), n + 1))
 }
 
-fn mark_of(byte: u8) -> Option<Mark> {
+fn mark_of(byte: u8) -> Option<Mark>
+    ensures { result ≡ mark_of byte }
+{
     match byte {
         b'{' => Some(Mark::OpenBrace),
         b'}' => Some(Mark::CloseBrace),
@@ -201,7 +260,9 @@ fn mark_of(byte: u8) -> Option<Mark> {
     }
 }
 
-fn sign_front(text: &[u8]) -> Front {
+fn sign_front(text: &[u8]) -> Front
+    ensures { result ≡ sign_front (slice_index text.now 0) (slice_index text.now 1) }
+{
     let first = byte_at(text, 0);
     let next = byte_at(text, 1);
     if first == b'/' && next == b'\\' {
@@ -221,6 +282,7 @@ fn sign_front(text: &[u8]) -> Front {
 
 fn plain_front(alloc: Global, stage: Stage, text: &[u8]) -> Result<Front, AllocError>
     requires { 0 < length text.now }
+    ensures { IfOk result (λ f. f ≡ plain_front stage text.now) }
 {
     let first = byte_at(text, 0);
     if first == b'\n' {
@@ -241,6 +303,7 @@ fn plain_front(alloc: Global, stage: Stage, text: &[u8]) -> Result<Front, AllocE
 // What stands before the init block begins with: a line that is fresh holds nothing but blanks so far.
 fn head_front(alloc: Global, is_fresh: bool, text: &[u8]) -> Result<Front, AllocError>
     requires { 0 < length text.now }
+    ensures { IfOk result (λ f. f ≡ head_front is_fresh text.now) }
 {
     let first = byte_at(text, 0);
     if is_fresh && is_letter(first) {
@@ -252,7 +315,9 @@ fn head_front(alloc: Global, is_fresh: bool, text: &[u8]) -> Result<Front, Alloc
     plain_front(alloc, Stage::Head, text)
 }
 
-/// What the text begins with.
+/// What the text begins with. What its bytes begin depends on the part that they stand in, and before the init
+/// block on whether the line holds nothing but blanks so far.
+#[tactic(auto, unfolding(crate::specs::Lexer::front))]
 pub fn front_of(
     alloc: Global,
     stage: Stage,
@@ -260,9 +325,10 @@ pub fn front_of(
     text: &[u8],
 ) -> Result<Front, AllocError>
     requires { 0 < length text.now }
+    ensures { IfOk result (λ f. f ≡ front stage is_fresh text.now) }
 {
     let first = byte_at(text, 0);
-    if first >= 128 {
+    if is_not_ascii(first) {
         return Ok(Front::Lexeme(Token::Broken(LitmusRule::NotAscii), 1));
     }
     if is_blank(first) {

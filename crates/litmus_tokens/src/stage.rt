@@ -1,5 +1,9 @@
 //! The parts of a text.
 
+ghost use Rattle.std.specs.Prelude.{◌≡◌, Bool};
+ghost use Rattle.litmus_tokens.specs.Stage.{rule_of, after};
+ghost use Rattle.litmus_tokens.specs.declared.stage.Stage.TheVariants.{Init, Header, CellBegins};
+
 use crate::rule::LitmusRule;
 use crate::token::{Mark, Token};
 use crate::word::ends_table;
@@ -26,7 +30,9 @@ pub enum Stage {
 
 impl Stage {
     /// The rule that a fault in this part breaks, where no other rule names one.
-    pub fn rule(self) -> LitmusRule {
+    pub fn rule(self) -> LitmusRule
+        ensures { result ≡ rule_of self }
+    {
         match self {
             Stage::Magic => LitmusRule::NotPpc,
             Stage::Title => LitmusRule::Name,
@@ -41,7 +47,9 @@ impl Stage {
     }
 
     /// The part after this token: each part ends at a token of its own.
-    pub fn after(self, token: &Token) -> Stage {
+    pub fn after(self, token: &Token) -> Stage
+        ensures { result ≡ after self token.now }
+    {
         match self {
             Stage::Magic => Stage::Title,
             Stage::Title => Stage::TitleEnd,
@@ -63,7 +71,9 @@ impl Stage {
     }
 }
 
-fn init_after(alone: bool, token: &Token) -> Stage {
+fn init_after(alone: bool, token: &Token) -> Stage
+    ensures { (word : Bool) → result ≡ after (Init alone word) token.now }
+{
     match token {
         Token::Mark(Mark::CloseBrace) => {
             if alone {
@@ -77,7 +87,9 @@ fn init_after(alone: bool, token: &Token) -> Stage {
     }
 }
 
-fn header_after(left: usize, token: &Token) -> Stage {
+fn header_after(left: usize, token: &Token) -> Stage
+    ensures { result ≡ after (Header left) token.now }
+{
     match token {
         Token::Mark(Mark::Bar) => Stage::Header(left.saturating_sub(1)),
         Token::Mark(Mark::Semicolon) => Stage::CellBegins,
@@ -85,7 +97,9 @@ fn header_after(left: usize, token: &Token) -> Stage {
     }
 }
 
-fn cell_after(token: &Token) -> Stage {
+fn cell_after(token: &Token) -> Stage
+    ensures { result ≡ after CellBegins token.now }
+{
     match token {
         Token::Word(word) => {
             if ends_table(word.as_bytes()) {

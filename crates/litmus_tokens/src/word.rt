@@ -1,6 +1,7 @@
 //! What words and digits stand for.
 
-ghost use Rattle.std.specs.Prelude.{◌<◌, IfSome};
+ghost use Rattle.std.specs.Prelude.{◌≡◌, ◌<◌, IfSome};
+ghost use Rattle.litmus_tokens.specs.Words.{is_filter, ends_table};
 
 /// The number that decimal digits make, or the greatest that fits.
 pub fn decimal(digits: &[u8]) -> usize {
@@ -58,7 +59,9 @@ fn two_digits(tens: u8, ones: u8) -> Option<u8>
 }
 
 /// Whether the word begins a part of herd7's format that is not read here.
-pub fn is_filter(word: &[u8]) -> bool {
+pub fn is_filter(word: &[u8]) -> bool
+    ensures { result ≡ is_filter word.now }
+{
     word == b"filter".as_slice() || word == b"final".as_slice()
 }
 
@@ -76,6 +79,8 @@ pub fn is_test_name(word: &[u8]) -> bool {
 }
 
 /// Whether the word begins what stands behind the table.
-pub fn ends_table(word: &[u8]) -> bool {
+pub fn ends_table(word: &[u8]) -> bool
+    ensures { result ≡ ends_table word.now }
+{
     word == b"locations".as_slice() || word == b"exists".as_slice() || word == b"forall".as_slice()
 }

@@ -1,0 +1,6 @@
+use Rattle.std.proofs.Common.{◌≡◌, ℕ, ◌<◌, false, get_or}
+use Rattle.litmus_tokens.specs.Lexer.{ends_word}
+use Rattle.litmus_tokens.proofs.lexer.word_length.Given as goal
+
+abbrev pub invariant-loop-i : goal.invariant-loop-i
+invariant-loop-i l = (k : ℕ) → k < l.i → ends_word (get_or l.text k 0) ≡ false

@@ -1,0 +1,3 @@
+pub mod Lexer
+pub mod Stage
+pub mod Words

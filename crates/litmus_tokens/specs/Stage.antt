@@ -1,0 +1,50 @@
+-- The part of a text that the next token stands in, by the tokens so far. How bytes are read rests on it, and
+-- so does the number of a fault.
+use Rattle.std.specs.Prelude.{ℕ, ◌-◌, Bool, true, false, if◌then◌else◌}
+use Rattle.litmus_tokens.specs.declared.rule.LitmusRule.{LitmusRule}
+use Rattle.litmus_tokens.specs.declared.rule.LitmusRule.TheVariants as rules
+use Rattle.litmus_tokens.specs.declared.stage.Stage.{Stage}
+use Rattle.litmus_tokens.specs.declared.stage.Stage.TheVariants.{Magic, Title, TitleEnd, Head, Init, Header, CellBegins, InCell, Tail}
+use Rattle.litmus_tokens.specs.declared.token.Token.{Token}
+use Rattle.litmus_tokens.specs.declared.token.Token.TheVariants as tokens
+use Rattle.litmus_tokens.specs.declared.token.Mark.TheVariants as marks
+use Rattle.litmus_tokens.specs.Words.{ends_table}
+
+-- the rule that a fault in this part breaks, where no other rule names one
+abbrev pub rule_of : Stage → LitmusRule
+rule_of Magic = rules.NotPpc
+rule_of Title = rules.Name
+rule_of TitleEnd = rules.Name
+rule_of Head = rules.Init
+rule_of (Init alone after_word) = rules.Init
+rule_of (Header left) = rules.Header
+rule_of CellBegins = rules.Instruction
+rule_of InCell = rules.Instruction
+rule_of Tail = rules.Condition
+
+abbrev pub after_brace : Bool → Stage
+after_brace true = Init true false
+after_brace false = Header 8
+
+-- each part ends at a token of its own
+abbrev pub after : Stage → Token → Stage
+after Magic t = Title
+after Title t = TitleEnd
+after TitleEnd t = Head
+after Head (tokens.Mark marks.OpenBrace) = Init false false
+after Head t = Head
+after (Init alone after_word) (tokens.Mark marks.CloseBrace) = after_brace alone
+after (Init alone after_word) (tokens.Word w) = Init alone true
+after (Init alone after_word) t = Init alone false
+after (Header left) (tokens.Mark marks.Bar) = Header (left - 1)
+after (Header left) (tokens.Mark marks.Semicolon) = CellBegins
+after (Header left) t = Header left
+after CellBegins (tokens.Word w) = if ends_table w then Tail else InCell
+after CellBegins (tokens.Mark marks.Tilde) = Tail
+after CellBegins (tokens.Mark marks.Bar) = CellBegins
+after CellBegins (tokens.Mark marks.Semicolon) = CellBegins
+after CellBegins t = InCell
+after InCell (tokens.Mark marks.Bar) = CellBegins
+after InCell (tokens.Mark marks.Semicolon) = CellBegins
+after InCell t = InCell
+after Tail t = Tail
