@@ -36,6 +36,11 @@ joined sign [] = []
 joined sign (t ∷ []) = t
 joined sign (t ∷ u ∷ ts) = t ++ (sign ++ joined sign (u ∷ ts))
 
+-- a sign before all but the first of a list
+abbrev pub between : List ℕ → ℕ → List ℕ
+between sign zero = []
+between sign (suc k) = sign
+
 abbrev pub all_of : List (List ℕ) → List ℕ
 all_of [] = []
 all_of (t ∷ ts) = t ++ all_of ts

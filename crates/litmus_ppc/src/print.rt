@@ -1,4 +1,4 @@
-//! Prints tests.
+//! Prints places, instructions and conditions.
 
 ghost use Rattle.std.specs.Prelude.{◌≡◌, ◌++◌, ◌+◌, OnOk, IfOk, codes};
 ghost use Rattle.std.specs.Fmt.{decimal, signed_decimal};
@@ -6,9 +6,7 @@ ghost use Rattle.litmus_ppc.specs.Value.{formula_of};
 ghost use Rattle.litmus_ppc.specs.Printing.{level, line, register_text, value_text, place_text, entry_text, operation_text, branch_text, fence_text, instruction_text, step_text, connective_text, bracketed, is_loose, formula_text, condition_text};
 
 use crate::instruction::{BranchCondition, Fence, Instruction, Operation, Register};
-use crate::test::{
-    Condition, Connective, InitEntry, Place, Proposition, Quantifier, Step, Test, Thread, Value,
-};
+use crate::test::{Condition, Connective, InitEntry, Place, Proposition, Quantifier, Step, Value};
 use source_text::{put_bytes, put_decimal};
 use std::alloc::{AllocError, Global};
 
@@ -64,8 +62,8 @@ fn put_thread_register(
     put_register(text, register)
 }
 
-// Appends an entry, where a location stands bare.
-fn put_entry(text: &mut Vec<u8>, entry: &InitEntry) -> Result<(), AllocError>
+/// Appends an entry, where a location stands bare.
+pub fn put_entry(text: &mut Vec<u8>, entry: &InitEntry) -> Result<(), AllocError>
     ensures { OnOk result (text.new.items ≡ text.old.items ++ line (entry_text entry.now)) }
 {
     match &entry.place {
@@ -237,7 +235,8 @@ fn put_instruction(text: &mut Vec<u8>, instruction: &Instruction) -> Result<(), 
     }
 }
 
-fn put_step(text: &mut Vec<u8>, step: &Step) -> Result<(), AllocError>
+/// Appends a label with its colon, or an instruction.
+pub fn put_step(text: &mut Vec<u8>, step: &Step) -> Result<(), AllocError>
     ensures { OnOk result (text.new.items ≡ text.old.items ++ step_text step.now) }
 {
     match step {
@@ -247,54 +246,6 @@ fn put_step(text: &mut Vec<u8>, step: &Step) -> Result<(), AllocError>
         }
         Step::Instruction(instruction) => put_instruction(text, instruction),
     }
-}
-
-// Appends the names of the columns.
-fn put_header(text: &mut Vec<u8>, threads: usize) -> Result<(), AllocError> {
-    for thread in 0..threads {
-        put_bytes(text, if thread == 0 { b"P" } else { b" | P" })?;
-        put_decimal(text, thread as u64)?;
-    }
-    put_bytes(text, b" ;\n")
-}
-
-// Appends the row of the steps of this number, with empty cells for threads that have ended.
-fn put_row(text: &mut Vec<u8>, threads: &[Thread], number: usize) -> Result<(), AllocError> {
-    for (i, thread) in threads.iter().enumerate() {
-        if i > 0 {
-            put_bytes(text, b" | ")?;
-        }
-        if let Some(step) = thread.steps.get(number) {
-            put_step(text, step)?;
-        }
-    }
-    put_bytes(text, b" ;\n")
-}
-
-fn put_rows(text: &mut Vec<u8>, threads: &[Thread]) -> Result<(), AllocError> {
-    let mut longest = 0usize;
-    for thread in threads {
-        longest = longest.max(thread.steps.len());
-    }
-    for number in 0..longest {
-        put_row(text, threads, number)?;
-    }
-    Ok(())
-}
-
-fn put_observed(text: &mut Vec<u8>, observed: &[Place]) -> Result<(), AllocError> {
-    if observed.is_empty() {
-        return Ok(());
-    }
-    put_bytes(text, b"locations [")?;
-    for (i, place) in observed.iter().enumerate() {
-        if i > 0 {
-            put_bytes(text, b" ")?;
-        }
-        put_place(text, place)?;
-        put_bytes(text, b";")?;
-    }
-    put_bytes(text, b"]\n")
 }
 
 impl Connective {
@@ -363,7 +314,8 @@ fn put_proposition(text: &mut Vec<u8>, proposition: &Proposition) -> Result<(), 
     }
 }
 
-fn put_condition(text: &mut Vec<u8>, condition: &Condition) -> Result<(), AllocError>
+/// Appends a condition.
+pub fn put_condition(text: &mut Vec<u8>, condition: &Condition) -> Result<(), AllocError>
     ensures { OnOk result (text.new.items ≡ text.old.items ++ condition_text condition.now.quantifier (formula_of condition.now.proposition)) }
 {
     let quantifier: &[u8] = match condition.quantifier {
@@ -382,23 +334,5 @@ pub fn print_condition(alloc: Global, condition: &Condition) -> Result<Vec<u8>, 
 {
     let mut text = Vec::new(alloc);
     put_condition(&mut text, condition)?;
-    Ok(text)
-}
-
-/// The text of a test, which is read as that test.
-pub fn print_test(alloc: Global, test: &Test) -> Result<Vec<u8>, AllocError> {
-    let mut text = Vec::new(alloc);
-    put_bytes(&mut text, b"PPC ")?;
-    put_bytes(&mut text, test.name.as_bytes())?;
-    put_bytes(&mut text, b"\n{\n")?;
-    for entry in &test.init {
-        put_entry(&mut text, entry)?;
-    }
-    put_bytes(&mut text, b"}\n")?;
-    put_header(&mut text, test.threads.len())?;
-    put_rows(&mut text, &test.threads)?;
-    put_observed(&mut text, &test.observed)?;
-    put_condition(&mut text, &test.condition)?;
-    put_bytes(&mut text, b"\n")?;
     Ok(text)
 }
