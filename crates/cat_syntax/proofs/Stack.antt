@@ -5,7 +5,7 @@ use Rattle.std.specs.List.{list_all}
 use Rattle.std.proofs.lemmas.Bool.Decides.{nat_tests}
 use Rattle.std.proofs.lemmas.List.{map-append}
 use Rattle.std.proofs.lemmas.List.Sums.{sum_by-cons}
-use Rattle.cat_syntax.specs.declared.terms.Frame.TheVariants as frames
+use Rattle.cat_syntax.specs.declared.frames.Frame.TheVariants as frames
 use mathlib.Core.Former.{Count}
 use Rattle.std.proofs.Common.{Vec, Global}
 use Rattle.cat_syntax.specs.declared.model.Expression.{Expression, Row_of-Expression, end_of-Expression, more_of-Expression, items-the_row-Expression, items_hidden-the_row-Expression-0}
@@ -14,13 +14,13 @@ use Rattle.cat_syntax.specs.declared.model.Expression.TheVariants.{Applied'}
 use Rattle.cat_syntax.specs.declared.model.Infix.{Infix}
 use Rattle.cat_syntax.specs.declared.model.Infix.TheVariants.{Product}
 use Rattle.cat_syntax.specs.declared.fault.CatRule.TheVariants.{TooDeep}
-use Rattle.cat_syntax.specs.declared.terms.Fed as code_fed
-use Rattle.cat_syntax.specs.declared.terms.StepError.{StepError}
+use Rattle.cat_syntax.specs.declared.frames.Fed as code_fed
+use Rattle.cat_syntax.specs.declared.frames.StepError.{StepError}
 use Rattle.cat_syntax.specs.declared.model.CheckWord.{CheckWord}
 use Rattle.cat_syntax.specs.declared.token.Token.{Token}
 use Rattle.cat_syntax.specs.declared.token.Token.TheVariants as tokens
 use Rattle.cat_syntax.specs.Value.{Term, Join, Not, Apply, OneMore, gathered}
-use Rattle.cat_syntax.specs.declared.terms.Frame as code_frame
+use Rattle.cat_syntax.specs.declared.frames.Frame as code_frame
 use Rattle.cat_syntax.specs.Machine as machine
 use Rattle.cat_syntax.specs.Machine.{level}
 use Rattle.cat_syntax.specs.Reading.{term_of, terms_of, frame_of, stacked, stack_of, is_open, is_no_bracket, limits, Feeds}

@@ -13,3 +13,8 @@ IsWithin n (OutOfMemory e) = Unit {0}
 abbrev pub IsTooLong : CatFault → Type 0
 IsTooLong (Refused rule place) = (rule ≡ TooLong) × (place ≡ 65536)
 IsTooLong (OutOfMemory e) = ⊥
+
+-- memory ran out
+abbrev pub IsMemory : CatFault → Type 0
+IsMemory (Refused rule place) = ⊥
+IsMemory (OutOfMemory e) = Unit {0}

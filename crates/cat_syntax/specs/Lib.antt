@@ -4,3 +4,7 @@ pub mod Faults
 pub mod Value
 pub mod Machine
 pub mod Reading
+pub mod ItemMachine
+pub mod ReadingItems
+pub mod ParserState
+pub mod ReadingTexts

@@ -1,16 +1,16 @@
 -- What the reader holds of an expression, as the machine sees it.
 use Rattle.std.specs.Prelude.{◌≡◌, List, [], ◌∷◌, Bool, true, false, map, Result, Ok, Err}
 use Rattle.cat_syntax.specs.declared.fault.CatRule.{CatRule}
-use Rattle.cat_syntax.specs.declared.terms.StepError.{StepError}
-use Rattle.cat_syntax.specs.declared.terms.StepError.TheVariants as errors
+use Rattle.cat_syntax.specs.declared.frames.StepError.{StepError}
+use Rattle.cat_syntax.specs.declared.frames.StepError.TheVariants as errors
 use Rattle.cat_syntax.specs.declared.model.Expression.{Expression, Row_of-Expression, end_of-Expression, more_of-Expression}
 use Rattle.cat_syntax.specs.declared.model.Expression.TheVariants.{Named, Everything, NoPairs, NoEvents, Joined', Marked', Complement', Identity', Applied'}
-use Rattle.cat_syntax.specs.declared.terms.Frame as code_frame
-use Rattle.cat_syntax.specs.declared.terms.Frame.TheVariants as frames
-use Rattle.cat_syntax.specs.declared.terms.Hole as code_hole
-use Rattle.cat_syntax.specs.declared.terms.Hole.TheVariants as holes
-use Rattle.cat_syntax.specs.declared.terms.Fed as code_fed
-use Rattle.cat_syntax.specs.declared.terms.Fed.TheVariants as fed
+use Rattle.cat_syntax.specs.declared.frames.Frame as code_frame
+use Rattle.cat_syntax.specs.declared.frames.Frame.TheVariants as frames
+use Rattle.cat_syntax.specs.declared.frames.Hole as code_hole
+use Rattle.cat_syntax.specs.declared.frames.Hole.TheVariants as holes
+use Rattle.cat_syntax.specs.declared.frames.Fed as code_fed
+use Rattle.cat_syntax.specs.declared.frames.Fed.TheVariants as fed
 use Rattle.cat_syntax.specs.declared.token.Token.{Token}
 use Rattle.cat_syntax.specs.declared.token.Token.TheVariants as tokens
 use Rattle.cat_syntax.specs.Value.{Term, Terms, Atom, AllEvents, EmptyRelation, EmptySet, Join, Mark, Not, On, Apply, NoTerm, OneMore}

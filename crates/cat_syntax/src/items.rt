@@ -1,93 +1,27 @@
 //! Reads items, a token after the other.
 
+ghost use Rattle.std.specs.Prelude.{◌≡◌};
+ghost use Rattle.cat_syntax.specs.Reading.{limits, term_of};
+ghost use Rattle.cat_syntax.specs.ItemMachine.{begin_item, excess, unless, item_or_end, after_title, after_tilde, after_flag, has_no_effect, after_include, finished, item_ended, item_ended_by_tilde, after_body, and_read, label_begun, shown_on, after_as, after_show_as, after_show_label, goes_on, step_part, start, step};
+ghost use Rattle.cat_syntax.specs.ReadingItems.{show_of, clause_of, clauses_of, head_of, part_of, Gives, Steps, fed_of, token_of};
+
 use crate::fault::CatRule;
-use crate::lets::{Group, LetPart, after_let};
-use crate::model::{Check, CheckWord, Expression, Item, ShownExpression};
-use crate::terms::{Fed, Frame, Hole, StepError, feed};
+use crate::frames::{Fed, StepError};
+use crate::lets::{LetPart, after_let};
+use crate::model::{CheckWord, Expression, Item};
+use crate::parts::{CheckHead, Form, Head, Part, ShowHead, body_begun, check_body, show_body};
+use crate::terms::feed;
 use crate::token::Token;
-use source_text::Name;
-use std::alloc::{AllocError, Global};
+use std::alloc::Global;
 use std::mem;
 
 /// How many items a model may have.
 pub const MAX_ITEMS: usize = 256;
 
-/// What the text is read as.
-#[derive(Clone, Copy, Debug, PartialEq, Eq)]
-pub enum Form {
-    Model,
-    Item,
-}
-
-/// A check whose expression is read.
-#[derive(Clone, Copy, Debug, PartialEq, Eq)]
-pub struct CheckHead {
-    pub flagged: bool,
-    pub negated: bool,
-    pub word: CheckWord,
-}
-
-/// The expressions of a `show` or an `unshow` so far.
-#[derive(Debug, Drop)]
-pub struct ShowHead {
-    pub hidden: bool,
-    pub shown: Vec<ShownExpression>,
-}
-
-/// The item whose expression is read.
-#[derive(Debug, Drop)]
-pub enum Head {
-    Bound(Group, Name),
-    Function(Name, Vec<Name>),
-    Check(CheckHead),
-    Show(ShowHead),
-}
-
-/// Where the reader stands.
-#[derive(Debug, Drop)]
-pub enum Part {
-    /// Where a title may stand.
-    Title,
-    Start,
-    Let(LetPart),
-    AfterFlag,
-    /// After `~`, with whether the check is a flag's.
-    AfterTilde(bool),
-    Body(Head, Vec<Frame>, usize, Hole),
-    /// After a check's `as`.
-    Label(CheckHead, Expression),
-    /// After the `as` of a shown expression.
-    ShowLabel(ShowHead, Expression),
-    /// After that label.
-    AfterShowLabel(ShowHead),
-    AfterInclude,
-    Done,
-}
-
-/// Where an item's expression begins.
-pub fn body_begun(alloc: Global, head: Head) -> Part {
-    Part::Body(head, Vec::new(alloc), 0, Hole::Wants)
-}
-
-fn check_body(alloc: Global, flagged: bool, negated: bool, word: CheckWord) -> Part {
-    let head = CheckHead {
-        flagged,
-        negated,
-        word,
-    };
-    body_begun(alloc, Head::Check(head))
-}
-
-fn show_body(alloc: Global, hidden: bool) -> Part {
-    let head = ShowHead {
-        hidden,
-        shown: Vec::new(alloc),
-    };
-    body_begun(alloc, Head::Show(head))
-}
-
 // The first token of an item.
-fn item_begun(alloc: Global, token: Token) -> Result<Part, StepError> {
+fn item_begun(alloc: Global, token: Token) -> Result<Part, StepError>
+    ensures { Gives part_of result (begin_item token) }
+{
     match token {
         Token::Let => Ok(Part::Let(LetPart::Keyword)),
         Token::Flag => Ok(Part::AfterFlag),
@@ -101,7 +35,9 @@ fn item_begun(alloc: Global, token: Token) -> Result<Part, StepError> {
 }
 
 // The rule that one more item breaks, if it breaks one.
-fn excess(form: Form, count: usize) -> Option<CatRule> {
+fn excess(form: Form, count: usize) -> Option<CatRule>
+    ensures { result ≡ excess form count }
+{
     match form {
         Form::Model => {
             if count >= MAX_ITEMS {
@@ -120,8 +56,20 @@ fn excess(form: Form, count: usize) -> Option<CatRule> {
     }
 }
 
+// The item that begins so, unless it is one too many.
+fn unless_excess(form: Form, count: usize, part: Part) -> Result<Part, StepError>
+    ensures { Gives part_of result (unless (excess form count) (Ok (part_of part))) }
+{
+    match excess(form, count) {
+        Some(rule) => Err(StepError::Refused(rule)),
+        None => Ok(part),
+    }
+}
+
 // A token where an item may begin or the text may end.
-fn item_or_end(alloc: Global, form: Form, count: usize, token: Token) -> Result<Part, StepError> {
+fn item_or_end(alloc: Global, form: Form, count: usize, token: Token) -> Result<Part, StepError>
+    ensures { Gives part_of result (item_or_end form count token) }
+{
     match token {
         Token::End => {
             if form == Form::Item && count == 0 {
@@ -131,16 +79,15 @@ fn item_or_end(alloc: Global, form: Form, count: usize, token: Token) -> Result<
         }
         other => {
             let part = item_begun(alloc, other)?;
-            match excess(form, count) {
-                Some(rule) => Err(StepError::Refused(rule)),
-                None => Ok(part),
-            }
+            unless_excess(form, count, part)
         }
     }
 }
 
 // The first token of a text, which may be a title.
-fn title_read(alloc: Global, form: Form, count: usize, token: Token) -> Result<Part, StepError> {
+fn title_read(alloc: Global, form: Form, count: usize, token: Token) -> Result<Part, StepError>
+    ensures { Gives part_of result (after_title form count token) }
+{
     match token {
         Token::Name(_) => Ok(Part::Start),
         Token::Quoted(_) => Ok(Part::Start),
@@ -149,14 +96,18 @@ fn title_read(alloc: Global, form: Form, count: usize, token: Token) -> Result<P
 }
 
 // The check word after `~`.
-fn tilde_read(alloc: Global, flagged: bool, token: Token) -> Result<Part, StepError> {
+fn tilde_read(alloc: Global, flagged: bool, token: Token) -> Result<Part, StepError>
+    ensures { Gives part_of result (after_tilde flagged token) }
+{
     match token {
         Token::Check(word) => Ok(check_body(alloc, flagged, true, word)),
         other => Err(StepError::Refused(other.rule())),
     }
 }
 
-fn flag_read(alloc: Global, token: Token) -> Result<Part, StepError> {
+fn flag_read(alloc: Global, token: Token) -> Result<Part, StepError>
+    ensures { Gives part_of result (after_flag token) }
+{
     match token {
         Token::Tilde => Ok(Part::AfterTilde(true)),
         Token::Check(word) => Ok(check_body(alloc, true, false, word)),
@@ -165,15 +116,18 @@ fn flag_read(alloc: Global, token: Token) -> Result<Part, StepError> {
 }
 
 // Whether a file is one of those whose names need no definition here.
-fn has_no_effect(path: &[u8]) -> bool {
-    match path {
-        b"cos.cat" => true,
-        b"stdlib.cat" => true,
-        _ => false,
+fn has_no_effect(path: &[u8]) -> bool
+    ensures { result ≡ has_no_effect path.now }
+{
+    if path == b"cos.cat".as_slice() {
+        return true;
     }
+    path == b"stdlib.cat".as_slice()
 }
 
-fn include_read(items: &mut Vec<Item>, token: Token) -> Result<Part, StepError> {
+fn include_read(items: &mut Vec<Item>, token: Token) -> Result<Part, StepError>
+    ensures { Steps result items.new.items (after_include (clauses_of items.old.items) token) }
+{
     match token {
         Token::Quoted(path) => {
             if !has_no_effect(path.as_bytes()) {
@@ -186,33 +140,10 @@ fn include_read(items: &mut Vec<Item>, token: Token) -> Result<Part, StepError> 
     }
 }
 
-impl CheckHead {
-    // The check with its expression.
-    fn with(self, body: Expression) -> Check {
-        Check {
-            negated: self.negated,
-            word: self.word,
-            body,
-        }
-    }
-}
-
-impl ShowHead {
-    // One more expression.
-    fn with(self, body: Expression, label: Option<Name>) -> Result<ShowHead, AllocError> {
-        let ShowHead { hidden, mut shown } = self;
-        shown.push(ShownExpression { body, label })?;
-        Ok(ShowHead { hidden, shown })
-    }
-
-    fn into_item(self) -> Item {
-        let ShowHead { hidden, shown } = self;
-        Item::Show { hidden, shown }
-    }
-}
-
 // The item that ends with this expression. A flag does not end without its label.
-fn finished(head: Head, body: Expression, rule: CatRule) -> Result<Item, StepError> {
+fn finished(head: Head, body: Expression, rule: CatRule) -> Result<Item, StepError>
+    ensures { Gives clause_of result (finished (head_of head) (term_of body) rule) }
+{
     match head {
         Head::Bound(group, name) => Ok(group.with(name, body)?.into_item()),
         Head::Function(name, parameters) => Ok(Item::Function {
@@ -241,7 +172,9 @@ fn item_ended(
     head: Head,
     body: Expression,
     token: Token,
-) -> Result<Part, StepError> {
+) -> Result<Part, StepError>
+    ensures { Steps result items.new.items (item_ended form (clauses_of items.old.items) (head_of head) (term_of body) token) }
+{
     let item = finished(head, body, token.rule())?;
     items.push(item)?;
     item_or_end(alloc, form, items.len(), token)
@@ -255,7 +188,9 @@ fn item_ended_by_tilde(
     head: Head,
     body: Expression,
     word: CheckWord,
-) -> Result<Part, StepError> {
+) -> Result<Part, StepError>
+    ensures { Steps result items.new.items (item_ended_by_tilde form (clauses_of items.old.items) (head_of head) (term_of body) word) }
+{
     let item = finished(head, body, CatRule::Syntax)?;
     items.push(item)?;
     match excess(form, items.len()) {
@@ -273,7 +208,9 @@ fn body_read(
     head: Head,
     body: Expression,
     token: Token,
-) -> Result<Part, StepError> {
+) -> Result<Part, StepError>
+    ensures { Steps result items.new.items (after_body form (clauses_of items.old.items) (head_of head) (term_of body) token) }
+{
     match token {
         Token::And => and_read(head, body),
         Token::As => label_begun(head, body),
@@ -282,7 +219,9 @@ fn body_read(
     }
 }
 
-fn and_read(head: Head, body: Expression) -> Result<Part, StepError> {
+fn and_read(head: Head, body: Expression) -> Result<Part, StepError>
+    ensures { Gives part_of result (and_read (head_of head) (term_of body)) }
+{
     match head {
         Head::Bound(group, name) => Ok(Part::Let(LetPart::And(group.with(name, body)?))),
         Head::Function(_, _) => Err(StepError::Refused(CatRule::Syntax)),
@@ -291,7 +230,9 @@ fn and_read(head: Head, body: Expression) -> Result<Part, StepError> {
     }
 }
 
-fn label_begun(head: Head, body: Expression) -> Result<Part, StepError> {
+fn label_begun(head: Head, body: Expression) -> Result<Part, StepError>
+    ensures { Gives part_of result (label_begun (head_of head) (term_of body)) }
+{
     match head {
         Head::Check(head) => Ok(Part::Label(head, body)),
         Head::Show(head) => Ok(Part::ShowLabel(head, body)),
@@ -300,7 +241,9 @@ fn label_begun(head: Head, body: Expression) -> Result<Part, StepError> {
     }
 }
 
-fn comma_read(alloc: Global, head: Head, body: Expression) -> Result<Part, StepError> {
+fn comma_read(alloc: Global, head: Head, body: Expression) -> Result<Part, StepError>
+    ensures { Gives part_of result (shown_on (head_of head) (term_of body)) }
+{
     match head {
         Head::Show(head) => {
             let head = head.with(body, None)?;
@@ -318,7 +261,9 @@ fn label_read(
     head: CheckHead,
     body: Expression,
     token: Token,
-) -> Result<Part, StepError> {
+) -> Result<Part, StepError>
+    ensures { Steps result items.new.items (after_as (clauses_of items.old.items) head (term_of body) token) }
+{
     match token {
         Token::Name(label) => {
             let check = head.with(body);
@@ -338,7 +283,9 @@ fn label_read(
 }
 
 // The label of a shown expression.
-fn show_label_read(head: ShowHead, body: Expression, token: Token) -> Result<Part, StepError> {
+fn show_label_read(head: ShowHead, body: Expression, token: Token) -> Result<Part, StepError>
+    ensures { Gives part_of result (after_show_as (show_of head) (term_of body) token) }
+{
     match token {
         Token::Name(label) => Ok(Part::AfterShowLabel(head.with(body, Some(label))?)),
         other => Err(StepError::Refused(other.rule())),
@@ -352,7 +299,9 @@ fn after_show_label(
     items: &mut Vec<Item>,
     head: ShowHead,
     token: Token,
-) -> Result<Part, StepError> {
+) -> Result<Part, StepError>
+    ensures { Steps result items.new.items (after_show_label form (clauses_of items.old.items) (show_of head) token) }
+{
     match token {
         Token::Comma => Ok(body_begun(alloc, Head::Show(head))),
         other => {
@@ -369,7 +318,9 @@ fn fed(
     items: &mut Vec<Item>,
     head: Head,
     fed: Fed,
-) -> Result<Part, StepError> {
+) -> Result<Part, StepError>
+    ensures { Steps result items.new.items (goes_on form (clauses_of items.old.items) (head_of head) (token_of fed) (fed_of fed)) }
+{
     match fed {
         Fed::Goes(frames, operators, hole) => Ok(Part::Body(head, frames, operators, hole)),
         Fed::Ends(body, token) => body_read(alloc, form, items, head, body, token),
@@ -384,7 +335,9 @@ fn part_after(
     items: &mut Vec<Item>,
     part: Part,
     token: Token,
-) -> Result<Part, StepError> {
+) -> Result<Part, StepError>
+    ensures { Steps result items.new.items (step_part limits form (clauses_of items.old.items) (part_of part) token) }
+{
     match part {
         Part::Title => title_read(alloc, form, items.len(), token),
         Part::Start => item_or_end(alloc, form, items.len(), token),
@@ -413,7 +366,12 @@ pub struct Parser {
 }
 
 impl Parser {
-    pub fn new(alloc: Global, form: Form) -> Parser {
+    ghost use Rattle.cat_syntax.specs.ParserState.{state_of, AreSteps};
+
+    pub fn new(alloc: Global, form: Form) -> Parser
+        ensures start { state_of result ≡ start form }
+        ensures form { result.form ≡ form }
+    {
         let part = match form {
             Form::Model => Part::Title,
             Form::Item => Part::Start,
@@ -427,14 +385,19 @@ impl Parser {
     }
 
     /// Takes a token. After an `Err` the parser takes no more.
-    pub fn step(&mut self, token: Token) -> Result<(), StepError> {
+    pub fn step(&mut self, token: Token) -> Result<(), StepError>
+        ensures steps { AreSteps result self.new (step limits self.old.form (state_of self.old) token) }
+        ensures form { self.new.form ≡ self.old.form }
+    {
         let part = mem::replace(&mut self.part, Part::Done);
         self.part = part_after(self.alloc, self.form, &mut self.items, part, token)?;
         Ok(())
     }
 
     /// The items that were read.
-    pub fn into_items(self) -> Vec<Item> {
+    pub fn into_items(self) -> Vec<Item>
+        ensures { clauses_of result.items ≡ (state_of self).items }
+    {
         self.items
     }
 }

@@ -1,9 +1,14 @@
 //! Reads what stands before the expressions of a `let`.
 
+ghost use Rattle.std.specs.Prelude.{◌≡◌, [], IfOk};
+ghost use Rattle.cat_syntax.specs.Reading.{term_of};
+ghost use Rattle.cat_syntax.specs.ItemMachine.{fresh, extended, group_clause, after_keyword, bound_name, parameter_read, after_parameter, after_let_name, after_bound, after_parameters, after_let};
+ghost use Rattle.cat_syntax.specs.ReadingItems.{group_of, clause_of, let_of, part_of, Gives};
+
 use crate::fault::CatRule;
-use crate::items::{Head, Part, body_begun};
+use crate::frames::StepError;
 use crate::model::{Binding, Expression, Item};
-use crate::terms::StepError;
+use crate::parts::{Head, Part, body_begun};
 use crate::token::Token;
 use source_text::Name;
 use std::alloc::{AllocError, Global};
@@ -41,7 +46,9 @@ pub enum LetPart {
 }
 
 impl Group {
-    fn new(alloc: Global, recursive: bool) -> Group {
+    fn new(alloc: Global, recursive: bool) -> Group
+        ensures { group_of result ≡ fresh recursive }
+    {
         Group {
             recursive,
             bindings: Vec::new(alloc),
@@ -49,7 +56,9 @@ impl Group {
     }
 
     /// One more binding.
-    pub fn with(self, name: Name, body: Expression) -> Result<Group, AllocError> {
+    pub fn with(self, name: Name, body: Expression) -> Result<Group, AllocError>
+        ensures { IfOk result (λ g. group_of g ≡ extended (group_of self) name (term_of body)) }
+    {
         let Group {
             recursive,
             mut bindings,
@@ -62,7 +71,9 @@ impl Group {
     }
 
     /// The item of the group.
-    pub fn into_item(self) -> Item {
+    pub fn into_item(self) -> Item
+        ensures { clause_of result ≡ group_clause (group_of self) }
+    {
         let Group {
             recursive,
             bindings,
@@ -75,28 +86,34 @@ impl Group {
 }
 
 // A token after `let`.
-fn keyword_read(alloc: Global, token: Token) -> Result<LetPart, StepError> {
+fn keyword_read(alloc: Global, token: Token) -> Result<Part, StepError>
+    ensures { Gives part_of result (after_keyword token) }
+{
     match token {
-        Token::Rec => Ok(LetPart::And(Group::new(alloc, true))),
-        Token::Name(name) => Ok(LetPart::Named(name)),
+        Token::Rec => Ok(Part::Let(LetPart::And(Group::new(alloc, true)))),
+        Token::Name(name) => Ok(Part::Let(LetPart::Named(name))),
         other => Err(StepError::Refused(other.rule())),
     }
 }
 
 // The next name of a group.
-fn bound_name(group: Group, token: Token) -> Result<LetPart, StepError> {
+fn bound_name(group: Group, token: Token) -> Result<Part, StepError>
+    ensures { Gives part_of result (bound_name (group_of group) token) }
+{
     match token {
         Token::Name(name) => {
             if group.bindings.len() >= MAX_NAMES {
                 return Err(StepError::Refused(CatRule::TooMany));
             }
-            Ok(LetPart::Bound(group, name))
+            Ok(Part::Let(LetPart::Bound(group, name)))
         }
         other => Err(StepError::Refused(other.rule())),
     }
 }
 
-fn parameter_read(name: Name, parameters: Vec<Name>, token: Token) -> Result<LetPart, StepError> {
+fn parameter_read(name: Name, parameters: Vec<Name>, token: Token) -> Result<Part, StepError>
+    ensures { Gives part_of result (parameter_read name parameters.items token) }
+{
     match token {
         Token::Name(parameter) => {
             let mut parameters = parameters;
@@ -104,22 +121,26 @@ fn parameter_read(name: Name, parameters: Vec<Name>, token: Token) -> Result<Let
                 return Err(StepError::Refused(CatRule::TooMany));
             }
             parameters.push(parameter)?;
-            Ok(LetPart::AfterParameter(name, parameters))
+            Ok(Part::Let(LetPart::AfterParameter(name, parameters)))
         }
         other => Err(StepError::Refused(other.rule())),
     }
 }
 
-fn after_parameter(name: Name, parameters: Vec<Name>, token: Token) -> Result<LetPart, StepError> {
+fn after_parameter(name: Name, parameters: Vec<Name>, token: Token) -> Result<Part, StepError>
+    ensures { Gives part_of result (after_parameter name parameters.items token) }
+{
     match token {
-        Token::Comma => Ok(LetPart::Parameter(name, parameters)),
-        Token::Close => Ok(LetPart::Parameters(name, parameters)),
+        Token::Comma => Ok(Part::Let(LetPart::Parameter(name, parameters))),
+        Token::Close => Ok(Part::Let(LetPart::Parameters(name, parameters))),
         other => Err(StepError::Refused(other.rule())),
     }
 }
 
 // A token after `let` and a name.
-fn after_name(alloc: Global, name: Name, token: Token) -> Result<Part, StepError> {
+fn after_name(alloc: Global, name: Name, token: Token) -> Result<Part, StepError>
+    ensures { Gives part_of result (after_let_name name token) }
+{
     match token {
         Token::Equals => Ok(body_begun(alloc, Head::Bound(Group::new(alloc, false), name))),
         Token::Open => Ok(Part::Let(LetPart::Parameter(name, Vec::new(alloc)))),
@@ -128,7 +149,9 @@ fn after_name(alloc: Global, name: Name, token: Token) -> Result<Part, StepError
 }
 
 // A token after a name that is no function's. A parenthesis would make it one, which is not supported here.
-fn after_bound(alloc: Global, group: Group, name: Name, token: Token) -> Result<Part, StepError> {
+fn after_bound(alloc: Global, group: Group, name: Name, token: Token) -> Result<Part, StepError>
+    ensures { Gives part_of result (after_bound (group_of group) name token) }
+{
     match token {
         Token::Equals => Ok(body_begun(alloc, Head::Bound(group, name))),
         Token::Open => Err(StepError::Refused(CatRule::Unsupported)),
@@ -141,7 +164,9 @@ fn after_parameters(
     name: Name,
     parameters: Vec<Name>,
     token: Token,
-) -> Result<Part, StepError> {
+) -> Result<Part, StepError>
+    ensures { Gives part_of result (after_parameters name parameters.items token) }
+{
     match token {
         Token::Equals => Ok(body_begun(alloc, Head::Function(name, parameters))),
         other => Err(StepError::Refused(other.rule())),
@@ -149,18 +174,16 @@ fn after_parameters(
 }
 
 /// A token in the head of a `let`.
-pub fn after_let(alloc: Global, part: LetPart, token: Token) -> Result<Part, StepError> {
+pub fn after_let(alloc: Global, part: LetPart, token: Token) -> Result<Part, StepError>
+    ensures { Gives part_of result (after_let (let_of part) token) }
+{
     match part {
-        LetPart::Keyword => Ok(Part::Let(keyword_read(alloc, token)?)),
+        LetPart::Keyword => keyword_read(alloc, token),
         LetPart::Named(name) => after_name(alloc, name, token),
-        LetPart::And(group) => Ok(Part::Let(bound_name(group, token)?)),
+        LetPart::And(group) => bound_name(group, token),
         LetPart::Bound(group, name) => after_bound(alloc, group, name, token),
-        LetPart::Parameter(name, parameters) => {
-            Ok(Part::Let(parameter_read(name, parameters, token)?))
-        }
-        LetPart::AfterParameter(name, parameters) => {
-            Ok(Part::Let(after_parameter(name, parameters, token)?))
-        }
+        LetPart::Parameter(name, parameters) => parameter_read(name, parameters, token),
+        LetPart::AfterParameter(name, parameters) => after_parameter(name, parameters, token),
         LetPart::Parameters(name, parameters) => after_parameters(alloc, name, parameters, token),
     }
 }

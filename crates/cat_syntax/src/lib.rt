@@ -2,10 +2,12 @@
 #![tactic(auto)]
 
 mod fault;
+mod frames;
 mod items;
 mod lets;
 mod lexer;
 mod model;
+mod parts;
 mod predefined;
 mod print;
 mod read;

@@ -4,7 +4,7 @@ use Rattle.std.specs.Prelude.{◌&&◌}
 use Rattle.std.proofs.lemmas.List.{at_drop_more, at_drop_all}
 use Rattle.cat_syntax.specs.Reading.{is_no_bracket}
 use Rattle.cat_syntax.proofs.Stack.{is_outermost-stack}
-use Rattle.cat_syntax.proofs.terms.are_outermost.Goals as goal
+use Rattle.cat_syntax.proofs.frames.are_outermost.Goals as goal
 
 pub returns-then-not-is_no_bracket : goal.returns-then-not-is_no_bracket
 returns-then-not-is_no_bracket c =

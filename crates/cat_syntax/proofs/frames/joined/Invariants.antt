@@ -1,7 +1,7 @@
 use Rattle.std.proofs.Common.{◌≡◌, vec_len}
 use Rattle.cat_syntax.specs.Machine.{fold_to}
 use Rattle.cat_syntax.specs.Reading.{term_of, stack_of}
-use Rattle.cat_syntax.proofs.terms.joined.Given as goal
+use Rattle.cat_syntax.proofs.frames.joined.Given as goal
 
 abbrev pub invariant-loop-frame : goal.invariant-loop-frame
 invariant-loop-frame l =

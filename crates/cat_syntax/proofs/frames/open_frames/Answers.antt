@@ -2,7 +2,7 @@ use Rattle.std.proofs.Common.{◌≡◌, rules, ◌∙◌, sym}
 use Rattle.std.specs.Prelude.{count_by}
 use Rattle.cat_syntax.specs.Reading.{is_open}
 use Rattle.cat_syntax.proofs.Stack.{open_count-stack}
-use Rattle.cat_syntax.proofs.terms.open_frames.Goals as goal
+use Rattle.cat_syntax.proofs.frames.open_frames.Goals as goal
 
 pub returns : goal.returns
 returns c =

@@ -1,8 +1,8 @@
 use Rattle.std.proofs.Common.{ap, refl}
-use Rattle.cat_syntax.specs.declared.terms.Frame.TheVariants as frames
+use Rattle.cat_syntax.specs.declared.frames.Frame.TheVariants as frames
 use Rattle.cat_syntax.specs.Reading.{term_of}
 use Rattle.cat_syntax.proofs.Stack.{popped_prefix, popped_left, popped_stays, popped_bracket}
-use Rattle.cat_syntax.proofs.terms.joined.Goals as goal
+use Rattle.cat_syntax.proofs.frames.joined.Goals as goal
 
 pub loop-frame-preserved-in-Prefix : goal.loop-frame-preserved-in-Prefix
 loop-frame-preserved-in-Prefix c =

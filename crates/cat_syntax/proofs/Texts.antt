@@ -1,0 +1,137 @@
+-- The loop over a text.
+use Rattle.std.proofs.Common.{◌≡◌, ℕ, zero, suc, ◌+◌, ◌-◌, ◌<◌, ◌≤◌, List, [], ◌∷◌, ◌++◌, length, take, drop, Result, Ok, Err, refl, sym, ap, ◌∙◌, subst, arith, min, inl, inr, ◌⊎◌}
+use Rattle.std.specs.Prelude.{max, nat_lt, Bool, true, false, if◌then◌else◌}
+use Rattle.std.proofs.lemmas.Bool.Decides.{nat_tests}
+use Rattle.std.proofs.lemmas.Bool.{cases_lt}
+use Rattle.std.proofs.lemmas.List.{at_drop_more, drop_more, drop_all, length-drop}
+use Rattle.std.proofs.lemmas.List.{drop-drop, take_all}
+use Rattle.cat_syntax.specs.declared.fault.CatFault.{CatFault}
+use Rattle.cat_syntax.specs.declared.fault.CatFault.TheVariants as faults
+use Rattle.cat_syntax.specs.declared.fault.CatRule.TheVariants.{TooLong, Syntax}
+use Rattle.cat_syntax.specs.declared.fault.CatRule.{CatRule}
+use Rattle.cat_syntax.specs.declared.model.Item.{Item}
+use Rattle.cat_syntax.specs.Value.{Clause}
+use Rattle.cat_syntax.specs.ReadingItems.{clause_of, clauses_of}
+use Rattle.cat_syntax.specs.declared.parts.Form.{Form}
+use Rattle.cat_syntax.specs.declared.token.Token.{Token}
+use Rattle.cat_syntax.specs.declared.token.Token.TheVariants as tokens
+use Rattle.cat_syntax.specs.declared.lexer.Front.{Front}
+use Rattle.cat_syntax.specs.declared.lexer.Front.TheVariants.{Layout, Lexeme}
+use Rattle.cat_syntax.specs.Lexer.{front}
+use Rattle.cat_syntax.specs.Machine.{Limits}
+use Rattle.cat_syntax.specs.ItemMachine.{State, step, start}
+use Rattle.cat_syntax.specs.Reading.{limits}
+use Rattle.cat_syntax.specs.ReadingTexts.{Placed, after_front, tokens_from, Ran, placed, and_then, run, items_of, reading, lexed, FailsAt, last_item, the_item}
+
+-- passing over bytes
+pub tokens_skip : (k place : ℕ) (bs : List ℕ) → k ≤ length bs → tokens_from k place bs ≡ tokens_from 0 (place + k) (drop k bs)
+unfolding tokens_from
+tokens_skip zero place bs h = ap (λ n. tokens_from 0 n bs) (omega arith)
+tokens_skip (suc k) place [] h = absurd (omega arith)
+tokens_skip (suc k) place (b ∷ bs) h =
+    tokens_skip k (place + 1) bs (omega arith) ∙ ap (λ n. tokens_from 0 n (drop k bs)) (omega arith)
+
+pub tokens_past : (k place : ℕ) (bs : List ℕ) → length bs ≤ k → tokens_from k place bs ≡ tokens_from 0 (place + length bs) []
+unfolding tokens_from
+tokens_past zero place [] h = ap (λ n. record { token = tokens.End; place = n } ∷ []) (omega arith)
+tokens_past zero place (b ∷ bs) h = absurd (omega arith)
+tokens_past (suc k) place [] h = ap (λ n. record { token = tokens.End; place = n } ∷ []) (omega arith)
+tokens_past (suc k) place (b ∷ bs) h = tokens_past k (place + 1) bs (omega arith) ∙ ap (λ n. tokens_from 0 n []) (omega arith)
+
+-- one token, or what stands between tokens
+module _ (bytes : List ℕ) (p n q : ℕ) (lt : p < length bytes) (is : q ≡ p + min (max n 1) (length bytes - p)) where
+  next : tokens_from (n - 1) (p + 1) (drop (p + 1) bytes) ≡ tokens_from 0 q (drop q bytes)
+  next = choose (cases_lt (n - 1) (length (drop (p + 1) bytes)))
+    where
+      choose : ((n - 1) < length (drop (p + 1) bytes)) ⊎ (length (drop (p + 1) bytes) ≤ (n - 1)) → tokens_from (n - 1) (p + 1) (drop (p + 1) bytes) ≡ tokens_from 0 q (drop q bytes)
+      choose (inl less) =
+          let le : n - 1 ≤ length (drop (p + 1) bytes) = omega arith in
+          let l = length-drop (p + 1) bytes in
+          let e : p + 1 + (n - 1) ≡ q = omega arith in
+          tokens_skip (n - 1) (p + 1) (drop (p + 1) bytes) le ∙ ap (tokens_from 0 (p + 1 + (n - 1))) (drop-drop (n - 1) (p + 1) bytes) ∙ ap (λ k. tokens_from 0 k (drop k bytes)) e
+      choose (inr le) =
+          let l = length-drop (p + 1) bytes in
+          let e : p + 1 + length (drop (p + 1) bytes) ≡ q = omega arith in
+          tokens_past (n - 1) (p + 1) (drop (p + 1) bytes) le ∙ ap (λ k. tokens_from 0 k []) e ∙ ap (tokens_from 0 q) (sym (drop_all q bytes (omega arith)))
+
+  opens_with : (f : Front) → f ≡ front (drop p bytes) → tokens_from 0 p (drop p bytes) ≡ after_front p f (λ skip. tokens_from skip (p + 1) (drop (p + 1) bytes))
+  unfolding tokens_from
+  opens_with f e =
+      at_drop_more (tokens_from 0 p) bytes p 0 lt
+      ∙ ap (λ (g : Front). after_front p g (λ skip. tokens_from skip (p + 1) (drop (p + 1) bytes))) (ap front (sym (drop_more bytes p 0 lt)) ∙ sym e)
+
+  pub layout_turn : (f : Front) → f ≡ front (drop p bytes) → f ≡ Layout n → tokens_from 0 p (drop p bytes) ≡ tokens_from 0 q (drop q bytes)
+  layout_turn f e k = opens_with f e ∙ ap (λ (g : Front). after_front p g (λ skip. tokens_from skip (p + 1) (drop (p + 1) bytes))) k ∙ next
+
+  pub lexeme_turn : (f : Front) (t : Token) → f ≡ front (drop p bytes) → f ≡ Lexeme t n → tokens_from 0 p (drop p bytes) ≡ record { token = t; place = p } ∷ tokens_from 0 q (drop q bytes)
+  lexeme_turn f t e k =
+      opens_with f e ∙ ap (λ (g : Front). after_front p g (λ skip. tokens_from skip (p + 1) (drop (p + 1) bytes))) k ∙ ap (λ (ps : List Placed). record { token = t; place = p } ∷ ps) next
+
+pub at_end : (bytes : List ℕ) (p : ℕ) → p ≤ length bytes → length bytes ≤ p → tokens_from 0 p (drop p bytes) ≡ record { token = tokens.End; place = p } ∷ []
+unfolding tokens_from
+at_end bytes p low high = ap (tokens_from 0 p) (drop_all p bytes high)
+
+-- the reader's turns
+module _ (most : Limits) (form : Form) (bytes : List ℕ) (before : ℕ) (s : State) (p n q : ℕ) (all : Ran) (so_far : all ≡ run most form before s (tokens_from 0 p (drop p bytes))) where
+  whole_rest : front (take (length bytes - p) (drop p bytes)) ≡ front (drop p bytes)
+  whole_rest = ap front (take_all (length bytes - p) (drop p bytes) (let l = length-drop p bytes in omega arith))
+
+  pub layout_run : (f : Front) → p < length bytes → q ≡ p + min (max n 1) (length bytes - p) → f ≡ front (take (length bytes - p) (drop p bytes)) → f ≡ Layout n → all ≡ run most form before s (tokens_from 0 q (drop q bytes))
+  layout_run f lt is e k = so_far ∙ ap (run most form before s) (layout_turn bytes p n q lt is f (e ∙ whole_rest) k)
+
+  pub lexeme_run : (f : Front) (t : Token) (s' : State) → p < length bytes → q ≡ p + min (max n 1) (length bytes - p) → f ≡ front (take (length bytes - p) (drop p bytes)) → f ≡ Lexeme t n → placed before p (step most form s t) ≡ Ok s' → all ≡ run most form p s' (tokens_from 0 q (drop q bytes))
+  lexeme_run f t s' lt is e k taken =
+      so_far ∙ ap (run most form before s) (lexeme_turn bytes p n q lt is f t (e ∙ whole_rest) k) ∙ ap (λ (r : Ran). and_then r (λ x. run most form p x (tokens_from 0 q (drop q bytes)))) taken
+
+  pub lexeme_fails : (f : Front) (t : Token) (d : CatFault) → p < length bytes → f ≡ front (take (length bytes - p) (drop p bytes)) → f ≡ Lexeme t n → FailsAt d (placed before p (step most form s t)) → FailsAt d all
+  lexeme_fails f t (faults.OutOfMemory x) lt e k fails = tt
+  lexeme_fails f t (faults.Refused rule place) lt e k fails =
+      let r = p + min (max n 1) (length bytes - p) in
+      so_far ∙ ap (run most form before s) (lexeme_turn bytes p n r lt refl f t (e ∙ whole_rest) k) ∙ ap (λ (y : Ran). and_then y (λ z. run most form p z (tokens_from 0 r (drop r bytes)))) fails
+
+  pub end_run : (s' : State) → p ≤ length bytes → length bytes ≤ p → placed before p (step most form s tokens.End) ≡ Ok s' → all ≡ Ok s'
+  end_run s' low high taken =
+      so_far ∙ ap (run most form before s) (at_end bytes p low high) ∙ ap (λ (r : Ran). and_then r (λ x. Ok x)) taken
+
+  pub end_fails : (d : CatFault) → p ≤ length bytes → length bytes ≤ p → FailsAt d (placed before p (step most form s tokens.End)) → FailsAt d all
+  end_fails (faults.OutOfMemory x) low high fails = tt
+  end_fails (faults.Refused rule place) low high fails =
+      so_far ∙ ap (run most form before s) (at_end bytes p low high) ∙ ap (λ (r : Ran). and_then r (λ x. Ok x)) fails
+
+-- the length is looked at first
+lt_true : (l n : ℕ) → l < n → nat_lt l n ≡ true
+lt_true l n h = grind (arith, nat_tests)
+
+ge_false : (l n : ℕ) → n ≤ l → nat_lt l n ≡ false
+ge_false l n h = grind (arith, nat_tests)
+
+pub too_long : (form : Form) (bytes : List ℕ) → 65536 < length bytes → reading form bytes ≡ Err (TooLong, 65536)
+unfolding reading
+too_long form bytes lt =
+    ap (λ (b : Bool). if b then Err (TooLong, 65536) else items_of (run limits form 0 (start form) (lexed bytes))) (lt_true 65536 (length bytes) lt)
+
+pub fits : (form : Form) (bytes : List ℕ) → length bytes ≤ 65536 → reading form bytes ≡ items_of (run limits form 0 (start form) (lexed bytes))
+unfolding reading
+fits form bytes le =
+    ap (λ (b : Bool). if b then Err (TooLong, 65536) else items_of (run limits form 0 (start form) (lexed bytes))) (ge_false 65536 (length bytes) le)
+
+pub refused : (form : Form) (bytes : List ℕ) (d : CatFault) → length bytes ≤ 65536 → FailsAt d (run limits form 0 (start form) (lexed bytes)) → FailsAt d (reading form bytes)
+refused form bytes (faults.OutOfMemory x) le fails = tt
+refused form bytes (faults.Refused rule place) le fails = fits form bytes le ∙ ap items_of fails
+
+-- the item that was pushed last
+pub last_pushed : (n : ℕ) (xs : List Item) (x : Item) → last_item n (clauses_of (xs ++ x ∷ [])) ≡ Ok (clause_of x)
+last_pushed n [] x = refl
+last_pushed n (y ∷ []) x = refl
+last_pushed n (y ∷ z ∷ xs) x = last_pushed n (z ∷ xs) x
+
+pub popped_item : (n : ℕ) (all rest : List Item) (x : Item) (made : Result (List Clause) (CatRule × ℕ)) → made ≡ Ok (clauses_of all) → all ≡ rest ++ x ∷ [] → the_item n made ≡ Ok (clause_of x)
+popped_item n all rest x made read split =
+    ap (the_item n) read ∙ ap (λ (is : List Item). last_item n (clauses_of is)) split ∙ last_pushed n rest x
+
+pub no_item : (n : ℕ) (all : List Item) (made : Result (List Clause) (CatRule × ℕ)) → made ≡ Ok (clauses_of all) → all ≡ [] → the_item n made ≡ Err (Syntax, n)
+no_item n all made read none = ap (the_item n) read ∙ ap (λ (is : List Item). last_item n (clauses_of is)) none
+
+pub item_refused : (n : ℕ) (d : CatFault) (made : Result (List Clause) (CatRule × ℕ)) → FailsAt d made → FailsAt d (the_item n made)
+item_refused n (faults.OutOfMemory x) made fails = tt
+item_refused n (faults.Refused rule place) made fails = ap (the_item n) fails

@@ -1,0 +1,105 @@
+-- What the reader holds of the items, as the machine sees it.
+use Rattle.std.specs.Prelude.{◌≡◌, ℕ, List, Option, map, Result, Ok, Err}
+use Rattle.cat_syntax.specs.declared.frames.StepError.{StepError}
+use Rattle.cat_syntax.specs.declared.frames.StepError.TheVariants as errors
+use Rattle.cat_syntax.specs.declared.frames.Fed.{Fed}
+use Rattle.cat_syntax.specs.declared.frames.Fed.TheVariants as feds
+use Rattle.cat_syntax.specs.declared.token.Token.{Token}
+use Rattle.cat_syntax.specs.declared.token.Token.TheVariants as tokens
+use Rattle.cat_syntax.specs.declared.model.Binding as code_binding
+use Rattle.cat_syntax.specs.declared.model.ShownExpression.{ShownExpression}
+use Rattle.cat_syntax.specs.declared.model.Check as code_check
+use Rattle.cat_syntax.specs.declared.model.Item.{Item}
+use Rattle.cat_syntax.specs.declared.model.Item.TheVariants as items
+use Rattle.cat_syntax.specs.declared.lets.Group as code_group
+use Rattle.cat_syntax.specs.declared.lets.LetPart as code_let
+use Rattle.cat_syntax.specs.declared.lets.LetPart.TheVariants as lets
+use Rattle.cat_syntax.specs.declared.parts.ShowHead.{ShowHead}
+use Rattle.cat_syntax.specs.declared.parts.Head as code_head
+use Rattle.cat_syntax.specs.declared.parts.Head.TheVariants as heads
+use Rattle.cat_syntax.specs.declared.parts.Part as code_part
+use Rattle.cat_syntax.specs.declared.parts.Part.TheVariants as parts
+use Rattle.cat_syntax.specs.Value.{Term, Clause, Checked, Binding, Function, Checking, Flagging, Showing, Including}
+use Rattle.cat_syntax.specs.Machine as terms
+use Rattle.cat_syntax.specs.ItemMachine as machine
+use Rattle.cat_syntax.specs.Reading.{term_of, stack_of, hole_of}
+
+abbrev pub binding_of : code_binding.Binding → List ℕ × Term
+binding_of b = (b.name, term_of b.body)
+
+abbrev pub shown_of : ShownExpression → Term × Option (List ℕ)
+shown_of s = (term_of s.body, s.label)
+
+abbrev pub check_of : code_check.Check → Checked
+check_of c = record { negated = c.negated; word = c.word; body = term_of c.body }
+
+abbrev pub clause_of : Item → Clause
+clause_of (items.Let recursive group) = Binding recursive (map binding_of group.items)
+clause_of (items.Function name parameters body) = Function name parameters.items (term_of body)
+clause_of (items.Check check label) = Checking (check_of check) label
+clause_of (items.Flag check label) = Flagging (check_of check) label
+clause_of (items.Show hidden shown) = Showing hidden (map shown_of shown.items)
+clause_of (items.Include path) = Including path
+
+abbrev pub clauses_of : List Item → List Clause
+clauses_of is = map clause_of is
+
+abbrev pub group_of : code_group.Group → machine.Group
+group_of g = record { recursive = g.recursive; bindings = map binding_of g.bindings.items }
+
+abbrev pub show_of : ShowHead → machine.Shown
+show_of s = record { hidden = s.hidden; terms = map shown_of s.shown.items }
+
+abbrev pub let_of : code_let.LetPart → machine.LetPart
+let_of lets.Keyword = machine.Keyword
+let_of (lets.Named n) = machine.Named n
+let_of (lets.And g) = machine.And (group_of g)
+let_of (lets.Bound g n) = machine.Bound (group_of g) n
+let_of (lets.Parameter n ps) = machine.Parameter n ps.items
+let_of (lets.AfterParameter n ps) = machine.AfterParameter n ps.items
+let_of (lets.Parameters n ps) = machine.Parameters n ps.items
+
+abbrev pub head_of : code_head.Head → machine.Head
+head_of (heads.Bound g n) = machine.BoundHead (group_of g) n
+head_of (heads.Function n ps) = machine.FunctionHead n ps.items
+head_of (heads.Check h) = machine.CheckedHead h
+head_of (heads.Show s) = machine.ShownHead (show_of s)
+
+abbrev pub part_of : code_part.Part → machine.Part
+part_of parts.Title = machine.Title
+part_of parts.Start = machine.Start
+part_of (parts.Let p) = machine.InLet (let_of p)
+part_of parts.AfterFlag = machine.AfterFlag
+part_of (parts.AfterTilde flagged) = machine.AfterTilde flagged
+part_of (parts.Body h fs used hole) = machine.Body (head_of h) (stack_of fs.items) used (hole_of hole)
+part_of (parts.Label h v) = machine.Label h (term_of v)
+part_of (parts.ShowLabel s v) = machine.ShowLabel (show_of s) (term_of v)
+part_of (parts.AfterShowLabel s) = machine.AfterShowLabel (show_of s)
+part_of parts.AfterInclude = machine.AfterInclude
+part_of parts.Done = machine.Done
+
+-- What a function returned, seen by view, is what the machine does, unless memory ran out.
+abbrev pub Fails : {Y : Type 0} → StepError → Result Y machine.Fault → Type 0
+Fails errors.OutOfMemory made = Unit {0}
+Fails (errors.Refused k) made = made ≡ Err (machine.Here k)
+Fails (errors.RefusedBefore k) made = made ≡ Err (machine.Before k)
+
+abbrev pub Gives : {X Y : Type 0} → (X → Y) → Result X StepError → Result Y machine.Fault → Type 0
+Gives view (Ok x) made = made ≡ Ok (view x)
+Gives view (Err e) made = Fails e made
+
+-- the part that a step leads to, beside the items
+abbrev pub Steps : Result code_part.Part StepError → List Item → Result machine.State machine.Fault → Type 0
+Steps (Ok p) is made = made ≡ Ok (record { items = clauses_of is; part = part_of p })
+Steps (Err e) is made = Fails e made
+
+abbrev pub fed_of : Fed → terms.Fed
+fed_of (feds.Goes fs used hole) = terms.Goes (stack_of fs.items) used (hole_of hole)
+fed_of (feds.Ends v t) = terms.Ends (term_of v)
+fed_of (feds.EndsTilde v w) = terms.EndsTilde (term_of v)
+
+-- the token that came back
+abbrev pub token_of : Fed → Token
+token_of (feds.Goes fs used hole) = tokens.End
+token_of (feds.Ends v t) = t
+token_of (feds.EndsTilde v w) = tokens.Check w

@@ -1,0 +1,126 @@
+//! Where in an item the reader stands.
+
+ghost use Rattle.std.specs.Prelude.{◌≡◌, IfOk};
+ghost use Rattle.cat_syntax.specs.Reading.{term_of};
+ghost use Rattle.cat_syntax.specs.ItemMachine.{checked, shown_also, shown_clause, begin_body, begin_check, begin_show};
+ghost use Rattle.cat_syntax.specs.ReadingItems.{check_of, show_of, clause_of, head_of, part_of};
+
+use crate::frames::{Frame, Hole};
+use crate::lets::{Group, LetPart};
+use crate::model::{Check, CheckWord, Expression, Item, ShownExpression};
+use source_text::Name;
+use std::alloc::{AllocError, Global};
+
+/// What the text is read as.
+#[derive(Clone, Copy, Debug, PartialEq, Eq)]
+pub enum Form {
+    Model,
+    Item,
+}
+
+/// A check whose expression is read.
+#[derive(Clone, Copy, Debug, PartialEq, Eq)]
+pub struct CheckHead {
+    pub flagged: bool,
+    pub negated: bool,
+    pub word: CheckWord,
+}
+
+/// The expressions of a `show` or an `unshow` so far.
+#[derive(Debug, Drop)]
+pub struct ShowHead {
+    pub hidden: bool,
+    pub shown: Vec<ShownExpression>,
+}
+
+/// The item whose expression is read.
+#[derive(Debug, Drop)]
+pub enum Head {
+    Bound(Group, Name),
+    Function(Name, Vec<Name>),
+    Check(CheckHead),
+    Show(ShowHead),
+}
+
+/// Where the reader stands.
+#[derive(Debug, Drop)]
+pub enum Part {
+    /// Where a title may stand.
+    Title,
+    Start,
+    Let(LetPart),
+    AfterFlag,
+    /// After `~`, with whether the check is a flag's.
+    AfterTilde(bool),
+    Body(Head, Vec<Frame>, usize, Hole),
+    /// After a check's `as`.
+    Label(CheckHead, Expression),
+    /// After the `as` of a shown expression.
+    ShowLabel(ShowHead, Expression),
+    /// After that label.
+    AfterShowLabel(ShowHead),
+    AfterInclude,
+    Done,
+}
+
+/// Where an item's expression begins.
+pub fn body_begun(alloc: Global, head: Head) -> Part
+    ensures { part_of result ≡ begin_body (head_of head) }
+{
+    Part::Body(head, Vec::new(alloc), 0, Hole::Wants)
+}
+
+/// Where the expression of a check begins.
+pub fn check_body(alloc: Global, flagged: bool, negated: bool, word: CheckWord) -> Part
+    ensures { part_of result ≡ begin_check flagged negated word }
+{
+    let head = CheckHead {
+        flagged,
+        negated,
+        word,
+    };
+    body_begun(alloc, Head::Check(head))
+}
+
+/// Where the first expression of a `show` begins.
+pub fn show_body(alloc: Global, hidden: bool) -> Part
+    ensures { part_of result ≡ begin_show hidden }
+{
+    let head = ShowHead {
+        hidden,
+        shown: Vec::new(alloc),
+    };
+    body_begun(alloc, Head::Show(head))
+}
+
+impl CheckHead {
+    /// The check with its expression.
+    pub fn with(self, body: Expression) -> Check
+        ensures { check_of result ≡ checked self (term_of body) }
+    {
+        Check {
+            negated: self.negated,
+            word: self.word,
+            body,
+        }
+    }
+}
+
+impl ShowHead {
+    /// One more expression.
+    pub fn with(self, body: Expression, label: Option<Name>) -> Result<ShowHead, AllocError>
+        ensures { IfOk result (λ s. show_of s ≡ shown_also (show_of self) (term_of body) label) }
+    {
+        let ShowHead { hidden, mut shown } = self;
+        shown.push(ShownExpression { body, label })?;
+        Ok(ShowHead { hidden, shown })
+    }
+
+    /// The item of the show.
+    pub fn into_item(self) -> Item
+        ensures { clause_of result ≡ shown_clause (show_of self) }
+    {
+        let ShowHead { hidden, shown } = self;
+        Item::Show { hidden, shown }
+    }
+}
