@@ -4,6 +4,8 @@ use Rattle.std.specs.Int.{bit_at}
 use Rattle.binding_graph.specs.declared.resolved.Step.{Step}
 use Rattle.binding_graph.specs.declared.resolved.Step.TheVariants as steps
 use Rattle.binding_graph.specs.declared.resolved.Body.{Body}
+use Rattle.binding_graph.specs.declared.resolved.Role.{Role}
+use Rattle.binding_graph.specs.declared.resolved.Role.TheVariants as roles
 use Rattle.binding_graph.specs.declared.resolved.Source.{Source}
 use Rattle.binding_graph.specs.declared.resolved.Source.TheVariants as sources
 
@@ -40,3 +42,9 @@ UsesAny names xs = Any (UsesOne names) xs
 -- the body at this position of a group uses one of these names
 abbrev pub UsesAt : ℕ → List Body → ℕ → Type 0
 UsesAt names bodies position = (body : Body) × (position < length bodies) × (slice_index_or bodies position body ≡ body) × UsesAny names body.code.steps.items
+
+-- an item's body at this position uses one of these names of its own group
+abbrev pub UsesIn : ℕ → Role → ℕ → Type 0
+UsesIn names (roles.Group recursive bodies) position = UsesAt names bodies.items position
+UsesIn names (roles.Check check) position = ⊥
+UsesIn names roles.Silent position = ⊥

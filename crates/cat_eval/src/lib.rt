@@ -11,6 +11,7 @@ mod machine;
 mod names;
 mod needs;
 pub mod rounds;
+mod shape;
 mod solver;
 mod stack;
 mod walk;

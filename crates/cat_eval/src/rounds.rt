@@ -1,7 +1,7 @@
 //! Which names of a recursive group have to be computed anew.
 
-ghost use Rattle.std.specs.Prelude.{◌≡◌, ℕ, ◌<◌, ◌↔◌, ◌⊎◌, length, IsTrue, Any};
-ghost use Rattle.cat_eval.specs.Uses.{IsAmong, UsesOne, UsesAny, UsesAt};
+ghost use Rattle.std.specs.Prelude.{◌≡◌, ℕ, ◌<◌, ◌↔◌, ◌⊎◌, length, slice_get, IfSome, IsTrue, Any};
+ghost use Rattle.cat_eval.specs.Uses.{IsAmong, UsesOne, UsesAny, UsesAt, UsesIn};
 
 use binding_graph::{Body, Resolved, ResolvedItem, Role, Source, Step};
 
@@ -72,15 +72,20 @@ fn next_among(bodies: &[Body], grew: u64) -> u64
 
 /// The names of an item, a `let rec`, whose bodies use a name that grew: the bit of a name is
 /// that of its position in the group, from 0. Takes no memory.
-pub fn next_of(item: &ResolvedItem, grew: u64) -> u64 {
+pub fn next_of(item: &ResolvedItem, grew: u64) -> u64
+    ensures { (k : ℕ) → k < 64 → IsAmong result k ↔ UsesIn grew item.now.role k }
+{
     match &item.role {
         Role::Group { bodies, .. } => next_among(bodies, grew),
-        Role::Check(_) | Role::Silent => 0,
+        Role::Check(_) => 0,
+        Role::Silent => 0,
     }
 }
 
 /// The same for an item of a model, by its place. Takes no memory.
-pub fn next(resolved: &Resolved, item: usize, grew: u64) -> u64 {
+pub fn next(resolved: &Resolved, item: usize, grew: u64) -> u64
+    ensures { IfSome (slice_get resolved.now.items.items item) (λ found. (k : ℕ) → k < 64 → IsAmong result k ↔ UsesIn grew found.role k) }
+{
     match resolved.items.get(item) {
         Some(found) => next_of(found, grew),
         None => 0,

@@ -4,6 +4,7 @@ ghost use Rattle.std.specs.Prelude.{◌≡◌, ℕ, ◌+◌, ◌*◌, length, On
 ghost use Rattle.cat_eval.specs.Candidates.{combined_count, candidate_count};
 
 use crate::needs::Needs;
+use crate::shape::is_same_shape;
 use base_env::Base;
 use candidates::{Combination, Space};
 use std::alloc::{AllocError, Global};
@@ -36,7 +37,7 @@ fn visit_orders<V: Visit>(
     Ok(())
 }
 
-/// Visits the candidates of a combination.
+/// Visits the candidates of a combination, which the base has entered.
 fn visit_combination<V: Visit>(
     combination: &Combination,
     needs: &Needs,
@@ -45,7 +46,6 @@ fn visit_combination<V: Visit>(
 ) -> Result<(), AllocError>
     ensures { (lists n : ℕ) → V.has_taken visitor.old lists n → OnOk result (V.has_taken visitor.new lists (n + combined_count combination.now)) }
 {
-    base.enter(combination);
     for sources in &combination.sources {
         if needs.reads {
             base.read_from(combination, sources);
@@ -53,6 +53,14 @@ fn visit_combination<V: Visit>(
         visit_orders(combination, needs, base, visitor)?;
     }
     Ok(())
+}
+
+/// Whether the base need not be made anew for a combination after it was made for another one.
+fn is_entered(entered: Option<&Combination>, combination: &Combination) -> bool {
+    match entered {
+        Some(earlier) => is_same_shape(earlier, combination),
+        None => false,
+    }
 }
 
 /// Visits all candidates of a space, in order, with the predefined names that are needed.
@@ -65,7 +73,12 @@ pub(crate) fn visit_all<V: Visit>(
     ensures { (lists : ℕ) → V.has_taken visitor.old lists 0 → OnOk result (V.has_taken visitor.new lists (candidate_count space.now)) }
 {
     let mut base = Base::of_names(alloc, &needs.names)?;
+    let mut entered = None;
     for combination in &space.combinations {
+        if !is_entered(entered, combination) {
+            base.enter(combination);
+        }
+        entered = Some(combination);
         visit_combination(combination, needs, &mut base, visitor)?;
     }
     Ok(())
