@@ -4,11 +4,9 @@
 
 use litmusbench::eval;
 use std::alloc::{AllocError, Global};
-use std::env;
-use std::fs;
-use std::io;
 use std::rt::{Clock, Env, Files};
 use std::time::Instant;
+use std::{env, fs, io};
 
 /// At most this many evaluations of one pair.
 const MOST: u32 = 100_000;

@@ -4,9 +4,8 @@
 
 use litmusbench::eval;
 use std::alloc::{AllocError, Global};
-use std::fs;
-use std::io;
 use std::rt::Files;
+use std::{fs, io};
 
 /// A line of the list: a model, a test, and whether the whole log is printed.
 #[derive(Drop)]
