@@ -93,10 +93,10 @@ gap_comment text n k lt two le e f g =
     let short : n + k ≤ length text = omega (arith, ap length (from_here text n (omega arith)), length-drop n text) in (
       short,
       over_comment n k (drop n text) (simp length-drop (omega arith)) (ap (λ l. is_space (slice_index l 0)) same ∙ e) (ap begins_comment same ∙ f) (ap comment_of same ∙ g)
-      ∙ ap (gap_from (k - 1) (n + 1)) (drop-drop 1 n text)
-      ∙ skipped (k - 1) (n + 1) (drop (n + 1) text) (simp length-drop (omega arith))
-      ∙ ap (gap_from 0 (n + 1 + (k - 1))) (drop-drop (k - 1) (n + 1) text)
-      ∙ ap (λ m. gap_from 0 m (drop m text)) (omega arith),
+          ∙ ap (gap_from (k - 1) (n + 1)) (drop-drop 1 n text)
+          ∙ skipped (k - 1) (n + 1) (drop (n + 1) text) (simp length-drop (omega arith))
+          ∙ ap (gap_from 0 (n + 1 + (k - 1))) (drop-drop (k - 1) (n + 1) text)
+          ∙ ap (λ m. gap_from 0 m (drop m text)) (omega arith),
     )
 
 pub gap_open : (text : List ℕ) (n : ℕ) → n < length text
