@@ -1,16 +1,15 @@
 -- What is looked for in a group is the first fault.
-use Rattle.std.proofs.Common.{ℕ, ◌≡◌, ◌<◌, ◌+◌, ◌⊎◌, inl, inr, List, [], ◌∷◌, length, Bool, true, false, ◌&&◌, ◌||◌, Option, Some, None, refl, arith, sym, ◌∙◌, ap, rules}
+use Rattle.std.proofs.Common.{ℕ, ◌≡◌, ◌<◌, ◌+◌, ◌⊎◌, inl, inr, List, [], ◌∷◌, Bool, true, false, ◌&&◌, ◌||◌, Some, None, refl, arith, sym, rules}
 use Rattle.std.specs.Prelude.{if◌then◌else◌, bytes_eq}
 use Rattle.std.proofs.lemmas.Slice.Eq.{bytes_eq-Decides}
-use Rattle.binding_graph.specs.declared.fault.ModelFault.{ModelFault}
 use Rattle.binding_graph.specs.declared.fault.ModelFault.TheVariants as faults
 use Rattle.binding_graph.specs.declared.resolved.Kind.{Kind}
 use Rattle.binding_graph.specs.declared.resolved.Kind.TheVariants.{OfSet, OfRelation, OfAny}
 use Rattle.binding_graph.specs.Value.{Naming, Bound}
 use Rattle.binding_graph.specs.Kinds.{kind}
 use Rattle.binding_graph.specs.Faults.{width, IsAmong, IsFaultAt, IsFaultOfBinding, IsFaultIn}
-use Rattle.binding_graph.specs.Verdict.{or_else, is_seen, is_of_set, of_binding, first_in}
-use Rattle.binding_graph.proofs.First.{Judges, in_turn, moved, tested, inside, judged}
+use Rattle.binding_graph.specs.Verdict.{is_seen, is_of_set, of_binding, first_in}
+use Rattle.binding_graph.proofs.First.{Judges, in_turn, moved, inside, judged}
 
 seen_is : (ns : List (List ℕ)) (x : List ℕ) → is_seen ns x ≡ true → IsAmong ns x
 seen_is [] x e = absurd (let f : false ≡ true = e in cc)

@@ -1,16 +1,12 @@
 -- What is looked for in items is the first fault.
-use Rattle.std.proofs.Common.{ℕ, ◌≡◌, ◌<◌, ◌+◌, ◌⊎◌, inl, inr, List, [], ◌∷◌, length, Bool, true, false, ◌&&◌, ◌||◌, Option, Some, None, refl, arith, sym, ◌∙◌, ap, rules}
-use Rattle.std.specs.Prelude.{if◌then◌else◌, bytes_eq}
-use Rattle.std.proofs.lemmas.Slice.Eq.{bytes_eq-Decides}
+use Rattle.std.proofs.Common.{ℕ, ◌+◌, inl, inr, List, [], ◌∷◌, length, true, false, Option, Some, None, refl, arith, sym, ◌∙◌, ap}
 use Rattle.binding_graph.specs.declared.fault.ModelFault.{ModelFault}
 use Rattle.binding_graph.specs.declared.fault.ModelFault.TheVariants as faults
-use Rattle.binding_graph.specs.declared.resolved.Kind.{Kind}
-use Rattle.binding_graph.specs.declared.resolved.Kind.TheVariants.{OfSet, OfRelation, OfAny}
 use Rattle.binding_graph.specs.Value.{Naming, Clause, Group, Check, Mute, Defined}
 use Rattle.binding_graph.specs.Kinds.{kind, takes_body}
-use Rattle.binding_graph.specs.Faults.{width, IsAmong, IsFaultAt, IsFaultOfBinding, IsFaultIn, IsFaultOfItem, FirstFault, HasNoFault, with_own, extended}
-use Rattle.binding_graph.specs.Verdict.{or_else, is_seen, is_of_set, of_binding, first_in, first_of_item, first}
-use Rattle.binding_graph.proofs.First.{Judges, in_turn, moved, tested, inside, judged}
+use Rattle.binding_graph.specs.Faults.{IsFaultAt, IsFaultOfItem, FirstFault, HasNoFault, with_own, extended}
+use Rattle.binding_graph.specs.Verdict.{or_else, first_of_item, first}
+use Rattle.binding_graph.proofs.First.{Judges, in_turn, moved, tested, judged}
 use Rattle.binding_graph.proofs.FirstGroup.{judged_in}
 
 pub judged_item : (names : List Naming) (item : ℕ) (c : Clause) → Judges (IsFaultOfItem names item c) (first_of_item names item c)
