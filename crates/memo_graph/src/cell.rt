@@ -1,5 +1,8 @@
 //! A test under a model, from scratch.
 
+ghost use Rattle.std.specs.Prelude.{◌≡◌, IfOk};
+ghost use Rattle.verdict.specs.Judgement.{IsOutcomeOf, IsAnswerOf};
+
 use binding_graph::{CheckCode, ResolveFault, Resolved, ResolvedItem, Role, resolve, used};
 use candidates::{Space, space};
 use cat_eval::{Column, eval_check, eval_group};
@@ -143,7 +146,9 @@ fn evaluated(
     test: &Test,
     resolved: &Resolved,
     space: &Space,
-) -> Result<Outcome, AllocError> {
+) -> Result<Outcome, AllocError>
+    ensures { IfOk result (λ o. IsOutcomeOf test.now.condition.quantifier o) }
+{
     let found = answers(alloc, space, resolved)?;
     let flags = raised(alloc, &found.flags)?;
     outcome(
@@ -156,7 +161,10 @@ fn evaluated(
     )
 }
 
-fn refused(alloc: Global, test: &Test, refusal: Refusal) -> Result<Outcome, AllocError> {
+fn refused(alloc: Global, test: &Test, refusal: Refusal) -> Result<Outcome, AllocError>
+    ensures kind { IfOk result (λ o. o.kind ≡ test.now.condition.quantifier) }
+    ensures refusal { IfOk result (λ o. o.result ≡ OutcomeResult.Refused refusal) }
+{
     Ok(Outcome {
         kind: test.condition.quantifier,
         condition: print_condition(alloc, &test.condition)?,
@@ -164,7 +172,9 @@ fn refused(alloc: Global, test: &Test, refusal: Refusal) -> Result<Outcome, Allo
     })
 }
 
-fn over_candidates(alloc: Global, test: &Test, resolved: &Resolved) -> Result<Outcome, AllocError> {
+fn over_candidates(alloc: Global, test: &Test, resolved: &Resolved) -> Result<Outcome, AllocError>
+    ensures { IfOk result (λ o. IsAnswerOf test.now.condition.quantifier o) }
+{
     match space(alloc, test) {
         Ok(space) => evaluated(alloc, test, resolved, &space),
         Err(SpaceFault::Refused(refusal)) => refused(alloc, test, Refusal::Space(refusal)),
@@ -174,7 +184,9 @@ fn over_candidates(alloc: Global, test: &Test, resolved: &Resolved) -> Result<Ou
 
 /// What the test says under the model: a fault of the model first, then a refusal of the test, and
 /// else the evaluation of all its candidates.
-pub fn eval_cell(alloc: Global, test: &Test, model: &ModelText) -> Result<Outcome, AllocError> {
+pub fn eval_cell(alloc: Global, test: &Test, model: &ModelText) -> Result<Outcome, AllocError>
+    ensures { IfOk result (λ o. IsAnswerOf test.now.condition.quantifier o) }
+{
     match resolve(alloc, model) {
         Ok(resolved) => over_candidates(alloc, test, &resolved),
         Err(ResolveFault::Refused(fault)) => refused(alloc, test, Refusal::Model(fault)),
