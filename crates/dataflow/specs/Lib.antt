@@ -1,3 +1,5 @@
 pub mod Chains
 pub mod Law
 pub mod Execution
+pub mod Taints
+pub mod Within

@@ -1,70 +1,46 @@
-//! The dependencies of a run, in one pass.
-ghost use Rattle.std.specs.Prelude.{◌<◌, ◌≤◌, IfOk, length, vec_len};
+//! The dependencies of a run.
+ghost use Rattle.std.specs.Prelude.{ℕ, ◌≡◌, ◌<◌, ◌≤◌, IfOk, All, length, replicate};
+ghost use Rattle.dataflow.specs.Chains as chains;
+ghost use Rattle.dataflow.specs.Taints as taint;
+ghost use Rattle.dataflow.specs.Within.{IsPairWithin, IsWithin};
+ghost use Rattle.ppc_semantics.specs.Runs as runs;
 
 use crate::lists::Links;
-use crate::taints::{Taints, is_event};
+use crate::taints::{Taints, is_event, no_taints, note, operands, reach};
 use litmus_ppc::Fence;
 use ppc_semantics::{Instruction, Run, RunStep};
 use std::alloc::{AllocError, Global};
 
-/// For one event, the loads that reach it in each way.
-#[derive(Clone, Copy)]
-struct Column {
-    addr: u128,
-    data: u128,
-    ctrl: u128,
-    ctrlisync: u128,
-    need: u128,
-}
+/// For each event, the loads that reach it: bits, by their places among the events.
+type Columns = [u128; 128];
 
-/// A way for a load to reach an event.
-#[derive(Clone, Copy)]
-enum Way {
-    Addr,
-    Data,
-    Ctrl,
-    CtrlIsync,
-    Need,
-}
-
-impl Column {
-    fn of(&self, way: Way) -> u128 {
-        match way {
-            Way::Addr => self.addr,
-            Way::Data => self.data,
-            Way::Ctrl => self.ctrl,
-            Way::CtrlIsync => self.ctrlisync,
-            Way::Need => self.need,
+/// How many of the steps are events.
+fn event_count(steps: &[RunStep]) -> usize
+    ensures { result ≡ chains.event_place (runs.executed steps.now) (length steps.now) }
+{
+    let mut count = 0;
+    for step in steps {
+        if is_event(step.instruction) {
+            count += 1;
         }
     }
+    count
 }
 
-/// What is known of the loads along a run.
+/// What is known of the loads along a run, as far as control goes.
 #[derive(Drop)]
-struct Pass {
-    wide: Taints,
-    narrow: Taints,
+struct Control {
+    taints: Taints,
     branched: u128,
     synchronised: u128,
 }
 
-impl Pass {
-    fn new() -> Pass {
-        Pass {
-            wide: Taints::new(),
-            narrow: Taints::new(),
+impl Control {
+    fn new() -> Control {
+        Control {
+            taints: no_taints(),
             branched: 0,
             synchronised: 0,
-        }
-    }
-
-    fn column(&self, instruction: Instruction) -> Column {
-        Column {
-            addr: self.wide.address(instruction),
-            data: self.wide.stored(instruction),
-            ctrl: self.branched,
-            ctrlisync: self.synchronised,
-            need: self.narrow.stored(instruction),
         }
     }
 
@@ -74,45 +50,51 @@ impl Pass {
     {
         match instruction {
             Instruction::Branch(_, _) => {
-                self.branched |= self.wide.operands(instruction);
+                self.branched |= operands(&self.taints, instruction);
             }
             Instruction::Barrier(Fence::Isync) => {
                 self.synchronised |= self.branched;
             }
             _ => {}
         }
-        self.wide.note(instruction, false, place);
-        self.narrow.note(instruction, true, place);
+        note(&mut self.taints, instruction, false, place);
     }
 }
 
-/// The column of each event of the steps, at most `count`.
-fn columns(alloc: Global, steps: &[RunStep], count: usize) -> Result<Vec<Column>, AllocError>
-    requires { count ≤ 128 }
-    ensures { IfOk result (λ v. vec_len v ≤ count) }
-{
-    let mut pass = Pass::new();
-    let mut columns = Vec::new(alloc);
+/// For each event, the loads from which it is behind a conditional branch, or, where
+/// `synchronised`, behind an `isync` that is so.
+fn control_columns(steps: &[RunStep], synchronised: bool) -> Columns {
+    let mut control = Control::new();
+    let mut columns = [0; 128];
+    let mut place: u32 = 0;
     for step in steps {
-        let place = columns.len();
-        if place < count {
-            if is_event(step.instruction) {
-                columns.push(pass.column(step.instruction))?;
+        if place < 128 {
+            let event = is_event(step.instruction);
+            if event {
+                columns[place as usize] = if synchronised {
+                    control.synchronised
+                } else {
+                    control.branched
+                };
             }
-            pass.note(step.instruction, place as u32);
+            control.note(step.instruction, place);
+            if event {
+                place += 1;
+            }
         }
     }
-    Ok(columns)
+    columns
 }
 
-/// The pairs of one way, by rising loads.
-fn pairs(alloc: Global, columns: &[Column], way: Way) -> Result<Vec<(usize, usize)>, AllocError>
-    requires { length columns.now ≤ 128 }
+/// The pairs of a load and an event that it reaches, by rising loads.
+fn pairs(alloc: Global, columns: &Columns, count: usize) -> Result<Vec<(usize, usize)>, AllocError>
+    requires { count ≤ 128 }
+    ensures { IfOk result (λ v. All (IsPairWithin count) v.items) }
 {
     let mut pairs = Vec::new(alloc);
-    for from in 0..columns.len() {
-        for to in 0..columns.len() {
-            if (columns[to].of(way) >> from) & 1 == 1 {
+    for from in 0..count {
+        for to in 0..count {
+            if (columns[to] >> from) & 1 == 1 {
                 pairs.push((from, to))?;
             }
         }
@@ -120,16 +102,34 @@ fn pairs(alloc: Global, columns: &[Column], way: Way) -> Result<Vec<(usize, usiz
     Ok(pairs)
 }
 
+fn no_links(alloc: Global) -> Links
+    ensures { (n : ℕ) → IsWithin n result }
+{
+    Links {
+        addr_pairs: Vec::new(alloc),
+        data_pairs: Vec::new(alloc),
+        ctrl_pairs: Vec::new(alloc),
+        ctrlisync_pairs: Vec::new(alloc),
+        need_pairs: Vec::new(alloc),
+    }
+}
+
 /// How the loads of the run reach its events: along chains of instructions that are no accesses,
 /// each of which reads a register, or CR0, that was last written by the one before. An exclusive
-/// or of a register with itself carries all but `need`.
-pub fn links(alloc: Global, run: &Run) -> Result<Links, AllocError> {
-    let columns = columns(alloc, &run.steps, run.events.len())?;
+/// or of a register with itself carries all but `need`. A run of over 128 events has no links.
+pub fn links(alloc: Global, run: &Run) -> Result<Links, AllocError>
+    ensures { IfOk result (IsWithin (chains.event_place (runs.executed run.now.steps.items) (length run.now.steps.items))) }
+{
+    let steps = &run.steps;
+    let count = event_count(steps);
+    if count > 128 {
+        return Ok(no_links(alloc));
+    }
     Ok(Links {
-        addr_pairs: pairs(alloc, &columns, Way::Addr)?,
-        data_pairs: pairs(alloc, &columns, Way::Data)?,
-        ctrl_pairs: pairs(alloc, &columns, Way::Ctrl)?,
-        ctrlisync_pairs: pairs(alloc, &columns, Way::CtrlIsync)?,
-        need_pairs: pairs(alloc, &columns, Way::Need)?,
+        addr_pairs: pairs(alloc, &reach(steps, false, false), count)?,
+        data_pairs: pairs(alloc, &reach(steps, false, true), count)?,
+        ctrl_pairs: pairs(alloc, &control_columns(steps, false), count)?,
+        ctrlisync_pairs: pairs(alloc, &control_columns(steps, true), count)?,
+        need_pairs: pairs(alloc, &reach(steps, true, true), count)?,
     })
 }

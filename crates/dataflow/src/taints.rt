@@ -1,141 +1,201 @@
-//! Which loads reach what an instruction reads, as bits: the bit of a load is its place among
-//! the events of the run.
-ghost use Rattle.std.specs.Prelude.{◌<◌};
+//! How loads reach the events of a run, in one pass.
+ghost use Rattle.std.specs.Prelude.{◌≡◌, ◌<◌, ◌≤◌, true, length, replicate};
+ghost use Rattle.dataflow.specs.Chains as chains;
+ghost use Rattle.ppc_semantics.specs.Machine as machine;
+ghost use Rattle.ppc_semantics.specs.Runs as runs;
+ghost use Rattle.dataflow.specs.Taints as taint;
 
 use litmus_ppc::Operation;
-use ppc_semantics::Instruction;
+use ppc_semantics::{Instruction, RunStep};
 
-/// For each register, and for CR0, the loads that reach it.
+/// For each register, and for CR0, the loads that reach it: bits, by their places among the events.
 #[derive(Clone, Copy)]
 pub struct Taints {
-    pub registers: [u128; 32],
+    pub registers: [u128; 256],
     pub compared: u128,
 }
 
-impl Taints {
-    pub fn new() -> Taints {
-        Taints {
-            registers: [0; 32],
-            compared: 0,
-        }
-    }
-
-    fn bits_of(&self, register: u8) -> u128 {
-        match self.registers.get(usize::from(register)) {
-            Some(bits) => *bits,
-            None => 0,
-        }
-    }
-
-    fn put(&mut self, register: u8, bits: u128) {
-        if usize::from(register) < 32 {
-            self.registers[usize::from(register)] = bits;
-        }
-    }
-
-    /// The loads that reach an operand of the instruction, which is no access.
-    pub fn operands(&self, instruction: Instruction) -> u128 {
-        match instruction {
-            Instruction::Move(_, a)
-            | Instruction::AddImmediate(_, a, _)
-            | Instruction::CompareImmediate(a, _) => self.bits_of(a),
-            Instruction::Operate(_, _, a, b) | Instruction::Compare(a, b) => {
-                self.bits_of(a) | self.bits_of(b)
-            }
-            Instruction::Branch(_, _) => self.compared,
-            _ => 0,
-        }
-    }
-
-    /// The loads that reach the address of an access.
-    pub fn address(&self, instruction: Instruction) -> u128 {
-        match instruction {
-            Instruction::Load(_, a) | Instruction::Store(_, a) => self.bits_of(a),
-            Instruction::LoadIndexed(_, a, b) | Instruction::StoreIndexed(_, a, b) => {
-                self.bits_of(a) | self.bits_of(b)
-            }
-            _ => 0,
-        }
-    }
-
-    /// The loads that reach what an instruction stores.
-    pub fn stored(&self, instruction: Instruction) -> u128 {
-        match instruction {
-            Instruction::Store(d, _) | Instruction::StoreIndexed(d, _, _) => self.bits_of(d),
-            _ => 0,
-        }
-    }
-
-    /// The loads that reach what the instruction writes: the load itself, or, where the
-    /// instruction passes values on, those that reach its operands.
-    fn origin(&self, instruction: Instruction, narrow: bool, place: u32) -> u128
-        requires { place < 128 }
-    {
-        if is_load(instruction) {
-            1 << place
-        } else if passes(instruction, narrow) {
-            self.operands(instruction)
-        } else {
-            0
-        }
-    }
-
-    /// Notes what the instruction writes.
-    pub fn note(&mut self, instruction: Instruction, narrow: bool, place: u32)
-        requires { place < 128 }
-    {
-        let bits = self.origin(instruction, narrow, place);
-        match instruction {
-            Instruction::Immediate(d, _)
-            | Instruction::Move(d, _)
-            | Instruction::AddImmediate(d, _, _)
-            | Instruction::Operate(_, d, _, _)
-            | Instruction::Load(d, _)
-            | Instruction::LoadIndexed(d, _, _) => self.put(d, bits),
-            Instruction::Compare(_, _) | Instruction::CompareImmediate(_, _) => {
-                self.compared = bits;
-            }
-            _ => {}
-        }
+/// No load reaches anything.
+pub fn no_taints() -> Taints
+    ensures registers { result.registers ≡ replicate 256 0 }
+    ensures compared { result.compared ≡ 0 }
+{
+    Taints {
+        registers: [0; 256],
+        compared: 0,
     }
 }
 
-pub fn is_load(instruction: Instruction) -> bool {
-    matches!(
-        instruction,
-        Instruction::Load(_, _) | Instruction::LoadIndexed(_, _, _)
-    )
+fn bits_of(taints: &Taints, r: u8) -> u128
+    ensures { result ≡ taint.word_of taints.now (chains.Register r) }
+{
+    taints.registers[usize::from(r)]
 }
 
-/// Whether the instruction is a load, a store or a fence.
-pub fn is_event(instruction: Instruction) -> bool {
-    matches!(
-        instruction,
-        Instruction::Load(_, _)
-            | Instruction::LoadIndexed(_, _, _)
-            | Instruction::Store(_, _)
-            | Instruction::StoreIndexed(_, _, _)
-            | Instruction::Barrier(_)
-    )
-}
-
-/// Whether the instruction passes values on: no access does, and, where `narrow`, no exclusive or
-/// and no difference of a register with itself.
-fn passes(instruction: Instruction, narrow: bool) -> bool {
+/// Whether the instruction passes values on.
+fn passes(instruction: Instruction, narrow: bool) -> bool
+    ensures { result ≡ taint.passes_of narrow instruction }
+{
     match instruction {
-        Instruction::Load(_, _)
-        | Instruction::LoadIndexed(_, _, _)
-        | Instruction::Store(_, _)
-        | Instruction::StoreIndexed(_, _, _) => false,
+        Instruction::Load(..)
+        | Instruction::LoadIndexed(..)
+        | Instruction::Store(..)
+        | Instruction::StoreIndexed(..) => false,
         Instruction::Operate(operation, _, a, b) => !narrow || !cancels(operation, a, b),
         _ => true,
     }
 }
 
+/// The bits of all operands.
+pub fn operands(taints: &Taints, instruction: Instruction) -> u128
+    ensures { result ≡ taint.operand_word instruction taints.now }
+{
+    match instruction {
+        Instruction::Move(_, a)
+        | Instruction::AddImmediate(_, a, _)
+        | Instruction::CompareImmediate(a, _) => bits_of(taints, a),
+        Instruction::Operate(_, _, a, b) | Instruction::Compare(a, b) => {
+            bits_of(taints, a) | bits_of(taints, b)
+        }
+        Instruction::Branch(_, _) => taints.compared,
+        _ => 0,
+    }
+}
+
+/// A word with one bit.
+fn bit(place: u32) -> u128
+    requires { place < 128 }
+    ensures { result ≡ taint.bit_word place }
+{
+    1 << place
+}
+
+/// The bits of what the instruction writes.
+fn origin(taints: &Taints, instruction: Instruction, narrow: bool, place: u32) -> u128
+    requires { machine.is_load instruction ≡ true → place < 128 }
+    ensures { result ≡ taint.origin_word narrow instruction place taints.now }
+{
+    if is_load(instruction) {
+        bit(place)
+    } else if passes(instruction, narrow) {
+        operands(taints, instruction)
+    } else {
+        0
+    }
+}
+
+/// Notes what the instruction writes.
+pub fn note(taints: &mut Taints, instruction: Instruction, narrow: bool, place: u32)
+    requires { machine.is_load instruction ≡ true → place < 128 }
+    ensures { taints.new ≡ taint.noted narrow instruction place taints.old }
+{
+    let word = origin(taints, instruction, narrow, place);
+    match instruction {
+        Instruction::Immediate(d, _)
+        | Instruction::Move(d, _)
+        | Instruction::AddImmediate(d, _, _)
+        | Instruction::Operate(_, d, _, _)
+        | Instruction::Load(d, _)
+        | Instruction::LoadIndexed(d, _, _) => taints.registers[usize::from(d)] = word,
+        Instruction::Compare(_, _) | Instruction::CompareImmediate(_, _) => taints.compared = word,
+        _ => {}
+    }
+}
+
+/// The bits of what an access reads: of its address, or of what it stores.
+fn reads(taints: &Taints, instruction: Instruction, stored: bool) -> u128
+    ensures { result ≡ taint.read_word stored instruction taints.now }
+{
+    if stored {
+        match instruction {
+            Instruction::Store(d, _) | Instruction::StoreIndexed(d, _, _) => bits_of(taints, d),
+            _ => 0,
+        }
+    } else {
+        match instruction {
+            Instruction::Load(_, a) | Instruction::Store(_, a) => bits_of(taints, a),
+            Instruction::LoadIndexed(_, a, b) | Instruction::StoreIndexed(_, a, b) => {
+                bits_of(taints, a) | bits_of(taints, b)
+            }
+            _ => 0,
+        }
+    }
+}
+
+pub fn is_load(instruction: Instruction) -> bool
+    ensures { result ≡ machine.is_load instruction }
+{
+    matches!(
+        instruction,
+        Instruction::Load(..) | Instruction::LoadIndexed(..)
+    )
+}
+
 /// Whether the operation of two registers has always the same value, as they are one.
-fn cancels(operation: Operation, a: u8, b: u8) -> bool {
+fn cancels(operation: Operation, a: u8, b: u8) -> bool
+    ensures { result ≡ machine.cancels operation a b }
+{
     match operation {
         Operation::SubtractFrom | Operation::Xor => a == b,
         Operation::Add | Operation::Or | Operation::And => false,
     }
+}
+
+/// Whether the instruction is a load, a store or a fence.
+pub fn is_event(instruction: Instruction) -> bool
+    ensures { result ≡ chains.is_event instruction }
+{
+    matches!(
+        instruction,
+        Instruction::Load(..)
+            | Instruction::LoadIndexed(..)
+            | Instruction::Store(..)
+            | Instruction::StoreIndexed(..)
+            | Instruction::Barrier(_)
+    )
+}
+
+/// Every register is within the file.
+fn is_within(instruction: Instruction)
+    ensures operands { (p : chains.Place) → chains.IsOperand instruction p → taint.IsPlace p }
+    ensures addresses { (p : chains.Place) → chains.IsAddressRegister instruction p → taint.IsPlace p }
+    ensures stored { (p : chains.Place) → chains.IsStoredRegister instruction p → taint.IsPlace p }
+{
+    match instruction {
+        Instruction::Move(_, _a) => {}
+        Instruction::AddImmediate(_, _a, _) => {}
+        Instruction::CompareImmediate(_a, _) => {}
+        Instruction::Load(_, _a) => {}
+        Instruction::Operate(_, _, _a, _b) => {}
+        Instruction::Compare(_a, _b) => {}
+        Instruction::LoadIndexed(_, _a, _b) => {}
+        Instruction::Store(_d, _a) => {}
+        Instruction::StoreIndexed(_d, _a, _b) => {}
+        Instruction::Immediate(_, _) => {}
+        Instruction::Branch(_, _) => {}
+        Instruction::Jump(_) => {}
+        Instruction::Barrier(_) => {}
+    }
+}
+
+/// For each event of a run, the loads that reach its address, or what it stores.
+pub fn reach(steps: &[RunStep], narrow: bool, stored: bool) -> [u128; 128]
+    requires { chains.event_place (runs.executed steps.now) (length steps.now) ≤ 128 }
+    ensures { taint.AreColumns narrow stored (runs.executed steps.now) (length steps.now) result }
+{
+    let mut taints = no_taints();
+    let mut columns = [0; 128];
+    let mut place = 0;
+    for step in steps {
+        let instruction = step.instruction;
+        is_within(instruction);
+        if is_event(instruction) {
+            columns[place as usize] = reads(&taints, instruction, stored);
+            note(&mut taints, instruction, narrow, place);
+            place += 1;
+        } else {
+            note(&mut taints, instruction, narrow, place);
+        }
+    }
+    columns
 }

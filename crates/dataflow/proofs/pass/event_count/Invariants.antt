@@ -1,0 +1,7 @@
+use Rattle.std.proofs.Common.{◌≡◌, ◌≤◌}
+use Rattle.ppc_semantics.specs.Runs.{executed}
+use Rattle.dataflow.specs.Chains.{event_place}
+use Rattle.dataflow.proofs.pass.event_count.Given as goal
+
+abbrev pub invariant-loop-step : goal.invariant-loop-step
+invariant-loop-step l = (l.count ≡ event_place (executed l.steps) l.step-index) × (l.count ≤ l.step-index)

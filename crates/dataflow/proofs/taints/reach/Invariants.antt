@@ -1,0 +1,6 @@
+use Rattle.ppc_semantics.specs.Runs.{executed}
+use Rattle.dataflow.proofs.ReachLoop.{IsReached}
+use Rattle.dataflow.proofs.taints.reach.Given as goal
+
+abbrev pub invariant-loop-step : goal.invariant-loop-step
+invariant-loop-step l = IsReached l.narrow l.stored (executed l.steps) l.step-index l.taints l.columns l.place

@@ -1,0 +1,103 @@
+-- The loads that reach a place, as bits of a word.
+use Rattle.std.specs.Prelude.{ℕ, ◌≡◌, ◌⊎◌, ◌↔◌, ◌<◌, ◌*◌, ◌%◌, ◌^◌, if◌then◌else◌, slice_set, bit_or, Bool, true, false, List, IsTrue, slice_index}
+use Rattle.std.specs.Int.{bit_at}
+use Rattle.ppc_semantics.specs.declared.instruction.Instruction.{Instruction}
+use Rattle.ppc_semantics.specs.declared.instruction.Instruction.TheVariants.{Immediate, Move, AddImmediate, Operate, Load, LoadIndexed, Store, StoreIndexed, Compare, CompareImmediate, Branch}
+use Rattle.dataflow.specs.declared.taints.Taints.{Taints}
+use Rattle.ppc_semantics.specs.Machine.{is_load}
+use Rattle.dataflow.specs.Chains.{Executed, Place, Register, Cr0, IsOperand, IsWritten, Reaches, event_place, is_plain, is_narrow, is_event, IsStoredRegister, IsAddressRegister, LoadReaches}
+
+unfoldable pub Bit : ℕ → ℕ → Type 0
+Bit word k = bit_at word k ≡ 1
+
+-- some load with this place among the events reaches the place
+abbrev pub TaintOf : (Instruction → Bool) → Executed → ℕ → Place → ℕ → Type 0
+TaintOf passes at n p e = (i : ℕ) × IsTrue (is_load (at i)) × (event_place at i ≡ e) × Reaches passes at i p n
+
+abbrev pub word_of : Taints → Place → ℕ
+word_of t (Register r) = slice_index t.registers r
+word_of t Cr0 = t.compared
+
+-- the word has the bits of those places that the instruction reads so
+abbrev pub IsUnion : (Instruction → Place → Type 0) → Instruction → Taints → ℕ → Type 0
+IsUnion Reads i t word = (e : ℕ) → Bit word e ↔ ((a : Place) × Reads i a × Bit (word_of t a) e)
+
+-- which instructions pass values on: those that are no access, or the fewer ones
+abbrev pub passes_of : Bool → Instruction → Bool
+passes_of true i = is_narrow i
+passes_of false i = is_plain i
+
+-- the bits of what an instruction writes: a load's own, or those of its operands
+abbrev pub IsOrigin : Bool → Instruction → ℕ → Taints → ℕ → Type 0
+IsOrigin narrow i place t e =
+    (IsTrue (is_load i) × (place ≡ e)) ⊎ (IsTrue (passes_of narrow i) × ((a : Place) × IsOperand i a × Bit (word_of t a) e))
+
+-- a place that is within the file of registers
+abbrev pub IsPlace : Place → Type 0
+IsPlace (Register r) = r < 256
+IsPlace Cr0 = Unit {0}
+
+-- the bits of all operands of an instruction
+abbrev pub operand_word : Instruction → Taints → ℕ
+operand_word (Move d a) t = word_of t (Register a)
+operand_word (AddImmediate d a n) t = word_of t (Register a)
+operand_word (Operate o d a b) t = bit_or (word_of t (Register a)) (word_of t (Register b))
+operand_word (Compare a b) t = bit_or (word_of t (Register a)) (word_of t (Register b))
+operand_word (CompareImmediate a n) t = word_of t (Register a)
+operand_word (Branch c l) t = t.compared
+operand_word _ t = 0
+
+-- a word with one bit
+abbrev pub bit_word : ℕ → ℕ
+bit_word place = 1 * 2 ^ place % 2 ^ 128
+
+abbrev pub origin_word : Bool → Instruction → ℕ → Taints → ℕ
+origin_word narrow i place t = if is_load i then bit_word place else if passes_of narrow i then operand_word i t else 0
+
+abbrev pub with_word : Instruction → ℕ → Taints → Taints
+with_word (Immediate d n) w t = record t { registers = slice_set t.registers d w }
+with_word (Move d a) w t = record t { registers = slice_set t.registers d w }
+with_word (AddImmediate d a n) w t = record t { registers = slice_set t.registers d w }
+with_word (Operate o d a b) w t = record t { registers = slice_set t.registers d w }
+with_word (Load d a) w t = record t { registers = slice_set t.registers d w }
+with_word (LoadIndexed d a b) w t = record t { registers = slice_set t.registers d w }
+with_word (Compare a b) w t = record t { compared = w }
+with_word (CompareImmediate a n) w t = record t { compared = w }
+with_word _ w t = t
+
+abbrev pub noted : Bool → Instruction → ℕ → Taints → Taints
+noted narrow i place t = with_word i (origin_word narrow i place t) t
+
+-- after an instruction: what it writes has its operands' bits, or a load's own
+pub record IsStep (narrow : Bool) (i : Instruction) (place : ℕ) (old new : Taints) : Type 0 where
+  pub written : (p : Place) → IsPlace p → IsWritten i p → (e : ℕ) → Bit (word_of new p) e ↔ IsOrigin narrow i place old e
+  pub kept : (p : Place) → (IsWritten i p → ⊥) → word_of new p ≡ word_of old p
+
+-- the words are those of the loads that reach each place
+abbrev pub AreTaints : (Instruction → Bool) → Executed → ℕ → Taints → Type 0
+AreTaints passes at n t = (p : Place) → IsPlace p → (e : ℕ) → Bit (word_of t p) e ↔ TaintOf passes at n p e
+
+-- how an access reads: the address, or what it stores
+abbrev pub reads_of : Bool → Instruction → Place → Type 0
+reads_of true = IsStoredRegister
+reads_of false = IsAddressRegister
+
+abbrev pub read_word : Bool → Instruction → Taints → ℕ
+read_word false (Load d a) t = word_of t (Register a)
+read_word false (LoadIndexed d a b) t = bit_or (word_of t (Register a)) (word_of t (Register b))
+read_word false (Store d a) t = word_of t (Register a)
+read_word false (StoreIndexed d a b) t = bit_or (word_of t (Register a)) (word_of t (Register b))
+read_word true (Store d a) t = word_of t (Register d)
+read_word true (StoreIndexed d a b) t = word_of t (Register d)
+read_word _ _ t = 0
+
+-- the instruction's registers are within the file
+pub record IsWithinFile (i : Instruction) : Type 0 where
+  pub operands : (p : Place) → IsOperand i p → IsPlace p
+  pub addresses : (p : Place) → IsAddressRegister i p → IsPlace p
+  pub stored : (p : Place) → IsStoredRegister i p → IsPlace p
+
+-- at each event, the word has the loads that reach it so, by their places among the events
+abbrev pub AreColumns : Bool → Bool → Executed → ℕ → List ℕ → Type 0
+AreColumns narrow stored at n words = (j : ℕ) → j < n → IsTrue (is_event (at j)) → (e : ℕ)
+    → Bit (slice_index words (event_place at j)) e ↔ ((i : ℕ) × (event_place at i ≡ e) × LoadReaches (passes_of narrow) (reads_of stored) at i j)
