@@ -1,4 +1,8 @@
 //! The orders of the stores of a combination of runs.
+ghost use Rattle.std.specs.Prelude.{◌≡◌, ◌++◌, IfOk, OnOk};
+ghost use Rattle.std.specs.List.{flat_map};
+ghost use Rattle.candidates.specs.Lists.{lists_of, joined_with};
+ghost use Rattle.candidates.specs.Orders.{with_new, AreOrders};
 
 use crate::candidate::{Action, Combination, Event};
 use bit_relations::MAX_EVENTS;
@@ -40,35 +44,69 @@ fn stores_at(alloc: Global, events: &[Event], location: usize) -> Result<Vec<u8>
 }
 
 /// The front with the rest behind it.
-fn joined(alloc: Global, front: &[u8], rest: &[u8]) -> Result<Vec<u8>, AllocError> {
+fn joined(alloc: Global, front: &[u8], rest: &[u8]) -> Result<Vec<u8>, AllocError>
+    ensures { IfOk result (λ v. v.items ≡ front.now ++ rest.now) }
+{
     let mut whole = Vec::with_capacity(alloc, front.len() + rest.len())?;
     whole.extend_from_slice(front)?;
     whole.extend_from_slice(rest)?;
     Ok(whole)
 }
 
+/// Adds the front with each store that it lacks.
+fn add_each(
+    alloc: Global,
+    front: &[u8],
+    stores: &[u8],
+    longer: &mut Vec<Vec<u8>>,
+) -> Result<(), AllocError>
+    ensures { OnOk result (lists_of longer.new.items ≡ lists_of longer.old.items ++ with_new stores.now front.now) }
+{
+    for store in stores {
+        if !front.contains(store) {
+            longer.push(joined(alloc, front, &[*store])?)?;
+        }
+    }
+    Ok(())
+}
+
 /// Each front with each store that it lacks.
-fn with_each(alloc: Global, fronts: &[Vec<u8>], stores: &[u8]) -> Result<Vec<Vec<u8>>, AllocError> {
+fn with_each(alloc: Global, fronts: &[Vec<u8>], stores: &[u8]) -> Result<Vec<Vec<u8>>, AllocError>
+    ensures { IfOk result (λ v. lists_of v.items ≡ flat_map (with_new stores.now) (lists_of fronts.now)) }
+{
     let mut longer = Vec::new(alloc);
     for front in fronts {
-        for store in stores {
-            if !front.contains(store) {
-                longer.push(joined(alloc, front, &[*store])?)?;
-            }
-        }
+        add_each(alloc, front, stores, &mut longer)?;
     }
     Ok(longer)
 }
 
 /// The orders of the stores of one location, in lexicographic order: the first one, then the
 /// others in any order.
-fn orders_at(alloc: Global, first: u8, stores: &[u8]) -> Result<Vec<Vec<u8>>, AllocError> {
+fn orders_at(alloc: Global, first: u8, stores: &[u8]) -> Result<Vec<Vec<u8>>, AllocError>
+    ensures { IfOk result (λ v. AreOrders first stores.now (lists_of v.items)) }
+{
     let mut fronts = Vec::new(alloc);
     fronts.push(Vec::from_slice(alloc, &[first])?)?;
-    for _ in 0..stores.len() {
+    for _place in 0..stores.len() {
         fronts = with_each(alloc, &fronts, stores)?;
     }
     Ok(fronts)
+}
+
+/// Adds the front with each of the others behind it.
+fn add_joined(
+    alloc: Global,
+    front: &[u8],
+    others: &[Vec<u8>],
+    longer: &mut Vec<Vec<u8>>,
+) -> Result<(), AllocError>
+    ensures { OnOk result (lists_of longer.new.items ≡ lists_of longer.old.items ++ joined_with (lists_of others.now) front.now) }
+{
+    for other in others {
+        longer.push(joined(alloc, front, other)?)?;
+    }
+    Ok(())
 }
 
 /// Each front with each of the others behind it.
@@ -76,12 +114,12 @@ fn with_all(
     alloc: Global,
     fronts: &[Vec<u8>],
     others: &[Vec<u8>],
-) -> Result<Vec<Vec<u8>>, AllocError> {
+) -> Result<Vec<Vec<u8>>, AllocError>
+    ensures { IfOk result (λ v. lists_of v.items ≡ flat_map (joined_with (lists_of others.now)) (lists_of fronts.now)) }
+{
     let mut longer = Vec::new(alloc);
     for front in fronts {
-        for other in others {
-            longer.push(joined(alloc, front, other)?)?;
-        }
+        add_joined(alloc, front, others, &mut longer)?;
     }
     Ok(longer)
 }

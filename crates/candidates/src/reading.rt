@@ -164,7 +164,7 @@ impl Reading {
     }
 
     /// Adds to `longer` the way with each store that the load at `place`, the first without one,
-    /// can read, and stops where there are over `limit`.
+    /// can read.
     fn extend(
         &self,
         alloc: Global,

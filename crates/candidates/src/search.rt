@@ -89,7 +89,7 @@ fn add_links(made: &mut Combination, links: &Links, base: usize) -> Result<(), A
     Ok(())
 }
 
-/// The run of each thread, in order, as far as there are.
+/// The run of a thread, where the runs have one for it.
 fn chosen<'a>(threads: &'a [ThreadParts], runs: &[usize], thread: usize) -> Option<&'a Part> {
     threads.get(thread)?.parts.get(*runs.get(thread)?)
 }

@@ -1,0 +1,23 @@
+-- Lists of lists, and the members of a list of which a fact holds.
+use Rattle.std.specs.Prelude.{ℕ, List, [], ◌∷◌, ◌++◌, map, Vec}
+use Rattle.std.specs.List.{flat_map}
+use Rattle.std.specs.declared.alloc.Global.{Global}
+
+-- the lists in vectors
+abbrev pub lists_of : List (Vec ℕ Global) → List (List ℕ)
+lists_of vs = map (λ v. v.items) vs
+
+-- the tuples that begin so and take one choice of each further list, in lexicographic order
+abbrev pub tuples : List ℕ → List (List ℕ) → List (List ℕ)
+tuples front [] = front ∷ []
+tuples front (c ∷ cs) = flat_map (λ x. tuples (front ++ x ∷ []) cs) c
+
+-- the second list has those members of the first of which the fact holds, in order
+pub data IsFiltered {X : Type 0} (P : X → Type 0) : List X → List X → Type 0 where
+  none : IsFiltered P [] []
+  kept : {x : X} {xs ys : List X} → P x → IsFiltered P xs ys → IsFiltered P (x ∷ xs) (x ∷ ys)
+  left : {x : X} {xs ys : List X} → (P x → ⊥) → IsFiltered P xs ys → IsFiltered P (x ∷ xs) ys
+
+-- the front with each of the others behind it
+abbrev pub joined_with : List (List ℕ) → List ℕ → List (List ℕ)
+joined_with others front = map (λ other. front ++ other) others
