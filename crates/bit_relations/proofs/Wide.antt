@@ -1,9 +1,11 @@
 -- Rows of two words: each word comes back.
-use Rattle.std.proofs.Common.{ℕ, ◌≡◌, ◌<◌, ◌≤◌, ◌/◌, ◌%◌, ◌^◌, suc, List, [], ◌∷◌, length, get_or, arith, refl, ap, ◌∙◌, sym}
-use Rattle.bit_relations.specs.Relation.{joined, wide, low_words, high_words, AreColumns}
-
-abbrev pub AllFit : List ℕ → Type 0
-AllFit ws = (a : ℕ) → get_or ws a 0 < 2 ^ 64
+use Rattle.std.proofs.Common.{ℕ, ◌≡◌, ◌<◌, ◌≤◌, ◌+◌, ◌-◌, ◌*◌, ◌/◌, ◌%◌, ◌^◌, ◌↔◌, zero, suc, List, [], ◌∷◌, length, get_or, arith, refl, ap, ◌∙◌, sym, subst, inl, inr}
+use Rattle.std.proofs.lemmas.Nat.Bits.{bit_at_cat_low, bit_at_cat_high}
+use Rattle.std.proofs.lemmas.List.{get_or_past}
+use Rattle.std.proofs.lemmas.Bool.{cases_lt}
+use Rattle.bit_relations.specs.Rows.{RowsHave, AllFit}
+use Rattle.bit_relations.proofs.Bits.{Bit-zero}
+use Rattle.bit_relations.specs.Relation.{Bit, joined, wide, low_words, high_words}
 
 pub joined-low : (l h : ℕ) → l < 2 ^ 64 → joined l h % 2 ^ 64 ≡ l
 joined-low l h fits = omega arith
@@ -32,11 +34,44 @@ low_again ls hs p q fits = again_low ls hs (p ∙ sym q) fits
 pub high_again : (ls hs : List ℕ) → length ls ≡ 128 → length hs ≡ 128 → AllFit ls → high_words (wide ls hs) ≡ hs
 high_again ls hs p q fits = again_high ls hs (p ∙ sym q) fits
 
-pub columns : (n : ℕ) (low high : List ℕ) → n ≤ 128 → length low ≡ 128 → length high ≡ 128 → AllFit low → AreColumns n low high
-columns n low high few p q fits = record {
-  few = few;
-  low_height = p;
-  high_height = q;
-  low_kept = low_again low high p q fits;
-  high_kept = high_again low high p q fits;
-}
+pub get_or-wide : (ls hs : List ℕ) (a : ℕ) → length ls ≡ length hs → a < length ls → get_or (wide ls hs) a 0 ≡ joined (get_or ls a 0) (get_or hs a 0)
+get_or-wide [] hs a e lt = absurd (omega arith)
+get_or-wide (l ∷ ls) [] a e lt = absurd (omega (arith, e))
+get_or-wide (l ∷ ls) (h ∷ hs) zero e lt = refl
+get_or-wide (l ∷ ls) (h ∷ hs) (suc a) e lt = get_or-wide ls hs a (omega (arith, e)) (omega arith)
+
+pub Bit-low : (h l k : ℕ) → k < 64 → Bit (h * 2 ^ 64 + l) k ↔ Bit l k
+unfolding Bit
+Bit-low h l k lt = rw (bit_at_cat_low h 64 l k lt) ((λ t. t), (λ t. t))
+
+pub Bit-high : (h l k : ℕ) → l < 2 ^ 64 → 64 ≤ k → Bit (h * 2 ^ 64 + l) k ↔ Bit h (k - 64)
+unfolding Bit
+Bit-high h l k fits ge = rw (bit_at_cat_high h 64 l k fits ge) ((λ t. t), (λ t. t))
+
+pub length-wide : (ls hs : List ℕ) → length ls ≡ length hs → length (wide ls hs) ≡ length ls
+length-wide [] hs e = refl
+length-wide (l ∷ ls) [] e = absurd (omega (arith, e))
+length-wide (l ∷ ls) (h ∷ hs) e = let k : length (wide ls hs) ≡ length ls = length-wide ls hs (omega (arith, e)) in omega arith
+
+-- a bit of a wide row, by its word
+pub low_bit : (ls hs : List ℕ) (a b : ℕ) → length ls ≡ length hs → b < 64 → RowsHave (wide ls hs) a b ↔ RowsHave ls a b
+low_bit ls hs a b e lt =
+    elim (cases_lt a (length ls)) [
+      | inl inside ↦ rw (get_or-wide ls hs a e inside) (Bit-low (get_or hs a 0) (get_or ls a 0) b lt)
+      | inr past ↦ rw (get_or_past {X = ℕ} (wide ls hs) a 0 (rw (length-wide ls hs e) past), get_or_past {X = ℕ} ls a 0 past) ((λ h. h), (λ h. h))
+    ]
+
+pub high_bit : (ls hs : List ℕ) (a b : ℕ) → length ls ≡ length hs → AllFit ls → 64 ≤ b → RowsHave (wide ls hs) a b ↔ RowsHave hs a (b - 64)
+high_bit ls hs a b e fits ge =
+    elim (cases_lt a (length ls)) [
+      | inl inside ↦ rw (get_or-wide ls hs a e inside) (Bit-high (get_or hs a 0) (get_or ls a 0) b (fits a) ge)
+      | inr past ↦ rw (get_or_past {X = ℕ} (wide ls hs) a 0 (rw (length-wide ls hs e) past), get_or_past {X = ℕ} hs a 0 (rw (← e) past)) ((λ h. absurd (Bit-zero b h)), (λ h. absurd (Bit-zero (b - 64) h)))
+    ]
+
+low_words_fit : (ws : List ℕ) → AllFit (low_words ws)
+low_words_fit [] a = omega arith
+low_words_fit (w ∷ ws) zero = omega arith
+low_words_fit (w ∷ ws) (suc a) = low_words_fit ws a
+
+pub low_fits : (ls hs : List ℕ) → low_words (wide ls hs) ≡ ls → AllFit ls
+low_fits ls hs kept = subst AllFit kept (low_words_fit (wide ls hs))

@@ -77,15 +77,17 @@ abbrev pub high_words : List ℕ → List ℕ
 high_words [] = []
 high_words (w ∷ ws) = (w / 2 ^ 64) ∷ high_words ws
 
--- the two columns of words that a `Rel` is made of: neither is lost in the rows
+-- the two columns of words that a `Rel` is made of: the rows lose neither, and all pairs are below the count
 pub record AreColumns (count : ℕ) (low high : List ℕ) : Type 0 where
   pub few : count ≤ max_events
   pub low_height : length low ≡ max_events
   pub high_height : length high ≡ max_events
   pub low_kept : low_words (wide low high) ≡ low
   pub high_kept : high_words (wide low high) ≡ high
+  pub within : (a b : ℕ) → Bit (slice_index (wide low high) a) b → (a < count) × (b < count)
 
-pub record Columns : Type 0 where
-  pub count : ℕ
-  pub low : List ℕ
-  pub high : List ℕ
+-- the two words that an `EventSet` is made of: neither is lost in the word, and all events are below the count
+pub record AreWords (count low high : ℕ) : Type 0 where
+  pub few : count ≤ max_events
+  pub low_fits : low < 2 ^ 64
+  pub within : (a : ℕ) → Bit (joined low high) a → a < count

@@ -5,7 +5,9 @@
 
 mod packed;
 mod rel;
+pub mod rows;
 mod set;
+pub mod word;
 pub mod words;
 
 pub use packed::PackedRelations;

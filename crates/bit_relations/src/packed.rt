@@ -78,11 +78,15 @@ impl PackedRelations {
         requires { k < length self.now }
         ensures { place.new.count ≡ slice_index self.now k }
     {
-        place.read_from(
-            self.counts[k] as usize,
-            self.words.as_slice(),
-            self.starts[k],
-        );
+        let count = self.counts[k] as usize;
+        let start = self.starts[k];
+        let size = if count <= 64 { count } else { 2 * count };
+        let words = self.words.as_slice();
+        if start <= words.len() && size <= words.len() - start {
+            place.read_from(count, words, start);
+        } else {
+            place.clear(count);
+        }
     }
 
     /// Whether both have the same relations in the same order.

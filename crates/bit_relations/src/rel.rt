@@ -1,10 +1,13 @@
 //! Relations between events.
-ghost use Rattle.std.specs.Prelude.{◌≡◌, ℕ, ◌<◌, ◌≤◌, ◌-◌, ◌↔◌, length, slice_index, IsTrue};
-ghost use Rattle.bit_relations.specs.Relation.{Columns, Events};
+ghost use Rattle.std.specs.Prelude.{◌≡◌, ℕ, ◌<◌, ◌≤◌, ◌+◌, ◌↔◌, length, slice_index, IsTrue};
+ghost use Rattle.bit_relations.specs.Relation.{Bit, Relation, Has, IsRegular, IsRelation, IsMember};
+ghost use Rattle.bit_relations.specs.Rows.{Stored};
+ghost use Rattle.bit_relations.specs.Pairs.{Added, Identity, Union, Inter, Minus, Composed, Complement, Inverse, Opt, On, Product, Restricted, Plus, Star, IsIrreflexive, IsAcyclic, IsEmpty};
 
 use crate::set::EventSet;
-use crate::words;
-use crate::words::{MAX_EVENTS, end_of_high, in_high, in_low, lowest_bits};
+use crate::word::{in_high, in_low, lowest_bits};
+use crate::words::{MAX_EVENTS, end_of_high};
+use crate::{rows, words};
 use std::alloc::AllocError;
 use std::marker::Model;
 
@@ -17,23 +20,25 @@ pub struct Rel {
 }
 
 impl Model for Rel {
-    ghost use Rattle.std.specs.Prelude.{◌≤◌};
-    ghost use Rattle.bit_relations.specs.Relation.{Columns};
+    ghost use Rattle.std.proofs.Common.{refl};
+    ghost use Rattle.bit_relations.specs.Relation.{Relation, AreColumns, wide, low_words, high_words};
 
-    ghost Value = { Columns };
+    ghost Value = { Relation };
 
-    ghost view = { λ r. record { count = r.count; low = r.low; high = r.high } };
+    ghost view = { λ r. record { count = r.count; rows = wide r.low r.high } };
 
-    ghost invariant = { λ r. r.count ≤ 128 };
+    ghost invariant = { λ r. AreColumns r.count r.low r.high };
 
-    ghost inverse = { λ v. record { count = v.count; low = v.low; high = v.high } };
+    ghost inverse = { λ v. record { count = v.count; low = low_words v.rows; high = high_words v.rows } };
+
+    ghost inverse_ok = { λ r h. rw (h.low_kept, h.high_kept) refl };
 }
 
 impl Rel {
     /// The relation with no pair, of a count.
     pub fn empty(count: usize) -> Rel
         requires { count ≤ 128 }
-        ensures { result.count ≡ count }
+        ensures { IsRelation result count (λ a b. ⊥) }
     {
         Rel {
             count,
@@ -45,7 +50,7 @@ impl Rel {
     /// Each event below a count with itself.
     pub fn identity(count: usize) -> Rel
         requires { count ≤ 128 }
-        ensures { result.count ≡ count }
+        ensures { IsRelation result count (Identity count) }
     {
         let mut made = Rel::empty(count);
         made.add_identity();
@@ -55,7 +60,7 @@ impl Rel {
     /// The pairs from an event of one set to an event of another.
     pub fn product(left: &EventSet, right: &EventSet) -> Rel
         requires { right.now.count ≡ left.now.count }
-        ensures { result.count ≡ left.now.count }
+        ensures { IsRelation result left.now.count (Product (IsMember left.now) (IsMember right.now)) }
     {
         let mut made = Rel::empty(left.count());
         made.set_product(left, right);
@@ -64,7 +69,7 @@ impl Rel {
 
     /// Each event of a set with itself.
     pub fn on(events: &EventSet) -> Rel
-        ensures { result.count ≡ events.now.count }
+        ensures { IsRelation result events.now.count (On (IsMember events.now)) }
     {
         let mut made = Rel::empty(events.count());
         made.set_on(events);
@@ -75,6 +80,7 @@ impl Rel {
     pub fn count(&self) -> usize
         ensures value { result ≡ self.now.count }
         ensures few { result ≤ 128 }
+        ensures regular { IsRegular self.now }
     {
         self.count
     }
@@ -83,7 +89,7 @@ impl Rel {
     pub fn insert(&mut self, from: usize, to: usize)
         requires from { from < self.old.count }
         requires to { to < self.old.count }
-        ensures { self.new.count ≡ self.old.count }
+        ensures { IsRelation self.new self.old.count (Added (Has self.old) from to) }
     {
         if to < 64 {
             words::set_bit(&mut self.low, from, to);
@@ -96,14 +102,15 @@ impl Rel {
     pub fn contains(&self, from: usize, to: usize) -> bool
         requires from { from < self.now.count }
         requires to { to < self.now.count }
+        ensures { IsTrue result ↔ Has self.now from to }
     {
-        words::has_pair(&self.low, &self.high, from, to)
+        rows::has_pair(&self.low, &self.high, from, to)
     }
 
     /// The pairs of both together.
     pub fn union(&self, other: &Rel) -> Rel
         requires { other.now.count ≡ self.now.count }
-        ensures { result.count ≡ self.now.count }
+        ensures { IsRelation result self.now.count (Union (Has self.now) (Has other.now)) }
     {
         let mut made = *self;
         made.union_with(other);
@@ -113,7 +120,7 @@ impl Rel {
     /// The pairs that are in both.
     pub fn inter(&self, other: &Rel) -> Rel
         requires { other.now.count ≡ self.now.count }
-        ensures { result.count ≡ self.now.count }
+        ensures { IsRelation result self.now.count (Inter (Has self.now) (Has other.now)) }
     {
         let mut made = *self;
         made.inter_with(other);
@@ -123,7 +130,7 @@ impl Rel {
     /// The pairs of this one that are not in the other.
     pub fn minus(&self, other: &Rel) -> Rel
         requires { other.now.count ≡ self.now.count }
-        ensures { result.count ≡ self.now.count }
+        ensures { IsRelation result self.now.count (Minus (Has self.now) (Has other.now)) }
     {
         let mut made = *self;
         made.minus_with(other);
@@ -133,7 +140,7 @@ impl Rel {
     /// The pairs that a pair of this one and then a pair of the other join, by an event in the middle.
     pub fn compose(&self, other: &Rel) -> Rel
         requires { other.now.count ≡ self.now.count }
-        ensures { result.count ≡ self.now.count }
+        ensures { IsRelation result self.now.count (Composed (Has self.now) (Has other.now)) }
     {
         let mut made = Rel::empty(self.count);
         made.set_composed(self, other);
@@ -142,7 +149,7 @@ impl Rel {
 
     /// The pairs of events below the count that are not in it.
     pub fn complement(&self) -> Rel
-        ensures { result.count ≡ self.now.count }
+        ensures { IsRelation result self.now.count (Complement self.now.count (Has self.now)) }
     {
         let mut made = *self;
         made.turn();
@@ -151,7 +158,7 @@ impl Rel {
 
     /// Its pairs turned round.
     pub fn inverse(&self) -> Rel
-        ensures { result.count ≡ self.now.count }
+        ensures { IsRelation result self.now.count (Inverse (Has self.now)) }
     {
         let mut made = Rel::empty(self.count);
         made.set_inverse(self);
@@ -160,7 +167,7 @@ impl Rel {
 
     /// The pairs that a path of one step or more joins.
     pub fn plus(&self) -> Rel
-        ensures { result.count ≡ self.now.count }
+        ensures { IsRelation result self.now.count (Plus (Has self.now)) }
     {
         let mut made = *self;
         made.close();
@@ -169,7 +176,7 @@ impl Rel {
 
     /// The pairs that a path joins, and each event with itself.
     pub fn star(&self) -> Rel
-        ensures { result.count ≡ self.now.count }
+        ensures { IsRelation result self.now.count (Star self.now.count (Has self.now)) }
     {
         let mut made = self.plus();
         made.add_identity();
@@ -178,7 +185,7 @@ impl Rel {
 
     /// Its pairs, and each event with itself.
     pub fn opt(&self) -> Rel
-        ensures { result.count ≡ self.now.count }
+        ensures { IsRelation result self.now.count (Opt self.now.count (Has self.now)) }
     {
         let mut made = *self;
         made.add_identity();
@@ -188,7 +195,7 @@ impl Rel {
     /// Its pairs with both ends in a set.
     pub fn restrict(&self, events: &EventSet) -> Rel
         requires { events.now.count ≡ self.now.count }
-        ensures { result.count ≡ self.now.count }
+        ensures { IsRelation result self.now.count (Restricted (Has self.now) (IsMember events.now)) }
     {
         let mut made = *self;
         made.keep_within(events);
@@ -196,29 +203,46 @@ impl Rel {
     }
 
     /// Whether it has no pair.
-    pub fn is_empty(&self) -> bool {
-        words::are_empty(&self.low, self.count)
-            && words::are_empty(&self.high, end_of_high(self.count))
+    pub fn is_empty(&self) -> bool
+        ensures { IsTrue result ↔ IsEmpty (Has self.now) }
+    {
+        if words::are_empty(&self.low, self.count) {
+            words::are_empty(&self.high, end_of_high(self.count))
+        } else {
+            false
+        }
     }
 
     /// Whether no event is paired with itself.
-    pub fn is_irreflexive(&self) -> bool {
-        words::is_low_diagonal_free(&self.low, in_low(self.count))
-            && words::is_high_diagonal_free(&self.high, in_high(self.count))
+    pub fn is_irreflexive(&self) -> bool
+        ensures { IsTrue result ↔ IsIrreflexive (Has self.now) }
+    {
+        if words::is_diagonal_free(&self.low, 0, self.count) {
+            words::is_diagonal_free(&self.high, 64, end_of_high(self.count))
+        } else {
+            false
+        }
     }
 
     /// Whether no path of one step or more leads back to where it began.
-    pub fn is_acyclic(&self) -> bool {
+    pub fn is_acyclic(&self) -> bool
+        ensures { IsTrue result ↔ IsAcyclic (Has self.now) }
+    {
         self.plus().is_irreflexive()
     }
 
     /// Whether both have the same count and pairs.
     pub fn is_same(&self, other: &Rel) -> bool
-        ensures { IsTrue result → (self.now.count ≡ other.now.count) }
+        ensures { IsTrue result ↔ (self.now ≡ other.now) }
     {
-        self.count == other.count
-            && words::are_same(&self.low, &other.low, self.count)
-            && words::are_same(&self.high, &other.high, end_of_high(self.count))
+        if self.count != other.count {
+            return false;
+        }
+        if words::are_same(&self.low, &other.low, self.count) {
+            words::are_same(&self.high, &other.high, end_of_high(self.count))
+        } else {
+            false
+        }
     }
 }
 
@@ -227,7 +251,7 @@ impl Rel {
     /// Becomes the relation with no pair, of a count.
     pub fn clear(&mut self, count: usize)
         requires { count ≤ 128 }
-        ensures { self.new.count ≡ count }
+        ensures { IsRelation self.new count (λ a b. ⊥) }
     {
         words::clear(&mut self.low, self.count);
         words::clear(&mut self.high, end_of_high(self.count));
@@ -236,7 +260,7 @@ impl Rel {
 
     /// Becomes the other.
     pub fn copy_from(&mut self, other: &Rel)
-        ensures { self.new.count ≡ other.now.count }
+        ensures { self.new ≡ other.now }
     {
         let most = self.count.max(other.count);
         words::copy(&mut self.low, &other.low, most);
@@ -247,7 +271,7 @@ impl Rel {
     /// Adds the pairs of another.
     pub fn union_with(&mut self, other: &Rel)
         requires { other.now.count ≡ self.old.count }
-        ensures { self.new.count ≡ self.old.count }
+        ensures { IsRelation self.new self.old.count (Union (Has self.old) (Has other.now)) }
     {
         words::join(&mut self.low, &other.low, self.count);
         words::join(&mut self.high, &other.high, end_of_high(self.count));
@@ -256,7 +280,7 @@ impl Rel {
     /// Keeps the pairs that are in another too.
     pub fn inter_with(&mut self, other: &Rel)
         requires { other.now.count ≡ self.old.count }
-        ensures { self.new.count ≡ self.old.count }
+        ensures { IsRelation self.new self.old.count (Inter (Has self.old) (Has other.now)) }
     {
         words::meet(&mut self.low, &other.low, self.count);
         words::meet(&mut self.high, &other.high, end_of_high(self.count));
@@ -265,7 +289,7 @@ impl Rel {
     /// Drops the pairs that are in another.
     pub fn minus_with(&mut self, other: &Rel)
         requires { other.now.count ≡ self.old.count }
-        ensures { self.new.count ≡ self.old.count }
+        ensures { IsRelation self.new self.old.count (Minus (Has self.old) (Has other.now)) }
     {
         words::drop_bits(&mut self.low, &other.low, self.count);
         words::drop_bits(&mut self.high, &other.high, end_of_high(self.count));
@@ -273,7 +297,7 @@ impl Rel {
 
     /// Becomes its complement.
     pub fn turn(&mut self)
-        ensures { self.new.count ≡ self.old.count }
+        ensures { IsRelation self.new self.old.count (Complement self.old.count (Has self.old)) }
     {
         let low = lowest_bits(in_low(self.count));
         let high = lowest_bits(in_high(self.count));
@@ -283,26 +307,25 @@ impl Rel {
 
     /// Becomes its closure over paths of one step or more.
     pub fn close(&mut self)
-        ensures { self.new.count ≡ self.old.count }
+        ensures { IsRelation self.new self.old.count (Plus (Has self.old)) }
     {
-        words::close(&mut self.low, &mut self.high, self.count);
+        rows::close(&mut self.low, &mut self.high, self.count);
     }
 
     /// Adds each event below the count with itself.
     pub fn add_identity(&mut self)
-        ensures { self.new.count ≡ self.old.count }
+        ensures { IsRelation self.new self.old.count (Opt self.old.count (Has self.old)) }
     {
-        words::add_low_diagonal(&mut self.low, in_low(self.count));
-        words::add_high_diagonal(&mut self.high, in_high(self.count));
+        words::add_diagonal(&mut self.low, 0, self.count);
+        words::add_diagonal(&mut self.high, 64, end_of_high(self.count));
     }
 
     /// Keeps the pairs with both ends in a set.
     pub fn keep_within(&mut self, events: &EventSet)
         requires { events.now.count ≡ self.old.count }
-        ensures { self.new.count ≡ self.old.count }
+        ensures { IsRelation self.new self.old.count (Restricted (Has self.old) (IsMember events.now)) }
     {
-        let low = events.low();
-        let high = events.high();
+        let (low, high) = events.words();
         words::keep(&mut self.low, low, high, low, self.count);
         words::keep(&mut self.high, low, high, high, end_of_high(self.count));
     }
@@ -310,63 +333,68 @@ impl Rel {
     /// Becomes the composition of two others.
     pub fn set_composed(&mut self, left: &Rel, right: &Rel)
         requires { right.now.count ≡ left.now.count }
-        ensures { self.new.count ≡ left.now.count }
+        ensures { IsRelation self.new left.now.count (Composed (Has left.now) (Has right.now)) }
     {
-        self.clear(left.count);
-        words::compose(
+        let count = left.count;
+        self.clear(count);
+        rows::compose(
             &mut self.low,
             &left.low,
             &left.high,
             &right.low,
-            left.count,
-            left.count,
+            count,
+            count,
         );
-        words::compose(
+        rows::compose(
             &mut self.high,
             &left.low,
             &left.high,
             &right.high,
-            left.count,
-            end_of_high(left.count),
+            count,
+            end_of_high(count),
         );
     }
 
     /// Becomes the inverse of another.
     pub fn set_inverse(&mut self, of: &Rel)
-        ensures { self.new.count ≡ of.now.count }
+        ensures { IsRelation self.new of.now.count (Inverse (Has of.now)) }
     {
-        self.clear(of.count);
-        words::invert_low(&mut self.low, &of.low, &of.high, of.count);
-        words::invert_high(&mut self.high, &of.low, &of.high, of.count);
+        let count = of.count;
+        self.clear(count);
+        rows::invert(&mut self.low, &of.low, &of.high, 0, in_low(count), count);
+        rows::invert(
+            &mut self.high,
+            &of.low,
+            &of.high,
+            64,
+            in_high(count),
+            end_of_high(count),
+        );
     }
 
     /// Becomes the pairs from an event of one set to an event of another.
     pub fn set_product(&mut self, left: &EventSet, right: &EventSet)
         requires { right.now.count ≡ left.now.count }
-        ensures { self.new.count ≡ left.now.count }
+        ensures { IsRelation self.new left.now.count (Product (IsMember left.now) (IsMember right.now)) }
     {
         let count = left.count();
+        let (low, high) = left.words();
+        let (right_low, right_high) = right.words();
         self.clear(count);
-        words::fill(&mut self.low, left.low(), left.high(), right.low(), count);
-        words::fill(
-            &mut self.high,
-            left.low(),
-            left.high(),
-            right.high(),
-            end_of_high(count),
-        );
+        words::fill(&mut self.low, low, high, right_low, count);
+        words::fill(&mut self.high, low, high, right_high, end_of_high(count));
     }
 
     /// Becomes each event of a set with itself.
     pub fn set_on(&mut self, events: &EventSet)
-        ensures { self.new.count ≡ events.now.count }
+        ensures { IsRelation self.new events.now.count (On (IsMember events.now)) }
     {
         self.clear(events.count());
         self.add_identity();
         self.keep_within(events);
     }
 
-    /// The words of its rows: the low ones, then the high ones where the count is over 64.
+    /// Appends the words of its rows: the low ones, then the high ones where the count is over 64.
     pub(crate) fn append_to(&self, words: &mut Vec<u64>) -> Result<(), AllocError> {
         words.extend_from_slice(words::first(&self.low, self.count))?;
         words.extend_from_slice(words::first(&self.high, end_of_high(self.count)))?;
@@ -374,17 +402,16 @@ impl Rel {
     }
 
     /// Becomes the relation of a count whose words stand in a list from a place on.
-    pub(crate) fn read_from(&mut self, count: usize, words: &[u64], at: usize)
-        requires { count ≤ 128 }
-        ensures { self.new.count ≡ count }
+    pub(crate) fn read_from(&mut self, count: usize, list: &[u64], at: usize)
+        requires few { count ≤ 128 }
+        requires low { at + count ≤ length list.now }
+        requires high { 64 < count → at + count + count ≤ length list.now }
+        ensures { IsRelation self.new count (Stored list.now at count) }
     {
         self.clear(count);
-        words::read(&mut self.low, words, at, count);
-        words::read(
-            &mut self.high,
-            words,
-            at.saturating_add(count),
-            end_of_high(count),
-        );
+        let low = lowest_bits(in_low(count));
+        let high = lowest_bits(in_high(count));
+        words::read(&mut self.low, list, at, low, count);
+        words::read(&mut self.high, list, at + count, high, end_of_high(count));
     }
 }

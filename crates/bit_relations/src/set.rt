@@ -1,8 +1,8 @@
 //! Sets of events.
-ghost use Rattle.std.specs.Prelude.{◌≡◌, ℕ, ◌<◌, ◌≤◌, ◌-◌, ◌↔◌, length, slice_index, IsTrue};
-ghost use Rattle.bit_relations.specs.Relation.{Bit, Events, IsMember, IsEvents};
+ghost use Rattle.std.specs.Prelude.{◌≡◌, ℕ, ◌<◌, ◌≤◌, ◌^◌, ◌↔◌, ◌⊎◌, IsTrue};
+ghost use Rattle.bit_relations.specs.Relation.{Bit, Events, IsMember, IsEvents, joined};
 
-use crate::words::{has_event, in_high, in_low, lowest_bits, with_bit};
+use crate::word::{both, either, has_event, in_high, in_low, left_alone, lowest_bits, with_bit};
 use std::marker::Model;
 
 /// A set of the events below a count.
@@ -14,14 +14,14 @@ pub struct EventSet {
 }
 
 impl Model for EventSet {
-    ghost use Rattle.std.specs.Prelude.{◌≤◌, ◌/◌, ◌%◌, ◌^◌, ◌<◌};
-    ghost use Rattle.bit_relations.specs.Relation.{Events, joined};
+    ghost use Rattle.std.specs.Prelude.{◌/◌, ◌%◌, ◌^◌};
+    ghost use Rattle.bit_relations.specs.Relation.{Events, joined, AreWords};
 
     ghost Value = { Events };
 
     ghost view = { λ s. record { count = s.count; word = joined s.low s.high } };
 
-    ghost invariant = { λ s. (s.count ≤ 128) × (s.low < 2 ^ 64) };
+    ghost invariant = { λ s. AreWords s.count s.low s.high };
 
     ghost inverse = { λ v. record { count = v.count; low = v.word % 2 ^ 64; high = v.word / 2 ^ 64 } };
 }
@@ -30,7 +30,7 @@ impl EventSet {
     /// The set with no event, of a count.
     pub fn empty(count: usize) -> EventSet
         requires { count ≤ 128 }
-        ensures { result.count ≡ count }
+        ensures { IsEvents result count (λ a. ⊥) }
     {
         EventSet {
             count,
@@ -42,7 +42,7 @@ impl EventSet {
     /// The set of all events below a count.
     pub fn all(count: usize) -> EventSet
         requires { count ≤ 128 }
-        ensures { result.count ≡ count }
+        ensures { IsEvents result count (λ a. a < count) }
     {
         EventSet {
             count,
@@ -55,6 +55,7 @@ impl EventSet {
     pub fn count(&self) -> usize
         ensures value { result ≡ self.now.count }
         ensures few { result ≤ 128 }
+        ensures within { (a : ℕ) → IsMember self.now a → a < self.now.count }
     {
         self.count
     }
@@ -62,7 +63,7 @@ impl EventSet {
     /// Adds an event.
     pub fn insert(&mut self, event: usize)
         requires { event < self.old.count }
-        ensures { self.new.count ≡ self.old.count }
+        ensures { IsEvents self.new self.old.count (λ a. IsMember self.old a ⊎ (a ≡ event)) }
     {
         if event < 64 {
             self.low = with_bit(self.low, event);
@@ -74,59 +75,62 @@ impl EventSet {
     /// Whether it has the event.
     pub fn contains(&self, event: usize) -> bool
         requires { event < self.now.count }
+        ensures { IsTrue result ↔ IsMember self.now event }
     {
         has_event(self.low, self.high, event)
     }
 
     /// Whether it has no event.
-    pub fn is_empty(&self) -> bool {
+    pub fn is_empty(&self) -> bool
+        ensures { IsTrue result ↔ ((a : ℕ) → IsMember self.now a → ⊥) }
+    {
         self.low == 0 && self.high == 0
     }
 
     /// The events of both sets together.
     pub fn union(&self, other: &EventSet) -> EventSet
         requires { other.now.count ≡ self.now.count }
-        ensures { result.count ≡ self.now.count }
+        ensures { IsEvents result self.now.count (λ a. IsMember self.now a ⊎ IsMember other.now a) }
     {
         EventSet {
             count: self.count,
-            low: self.low | other.low,
-            high: self.high | other.high,
+            low: either(self.low, other.low),
+            high: either(self.high, other.high),
         }
     }
 
     /// The events that are in both sets.
     pub fn inter(&self, other: &EventSet) -> EventSet
         requires { other.now.count ≡ self.now.count }
-        ensures { result.count ≡ self.now.count }
+        ensures { IsEvents result self.now.count (λ a. IsMember self.now a × IsMember other.now a) }
     {
         EventSet {
             count: self.count,
-            low: self.low & other.low,
-            high: self.high & other.high,
+            low: both(self.low, other.low),
+            high: both(self.high, other.high),
         }
     }
 
     /// The events of this set that are not in the other.
     pub fn minus(&self, other: &EventSet) -> EventSet
         requires { other.now.count ≡ self.now.count }
-        ensures { result.count ≡ self.now.count }
+        ensures { IsEvents result self.now.count (λ a. IsMember self.now a × (IsMember other.now a → ⊥)) }
     {
         EventSet {
             count: self.count,
-            low: self.low & !other.low,
-            high: self.high & !other.high,
+            low: left_alone(self.low, other.low),
+            high: left_alone(self.high, other.high),
         }
     }
 
     /// The events below the count that are not in it.
     pub fn complement(&self) -> EventSet
-        ensures { result.count ≡ self.now.count }
+        ensures { IsEvents result self.now.count (λ a. (a < self.now.count) × (IsMember self.now a → ⊥)) }
     {
         EventSet {
             count: self.count,
-            low: lowest_bits(in_low(self.count)) & !self.low,
-            high: lowest_bits(in_high(self.count)) & !self.high,
+            low: left_alone(lowest_bits(in_low(self.count)), self.low),
+            high: left_alone(lowest_bits(in_high(self.count)), self.high),
         }
     }
 
@@ -137,13 +141,13 @@ impl EventSet {
         *self == *other
     }
 
-    /// Its first word: the events below 64.
-    pub(crate) fn low(&self) -> u64 {
-        self.low
-    }
-
-    /// Its second word: the events from 64 on.
-    pub(crate) fn high(&self) -> u64 {
-        self.high
+    /// Its two words: the events below 64, and those from 64 on.
+    pub(crate) fn words(&self) -> (u64, u64)
+        ensures few { self.now.count ≤ 128 }
+        ensures low { result.0 < 2 ^ 64 }
+        ensures word { joined result.0 result.1 ≡ self.now.word }
+        ensures within { (a : ℕ) → IsMember self.now a → a < self.now.count }
+    {
+        (self.low, self.high)
     }
 }

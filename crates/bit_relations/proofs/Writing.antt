@@ -1,0 +1,140 @@
+-- A loop that writes words one after another.
+use Rattle.std.proofs.Common.{ℕ, ◌≡◌, ◌<◌, ◌≤◌, ◌↔◌, ◌+◌, ◌^◌, ◌⊎◌, List, length, get_or, set, replicate, inl, inr, arith, refl, sym, ◌∙◌, subst, get_or-set_other, get_or-set_same}
+use Rattle.std.proofs.lemmas.Bool.{cases_eq, cases_lt}
+use Rattle.std.proofs.lemmas.List.{length-set, length-replicate, get_or-replicate, get_or_past}
+use Rattle.bit_relations.specs.Pairs.{Added}
+use Rattle.bit_relations.specs.Relation.{Bit}
+use Rattle.bit_relations.specs.Rows.{RowsHave, AreWritten, Taken, JoinedBelow}
+use Rattle.bit_relations.proofs.Bits.{Bit-zero}
+
+pub written_none : (rows : List ℕ) (P : ℕ → ℕ → Type 0) → AreWritten rows rows 0 P
+written_none rows P = record { height = refl; fits = λ f. f; inside = λ a lt. absurd (omega (arith, lt)); outside = λ a le. refl }
+
+pub written_more : (old new : List ℕ) (i w : ℕ) (P : ℕ → ℕ → Type 0) → i < length old → AreWritten old new i P → w < 2 ^ 64 → ((b : ℕ) → Bit w b ↔ P i b) → AreWritten old (set new i w) (i + 1) P
+written_more old new i w P room before small row = record {
+  height = length-set new i w ∙ before.height;
+  fits = λ f a. elim (cases_eq a i) [
+    | inl same ↦
+        let here : get_or (set new i w) a 0 ≡ w = rw same (get_or-set_same new i w 0 in_new) in
+        rw here small
+    | inr other ↦
+        let there : get_or (set new i w) a 0 ≡ get_or new a 0 = get_or-set_other new i a w 0 other in
+        rw there (before.fits f a)
+  ];
+  inside = λ a lt b.
+      elim (cases_eq a i) [
+        | inl same ↦
+            let here : get_or (set new i w) a 0 ≡ w = rw same (get_or-set_same new i w 0 in_new) in
+            rw (here, same) (row b)
+        | inr other ↦
+            let there : get_or (set new i w) a 0 ≡ get_or new a 0 = get_or-set_other new i a w 0 other in
+            rw there (before.inside a (below other lt) b)
+      ];
+  outside = λ a le. get_or-set_other new i a w 0 (λ e. omega (arith, le, e)) ∙ before.outside a (omega (arith, le));
+}
+  where
+    in_new : i < length new
+    in_new = rw before.height room
+
+    below : {a : ℕ} → (a ≡ i → ⊥) → a < i + 1 → a < i
+    below ne lt = omega arith
+
+-- the row at hand is still the old one
+pub still : {old new : List ℕ} {i : ℕ} {P : ℕ → ℕ → Type 0} → AreWritten old new i P → get_or new i 0 ≡ get_or old i 0
+still {old} {new} {i} before = before.outside i (omega arith)
+
+pub zeros : (n a : ℕ) → ◌≡◌ {A = ℕ} (get_or (replicate n 0) a 0) 0
+zeros n a =
+    elim (cases_lt a n) [
+      | inl lt ↦ get_or-replicate {A = ℕ} n a 0 0 lt
+      | inr ge ↦ let past : length (replicate {A = ℕ} n 0) ≤ a = rw (length-replicate {A = ℕ} n 0) ge in get_or_past {X = ℕ} (replicate n 0) a 0 past
+    ]
+
+-- one bit more in one word
+pub added : (rows : List ℕ) (from to w : ℕ) → from < length rows → ((b : ℕ) → Bit w b ↔ (Bit (get_or rows from 0) b ⊎ (to ≡ b))) → (a b : ℕ) → RowsHave (set rows from w) a b ↔ Added (RowsHave rows) from to a b
+added rows from to w inside row a b =
+    elim (cases_eq a from) [
+      | inl same ↦
+          let here : get_or (set rows from w) a 0 ≡ w = rw same (get_or-set_same rows from w 0 inside) in
+          rw (here, same) (
+            (λ h. elim ((row b).0 h) [ inl old ↦ inl old | inr e ↦ inr (refl, sym e) ]),
+            (λ h. (row b).1 (elim h [ inl old ↦ inl old | inr t ↦ inr (sym t.1) ])),
+          )
+      | inr other ↦
+          let there : get_or (set rows from w) a 0 ≡ get_or rows a 0 = get_or-set_other rows from a w 0 other in
+          rw there ((λ h. inl h), (λ h. elim h [ inl old ↦ old | inr t ↦ absurd (other t.0) ]))
+    ]
+
+-- rows joined one after another
+pub composed_none : (rows others : List ℕ) (R : ℕ → ℕ → Type 0) (end : ℕ) → AreWritten rows rows end (JoinedBelow 0 (RowsHave rows) R (RowsHave others))
+composed_none rows others R end = record {
+  height = refl;
+  fits = λ f. f;
+  inside = λ a lt b. ((λ h. inl h), (λ h. elim h [ inl o ↦ o | inr t ↦ absurd (omega (arith, t.1)) ]));
+  outside = λ a le. refl;
+}
+
+pub composed_more : (old now new others : List ℕ) (R : ℕ → ℕ → Type 0) (end c : ℕ) → AreWritten old now end (JoinedBelow c (RowsHave old) R (RowsHave others)) → AreWritten now new end (Taken (RowsHave now) R c (get_or others c 0)) → AreWritten old new end (JoinedBelow (c + 1) (RowsHave old) R (RowsHave others))
+composed_more old now new others R end c before step = record {
+  height = step.height ∙ before.height;
+  fits = λ f. step.fits (before.fits f);
+  inside = λ a lt b. (
+    (λ h. elim ((step.inside a lt b).0 h) [
+      | inl kept ↦ elim ((before.inside a lt b).0 kept) [
+        | inl o ↦ inl o
+        | inr t ↦ inr (t.0, omega (arith, t.1), t.2, t.3)
+      ]
+      | inr t ↦ inr (c, omega arith, t.0, t.1)
+    ]),
+    (λ h. (step.inside a lt b).1 (elim h [
+      | inl o ↦ inl ((before.inside a lt b).1 (inl o))
+      | inr t ↦ elim (cases_lt t.0 c) [
+        | inl less ↦ inl ((before.inside a lt b).1 (inr (t.0, less, t.2, t.3)))
+        | inr ge ↦
+            let same : t.0 ≡ c = omega (arith, t.1) in
+            inr (subst (λ (y : ℕ). R a y) same t.2, subst (λ (y : ℕ). RowsHave others y b) same t.3)
+      ]
+    ])),
+  );
+  outside = λ a le. step.outside a le ∙ before.outside a le;
+}
+
+-- an empty row joins nothing
+pub composed_passed : (old now others : List ℕ) (R : ℕ → ℕ → Type 0) (end c : ℕ) → AreWritten old now end (JoinedBelow c (RowsHave old) R (RowsHave others)) → get_or others c 0 ≡ 0 → AreWritten old now end (JoinedBelow (c + 1) (RowsHave old) R (RowsHave others))
+composed_passed old now others R end c before empty =
+    composed_more old now now others R end c before (record {
+      height = refl;
+      fits = λ f. f;
+      inside = λ a lt b. ((λ h. inl h), (λ h. elim h [ inl o ↦ o | inr t ↦ absurd (Bit-zero b (rw empty at t.1)) ]));
+      outside = λ a le. refl;
+    })
+
+pub column_none : (words : List ℕ) (at k : ℕ) → (b : ℕ) → Bit 0 b ↔ ((b < 0) × RowsHave words (b + at) k)
+column_none words at k b = ((λ h. absurd (Bit-zero b h)), (λ h. absurd (omega (arith, h.0))))
+
+pub column_more : (words : List ℕ) (at k a old new own : ℕ) → ((b : ℕ) → Bit old b ↔ ((b < a) × RowsHave words (b + at) k)) → ((b : ℕ) → Bit new b ↔ (Bit old b ⊎ (RowsHave words (a + at) k × Bit own b))) → ((b : ℕ) → Bit own b ↔ (Bit 0 b ⊎ (a ≡ b))) → (b : ℕ) → Bit new b ↔ ((b < a + 1) × RowsHave words (b + at) k)
+column_more words at k a old new own before step mine b = (
+  (λ h. elim ((step b).0 h) [
+    | inl kept ↦ let t = (before b).0 kept in (omega (arith, t.0), t.1)
+    | inr t ↦ elim ((mine b).0 t.1) [
+      | inl z ↦ absurd (Bit-zero b z)
+      | inr e ↦ (omega (arith, e), subst (λ (y : ℕ). RowsHave words (y + at) k) e t.0)
+    ]
+  ]),
+  (λ h. (step b).1 (elim (cases_eq a b) [
+    | inl e ↦ inr (subst (λ (y : ℕ). RowsHave words (y + at) k) (sym e) h.1, (mine b).1 (inr e))
+    | inr other ↦ inl ((before b).1 (less other h.0, h.1))
+  ])),
+)
+  where
+    less : {b : ℕ} → (a ≡ b → ⊥) → b < a + 1 → b < a
+    less ne lt = omega arith
+
+-- the same bits, said in another way
+pub written_as : {old new : List ℕ} {end : ℕ} {P Q : ℕ → ℕ → Type 0} → AreWritten old new end P → ((a b : ℕ) → P a b ↔ Q a b) → AreWritten old new end Q
+written_as w same = record {
+  height = w.height;
+  fits = w.fits;
+  inside = λ a lt b. let p = w.inside a lt b in let q = same a b in ((λ h. q.0 (p.0 h)), (λ h. p.1 (q.1 h)));
+  outside = w.outside;
+}

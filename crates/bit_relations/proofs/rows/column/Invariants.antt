@@ -1,0 +1,7 @@
+use Rattle.std.proofs.Common.{ℕ, ◌<◌, ◌+◌, ◌↔◌}
+use Rattle.bit_relations.specs.Relation.{Bit}
+use Rattle.bit_relations.specs.Rows.{RowsHave}
+use Rattle.bit_relations.proofs.rows.column.Given as goal
+
+abbrev pub invariant-loop-a : goal.invariant-loop-a
+invariant-loop-a l = (b : ℕ) → Bit l.column b ↔ ((b < l.a) × RowsHave l.words (b + l.at) l.k)

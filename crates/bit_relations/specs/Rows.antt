@@ -1,0 +1,62 @@
+-- Words of bits as pairs.
+use Rattle.std.specs.Prelude.{ℕ, ◌≡◌, ◌<◌, ◌≤◌, ◌+◌, ◌^◌, ◌↔◌, ◌⊎◌, List, length, slice_index}
+use Rattle.bit_relations.specs.Relation.{Bit}
+
+abbrev pub RowsHave : List ℕ → ℕ → ℕ → Type 0
+RowsHave rows a b = Bit (slice_index rows a) b
+
+-- each word has 64 bits
+abbrev pub AllFit : List ℕ → Type 0
+AllFit ws = (a : ℕ) → slice_index ws a < 2 ^ 64
+
+-- the words below the end have these bits, and the others are as they were
+pub record AreWritten (old new : List ℕ) (end : ℕ) (P : ℕ → ℕ → Type 0) : Type 0 where
+  pub height : length new ≡ length old
+  pub fits : AllFit old → AllFit new
+  pub inside : (a : ℕ) → a < end → (b : ℕ) → RowsHave new a b ↔ P a b
+  pub outside : (a : ℕ) → end ≤ a → slice_index new a ≡ slice_index old a
+
+-- no bit is set
+abbrev pub Nothing : ℕ → ℕ → Type 0
+Nothing a b = ⊥
+
+-- the bits of words, and those of one word where other words have the bit k
+abbrev pub Taken : (ℕ → ℕ → Type 0) → (ℕ → ℕ → Type 0) → ℕ → ℕ → ℕ → ℕ → Type 0
+Taken R S k word a b = R a b ⊎ (S a k × Bit word b)
+
+-- the bits of words, and in each the bit of its own event, where the first bit stands for the event `at`
+abbrev pub WithOwn : ℕ → (ℕ → ℕ → Type 0) → ℕ → ℕ → Type 0
+WithOwn at R a b = R a b ⊎ ((b < 64) × (a ≡ b + at))
+
+-- the bits of one word, for each event that a word has
+abbrev pub Filled : ℕ → ℕ → ℕ → ℕ → Type 0
+Filled events word a b = Bit events a × Bit word b
+
+-- the bits of words that one word has too, for each event that a word has
+abbrev pub Kept : ℕ → ℕ → (ℕ → ℕ → Type 0) → ℕ → ℕ → Type 0
+Kept events word R a b = Bit events a × R a b × Bit word b
+
+-- the bits of one word that the words have not
+abbrev pub Turned : ℕ → (ℕ → ℕ → Type 0) → ℕ → ℕ → Type 0
+Turned all R a b = Bit all b × (R a b → ⊥)
+
+-- the bits of words, and those of the rows below the end that R leads to
+abbrev pub JoinedBelow : ℕ → (ℕ → ℕ → Type 0) → (ℕ → ℕ → Type 0) → (ℕ → ℕ → Type 0) → ℕ → ℕ → Type 0
+JoinedBelow end W R S a b = W a b ⊎ ((c : ℕ) × (c < end) × R a c × S c b)
+
+-- the bits turned round, for the events below the end, where the first bit stands for the event `at`
+abbrev pub Inverted : ℕ → ℕ → (ℕ → ℕ → Type 0) → ℕ → ℕ → Type 0
+Inverted at end R a b = (b < end) × R (b + at) a
+
+-- the pairs, and those that lead through the middle
+abbrev pub Through : ℕ → (ℕ → ℕ → Type 0) → ℕ → ℕ → Type 0
+Through middle R a b = R a b ⊎ (R a middle × R middle b)
+
+-- the bits of the words of a list from a place on, where one word has them
+abbrev pub Read : List ℕ → ℕ → ℕ → ℕ → ℕ → Type 0
+Read list at all a b = Bit (slice_index list (at + a)) b × Bit all b
+
+-- the pairs below n whose bits stand in a list from a place on: the low words, and then the high ones
+abbrev pub Stored : List ℕ → ℕ → ℕ → ℕ → ℕ → Type 0
+Stored list at n a b =
+    (a < n) × (b < n) × (((b < 64) × Bit (slice_index list (at + a)) b) ⊎ ((k : ℕ) × (b ≡ k + 64) × Bit (slice_index list (at + n + a)) k))
