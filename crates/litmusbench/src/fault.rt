@@ -9,10 +9,10 @@ use thiserror::Error;
 #[derive(Debug, Drop, Error)]
 pub enum EvalFault {
     /// The model's text is refused.
-    #[error("the model: {0}")]
+    #[error("the cat text: {0}")]
     Model(CatFault),
     /// The test's text is refused.
-    #[error("the test: {0}")]
+    #[error("the litmus text: {0}")]
     Test(LitmusFault),
     /// A growth was refused.
     #[error("out of memory")]
