@@ -3,11 +3,11 @@ use Rattle.std.proofs.Common.{◌≡◌, ℕ, zero, suc, ◌+◌, ◌-◌, ◌<�
 use Rattle.std.specs.Prelude.{map, max, codes}
 use Rattle.std.specs.Fmt.{decimal}
 use Rattle.std.proofs.lemmas.List.{at_drop_more, at_drop_all, append-nil}
-use Rattle.litmus_ppc.specs.declared.test.Step.{Step}
-use Rattle.litmus_ppc.specs.declared.test.Thread.{Thread}
-use Rattle.litmus_ppc.specs.declared.test.Place.{Place}
-use Rattle.litmus_ppc.specs.declared.test.InitEntry.{InitEntry}
-use Rattle.litmus_ppc.specs.Value.{steps_of}
+use Rattle.litmus_values.specs.declared.test.Step.{Step}
+use Rattle.litmus_values.specs.declared.test.Thread.{Thread}
+use Rattle.litmus_values.specs.declared.test.Place.{Place}
+use Rattle.litmus_values.specs.declared.test.InitEntry.{InitEntry}
+use Rattle.litmus_values.specs.Value.{steps_of}
 use Rattle.litmus_ppc.specs.Printing.{joined, between, all_of, names, cell_text, step_text, row_text, rows_text, longest, item_text, entry_line}
 
 -- what is left to print from the i-th on

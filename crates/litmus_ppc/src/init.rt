@@ -1,10 +1,9 @@
 //! Reads the block of initial values.
 
 use crate::fault::LitmusFault;
-use crate::place::{PlaceHole, PlaceStep, place_step, value_read};
-use crate::step::StepError;
-use crate::test::{InitEntry, Place};
+use litmus_conditions::{PlaceHole, PlaceStep, StepError, place_step, value_read};
 use litmus_tokens::{LitmusRule, Mark, Token};
+use litmus_values::{InitEntry, Place};
 use source_text::Name;
 use std::alloc::Global;
 use std::collections::BTreeSet;

@@ -1,9 +1,8 @@
 //! The checks of labels, made once a whole text is read.
 
 use crate::fault::LitmusFault;
-use crate::instruction::Instruction;
-use crate::test::{Step, Thread};
 use litmus_tokens::LitmusRule;
+use litmus_values::{Instruction, Step, Thread};
 use source_text::Name;
 use std::alloc::{AllocError, Global};
 use std::collections::BTreeMap;

@@ -1,8 +1,8 @@
 //! Words that begin instructions, and what follows each.
 
-use crate::instruction::{BranchCondition, Fence, Instruction, Operation, Register};
-use crate::place::register_of;
+use litmus_conditions::register_of;
 use litmus_tokens::{Mark, Token, signed_number};
+use litmus_values::{BranchCondition, Fence, Instruction, Operation, Register};
 
 /// The word that begins an instruction.
 #[derive(Clone, Copy, Debug, PartialEq, Eq)]

@@ -2,11 +2,13 @@
 
 ghost use Rattle.std.specs.Prelude.{◌≡◌, ◌++◌, ◌+◌, OnOk, IfOk, codes};
 ghost use Rattle.std.specs.Fmt.{decimal, signed_decimal};
-ghost use Rattle.litmus_ppc.specs.Value.{formula_of};
-ghost use Rattle.litmus_ppc.specs.Printing.{level, line, register_text, value_text, place_text, entry_text, operation_text, branch_text, fence_text, instruction_text, step_text, connective_text, bracketed, is_loose, formula_text, condition_text};
+ghost use Rattle.litmus_values.specs.Value.{formula_of, level};
+ghost use Rattle.litmus_ppc.specs.Printing.{line, register_text, value_text, place_text, entry_text, operation_text, branch_text, fence_text, instruction_text, step_text, connective_text, bracketed, is_loose, formula_text, condition_text};
 
-use crate::instruction::{BranchCondition, Fence, Instruction, Operation, Register};
-use crate::test::{Condition, Connective, InitEntry, Place, Proposition, Quantifier, Step, Value};
+use litmus_values::{
+    BranchCondition, Condition, Connective, Fence, InitEntry, Instruction, Operation, Place,
+    Proposition, Quantifier, Register, Step, Value,
+};
 use source_text::{put_bytes, put_decimal};
 use std::alloc::{AllocError, Global};
 
@@ -75,45 +77,39 @@ pub fn put_entry(text: &mut Vec<u8>, entry: &InitEntry) -> Result<(), AllocError
     put_bytes(text, b";\n")
 }
 
-impl Operation {
-    fn text(self) -> &'static [u8]
-        ensures { result.now ≡ operation_text self }
-    {
-        match self {
-            Operation::Add => b"add",
-            Operation::SubtractFrom => b"subf",
-            Operation::Xor => b"xor",
-            Operation::Or => b"or",
-            Operation::And => b"and",
-        }
+fn operation_name(operation: Operation) -> &'static [u8]
+    ensures { result.now ≡ operation_text operation }
+{
+    match operation {
+        Operation::Add => b"add",
+        Operation::SubtractFrom => b"subf",
+        Operation::Xor => b"xor",
+        Operation::Or => b"or",
+        Operation::And => b"and",
     }
 }
 
-impl BranchCondition {
-    fn text(self) -> &'static [u8]
-        ensures { result.now ≡ branch_text self }
-    {
-        match self {
-            BranchCondition::Equal => b"beq",
-            BranchCondition::NotEqual => b"bne",
-            BranchCondition::Less => b"blt",
-            BranchCondition::Greater => b"bgt",
-            BranchCondition::LessOrEqual => b"ble",
-            BranchCondition::GreaterOrEqual => b"bge",
-        }
+fn branch_name(condition: BranchCondition) -> &'static [u8]
+    ensures { result.now ≡ branch_text condition }
+{
+    match condition {
+        BranchCondition::Equal => b"beq",
+        BranchCondition::NotEqual => b"bne",
+        BranchCondition::Less => b"blt",
+        BranchCondition::Greater => b"bgt",
+        BranchCondition::LessOrEqual => b"ble",
+        BranchCondition::GreaterOrEqual => b"bge",
     }
 }
 
-impl Fence {
-    fn text(self) -> &'static [u8]
-        ensures { result.now ≡ fence_text self }
-    {
-        match self {
-            Fence::Sync => b"sync",
-            Fence::LightweightSync => b"lwsync",
-            Fence::Eieio => b"eieio",
-            Fence::Isync => b"isync",
-        }
+fn fence_name(fence: Fence) -> &'static [u8]
+    ensures { result.now ≡ fence_text fence }
+{
+    match fence {
+        Fence::Sync => b"sync",
+        Fence::LightweightSync => b"lwsync",
+        Fence::Eieio => b"eieio",
+        Fence::Isync => b"isync",
     }
 }
 
@@ -209,7 +205,7 @@ fn put_instruction(text: &mut Vec<u8>, instruction: &Instruction) -> Result<(), 
             target,
             left,
             right,
-        } => put_three(text, operation.text(), *target, *left, *right),
+        } => put_three(text, operation_name(*operation), *target, *left, *right),
         Instruction::Load { target, base } => put_access(text, b"lwz", *target, *base),
         Instruction::LoadIndexed {
             target,
@@ -228,10 +224,10 @@ fn put_instruction(text: &mut Vec<u8>, instruction: &Instruction) -> Result<(), 
             put_immediate(text, *value)
         }
         Instruction::BranchIf { condition, label } => {
-            put_branch(text, condition.text(), label.as_bytes())
+            put_branch(text, branch_name(*condition), label.as_bytes())
         }
         Instruction::Branch { label } => put_branch(text, b"b", label.as_bytes()),
-        Instruction::Fence(fence) => put_bytes(text, fence.text()),
+        Instruction::Fence(fence) => put_bytes(text, fence_name(*fence)),
     }
 }
 
@@ -248,15 +244,13 @@ pub fn put_step(text: &mut Vec<u8>, step: &Step) -> Result<(), AllocError>
     }
 }
 
-impl Connective {
-    fn text(self) -> &'static [u8]
-        ensures { result.now ≡ connective_text self }
-    {
-        match self {
-            Connective::And => b" /\\ ",
-            Connective::Or => b" \\/ ",
-            Connective::Implies => b" => ",
-        }
+fn connective_sign(connective: Connective) -> &'static [u8]
+    ensures { result.now ≡ connective_text connective }
+{
+    match connective {
+        Connective::And => b" /\\ ",
+        Connective::Or => b" \\/ ",
+        Connective::Implies => b" => ",
     }
 }
 
@@ -308,7 +302,7 @@ fn put_proposition(text: &mut Vec<u8>, proposition: &Proposition) -> Result<(), 
         }
         Proposition::Joined(connective, left, right) => {
             put_operand(text, left, is_loose(connective.level() + 1, left))?;
-            put_bytes(text, connective.text())?;
+            put_bytes(text, connective_sign(*connective))?;
             put_operand(text, right, is_loose(connective.level(), right))
         }
     }

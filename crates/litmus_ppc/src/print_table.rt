@@ -1,11 +1,11 @@
 //! Prints tests.
 
 ghost use Rattle.std.specs.Prelude.{◌≡◌, ◌++◌, List, map, length, OnOk, IfOk};
-ghost use Rattle.litmus_ppc.specs.Value.{steps_of, content_of};
+ghost use Rattle.litmus_values.specs.Value.{steps_of, content_of};
 ghost use Rattle.litmus_ppc.specs.Printing.{all_of, item_text, between, cell_text, row_text, rows_text, longest, names, observed_text, entry_line, printed};
 
 use crate::print::{put_condition, put_entry, put_place, put_step};
-use crate::test::{InitEntry, Place, Step, Test, Thread};
+use litmus_values::{InitEntry, Place, Step, Test, Thread};
 use source_text::{put_bytes, put_decimal};
 use std::alloc::{AllocError, Global};
 

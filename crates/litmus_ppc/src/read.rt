@@ -2,8 +2,8 @@
 
 use crate::fault::LitmusFault;
 use crate::reader::{Reader, TextKind};
-use crate::test::{Condition, InitEntry, Place, Test, Thread};
 use litmus_tokens::{Front, LitmusRule, Token, front_of};
+use litmus_values::{Condition, InitEntry, Place, Test, Thread};
 use source_text::{MAX_BYTES, is_blank};
 use std::alloc::Global;
 

@@ -1,13 +1,13 @@
 //! Takes the tokens of a text one after another.
 
-use crate::condition::{Fed, Frame, Hole, feed};
 use crate::fault::LitmusFault;
 use crate::init::{InitBlock, InitHole, InitStep};
-use crate::place::{PlaceHole, PlaceStep, is_there, place_step};
-use crate::step::StepError;
 use crate::table::Table;
-use crate::test::{Condition, InitEntry, Place, Proposition, Quantifier, Test, Thread};
+use litmus_conditions::{
+    Fed, Frame, Hole, PlaceHole, PlaceStep, StepError, feed, is_there, place_step,
+};
 use litmus_tokens::{LitmusRule, Mark, Stage, Token, ends_table, is_filter, is_test_name};
+use litmus_values::{Condition, InitEntry, Place, Proposition, Quantifier, Test, Thread};
 use source_text::Name;
 use std::alloc::{AllocError, Global};
 use std::mem;

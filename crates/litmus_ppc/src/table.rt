@@ -1,12 +1,11 @@
 //! Reads the table of threads.
 
 use crate::fault::LitmusFault;
-use crate::instruction::{BranchCondition, Instruction};
 use crate::late::PlacedThread;
 use crate::operand::{DataOpcode, Opcode, Pending, Want, number_in, opcode_of, register_in};
-use crate::step::StepError;
-use crate::test::{Step, Thread};
+use litmus_conditions::StepError;
 use litmus_tokens::{LitmusRule, Mark, Token, is_column, is_filter};
+use litmus_values::{BranchCondition, Instruction, Step, Thread};
 use std::alloc::{AllocError, Global};
 
 /// Where in a cell the reader stands.

@@ -4,10 +4,10 @@ use Rattle.ppc_semantics.specs.declared.value.Value.{Value}
 use Rattle.ppc_semantics.specs.declared.value.Value.TheVariants.{Number, Address, NoValue}
 use Rattle.ppc_semantics.specs.declared.value.Comparison.{Comparison}
 use Rattle.ppc_semantics.specs.declared.value.Comparison.TheVariants as how
-use Rattle.litmus_ppc.specs.declared.instruction.Operation.{Operation}
-use Rattle.litmus_ppc.specs.declared.instruction.Operation.TheVariants.{Add, SubtractFrom, Xor, Or, And}
-use Rattle.litmus_ppc.specs.declared.instruction.BranchCondition.{BranchCondition}
-use Rattle.litmus_ppc.specs.declared.instruction.BranchCondition.TheVariants as when
+use Rattle.litmus_values.specs.declared.instruction.Operation.{Operation}
+use Rattle.litmus_values.specs.declared.instruction.Operation.TheVariants.{Add, SubtractFrom, Xor, Or, And}
+use Rattle.litmus_values.specs.declared.instruction.BranchCondition.{BranchCondition}
+use Rattle.litmus_values.specs.declared.instruction.BranchCondition.TheVariants as when
 use Rattle.ppc_semantics.specs.declared.instruction.Instruction.{Instruction}
 use Rattle.ppc_semantics.specs.declared.instruction.Instruction.TheVariants.{Immediate, Move, AddImmediate, Operate, Load, LoadIndexed, Store, StoreIndexed, Compare, CompareImmediate, Branch, Jump, Barrier}
 pub use Rattle.ppc_semantics.specs.declared.state.State.{State}

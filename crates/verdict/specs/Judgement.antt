@@ -1,7 +1,7 @@
 -- What the numbers of kept candidates say of a condition.
 use Rattle.std.specs.Prelude.{◌≡◌, ℕ, Bool, ◌==◌, nat_lt, if◌then◌else◌}
-use Rattle.litmus_ppc.specs.declared.test.Quantifier.{Quantifier}
-use Rattle.litmus_ppc.specs.declared.test.Quantifier.TheVariants.{Exists, NotExists, Forall}
+use Rattle.litmus_values.specs.declared.test.Quantifier.{Quantifier}
+use Rattle.litmus_values.specs.declared.test.Quantifier.TheVariants.{Exists, NotExists, Forall}
 use Rattle.verdict.specs.declared.answer.Evaluation.{Evaluation}
 use Rattle.verdict.specs.declared.answer.Observation.{Observation}
 use Rattle.verdict.specs.declared.answer.Observation.TheVariants.{Never, Sometimes, Always}

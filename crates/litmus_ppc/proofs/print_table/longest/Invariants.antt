@@ -1,6 +1,6 @@
 use Rattle.std.proofs.Common.{◌≡◌, drop}
 use Rattle.std.specs.Prelude.{map, max}
-use Rattle.litmus_ppc.specs.Value.{steps_of}
+use Rattle.litmus_values.specs.Value.{steps_of}
 use Rattle.litmus_ppc.specs.Printing.{longest}
 use Rattle.litmus_ppc.proofs.print_table.longest.Given as goal
 

@@ -1,12 +1,9 @@
 //! Reads what a condition says, token by token.
 
-ghost use Rattle.std.specs.Prelude.{◌≡◌, ◌≤◌};
-ghost use Rattle.litmus_ppc.specs.Printing.{level};
-
 use crate::place::{PlaceHole, PlaceStep, is_there, place_step, value_read};
 use crate::step::StepError;
-use crate::test::{Connective, Place, Proposition};
 use litmus_tokens::{Mark, Token};
+use litmus_values::{Connective, Place, Proposition};
 use source_text::Name;
 use std::alloc::{AllocError, Global};
 
@@ -41,20 +38,6 @@ pub enum Fed {
     Goes(Vec<Frame>, usize, Hole),
     /// The text has ended.
     Ends(Proposition),
-}
-
-impl Connective {
-    /// How tightly the operator binds, from 1 to 3; each groups to the right.
-    pub fn level(self) -> usize
-        ensures value { result ≡ level self }
-        ensures bound { result ≤ 3 }
-    {
-        match self {
-            Connective::And => 3,
-            Connective::Or => 2,
-            Connective::Implies => 1,
-        }
-    }
 }
 
 impl Frame {

@@ -1,9 +1,8 @@
 //! Reads places and values.
 
-use crate::instruction::Register;
 use crate::step::StepError;
-use crate::test::{Place, Value};
 use litmus_tokens::{Mark, Token, decimal, register_number, signed_number};
+use litmus_values::{Place, Register, Value};
 use source_text::Name;
 
 /// Where in a place the reader stands.

@@ -1,15 +1,22 @@
 -- What a text means, without where it lies in memory.
 use Rattle.std.specs.Prelude.{ℕ, List, map, Bool}
-use Rattle.litmus_ppc.specs.declared.test.Place.{Place}
-use Rattle.litmus_ppc.specs.declared.test.Value as declared_value
-use Rattle.litmus_ppc.specs.declared.test.InitEntry.{InitEntry}
-use Rattle.litmus_ppc.specs.declared.test.Step.{Step}
-use Rattle.litmus_ppc.specs.declared.test.Thread.{Thread}
-use Rattle.litmus_ppc.specs.declared.test.Quantifier.{Quantifier}
-use Rattle.litmus_ppc.specs.declared.test.Connective.{Connective}
-use Rattle.litmus_ppc.specs.declared.test.Proposition as code
-use Rattle.litmus_ppc.specs.declared.test.Proposition.TheVariants as propositions
-use Rattle.litmus_ppc.specs.declared.test.Test.{Test}
+use Rattle.litmus_values.specs.declared.test.Place.{Place}
+use Rattle.litmus_values.specs.declared.test.Value as declared_value
+use Rattle.litmus_values.specs.declared.test.InitEntry.{InitEntry}
+use Rattle.litmus_values.specs.declared.test.Step.{Step}
+use Rattle.litmus_values.specs.declared.test.Thread.{Thread}
+use Rattle.litmus_values.specs.declared.test.Quantifier.{Quantifier}
+use Rattle.litmus_values.specs.declared.test.Connective.{Connective}
+use Rattle.litmus_values.specs.declared.test.Connective.TheVariants as connectives
+use Rattle.litmus_values.specs.declared.test.Proposition as code
+use Rattle.litmus_values.specs.declared.test.Proposition.TheVariants as propositions
+use Rattle.litmus_values.specs.declared.test.Test.{Test}
+
+-- how tightly an operator binds: each groups to the right
+abbrev pub level : Connective → ℕ
+level connectives.And = 3
+level connectives.Or = 2
+level connectives.Implies = 1
 
 -- a proposition
 pub data Formula : Type 0 where
