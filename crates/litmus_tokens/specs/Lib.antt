@@ -1,3 +1,5 @@
+pub mod Faults
 pub mod Lexer
 pub mod Stage
+pub mod Texts
 pub mod Words

@@ -1,10 +1,12 @@
 //! What words and digits stand for.
 
-ghost use Rattle.std.specs.Prelude.{◌≡◌, ◌<◌, IfSome};
-ghost use Rattle.litmus_tokens.specs.Words.{is_filter, ends_table};
+ghost use Rattle.std.specs.Prelude.{◌≡◌, ◌<◌, min, IfSome};
+ghost use Rattle.litmus_tokens.specs.Words.{is_digit, decimal, int_of, are_digits, is_plain, register_of, is_filter, ends_table, names_column, is_printable, are_printable, is_test_name};
 
 /// The number that decimal digits make, or the greatest that fits.
-pub fn decimal(digits: &[u8]) -> usize {
+pub fn decimal(digits: &[u8]) -> usize
+    ensures { result ≡ min (decimal digits.now) 18446744073709551615 }
+{
     let mut n: usize = 0;
     for digit in digits {
         n = n
@@ -15,47 +17,66 @@ pub fn decimal(digits: &[u8]) -> usize {
 }
 
 /// The number of 32 bits that a sign and digits make, if it is one.
-pub fn signed_number(is_negative: bool, digits: &[u8]) -> Option<i32> {
+pub fn signed_number(is_negative: bool, digits: &[u8]) -> Option<i32>
+    ensures { result ≡ int_of is_negative digits.now }
+{
     let n = decimal(digits);
-    if n > 2_147_483_648 {
+    if is_negative {
+        if n <= 2_147_483_648 {
+            return Some((0 - n as i64) as i32);
+        }
         return None;
     }
-    let n = n as i64;
-    i32::try_from(if is_negative { 0 - n } else { n }).ok()
+    if n < 2_147_483_648 {
+        Some(n as i32)
+    } else {
+        None
+    }
 }
 
 /// The number of the register that a word names, from `r0` to `r31` without leading zeros.
 pub fn register_number(word: &[u8]) -> Option<u8>
-    ensures { IfSome result (λ n. n < 32) }
+    ensures value { result ≡ register_of word.now }
+    ensures bound { IfSome result (λ n. n < 32) }
 {
     match word {
-        [b'r', ones] => digit(*ones),
-        [b'r', tens, ones] => two_digits(digit(*tens)?, digit(*ones)?),
+        [b'r', digits @ ..] => {
+            let number = decimal(digits);
+            if is_plain(digits) && number < 32 {
+                Some(number as u8)
+            } else {
+                None
+            }
+        }
         _ => None,
     }
 }
 
-fn digit(byte: u8) -> Option<u8>
-    ensures { IfSome result (λ d. d < 10) }
+// Whether these are digits that no zero leads, or a zero.
+fn is_plain(digits: &[u8]) -> bool
+    ensures { result ≡ is_plain digits.now }
 {
-    match byte {
-        b'0'..=b'9' => Some(byte - b'0'),
-        _ => None,
+    match digits {
+        [] => false,
+        [first, others @ ..] => are_digits(digits) && (others.is_empty() || *first != b'0'),
     }
 }
 
-// The number of these digits, if it needs both and is below 32.
-fn two_digits(tens: u8, ones: u8) -> Option<u8>
-    requires tens { tens < 10 }
-    requires ones { ones < 10 }
-    ensures { IfSome result (λ n. n < 32) }
+fn is_digit(byte: u8) -> bool
+    ensures { result ≡ is_digit byte }
 {
-    let number = tens * 10 + ones;
-    if tens > 0 && number < 32 {
-        Some(number)
-    } else {
-        None
+    b'0' <= byte && byte <= b'9'
+}
+
+fn are_digits(bytes: &[u8]) -> bool
+    ensures { result ≡ are_digits bytes.now }
+{
+    for byte in bytes {
+        if !is_digit(*byte) {
+            return false;
+        }
     }
+    true
 }
 
 /// Whether the word begins a part of herd7's format that is not read here.
@@ -66,16 +87,37 @@ pub fn is_filter(word: &[u8]) -> bool
 }
 
 /// Whether the word names the column of this number.
-pub fn is_column(word: &[u8], number: usize) -> bool {
+pub fn is_column(word: &[u8], number: usize) -> bool
+    ensures { result ≡ names_column number word.now }
+{
     match word {
         [b'P', digit] => usize::from(*digit).checked_sub(48) == Some(number),
         _ => false,
     }
 }
 
+fn is_printable(byte: u8) -> bool
+    ensures { result ≡ is_printable byte }
+{
+    32 < byte && byte < 127
+}
+
+fn are_printable(bytes: &[u8]) -> bool
+    ensures { result ≡ are_printable bytes.now }
+{
+    for byte in bytes {
+        if !is_printable(*byte) {
+            return false;
+        }
+    }
+    true
+}
+
 /// Whether bytes can name a test: at most 255 printable ones.
-pub fn is_test_name(word: &[u8]) -> bool {
-    !word.is_empty() && word.len() <= 255 && word.iter().all(|b| *b > 32 && *b < 127)
+pub fn is_test_name(word: &[u8]) -> bool
+    ensures { result ≡ is_test_name word.now }
+{
+    !word.is_empty() && word.len() <= 255 && are_printable(word)
 }
 
 /// Whether the word begins what stands behind the table.

@@ -1,0 +1,55 @@
+-- The tokens of a text, with their places.
+use Rattle.std.specs.Prelude.{◌≡◌, ℕ, zero, suc, ◌+◌, ◌-◌, List, [], ◌∷◌, ◌++◌, Bool, true, false, ◌||◌, ◌&&◌}
+use Rattle.source_text.specs.Layout.{is_blank, is_line_end}
+use Rattle.litmus_tokens.specs.declared.stage.Stage.{Stage}
+use Rattle.litmus_tokens.specs.declared.token.Token.{Token}
+use Rattle.litmus_tokens.specs.declared.token.Token.TheVariants as tokens
+use Rattle.litmus_tokens.specs.declared.lexer.Front.{Front}
+use Rattle.litmus_tokens.specs.declared.lexer.Front.TheVariants.{Layout, Lexeme}
+use Rattle.litmus_tokens.specs.Lexer.{front}
+use Rattle.litmus_tokens.specs.Stage.{after}
+
+-- a token and the byte that it begins at
+pub record Placed : Type 0 where
+  pub token : Token
+  pub place : ℕ
+
+abbrev pub tokens_of : List Placed → List Token
+tokens_of [] = []
+tokens_of (p ∷ ps) = p.token ∷ tokens_of ps
+
+-- the part that the token behind these stands in
+abbrev pub stage_after : Stage → List Token → Stage
+stage_after s [] = s
+stage_after s (t ∷ ts) = stage_after (after s t) ts
+
+abbrev pub ends_line : Token → Bool
+ends_line tokens.LineEnd = true
+ends_line t = false
+
+-- a line is fresh that holds nothing but blanks so far
+abbrev pub fresh_after : Bool → ℕ → Bool
+fresh_after fresh b = is_line_end b || (fresh && is_blank b)
+
+abbrev pub after_front : Stage → Bool → ℕ → ℕ → Front → (Stage → Bool → ℕ → List Placed) → List Placed
+after_front s fresh place b (Layout n) later = later s (fresh_after fresh b) (n - 1)
+after_front s fresh place b (Lexeme t n) later = record { token = t; place = place } ∷ later (after s t) (ends_line t) (n - 1)
+
+-- the tokens of a text that begins in a part, at a place, once skip bytes are passed over, and its end
+unfoldable pub tokens_from : Stage → Bool → ℕ → ℕ → List ℕ → List Placed
+tokens_from s fresh skip place [] = record { token = tokens.End; place = place } ∷ []
+tokens_from s fresh (suc skip) place (b ∷ bs) = tokens_from s fresh skip (place + 1) bs
+tokens_from s fresh zero place (b ∷ bs) =
+    after_front s fresh place b (front s fresh (b ∷ bs)) (λ s' fresh' skip. tokens_from s' fresh' skip (place + 1) bs)
+
+abbrev pub lexed : Stage → List ℕ → List Placed
+lexed s bytes = tokens_from s false 0 0 bytes
+
+-- the token behind these stands at this place
+pub record StandsAt (ps : List Placed) (ts : List Token) (place : ℕ) : Type 0 where
+  pub before : List Placed
+  pub here : Placed
+  pub behind : List Placed
+  pub split : ps ≡ before ++ here ∷ behind
+  pub same : tokens_of before ≡ ts
+  pub at_place : here.place ≡ place
