@@ -3,3 +3,4 @@ pub mod Kinds
 pub mod Faults
 pub mod Verdict
 pub mod Seen
+pub mod Trees
