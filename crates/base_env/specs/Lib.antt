@@ -1,1 +1,4 @@
-pub mod Counted
+pub mod Candidate
+pub mod Events
+pub mod Known
+pub mod Names

@@ -1,51 +1,73 @@
 //! The relations in which candidates of one combination of runs differ.
-ghost use Rattle.std.specs.Prelude.{◌≡◌};
+ghost use Rattle.std.specs.Prelude.{◌≡◌, ◌≤◌, ◌<◌, ◌↔◌, IsTrue, Some, length, slice_get};
+ghost use Rattle.bit_relations.specs.Relation.{Has, IsRelation};
+ghost use Rattle.bit_relations.specs.Pairs.{Union};
+ghost use Rattle.base_env.specs.Events.{Below, SameLocation, ReadsFrom, Source, Coherence, CoherenceFrom};
 
-use crate::fixed::{is_same_location, put};
+use crate::fixed::{is_read, is_same_location, put};
 use bit_relations::Rel;
-use candidates::{Action, Event};
+use candidates::Event;
 
-/// Adds the pairs of a store and a load that reads it, and to `read_by` those pairs turned round.
-/// `sources` has for each load in event order the number of its store.
-pub fn put_reads(reads_from: &mut Rel, read_by: &mut Rel, events: &[Event], sources: &[u8])
-    ensures forth { reads_from.new.count ≡ reads_from.old.count }
-    ensures back { read_by.new.count ≡ read_by.old.count }
+/// Adds the pair of the load and the store at a place of the list of stores that are read.
+fn put_source(place: &mut Rel, sources: &[u8], next: usize, load: usize)
+    ensures { IsRelation place.new place.old.count (Union (Has place.old) (Below place.old.count (Source sources.now next load))) }
 {
-    let mut rest = sources;
-    for (load, event) in events.iter().enumerate() {
-        if matches!(event.action, Action::Read { .. }) {
-            if let Some((source, others)) = rest.split_first() {
-                let store = usize::from(*source);
-                put(reads_from, store, load);
-                put(read_by, load, store);
-                rest = others;
-            }
+    let count = place.count();
+    if next < sources.len() {
+        let store = usize::from(sources[next]);
+        if store < count && load < count {
+            place.insert(store, load);
         }
     }
 }
 
-/// Adds the pairs of a store and each of the others, as far as they are of its location.
-fn put_later(coherence: &mut Rel, events: &[Event], store: usize, others: &[u8])
-    ensures { coherence.new.count ≡ coherence.old.count }
+/// Makes `place` the pairs of a store and a load that reads it. `sources` has for each load in
+/// event order the number of its store.
+pub fn write_reads(place: &mut Rel, count: usize, events: &[Event], sources: &[u8])
+    requires { count ≤ 128 }
+    ensures { IsRelation place.new count (Below count (ReadsFrom events.now sources.now)) }
 {
-    if let Some(first) = events.get(store) {
-        for other in others {
-            let later = usize::from(*other);
-            match events.get(later) {
-                Some(second) if is_same_location(first, second) => put(coherence, store, later),
-                _ => return,
-            }
+    place.clear(count);
+    let mut next = 0;
+    for load in 0..events.len() {
+        if is_read(&events[load]) {
+            put_source(place, sources, next, load);
+            next += 1;
         }
     }
 }
 
-/// Adds the pairs of stores of one location in their order. `order` has the stores of each
-/// location after one another.
-pub fn put_order(coherence: &mut Rel, events: &[Event], order: &[u8])
-    ensures { coherence.new.count ≡ coherence.old.count }
+/// Whether both are numbers of accesses of one location.
+fn are_of_one_location(events: &[Event], first: usize, second: usize) -> bool
+    ensures { IsTrue result ↔ SameLocation events.now first second }
 {
+    first < events.len()
+        && second < events.len()
+        && is_same_location(&events[first], &events[second])
+}
+
+/// Adds the pairs of the store at a place of the order and each store of its location behind it.
+fn put_later(coherence: &mut Rel, events: &[Event], order: &[u8], place: usize)
+    requires { place < length order.now }
+    ensures { IsRelation coherence.new coherence.old.count (Union (Has coherence.old) (Below coherence.old.count (CoherenceFrom events.now order.now place))) }
+{
+    let count = coherence.count();
+    let store = usize::from(order[place]);
+    for behind in place + 1..order.len() {
+        let later = usize::from(order[behind]);
+        if are_of_one_location(events, store, later) && store < count && later < count {
+            coherence.insert(store, later);
+        }
+    }
+}
+
+/// Makes `coherence` the pairs of stores of one location in their order.
+pub fn write_order(coherence: &mut Rel, count: usize, events: &[Event], order: &[u8])
+    requires { count ≤ 128 }
+    ensures { IsRelation coherence.new count (Below count (Coherence events.now order.now)) }
+{
+    coherence.clear(count);
     for place in 0..order.len() {
-        let store = usize::from(order[place]);
-        put_later(coherence, events, store, &order[place + 1..]);
+        put_later(coherence, events, order, place);
     }
 }

@@ -1,5 +1,9 @@
 //! The predefined relations that all candidates of a combination of runs share.
-ghost use Rattle.std.specs.Prelude.{◌≡◌, ◌≤◌};
+ghost use Rattle.std.specs.Prelude.{◌≡◌, ◌<◌, ◌≤◌, ◌↔◌, ◌⊎◌, IsTrue, length};
+ghost use Rattle.bit_relations.specs.Relation.{Has, IsRelation};
+ghost use Rattle.bit_relations.specs.Pairs.{Union};
+ghost use Rattle.base_env.specs.Events.{location_of, IsSameLocation, IsSameThread, IsRead, IsAccess, IsFence, Linked, Links, Listed, Fenced, Below, RowTo};
+ghost use Rattle.base_env.specs.Names.{Fixed};
 
 use bit_relations::Rel;
 use candidates::{Action, Combination, Event};
@@ -8,7 +12,7 @@ use litmus_ppc::Fence;
 
 /// Adds a pair of events, if the relation can have it.
 pub fn put(place: &mut Rel, from: usize, to: usize)
-    ensures { place.new.count ≡ place.old.count }
+    ensures { IsRelation place.new place.old.count (Union (Has place.old) (Below place.old.count (λ a b. (a ≡ from) × (b ≡ to)))) }
 {
     let count = place.count();
     if from < count && to < count {
@@ -16,17 +20,22 @@ pub fn put(place: &mut Rel, from: usize, to: usize)
     }
 }
 
-/// Adds pairs of events.
+/// Adds pairs of events, as far as the relation can have them.
 fn put_pairs(place: &mut Rel, pairs: &[(usize, usize)])
-    ensures { place.new.count ≡ place.old.count }
+    ensures { IsRelation place.new place.old.count (Union (Has place.old) (Below place.old.count (Listed pairs.now))) }
 {
+    let count = place.count();
     for (from, to) in pairs {
-        put(place, *from, *to);
+        if *from < count && *to < count {
+            place.insert(*from, *to);
+        }
     }
 }
 
 /// The location of an access.
-fn location_of(event: &Event) -> Option<usize> {
+fn location_of(event: &Event) -> Option<usize>
+    ensures { result ≡ location_of event.now.action }
+{
     match event.action {
         Action::Read { location, .. } => Some(location),
         Action::Write { location, .. } => Some(location),
@@ -34,8 +43,17 @@ fn location_of(event: &Event) -> Option<usize> {
     }
 }
 
+/// Whether the event is a load or a store.
+pub fn is_access(event: &Event) -> bool
+    ensures { IsTrue result ↔ IsAccess event.now }
+{
+    location_of(event).is_some()
+}
+
 /// Whether both are accesses of one location.
-pub fn is_same_location(first: &Event, second: &Event) -> bool {
+pub fn is_same_location(first: &Event, second: &Event) -> bool
+    ensures { IsTrue result ↔ IsSameLocation first.now second.now }
+{
     match (location_of(first), location_of(second)) {
         (Some(one), Some(other)) => one == other,
         _ => false,
@@ -43,117 +61,135 @@ pub fn is_same_location(first: &Event, second: &Event) -> bool {
 }
 
 /// Whether both are events of one thread. Initial stores have no thread.
-fn is_same_thread(first: &Event, second: &Event) -> bool {
+fn is_same_thread(first: &Event, second: &Event) -> bool
+    ensures { IsTrue result ↔ IsSameThread first.now second.now }
+{
     match (first.thread, second.thread) {
         (Some(one), Some(other)) => one == other,
         _ => false,
     }
 }
 
-/// Adds the pairs of events of one thread in program order.
-fn put_program_order(place: &mut Rel, events: &[Event])
-    ensures { place.new.count ≡ place.old.count }
+/// Whether two events are linked as a name says that looks at the two alone.
+fn is_linked(name: Predefined, from: usize, first: &Event, to: usize, second: &Event) -> bool
+    ensures { IsTrue result ↔ Linked name from first.now to second.now }
 {
-    for (from, first) in events.iter().enumerate() {
-        for (to, second) in events.iter().enumerate() {
-            if from < to && is_same_thread(first, second) {
-                put(place, from, to);
-            }
+    match name {
+        Predefined::ProgramOrder => from < to && is_same_thread(first, second),
+        Predefined::SameLocation => is_same_location(first, second),
+        Predefined::ProgramOrderSameLocation => {
+            from < to && is_same_thread(first, second) && is_same_location(first, second)
+        }
+        Predefined::Internal => is_same_thread(first, second),
+        _ => false,
+    }
+}
+
+/// Adds the pairs of one event and each that it is linked to.
+fn put_linked_from(place: &mut Rel, name: Predefined, events: &[Event], from: usize)
+    requires all { place.old.count ≤ length events.now }
+    requires inside { from < place.old.count }
+    ensures { IsRelation place.new place.old.count (Union (Has place.old) (RowTo (Links events.now name) from place.old.count)) }
+{
+    let first = events[from];
+    for to in 0..place.count() {
+        if is_linked(name, from, &first, to, &events[to]) {
+            place.insert(from, to);
         }
     }
 }
 
-/// Adds the pairs of accesses of one location.
-fn put_same_location(place: &mut Rel, events: &[Event])
-    ensures { place.new.count ≡ place.old.count }
+/// Adds the pairs of events that are linked.
+fn put_linked(place: &mut Rel, name: Predefined, events: &[Event])
+    requires all { place.old.count ≤ length events.now }
+    ensures { IsRelation place.new place.old.count (Union (Has place.old) (Below place.old.count (Links events.now name))) }
 {
-    for (from, first) in events.iter().enumerate() {
-        for (to, second) in events.iter().enumerate() {
-            if is_same_location(first, second) {
-                put(place, from, to);
-            }
-        }
+    for from in 0..place.count() {
+        put_linked_from(place, name, events, from);
     }
 }
 
-/// Adds the pairs of accesses of one location and one thread in program order.
-fn put_program_order_same_location(place: &mut Rel, events: &[Event])
-    ensures { place.new.count ≡ place.old.count }
+/// Whether the event is a load.
+pub fn is_read(event: &Event) -> bool
+    ensures { IsTrue result ↔ IsRead event.now }
 {
-    for (from, first) in events.iter().enumerate() {
-        for (to, second) in events.iter().enumerate() {
-            if from < to && is_same_thread(first, second) && is_same_location(first, second) {
-                put(place, from, to);
-            }
-        }
-    }
-}
-
-/// Adds the pairs of events of one thread.
-fn put_internal(place: &mut Rel, events: &[Event])
-    ensures { place.new.count ≡ place.old.count }
-{
-    for (from, first) in events.iter().enumerate() {
-        for (to, second) in events.iter().enumerate() {
-            if is_same_thread(first, second) {
-                put(place, from, to);
-            }
-        }
-    }
+    matches!(event.action, Action::Read { .. })
 }
 
 /// Whether the event is a fence of this kind.
-fn is_fence(event: &Event, kind: Fence) -> bool {
+fn is_fence(event: &Event, kind: Fence) -> bool
+    ensures { IsTrue result ↔ IsFence kind event.now }
+{
     match event.action {
         Action::Fence(fence) => fence == kind,
         _ => false,
     }
 }
 
-/// Adds the pairs of an access at `from` and a later access of its thread, where a fence of this
-/// kind stands between them.
-fn put_fenced_from(place: &mut Rel, events: &[Event], kind: Fence, from: usize, first: &Event)
-    ensures { place.new.count ≡ place.old.count }
+/// Whether a fenced pair ends at an event that follows in program order, with a fence before it.
+fn is_fenced_end(is_fenced: bool, follows: bool, event: &Event) -> bool
+    ensures { IsTrue result ↔ (IsTrue is_fenced × IsTrue follows × IsAccess event.now) }
 {
+    is_fenced && follows && is_access(event)
+}
+
+/// Whether a fence has been met, now that of this event.
+fn meets_fence(is_fenced: bool, follows: bool, event: &Event, kind: Fence) -> bool
+    ensures { IsTrue result ↔ (IsTrue is_fenced ⊎ (IsTrue follows × IsFence kind event.now)) }
+{
+    is_fenced || (follows && is_fence(event, kind))
+}
+
+/// Adds the pairs of an event, if it is an access, and a later access of its thread, where a fence
+/// of this kind stands between them.
+fn put_fenced_from(place: &mut Rel, events: &[Event], kind: Fence, from: usize)
+    requires all { place.old.count ≤ length events.now }
+    requires inside { from < place.old.count }
+    ensures { IsRelation place.new place.old.count (Union (Has place.old) (RowTo (Fenced events.now kind) from place.old.count)) }
+{
+    let count = place.count();
+    let first = events[from];
+    if location_of(&first).is_none() {
+        return;
+    }
     let mut is_fenced = false;
-    for (to, second) in events.iter().enumerate() {
-        if from < to && is_same_thread(first, second) {
-            if is_fence(second, kind) {
-                is_fenced = true;
-            } else if is_fenced && location_of(second).is_some() {
-                put(place, from, to);
-            }
+    for to in 0..count {
+        let second = events[to];
+        let follows = is_linked(Predefined::ProgramOrder, from, &first, to, &second);
+        if is_fenced_end(is_fenced, follows, &second) {
+            place.insert(from, to);
         }
+        is_fenced = meets_fence(is_fenced, follows, &second, kind);
     }
 }
 
 /// Adds the pairs of accesses with a fence of this kind between them in program order.
 fn put_fenced(place: &mut Rel, events: &[Event], kind: Fence)
-    ensures { place.new.count ≡ place.old.count }
+    requires all { place.old.count ≤ length events.now }
+    ensures { IsRelation place.new place.old.count (Union (Has place.old) (Below place.old.count (Fenced events.now kind))) }
 {
-    for (from, first) in events.iter().enumerate() {
-        if location_of(first).is_some() {
-            put_fenced_from(place, events, kind, from, first);
-        }
+    for from in 0..place.count() {
+        put_fenced_from(place, events, kind, from);
     }
 }
 
 /// Makes `place` the relation of this name over the events of the combination, of this count. It
 /// is empty where candidates of the combination differ in it.
 pub fn write_fixed(place: &mut Rel, name: Predefined, count: usize, combination: &Combination)
-    requires { count ≤ 128 }
-    ensures { place.new.count ≡ count }
+    requires few { count ≤ 128 }
+    requires all { count ≤ length combination.now.events.items }
+    ensures { IsRelation place.new count (Below count (Fixed name count combination.now)) }
 {
     place.clear(count);
     let events = combination.events.as_slice();
     match name {
         Predefined::Identity => place.add_identity(),
-        Predefined::ProgramOrder => put_program_order(place, events),
-        Predefined::SameLocation => put_same_location(place, events),
-        Predefined::ProgramOrderSameLocation => put_program_order_same_location(place, events),
-        Predefined::Internal => put_internal(place, events),
+        Predefined::ProgramOrder => put_linked(place, name, events),
+        Predefined::SameLocation => put_linked(place, name, events),
+        Predefined::ProgramOrderSameLocation => put_linked(place, name, events),
+        Predefined::Internal => put_linked(place, name, events),
         Predefined::External => {
-            put_internal(place, events);
+            put_linked(place, Predefined::Internal, events);
             place.turn();
         }
         Predefined::AddressDependency => put_pairs(place, &combination.addr_pairs),

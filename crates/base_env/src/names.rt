@@ -1,7 +1,12 @@
 //! The predefined names over the candidates of one combination of runs.
-ghost use Rattle.std.specs.Prelude.{◌≡◌, ◌≤◌};
+ghost use Rattle.std.specs.Prelude.{◌≡◌, ℕ, ◌≤◌, ◌↔◌, MatchOption, Contains, length};
+ghost use Rattle.bit_relations.specs.Relation.{Has, IsRelation, IsEvents};
+ghost use Rattle.bit_relations.specs.Pairs.{Inter};
+ghost use Rattle.cat_syntax.specs.declared.predefined.Predefined.TheVariants as names;
+ghost use Rattle.base_env.specs.Known.{AreKnown, EventsUnder, PairsUnder, EventsOf, PairsOf, SharedPairs, EventsFound, set_names, shared_names};
+ghost use Rattle.base_env.specs.Candidate.{AreSets, AreShared, IsEntered, IsReading, IsOrdered, Gives, SetIn, RelationIn};
 
-use crate::changing::{put_order, put_reads};
+use crate::changing::{write_order, write_reads};
 use crate::fixed::write_fixed;
 use crate::sets::set_of;
 use bit_relations::{EventSet, MAX_EVENTS, Rel};
@@ -42,7 +47,7 @@ struct Named {
 }
 
 /// The predefined names over the candidates of one combination of runs, one of which is the
-/// present candidate. Contracts see the number of its events.
+/// present candidate. Contracts see the number of its events, and what it holds by name.
 #[derive(Drop)]
 pub struct Base {
     count: usize,
@@ -56,14 +61,13 @@ pub struct Base {
 }
 
 impl Model for Base {
-    ghost use Rattle.std.specs.Prelude.{◌≡◌, ◌≤◌};
-    ghost use Rattle.base_env.specs.Counted.{Counted};
+    ghost use Rattle.base_env.specs.Known.{Known, AreKnown};
 
-    ghost Value = { Counted };
+    ghost Value = { Known };
 
-    ghost view = { λ b. record { count = b.count } };
+    ghost view = { λ b. record { count = b.count; sets = b.sets.items; shared = b.shared.items; reads_from = b.reads_from; read_by = b.read_by; coherence = b.coherence; from_reads = b.from_reads } };
 
-    ghost invariant = { λ b. (b.count ≤ 128) × (b.reads_from.count ≡ b.count) × (b.read_by.count ≡ b.count) × (b.coherence.count ≡ b.count) × (b.from_reads.count ≡ b.count) };
+    ghost invariant = { λ b. AreKnown b.count b.reads_from b.read_by b.coherence b.from_reads };
 }
 
 /// Whether a name is a part of one of these two: the pairs of events of one thread, and the
@@ -126,24 +130,36 @@ fn shared_of(alloc: Global, names: &[Predefined]) -> Result<Vec<Shared>, AllocEr
 
 /// Makes each set that of the combination.
 fn put_sets(sets: &mut [Named], count: usize, combination: &Combination)
-    requires { count ≤ 128 }
+    requires few { count ≤ 128 }
+    requires all { count ≤ length combination.now.events.items }
+    ensures right { AreSets sets.new count combination.now }
+    ensures names { set_names sets.new ≡ set_names sets.old }
+    ensures long { length sets.new ≡ length sets.old }
 {
-    for named in sets.iter_mut() {
-        named.set = set_of(named.name, count, &combination.events);
+    let events = combination.events.as_slice();
+    for place in 0..sets.len() {
+        sets[place].set = set_of(sets[place].name, count, events);
     }
 }
 
 /// Makes each relation that of the combination.
 fn put_shared(shared: &mut [Shared], count: usize, combination: &Combination)
-    requires { count ≤ 128 }
+    requires few { count ≤ 128 }
+    requires all { count ≤ length combination.now.events.items }
+    ensures right { AreShared shared.new count combination.now }
+    ensures names { shared_names shared.new ≡ shared_names shared.old }
+    ensures long { length shared.new ≡ length shared.old }
 {
-    for one in shared.iter_mut() {
-        write_fixed(&mut one.relation, one.name, count, combination);
+    for place in 0..shared.len() {
+        let name = shared[place].name;
+        write_fixed(&mut shared[place].relation, name, count, combination);
     }
 }
 
 /// The set of this name.
-fn find_set(sets: &[Named], name: Predefined) -> Option<EventSet> {
+fn find_set(sets: &[Named], name: Predefined) -> Option<EventSet>
+    ensures { (n a : ℕ) → EventsFound result n a ↔ EventsUnder sets.now name n a }
+{
     for named in sets {
         if named.name == name {
             return Some(named.set);
@@ -153,7 +169,9 @@ fn find_set(sets: &[Named], name: Predefined) -> Option<EventSet> {
 }
 
 /// The relation of this name.
-fn find_shared(shared: &[Shared], name: Predefined) -> Option<&Rel> {
+fn find_shared(shared: &[Shared], name: Predefined) -> Option<&Rel>
+    ensures { MatchOption result ((n a b : ℕ) → PairsUnder shared.now name n a b → ⊥) (λ r. (n a b : ℕ) → ((r.now.count ≡ n) × Has r.now a b) ↔ PairsUnder shared.now name n a b) }
+{
     for one in shared {
         if one.name == name {
             return Some(&one.relation);
@@ -186,7 +204,11 @@ impl Base {
     }
 
     /// Goes over to the candidates of a combination, before their first `read_from` and `order`.
-    pub fn enter(&mut self, combination: &Combination) {
+    pub fn enter(&mut self, combination: &Combination)
+        ensures entered { IsEntered self.new combination.now }
+        ensures sets { set_names self.new.sets ≡ set_names self.old.sets }
+        ensures shared { shared_names self.new.shared ≡ shared_names self.old.shared }
+    {
         let count = combination.events.len().min(MAX_EVENTS);
         self.count = count;
         put_sets(&mut self.sets, count, combination);
@@ -199,6 +221,7 @@ impl Base {
 
     /// How many events the candidates have.
     pub fn count(&self) -> usize
+        ensures known { AreKnown self.now.count self.now.reads_from self.now.read_by self.now.coherence self.now.from_reads }
         ensures value { result ≡ self.now.count }
         ensures few { result ≤ 128 }
     {
@@ -208,32 +231,37 @@ impl Base {
     /// Goes over to the candidates of the combination in which the loads read so: for each load
     /// in event order the number of its store.
     pub fn read_from(&mut self, combination: &Combination, sources: &[u8])
-        ensures { self.new ≡ self.old }
+        ensures reading { IsReading self.new combination.now sources.now }
+        ensures count { self.new.count ≡ self.old.count }
+        ensures sets { self.new.sets ≡ self.old.sets }
+        ensures shared { self.new.shared ≡ self.old.shared }
+        ensures coherence { self.new.coherence ≡ self.old.coherence }
     {
-        self.reads_from.clear(self.count);
-        self.read_by.clear(self.count);
-        put_reads(
+        write_reads(
             &mut self.reads_from,
-            &mut self.read_by,
+            self.count,
             &combination.events,
             sources,
         );
+        self.read_by.set_inverse(&self.reads_from);
         self.from_reads.set_composed(&self.read_by, &self.coherence);
     }
 
-    /// Goes over to the candidates of the combination with this order of the stores: those of
-    /// each location after one another.
+    /// Goes over to the candidates of the combination with this order of the stores.
     pub fn order(&mut self, combination: &Combination, order: &[u8])
-        ensures { self.new ≡ self.old }
+        ensures ordered { IsOrdered self.new combination.now order.now }
+        ensures count { self.new.count ≡ self.old.count }
+        ensures sets { self.new.sets ≡ self.old.sets }
+        ensures shared { self.new.shared ≡ self.old.shared }
+        ensures reads_from { self.new.reads_from ≡ self.old.reads_from }
     {
-        self.coherence.clear(self.count);
-        put_order(&mut self.coherence, &combination.events, order);
+        write_order(&mut self.coherence, self.count, &combination.events, order);
         self.from_reads.set_composed(&self.read_by, &self.coherence);
     }
 
-    /// The set of a name; a name that is no set gives the empty one.
-    pub fn set(&self, name: Predefined) -> EventSet
-        ensures { result.count ≡ self.now.count }
+    /// What is held under the name of a set.
+    fn held_set(&self, name: Predefined) -> EventSet
+        ensures { IsEvents result self.now.count (EventsOf self.now name) }
     {
         match find_set(&self.sets, name) {
             Some(set) if set.count() == self.count => set,
@@ -241,9 +269,17 @@ impl Base {
         }
     }
 
+    /// The set of a name; a name that is no set gives the empty one.
+    pub fn set(&self, name: Predefined) -> EventSet
+        ensures held { IsEvents result self.now.count (EventsOf self.now name) }
+        ensures meant { (c : _) → IsEntered self.now c → Contains (set_names self.now.sets) name → IsEvents result self.now.count (SetIn c self.now.count name) }
+    {
+        self.held_set(name)
+    }
+
     /// Makes `place` a relation that all candidates of the combination share.
     fn write_shared(&self, name: Predefined, place: &mut Rel)
-        ensures { place.new.count ≡ self.now.count }
+        ensures { IsRelation place.new self.now.count (SharedPairs self.now name) }
     {
         match find_shared(&self.shared, name) {
             Some(relation) if relation.count() == self.count => place.copy_from(relation),
@@ -254,7 +290,7 @@ impl Base {
     /// Makes `place` the part of a relation that is in a shared one.
     fn write_part(&self, relation: &Rel, shared: Predefined, place: &mut Rel)
         requires { relation.now.count ≡ self.now.count }
-        ensures { place.new.count ≡ self.now.count }
+        ensures { IsRelation place.new self.now.count (Inter (SharedPairs self.now shared) (Has relation.now)) }
     {
         self.write_shared(shared, place);
         place.inter_with(relation);
@@ -262,23 +298,23 @@ impl Base {
 
     /// Makes `place` the union of reads-from, coherence and from-reads.
     fn write_communication(&self, place: &mut Rel)
-        ensures { place.new.count ≡ self.now.count }
+        ensures { IsRelation place.new self.now.count (PairsOf self.now names.Communication) }
     {
         place.copy_from(&self.reads_from);
         place.union_with(&self.coherence);
         place.union_with(&self.from_reads);
     }
 
-    /// Makes `place` the relation of a name in the present candidate; a name that is a set makes
-    /// it the empty one.
-    pub fn write_relation(&self, name: Predefined, place: &mut Rel)
-        ensures { place.new.count ≡ self.now.count }
+    /// Makes `place` what is held under a name.
+    fn write_held(&self, name: Predefined, count: usize, place: &mut Rel)
+        requires { count ≡ self.now.count }
+        ensures { IsRelation place.new self.now.count (PairsOf self.now name) }
     {
         let inside = Predefined::Internal;
         let outside = Predefined::External;
         match name {
             Predefined::Identity => {
-                place.clear(self.count);
+                place.clear(count);
                 place.add_identity();
             }
             Predefined::ReadsFrom => place.copy_from(&self.reads_from),
@@ -293,5 +329,14 @@ impl Base {
             Predefined::Communication => self.write_communication(place),
             _ => self.write_shared(name, place),
         }
+    }
+
+    /// Makes `place` the relation of a name in the present candidate; a name that is a set makes
+    /// it the empty one.
+    pub fn write_relation(&self, name: Predefined, place: &mut Rel)
+        ensures held { IsRelation place.new self.now.count (PairsOf self.now name) }
+        ensures meant { (c : _) → (sources order : _) → IsEntered self.now c → IsReading self.now c sources → IsOrdered self.now c order → Gives self.now name → IsRelation place.new self.now.count (RelationIn name self.now.count c sources order) }
+    {
+        self.write_held(name, self.count(), place);
     }
 }

@@ -1,5 +1,7 @@
-use Rattle.std.proofs.Common.{◌≡◌}
+use Rattle.bit_relations.specs.Relation.{Has, IsRelation}
+use Rattle.bit_relations.specs.Pairs.{Union}
+use Rattle.base_env.specs.Events.{Below, CoherenceFromTo}
 use Rattle.base_env.proofs.changing.put_later.Given as goal
 
-abbrev pub invariant-loop-other : goal.invariant-loop-other
-invariant-loop-other l = l.coherence.count ≡ l.initial.coherence.count
+abbrev pub invariant-loop-behind : goal.invariant-loop-behind
+invariant-loop-behind l = IsRelation l.coherence l.initial.coherence.count (Union (Has l.initial.coherence) (Below l.initial.coherence.count (CoherenceFromTo l.events l.order l.place l.behind)))

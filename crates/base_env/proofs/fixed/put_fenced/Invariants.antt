@@ -1,5 +1,7 @@
-use Rattle.std.proofs.Common.{◌≡◌}
+use Rattle.bit_relations.specs.Relation.{Has, IsRelation}
+use Rattle.bit_relations.specs.Pairs.{Union}
+use Rattle.base_env.specs.Events.{Fenced, Before, RowsTo}
 use Rattle.base_env.proofs.fixed.put_fenced.Given as goal
 
 abbrev pub invariant-loop-from : goal.invariant-loop-from
-invariant-loop-from l = l.place.count ≡ l.initial.place.count
+invariant-loop-from l = IsRelation l.place l.initial.place.count (Union (Has l.initial.place) (RowsTo (Before l.initial.place.count (Fenced l.events l.kind)) l.from))

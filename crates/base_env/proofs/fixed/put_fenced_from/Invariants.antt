@@ -1,5 +1,8 @@
-use Rattle.std.proofs.Common.{◌≡◌}
+use Rattle.std.proofs.Common.{◌↔◌, IsTrue}
+use Rattle.bit_relations.specs.Relation.{Has, IsRelation}
+use Rattle.bit_relations.specs.Pairs.{Union}
+use Rattle.base_env.specs.Events.{Fenced, FenceBelow, RowTo}
 use Rattle.base_env.proofs.fixed.put_fenced_from.Given as goal
 
 abbrev pub invariant-loop-to : goal.invariant-loop-to
-invariant-loop-to l = l.place.count ≡ l.initial.place.count
+invariant-loop-to l = (IsTrue l.is_fenced ↔ FenceBelow l.events l.kind l.from l.to) × IsRelation l.place l.initial.place.count (Union (Has l.initial.place) (RowTo (Fenced l.events l.kind) l.from l.to))

@@ -1,0 +1,7 @@
+use Rattle.bit_relations.specs.Relation.{Has, IsRelation}
+use Rattle.bit_relations.specs.Pairs.{Union}
+use Rattle.base_env.specs.Events.{Links, Before, RowsTo}
+use Rattle.base_env.proofs.fixed.put_linked.Given as goal
+
+abbrev pub invariant-loop-from : goal.invariant-loop-from
+invariant-loop-from l = IsRelation l.place l.initial.place.count (Union (Has l.initial.place) (RowsTo (Before l.initial.place.count (Links l.events l.name)) l.from))

@@ -1,0 +1,9 @@
+use Rattle.std.proofs.Common.{ℕ, ◌≡◌, ◌<◌, length, get_or}
+use Rattle.bit_relations.specs.Relation.{IsEvents}
+use Rattle.base_env.specs.declared.names.Named.{Named}
+use Rattle.base_env.specs.Known.{set_names}
+use Rattle.base_env.specs.Candidate.{SetIn}
+use Rattle.base_env.proofs.names.put_sets.Given as goal
+
+abbrev pub invariant-loop-place : goal.invariant-loop-place
+invariant-loop-place l = (length l.sets ≡ length l.initial.sets) × (set_names l.sets ≡ set_names l.initial.sets) × ((i : ℕ) → i < l.place → (d : Named) → IsEvents (get_or l.sets i d).set l.count (SetIn l.combination l.count (get_or l.sets i d).name))
