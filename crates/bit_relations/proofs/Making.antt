@@ -125,23 +125,34 @@ filled {n} {end} l h word l' h' word' r e same same' fits within within' low hig
     (λ a b p lt. let y = low_member l' h' word' b same' lt in ((λ t. (rw same at t.0, y.0 t.1)), (λ t. (rw (← same) at t.0, y.1 t.1))))
     (λ a b p lt. let y = high_member l' h' word' b same' fits in ((λ t. (rw same at t.0, y.0 t.1)), (λ t. (rw (← same) at t.0, y.1 t.1))))
 
-pub composed : {n m k end : ℕ} {ls hs ls' hs' rl rh ll lh : List ℕ} {R S : ℕ → ℕ → Type 0} → IsMade n ls hs (λ a b. ⊥) → IsMade m ll lh R → IsMade k rl rh S → m ≡ n → k ≡ n → IsEnd n end → AreWritten ls ls' n (JoinedBelow n (RowsHave ls) (RowsHave (wide ll lh)) (RowsHave rl)) → AreWritten hs hs' end (JoinedBelow n (RowsHave hs) (RowsHave (wide ll lh)) (RowsHave rh)) → IsMade n ls' hs' (Composed R S)
-composed {n} {m} {ll = ll} {lh = lh} {R = R} {S = S} none r s same_r same_s e low high =
-    changed (Composed R S) none e (λ a b t. ((rw same_r at (r.within a t.0 t.1)).0, (rw same_s at (s.within t.0 b t.2)).1)) low high
-    (λ a b p lt. (
-      (λ h. elim h [
-        | inl z ↦ absurd ((none.low.bits a b lt).0 z)
-        | inr t ↦ (t.0, (made_pairs m ll lh R r a t.0).0 t.2, (s.low.bits t.0 b lt).0 t.3)
-      ]),
-      (λ t. inr (t.0, (rw same_r at (r.within a t.0 t.1)).1, (made_pairs m ll lh R r a t.0).1 t.1, (s.low.bits t.0 b lt).1 t.2)),
-    ))
-    (λ a b p lt. (
-      (λ h. elim h [
-        | inl z ↦ absurd ((none.high.bits a b lt).0 z)
-        | inr t ↦ (t.0, (made_pairs m ll lh R r a t.0).0 t.2, (s.high.bits t.0 b lt).0 t.3)
-      ]),
-      (λ t. inr (t.0, (rw same_r at (r.within a t.0 t.1)).1, (made_pairs m ll lh R r a t.0).1 t.1, (s.high.bits t.0 b lt).1 t.2)),
-    ))
+pub composed : {n m k low_end high_end : ℕ} {ls hs ls' hs' rl rh ll lh : List ℕ} {R S : ℕ → ℕ → Type 0} → IsMade n ls hs (λ a b. ⊥) → IsMade m ll lh R → IsMade k rl rh S → m ≡ n → k ≡ n → n ≤ low_end → (64 < n → n ≤ high_end) → AreWritten ls ls' low_end (JoinedBelow n (RowsHave ls) (RowsHave (wide ll lh)) (RowsHave rl)) → AreWritten hs hs' high_end (JoinedBelow n (RowsHave hs) (RowsHave (wide ll lh)) (RowsHave rh)) → IsMade n ls' hs' (Composed R S)
+composed {n} {m} {k} {low_end} {high_end} {ll = ll} {lh = lh} {R = R} {S = S} none r s same_r same_s enough_low enough_high low high = record {
+  few = none.few;
+  low = column_written (λ a b p q. covered_low p) none.low none.within within (low.fits none.low.fits) low (λ a b lt inside. (
+    (λ h. elim h [
+      | inl z ↦ absurd ((none.low.bits a b lt).0 z)
+      | inr t ↦ (t.0, (made_pairs m ll lh R r a t.0).0 t.2, (s.low.bits t.0 b lt).0 t.3)
+    ]),
+    (λ t. inr (t.0, (rw same_r at (r.within a t.0 t.1)).1, (made_pairs m ll lh R r a t.0).1 t.1, (s.low.bits t.0 b lt).1 t.2)),
+  ));
+  high = column_written (λ a b p q. covered_high b p q) none.high none.within within (high.fits none.high.fits) high (λ a b lt inside. (
+    (λ h. elim h [
+      | inl z ↦ absurd ((none.high.bits a b lt).0 z)
+      | inr t ↦ (t.0, (made_pairs m ll lh R r a t.0).0 t.2, (s.high.bits t.0 b lt).0 t.3)
+    ]),
+    (λ t. inr (t.0, (rw same_r at (r.within a t.0 t.1)).1, (made_pairs m ll lh R r a t.0).1 t.1, (s.high.bits t.0 b lt).1 t.2)),
+  ));
+  within = within;
+}
+  where
+    within : Within (Composed R S) n
+    within a b t = ((rw same_r at (r.within a t.0 t.1)).0, (rw same_s at (s.within t.0 b t.2)).1)
+
+    covered_low : {a : ℕ} → a < n → a < low_end
+    covered_low p = omega (arith, enough_low)
+
+    covered_high : {a : ℕ} (b : ℕ) → a < n → far b < n → a < high_end
+    covered_high b p q = let enough : n ≤ high_end = enough_high (omega arith) in omega arith
 
 pub inverted : {n m part_low part_high end : ℕ} {ls hs ls' hs' ol oh : List ℕ} {R : ℕ → ℕ → Type 0} → IsMade n ls hs (λ a b. ⊥) → IsMade m ol oh R → m ≡ n → IsEnd n end → ((b : ℕ) → b < 64 → (b < part_low ↔ (b < n))) → ((b : ℕ) → b < part_high ↔ (b + 64 < n)) → AreWritten ls ls' n (Inverted 0 part_low (RowsHave (wide ol oh))) → AreWritten hs hs' end (Inverted 64 part_high (RowsHave (wide ol oh))) → IsMade n ls' hs' (Inverse R)
 inverted {n} {m} {ol = ol} {oh = oh} {R = R} none r same e cut_low cut_high low high =

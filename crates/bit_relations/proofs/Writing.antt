@@ -1,11 +1,12 @@
 -- A loop that writes words one after another.
-use Rattle.std.proofs.Common.{ℕ, ◌≡◌, ◌<◌, ◌≤◌, ◌↔◌, ◌+◌, ◌^◌, ◌⊎◌, List, length, get_or, set, replicate, inl, inr, arith, refl, sym, ◌∙◌, subst, get_or-set_other, get_or-set_same}
+use Rattle.std.proofs.Common.{ℕ, ◌≡◌, ◌<◌, ◌≤◌, ◌↔◌, ◌+◌, ◌-◌, ◌^◌, ◌⊎◌, List, length, get_or, set, replicate, inl, inr, arith, refl, sym, ◌∙◌, subst, get_or-set_other, get_or-set_same}
 use Rattle.std.proofs.lemmas.Bool.{cases_eq, cases_lt}
 use Rattle.std.proofs.lemmas.List.{length-set, length-replicate, get_or-replicate, get_or_past}
 use Rattle.bit_relations.specs.Pairs.{Added}
-use Rattle.bit_relations.specs.Relation.{Bit}
-use Rattle.bit_relations.specs.Rows.{RowsHave, AreWritten, Taken, JoinedBelow}
+use Rattle.bit_relations.specs.Relation.{Bit, wide}
+use Rattle.bit_relations.specs.Rows.{RowsHave, AllFit, AreWritten, JoinedBelow, JoinedFrom}
 use Rattle.bit_relations.proofs.Bits.{Bit-zero}
+use Rattle.bit_relations.proofs.Wide.{low_bit, high_bit}
 
 pub written_none : (rows : List ℕ) (P : ℕ → ℕ → Type 0) → AreWritten rows rows 0 P
 written_none rows P = record { height = refl; fits = λ f. f; inside = λ a lt. absurd (omega (arith, lt)); outside = λ a le. refl }
@@ -65,49 +66,93 @@ added rows from to w inside row a b =
           rw there ((λ h. inl h), (λ h. elim h [ inl old ↦ old | inr t ↦ absurd (other t.0) ]))
     ]
 
--- rows joined one after another
-pub composed_none : (rows others : List ℕ) (R : ℕ → ℕ → Type 0) (end : ℕ) → AreWritten rows rows end (JoinedBelow 0 (RowsHave rows) R (RowsHave others))
-composed_none rows others R end = record {
-  height = refl;
-  fits = λ f. f;
-  inside = λ a lt b. ((λ h. inl h), (λ h. elim h [ inl o ↦ o | inr t ↦ absurd (omega (arith, t.1)) ]));
-  outside = λ a le. refl;
+-- the same bits, said in another way
+pub written_as : {old new : List ℕ} {end : ℕ} {P Q : ℕ → ℕ → Type 0} → AreWritten old new end P → ((a b : ℕ) → P a b ↔ Q a b) → AreWritten old new end Q
+written_as w same = record {
+  height = w.height;
+  fits = w.fits;
+  inside = λ a lt b. let p = w.inside a lt b in let q = same a b in ((λ h. q.0 (p.0 h)), (λ h. p.1 (q.1 h)));
+  outside = w.outside;
 }
 
-pub composed_more : (old now new others : List ℕ) (R : ℕ → ℕ → Type 0) (end c : ℕ) → AreWritten old now end (JoinedBelow c (RowsHave old) R (RowsHave others)) → AreWritten now new end (Taken (RowsHave now) R c (get_or others c 0)) → AreWritten old new end (JoinedBelow (c + 1) (RowsHave old) R (RowsHave others))
-composed_more old now new others R end c before step = record {
-  height = step.height ∙ before.height;
-  fits = λ f. step.fits (before.fits f);
+-- an event of a low word, as one of the row
+low_joined : (count n_low : ℕ) (low high others : List ℕ) (a b : ℕ) → length low ≡ length high → n_low ≤ 64 → ((c : ℕ) → c < 64 → (c < n_low ↔ (c < count))) → ((c : ℕ) × (c < n_low) × RowsHave low a c × RowsHave others (c + 0) b) → (c : ℕ) × (c < count) × RowsHave (wide low high) a c × RowsHave others c b
+low_joined count n_low low high others a b e few cut_low t =
+    let lt : t.0 < 64 = omega (arith, t.1) in (
+      t.0,
+      (cut_low t.0 lt).0 t.1,
+      (low_bit low high a t.0 e lt).1 t.2,
+      subst (λ (x : ℕ). RowsHave others x b) (zero_more t.0) t.3,
+    )
+  where
+    zero_more : (c : ℕ) → c + 0 ≡ c
+    zero_more c = omega arith
+
+-- the events of the low words joined, and then those of the high ones
+pub both_joined : (count n_low n_high end : ℕ) (old mid new low high others : List ℕ) → length low ≡ length high → AllFit low → n_low ≤ 64 → ((b : ℕ) → b < 64 → (b < n_low ↔ (b < count))) → ((b : ℕ) → b < n_high ↔ (b + 64 < count)) → AreWritten old mid end (JoinedFrom 0 n_low (RowsHave old) (RowsHave low) (RowsHave others)) → AreWritten mid new end (JoinedFrom 64 n_high (RowsHave mid) (RowsHave high) (RowsHave others)) → AreWritten old new end (JoinedBelow count (RowsHave old) (RowsHave (wide low high)) (RowsHave others))
+both_joined count n_low n_high end old mid new low high others e fits few cut_low cut_high first second = record {
+  height = second.height ∙ first.height;
+  fits = λ f. second.fits (first.fits f);
   inside = λ a lt b. (
-    (λ h. elim ((step.inside a lt b).0 h) [
-      | inl kept ↦ elim ((before.inside a lt b).0 kept) [
+    (λ h. elim ((second.inside a lt b).0 h) [
+      | inl kept ↦ elim ((first.inside a lt b).0 kept) [
         | inl o ↦ inl o
-        | inr t ↦ inr (t.0, omega (arith, t.1), t.2, t.3)
+        | inr t ↦ inr (low_joined count n_low low high others a b e few cut_low t)
       ]
-      | inr t ↦ inr (c, omega arith, t.0, t.1)
+      | inr t ↦ inr (
+        t.0 + 64,
+        (cut_high t.0).0 t.1,
+        (high_bit low high a (t.0 + 64) e fits (omega arith)).1 (subst (λ (x : ℕ). RowsHave high a x) (sym (less t.0)) t.2),
+        t.3,
+      )
     ]),
-    (λ h. (step.inside a lt b).1 (elim h [
-      | inl o ↦ inl ((before.inside a lt b).1 (inl o))
-      | inr t ↦ elim (cases_lt t.0 c) [
-        | inl less ↦ inl ((before.inside a lt b).1 (inr (t.0, less, t.2, t.3)))
+    (λ h. (second.inside a lt b).1 (elim h [
+      | inl o ↦ inl ((first.inside a lt b).1 (inl o))
+      | inr t ↦ elim (cases_lt t.0 64) [
+        | inl small ↦ inl ((first.inside a lt b).1 (inr (
+          t.0,
+          (cut_low t.0 small).1 t.1,
+          (low_bit low high a t.0 e small).0 t.2,
+          subst (λ (x : ℕ). RowsHave others x b) (sym (zero_more t.0)) t.3,
+        )))
         | inr ge ↦
-            let same : t.0 ≡ c = omega (arith, t.1) in
-            inr (subst (λ (y : ℕ). R a y) same t.2, subst (λ (y : ℕ). RowsHave others y b) same t.3)
+            let again = more ge in
+            inr (
+              t.0 - 64,
+              (cut_high (t.0 - 64)).1 (subst (λ (x : ℕ). x < count) (sym again) t.1),
+              (high_bit low high a t.0 e fits ge).0 t.2,
+              subst (λ (x : ℕ). RowsHave others x b) (sym again) t.3,
+            )
       ]
     ])),
   );
-  outside = λ a le. step.outside a le ∙ before.outside a le;
+  outside = λ a le. second.outside a le ∙ first.outside a le;
 }
+  where
+    less : (c : ℕ) → c + 64 - 64 ≡ c
+    less c = omega arith
 
--- an empty row joins nothing
-pub composed_passed : (old now others : List ℕ) (R : ℕ → ℕ → Type 0) (end c : ℕ) → AreWritten old now end (JoinedBelow c (RowsHave old) R (RowsHave others)) → get_or others c 0 ≡ 0 → AreWritten old now end (JoinedBelow (c + 1) (RowsHave old) R (RowsHave others))
-composed_passed old now others R end c before empty =
-    composed_more old now now others R end c before (record {
-      height = refl;
-      fits = λ f. f;
-      inside = λ a lt b. ((λ h. inl h), (λ h. elim h [ inl o ↦ o | inr t ↦ absurd (Bit-zero b (rw empty at t.1)) ]));
-      outside = λ a le. refl;
-    })
+    more : {c : ℕ} → 64 ≤ c → c - 64 + 64 ≡ c
+    more ge = omega arith
+
+    zero_more : (c : ℕ) → c + 0 ≡ c
+    zero_more c = omega arith
+
+-- the events of the low words joined, where there are no others
+pub one_joined : (count n_low end : ℕ) (old new low high others : List ℕ) → length low ≡ length high → count ≤ 64 → n_low ≤ 64 → ((b : ℕ) → b < 64 → (b < n_low ↔ (b < count))) → AreWritten old new end (JoinedFrom 0 n_low (RowsHave old) (RowsHave low) (RowsHave others)) → AreWritten old new end (JoinedBelow count (RowsHave old) (RowsHave (wide low high)) (RowsHave others))
+one_joined count n_low end old new low high others e small few cut_low first =
+    written_as first (λ a b. (
+      (λ h. elim h [ inl o ↦ inl o | inr t ↦ inr (low_joined count n_low low high others a b e few cut_low t) ]),
+      (λ h. elim h [
+        | inl o ↦ inl o
+        | inr t ↦
+            let lt : t.0 < 64 = omega (arith, t.1) in
+            inr (t.0, (cut_low t.0 lt).1 t.1, (low_bit low high a t.0 e lt).0 t.2, subst (λ (x : ℕ). RowsHave others x b) (sym (zero_more t.0)) t.3)
+      ]),
+    ))
+  where
+    zero_more : (c : ℕ) → c + 0 ≡ c
+    zero_more c = omega arith
 
 pub column_none : (words : List ℕ) (at k : ℕ) → (b : ℕ) → Bit 0 b ↔ ((b < 0) × RowsHave words (b + at) k)
 column_none words at k b = ((λ h. absurd (Bit-zero b h)), (λ h. absurd (omega (arith, h.0))))
@@ -129,12 +174,3 @@ column_more words at k a old new own before step mine b = (
   where
     less : {b : ℕ} → (a ≡ b → ⊥) → b < a + 1 → b < a
     less ne lt = omega arith
-
--- the same bits, said in another way
-pub written_as : {old new : List ℕ} {end : ℕ} {P Q : ℕ → ℕ → Type 0} → AreWritten old new end P → ((a b : ℕ) → P a b ↔ Q a b) → AreWritten old new end Q
-written_as w same = record {
-  height = w.height;
-  fits = w.fits;
-  inside = λ a lt b. let p = w.inside a lt b in let q = same a b in ((λ h. q.0 (p.0 h)), (λ h. p.1 (q.1 h)));
-  outside = w.outside;
-}

@@ -60,3 +60,17 @@ Read list at all a b = Bit (slice_index list (at + a)) b × Bit all b
 abbrev pub Stored : List ℕ → ℕ → ℕ → ℕ → ℕ → Type 0
 Stored list at n a b =
     (a < n) × (b < n) × (((b < 64) × Bit (slice_index list (at + a)) b) ⊎ ((k : ℕ) × (b ≡ k + 64) × Bit (slice_index list (at + n + a)) k))
+
+-- the bits of words, and those of the words of others, from a place on, that the lowest bits of S name
+abbrev pub JoinedFrom : ℕ → ℕ → (ℕ → ℕ → Type 0) → (ℕ → ℕ → Type 0) → (ℕ → ℕ → Type 0) → ℕ → ℕ → Type 0
+JoinedFrom at end W S O a b = W a b ⊎ ((c : ℕ) × (c < end) × S a c × O (c + at) b)
+
+-- each word of the result is that of acc, joined with the row where the word of select has bit k
+abbrev pub AreLanesJoined : List ℕ → List ℕ → ℕ → ℕ → List ℕ → Type 0
+AreLanesJoined acc select k row result =
+    (i : ℕ) → i < 8 → (b : ℕ) → RowsHave result i b ↔ (RowsHave acc i b ⊎ (RowsHave select i k × Bit row b))
+
+-- the new words are the lanes from a place on, and else the old ones
+pub record IsStored (old : List ℕ) (at : ℕ) (lanes new : List ℕ) : Type 0 where
+  pub inside : (i : ℕ) → i < 8 → slice_index new (at + i) ≡ slice_index lanes i
+  pub outside : (a : ℕ) → (a < at) ⊎ (at + 8 ≤ a) → slice_index new a ≡ slice_index old a

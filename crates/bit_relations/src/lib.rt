@@ -3,17 +3,20 @@
 //! The operations are those of relational algebra, as in Alglave, Maranget and Tautschnig, Herding Cats, TOPLAS 36(2), 2014.
 #![tactic(auto)]
 
+pub mod lanes;
 mod packed;
 mod rel;
-pub mod rows;
+mod rows;
 mod set;
-pub mod word;
-pub mod words;
+mod word;
+mod words;
 
 pub use packed::PackedRelations;
 pub use rel::Rel;
 pub use set::EventSet;
 pub use words::MAX_EVENTS;
 
+#[cfg(test)]
+mod lists;
 #[cfg(test)]
 mod tests;

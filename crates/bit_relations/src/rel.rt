@@ -4,6 +4,7 @@ ghost use Rattle.bit_relations.specs.Relation.{Bit, Relation, Has, IsRegular, Is
 ghost use Rattle.bit_relations.specs.Rows.{Stored};
 ghost use Rattle.bit_relations.specs.Pairs.{Added, Identity, Union, Inter, Minus, Composed, Complement, Inverse, Opt, On, Product, Restricted, Plus, Star, IsIrreflexive, IsAcyclic, IsEmpty};
 
+use crate::lanes::blocks_of;
 use crate::set::EventSet;
 use crate::word::{in_high, in_low, lowest_bits};
 use crate::words::{MAX_EVENTS, end_of_high};
@@ -228,7 +229,12 @@ impl Rel {
     pub fn is_acyclic(&self) -> bool
         ensures { IsTrue result ↔ IsAcyclic (Has self.now) }
     {
-        self.plus().is_irreflexive()
+        let count = self.count;
+        if count <= 64 {
+            rows::is_low_acyclic(&self.low, count)
+        } else {
+            self.plus().is_irreflexive()
+        }
     }
 
     /// Whether both have the same count and pairs.
@@ -343,7 +349,7 @@ impl Rel {
             &left.high,
             &right.low,
             count,
-            count,
+            blocks_of(count),
         );
         rows::compose(
             &mut self.high,
@@ -351,7 +357,7 @@ impl Rel {
             &left.high,
             &right.high,
             count,
-            end_of_high(count),
+            blocks_of(end_of_high(count)),
         );
     }
 

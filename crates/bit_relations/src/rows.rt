@@ -1,11 +1,12 @@
 //! Rows of two words: a column of low words and one of high words.
-ghost use Rattle.std.specs.Prelude.{◌≡◌, ℕ, ◌<◌, ◌≤◌, ◌+◌, ◌↔◌, ◌⊎◌, length, slice_index, IsTrue};
+ghost use Rattle.std.specs.Prelude.{◌≡◌, ℕ, ◌<◌, ◌≤◌, ◌+◌, ◌*◌, ◌↔◌, ◌⊎◌, length, slice_index, IsTrue};
 ghost use Rattle.bit_relations.specs.Relation.{Bit, wide, AreColumns};
-ghost use Rattle.bit_relations.specs.Rows.{RowsHave, AreWritten, Taken, JoinedBelow, Inverted, Through};
-ghost use Rattle.bit_relations.specs.Pairs.{Plus};
+ghost use Rattle.bit_relations.specs.Rows.{RowsHave, AreWritten, AllFit, JoinedBelow, Inverted, Through};
+ghost use Rattle.bit_relations.specs.Pairs.{Plus, IsAcyclic};
 
-use crate::word::{has_event, taken, with_bit};
-use crate::words::{MAX_EVENTS, end_of_high, join_own, join_selected};
+use crate::lanes::{blocks_of, join_block, join_both, join_own};
+use crate::word::{has_event, in_high, in_low, taken, with_bit};
+use crate::words::{MAX_EVENTS, is_diagonal_free};
 
 /// Whether the row of an event leads to another.
 pub fn has_pair(low: &[u64; MAX_EVENTS], high: &[u64; MAX_EVENTS], from: usize, to: usize) -> bool
@@ -69,43 +70,38 @@ pub fn invert(
     }
 }
 
-/// Adds a word's bits to the words of those rows that lead to an event.
-fn join_row(
-    words: &mut [u64; MAX_EVENTS],
-    low: &[u64; MAX_EVENTS],
-    high: &[u64; MAX_EVENTS],
-    event: usize,
-    word: u64,
-    end: usize,
-)
-    requires event { event < 128 }
-    requires few { end ≤ 128 }
-    ensures { AreWritten words.old words.new end (Taken (RowsHave words.old) (RowsHave (wide low.now high.now)) event word) }
-{
-    if event < 64 {
-        join_selected(words, low, event, word, end);
-    } else {
-        join_selected(words, high, event - 64, word, end);
-    }
-}
-
-/// Adds to the words of each row those of the rows that it leads to.
+/// Adds to the words of each row in the blocks those of the rows that it leads to.
 pub fn compose(
     words: &mut [u64; MAX_EVENTS],
     low: &[u64; MAX_EVENTS],
     high: &[u64; MAX_EVENTS],
     others: &[u64; MAX_EVENTS],
     count: usize,
-    end: usize,
+    blocks: usize,
 )
-    requires few { count ≤ 128 }
-    requires end { end ≤ 128 }
-    ensures { AreWritten words.old words.new end (JoinedBelow count (RowsHave words.old) (RowsHave (wide low.now high.now)) (RowsHave others.now)) }
+    requires count { count ≤ 128 }
+    requires few { 8 * blocks ≤ 128 }
+    ensures { AreWritten words.old words.new (8 * blocks) (JoinedBelow count (RowsHave words.old) (RowsHave (wide low.now high.now)) (RowsHave others.now)) }
 {
-    for c in 0..count {
-        let word = others[c];
-        if word != 0 {
-            join_row(words, low, high, c, word, end);
+    join_block(words, low, others, 0, in_low(count), blocks);
+    if count > 64 {
+        join_block(words, high, others, 64, in_high(count), blocks);
+    }
+}
+
+/// Closes rows of one word over paths of one step or more.
+fn close_low(low: &mut [u64; MAX_EVENTS], count: usize)
+    requires few { count ≤ 64 }
+    requires within { (a b : ℕ) → RowsHave low.old a b → (a < count) × (b < count) }
+    ensures height { length low.new ≡ 128 }
+    ensures fits { AllFit low.new }
+    ensures pairs { (a b : ℕ) → RowsHave low.new a b ↔ Plus (RowsHave low.old) a b }
+{
+    let blocks = blocks_of(count);
+    for middle in 0..count {
+        let row = low[middle];
+        if row != 0 {
+            join_own(low, middle, row, blocks);
         }
     }
 }
@@ -124,18 +120,16 @@ fn close_through(
 {
     let row_low = low[middle];
     let row_high = high[middle];
-    let end = end_of_high(count);
+    let blocks = blocks_of(count);
     if middle < 64 {
-        join_selected(high, low, middle, row_high, end);
-        join_own(low, middle, row_low, count);
+        join_both(low, high, middle, row_low, row_high, blocks);
     } else {
-        join_selected(low, high, middle - 64, row_low, count);
-        join_own(high, middle - 64, row_high, end);
+        join_both(high, low, middle - 64, row_high, row_low, blocks);
     }
 }
 
-/// Closes rows over paths of one step or more.
-pub fn close(low: &mut [u64; MAX_EVENTS], high: &mut [u64; MAX_EVENTS], count: usize)
+/// Closes rows of two words over paths of one step or more.
+fn close_both(low: &mut [u64; MAX_EVENTS], high: &mut [u64; MAX_EVENTS], count: usize)
     requires { AreColumns count low.old high.old }
     ensures columns { AreColumns count low.new high.new }
     ensures pairs { (a b : ℕ) → RowsHave (wide low.new high.new) a b ↔ Plus (RowsHave (wide low.old high.old)) a b }
@@ -145,4 +139,28 @@ pub fn close(low: &mut [u64; MAX_EVENTS], high: &mut [u64; MAX_EVENTS], count: u
             close_through(low, high, middle, count);
         }
     }
+}
+
+/// Closes rows over paths of one step or more: of one word where the count is at most 64, and else of two.
+pub fn close(low: &mut [u64; MAX_EVENTS], high: &mut [u64; MAX_EVENTS], count: usize)
+    requires { AreColumns count low.old high.old }
+    ensures columns { AreColumns count low.new high.new }
+    ensures pairs { (a b : ℕ) → RowsHave (wide low.new high.new) a b ↔ Plus (RowsHave (wide low.old high.old)) a b }
+{
+    if count <= 64 {
+        close_low(low, count);
+    } else {
+        close_both(low, high, count);
+    }
+}
+
+/// Whether no path of one step or more leads back to where it began, in rows of one word: it closes a copy of them.
+pub fn is_low_acyclic(low: &[u64; MAX_EVENTS], count: usize) -> bool
+    requires few { count ≤ 64 }
+    requires within { (a b : ℕ) → RowsHave low.now a b → (a < count) × (b < count) }
+    ensures { IsTrue result ↔ IsAcyclic (RowsHave low.now) }
+{
+    let mut closed = *low;
+    close_low(&mut closed, count);
+    is_diagonal_free(&closed, 0, count)
 }

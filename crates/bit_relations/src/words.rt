@@ -1,12 +1,10 @@
 //! Columns of words: the words below an end change, the others stay.
 ghost use Rattle.std.specs.Prelude.{◌≡◌, ℕ, ◌<◌, ◌≤◌, ◌+◌, ◌↔◌, ◌⊎◌, length, slice_index, IsTrue};
 ghost use Rattle.bit_relations.specs.Relation.{Bit, joined};
-ghost use Rattle.bit_relations.specs.Rows.{RowsHave, AllFit, AreWritten, Nothing, Taken, WithOwn, Filled, Kept, Turned, Read};
+ghost use Rattle.bit_relations.specs.Rows.{RowsHave, AllFit, AreWritten, Nothing, WithOwn, Filled, Kept, Turned, Read};
 ghost use Rattle.bit_relations.specs.Pairs.{Added, Union, Inter, Minus};
 
-use crate::word::{
-    both, either, has_event, has_own_bit, left_alone, own_bit, taken, with_bit, word_if,
-};
+use crate::word::{both, either, has_event, has_own_bit, left_alone, own_bit, with_bit, word_if};
 
 /// How many events there may be.
 pub const MAX_EVENTS: usize = 128;
@@ -97,34 +95,6 @@ pub fn turn(words: &mut [u64; MAX_EVENTS], all: u64, end: usize)
 {
     for a in 0..end {
         words[a] = left_alone(all, words[a]);
-    }
-}
-
-/// Adds a word's bits to each word whose word of `select` has the bit k.
-pub fn join_selected(
-    words: &mut [u64; MAX_EVENTS],
-    select: &[u64; MAX_EVENTS],
-    k: usize,
-    word: u64,
-    end: usize,
-)
-    requires inside { k < 64 }
-    requires few { end ≤ 128 }
-    ensures { AreWritten words.old words.new end (Taken (RowsHave words.old) (RowsHave select.now) k word) }
-{
-    for a in 0..end {
-        words[a] = taken(words[a], select[a], k, word);
-    }
-}
-
-/// Adds a word's bits to each word that has the bit k itself.
-pub fn join_own(words: &mut [u64; MAX_EVENTS], k: usize, word: u64, end: usize)
-    requires inside { k < 64 }
-    requires few { end ≤ 128 }
-    ensures { AreWritten words.old words.new end (Taken (RowsHave words.old) (RowsHave words.old) k word) }
-{
-    for a in 0..end {
-        words[a] = taken(words[a], words[a], k, word);
     }
 }
 

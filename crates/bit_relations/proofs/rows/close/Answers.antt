@@ -1,26 +1,11 @@
-use Rattle.std.proofs.Common.{arith}
-use Rattle.bit_relations.proofs.Closing.{close_step, through_nothing}
-use Rattle.bit_relations.proofs.Paths.{PlusBelow-zero, PlusBelow-all}
+use Rattle.bit_relations.proofs.Columns.{put_together, made_pairs}
+use Rattle.bit_relations.proofs.Closing.{closed_low, low_within}
 use Rattle.bit_relations.proofs.rows.close.Goals as goal
-use Rattle.bit_relations.proofs.rows.close.Goals.{then-low-middle-ne0, else-low-middle-ne0+else-high-middle-ne0}
 
-pub loop-middle-init : goal.loop-middle-init
-loop-middle-init c = (c.requires, λ a b. PlusBelow-zero _ a b)
+pub close_low-requires-clause-within : goal.close_low-requires-clause-within
+close_low-requires-clause-within c = low_within _ _ _ c.if-count-le64.true c.requires
 
-pub loop-middle-preserved : goal.loop-middle-preserved
-loop-middle-preserved c =
-    elim c.if-low-middle-ne0.branch [
-      | then-low-middle-ne0 w ↦ rw (w.low-is, w.high-is) (
-        w.close_through.ensures.columns,
-        close_step _ _ _ _ c.loop-middle.invariant.1 w.close_through.ensures.pairs,
-      )
-      | else-low-middle-ne0+else-high-middle-ne0 w ↦ rw (w.low-is, w.high-is) (
-        c.loop-middle.invariant.0,
-        close_step _ _ _ _ c.loop-middle.invariant.1 (through_nothing _ _ _ _ c.loop-middle.invariant.0 w.if-low-middle-ne0.false w.if-high-middle-ne0.false),
-      )
-    ]
-
-pub returns-clause-pairs : goal.returns-clause-pairs
-returns-clause-pairs c = λ a b.
-    let all = PlusBelow-all _ c.loop-middle.middle a b (λ x y r. let w = c.requires.within x y r in (omega (arith, w.0), omega (arith, w.1))) in
-    ((λ h. all.0 ((c.loop-middle.invariant.1 a b).0 h)), (λ p. (c.loop-middle.invariant.1 a b).1 (all.1 p)))
+pub returns-then-count-le64 : goal.returns-then-count-le64
+returns-then-count-le64 c =
+    let m = closed_low _ _ _ _ c.if-count-le64.true c.requires c.close_low.ensures.height c.close_low.ensures.fits c.close_low.ensures.pairs in
+    record { columns = put_together m; pairs = made_pairs _ _ _ _ m }

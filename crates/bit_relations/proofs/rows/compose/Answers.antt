@@ -1,13 +1,9 @@
-use Rattle.bit_relations.proofs.Writing.{composed_none, composed_more, composed_passed}
+use Rattle.std.proofs.Common.{sym, ◌∙◌}
+use Rattle.bit_relations.proofs.Writing.{one_joined, both_joined}
 use Rattle.bit_relations.proofs.rows.compose.Goals as goal
-use Rattle.bit_relations.proofs.rows.compose.Goals.{then-word-ne0, else-word-ne0}
 
-pub loop-c-init : goal.loop-c-init
-loop-c-init c = composed_none _ _ _ _
+pub returns-then-count-gt64 : goal.returns-then-count-gt64
+returns-then-count-gt64 c = both_joined _ _ _ _ _ _ _ _ _ _ (c.told-low ∙ sym c.told-high) c.fits-low c.in_low.ensures.few c.in_low.ensures.cut c.in_high.ensures.cut c.join_block.ensures c.join_block-then-count-gt64.ensures
 
-pub loop-c-preserved : goal.loop-c-preserved
-loop-c-preserved c =
-    elim c.if-word-ne0.branch [
-      | then-word-ne0 w ↦ rw w.words-is (composed_more _ _ _ _ _ _ _ c.loop-c.invariant w.join_row.ensures)
-      | else-word-ne0 w ↦ rw w.words-is (composed_passed _ _ _ _ _ _ c.loop-c.invariant w.if-word-ne0.false)
-    ]
+pub returns-else-count-gt64 : goal.returns-else-count-gt64
+returns-else-count-gt64 c = one_joined _ _ _ _ _ _ _ _ (c.told-low ∙ sym c.told-high) c.if-count-gt64.false c.in_low.ensures.few c.in_low.ensures.cut c.join_block.ensures

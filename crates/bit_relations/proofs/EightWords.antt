@@ -1,0 +1,224 @@
+-- Eight words joined lane by lane.
+use Rattle.std.proofs.Common.{ℕ, ◌≡◌, ◌<◌, ◌≤◌, ◌+◌, ◌-◌, ◌/◌, ◌%◌, ◌^◌, ◌↔◌, ◌⊎◌, List, length, get_or, replicate, inl, inr, arith, sym, ap, ◌∙◌, refl}
+use Rattle.std.proofs.lemmas.Simd.{length-zip2, get_or-zip2, length-replicate, get_or-replicate}
+use Rattle.std.proofs.Common.{◌++◌, take, drop, length-take-le, length-drop, get_or-take, get_or-drop, zero-add}
+use Rattle.std.proofs.lemmas.List.{get_or-append_right}
+use lib.ListN.{get_or-append}
+use Rattle.std.proofs.lemmas.Bool.{cases_lt}
+use borrow.Rule.Slice.PartMut.{put_mid, mid_of, post_of, put_same}
+use Rattle.std.proofs.lemmas.Simd.{get_or-put_chunk_at, get_or-put_chunk_above, length-put_chunk}
+use Rattle.std.specs.Simd.Lanes.{zip2, put_chunk, chunk}
+use Rattle.std.specs.Int.RustNames.{bit_or, bit_and}
+use Rattle.std.proofs.Common.{subst}
+use Rattle.bit_relations.proofs.Bits.{spread, Bit-spread, Bit-width, word_fits}
+use Rattle.bit_relations.specs.Relation.{Bit}
+use Rattle.bit_relations.specs.Rows.{RowsHave, AllFit, AreWritten, AreLanesJoined, IsStored, JoinedFrom, Taken}
+
+-- the operations on a lane
+abbrev f_or : ℕ → ℕ → ℕ
+f_or x y = bit_or x y
+
+abbrev f_and : ℕ → ℕ → ℕ
+f_and x y = bit_and x y
+
+abbrev f_sub : ℕ → ℕ → ℕ
+f_sub x y = (x + (2 ^ 64 - y)) % 2 ^ 64
+
+abbrev f_shr : ℕ → ℕ → ℕ
+f_shr x y = x / 2 ^ y
+
+-- what is joined to each lane of acc
+abbrev pub joined_lanes : List ℕ → List ℕ → ℕ → ℕ → List ℕ
+joined_lanes acc select k row =
+    zip2 f_or acc (zip2 f_and (zip2 f_sub (replicate 8 0) (zip2 f_and (zip2 f_shr select (replicate 8 k)) (replicate 8 1))) (replicate 8 row))
+
+pub lanes_joined : (acc select : List ℕ) (k row : ℕ) → length acc ≡ 8 → length select ≡ 8 → row < 2 ^ 64 → (length (joined_lanes acc select k row) ≡ 8) × AreLanesJoined acc select k row (joined_lanes acc select k row)
+unfolding spread
+lanes_joined acc select k row long_acc long_select fits =
+    (length-zip2 f_or acc all (long_acc ∙ sym long_all) ∙ long_acc, lane)
+  where
+    shifted : List ℕ
+    shifted = zip2 f_shr select (replicate 8 k)
+
+    long_shifted : length shifted ≡ 8
+    long_shifted = length-zip2 f_shr select (replicate 8 k) (long_select ∙ sym (length-replicate 8 k)) ∙ long_select
+
+    ones : List ℕ
+    ones = zip2 f_and shifted (replicate 8 1)
+
+    long_ones : length ones ≡ 8
+    long_ones = length-zip2 f_and shifted (replicate 8 1) (long_shifted ∙ sym (length-replicate {A = ℕ} 8 1)) ∙ long_shifted
+
+    wide : List ℕ
+    wide = zip2 f_sub (replicate 8 0) ones
+
+    long_wide : length wide ≡ 8
+    long_wide = length-zip2 f_sub (replicate 8 0) ones (length-replicate {A = ℕ} 8 0 ∙ sym long_ones) ∙ length-replicate {A = ℕ} 8 0
+
+    all : List ℕ
+    all = zip2 f_and wide (replicate 8 row)
+
+    long_all : length all ≡ 8
+    long_all = length-zip2 f_and wide (replicate 8 row) (long_wide ∙ sym (length-replicate 8 row)) ∙ long_wide
+
+    lane : AreLanesJoined acc select k row (zip2 f_or acc all)
+    lane i lt b =
+        let in_acc : i < length acc = rw long_acc lt in
+        let in_all : i < length all = rw long_all lt in
+        let in_wide : i < length wide = rw long_wide lt in
+        let in_ones : i < length ones = rw long_ones lt in
+        let in_shifted : i < length shifted = rw long_shifted lt in
+        let in_select : i < length select = rw long_select lt in
+        let e5 : get_or shifted i 0 ≡ f_shr (get_or select i 0) k =
+        get_or-zip2 f_shr select (replicate 8 k) i 0 0 0 in_select lt ∙ ap (f_shr (get_or select i 0)) (get_or-replicate 8 i k 0 lt) in
+        let e4 : get_or ones i 0 ≡ f_and (f_shr (get_or select i 0) k) 1 =
+        get_or-zip2 f_and shifted (replicate 8 1) i 0 0 0 in_shifted lt ∙ (rw (e5, get_or-replicate {A = ℕ} 8 i 1 0 lt) refl) in
+        let e3 : get_or wide i 0 ≡ f_sub 0 (f_and (f_shr (get_or select i 0) k) 1) =
+        get_or-zip2 f_sub (replicate 8 0) ones i 0 0 0 lt in_ones ∙ (rw (e4, get_or-replicate {A = ℕ} 8 i 0 0 lt) refl) in
+        let e2 : get_or all i 0 ≡ f_and (f_sub 0 (f_and (f_shr (get_or select i 0) k) 1)) row =
+        get_or-zip2 f_and wide (replicate 8 row) i 0 0 0 in_wide lt ∙ (rw (e3, get_or-replicate 8 i row 0 lt) refl) in
+        let e1 : get_or (zip2 f_or acc all) i 0 ≡ f_or (get_or acc i 0) (f_and (f_sub 0 (f_and (f_shr (get_or select i 0) k) 1)) row) =
+        get_or-zip2 f_or acc all i 0 0 0 in_acc in_all ∙ (rw e2 refl) in
+        rw e1 (Bit-spread (get_or acc i 0) (get_or select i 0) k row b fits)
+
+pub stored : (rows lanes : List ℕ) (at n : ℕ) → at + n ≡ 128 → 8 ≤ n → length lanes ≡ 8 → length rows ≡ 128 → IsStored rows at lanes (put_mid at n rows (put_chunk 0 (mid_of at n rows) lanes))
+stored rows lanes at n whole room long height = record {
+  inside = λ i lt.
+      get_or-append_right (take at rows) (ys ++ post) at (at + i) 0 long_front (omega arith)
+      ∙ rw (add_sub_left at i) (
+      get_or-append ys post 0 i (rw long_ys (omega arith))
+      ∙ ap (λ (x : ℕ). get_or ys x 0) (sym (zero-add i)) ∙ get_or-put_chunk_at 0 mid lanes i 0 (rw long lt) (rw (long, long_mid) room));
+  outside = λ a h. elim h [
+    | inl lt ↦ get_or-append (take at rows) (ys ++ post) 0 a (rw long_front lt) ∙ get_or-take at rows a 0 lt
+    | inr ge ↦
+        get_or-append_right (take at rows) (ys ++ post) at a 0 long_front (omega (arith, ge))
+        ∙ beyond (a - at) (omega (arith, ge))
+        ∙ sym (get_or-append_right (take at rows) (mid ++ post) at a 0 long_front (omega (arith, ge)))
+        ∙ ap (λ (z : List ℕ). get_or z a 0) (put_same at n rows)
+  ];
+}
+  where
+    mid : List ℕ
+    mid = mid_of at n rows
+
+    post : List ℕ
+    post = post_of at n rows
+
+    ys : List ℕ
+    ys = put_chunk 0 mid lanes
+
+    long_front : length (take at rows) ≡ at
+    long_front = length-take-le at rows (omega arith)
+
+    long_mid : length mid ≡ n
+    long_mid = length-take-le n (drop at rows) (omega (arith, length-drop at rows))
+
+    long_ys : length ys ≡ n
+    long_ys = length-put_chunk 0 mid lanes ∙ long_mid
+
+    add_sub_left : (m k : ℕ) → m + k - m ≡ k
+    add_sub_left m k = omega arith
+
+    beyond : (j : ℕ) → 8 ≤ j → get_or (ys ++ post) j 0 ≡ get_or (mid ++ post) j 0
+    beyond j ge =
+        elim (cases_lt j n) [
+          | inl lt ↦
+              get_or-append ys post 0 j (rw long_ys lt)
+              ∙ get_or-put_chunk_above 0 mid lanes j 0 (rw long ge)
+              ∙ sym (get_or-append mid post 0 j (rw long_mid lt))
+          | inr past ↦
+              get_or-append_right ys post n j 0 long_ys past ∙ sym (get_or-append_right mid post n j 0 long_mid past)
+        ]
+
+-- the eight words from a place on
+pub loaded : (rows : List ℕ) (at n : ℕ) → 8 ≤ n → at + n ≡ 128 → length rows ≡ 128 → (length (chunk 0 8 (mid_of at n rows)) ≡ 8) × ((i : ℕ) → i < 8 → get_or (chunk 0 8 (mid_of at n rows)) i 0 ≡ get_or rows (at + i) 0)
+loaded rows at n room whole height = (
+  length-take-le 8 (mid_of at n rows) (rw long_mid room),
+  (λ i lt. get_or-take 8 (mid_of at n rows) i 0 lt ∙ get_or-take n (drop at rows) i 0 (omega arith) ∙ get_or-drop at rows i 0),
+)
+  where
+    long_mid : length (mid_of at n rows) ≡ n
+    long_mid = length-take-le n (drop at rows) (omega (arith, length-drop at rows))
+
+-- words joined with one that fits still fit
+pub lane_fits : (acc select joined : List ℕ) (k row i : ℕ) → i < 8 → row < 2 ^ 64 → get_or acc i 0 < 2 ^ 64 → AreLanesJoined acc select k row joined → get_or joined i 0 < 2 ^ 64
+lane_fits acc select joined k row i lt fits_row fits_acc step =
+    word_fits (get_or joined i 0) (λ b h. elim ((step i lt b).0 h) [
+      | inl o ↦ Bit-width (get_or acc i 0) b fits_acc o
+      | inr t ↦ Bit-width row b fits_row t.1
+    ])
+
+-- eight words more
+pub written_block : (old new next lanes : List ℕ) (i m : ℕ) (P : ℕ → ℕ → Type 0) → m ≡ i + 8 → length next ≡ length new → AreWritten old new i P → IsStored new i lanes next → (AllFit new → (j : ℕ) → j < 8 → get_or lanes j 0 < 2 ^ 64) → ((j : ℕ) → j < 8 → (b : ℕ) → RowsHave lanes j b ↔ P (i + j) b) → AreWritten old next m P
+written_block old new next lanes i m P end long before put small each = record {
+  height = long ∙ before.height;
+  fits = λ f a. elim (cases_lt a i) [
+    | inl lt ↦ rw (put.outside a (inl lt)) (before.fits f a)
+    | inr ge ↦ elim (cases_lt a (i + 8)) [
+      | inl lt ↦ rw (row a ge lt) (small (before.fits f) (a - i) (omega arith))
+      | inr past ↦ rw (put.outside a (inr past)) (before.fits f a)
+    ]
+  ];
+  inside = λ a lt b. elim (cases_lt a i) [
+    | inl less ↦ rw (put.outside a (inl less)) (before.inside a less b)
+    | inr ge ↦
+        let within : a < i + 8 = omega (arith, lt) in
+        let here : i + (a - i) ≡ a = omega arith in
+        rw (row a ge within) (subst (λ (x : ℕ). RowsHave lanes (a - i) b ↔ P x b) here (each (a - i) (omega arith) b))
+  ];
+  outside = λ a le. put.outside a (inr (omega (arith, le))) ∙ before.outside a (omega (arith, le));
+}
+  where
+    row : (a : ℕ) → i ≤ a → a < i + 8 → get_or next a 0 ≡ get_or lanes (a - i) 0
+    row a ge lt =
+        let here : a ≡ i + (a - i) = omega arith in
+        ap (λ (x : ℕ). get_or next x 0) here ∙ put.inside (a - i) (omega arith)
+
+-- lanes of words that are still the old ones
+pub lanes_still : (old new lanes : List ℕ) (i j : ℕ) (P : ℕ → ℕ → Type 0) → AreWritten old new i P → get_or lanes j 0 ≡ get_or new (i + j) 0 → get_or lanes j 0 ≡ get_or old (i + j) 0
+lanes_still old new lanes i j P before here = here ∙ before.outside (i + j) (omega arith)
+
+-- one lane that is joined, as the words that it was loaded from
+pub lane_taken : (acc select joined accs selects : List ℕ) (i j k row : ℕ) → j < 8 → get_or acc j 0 ≡ get_or accs (i + j) 0 → get_or select j 0 ≡ get_or selects (i + j) 0 → AreLanesJoined acc select k row joined → (b : ℕ) → RowsHave joined j b ↔ Taken (RowsHave accs) (RowsHave selects) k row (i + j) b
+lane_taken acc select joined accs selects i j k row lt from_acc from_select step b =
+    subst (λ (y : ℕ). Joined (get_or accs (i + j) 0) y) from_select (subst (λ (x : ℕ). Joined x (get_or select j 0)) from_acc (step j lt b))
+  where
+    Joined : ℕ → ℕ → Type 0
+    Joined x y = RowsHave joined j b ↔ (Bit x b ⊎ (Bit y k × Bit row b))
+
+-- lanes that are joined with one word more
+pub joined_more : (at c : ℕ) (acc select others old new : List ℕ) → ((i b : ℕ) → i < 8 → RowsHave old i b ↔ JoinedFrom at c (RowsHave acc) (RowsHave select) (RowsHave others) i b) → AreLanesJoined old select c (get_or others (c + at) 0) new → (i b : ℕ) → i < 8 → RowsHave new i b ↔ JoinedFrom at (c + 1) (RowsHave acc) (RowsHave select) (RowsHave others) i b
+joined_more at c acc select others old new before step i b lt = (
+  (λ h. elim ((step i lt b).0 h) [
+    | inl kept ↦ elim ((before i b lt).0 kept) [
+      | inl o ↦ inl o
+      | inr t ↦ inr (t.0, omega (arith, t.1), t.2, t.3)
+    ]
+    | inr t ↦ inr (c, omega arith, t.0, t.1)
+  ]),
+  (λ h. (step i lt b).1 (elim h [
+    | inl o ↦ inl ((before i b lt).1 (inl o))
+    | inr t ↦ elim (cases_lt t.0 c) [
+      | inl less ↦ inl ((before i b lt).1 (inr (t.0, less, t.2, t.3)))
+      | inr ge ↦
+          let same : t.0 ≡ c = omega (arith, t.1) in
+          inr (subst (λ (y : ℕ). RowsHave select i y) same t.2, subst (λ (y : ℕ). RowsHave others (y + at) b) same t.3)
+    ]
+  ])),
+)
+
+-- they fit
+pub joined_fits : (at end : ℕ) (acc select others joined : List ℕ) (i : ℕ) → AllFit others → get_or acc i 0 < 2 ^ 64 → ((b : ℕ) → RowsHave joined i b ↔ JoinedFrom at end (RowsHave acc) (RowsHave select) (RowsHave others) i b) → get_or joined i 0 < 2 ^ 64
+joined_fits at end acc select others joined i fits fits_acc turn =
+    word_fits (get_or joined i 0) (λ b h. elim ((turn b).0 h) [
+      | inl o ↦ Bit-width (get_or acc i 0) b fits_acc o
+      | inr t ↦ Bit-width (get_or others (t.0 + at) 0) b (fits (t.0 + at)) t.3
+    ])
+
+-- one lane of them, as the words that it was loaded from
+pub lane_joined : (at end : ℕ) (acc select others joined accs selects : List ℕ) (i j b : ℕ) → get_or acc j 0 ≡ get_or accs (i + j) 0 → get_or select j 0 ≡ get_or selects (i + j) 0 → RowsHave joined j b ↔ JoinedFrom at end (RowsHave acc) (RowsHave select) (RowsHave others) j b → RowsHave joined j b ↔ JoinedFrom at end (RowsHave accs) (RowsHave selects) (RowsHave others) (i + j) b
+lane_joined at end acc select others joined accs selects i j b from_acc from_select turn =
+    subst (λ (y : ℕ). Joined (get_or accs (i + j) 0) y) from_select (subst (λ (x : ℕ). Joined x (get_or select j 0)) from_acc turn)
+  where
+    Joined : ℕ → ℕ → Type 0
+    Joined x y = RowsHave joined j b ↔ (Bit x b ⊎ ((c : ℕ) × (c < end) × Bit y c × RowsHave others (c + at) b))

@@ -1,0 +1,128 @@
+//! Kernels that take eight words at a time, for blocks of 64 by 64 bits.
+ghost use Rattle.std.specs.Prelude.{◌≡◌, ℕ, ◌<◌, ◌≤◌, ◌+◌, ◌*◌, ◌↔◌, length, slice_index};
+ghost use Rattle.bit_relations.specs.Rows.{RowsHave, AreWritten, Taken, AreLanesJoined, IsStored, JoinedFrom};
+
+use crate::words::MAX_EVENTS;
+use std::simd::prelude::*;
+
+/// Each lane of `acc`, joined with `row` where the lane of `select` has bit `k`.
+#[inline]
+pub fn join(acc: u64x8, select: u64x8, k: u32, row: u64) -> u64x8
+    requires { k < 64 }
+    ensures count { length result ≡ 8 }
+    ensures lanes { AreLanesJoined acc select k row result }
+{
+    let ones = (select >> u64x8::splat(k as u64)) & u64x8::splat(1);
+    acc | ((u64x8::splat(0) - ones) & u64x8::splat(row))
+}
+
+/// The eight words from a place on.
+#[inline]
+fn load(words: &[u64; MAX_EVENTS], at: usize) -> u64x8
+    requires { at + 8 ≤ 128 }
+    ensures count { length result ≡ 8 }
+    ensures lanes { (i : ℕ) → i < 8 → slice_index result i ≡ slice_index words.now (at + i) }
+{
+    u64x8::from_slice(&words[at..])
+}
+
+/// Puts eight words in place, from a place on.
+#[inline]
+fn store(words: &mut [u64; MAX_EVENTS], at: usize, lanes: u64x8)
+    requires { at + 8 ≤ 128 }
+    ensures { IsStored words.old at lanes words.new }
+{
+    lanes.copy_to_slice(&mut words[at..]);
+}
+
+/// How many blocks of eight words hold the words below an end.
+pub(crate) fn blocks_of(end: usize) -> usize
+    requires { end ≤ 128 }
+    ensures few { 8 * result ≤ 128 }
+    ensures all { end ≤ 8 * result }
+    ensures least { 8 * result < end + 8 }
+{
+    (end + 7) / 8
+}
+
+/// Adds a word's bits to each word of the blocks that has the bit k itself.
+pub(crate) fn join_own(words: &mut [u64; MAX_EVENTS], k: usize, word: u64, blocks: usize)
+    requires inside { k < 64 }
+    requires few { 8 * blocks ≤ 128 }
+    ensures { AreWritten words.old words.new (8 * blocks) (Taken (RowsHave words.old) (RowsHave words.old) k word) }
+{
+    for block in 0..blocks {
+        let lanes = load(words, 8 * block);
+        let joined = join(lanes, lanes, k as u32, word);
+        store(words, 8 * block, joined);
+    }
+}
+
+/// Adds one word's bits to each word of the blocks that has the bit k itself, and another word's bits to the word of the
+/// same row in the other column.
+pub(crate) fn join_both(
+    own: &mut [u64; MAX_EVENTS],
+    other: &mut [u64; MAX_EVENTS],
+    k: usize,
+    own_word: u64,
+    other_word: u64,
+    blocks: usize,
+)
+    requires inside { k < 64 }
+    requires few { 8 * blocks ≤ 128 }
+    ensures own { AreWritten own.old own.new (8 * blocks) (Taken (RowsHave own.old) (RowsHave own.old) k own_word) }
+    ensures other { AreWritten other.old other.new (8 * blocks) (Taken (RowsHave other.old) (RowsHave own.old) k other_word) }
+{
+    for block in 0..blocks {
+        let select = load(own, 8 * block);
+        let acc = load(other, 8 * block);
+        let joined_own = join(select, select, k as u32, own_word);
+        let joined_other = join(acc, select, k as u32, other_word);
+        store(own, 8 * block, joined_own);
+        store(other, 8 * block, joined_other);
+    }
+}
+
+/// Each lane of `acc`, joined with those words of others, from a place on, that the lowest bits of `select` name.
+#[inline]
+fn join_words(
+    acc: u64x8,
+    select: u64x8,
+    others: &[u64; MAX_EVENTS],
+    at: usize,
+    middles: usize,
+) -> u64x8
+    requires count { length acc ≡ 8 }
+    requires inside { middles ≤ 64 }
+    requires room { at + middles ≤ 128 }
+    ensures count { length result ≡ 8 }
+    ensures lanes { (i b : ℕ) → i < 8 → RowsHave result i b ↔ JoinedFrom at middles (RowsHave acc) (RowsHave select) (RowsHave others.now) i b }
+{
+    let mut joined = acc;
+    for c in 0..middles {
+        let word = others[c + at];
+        joined = join(joined, select, c as u32, word);
+    }
+    joined
+}
+
+/// Adds to the words of the blocks those words of others, from a place on, that the lowest bits of `select` name.
+pub(crate) fn join_block(
+    words: &mut [u64; MAX_EVENTS],
+    select: &[u64; MAX_EVENTS],
+    others: &[u64; MAX_EVENTS],
+    at: usize,
+    middles: usize,
+    blocks: usize,
+)
+    requires inside { middles ≤ 64 }
+    requires room { at + middles ≤ 128 }
+    requires few { 8 * blocks ≤ 128 }
+    ensures { AreWritten words.old words.new (8 * blocks) (JoinedFrom at middles (RowsHave words.old) (RowsHave select.now) (RowsHave others.now)) }
+{
+    for block in 0..blocks {
+        let acc = load(words, 8 * block);
+        let joined = join_words(acc, load(select, 8 * block), others, at, middles);
+        store(words, 8 * block, joined);
+    }
+}
