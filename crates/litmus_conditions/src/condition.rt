@@ -1,21 +1,33 @@
 //! Reads what a condition says, token by token.
 
-use crate::place::{PlaceHole, PlaceStep, is_there, place_step, value_read};
+ghost use Rattle.std.specs.Prelude.{◌≡◌, ◌∷◌, IfOk};
+ghost use Rattle.litmus_values.specs.Value.{formula_of};
+ghost use Rattle.litmus_conditions.specs.Grammar.{limits, constant_word};
+ghost use Rattle.litmus_conditions.specs.PlaceMachine.{place_step};
+ghost use Rattle.litmus_conditions.specs.ConditionMachine.{Goes, Wants, open_count, opened, fold_to, word_hole, place_hole, operand, joins, closed, ended, behind, is_equals, after_constant, after_not, after_place, feed};
+ghost use Rattle.litmus_conditions.specs.Reading.{frame_of, stack_of, hole_of, Feeds, ReadsPlace};
+
+use crate::place::{PlaceHole, PlaceStep, place_step, value_read};
 use crate::step::StepError;
-use litmus_tokens::{Mark, Token};
+use litmus_tokens::{Mark, Token, decimal};
 use litmus_values::{Connective, Place, Proposition};
 use source_text::Name;
 use std::alloc::{AllocError, Global};
 
+// How many parentheses and prefixes may be open at once.
 const MAX_NESTING: usize = 64;
 
+// How many binary operators a proposition may have.
 const MAX_OPERATORS: usize = 1024;
 
 /// What stands open to the left of a token.
 #[derive(Debug, Drop)]
 pub enum Frame {
+    /// `(`
     Group,
+    /// `not` or `~`
     Prefix,
+    /// An operator with its left operand.
     Left(Connective, Proposition),
 }
 
@@ -23,27 +35,41 @@ pub enum Frame {
 /// before an equals sign they are locations.
 #[derive(Debug, Drop)]
 pub enum Hole {
+    /// An operand is wanted.
     Wants,
+    /// The word `true` or `false`.
     HasConstant(bool),
+    /// The word `not`.
     HasNot,
+    /// A part of a place.
     InPlace(PlaceHole),
+    /// A place.
     WantsEquals(Place),
+    /// A place and an equals sign.
     WantsValue(Place),
+    /// An operand.
     Has(Proposition),
 }
 
 /// What a token did.
 #[derive(Debug, Drop)]
 pub enum Fed {
+    /// The proposition goes on: what is open, how many operators were read, and what was read last.
     Goes(Vec<Frame>, usize, Hole),
-    /// The text has ended.
+    /// The text has ended, and so has the proposition.
     Ends(Proposition),
 }
 
 impl Frame {
-    fn is_open(&self) -> bool {
+    ghost use Rattle.litmus_conditions.specs.Reading.{is_open};
+
+    // Whether it counts as open.
+    fn is_open(&self) -> bool
+        ensures { result ≡ is_open self.now }
+    {
         match self {
-            Frame::Group | Frame::Prefix => true,
+            Frame::Group => true,
+            Frame::Prefix => true,
             Frame::Left(_, _) => false,
         }
     }
@@ -55,7 +81,10 @@ fn joined(
     level: usize,
     frames: &mut Vec<Frame>,
     operand: Proposition,
-) -> Result<Proposition, AllocError> {
+) -> Result<Proposition, AllocError>
+    ensures { IfOk result (λ v. fold_to level (stack_of frames.old.items) (formula_of operand)
+        ≡ (stack_of frames.new.items, formula_of v)) }
+{
     let mut operand = operand;
     while let Some(frame) = frames.pop() {
         match frame {
@@ -78,13 +107,23 @@ fn joined(
     Ok(operand)
 }
 
-// Refuses one more parenthesis or prefix where as many are open as may be.
-fn check_nesting(frames: &[Frame]) -> Result<(), StepError> {
-    if frames.iter().filter(|frame| frame.is_open()).count() < MAX_NESTING {
-        Ok(())
-    } else {
-        Err(StepError::Refused)
+// How many parentheses and prefixes are open.
+fn open_frames(frames: &[Frame]) -> usize
+    ensures { result ≡ open_count (stack_of frames.now) }
+{
+    frames.iter().filter(|f| f.is_open()).count()
+}
+
+// Opens a parenthesis or a prefix.
+fn opened(frames: Vec<Frame>, operators: usize, frame: Frame) -> Result<Fed, StepError>
+    ensures { Feeds result (opened limits (stack_of frames.items) (Goes (frame_of frame ∷ stack_of frames.items) operators Wants)) }
+{
+    let mut frames = frames;
+    if open_frames(&frames) >= MAX_NESTING {
+        return Err(StepError::Refused);
     }
+    frames.push(frame)?;
+    Ok(Fed::Goes(frames, operators, Hole::Wants))
 }
 
 // A token where an operand is wanted.
@@ -93,32 +132,32 @@ fn operand(
     frames: Vec<Frame>,
     operators: usize,
     token: Token,
-) -> Result<Fed, StepError> {
-    let mut frames = frames;
+) -> Result<Fed, StepError>
+    ensures { Feeds result (operand limits threads (stack_of frames.items) operators token) }
+{
     match token {
         Token::Word(name) => Ok(Fed::Goes(frames, operators, word_hole(name))),
-        Token::Mark(Mark::Tilde) => {
-            check_nesting(&frames)?;
-            frames.push(Frame::Prefix)?;
-            Ok(Fed::Goes(frames, operators, Hole::Wants))
-        }
-        Token::Mark(Mark::Open) => {
-            check_nesting(&frames)?;
-            frames.push(Frame::Group)?;
-            Ok(Fed::Goes(frames, operators, Hole::Wants))
-        }
-        other => {
-            if !is_there(threads, &other) {
-                return Err(StepError::Refused);
-            }
-            let hole = place_read(PlaceHole::Begins, other)?;
+        Token::Mark(Mark::Tilde) => opened(frames, operators, Frame::Prefix),
+        Token::Mark(Mark::Open) => opened(frames, operators, Frame::Group),
+        Token::Mark(Mark::OpenBracket) => {
+            let hole = Hole::InPlace(PlaceHole::WantsName);
             Ok(Fed::Goes(frames, operators, hole))
         }
+        Token::Number(false, thread) => {
+            if decimal(thread.as_bytes()) >= threads {
+                return Err(StepError::Refused);
+            }
+            let hole = Hole::InPlace(PlaceHole::WantsColon(thread));
+            Ok(Fed::Goes(frames, operators, hole))
+        }
+        _ => Err(StepError::Refused),
     }
 }
 
 // What a word may begin.
-fn word_hole(name: Name) -> Hole {
+fn word_hole(name: Name) -> Hole
+    ensures { hole_of result ≡ word_hole name }
+{
     let word = name.as_bytes();
     if word == b"true".as_slice() {
         return Hole::HasConstant(true);
@@ -133,10 +172,13 @@ fn word_hole(name: Name) -> Hole {
 }
 
 // A token within a place.
-fn place_read(within: PlaceHole, token: Token) -> Result<Hole, StepError> {
-    match place_step(within, token)? {
-        PlaceStep::Goes(hole) => Ok(Hole::InPlace(hole)),
-        PlaceStep::Ends(written) => Ok(Hole::WantsEquals(written.into_place())),
+fn place_read(within: PlaceHole, token: Token) -> Result<Hole, StepError>
+    ensures { ReadsPlace result (place_hole (place_step within token)) }
+{
+    match place_step(within, token) {
+        Ok(PlaceStep::Goes(hole)) => Ok(Hole::InPlace(hole)),
+        Ok(PlaceStep::Ends(written)) => Ok(Hole::WantsEquals(written.into_place())),
+        Err(e) => Err(e),
     }
 }
 
@@ -147,7 +189,9 @@ fn joins(
     operators: usize,
     left: Proposition,
     connective: Connective,
-) -> Result<Fed, StepError> {
+) -> Result<Fed, StepError>
+    ensures { Feeds result (joins limits (stack_of frames.items) operators (formula_of left) connective) }
+{
     let mut frames = frames;
     if operators >= MAX_OPERATORS {
         return Err(StepError::Refused);
@@ -163,23 +207,28 @@ fn closed(
     frames: Vec<Frame>,
     operators: usize,
     operand: Proposition,
-) -> Result<Fed, StepError> {
+) -> Result<Fed, StepError>
+    ensures { Feeds result (closed operators (fold_to 0 (stack_of frames.items) (formula_of operand))) }
+{
     let mut frames = frames;
     let operand = joined(alloc, 0, &mut frames, operand)?;
     match frames.pop() {
+        None => Err(StepError::Refused),
         Some(Frame::Group) => Ok(Fed::Goes(frames, operators, Hole::Has(operand))),
-        _ => Err(StepError::Refused),
+        Some(Frame::Prefix) => Err(StepError::Refused),
+        Some(Frame::Left(_, _)) => Err(StepError::Refused),
     }
 }
 
 // The end of the text behind an operand.
-fn ended(alloc: Global, frames: Vec<Frame>, operand: Proposition) -> Result<Fed, StepError> {
+fn ended(alloc: Global, frames: Vec<Frame>, operand: Proposition) -> Result<Fed, StepError>
+    ensures { Feeds result (ended (fold_to 0 (stack_of frames.items) (formula_of operand))) }
+{
     let mut frames = frames;
     let operand = joined(alloc, 0, &mut frames, operand)?;
-    if frames.is_empty() {
-        Ok(Fed::Ends(operand))
-    } else {
-        Err(StepError::Refused)
+    match frames.pop() {
+        Some(_) => Err(StepError::Refused),
+        None => Ok(Fed::Ends(operand)),
     }
 }
 
@@ -190,7 +239,9 @@ fn behind(
     operators: usize,
     operand: Proposition,
     token: Token,
-) -> Result<Fed, StepError> {
+) -> Result<Fed, StepError>
+    ensures { Feeds result (behind limits (stack_of frames.items) operators (formula_of operand) token) }
+{
     match token {
         Token::Mark(Mark::And) => joins(alloc, frames, operators, operand, Connective::And),
         Token::Mark(Mark::Or) => joins(alloc, frames, operators, operand, Connective::Or),
@@ -201,8 +252,42 @@ fn behind(
     }
 }
 
-fn constant_name(alloc: Global, value: bool) -> Result<Name, AllocError> {
+fn is_equals(token: &Token) -> bool
+    ensures { result ≡ is_equals token.now }
+{
+    match token {
+        Token::Mark(Mark::Equals) => true,
+        _ => false,
+    }
+}
+
+fn constant_name(alloc: Global, value: bool) -> Result<Name, AllocError>
+    ensures { IfOk result (λ n. n ≡ constant_word value) }
+{
     Name::new(alloc, if value { b"true" } else { b"false" })
+}
+
+// A token behind the word `true` or `false`.
+fn after_constant(
+    alloc: Global,
+    frames: Vec<Frame>,
+    operators: usize,
+    value: bool,
+    token: Token,
+) -> Result<Fed, StepError>
+    ensures { Feeds result (after_constant limits (stack_of frames.items) operators value token) }
+{
+    if is_equals(&token) {
+        let place = Place::Location(constant_name(alloc, value)?);
+        return Ok(Fed::Goes(frames, operators, Hole::WantsValue(place)));
+    }
+    behind(
+        alloc,
+        frames,
+        operators,
+        Proposition::Constant(value),
+        token,
+    )
 }
 
 // A token behind the word `not`.
@@ -212,22 +297,40 @@ fn after_not(
     frames: Vec<Frame>,
     operators: usize,
     token: Token,
-) -> Result<Fed, StepError> {
-    match token {
-        Token::Mark(Mark::Equals) => {
-            let place = Place::Location(Name::new(alloc, b"not")?);
-            Ok(Fed::Goes(frames, operators, Hole::WantsValue(place)))
-        }
-        other => {
-            let mut frames = frames;
-            check_nesting(&frames)?;
-            frames.push(Frame::Prefix)?;
-            operand(threads, frames, operators, other)
-        }
+) -> Result<Fed, StepError>
+    ensures { Feeds result (after_not limits threads (stack_of frames.items) operators token) }
+{
+    if is_equals(&token) {
+        let place = Place::Location(Name::new(alloc, b"not")?);
+        return Ok(Fed::Goes(frames, operators, Hole::WantsValue(place)));
+    }
+    let mut frames = frames;
+    if open_frames(&frames) >= MAX_NESTING {
+        return Err(StepError::Refused);
+    }
+    frames.push(Frame::Prefix)?;
+    operand(threads, frames, operators, token)
+}
+
+// A token behind a place.
+fn after_place(
+    frames: Vec<Frame>,
+    operators: usize,
+    place: Place,
+    token: Token,
+) -> Result<Fed, StepError>
+    ensures { Feeds result (after_place (stack_of frames.items) operators place token) }
+{
+    if is_equals(&token) {
+        Ok(Fed::Goes(frames, operators, Hole::WantsValue(place)))
+    } else {
+        Err(StepError::Refused)
     }
 }
 
-/// A token of a proposition, in a test of so many threads.
+/// Takes a token of a proposition, in a test of so many threads, where these frames are open, the
+/// innermost last, this many operators were read, and this was read last. A token with which no
+/// proposition within the limits goes on is refused.
 pub fn feed(
     alloc: Global,
     threads: usize,
@@ -235,35 +338,25 @@ pub fn feed(
     operators: usize,
     hole: Hole,
     token: Token,
-) -> Result<Fed, StepError> {
+) -> Result<Fed, StepError>
+    ensures { Feeds result (feed limits threads (stack_of frames.items) operators (hole_of hole) token) }
+{
     match hole {
         Hole::Wants => operand(threads, frames, operators, token),
-        Hole::HasConstant(value) => match token {
-            Token::Mark(Mark::Equals) => {
-                let place = Place::Location(constant_name(alloc, value)?);
-                Ok(Fed::Goes(frames, operators, Hole::WantsValue(place)))
-            }
-            other => behind(
-                alloc,
-                frames,
-                operators,
-                Proposition::Constant(value),
-                other,
-            ),
-        },
+        Hole::HasConstant(value) => after_constant(alloc, frames, operators, value, token),
         Hole::HasNot => after_not(alloc, threads, frames, operators, token),
-        Hole::InPlace(within) => {
-            let hole = place_read(within, token)?;
-            Ok(Fed::Goes(frames, operators, hole))
-        }
-        Hole::WantsEquals(place) => match token {
-            Token::Mark(Mark::Equals) => Ok(Fed::Goes(frames, operators, Hole::WantsValue(place))),
-            _ => Err(StepError::Refused),
+        Hole::InPlace(within) => match place_read(within, token) {
+            Ok(hole) => Ok(Fed::Goes(frames, operators, hole)),
+            Err(e) => Err(e),
         },
-        Hole::WantsValue(place) => {
-            let atom = Proposition::Holds(place, value_read(token)?);
-            Ok(Fed::Goes(frames, operators, Hole::Has(atom)))
-        }
+        Hole::WantsEquals(place) => after_place(frames, operators, place, token),
+        Hole::WantsValue(place) => match value_read(token) {
+            Ok(value) => {
+                let atom = Proposition::Holds(place, value);
+                Ok(Fed::Goes(frames, operators, Hole::Has(atom)))
+            }
+            Err(e) => Err(e),
+        },
         Hole::Has(operand) => behind(alloc, frames, operators, operand, token),
     }
 }

@@ -2,6 +2,7 @@
 #![tactic(auto)]
 
 mod condition;
+pub mod laws;
 mod place;
 mod step;
 

@@ -1,5 +1,12 @@
-use Rattle.std.proofs.Common.{vec_len}
+use Rattle.std.proofs.Common.{◌≡◌, vec_len}
+use Rattle.litmus_values.specs.Value.{formula_of}
+use Rattle.litmus_conditions.specs.ConditionMachine.{fold_to}
+use Rattle.litmus_conditions.specs.Reading.{stack_of}
 use Rattle.litmus_conditions.proofs.condition.joined.Given as goal
+
+abbrev pub invariant-loop-frame : goal.invariant-loop-frame
+invariant-loop-frame l =
+    fold_to l.level (stack_of l.initial.frames.items) (formula_of l.initial.operand) ≡ fold_to l.level (stack_of l.frames.items) (formula_of l.operand)
 
 abbrev pub decreases-loop-frame : goal.decreases-loop-frame
 decreases-loop-frame l = vec_len l.frames

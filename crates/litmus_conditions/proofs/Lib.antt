@@ -1,0 +1,6 @@
+pub mod Branches
+pub mod Complete
+pub mod Finishes
+pub mod Places
+pub mod Sound
+pub mod Stack

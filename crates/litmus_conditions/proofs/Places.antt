@@ -1,0 +1,157 @@
+-- Tokens that are taken within a place are spelled by the tree of a place.
+use Rattle.std.proofs.Common.{◌≡◌, ℕ, ◌<◌, ◌≤◌, Bool, true, false, List, [], ◌∷◌, Option, Some, None, refl, sym, ap, ◌∙◌, arith}
+use Rattle.std.specs.Prelude.{nat_lt, IsTrue, min, if◌then◌else◌}
+use Rattle.std.proofs.Math.Nat.{min-eq_left}
+use Rattle.std.proofs.lemmas.Bool.Decides.{nat_tests}
+use Rattle.litmus_values.specs.declared.test.Place.{Place}
+use Rattle.litmus_values.specs.declared.test.Place.TheVariants as places
+use Rattle.litmus_values.specs.declared.test.Value as declared_value
+use Rattle.litmus_values.specs.declared.test.Value.TheVariants as values
+use Rattle.litmus_tokens.specs.declared.token.Token.{Token}
+use Rattle.litmus_tokens.specs.declared.token.Token.TheVariants as tokens
+use Rattle.litmus_tokens.specs.declared.token.Mark.TheVariants.{OpenBracket, CloseBracket, Colon}
+use Rattle.litmus_tokens.specs.Words.{decimal, signed, is_int, int_of, register_of, is_register, is_known, or_zero}
+use Rattle.litmus_conditions.specs.declared.place.PlaceHole.{PlaceHole}
+use Rattle.litmus_conditions.specs.declared.place.PlaceHole.TheVariants.{Begins, WantsName, WantsBracket, WantsColon, WantsRegister}
+use Rattle.litmus_conditions.specs.declared.place.WrittenPlace.{WrittenPlace}
+use Rattle.litmus_conditions.specs.declared.place.WrittenPlace.TheVariants as written
+use Rattle.litmus_conditions.specs.declared.place.PlaceStep.{PlaceStep}
+use Rattle.litmus_conditions.specs.declared.place.PlaceStep.TheVariants as steps
+use Rattle.litmus_conditions.specs.Grammar.{PlaceTree, Location, Register, ValueTree, Number, Address, spelled_place, spelled_value, place_meaning, value_meaning, IsPlace, HasThread, IsValue}
+use Rattle.litmus_conditions.specs.PlaceMachine.{place_begun, register_ends, place_step, place_of, number_read, value_read, is_there}
+
+-- the tokens that were read within a place, and then rest
+abbrev pub within : PlaceHole → List Token → List Token
+within Begins rest = rest
+within WantsName rest = tokens.Mark OpenBracket ∷ rest
+within (WantsBracket n) rest = tokens.Mark OpenBracket ∷ tokens.Word n ∷ rest
+within (WantsColon t) rest = tokens.Number false t ∷ rest
+within (WantsRegister t) rest = tokens.Number false t ∷ tokens.Mark Colon ∷ rest
+
+abbrev pub written_of : PlaceTree → WrittenPlace
+written_of (Location b n) = written.Location n
+written_of (Register t r) = written.Register t (or_zero (register_of r))
+
+-- a place was read
+pub record PlaceRead (whole rest : List Token) (w : WrittenPlace) : Type 0 where
+  pub tree : PlaceTree
+  pub fine : IsPlace tree
+  pub means : written_of tree ≡ w
+  pub whole_is : whole ≡ spelled_place tree rest
+
+abbrev pub StepStands : List Token → List Token → Option PlaceStep → Type 0
+StepStands whole rest (Some (steps.Goes hole)) = whole ≡ within hole rest
+StepStands whole rest (Some (steps.Ends w)) = PlaceRead whole rest w
+StepStands whole rest None = Unit {0}
+
+register_read : (t w : List ℕ) (rest : List Token) (r : Option ℕ) → register_of w ≡ r → StepStands (tokens.Number false t ∷ tokens.Mark Colon ∷ tokens.Word w ∷ rest) rest (register_ends t r)
+register_read t w rest (Some r) e =
+    record { tree = Register t w; fine = ap is_known e; means = ap (λ (o : Option ℕ). written.Register t (or_zero o)) e; whole_is = refl }
+register_read t w rest None e = tt
+
+begun : (t : Token) (rest : List Token) → StepStands (t ∷ rest) rest (place_begun t)
+begun (tokens.Word n) rest = record { tree = Location false n; fine = tt; means = refl; whole_is = refl }
+begun (tokens.Mark OpenBracket) rest = refl
+begun (tokens.Number false t) rest = refl
+begun _ rest = tt
+
+pub place_stands : (hole : PlaceHole) (t : Token) (rest : List Token) → StepStands (within hole (t ∷ rest)) rest (place_step hole t)
+place_stands Begins t rest = begun t rest
+place_stands WantsName (tokens.Word n) rest = refl
+place_stands WantsName _ rest = tt
+place_stands (WantsBracket n) (tokens.Mark CloseBracket) rest = record { tree = Location true n; fine = tt; means = refl; whole_is = refl }
+place_stands (WantsBracket n) _ rest = tt
+place_stands (WantsColon n) (tokens.Mark Colon) rest = refl
+place_stands (WantsColon n) _ rest = tt
+place_stands (WantsRegister n) (tokens.Word w) rest = register_read n w rest (register_of w) refl
+place_stands (WantsRegister n) _ rest = tt
+
+-- ---- threads
+
+-- more of the place was read than nothing, and its thread, if one was read, is one of so many
+abbrev pub HoleThread : ℕ → PlaceHole → Type 0
+HoleThread threads Begins = ⊥
+HoleThread threads WantsName = Unit {0}
+HoleThread threads (WantsBracket n) = Unit {0}
+HoleThread threads (WantsColon t) = decimal t < threads
+HoleThread threads (WantsRegister t) = decimal t < threads
+
+abbrev pub WrittenThread : ℕ → WrittenPlace → Type 0
+WrittenThread threads (written.Location n) = Unit {0}
+WrittenThread threads (written.Register t r) = decimal t < threads
+
+abbrev pub StepThread : ℕ → Option PlaceStep → Type 0
+StepThread threads (Some (steps.Goes hole)) = HoleThread threads hole
+StepThread threads (Some (steps.Ends w)) = WrittenThread threads w
+StepThread threads None = Unit {0}
+
+lt_true : (l n : ℕ) → nat_lt l n ≡ true → l < n
+lt_true l n h = grind (arith, nat_tests)
+
+pub begun_thread : (threads : ℕ) (t : Token) → is_there threads t ≡ true → StepThread threads (place_begun t)
+begun_thread threads (tokens.Word n) h = tt
+begun_thread threads (tokens.Mark OpenBracket) h = tt
+begun_thread threads (tokens.Number false t) h = lt_true _ _ h
+begun_thread threads _ h = tt
+
+register_thread : (threads : ℕ) (t : List ℕ) (r : Option ℕ) → decimal t < threads → StepThread threads (register_ends t r)
+register_thread threads t (Some r) h = h
+register_thread threads t None h = tt
+
+pub place_thread : (threads : ℕ) (hole : PlaceHole) (t : Token) → HoleThread threads hole → StepThread threads (place_step hole t)
+place_thread threads Begins t h = absurd h
+place_thread threads WantsName (tokens.Word n) h = tt
+place_thread threads WantsName _ h = tt
+place_thread threads (WantsBracket n) (tokens.Mark CloseBracket) h = tt
+place_thread threads (WantsBracket n) _ h = tt
+place_thread threads (WantsColon n) (tokens.Mark Colon) h = h
+place_thread threads (WantsColon n) _ h = tt
+place_thread threads (WantsRegister n) (tokens.Word w) h = register_thread threads n (register_of w) h
+place_thread threads (WantsRegister n) _ h = tt
+
+pub has_thread : (threads : ℕ) (p : PlaceTree) → WrittenThread threads (written_of p) → HasThread threads p
+has_thread threads (Location b n) h = tt
+has_thread threads (Register t r) h = h
+
+-- a thread's number that is there is no greater than what fits
+pub place_of_written : (threads : ℕ) (p : PlaceTree) → threads < 18446744073709551616 → HasThread threads p → place_of (written_of p) ≡ place_meaning p
+place_of_written threads (Location b n) few h = refl
+place_of_written threads (Register t r) few h =
+    let le : decimal t ≤ 18446744073709551615 = omega arith in
+    ap (λ (k : ℕ). places.Register k (or_zero (register_of r))) (min-eq_left le)
+
+-- ---- values
+
+-- a value was read
+pub record ValueRead (whole rest : List Token) (v : declared_value.Value) : Type 0 where
+  pub tree : ValueTree
+  pub fine : IsValue tree
+  pub means : value_meaning tree ≡ v
+  pub whole_is : whole ≡ spelled_value tree rest
+
+abbrev pub ValueStands : List Token → List Token → Option declared_value.Value → Type 0
+ValueStands whole rest (Some v) = ValueRead whole rest v
+ValueStands whole rest None = Unit {0}
+
+pub value_stands : (t : Token) (rest : List Token) → ValueStands (t ∷ rest) rest (value_read t)
+value_stands (tokens.Word n) rest = record { tree = Address n; fine = tt; means = refl; whole_is = refl }
+value_stands (tokens.Number negative ds) rest = choose (is_int negative ds) refl
+  where
+    choose : (b : Bool) → is_int negative ds ≡ b → ValueStands (tokens.Number negative ds ∷ rest) rest (number_read (if b then Some (signed negative (decimal ds)) else None))
+    choose true e = record { tree = Number negative ds; fine = e; means = refl; whole_is = refl }
+    choose false e = tt
+value_stands _ rest = tt
+
+-- the token of a value
+abbrev pub value_token : ValueTree → Token
+value_token (Number negative ds) = tokens.Number negative ds
+value_token (Address n) = tokens.Word n
+
+pub value_taken : (v : ValueTree) → IsValue v → value_read (value_token v) ≡ Some (value_meaning v)
+value_taken (Number negative ds) h =
+    ap (λ (b : Bool). number_read (if b then Some (signed negative (decimal ds)) else None)) h
+value_taken (Address n) h = refl
+
+pub spelled_value-token : (v : ValueTree) (rest : List Token) → spelled_value v rest ≡ value_token v ∷ rest
+spelled_value-token (Number negative ds) rest = refl
+spelled_value-token (Address n) rest = refl

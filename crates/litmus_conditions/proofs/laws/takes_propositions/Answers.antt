@@ -1,0 +1,13 @@
+use Rattle.litmus_conditions.proofs.Sound.{sound}
+use Rattle.litmus_conditions.proofs.Complete.{complete}
+use Rattle.litmus_conditions.proofs.Finishes.{finishes}
+use Rattle.litmus_conditions.proofs.laws.takes_propositions.Goals as goal
+
+pub returns-clause-sound : goal.returns-clause-sound
+returns-clause-sound c = λ most threads few ts v e. sound most threads few ts v e
+
+pub returns-clause-complete : goal.returns-clause-complete
+returns-clause-complete c = λ most threads few ts v m. complete most threads few ts v m
+
+pub returns-clause-finishes : goal.returns-clause-finishes
+returns-clause-finishes c = λ most threads frames used hole. finishes most threads frames used hole

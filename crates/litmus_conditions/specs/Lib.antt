@@ -1,0 +1,5 @@
+pub mod ConditionMachine
+pub mod Grammar
+pub mod Laws
+pub mod PlaceMachine
+pub mod Reading
