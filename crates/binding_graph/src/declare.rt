@@ -6,6 +6,7 @@ ghost use Rattle.binding_graph.specs.Kinds.{kind, takes_body};
 ghost use Rattle.binding_graph.specs.Faults.{with_own, with_all, extended};
 ghost use Rattle.binding_graph.specs.Verdict.{first_of, first_of_item, or_else, unless};
 
+use crate::column::signatures;
 use crate::expand::expand;
 use crate::fault::ModelFault;
 use crate::function::{Function, count_parts};
@@ -14,7 +15,7 @@ use crate::kinds::takes_body;
 use crate::plan::{Plan, Sight};
 use crate::resolved::{Input, Kind};
 use crate::scope::{Binder, Entry, Scope};
-use crate::signature::signatures;
+use crate::signature::Signature;
 use crate::uses::Uses;
 use cat_syntax::{Binding, Check, Expression, Item};
 use source_text::Name;
@@ -125,11 +126,27 @@ fn declare_function(
         return Ok(fault);
     }
     let mut uses = Uses::new(alloc, scope)?;
-    let plan = plan_of(alloc, scope, parameters, body, &mut uses)?;
+    let sight = Sight {
+        entries: &scope.entries,
+        functions: &scope.functions,
+        parameters,
+        from: scope.entries.len(),
+    };
+    let mut plan = Plan::new(alloc);
+    plan.put_term(&sight, false, body, &mut uses)?;
     if plan.fault.is_some() {
         return Ok(plan.fault);
     }
-    let function = function_of(alloc, scope, place, parameters.len(), plan, uses)?;
+    let signatures = signatures(alloc, &sight, body)?;
+    let function = function_of(
+        alloc,
+        scope,
+        place,
+        parameters.len(),
+        plan,
+        signatures,
+        uses,
+    )?;
     let binder = Binder::Applicable(scope.functions.len());
     scope.functions.push(function)?;
     scope.entries.push(Entry {
@@ -140,25 +157,6 @@ fn declare_function(
     Ok(None)
 }
 
-/// The body of a function.
-fn plan_of(
-    alloc: Global,
-    scope: &Scope,
-    parameters: &[Name],
-    body: &Expression,
-    uses: &mut Uses,
-) -> Result<Plan, AllocError> {
-    let sight = Sight {
-        entries: &scope.entries,
-        functions: &scope.functions,
-        parameters,
-        from: scope.entries.len(),
-    };
-    let mut plan = Plan::new(alloc);
-    plan.put_term(&sight, false, body, uses)?;
-    Ok(plan)
-}
-
 /// What is kept of a function.
 fn function_of(
     alloc: Global,
@@ -166,9 +164,9 @@ fn function_of(
     place: usize,
     arity: usize,
     plan: Plan,
+    signatures: Vec<Signature>,
     uses: Uses,
 ) -> Result<Function, AllocError> {
-    let signatures = signatures(alloc, scope, arity, &plan.nodes)?;
     let expansion = expand(alloc, &scope.functions, &plan.nodes)?;
     let is_oversized = expansion.is_oversized();
     let template = if is_oversized {

@@ -240,35 +240,29 @@ pub fn judge(
             let second = judge(entries, functions, from, is_turned(*op, under), right);
             judged_infix(*op, first, second)
         }
-        Expression::Marked(_, operand) => judged_postfix(judge(
-            entries, functions, from, under, operand,
-        )),
-        Expression::Complement(operand) => judged_complement(judge(
-            entries, functions, from, true, operand,
-        )),
-        Expression::Identity(operand) => judged_identity(judge(
-            entries, functions, from, under, operand,
-        )),
-        Expression::Applied(name, arguments) => match function_of(
-            entries,
-            functions,
-            name,
-            arguments.len(),
-        ) {
-            Err(fault) => faulty(fault),
-            Ok(function) => {
-                let mut all = Arguments::of(function);
-                for (place, argument) in arguments.iter().enumerate() {
-                    let inner = under || function.is_under(place);
-                    all = all.with(
-                        function,
-                        place,
-                        judge(entries, functions, from, inner, argument),
-                    );
+        Expression::Marked(_, operand) => {
+            judged_postfix(judge(entries, functions, from, under, operand))
+        }
+        Expression::Complement(operand) => {
+            judged_complement(judge(entries, functions, from, true, operand))
+        }
+        Expression::Identity(operand) => {
+            judged_identity(judge(entries, functions, from, under, operand))
+        }
+        Expression::Applied(name, arguments) => {
+            match function_of(entries, functions, name, arguments.len()) {
+                Err(fault) => faulty(fault),
+                Ok(function) => {
+                    let mut all = Arguments::of(function);
+                    for (place, argument) in arguments.iter().enumerate() {
+                        let inner = under || function.is_under(place);
+                        let one = judge(entries, functions, from, inner, argument);
+                        all = all.with(function, place, one);
+                    }
+                    all.applied(function)
                 }
-                all.applied(function)
             }
-        },
+        }
     }
 }
 

@@ -1,6 +1,7 @@
 //! What the names of a model stand for, its first fault, and its items as steps.
 #![tactic(auto)]
 
+mod column;
 mod declare;
 mod expand;
 mod fault;

@@ -67,7 +67,7 @@ fn parameter(parameters: &[Name], name: &Name) -> Option<usize> {
 
 impl Sight<'_> {
     /// What a name without arguments stands for.
-    fn value(&self, name: &Name) -> Result<Piece, ModelFault> {
+    pub fn value(&self, name: &Name) -> Result<Piece, ModelFault> {
         if let Some(place) = parameter(self.parameters, name) {
             return Ok(Piece::Parameter(place));
         }
