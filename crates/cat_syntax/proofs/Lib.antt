@@ -1,2 +1,4 @@
 pub mod Stack
 pub mod Texts
+pub mod Separated
+pub mod Applied

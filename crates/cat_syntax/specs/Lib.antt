@@ -8,3 +8,5 @@ pub mod ItemMachine
 pub mod ReadingItems
 pub mod ParserState
 pub mod ReadingTexts
+pub mod Printing
+pub mod PredefinedNames

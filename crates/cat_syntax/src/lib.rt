@@ -25,4 +25,6 @@ pub use read::{read_item, read_model};
 pub use source_text::Name;
 
 #[cfg(test)]
+mod print_tests;
+#[cfg(test)]
 mod tests;

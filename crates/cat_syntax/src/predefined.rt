@@ -1,5 +1,8 @@
 //! The predefined names of a model.
 
+ghost use Rattle.std.specs.Prelude.{◌≡◌};
+ghost use Rattle.cat_syntax.specs.PredefinedNames.{spelling, is_set};
+
 /// A predefined name: a set of events or a relation between events of an execution
 /// (the herd7 manual, chapter on cat, section on predefined names).
 #[derive(Clone, Copy, Debug, PartialEq, Eq)]
@@ -114,7 +117,9 @@ pub const PREDEFINED: [Predefined; PREDEFINED_COUNT] = [
 
 impl Predefined {
     /// How a model writes it.
-    pub fn spelling(self) -> &'static [u8] {
+    pub fn spelling(self) -> &'static [u8]
+        ensures { result.now ≡ spelling self }
+    {
         match self {
             Predefined::Loads => b"R",
             Predefined::Stores => b"W",
@@ -153,7 +158,9 @@ impl Predefined {
     }
 
     /// Whether it is a set of events, and no relation.
-    pub fn is_set(self) -> bool {
+    pub fn is_set(self) -> bool
+        ensures { result ≡ is_set self }
+    {
         matches!(
             self,
             Predefined::Loads
