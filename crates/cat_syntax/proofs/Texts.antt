@@ -21,7 +21,8 @@ use Rattle.cat_syntax.specs.Lexer.{front}
 use Rattle.cat_syntax.specs.Machine.{Limits}
 use Rattle.cat_syntax.specs.ItemMachine.{State, step, start}
 use Rattle.cat_syntax.specs.Reading.{limits}
-use Rattle.cat_syntax.specs.ReadingTexts.{Placed, after_front, tokens_from, Ran, placed, and_then, run, items_of, reading, lexed, FailsAt, last_item, the_item}
+use Rattle.cat_syntax.specs.Grammar.{Placed}
+use Rattle.cat_syntax.specs.ReadingTexts.{after_front, tokens_from, Ran, placed, and_then, run, items_of, reading, lexed, FailsAt, last_item, the_item}
 
 -- passing over bytes
 pub tokens_skip : (k place : ℕ) (bs : List ℕ) → k ≤ length bs → tokens_from k place bs ≡ tokens_from 0 (place + k) (drop k bs)

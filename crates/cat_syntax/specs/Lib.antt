@@ -2,6 +2,7 @@ pub mod Words
 pub mod Lexer
 pub mod Faults
 pub mod Value
+pub mod Grammar
 pub mod Machine
 pub mod Reading
 pub mod ItemMachine
@@ -9,4 +10,5 @@ pub mod ReadingItems
 pub mod ParserState
 pub mod ReadingTexts
 pub mod Printing
+pub mod Written
 pub mod PredefinedNames

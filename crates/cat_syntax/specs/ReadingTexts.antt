@@ -16,16 +16,12 @@ use Rattle.cat_syntax.specs.declared.lexer.Front.{Front}
 use Rattle.cat_syntax.specs.declared.lexer.Front.TheVariants.{Layout, Lexeme}
 use Rattle.cat_syntax.specs.Lexer.{front}
 use Rattle.cat_syntax.specs.Value.{Clause}
+use Rattle.cat_syntax.specs.Grammar.{Placed}
 use Rattle.cat_syntax.specs.Machine.{Limits}
 use Rattle.cat_syntax.specs.ItemMachine.{Fault, Here, Before, State, start, step}
 use Rattle.cat_syntax.specs.Reading.{limits}
 use Rattle.cat_syntax.specs.ReadingItems.{clause_of, clauses_of}
 use Rattle.cat_syntax.specs.ParserState.{state_of}
-
--- a token and the byte that it begins at
-pub record Placed : Type 0 where
-  pub token : Token
-  pub place : ℕ
 
 abbrev pub after_front : ℕ → Front → (ℕ → List Placed) → List Placed
 after_front place (Layout n) later = later (n - 1)

@@ -4,6 +4,7 @@
 mod fault;
 mod frames;
 mod items;
+pub mod laws;
 mod lets;
 mod lexer;
 mod model;
