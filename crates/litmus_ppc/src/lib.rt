@@ -3,13 +3,10 @@
 
 mod fault;
 mod init;
-mod late;
-mod operand;
 mod print;
 mod print_table;
 mod read;
 mod reader;
-mod table;
 
 pub use fault::LitmusFault;
 pub use litmus_tokens::LitmusRule;

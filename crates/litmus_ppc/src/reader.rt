@@ -2,10 +2,10 @@
 
 use crate::fault::LitmusFault;
 use crate::init::{InitBlock, InitHole, InitStep};
-use crate::table::Table;
 use litmus_conditions::{
     Fed, Frame, Hole, PlaceHole, PlaceStep, StepError, feed, is_there, place_step,
 };
+use litmus_table::Table;
 use litmus_tokens::{LitmusRule, Mark, Stage, Token, ends_table, is_filter, is_test_name};
 use litmus_values::{Condition, InitEntry, Place, Proposition, Quantifier, Test, Thread};
 use source_text::Name;
@@ -282,7 +282,13 @@ impl Reader {
             _ => self.threads,
         };
         self.init.check_threads(threads)?;
-        self.table.check_labels()
+        match self.table.check_labels()? {
+            Some(fault) => Err(LitmusFault::Refused {
+                rule: fault.rule,
+                place: fault.place,
+            }),
+            None => Ok(()),
+        }
     }
 
     /// The test that was read.

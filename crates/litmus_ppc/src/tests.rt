@@ -141,3 +141,58 @@ fn a_printed_condition(rt: HostRuntime) -> Result<(), Fail> {
     );
     Ok(())
 }
+
+const MESSAGE_PASSING: &[u8] =
+    b"PPC MP\n{\n0:r2=x; 0:r4=y;\n1:r2=y; 1:r4=x;\n}\n P0           | P1           ;\n li r1,1      | lwz r1,0(r2) ;\n stw r1,0(r2) | lwz r3,0(r4) ;\n li r3,1      |              ;\n stw r3,0(r4) |              ;\nexists (1:r1=1 /\\ 1:r3=0)\n";
+
+const CONTROL: &[u8] =
+    b"PPC MP+lwsync+ctrl\n\"cycle\"\nA=b\n{ 0:r2=x; 0:r4=y; 1:r2=y; 1:r4=x; z=-7 }\n P0 | P1 ;\n li r1,1 | lwz r1,0(r2) ;\n stw r1,0(r2) | cmpw r1,r1 ;\n lwsync | beq LC00 ;\n stw r1,0(r4) | LC00: lwz r3,0(r4) ;\nlocations [1:r3; z;]\n~exists (1:r1=1 /\\ not 1:r3=0 => [y]=2 \\/ true)";
+
+const INSTRUCTIONS: &[u8] =
+    b"PPC T (* c (* d *) *)\n{}P0;\naddi r1,r2,-1; subf r1,r2,r3; lwzx r1,r2,r3; stwx r1,r2,r3; cmpwi r1,5; L: b M; M: ;\nisync; eieio; mr r31,r0;\nforall ~(x=y) => (true=1 \\/ not=2)";
+
+// What stands before the place of a refusal begins a test: alone it is one, or it ends too early, at its end.
+fn expect_cuts(rt: &impl Abort, alloc: Global, text: &[u8]) {
+    for cut in 0..text.len() {
+        let (_, place) = fault_of(read_test(alloc, &text[..cut]));
+        if place <= cut {
+            let (rest, end) = fault_of(read_test(alloc, &text[..place]));
+            assert!(rt; rest == 0 || end == place);
+        }
+    }
+}
+
+// A printed test reads as the test that was printed.
+fn expect_round_trip(rt: &impl Abort, alloc: Global, text: &[u8]) -> Result<(), Fail> {
+    let printed = print_test(alloc, &read_test(alloc, text)?)?;
+    let again = print_test(alloc, &read_test(alloc, &printed)?)?;
+    assert_eq!(rt; again.as_slice(), printed.as_slice());
+    Ok(())
+}
+
+#[test]
+fn tests_that_are_cut(rt: HostRuntime) {
+    let a = rt.alloc();
+    expect_cuts(&rt, a, MESSAGE_PASSING);
+    expect_cuts(&rt, a, CONTROL);
+    expect_cuts(&rt, a, INSTRUCTIONS);
+}
+
+#[test]
+fn round_trips(rt: HostRuntime) -> Result<(), Fail> {
+    let a = rt.alloc();
+    expect_round_trip(&rt, a, MESSAGE_PASSING)?;
+    expect_round_trip(&rt, a, CONTROL)
+}
+
+#[test]
+fn columns_of_rows(rt: HostRuntime) {
+    let a = rt.alloc();
+    expect_test(&rt, a, b"PPC T\n{}\nP0|P1;\nsync|sync|sync;", 6, 25);
+    expect_test(&rt, a, b"PPC T\n{}\nP0|P1;\nli r1 | sync;", 7, 22);
+    expect_test(&rt, a, b"PPC T\n{}\nP0;\nL: ; L: ; exists true", 10, 18);
+    expect_test(&rt, a, b"PPC T\n{}\nP0|P1;\nL:|L:;exists true", 0, 0);
+    expect_test(&rt, a, b"PPC T\n{}\nP0;\nlwz r1,00(r2); exists true", 0, 0);
+    expect_test(&rt, a, b"PPC T\n{}\nP0;\nlwz r1,0(r0); exists true", 8, 22);
+    expect_test(&rt, a, b"PPC T\n{}\nP0;\nsync filter", 7, 18);
+}

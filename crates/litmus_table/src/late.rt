@@ -1,11 +1,22 @@
 //! The checks of labels, made once a whole text is read.
 
-use crate::fault::LitmusFault;
+ghost use Rattle.std.specs.Prelude.{◌≡◌, ℕ, IfOk};
+ghost use Rattle.litmus_table.specs.Machine.{fresh, noted};
+ghost use Rattle.litmus_table.specs.Reading.{thread_of};
+ghost use Rattle.litmus_table.specs.Within.{AllAtMost, IsFoundWithin};
+
 use litmus_tokens::LitmusRule;
 use litmus_values::{Instruction, Step, Thread};
 use source_text::Name;
 use std::alloc::{AllocError, Global};
 use std::collections::BTreeMap;
+
+/// The rule that a text breaks which the grammar allows, and the byte place of the part that breaks it.
+#[derive(Clone, Copy, Debug)]
+pub struct LateFault {
+    pub rule: LitmusRule,
+    pub place: usize,
+}
 
 /// The steps of a thread, with the byte of each label and of the label that each branch names.
 #[derive(Drop)]
@@ -15,20 +26,26 @@ pub struct PlacedThread {
 }
 
 impl PlacedThread {
-    pub fn new(alloc: Global) -> PlacedThread {
+    pub fn new(alloc: Global) -> PlacedThread
+        ensures { thread_of result ≡ fresh }
+    {
         PlacedThread {
             steps: Vec::new(alloc),
             places: Vec::new(alloc),
         }
     }
 
-    pub fn push(&mut self, step: Step, place: usize) -> Result<(), AllocError> {
+    pub fn push(&mut self, step: Step, place: usize) -> Result<(), AllocError>
+        ensures { IfOk result (λ _. thread_of self.new ≡ noted step place (thread_of self.old)) }
+    {
         self.places.push(place)?;
         self.steps.push(step)?;
         Ok(())
     }
 
-    pub fn into_thread(self) -> Thread {
+    pub fn into_thread(self) -> Thread
+        ensures { result.steps.items ≡ (thread_of self).steps }
+    {
         Thread { steps: self.steps }
     }
 
@@ -45,23 +62,35 @@ impl PlacedThread {
         Ok(first)
     }
 
-    /// Refuses the first label that is defined twice, and the first branch to a label that stands
-    /// before it or nowhere in the thread.
-    pub fn check_labels(&self, alloc: Global) -> Result<(), LitmusFault> {
+    /// The first label that is defined twice, or the first branch to a label that stands before it or
+    /// nowhere in the thread.
+    pub fn check_labels(&self, alloc: Global) -> Result<Option<LateFault>, AllocError>
+        ensures { (n : ℕ) → AllAtMost n self.now.places.items → IfOk result (IsFoundWithin n) }
+    {
         let definitions = self.definitions(alloc)?;
-        for (i, (step, place)) in self.steps.iter().zip(self.places.iter()).enumerate() {
-            let broken = match step {
-                Step::Label(name) => repeats(&definitions, name, i),
-                Step::Instruction(instruction) => goes_wrong(&definitions, instruction, i),
-            };
-            if let Some(rule) = broken {
-                return Err(LitmusFault::Refused {
+        for (i, step) in self.steps.iter().enumerate() {
+            if let Some(rule) = broken(&definitions, step, i)
+                && i < self.places.len()
+            {
+                return Ok(Some(LateFault {
                     rule,
-                    place: *place,
-                });
+                    place: self.places[i],
+                }));
             }
         }
-        Ok(())
+        Ok(None)
+    }
+}
+
+// The rule that the step of this number breaks.
+fn broken(
+    definitions: &BTreeMap<Vec<u8>, usize>,
+    step: &Step,
+    number: usize,
+) -> Option<LitmusRule> {
+    match step {
+        Step::Label(name) => repeats(definitions, name, number),
+        Step::Instruction(instruction) => goes_wrong(definitions, instruction, number),
     }
 }
 

@@ -1,0 +1,48 @@
+-- What the reader holds of a table, as the machine sees it.
+use Rattle.std.specs.Prelude.{◌≡◌, ℕ, List, map, drop, Option, Some, None, Result, Ok, Err}
+use Rattle.litmus_conditions.specs.declared.step.StepError.{StepError}
+use Rattle.litmus_conditions.specs.declared.step.StepError.TheVariants as errors
+use Rattle.litmus_table.specs.declared.late.PlacedThread.{PlacedThread}
+use Rattle.litmus_table.specs.declared.operand.Pending as code_pending
+use Rattle.litmus_table.specs.declared.table.Cell.{Cell}
+use Rattle.litmus_table.specs.declared.table.Cell.TheVariants as cells
+use Rattle.litmus_table.specs.declared.table.Table.{Table}
+use Rattle.litmus_table.specs.Words.{data_form}
+use Rattle.litmus_table.specs.Machine as machine
+
+abbrev pub thread_of : PlacedThread → machine.Placed
+thread_of t = record { steps = t.steps.items; places = t.places.items }
+
+abbrev pub threads_of : List PlacedThread → List machine.Placed
+threads_of ts = map thread_of ts
+
+abbrev pub pending_of : code_pending.Pending → machine.Pending
+pending_of p = record { opcode = p.opcode; wants = drop p.taken (data_form p.opcode); registers = p.registers.items; value = p.value }
+
+abbrev pub hole_of : Cell → machine.Hole
+hole_of cells.Begins = machine.Begins
+hole_of cells.Labelled = machine.Labelled
+hole_of (cells.Within p) = machine.Within (pending_of p)
+hole_of (cells.WantsLabel condition) = machine.WantsLabel condition
+hole_of cells.Whole = machine.Whole
+
+abbrev pub table_of : Table → machine.State
+table_of t = record { threads = threads_of t.threads.items; column = t.column; hole = hole_of t.cell }
+
+-- What a function returned, seen by view, is what the machine does, unless memory ran out.
+abbrev pub Refuses : {Y : Type 0} → StepError → Option Y → Type 0
+Refuses errors.OutOfMemory made = Unit {0}
+Refuses errors.Refused made = made ≡ None
+
+abbrev pub Takes : Result code_pending.Pending StepError → Option machine.Pending → Type 0
+Takes (Ok p) made = made ≡ Some (pending_of p)
+Takes (Err e) made = Refuses e made
+
+-- the cell that a step leads to, beside the rest of the table
+abbrev pub Cells : Result Cell StepError → Table → Option machine.State → Type 0
+Cells (Ok cell) t made = made ≡ Some (record { threads = threads_of t.threads.items; column = t.column; hole = hole_of cell })
+Cells (Err e) t made = Refuses e made
+
+abbrev pub Steps : Result (Unit {0}) StepError → Table → Option machine.State → Type 0
+Steps (Ok u) t made = made ≡ Some (table_of t)
+Steps (Err e) t made = Refuses e made

@@ -1,0 +1,343 @@
+//! Reads the table of threads.
+
+ghost use Rattle.std.specs.Prelude.{◌≡◌, ◌≤◌, ℕ, length, IfOk, OnOk, Some};
+ghost use Rattle.litmus_table.specs.Machine.{start, noted, put_at, is_last, ended, operation, begins, cell, operand, target_read, finished, goes_on, step, hole_step, widened, named, is_begin, is_row_start, can_end, wanted, rule_of_word, separator_rule, rule_at};
+ghost use Rattle.litmus_table.specs.Within.{AreWithin, IsFoundWithin};
+ghost use Rattle.litmus_table.specs.Reading.{threads_of, pending_of, hole_of, table_of, Cells, Steps};
+
+use crate::late::{LateFault, PlacedThread};
+use crate::opcode::{Opcode, Want, opcode_of};
+use crate::operand::{Pending, is_int, is_register};
+use litmus_conditions::StepError;
+use litmus_tokens::{LitmusRule, Mark, Token, is_column, is_filter};
+use litmus_values::{BranchCondition, Instruction, Step, Thread};
+use std::alloc::{AllocError, Global};
+use std::mem;
+
+/// Where in a cell the reader stands.
+#[derive(Debug, Drop)]
+enum Cell {
+    Begins,
+    Labelled,
+    /// Within an instruction.
+    Within(Pending),
+    WantsLabel(Option<BranchCondition>),
+    Whole,
+}
+
+/// The threads read so far.
+#[derive(Drop)]
+pub struct Table {
+    alloc: Global,
+    threads: Vec<PlacedThread>,
+    // The number of the thread whose cell is read.
+    column: usize,
+    cell: Cell,
+}
+
+impl Cell {
+    fn is_begin(&self) -> bool
+        ensures { result ≡ is_begin (hole_of self.now) }
+    {
+        match self {
+            Cell::Begins => true,
+            _ => false,
+        }
+    }
+
+    fn can_end(&self) -> bool
+        ensures { result ≡ can_end (hole_of self.now) }
+    {
+        match self {
+            Cell::Begins => true,
+            Cell::Labelled => true,
+            Cell::Within(_) => false,
+            Cell::WantsLabel(_) => false,
+            Cell::Whole => true,
+        }
+    }
+
+    // What is wanted within an instruction.
+    fn want(&self) -> Option<Want>
+        ensures { result ≡ wanted (hole_of self.now) }
+    {
+        match self {
+            Cell::Within(pending) => pending.want(),
+            _ => None,
+        }
+    }
+}
+
+impl Table {
+    /// A table without threads.
+    pub fn new(alloc: Global) -> Table
+        ensures { table_of result ≡ start }
+    {
+        Table {
+            alloc,
+            threads: Vec::new(alloc),
+            column: 0,
+            cell: Cell::Begins,
+        }
+    }
+
+    /// The number of threads.
+    pub fn width(&self) -> usize
+        ensures { result ≡ length (table_of self.now).threads }
+    {
+        self.threads.len()
+    }
+
+    /// Adds a thread.
+    pub fn add_thread(&mut self) -> Result<(), AllocError>
+        ensures { IfOk result (λ _. table_of self.new ≡ widened (table_of self.old)) }
+    {
+        self.threads.push(PlacedThread::new(self.alloc))?;
+        Ok(())
+    }
+
+    /// Takes the name of the next thread.
+    pub fn name_read(&mut self, token: Token) -> Result<(), StepError>
+        ensures steps { Steps result self.new (named (table_of self.old) token) }
+        ensures within { (n : ℕ) → AreWithin n (table_of self.old).threads → OnOk result (AreWithin n (table_of self.new).threads) }
+    {
+        match token {
+            Token::Word(word) => {
+                if is_column(word.as_bytes(), self.threads.len()) {
+                    self.add_thread()?;
+                    return Ok(());
+                }
+                Err(StepError::Refused)
+            }
+            _ => Err(StepError::Refused),
+        }
+    }
+
+    /// Whether a row begins here.
+    pub fn is_row_start(&self) -> bool
+        ensures { result ≡ is_row_start (table_of self.now) }
+    {
+        self.column == 0 && self.cell.is_begin()
+    }
+
+    /// Whether the cell can end here.
+    pub fn is_cell_whole(&self) -> bool
+        ensures { result ≡ can_end (table_of self.now).hole }
+    {
+        self.cell.can_end()
+    }
+
+    // The rule that a word breaks which cannot stand here.
+    fn word_rule(&self, is_alone: bool, word: &[u8]) -> LitmusRule
+        ensures { result ≡ rule_of_word is_alone (table_of self.now) word.now }
+    {
+        if self.is_row_start() && !is_alone && is_filter(word) {
+            return LitmusRule::Filter;
+        }
+        if self.cell.want() == Some(Want::Base) && is_register(word) {
+            return LitmusRule::ZeroBase;
+        }
+        LitmusRule::Instruction
+    }
+
+    // The rule that a separator breaks which cannot stand here.
+    fn separator_rule(&self) -> LitmusRule
+        ensures { result ≡ separator_rule (table_of self.now).hole }
+    {
+        if self.cell.can_end() {
+            return LitmusRule::Columns;
+        }
+        LitmusRule::Instruction
+    }
+
+    /// The rule that a token breaks which cannot stand here, in a table or in the text of a thread alone.
+    pub fn rule(&self, is_alone: bool, token: &Token) -> LitmusRule
+        ensures { result ≡ rule_at is_alone (table_of self.now) token.now }
+    {
+        match token {
+            Token::Mark(Mark::Semicolon) => self.separator_rule(),
+            Token::Mark(Mark::Bar) => self.separator_rule(),
+            Token::Word(word) => self.word_rule(is_alone, word.as_bytes()),
+            Token::Number(is_negative, digits) => {
+                if self.cell.want() == Some(Want::Zero) && is_int(*is_negative, digits.as_bytes()) {
+                    return LitmusRule::Offset;
+                }
+                LitmusRule::Instruction
+            }
+            _ => LitmusRule::Instruction,
+        }
+    }
+
+    /// Takes a token that stands at this byte. After an `Err` the table takes no more.
+    pub fn step(&mut self, token: Token, place: usize) -> Result<(), StepError>
+        // It does what the machine does.
+        ensures steps { Steps result self.new (step (table_of self.old) token place) }
+        // What it keeps of this token stands at this byte.
+        ensures within { (n : ℕ) → place ≤ n → AreWithin n (table_of self.old).threads → OnOk result (AreWithin n (table_of self.new).threads) }
+    {
+        let cell = mem::replace(&mut self.cell, Cell::Whole);
+        self.cell = self.cell_after(cell, token, place)?;
+        Ok(())
+    }
+
+    // The cell after a token.
+    fn cell_after(&mut self, cell: Cell, token: Token, place: usize) -> Result<Cell, StepError>
+        ensures { Cells result self.new (hole_step (threads_of self.old.threads.items) self.old.column (hole_of cell) token place) }
+    {
+        match cell {
+            Cell::Begins => self.cell_begun(token, place),
+            Cell::Labelled => self.instruction_begun(token, place),
+            Cell::Within(pending) => {
+                let pending = pending.take(&token)?;
+                self.operand_read(pending, place)
+            }
+            Cell::WantsLabel(condition) => self.target_read(condition, token, place),
+            Cell::Whole => self.cell_ended(&token),
+        }
+    }
+
+    // A token where a cell begins.
+    fn cell_begun(&mut self, token: Token, place: usize) -> Result<Cell, StepError>
+        ensures { Cells result self.new (cell (threads_of self.old.threads.items) self.old.column token place) }
+    {
+        match token {
+            Token::Label(name) => {
+                self.put(Step::Label(name), place)?;
+                Ok(Cell::Labelled)
+            }
+            other => self.instruction_begun(other, place),
+        }
+    }
+
+    // A token where an instruction may begin, or the cell may end.
+    fn instruction_begun(&mut self, token: Token, place: usize) -> Result<Cell, StepError>
+        ensures { Cells result self.new (begins (threads_of self.old.threads.items) self.old.column token place) }
+    {
+        match token {
+            Token::Word(word) => self.word_read(opcode_of(word.as_bytes()), place),
+            other => self.cell_ended(&other),
+        }
+    }
+
+    // The word of an instruction.
+    fn word_read(&mut self, opcode: Option<Opcode>, place: usize) -> Result<Cell, StepError>
+        ensures { Cells result self.new (operation (threads_of self.old.threads.items) self.old.column place opcode) }
+    {
+        match opcode {
+            Some(Opcode::Data(opcode)) => Ok(Cell::Within(Pending::new(self.alloc, opcode))),
+            Some(Opcode::Branch(condition)) => Ok(Cell::WantsLabel(condition)),
+            Some(Opcode::Fence(fence)) => self.finish(Instruction::Fence(fence), place),
+            None => Err(StepError::Refused),
+        }
+    }
+
+    // An instruction with a token more, which ends with what it wants.
+    fn operand_read(&mut self, pending: Pending, place: usize) -> Result<Cell, StepError>
+        ensures { Cells result self.new (operand (threads_of self.old.threads.items) self.old.column (Some (pending_of pending)) place) }
+    {
+        match pending.want() {
+            Some(_) => Ok(Cell::Within(pending)),
+            None => self.finish(pending.instruction(), place),
+        }
+    }
+
+    // The label that a branch names.
+    fn target_read(
+        &mut self,
+        condition: Option<BranchCondition>,
+        token: Token,
+        place: usize,
+    ) -> Result<Cell, StepError>
+        ensures { Cells result self.new (target_read (threads_of self.old.threads.items) self.old.column condition token place) }
+    {
+        match token {
+            Token::Word(label) => {
+                let branch = match condition {
+                    Some(condition) => Instruction::BranchIf { condition, label },
+                    None => Instruction::Branch { label },
+                };
+                self.finish(branch, place)
+            }
+            _ => Err(StepError::Refused),
+        }
+    }
+
+    fn finish(&mut self, instruction: Instruction, place: usize) -> Result<Cell, StepError>
+        ensures { Cells result self.new (finished (threads_of self.old.threads.items) self.old.column instruction place) }
+    {
+        self.put(Step::Instruction(instruction), place)?;
+        Ok(Cell::Whole)
+    }
+
+    // Adds a step to the thread whose cell is read.
+    fn put(&mut self, step: Step, place: usize) -> Result<(), AllocError>
+        ensures threads { IfOk result (λ _. threads_of self.new.threads.items ≡ put_at self.old.column step place (threads_of self.old.threads.items)) }
+        ensures column { self.new.column ≡ self.old.column }
+    {
+        if self.column < self.threads.len() {
+            self.threads[self.column].push(step, place)?;
+        }
+        Ok(())
+    }
+
+    // Whether no cell of the row follows.
+    fn is_last(&self) -> bool
+        ensures { result ≡ is_last (threads_of self.now.threads.items) self.now.column }
+    {
+        self.threads.len() <= self.column.saturating_add(1)
+    }
+
+    // A token behind a cell that is whole.
+    fn cell_ended(&mut self, token: &Token) -> Result<Cell, StepError>
+        ensures { Cells result self.new (ended (threads_of self.old.threads.items) self.old.column token.now) }
+    {
+        match token {
+            Token::Mark(Mark::Semicolon) => {
+                if !self.is_last() {
+                    return Err(StepError::Refused);
+                }
+                self.column = 0;
+                Ok(Cell::Begins)
+            }
+            Token::Mark(Mark::Bar) => {
+                if self.is_last() {
+                    return Err(StepError::Refused);
+                }
+                self.column = self.column.saturating_add(1);
+                Ok(Cell::Begins)
+            }
+            _ => Err(StepError::Refused),
+        }
+    }
+
+    /// Makes the later checks, thread by thread.
+    pub fn check_labels(&self) -> Result<Option<LateFault>, AllocError>
+        ensures { (n : ℕ) → AreWithin n (table_of self.now).threads → IfOk result (IsFoundWithin n) }
+    {
+        for thread in &self.threads {
+            if let Some(fault) = thread.check_labels(self.alloc)? {
+                return Ok(Some(fault));
+            }
+        }
+        Ok(None)
+    }
+
+    /// The threads, without their places.
+    pub fn into_threads(self) -> Result<Vec<Thread>, AllocError> {
+        let mut threads = Vec::new(self.alloc);
+        for thread in self.threads {
+            threads.push(thread.into_thread())?;
+        }
+        Ok(threads)
+    }
+
+    /// The first thread, without its places: the only one of a thread's text alone.
+    pub fn into_thread(self) -> Thread {
+        for thread in self.threads {
+            return thread.into_thread();
+        }
+        Thread {
+            steps: Vec::new(self.alloc),
+        }
+    }
+}
