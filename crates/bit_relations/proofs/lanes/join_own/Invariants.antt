@@ -1,4 +1,4 @@
-use Rattle.std.proofs.Common.{◌*◌, ◌≡◌, length}
+use Rattle.std.proofs.Common.{◌*◌}
 use Rattle.bit_relations.specs.Rows.{RowsHave, AreWritten, Taken}
 use Rattle.bit_relations.proofs.lanes.join_own.Given as goal
 
