@@ -3,4 +3,5 @@ pub mod Kinds
 pub mod Faults
 pub mod Verdict
 pub mod Seen
+pub mod Numbers
 pub mod Trees

@@ -1,5 +1,8 @@
 //! Why a model has no meaning.
 
+ghost use Rattle.std.specs.Prelude.{◌≡◌};
+ghost use Rattle.binding_graph.specs.Numbers.{number};
+
 use std::alloc::AllocError;
 use thiserror::Error;
 
@@ -17,7 +20,9 @@ pub enum ModelFault {
 
 impl ModelFault {
     /// The number that it is printed with, from 1 to 7.
-    pub fn number(self) -> u8 {
+    pub fn number(self) -> u8
+        ensures { result ≡ number self }
+    {
         match self {
             ModelFault::Unbound => 1,
             ModelFault::Kind => 2,

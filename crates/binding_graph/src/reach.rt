@@ -1,17 +1,20 @@
 //! What an item uses, and which items are used.
 
-ghost use Rattle.std.specs.Prelude.{◌≡◌, ◌<◌, length, vec_len, All, IfOk};
+ghost use Rattle.std.specs.Prelude.{◌≡◌, ◌<◌, ◌≤◌, [], get_or, length, vec_len, All, IfOk};
 
 use crate::resolved::{Input, Resolved, ResolvedItem, Role};
 use std::alloc::{AllocError, Global};
 
 /// The names of other items that the item at that place uses, each once, in the order of first
 /// use: none where no item stands there.
-pub fn inputs_of(resolved: &Resolved, item: usize) -> &[Input] {
-    match resolved.items.get(item) {
-        Some(one) => one.inputs.as_slice(),
-        None => &[],
+pub fn inputs_of(resolved: &Resolved, item: usize) -> &[Input]
+    ensures inputs { (other : ResolvedItem) → item < vec_len resolved.now.items → result.now ≡ (get_or resolved.now.items.items item other).inputs.items }
+    ensures none { vec_len resolved.now.items ≤ item → result.now ≡ [] }
+{
+    if item >= resolved.items.len() {
+        return &[];
     }
+    resolved.items[item].inputs.as_slice()
 }
 
 fn is_check(item: &ResolvedItem) -> bool {
