@@ -5,3 +5,15 @@ pub mod Applied
 pub mod PrintedTrees
 pub mod Printed
 pub mod Named
+pub mod Branches
+pub mod Sound
+pub mod Runs
+pub mod Groups
+pub mod SoundItems
+pub mod Complete
+pub mod CompleteItems
+pub mod Finishes
+pub mod Shapes
+pub mod Faults
+pub mod Outcomes
+pub mod Readers

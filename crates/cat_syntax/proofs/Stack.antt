@@ -22,8 +22,9 @@ use Rattle.cat_syntax.specs.declared.token.Token.TheVariants as tokens
 use Rattle.cat_syntax.specs.Value.{Term, Join, Not, Apply, OneMore, gathered}
 use Rattle.cat_syntax.specs.declared.frames.Frame as code_frame
 use Rattle.cat_syntax.specs.Machine as machine
-use Rattle.cat_syntax.specs.Machine.{level}
-use Rattle.cat_syntax.specs.Reading.{term_of, terms_of, frame_of, stacked, stack_of, is_open, is_no_bracket, limits, Feeds}
+use Rattle.cat_syntax.specs.Grammar.{level}
+use Rattle.cat_syntax.specs.Reading.{term_of, terms_of, frame_of, stacked, stack_of, is_open, is_no_bracket, Feeds}
+use Rattle.cat_syntax.specs.Grammar.{limits}
 
 pub stacked-push : (fs : List code_frame.Frame) (f : code_frame.Frame) (below : List machine.Frame) → stacked (fs ++ f ∷ []) below ≡ frame_of f ∷ stacked fs below
 stacked-push [] f below = refl

@@ -18,11 +18,11 @@ use Rattle.cat_syntax.specs.declared.token.Token.TheVariants as tokens
 use Rattle.cat_syntax.specs.declared.lexer.Front.{Front}
 use Rattle.cat_syntax.specs.declared.lexer.Front.TheVariants.{Layout, Lexeme}
 use Rattle.cat_syntax.specs.Lexer.{front}
-use Rattle.cat_syntax.specs.Machine.{Limits}
+use Rattle.cat_syntax.specs.Grammar.{Limits, Placed}
 use Rattle.cat_syntax.specs.ItemMachine.{State, step, start}
-use Rattle.cat_syntax.specs.Reading.{limits}
-use Rattle.cat_syntax.specs.Grammar.{Placed}
-use Rattle.cat_syntax.specs.ReadingTexts.{after_front, tokens_from, Ran, placed, and_then, run, items_of, reading, lexed, FailsAt, last_item, the_item}
+use Rattle.cat_syntax.specs.Grammar.{limits}
+use Rattle.cat_syntax.specs.ReadingTexts.{after_front, tokens_from, reading, lexed, FailsAt}
+use Rattle.cat_syntax.specs.Running.{Ran, placed, and_then, run, items_of}
 
 -- passing over bytes
 pub tokens_skip : (k place : ℕ) (bs : List ℕ) → k ≤ length bs → tokens_from k place bs ≡ tokens_from 0 (place + k) (drop k bs)
@@ -119,20 +119,3 @@ fits form bytes le =
 pub refused : (form : Form) (bytes : List ℕ) (d : CatFault) → length bytes ≤ 65536 → FailsAt d (run limits form 0 (start form) (lexed bytes)) → FailsAt d (reading form bytes)
 refused form bytes (faults.OutOfMemory x) le fails = tt
 refused form bytes (faults.Refused rule place) le fails = fits form bytes le ∙ ap items_of fails
-
--- the item that was pushed last
-pub last_pushed : (n : ℕ) (xs : List Item) (x : Item) → last_item n (clauses_of (xs ++ x ∷ [])) ≡ Ok (clause_of x)
-last_pushed n [] x = refl
-last_pushed n (y ∷ []) x = refl
-last_pushed n (y ∷ z ∷ xs) x = last_pushed n (z ∷ xs) x
-
-pub popped_item : (n : ℕ) (all rest : List Item) (x : Item) (made : Result (List Clause) (CatRule × ℕ)) → made ≡ Ok (clauses_of all) → all ≡ rest ++ x ∷ [] → the_item n made ≡ Ok (clause_of x)
-popped_item n all rest x made read split =
-    ap (the_item n) read ∙ ap (λ (is : List Item). last_item n (clauses_of is)) split ∙ last_pushed n rest x
-
-pub no_item : (n : ℕ) (all : List Item) (made : Result (List Clause) (CatRule × ℕ)) → made ≡ Ok (clauses_of all) → all ≡ [] → the_item n made ≡ Err (Syntax, n)
-no_item n all made read none = ap (the_item n) read ∙ ap (λ (is : List Item). last_item n (clauses_of is)) none
-
-pub item_refused : (n : ℕ) (d : CatFault) (made : Result (List Clause) (CatRule × ℕ)) → FailsAt d made → FailsAt d (the_item n made)
-item_refused n (faults.OutOfMemory x) made fails = tt
-item_refused n (faults.Refused rule place) made fails = ap (the_item n) fails

@@ -1,6 +1,5 @@
 -- How the reader goes from token to token over items.
-use Rattle.std.specs.Prelude.{ℕ, ◌+◌, List, [], ◌∷◌, ◌++◌, Bool, true, false, ◌==◌, Option, Some, None, Result, Ok, Err, length, nat_lt, codes, if◌then◌else◌}
-use Rattle.std.specs.Str.{bytes_eq}
+use Rattle.std.specs.Prelude.{ℕ, ◌+◌, List, [], ◌∷◌, ◌++◌, Bool, true, false, ◌==◌, Option, Some, None, Result, Ok, Err, length, nat_lt, if◌then◌else◌}
 use Rattle.cat_syntax.specs.declared.fault.CatRule.{CatRule}
 use Rattle.cat_syntax.specs.declared.fault.CatRule.TheVariants as rules
 use Rattle.cat_syntax.specs.declared.model.CheckWord.{CheckWord}
@@ -11,7 +10,8 @@ use Rattle.cat_syntax.specs.declared.token.Token.{Token}
 use Rattle.cat_syntax.specs.declared.token.Token.TheVariants as tokens
 use Rattle.cat_syntax.specs.Value.{Term, Clause, Binding, Function, Checking, Flagging, Showing, Including, Checked}
 use Rattle.cat_syntax.specs.Machine as machine
-use Rattle.cat_syntax.specs.Machine.{Limits, rule_of}
+use Rattle.cat_syntax.specs.Grammar.{Limits, has_no_effect}
+use Rattle.cat_syntax.specs.Machine.{rule_of}
 
 -- the bindings of a let so far
 pub record Group : Type 0 where
@@ -85,9 +85,9 @@ begin_item tokens.Include = Ok AfterInclude
 begin_item t = refuses t
 
 -- the rule that one more item breaks, if it breaks one
-abbrev pub excess : Form → ℕ → Option CatRule
-excess forms.Model n = if nat_lt n 256 then None else Some rules.TooMany
-excess forms.Item n = if nat_lt n 1 then None else Some rules.Syntax
+abbrev pub excess : Limits → Form → ℕ → Option CatRule
+excess most forms.Model n = if nat_lt n most.items then None else Some rules.TooMany
+excess most forms.Item n = if nat_lt n 1 then None else Some rules.Syntax
 
 abbrev pub unless : Option CatRule → Result Part Fault → Result Part Fault
 unless None p = p
@@ -99,15 +99,15 @@ end_of forms.Model n = Ok Done
 end_of forms.Item n = if n == 0 then Err (Here rules.Syntax) else Ok Done
 
 -- a token where an item may begin or the text may end
-abbrev pub item_or_end : Form → ℕ → Token → Result Part Fault
-item_or_end form n tokens.End = end_of form n
-item_or_end form n t = unless (excess form n) (begin_item t)
+abbrev pub item_or_end : Limits → Form → ℕ → Token → Result Part Fault
+item_or_end most form n tokens.End = end_of form n
+item_or_end most form n t = unless (excess most form n) (begin_item t)
 
 -- the first token of a text, which may be a title
-abbrev pub after_title : Form → ℕ → Token → Result Part Fault
-after_title form n (tokens.Name t) = Ok Start
-after_title form n (tokens.Quoted t) = Ok Start
-after_title form n t = item_or_end form n t
+abbrev pub after_title : Limits → Form → ℕ → Token → Result Part Fault
+after_title most form n (tokens.Name t) = Ok Start
+after_title most form n (tokens.Quoted t) = Ok Start
+after_title most form n t = item_or_end most form n t
 
 abbrev pub after_tilde : Bool → Token → Result Part Fault
 after_tilde flagged (tokens.Check w) = Ok (begin_check flagged true w)
@@ -131,13 +131,13 @@ after_keyword tokens.Rec = Ok (InLet (And (fresh true)))
 after_keyword (tokens.Name n) = Ok (InLet (Named n))
 after_keyword t = refuses t
 
-abbrev pub bound_name : Group → Token → Result Part Fault
-bound_name g (tokens.Name n) = if nat_lt (length g.bindings) 64 then Ok (InLet (Bound g n)) else Err (Here rules.TooMany)
-bound_name g t = refuses t
+abbrev pub bound_name : Limits → Group → Token → Result Part Fault
+bound_name most g (tokens.Name n) = if nat_lt (length g.bindings) most.names then Ok (InLet (Bound g n)) else Err (Here rules.TooMany)
+bound_name most g t = refuses t
 
-abbrev pub parameter_read : List ℕ → List (List ℕ) → Token → Result Part Fault
-parameter_read n ps (tokens.Name p) = if nat_lt (length ps) 8 then Ok (InLet (AfterParameter n (ps ++ p ∷ []))) else Err (Here rules.TooMany)
-parameter_read n ps t = refuses t
+abbrev pub parameter_read : Limits → List ℕ → List (List ℕ) → Token → Result Part Fault
+parameter_read most n ps (tokens.Name p) = if nat_lt (length ps) most.parameters then Ok (InLet (AfterParameter n (ps ++ p ∷ []))) else Err (Here rules.TooMany)
+parameter_read most n ps t = refuses t
 
 abbrev pub after_parameter : List ℕ → List (List ℕ) → Token → Result Part Fault
 after_parameter n ps tokens.Comma = Ok (InLet (Parameter n ps))
@@ -159,14 +159,14 @@ abbrev pub after_parameters : List ℕ → List (List ℕ) → Token → Result 
 after_parameters n ps tokens.Equals = Ok (begin_body (FunctionHead n ps))
 after_parameters n ps t = refuses t
 
-abbrev pub after_let : LetPart → Token → Result Part Fault
-after_let Keyword t = after_keyword t
-after_let (Named n) t = after_let_name n t
-after_let (And g) t = bound_name g t
-after_let (Bound g n) t = after_bound g n t
-after_let (Parameter n ps) t = parameter_read n ps t
-after_let (AfterParameter n ps) t = after_parameter n ps t
-after_let (Parameters n ps) t = after_parameters n ps t
+abbrev pub after_let : Limits → LetPart → Token → Result Part Fault
+after_let most Keyword t = after_keyword t
+after_let most (Named n) t = after_let_name n t
+after_let most (And g) t = bound_name most g t
+after_let most (Bound g n) t = after_bound g n t
+after_let most (Parameter n ps) t = parameter_read most n ps t
+after_let most (AfterParameter n ps) t = after_parameter n ps t
+after_let most (Parameters n ps) t = after_parameters n ps t
 
 -- ---- after an item's expression
 
@@ -198,8 +198,8 @@ added is (Err e) next = Err e
 added is (Ok c) next = at (is ++ c ∷ []) (next (length is + 1))
 
 -- a token that ends an item
-abbrev pub item_ended : Form → List Clause → Head → Term → Token → Result State Fault
-item_ended form is h v t = added is (finished h v (rule_of t)) (λ n. item_or_end form n t)
+abbrev pub item_ended : Limits → Form → List Clause → Head → Term → Token → Result State Fault
+item_ended most form is h v t = added is (finished h v (rule_of t)) (λ n. item_or_end most form n t)
 
 abbrev pub unless_before : Option CatRule → Part → Result Part Fault
 unless_before None p = Ok p
@@ -207,8 +207,8 @@ unless_before (Some rules.TooMany) p = Err (Before rules.TooMany)
 unless_before (Some r) p = Err (Here r)
 
 -- the tilde of the next item, which this check word shows, ends an item
-abbrev pub item_ended_by_tilde : Form → List Clause → Head → Term → CheckWord → Result State Fault
-item_ended_by_tilde form is h v w = added is (finished h v rules.Syntax) (λ n. unless_before (excess form n) (begin_check false true w))
+abbrev pub item_ended_by_tilde : Limits → Form → List Clause → Head → Term → CheckWord → Result State Fault
+item_ended_by_tilde most form is h v w = added is (finished h v rules.Syntax) (λ n. unless_before (excess most form n) (begin_check false true w))
 
 abbrev pub and_read : Head → Term → Result Part Fault
 and_read (BoundHead g n) v = Ok (InLet (And (extended g n v)))
@@ -223,11 +223,11 @@ abbrev pub shown_on : Head → Term → Result Part Fault
 shown_on (ShownHead s) v = Ok (begin_body (ShownHead (shown_also s v None)))
 shown_on h v = Err (Here rules.Syntax)
 
-abbrev pub after_body : Form → List Clause → Head → Term → Token → Result State Fault
-after_body form is h v tokens.And = at is (and_read h v)
-after_body form is h v tokens.As = at is (label_begun h v)
-after_body form is h v tokens.Comma = at is (shown_on h v)
-after_body form is h v t = item_ended form is h v t
+abbrev pub after_body : Limits → Form → List Clause → Head → Term → Token → Result State Fault
+after_body most form is h v tokens.And = at is (and_read h v)
+after_body most form is h v tokens.As = at is (label_begun h v)
+after_body most form is h v tokens.Comma = at is (shown_on h v)
+after_body most form is h v t = item_ended most form is h v t
 
 abbrev pub labelled : CheckHead → Term → List ℕ → Clause
 labelled h v n = if h.flagged then Flagging (checked h v) n else Checking (checked h v) (Some n)
@@ -240,12 +240,9 @@ abbrev pub after_show_as : Shown → Term → Token → Result Part Fault
 after_show_as s v (tokens.Name n) = Ok (AfterShowLabel (shown_also s v (Some n)))
 after_show_as s v t = refuses t
 
-abbrev pub after_show_label : Form → List Clause → Shown → Token → Result State Fault
-after_show_label form is s tokens.Comma = at is (Ok (begin_body (ShownHead s)))
-after_show_label form is s t = added is (Ok (shown_clause s)) (λ n. item_or_end form n t)
-
-abbrev pub has_no_effect : List ℕ → Bool
-has_no_effect path = if bytes_eq path (codes "cos.cat") then true else bytes_eq path (codes "stdlib.cat")
+abbrev pub after_show_label : Limits → Form → List Clause → Shown → Token → Result State Fault
+after_show_label most form is s tokens.Comma = at is (Ok (begin_body (ShownHead s)))
+after_show_label most form is s t = added is (Ok (shown_clause s)) (λ n. item_or_end most form n t)
 
 abbrev pub after_include : List Clause → Token → Result State Fault
 after_include is (tokens.Quoted path) =
@@ -255,23 +252,23 @@ after_include is t = refuses t
 -- ---- the whole step
 
 -- what a token did to the expression of an item
-abbrev pub goes_on : Form → List Clause → Head → Token → machine.Fed → Result State Fault
-goes_on form is h t (machine.Goes fs used hole) = at is (Ok (Body h fs used hole))
-goes_on form is h t (machine.Ends v) = after_body form is h v t
-goes_on form is h (tokens.Check w) (machine.EndsTilde v) = item_ended_by_tilde form is h v w
-goes_on form is h t (machine.EndsTilde v) = refuses t
-goes_on form is h t (machine.Refuses k) = Err (Here k)
+abbrev pub goes_on : Limits → Form → List Clause → Head → Token → machine.Fed → Result State Fault
+goes_on most form is h t (machine.Goes fs used hole) = at is (Ok (Body h fs used hole))
+goes_on most form is h t (machine.Ends v) = after_body most form is h v t
+goes_on most form is h (tokens.Check w) (machine.EndsTilde v) = item_ended_by_tilde most form is h v w
+goes_on most form is h t (machine.EndsTilde v) = refuses t
+goes_on most form is h t (machine.Refuses k) = Err (Here k)
 
 abbrev pub step_part : Limits → Form → List Clause → Part → Token → Result State Fault
-step_part most form is Title t = at is (after_title form (length is) t)
-step_part most form is Start t = at is (item_or_end form (length is) t)
-step_part most form is (InLet p) t = at is (after_let p t)
+step_part most form is Title t = at is (after_title most form (length is) t)
+step_part most form is Start t = at is (item_or_end most form (length is) t)
+step_part most form is (InLet p) t = at is (after_let most p t)
 step_part most form is AfterFlag t = at is (after_flag t)
 step_part most form is (AfterTilde flagged) t = at is (after_tilde flagged t)
-step_part most form is (Body h fs used hole) t = goes_on form is h t (machine.feed most fs used hole t)
+step_part most form is (Body h fs used hole) t = goes_on most form is h t (machine.feed most fs used hole t)
 step_part most form is (Label h v) t = after_as is h v t
 step_part most form is (ShowLabel s v) t = at is (after_show_as s v t)
-step_part most form is (AfterShowLabel s) t = after_show_label form is s t
+step_part most form is (AfterShowLabel s) t = after_show_label most form is s t
 step_part most form is AfterInclude t = after_include is t
 step_part most form is Done t = refuses t
 

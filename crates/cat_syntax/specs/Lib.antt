@@ -6,9 +6,11 @@ pub mod Grammar
 pub mod Machine
 pub mod Reading
 pub mod ItemMachine
+pub mod Running
 pub mod ReadingItems
 pub mod ParserState
 pub mod ReadingTexts
 pub mod Printing
 pub mod Written
 pub mod PredefinedNames
+pub mod Reads

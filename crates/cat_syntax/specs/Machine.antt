@@ -12,11 +12,8 @@ use Rattle.cat_syntax.specs.declared.model.Infix.{Infix}
 use Rattle.cat_syntax.specs.declared.model.Infix.TheVariants.{Union, Sequence, Difference, Intersection, Product}
 use Rattle.cat_syntax.specs.declared.model.Postfix.{Postfix}
 use Rattle.cat_syntax.specs.declared.model.Postfix.TheVariants as postfix
+use Rattle.cat_syntax.specs.Grammar.{Limits, level, left_level}
 use Rattle.cat_syntax.specs.Value.{Term, Atom, AllEvents, EmptyRelation, EmptySet, Join, Mark, Not, On, Apply, gathered}
-
-pub record Limits : Type 0 where
-  pub nesting : ℕ
-  pub operators : ℕ
 
 -- what stands open to the left, the innermost first
 pub data Frame : Type 0 where
@@ -65,22 +62,6 @@ abbrev pub postfix_of : mark.Mark → Postfix
 postfix_of Plus = postfix.Transitive
 postfix_of Question = postfix.Reflexive
 postfix_of Inverse = postfix.Inverse
-
--- how tightly an infix operator binds
-abbrev pub level : Infix → ℕ
-level Union = 1
-level Sequence = 2
-level Difference = 3
-level Intersection = 4
-level Product = 5
-
--- how tight a left operand must be: only the operator that groups to the left takes its own level there
-abbrev pub left_level : Infix → ℕ
-left_level Union = 2
-left_level Sequence = 3
-left_level Difference = 3
-left_level Intersection = 5
-left_level Product = 6
 
 abbrev pub open_count : List Frame → ℕ
 open_count [] = 0

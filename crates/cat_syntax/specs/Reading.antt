@@ -16,10 +16,6 @@ use Rattle.cat_syntax.specs.declared.token.Token.TheVariants as tokens
 use Rattle.cat_syntax.specs.Value.{Term, Terms, Atom, AllEvents, EmptyRelation, EmptySet, Join, Mark, Not, On, Apply, NoTerm, OneMore}
 use Rattle.cat_syntax.specs.Machine as machine
 
--- the limits of the reader
-abbrev pub limits : machine.Limits
-limits = record { nesting = 64; operators = 1024 }
-
 abbrev mutual
   -- an expression without where it lies in memory
   pub term_of : Expression → Term

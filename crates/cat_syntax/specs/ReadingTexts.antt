@@ -3,24 +3,22 @@ use Rattle.std.specs.Prelude.{◌≡◌, ℕ, ◌+◌, ◌-◌, List, [], ◌∷
 use Rattle.std.specs.declared.vec.Vec.{Vec}
 use Rattle.std.specs.declared.alloc.Global.{Global}
 use Rattle.cat_syntax.specs.declared.fault.CatRule.{CatRule}
-use Rattle.cat_syntax.specs.declared.fault.CatRule.TheVariants.{TooLong, Syntax}
+use Rattle.cat_syntax.specs.declared.fault.CatRule.TheVariants.{TooLong}
 use Rattle.cat_syntax.specs.declared.fault.CatFault.{CatFault}
 use Rattle.cat_syntax.specs.declared.fault.CatFault.TheVariants as faults
 use Rattle.cat_syntax.specs.declared.parts.Form.{Form}
 use Rattle.cat_syntax.specs.declared.items.Parser.{Parser}
 use Rattle.cat_syntax.specs.declared.model.Item.{Item}
-use Rattle.cat_syntax.specs.declared.model.ModelText.{ModelText}
 use Rattle.cat_syntax.specs.declared.token.Token.{Token}
 use Rattle.cat_syntax.specs.declared.token.Token.TheVariants as tokens
 use Rattle.cat_syntax.specs.declared.lexer.Front.{Front}
 use Rattle.cat_syntax.specs.declared.lexer.Front.TheVariants.{Layout, Lexeme}
 use Rattle.cat_syntax.specs.Lexer.{front}
 use Rattle.cat_syntax.specs.Value.{Clause}
-use Rattle.cat_syntax.specs.Grammar.{Placed}
-use Rattle.cat_syntax.specs.Machine.{Limits}
-use Rattle.cat_syntax.specs.ItemMachine.{Fault, Here, Before, State, start, step}
-use Rattle.cat_syntax.specs.Reading.{limits}
-use Rattle.cat_syntax.specs.ReadingItems.{clause_of, clauses_of}
+use Rattle.cat_syntax.specs.Grammar.{Limits, limits, Placed}
+use Rattle.cat_syntax.specs.ItemMachine.{start}
+use Rattle.cat_syntax.specs.Running.{Ran, run, items_of}
+use Rattle.cat_syntax.specs.ReadingItems.{clauses_of}
 use Rattle.cat_syntax.specs.ParserState.{state_of}
 
 abbrev pub after_front : ℕ → Front → (ℕ → List Placed) → List Placed
@@ -35,28 +33,6 @@ tokens_from zero place (b ∷ bs) = after_front place (front (b ∷ bs)) (λ ski
 
 abbrev pub lexed : List ℕ → List Placed
 lexed bytes = tokens_from 0 0 bytes
-
-abbrev pub Ran : Type 0
-Ran = Result State (CatRule × ℕ)
-
--- a fault of a token at a place, after one at the place before
-abbrev pub placed : ℕ → ℕ → Result State Fault → Ran
-placed before place (Ok s) = Ok s
-placed before place (Err (Here r)) = Err (r, place)
-placed before place (Err (Before r)) = Err (r, before)
-
-abbrev pub and_then : Ran → (State → Ran) → Ran
-and_then (Ok s) f = f s
-and_then (Err e) f = Err e
-
--- the tokens one after another, with the place of the first fault
-abbrev pub run : Limits → Form → ℕ → State → List Placed → Ran
-run most form before s [] = Ok s
-run most form before s (p ∷ ps) = and_then (placed before p.place (step most form s p.token)) (λ s'. run most form p.place s' ps)
-
-abbrev pub items_of : Ran → Result (List Clause) (CatRule × ℕ)
-items_of (Ok s) = Ok s.items
-items_of (Err e) = Err e
 
 -- the items of a text, or the rule that it breaks and where
 unfoldable pub reading : Form → List ℕ → Result (List Clause) (CatRule × ℕ)
@@ -76,21 +52,3 @@ StepsAt (Err e) p made = FailsAt e made
 abbrev pub ReadsTo : Result (Vec Item Global) CatFault → Result (List Clause) (CatRule × ℕ) → Type 0
 ReadsTo (Ok v) made = made ≡ Ok (clauses_of v.items)
 ReadsTo (Err e) made = FailsAt e made
-
-abbrev pub ReadsModel : Result ModelText CatFault → Result (List Clause) (CatRule × ℕ) → Type 0
-ReadsModel (Ok m) made = made ≡ Ok (clauses_of m.items.items)
-ReadsModel (Err e) made = FailsAt e made
-
--- the last item, or the refusal of a text that ends before its item
-abbrev pub last_item : ℕ → List Clause → Result Clause (CatRule × ℕ)
-last_item n [] = Err (Syntax, n)
-last_item n (c ∷ []) = Ok c
-last_item n (c ∷ d ∷ cs) = last_item n (d ∷ cs)
-
-abbrev pub the_item : ℕ → Result (List Clause) (CatRule × ℕ) → Result Clause (CatRule × ℕ)
-the_item n (Ok cs) = last_item n cs
-the_item n (Err e) = Err e
-
-abbrev pub ReadsItem : Result Item CatFault → Result Clause (CatRule × ℕ) → Type 0
-ReadsItem (Ok item) made = made ≡ Ok (clause_of item)
-ReadsItem (Err e) made = FailsAt e made

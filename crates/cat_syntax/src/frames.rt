@@ -1,8 +1,9 @@
 //! What stands open within an expression.
 
 ghost use Rattle.std.specs.Prelude.{◌≡◌, ◌+◌, IfOk};
-ghost use Rattle.cat_syntax.specs.Machine.{level, left_level, open_count, is_outermost, fold_to, opened, infix_at};
-ghost use Rattle.cat_syntax.specs.Reading.{limits, term_of, frame_of, stack_of, Feeds};
+ghost use Rattle.cat_syntax.specs.Machine.{open_count, is_outermost, fold_to, opened, infix_at};
+ghost use Rattle.cat_syntax.specs.Grammar.{limits, level, left_level};
+ghost use Rattle.cat_syntax.specs.Reading.{term_of, frame_of, stack_of, Feeds};
 ghost use Rattle.cat_syntax.specs.declared.token.Token.{Token};
 ghost use Rattle.cat_syntax.specs.declared.frames.StepError.TheVariants.{OutOfMemory};
 

@@ -1,8 +1,9 @@
 //! Reads items, a token after the other.
 
 ghost use Rattle.std.specs.Prelude.{◌≡◌};
-ghost use Rattle.cat_syntax.specs.Reading.{limits, term_of};
-ghost use Rattle.cat_syntax.specs.ItemMachine.{begin_item, excess, unless, item_or_end, after_title, after_tilde, after_flag, has_no_effect, after_include, finished, item_ended, item_ended_by_tilde, after_body, and_read, label_begun, shown_on, after_as, after_show_as, after_show_label, goes_on, step_part, start, step};
+ghost use Rattle.cat_syntax.specs.Grammar.{limits, has_no_effect};
+ghost use Rattle.cat_syntax.specs.Reading.{term_of};
+ghost use Rattle.cat_syntax.specs.ItemMachine.{begin_item, excess, unless, item_or_end, after_title, after_tilde, after_flag, after_include, finished, item_ended, item_ended_by_tilde, after_body, and_read, label_begun, shown_on, after_as, after_show_as, after_show_label, goes_on, step_part, start, step};
 ghost use Rattle.cat_syntax.specs.ReadingItems.{show_of, clause_of, clauses_of, head_of, part_of, Gives, Steps, fed_of, token_of};
 
 use crate::fault::CatRule;
@@ -36,7 +37,7 @@ fn item_begun(alloc: Global, token: Token) -> Result<Part, StepError>
 
 // The rule that one more item breaks, if it breaks one.
 fn excess(form: Form, count: usize) -> Option<CatRule>
-    ensures { result ≡ excess form count }
+    ensures { result ≡ excess limits form count }
 {
     match form {
         Form::Model => {
@@ -58,7 +59,7 @@ fn excess(form: Form, count: usize) -> Option<CatRule>
 
 // The item that begins so, unless it is one too many.
 fn unless_excess(form: Form, count: usize, part: Part) -> Result<Part, StepError>
-    ensures { Gives part_of result (unless (excess form count) (Ok (part_of part))) }
+    ensures { Gives part_of result (unless (excess limits form count) (Ok (part_of part))) }
 {
     match excess(form, count) {
         Some(rule) => Err(StepError::Refused(rule)),
@@ -68,7 +69,7 @@ fn unless_excess(form: Form, count: usize, part: Part) -> Result<Part, StepError
 
 // A token where an item may begin or the text may end.
 fn item_or_end(alloc: Global, form: Form, count: usize, token: Token) -> Result<Part, StepError>
-    ensures { Gives part_of result (item_or_end form count token) }
+    ensures { Gives part_of result (item_or_end limits form count token) }
 {
     match token {
         Token::End => {
@@ -86,7 +87,7 @@ fn item_or_end(alloc: Global, form: Form, count: usize, token: Token) -> Result<
 
 // The first token of a text, which may be a title.
 fn title_read(alloc: Global, form: Form, count: usize, token: Token) -> Result<Part, StepError>
-    ensures { Gives part_of result (after_title form count token) }
+    ensures { Gives part_of result (after_title limits form count token) }
 {
     match token {
         Token::Name(_) => Ok(Part::Start),
@@ -173,7 +174,7 @@ fn item_ended(
     body: Expression,
     token: Token,
 ) -> Result<Part, StepError>
-    ensures { Steps result items.new.items (item_ended form (clauses_of items.old.items) (head_of head) (term_of body) token) }
+    ensures { Steps result items.new.items (item_ended limits form (clauses_of items.old.items) (head_of head) (term_of body) token) }
 {
     let item = finished(head, body, token.rule())?;
     items.push(item)?;
@@ -189,7 +190,7 @@ fn item_ended_by_tilde(
     body: Expression,
     word: CheckWord,
 ) -> Result<Part, StepError>
-    ensures { Steps result items.new.items (item_ended_by_tilde form (clauses_of items.old.items) (head_of head) (term_of body) word) }
+    ensures { Steps result items.new.items (item_ended_by_tilde limits form (clauses_of items.old.items) (head_of head) (term_of body) word) }
 {
     let item = finished(head, body, CatRule::Syntax)?;
     items.push(item)?;
@@ -209,7 +210,7 @@ fn body_read(
     body: Expression,
     token: Token,
 ) -> Result<Part, StepError>
-    ensures { Steps result items.new.items (after_body form (clauses_of items.old.items) (head_of head) (term_of body) token) }
+    ensures { Steps result items.new.items (after_body limits form (clauses_of items.old.items) (head_of head) (term_of body) token) }
 {
     match token {
         Token::And => and_read(head, body),
@@ -300,7 +301,7 @@ fn after_show_label(
     head: ShowHead,
     token: Token,
 ) -> Result<Part, StepError>
-    ensures { Steps result items.new.items (after_show_label form (clauses_of items.old.items) (show_of head) token) }
+    ensures { Steps result items.new.items (after_show_label limits form (clauses_of items.old.items) (show_of head) token) }
 {
     match token {
         Token::Comma => Ok(body_begun(alloc, Head::Show(head))),
@@ -319,7 +320,7 @@ fn fed(
     head: Head,
     fed: Fed,
 ) -> Result<Part, StepError>
-    ensures { Steps result items.new.items (goes_on form (clauses_of items.old.items) (head_of head) (token_of fed) (fed_of fed)) }
+    ensures { Steps result items.new.items (goes_on limits form (clauses_of items.old.items) (head_of head) (token_of fed) (fed_of fed)) }
 {
     match fed {
         Fed::Goes(frames, operators, hole) => Ok(Part::Body(head, frames, operators, hole)),

@@ -1,6 +1,7 @@
 //! Reads what stands before the expressions of a `let`.
 
 ghost use Rattle.std.specs.Prelude.{◌≡◌, [], IfOk};
+ghost use Rattle.cat_syntax.specs.Grammar.{limits};
 ghost use Rattle.cat_syntax.specs.Reading.{term_of};
 ghost use Rattle.cat_syntax.specs.ItemMachine.{fresh, extended, group_clause, after_keyword, bound_name, parameter_read, after_parameter, after_let_name, after_bound, after_parameters, after_let};
 ghost use Rattle.cat_syntax.specs.ReadingItems.{group_of, clause_of, let_of, part_of, Gives};
@@ -98,7 +99,7 @@ fn keyword_read(alloc: Global, token: Token) -> Result<Part, StepError>
 
 // The next name of a group.
 fn bound_name(group: Group, token: Token) -> Result<Part, StepError>
-    ensures { Gives part_of result (bound_name (group_of group) token) }
+    ensures { Gives part_of result (bound_name limits (group_of group) token) }
 {
     match token {
         Token::Name(name) => {
@@ -112,7 +113,7 @@ fn bound_name(group: Group, token: Token) -> Result<Part, StepError>
 }
 
 fn parameter_read(name: Name, parameters: Vec<Name>, token: Token) -> Result<Part, StepError>
-    ensures { Gives part_of result (parameter_read name parameters.items token) }
+    ensures { Gives part_of result (parameter_read limits name parameters.items token) }
 {
     match token {
         Token::Name(parameter) => {
@@ -175,7 +176,7 @@ fn after_parameters(
 
 /// A token in the head of a `let`.
 pub fn after_let(alloc: Global, part: LetPart, token: Token) -> Result<Part, StepError>
-    ensures { Gives part_of result (after_let (let_of part) token) }
+    ensures { Gives part_of result (after_let limits (let_of part) token) }
 {
     match part {
         LetPart::Keyword => keyword_read(alloc, token),

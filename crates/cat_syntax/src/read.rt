@@ -1,12 +1,16 @@
 //! Reads a text.
 
-ghost use Rattle.std.specs.Prelude.{◌≡◌, ℕ, ◌<◌, ◌≤◌, length, IfOk, IfErr, MatchResult};
+ghost use Rattle.std.specs.Prelude.{◌≡◌, ℕ, ◌<◌, ◌≤◌, List, [], ◌∷◌, length, IfOk, IfErr, MatchResult};
 ghost use Rattle.cat_syntax.specs.Faults.{IsWithin, IsTooLong, IsMemory};
 ghost use Rattle.cat_syntax.specs.Lexer.{front};
-ghost use Rattle.cat_syntax.specs.Reading.{limits};
+ghost use Rattle.cat_syntax.specs.Grammar.{limits};
 ghost use Rattle.cat_syntax.specs.ItemMachine.{step};
 ghost use Rattle.cat_syntax.specs.ParserState.{state_of};
-ghost use Rattle.cat_syntax.specs.ReadingTexts.{placed, reading, the_item, StepsAt, ReadsTo, ReadsModel, ReadsItem};
+ghost use Rattle.cat_syntax.specs.ReadingItems.{clause_of, clauses_of};
+ghost use Rattle.cat_syntax.specs.ReadingTexts.{reading, StepsAt, ReadsTo};
+ghost use Rattle.cat_syntax.specs.Reads.{Reads, IsFaultOf};
+ghost use Rattle.cat_syntax.specs.Running.{placed};
+ghost use Rattle.cat_syntax.specs.Value.{Clause};
 
 use crate::fault::{CatFault, CatRule};
 use crate::frames::StepError;
@@ -80,30 +84,54 @@ fn read_all(alloc: Global, bytes: &[u8], form: Form) -> Result<Vec<Item>, CatFau
     }
 }
 
+// The items of a text, as the grammar has them.
+fn read_text(alloc: Global, bytes: &[u8], form: Form) -> Result<Vec<Item>, CatFault>
+    ensures found { IfOk result (λ v. Reads form bytes.now (clauses_of v.items)) }
+    ensures only { (v : List Clause) → Reads form bytes.now v → MatchResult result (λ w. clauses_of w.items ≡ v) IsMemory }
+    ensures fault { IfErr result (IsFaultOf form bytes.now) }
+    ensures within { IfErr result (λ e. IsWithin (length bytes.now) e) }
+    ensures too_long { 65536 < length bytes.now → MatchResult result (λ _. ⊥) IsTooLong }
+{
+    read_all(alloc, bytes, form)
+}
+
 /// The model that a text means: an optional title, and its items. A refusal names the rule that the text breaks and
 /// the place of the first token that cannot stand, which is the text's length where it ends too early.
 pub fn read_model(alloc: Global, bytes: &[u8]) -> Result<ModelText, CatFault>
-    // The items are those that the tokens lead to, or the first refusal.
-    ensures reads { ReadsModel result (reading Form.Model bytes.now) }
-    // A refusal stands within the text, or at its end.
+    // What is read is what the text means.
+    ensures found { IfOk result (λ m. Reads Form.Model bytes.now (clauses_of m.items.items)) }
+    // What means some items is read so, unless memory runs out.
+    ensures only { (v : List Clause) → Reads Form.Model bytes.now v → MatchResult result (λ m. clauses_of m.items.items ≡ v) IsMemory }
+    // A refusal stands where the text stops to begin one, and has the number of the rule that is broken there.
+    ensures fault { IfErr result (IsFaultOf Form.Model bytes.now) }
+    // It stands within the text, or at its end.
     ensures within { IfErr result (λ e. IsWithin (length bytes.now) e) }
     // The length is looked at first.
     ensures too_long { 65536 < length bytes.now → MatchResult result (λ _. ⊥) IsTooLong }
 {
-    let items = read_all(alloc, bytes, Form::Model)?;
-    Ok(ModelText { items })
+    match read_text(alloc, bytes, Form::Model) {
+        Ok(items) => Ok(ModelText { items }),
+        Err(fault) => Err(fault),
+    }
 }
 
 /// The one item that a text means, which has no title.
 pub fn read_item(alloc: Global, bytes: &[u8]) -> Result<Item, CatFault>
-    // The item is the one that the tokens lead to, or the first refusal.
-    ensures reads { ReadsItem result (the_item (length bytes.now) (reading Form.Item bytes.now)) }
-    // A refusal stands within the text, or at its end.
+    // What is read is the item that the text means.
+    ensures found { IfOk result (λ item. Reads Form.Item bytes.now (clause_of item ∷ [])) }
+    // What means an item is read so, unless memory runs out.
+    ensures only { (v : Clause) → Reads Form.Item bytes.now (v ∷ []) → MatchResult result (λ item. clause_of item ≡ v) IsMemory }
+    // A refusal stands where the text stops to begin an item's, and has the number of the rule that is broken there.
+    ensures fault { IfErr result (IsFaultOf Form.Item bytes.now) }
+    // It stands within the text, or at its end.
     ensures within { IfErr result (λ e. IsWithin (length bytes.now) e) }
     // The length is looked at first.
     ensures too_long { 65536 < length bytes.now → MatchResult result (λ _. ⊥) IsTooLong }
 {
-    let mut items = read_all(alloc, bytes, Form::Item)?;
+    let mut items = match read_text(alloc, bytes, Form::Item) {
+        Ok(items) => items,
+        Err(fault) => return Err(fault),
+    };
     match items.pop() {
         Some(item) => Ok(item),
         None => Err(CatFault::Refused {

@@ -2,7 +2,8 @@
 
 ghost use Rattle.std.specs.Prelude.{◌≡◌, ◌+◌};
 ghost use Rattle.cat_syntax.specs.Machine.{fold_to, operand, after_brace, ended, closed, square_closed, comma_read, after, after_name, after_star, after_star_tilde, feed};
-ghost use Rattle.cat_syntax.specs.Reading.{limits, term_of, stack_of, hole_of, Feeds};
+ghost use Rattle.cat_syntax.specs.Grammar.{limits};
+ghost use Rattle.cat_syntax.specs.Reading.{term_of, stack_of, hole_of, Feeds};
 ghost use Rattle.cat_syntax.specs.declared.token.Token.TheVariants.{Close, CloseSquare, Comma};
 
 use crate::fault::CatRule;

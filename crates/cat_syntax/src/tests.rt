@@ -123,3 +123,27 @@ fn models_are_printed(rt: HostRuntime) -> Result<(), Fail> {
     assert_eq!(rt; printed.as_slice(), wanted.as_slice());
     Ok(())
 }
+
+#[test]
+fn the_first_token_of_what_is_too_many_is_refused(rt: HostRuntime) -> Result<(), Fail> {
+    expect_repeated(
+        &rt,
+        b"",
+        b"acyclic po ",
+        255,
+        b"acyclic po* ~acyclic po",
+        "C5 2817",
+    )?;
+    expect_repeated(
+        &rt,
+        b"",
+        b"acyclic po ",
+        254,
+        b"acyclic po* ~acyclic po",
+        "read 256",
+    )?;
+    expect_repeated(&rt, b"let a = po", b" and a = po", 63, b" and )", "C2 708")?;
+    expect(&rt, b"let f(a,b,c,d,e,f,g,h,) = a", "C2 22")?;
+    expect(&rt, b"let a = b and f(x) = x", "C4 15")?;
+    Ok(())
+}

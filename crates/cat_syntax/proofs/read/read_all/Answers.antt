@@ -1,7 +1,8 @@
 use Rattle.std.proofs.Common.{◌≡◌, ◌+◌, List, Ok, ap, sym, subst, ◌∙◌, arith, min, ◌-◌, length}
 use Rattle.cat_syntax.specs.ParserState.{state_of}
-use Rattle.cat_syntax.specs.Reading.{limits}
-use Rattle.cat_syntax.specs.ReadingTexts.{items_of, placed, FailsAt}
+use Rattle.cat_syntax.specs.Grammar.{limits}
+use Rattle.cat_syntax.specs.ReadingTexts.{FailsAt}
+use Rattle.cat_syntax.specs.Running.{items_of, placed}
 use Rattle.cat_syntax.specs.ItemMachine.{step}
 use Rattle.cat_syntax.specs.Value.{Clause}
 use Rattle.cat_syntax.specs.declared.token.Token.TheVariants.{End}

@@ -1,0 +1,114 @@
+-- What the reader answers is what the grammar says.
+use Rattle.std.proofs.Common.{◌≡◌, ℕ, zero, suc, ◌+◌, ◌-◌, ◌<◌, ◌≤◌, List, [], ◌∷◌, ◌++◌, length, Result, Ok, Err, refl, sym, ap, ◌∙◌, subst, arith, inl, inr, ◌⊎◌}
+use Rattle.std.specs.Prelude.{IfOk, IfErr, MatchResult}
+use Rattle.std.proofs.lemmas.Bool.{cases_lt}
+use Rattle.std.specs.declared.vec.Vec.{Vec}
+use Rattle.std.specs.declared.alloc.Global.{Global}
+use Rattle.cat_syntax.specs.declared.fault.CatRule.{CatRule}
+use Rattle.cat_syntax.specs.declared.fault.CatRule.TheVariants.{TooLong}
+use Rattle.cat_syntax.specs.declared.fault.CatFault.{CatFault}
+use Rattle.cat_syntax.specs.declared.fault.CatFault.TheVariants as faults
+use Rattle.cat_syntax.specs.declared.lexer.Front.{Front}
+use Rattle.cat_syntax.specs.declared.lexer.Front.TheVariants.{Layout, Lexeme}
+use Rattle.cat_syntax.specs.declared.model.Item.{Item}
+use Rattle.cat_syntax.specs.declared.parts.Form.{Form}
+use Rattle.cat_syntax.specs.declared.parts.Form.TheVariants as forms
+use Rattle.cat_syntax.specs.declared.token.Token.{Token}
+use Rattle.cat_syntax.specs.declared.token.Token.TheVariants.{End}
+use Rattle.cat_syntax.specs.Value.{Clause}
+use Rattle.cat_syntax.specs.Grammar.{Placed, tokens_of, ItemTree}
+use Rattle.cat_syntax.specs.Lexer.{front}
+use Rattle.cat_syntax.specs.Faults.{IsMemory}
+use Rattle.cat_syntax.specs.ReadingItems.{clause_of, clauses_of}
+use Rattle.cat_syntax.specs.ReadingTexts.{after_front, tokens_from, lexed, reading, ReadsTo}
+use Rattle.cat_syntax.specs.Reads.{Reads, FaultAt, IsLong, InText, IsFaultOf}
+use Rattle.cat_syntax.proofs.Texts.{too_long, fits}
+use Rattle.cat_syntax.proofs.Groups.{length-items_meaning}
+use Rattle.cat_syntax.proofs.Outcomes.{no_fault, fault_found, items_found, items_only}
+
+-- the last token of a text is its end
+ends_last : (skip place : ℕ) (bytes : List ℕ) → (ts : List Token) × (tokens_of (tokens_from skip place bytes) ≡ ts ++ End ∷ [])
+unfolding tokens_from
+ends_last skip place [] = ([], refl)
+ends_last (suc skip) place (b ∷ bs) = ends_last skip (place + 1) bs
+ends_last zero place (b ∷ bs) = by_front (front (b ∷ bs)) (λ skip. ends_last skip (place + 1) bs)
+  where
+    by_front : (f : Front) → ((skip : ℕ) → (ts : List Token) × (tokens_of (tokens_from skip (place + 1) bs) ≡ ts ++ End ∷ [])) → (ts : List Token) × (tokens_of (after_front place f (λ skip. tokens_from skip (place + 1) bs)) ≡ ts ++ End ∷ [])
+    by_front (Layout n) k = k (n - 1)
+    by_front (Lexeme t n) k = let r = k (n - 1) in (t ∷ r.0, ap (λ (us : List Token). t ∷ us) r.1)
+
+abbrev kept : List Clause → Result (List Clause) (CatRule × ℕ)
+kept cs = Ok cs
+
+abbrev refused : CatRule × ℕ → Result (List Clause) (CatRule × ℕ)
+refused e = Err e
+
+refused_is : (a b : CatRule × ℕ) → refused a ≡ refused b → a ≡ b
+refused_is a b e = cc
+
+not_both : (e : CatRule × ℕ) (cs : List Clause) → refused e ≡ kept cs → ⊥
+not_both e cs h = absurd cc
+
+module _ (form : Form) (bytes : List ℕ) where
+  pub found : (r : Result (Vec Item Global) CatFault) → ReadsTo r (reading form bytes) → IfOk r (λ v. Reads form bytes (clauses_of v.items))
+  found (Ok v) h = by_length (cases_lt 65536 (length bytes))
+    where
+      by_length : (65536 < length bytes) ⊎ (length bytes ≤ 65536) → Reads form bytes (clauses_of v.items)
+      by_length (inl long) = absurd (not_both (TooLong, 65536) (clauses_of v.items) (sym (too_long form bytes long) ∙ h))
+      by_length (inr le) =
+          let e = ends_last 0 0 bytes in
+          record { short = le; means = items_found form (lexed bytes) e.0 e.1 (clauses_of v.items) (sym (fits form bytes le) ∙ h) }
+  found (Err e) h = tt
+
+  pub only : (r : Result (Vec Item Global) CatFault) → ReadsTo r (reading form bytes) → (v : List Clause) → Reads form bytes v → MatchResult r (λ w. clauses_of w.items ≡ v) IsMemory
+  only (Ok w) h v m = items_only form (lexed bytes) (clauses_of w.items) v (sym (fits form bytes m.short) ∙ h) m.means
+  only (Err (faults.OutOfMemory e)) h v m = tt
+  only (Err (faults.Refused rule place)) h v m = no_fault form (lexed bytes) v rule place m.means (fault_found form (lexed bytes) rule place (sym (fits form bytes m.short) ∙ h))
+
+  pub fault : (r : Result (Vec Item Global) CatFault) → ReadsTo r (reading form bytes) → IfErr r (IsFaultOf form bytes)
+  fault (Ok v) h = tt
+  fault (Err (faults.OutOfMemory e)) h = tt
+  fault (Err (faults.Refused rule place)) h = by_length (cases_lt 65536 (length bytes))
+    where
+      by_length : (65536 < length bytes) ⊎ (length bytes ≤ 65536) → FaultAt form bytes rule place
+      by_length (inl long) =
+          let e : (rule, place) ≡ (TooLong, 65536) = refused_is (rule, place) (TooLong, 65536) (sym h ∙ too_long form bytes long) in
+          IsLong long (ap (λ (p : CatRule × ℕ). p.0) e) (ap (λ (p : CatRule × ℕ). p.1) e)
+      by_length (inr le) = InText le (fault_found form (lexed bytes) rule place (sym (fits form bytes le) ∙ h))
+
+-- ---- one item
+
+many-pushed : (xs : List Item) (x : Item) → length (clauses_of (xs ++ x ∷ [])) ≡ length xs + 1
+many-pushed [] x = refl
+many-pushed (y ∷ xs) x = let i = many-pushed xs x in omega arith
+
+is_one : (bytes : List ℕ) (v : List Clause) → Reads forms.Item bytes v → length v ≡ 1
+is_one bytes v r = sym (ap length r.means.meant) ∙ length-items_meaning r.means.items ∙ r.means.form_is.1
+
+-- the item that a text is, alone
+pub the_one : (bytes : List ℕ) (all rest : List Item) (x : Item) → Reads forms.Item bytes (clauses_of all) → all ≡ rest ++ x ∷ [] → clauses_of all ≡ clause_of x ∷ []
+the_one bytes all [] x r e = ap clauses_of e
+the_one bytes all (y ∷ rest) x r e =
+    let m = many-pushed (y ∷ rest) x in
+    let n : length (clauses_of ((y ∷ rest) ++ x ∷ [])) ≡ 1 = ap (λ (is : List Item). length (clauses_of is)) (sym e) ∙ is_one bytes (clauses_of all) r in
+    absurd (omega arith)
+
+pub item_found : (bytes : List ℕ) (all rest : List Item) (x : Item) → Reads forms.Item bytes (clauses_of all) → all ≡ rest ++ x ∷ [] → Reads forms.Item bytes (clause_of x ∷ [])
+item_found bytes all rest x r e = subst (Reads forms.Item bytes) (the_one bytes all rest x r e) r
+
+abbrev first : Clause → List Clause → Clause
+first d [] = d
+first d (c ∷ cs) = c
+
+pub item_only : (bytes : List ℕ) (all rest : List Item) (x : Item) → Reads forms.Item bytes (clauses_of all) → all ≡ rest ++ x ∷ [] → ((v : List Clause) → Reads forms.Item bytes v → clauses_of all ≡ v) → (v : Clause) → Reads forms.Item bytes (v ∷ []) → clause_of x ≡ v
+item_only bytes all rest x r e h v m = ap (first v) (sym (the_one bytes all rest x r e) ∙ h (v ∷ []) m)
+
+many-clauses : (all : List Item) → length (clauses_of all) ≡ length all
+many-clauses [] = refl
+many-clauses (y ∷ all) = let i = many-clauses all in omega arith
+
+pub some_item : (bytes : List ℕ) (all : List Item) → Reads forms.Item bytes (clauses_of all) → length all ≡ 0 → ⊥
+some_item bytes all r e =
+    let n = is_one bytes (clauses_of all) r in
+    let m = many-clauses all in
+    absurd (omega arith)

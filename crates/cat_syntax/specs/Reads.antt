@@ -1,0 +1,25 @@
+-- What a text reads as, and where it is at fault.
+use Rattle.std.specs.Prelude.{◌≡◌, ℕ, ◌<◌, ◌≤◌, List, length}
+use Rattle.cat_syntax.specs.declared.fault.CatRule.{CatRule}
+use Rattle.cat_syntax.specs.declared.fault.CatRule.TheVariants.{TooLong}
+use Rattle.cat_syntax.specs.declared.fault.CatFault.{CatFault}
+use Rattle.cat_syntax.specs.declared.fault.CatFault.TheVariants.{Refused, OutOfMemory}
+use Rattle.cat_syntax.specs.declared.parts.Form.{Form}
+use Rattle.cat_syntax.specs.Value.{Clause}
+use Rattle.cat_syntax.specs.Grammar.{limits, Means, tokens_of, IsFault}
+use Rattle.cat_syntax.specs.ReadingTexts.{lexed}
+
+-- no text is longer than 65,536 bytes, and its tokens mean these items
+pub record Reads (form : Form) (bytes : List ℕ) (v : List Clause) : Type 0 where
+  pub short : length bytes ≤ 65536
+  pub means : Means limits form (tokens_of (lexed bytes)) v
+
+-- the length is looked at first, and then the tokens
+pub data FaultAt (form : Form) (bytes : List ℕ) (rule : CatRule) (place : ℕ) : Type 0 where
+  IsLong : 65536 < length bytes → rule ≡ TooLong → place ≡ 65536 → FaultAt form bytes rule place
+  InText : length bytes ≤ 65536 → IsFault limits form (lexed bytes) rule place → FaultAt form bytes rule place
+
+-- a refusal is the text's
+abbrev pub IsFaultOf : Form → List ℕ → CatFault → Type 0
+IsFaultOf form bytes (Refused rule place) = FaultAt form bytes rule place
+IsFaultOf form bytes (OutOfMemory e) = Unit {0}
