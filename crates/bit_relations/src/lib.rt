@@ -19,4 +19,6 @@ pub use words::MAX_EVENTS;
 #[cfg(test)]
 mod lists;
 #[cfg(test)]
+mod packed_tests;
+#[cfg(test)]
 mod tests;

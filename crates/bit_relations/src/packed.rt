@@ -1,5 +1,6 @@
 //! Lists of relations, packed.
-ghost use Rattle.std.specs.Prelude.{◌≡◌, ℕ, ◌<◌, ◌≤◌, ◌+◌, ◌++◌, ◌∷◌, [], ◌↔◌, length, slice_index, IsTrue, IfOk};
+ghost use Rattle.std.specs.Prelude.{◌≡◌, ℕ, ◌<◌, ◌≤◌, ◌++◌, ◌∷◌, [], ◌↔◌, length, slice_index_or, IsTrue, OnOk, OnErr};
+ghost use Rattle.bit_relations.specs.Relation.{no_slot};
 
 use crate::rel::Rel;
 use std::alloc::{AllocError, Global};
@@ -15,19 +16,21 @@ pub struct PackedRelations {
 }
 
 impl Model for PackedRelations {
-    ghost use Rattle.std.specs.Prelude.{◌≡◌, ℕ, ◌≤◌, List, length, slice_index};
+    ghost use Rattle.std.specs.Prelude.{List};
+    ghost use Rattle.bit_relations.specs.Relation.{Relation};
+    ghost use Rattle.bit_relations.specs.Packing.{ArePacked, unpacked};
 
-    ghost Value = { List ℕ };
+    ghost Value = { List Relation };
 
-    ghost view = { λ p. p.counts.items };
+    ghost view = { λ p. unpacked p.counts.items p.words.items };
 
-    ghost invariant = { λ p. (length p.starts.items ≡ length p.counts.items) × ((k : ℕ) → slice_index p.counts.items k ≤ 128) };
+    ghost invariant = { λ p. ArePacked p.counts.items p.starts.items p.words.items (unpacked p.counts.items p.words.items) };
 }
 
 impl PackedRelations {
     /// The list with no relation.
     pub fn new(alloc: Global) -> PackedRelations
-        ensures { length result ≡ 0 }
+        ensures { result ≡ [] }
     {
         PackedRelations {
             counts: Vec::new(alloc),
@@ -36,17 +39,18 @@ impl PackedRelations {
         }
     }
 
-    /// Adds a relation at the end.
+    /// Adds a relation at the end. Where memory is out the list stays as it was.
     pub fn push(&mut self, relation: &Rel) -> Result<(), AllocError>
-        ensures { IfOk result (λ _. length self.new ≡ length self.old + 1) }
+        ensures added { OnOk result (self.new ≡ self.old ++ relation.now ∷ []) }
+        ensures kept { OnErr result (self.new ≡ self.old) }
     {
         let count = relation.count() as u8;
+        let start = self.words.len();
         self.counts.reserve(1)?;
         self.starts.reserve(1)?;
-        let start = self.words.len();
         relation.append_to(&mut self.words)?;
-        self.starts.push(start)?;
-        self.counts.push(count)?;
+        self.starts.push_reserved(start);
+        self.counts.push_reserved(count);
         Ok(())
     }
 
@@ -59,7 +63,7 @@ impl PackedRelations {
 
     /// Whether there is none.
     pub fn is_empty(&self) -> bool
-        ensures { IsTrue result ↔ (length self.now ≡ 0) }
+        ensures { IsTrue result ↔ (self.now ≡ []) }
     {
         self.counts.is_empty()
     }
@@ -67,7 +71,7 @@ impl PackedRelations {
     /// The count of one of them.
     pub fn count_at(&self, k: usize) -> usize
         requires { k < length self.now }
-        ensures value { result ≡ slice_index self.now k }
+        ensures value { result ≡ (slice_index_or self.now k no_slot).count }
         ensures few { result ≤ 128 }
     {
         self.counts[k] as usize
@@ -76,22 +80,21 @@ impl PackedRelations {
     /// Writes one of them into a place.
     pub fn read_into(&self, k: usize, place: &mut Rel)
         requires { k < length self.now }
-        ensures { place.new.count ≡ slice_index self.now k }
+        ensures { place.new ≡ slice_index_or self.now k place.new }
     {
         let count = self.counts[k] as usize;
         let start = self.starts[k];
-        let size = if count <= 64 { count } else { 2 * count };
-        let words = self.words.as_slice();
-        if start <= words.len() && size <= words.len() - start {
-            place.read_from(count, words, start);
-        } else {
-            place.clear(count);
-        }
+        place.read_from(count, self.words.as_slice(), start);
     }
 
     /// Whether both have the same relations in the same order.
-    pub fn is_same(&self, other: &PackedRelations) -> bool {
-        self.counts.as_slice() == other.counts.as_slice()
-            && self.words.as_slice() == other.words.as_slice()
+    pub fn is_same(&self, other: &PackedRelations) -> bool
+        ensures { IsTrue result ↔ (self.now ≡ other.now) }
+    {
+        if self.counts.as_slice() == other.counts.as_slice() {
+            self.words.as_slice() == other.words.as_slice()
+        } else {
+            false
+        }
     }
 }

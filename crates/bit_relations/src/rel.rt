@@ -1,5 +1,6 @@
 //! Relations between events.
-ghost use Rattle.std.specs.Prelude.{◌≡◌, ℕ, ◌<◌, ◌≤◌, ◌+◌, ◌↔◌, length, slice_index, IsTrue};
+ghost use Rattle.std.specs.Prelude.{◌≡◌, ℕ, ◌<◌, ◌≤◌, ◌+◌, ◌++◌, ◌↔◌, length, slice_index, IsTrue, OnOk, OnErr};
+ghost use Rattle.bit_relations.specs.Packing.{packed};
 ghost use Rattle.bit_relations.specs.Relation.{Bit, Relation, Has, IsRegular, IsRelation, IsMember};
 ghost use Rattle.bit_relations.specs.Rows.{Stored};
 ghost use Rattle.bit_relations.specs.Pairs.{Added, Identity, Union, Inter, Minus, Composed, Complement, Inverse, Opt, On, Product, Restricted, Plus, Star, IsIrreflexive, IsAcyclic, IsEmpty};
@@ -400,10 +401,17 @@ impl Rel {
         self.keep_within(events);
     }
 
-    /// Appends the words of its rows: the low ones, then the high ones where the count is over 64.
-    pub(crate) fn append_to(&self, words: &mut Vec<u64>) -> Result<(), AllocError> {
-        words.extend_from_slice(words::first(&self.low, self.count))?;
-        words.extend_from_slice(words::first(&self.high, end_of_high(self.count)))?;
+    /// Appends the words of its rows: the low ones, then the high ones where the count is over 64. Where memory is out
+    /// the list stays as it was.
+    pub(crate) fn append_to(&self, list: &mut Vec<u64>) -> Result<(), AllocError>
+        ensures added { OnOk result (list.new.items ≡ list.old.items ++ packed self.now) }
+        ensures kept { OnErr result (list.new.items ≡ list.old.items) }
+    {
+        let low = words::first(&self.low, self.count);
+        let high = words::first(&self.high, end_of_high(self.count));
+        list.reserve(low.len() + high.len())?;
+        list.extend_from_slice(low)?;
+        list.extend_from_slice(high)?;
         Ok(())
     }
 

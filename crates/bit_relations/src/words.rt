@@ -1,5 +1,5 @@
 //! Columns of words: the words below an end change, the others stay.
-ghost use Rattle.std.specs.Prelude.{◌≡◌, ℕ, ◌<◌, ◌≤◌, ◌+◌, ◌↔◌, ◌⊎◌, length, slice_index, IsTrue};
+ghost use Rattle.std.specs.Prelude.{◌≡◌, ℕ, ◌<◌, ◌≤◌, ◌+◌, ◌↔◌, ◌⊎◌, length, slice_index, take, IsTrue};
 ghost use Rattle.bit_relations.specs.Relation.{Bit, joined};
 ghost use Rattle.bit_relations.specs.Rows.{RowsHave, AllFit, AreWritten, Nothing, WithOwn, Filled, Kept, Turned, Read};
 ghost use Rattle.bit_relations.specs.Pairs.{Added, Union, Inter, Minus};
@@ -170,6 +170,7 @@ pub fn are_same(words: &[u64; MAX_EVENTS], others: &[u64; MAX_EVENTS], end: usiz
 /// The words below an end.
 pub fn first(words: &[u64; MAX_EVENTS], end: usize) -> &[u64]
     requires { end ≤ 128 }
+    ensures { result.now ≡ take end words.now }
 {
     &words[..end]
 }
