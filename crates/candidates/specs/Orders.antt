@@ -1,7 +1,10 @@
--- Orders of the stores of one location.
-use Rattle.std.specs.Prelude.{ℕ, ◌≡◌, List, [], ◌∷◌, ◌++◌, map, filter, replicate, length, Bool, false, not, nat_eq}
-use Rattle.std.specs.List.{list_any}
-use Rattle.candidates.specs.Lists.{tuples, IsFiltered}
+-- Orders of the stores of each location, and of all stores.
+use Rattle.std.specs.Prelude.{ℕ, zero, suc, ◌≡◌, ◌+◌, List, [], ◌∷◌, ◌++◌, map, filter, take, replicate, length, Bool, true, false, not, ◌&&◌, cond, is_some, nat_eq}
+use Rattle.std.specs.List.{flat_map, list_any}
+use Rattle.candidates.specs.Lists.{tuples, IsFiltered, joined_with}
+use Rattle.candidates.specs.declared.candidate.Action.{Action}
+use Rattle.candidates.specs.declared.candidate.Action.TheVariants.{Read, Write, Fence}
+use Rattle.candidates.specs.declared.candidate.Event.{Event}
 
 -- whether the list has the store
 abbrev pub has_store : List ℕ → ℕ → Bool
@@ -21,3 +24,35 @@ AreDistinct (x ∷ xs) = (has_store xs x ≡ false) × AreDistinct xs
 abbrev pub AreOrders : ℕ → List ℕ → List (List ℕ) → Type 0
 AreOrders first others orders =
     IsFiltered AreDistinct (tuples [] ((first ∷ []) ∷ replicate (length others) others)) orders
+
+-- the same, as a test
+abbrev pub are_distinct : List ℕ → Bool
+are_distinct [] = true
+are_distinct (x ∷ xs) = not (has_store xs x) && are_distinct xs
+
+abbrev pub orders_of : ℕ → List ℕ → List (List ℕ)
+orders_of first others = filter are_distinct (tuples [] ((first ∷ []) ∷ replicate (length others) others))
+
+-- whether a thread stores to the location
+abbrev pub writes_to : ℕ → Action → Bool
+writes_to location (Read place value) = false
+writes_to location (Write place value) = nat_eq place location
+writes_to location (Fence fence) = false
+
+abbrev pub is_thread_store : ℕ → Event → Bool
+is_thread_store location e = is_some e.thread && writes_to location e.action
+
+-- the numbers of the events that pass the test, where the first one has the number `at`
+abbrev pub numbers : (Event → Bool) → ℕ → List Event → List ℕ
+numbers test at [] = []
+numbers test at (e ∷ es) = cond (test e) (at ∷ numbers test (at + 1) es) (numbers test (at + 1) es)
+
+-- the numbers of the threads' stores of a location, of up to 128 events
+unfoldable pub stores_of : List Event → ℕ → List ℕ
+stores_of events location = numbers (is_thread_store location) 0 (take 128 events)
+
+-- the orders of the stores of the first locations: each of the initial store of a location, which has the number of
+-- the location, and the threads' stores of it, and these after one another, in lexicographic order
+abbrev pub all_orders : List Event → ℕ → List (List ℕ)
+all_orders events zero = [] ∷ []
+all_orders events (suc n) = flat_map (joined_with (orders_of n (stores_of events n))) (all_orders events n)

@@ -1,8 +1,8 @@
 //! The orders of the stores of a combination of runs.
-ghost use Rattle.std.specs.Prelude.{◌≡◌, ◌++◌, IfOk, OnOk};
+ghost use Rattle.std.specs.Prelude.{◌≡◌, ◌++◌, min, IfOk, OnOk};
 ghost use Rattle.std.specs.List.{flat_map};
 ghost use Rattle.candidates.specs.Lists.{lists_of, joined_with};
-ghost use Rattle.candidates.specs.Orders.{with_new, AreOrders};
+ghost use Rattle.candidates.specs.Orders.{with_new, AreOrders, is_thread_store, stores_of, all_orders};
 
 use crate::candidate::{Action, Combination, Event};
 use bit_relations::MAX_EVENTS;
@@ -23,21 +23,27 @@ pub fn order_count(events: &[Event]) -> usize {
     count
 }
 
+/// Whether the event is a store of a thread to the location.
+fn is_store(event: &Event, location: usize) -> bool
+    ensures { result ≡ is_thread_store location event.now }
+{
+    match event.action {
+        Action::Write {
+            location: place,
+            ..
+        } => event.thread.is_some() && place == location,
+        _ => false,
+    }
+}
+
 /// The stores of a location by threads, by their numbers.
-fn stores_at(alloc: Global, events: &[Event], location: usize) -> Result<Vec<u8>, AllocError> {
+fn stores_at(alloc: Global, events: &[Event], location: usize) -> Result<Vec<u8>, AllocError>
+    ensures { IfOk result (λ v. v.items ≡ stores_of events.now location) }
+{
     let mut stores = Vec::new(alloc);
-    for (number, event) in events.iter().take(MAX_EVENTS).enumerate() {
-        if let (
-            Some(_),
-            Action::Write {
-                location: place,
-                ..
-            },
-        ) = (event.thread, event.action)
-        {
-            if place == location {
-                stores.push(number as u8)?;
-            }
+    for number in 0..events.len().min(MAX_EVENTS) {
+        if is_store(&events[number], location) {
+            stores.push(number as u8)?;
         }
     }
     Ok(stores)
@@ -126,7 +132,9 @@ fn with_all(
 
 /// The orders of all stores, in lexicographic order: those of each location after one another,
 /// the initial store first.
-fn orders(alloc: Global, events: &[Event], locations: usize) -> Result<Vec<Vec<u8>>, AllocError> {
+fn orders(alloc: Global, events: &[Event], locations: usize) -> Result<Vec<Vec<u8>>, AllocError>
+    ensures { IfOk result (λ v. lists_of v.items ≡ all_orders events.now (min locations 128)) }
+{
     let mut orders = Vec::new(alloc);
     orders.push(Vec::new(alloc))?;
     for location in 0..locations.min(MAX_EVENTS) {
