@@ -1,4 +1,4 @@
-use crate::{CatFault, print_item, print_model, read_item, read_model};
+use crate::{CatFault, CatRule, print_item, print_model, read_item, read_model};
 use std::process::Abort;
 use std::test::Fail;
 
@@ -55,6 +55,31 @@ fn expect_printed(rt: &(impl Abort + AllocGlobal), text: &[u8], wanted: &[u8]) -
     let item = read_item(rt.alloc(), text)?;
     let printed = print_item(rt.alloc(), &item)?;
     assert_eq!(rt; printed.as_slice(), wanted);
+    Ok(())
+}
+
+// What the first bytes of a text are read as: `.` for a model, and else a letter for how far before the cut the
+// refusal stands, `A` for the cut itself.
+fn cut_letter(rt: &impl AllocGlobal, text: &[u8], count: usize) -> Result<u8, Fail> {
+    match read_model(rt.alloc(), &text[..count.min(text.len())]) {
+        Ok(_) => Ok(b'.'),
+        Err(CatFault::Refused { rule, place }) => {
+            if rule == CatRule::Syntax && place <= count && count - place < 26 {
+                Ok(b'A' + (count - place) as u8)
+            } else {
+                Ok(b'?')
+            }
+        }
+        Err(CatFault::OutOfMemory(error)) => Err(Fail::from(error)),
+    }
+}
+
+fn expect_cuts(rt: &(impl Abort + AllocGlobal), text: &[u8], wanted: &[u8]) -> Result<(), Fail> {
+    let mut given = Vec::new(rt.alloc());
+    for count in 0..wanted.len() {
+        given.push(cut_letter(rt, text, count)?)?;
+    }
+    assert_eq!(rt; given.as_slice(), wanted);
     Ok(())
 }
 
@@ -146,4 +171,46 @@ fn the_first_token_of_what_is_too_many_is_refused(rt: HostRuntime) -> Result<(),
     expect(&rt, b"let f(a,b,c,d,e,f,g,h,) = a", "C2 22")?;
     expect(&rt, b"let a = b and f(x) = x", "C4 15")?;
     Ok(())
+}
+
+#[test]
+fn each_cut_of_sc_is_read_or_refused(rt: HostRuntime) -> Result<(), Fail> {
+    expect_cuts(
+        &rt,
+        b"acyclic po|rf|fr|co as sc\n",
+        b".......AA..A..A..A...BAA...",
+    )
+}
+
+#[test]
+fn each_cut_of_coherence_is_read_or_refused(rt: HostRuntime) -> Result<(), Fail> {
+    expect_cuts(
+        &rt,
+        b"acyclic po-loc|rf|fr|co as coh\n",
+        b".......AA......A..A..A...BAA....",
+    )
+}
+
+#[test]
+fn each_cut_of_power_is_read_or_refused(rt: HostRuntime) -> Result<(), Fail> {
+    expect_cuts(
+        &rt,
+        b"\"Power\"\nlet dp = addr | data\nlet rdw = po-loc & (fre;rfe)\nlet detour = po-loc & (coe;\
+    rfe)\nlet ii0 = dp | rdw | rfi\nlet ci0 = ctrlisync | detour\nlet cc0 = dp | po-loc | ctrl \
+    | (addr;po)\nlet rec ii = ii0 | ci | (ic;ci) | (ii;ii)\nand ic = ii | cc | (ic;cc) | (ii;i\
+    c)\nand ci = ci0 | (ci;ii) | (cc;ci)\nand cc = cc0 | ci | (ci;ic) | (cc;cc)\nlet ppo = (ii \
+    & (R*R)) | (ic & (R*W))\nlet lwfence = (lwsync \\ (W*R)) | (eieio & (W*W))\nlet fence = sy\
+    nc | lwfence\nlet hb = ppo | fence | rfe\nlet prop-base = (fence | (rfe;fence));hb*\nlet p\
+    rop = (prop-base & (W*W)) | (com*;prop-base*;sync;hb*)\nacyclic po-loc | com as scperloc\n\
+    acyclic hb as thinair\nirreflexive fre;prop;hb* as observation\nacyclic co | prop as propa\
+    gation\n",
+        b".BCDEFG..BCAAAAAAA.....AA.....BCAAAAAAAA.......AAAAAAAAAA..BCAAAAAAAAAAA.......AAAAAAAAAA.\
+    .BCAAAAAAAA...AA....AA....BCAAAAAAAA..........AA.......BCAAAAAAAA...AA.......AA.....AAAAAA\
+    AAAA..BCAAAAAAAAAAA....AA...AAAAAAAA..AAAAAAAA..BCAAAAAAA...AA...AAAAAAAA..AAAAAAAA..BCAAA\
+    AAAA....AAAAAAAA..AAAAAAAA..BCAAAAAAA....AA...AAAAAAAA..AAAAAAAA..BCAAAAAAAAAAAAAAAAAAA..A\
+    AAAAAAAAAAAA..BCAAAAAAAAAAAAAAAAAAAAAAAAAAA..AAAAAAAAAAAAAAAA..BCAAAAAAAAAA.....AA........\
+    BCAAAAAAA....AA......AA....BCAAAAAAAAAAAAAAAAAAAAAAAAAAAAAAAAAA.A......AAAAAAAAAAAAAAAAAAA\
+    AAAAAAAA..AAAAAAAAAAAAAAAAAAAAAAAAAAA..BCDEFGAA.......AA....BAA.........BCDEFGAA...BAA....\
+    ....BCDEFGHIJKAA...A....A.....AA............BCDEFGAA...AA.....BAA............",
+    )
 }
