@@ -1,3 +1,4 @@
+pub mod Beginnings
 pub mod Branches
 pub mod Complete
 pub mod Finishes

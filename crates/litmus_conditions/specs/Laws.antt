@@ -1,12 +1,37 @@
--- What was begun can be ended.
-use Rattle.std.specs.Prelude.{◌≡◌, ℕ, List, Some}
+-- What the reader of propositions takes, in terms of the grammar.
+use Rattle.std.specs.Prelude.{◌≡◌, ◌↔◌, ℕ, List, [], ◌∷◌, Bool, true, false, Some}
 use Rattle.litmus_values.specs.Value.{Formula}
 use Rattle.litmus_tokens.specs.declared.token.Token.{Token}
-use Rattle.litmus_conditions.specs.Grammar.{Limits}
-use Rattle.litmus_conditions.specs.ConditionMachine.{Frame, Hole, proposition}
+use Rattle.litmus_tokens.specs.Faults.{Begins}
+use Rattle.litmus_conditions.specs.Grammar.{Limits, IsProposition}
+use Rattle.litmus_conditions.specs.ConditionMachine.{Frame, Hole, Wants, Fed, Goes, Ends, Refuses, feed, proposition}
 
 -- some tokens end the proposition that was begun
 pub record Finishes (most : Limits) (threads : ℕ) (frames : List Frame) (used : ℕ) (hole : Hole) : Type 0 where
   pub rest : List Token
   pub value : Formula
   pub by : proposition most threads frames used hole rest ≡ Some value
+
+abbrev pub are_none : List Token → Bool
+are_none [] = true
+are_none (t ∷ ts) = false
+
+abbrev pub takes_on : (List Frame → ℕ → Hole → Bool) → List Token → Fed → Bool
+takes_on later ts (Goes fs used hole) = later fs used hole
+takes_on later ts (Ends v) = are_none ts
+takes_on later ts Refuses = false
+
+-- whether each of these tokens is taken, one after another
+abbrev pub takes : Limits → ℕ → List Frame → ℕ → Hole → List Token → Bool
+takes most threads fs used hole [] = true
+takes most threads fs used hole (t ∷ ts) = takes_on (λ gs u h. takes most threads gs u h ts) ts (feed most threads fs used hole t)
+
+-- these tokens are a proposition, in a test of so many threads, and the end
+pub record IsPropositionText (most : Limits) (threads : ℕ) (ts : List Token) : Type 0 where
+  pub value : Formula
+  pub text : IsProposition most threads ts value
+
+-- The tokens that are taken are those that begin a proposition. So the first token that is refused is the first with
+-- which the tokens begin none.
+abbrev pub TakesWhatBegins : Limits → ℕ → Type 0
+TakesWhatBegins most threads = (ts : List Token) → (takes most threads [] 0 Wants ts ≡ true) ↔ Begins (IsPropositionText most threads) ts
