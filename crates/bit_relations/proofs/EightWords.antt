@@ -69,17 +69,17 @@ lanes_joined acc select k row long_acc long_select fits =
         let in_ones : i < length ones = rw long_ones lt in
         let in_shifted : i < length shifted = rw long_shifted lt in
         let in_select : i < length select = rw long_select lt in
-        let e5 : get_or shifted i 0 ≡ f_shr (get_or select i 0) k =
+        let shifted_at : get_or shifted i 0 ≡ f_shr (get_or select i 0) k =
         get_or-zip2 f_shr select (replicate 8 k) i 0 0 0 in_select lt ∙ ap (f_shr (get_or select i 0)) (get_or-replicate 8 i k 0 lt) in
-        let e4 : get_or ones i 0 ≡ f_and (f_shr (get_or select i 0) k) 1 =
-        get_or-zip2 f_and shifted (replicate 8 1) i 0 0 0 in_shifted lt ∙ (rw (e5, get_or-replicate {A = ℕ} 8 i 1 0 lt) refl) in
-        let e3 : get_or wide i 0 ≡ f_sub 0 (f_and (f_shr (get_or select i 0) k) 1) =
-        get_or-zip2 f_sub (replicate 8 0) ones i 0 0 0 lt in_ones ∙ (rw (e4, get_or-replicate {A = ℕ} 8 i 0 0 lt) refl) in
-        let e2 : get_or all i 0 ≡ f_and (f_sub 0 (f_and (f_shr (get_or select i 0) k) 1)) row =
-        get_or-zip2 f_and wide (replicate 8 row) i 0 0 0 in_wide lt ∙ (rw (e3, get_or-replicate 8 i row 0 lt) refl) in
-        let e1 : get_or (zip2 f_or acc all) i 0 ≡ f_or (get_or acc i 0) (f_and (f_sub 0 (f_and (f_shr (get_or select i 0) k) 1)) row) =
-        get_or-zip2 f_or acc all i 0 0 0 in_acc in_all ∙ (rw e2 refl) in
-        rw e1 (Bit-spread (get_or acc i 0) (get_or select i 0) k row b fits)
+        let ones_at : get_or ones i 0 ≡ f_and (f_shr (get_or select i 0) k) 1 =
+        get_or-zip2 f_and shifted (replicate 8 1) i 0 0 0 in_shifted lt ∙ (rw (shifted_at, get_or-replicate {A = ℕ} 8 i 1 0 lt) refl) in
+        let wide_at : get_or wide i 0 ≡ f_sub 0 (f_and (f_shr (get_or select i 0) k) 1) =
+        get_or-zip2 f_sub (replicate 8 0) ones i 0 0 0 lt in_ones ∙ (rw (ones_at, get_or-replicate {A = ℕ} 8 i 0 0 lt) refl) in
+        let all_at : get_or all i 0 ≡ f_and (f_sub 0 (f_and (f_shr (get_or select i 0) k) 1)) row =
+        get_or-zip2 f_and wide (replicate 8 row) i 0 0 0 in_wide lt ∙ (rw (wide_at, get_or-replicate 8 i row 0 lt) refl) in
+        let joined_at : get_or (zip2 f_or acc all) i 0 ≡ f_or (get_or acc i 0) (f_and (f_sub 0 (f_and (f_shr (get_or select i 0) k) 1)) row) =
+        get_or-zip2 f_or acc all i 0 0 0 in_acc in_all ∙ (rw all_at refl) in
+        rw joined_at (Bit-spread (get_or acc i 0) (get_or select i 0) k row b fits)
 
 pub stored : (rows lanes : List ℕ) (at n : ℕ) → at + n ≡ 128 → 8 ≤ n → length lanes ≡ 8 → length rows ≡ 128 → IsStored rows at lanes (put_mid at n rows (put_chunk 0 (mid_of at n rows) lanes))
 stored rows lanes at n whole room long height = record {
