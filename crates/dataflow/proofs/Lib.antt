@@ -4,3 +4,6 @@ pub mod Inversion
 pub mod DomainLaw
 pub mod TaintSteps
 pub mod ReachLoop
+pub mod ControlLoop
+pub mod PairLists
+pub mod LinkLists

@@ -9,7 +9,7 @@ use Rattle.dataflow.specs.declared.taints.Taints.{Taints}
 use Rattle.ppc_semantics.specs.Machine.{is_load}
 use Rattle.ppc_semantics.specs.Runs.{executed, nothing}
 use Rattle.dataflow.specs.Chains.{Executed, Place, Register, Cr0, IsOperand, event_place, is_event, LoadReaches}
-use Rattle.dataflow.specs.Taints.{Bit, IsPlace, AreTaints, AreColumns, IsWithinFile, IsStep, word_of, passes_of, reads_of, read_word, noted}
+use Rattle.dataflow.specs.Taints.{Bit, IsPlace, AreTaints, AreColumns, AreColumnsOf, IsUnion, IsWithinFile, IsStep, word_of, passes_of, reads_of, read_word, noted}
 use Rattle.dataflow.proofs.TaintSteps.{read_word-union, noted-step, taints_more, taints_first, with_word_long}
 
 pub same_element : (xs : List RunStep) (k : ℕ) (d e : RunStep) → k < length xs → get_or xs k d ≡ get_or xs k e
@@ -38,86 +38,52 @@ place_lt f j (suc n) e lt = elim (cases_eq j n) [
   | inr ne ↦ let before : event_place f j < event_place f n = place_lt f j n e (omega arith) in omega (arith, place_suc f n)
 ]
 
-pub columns_first : (narrow stored : Bool) (f : Executed) (words : List ℕ) → AreColumns narrow stored f zero words
-columns_first narrow stored f words j lt = absurd (omega arith)
+pub columns_first : (R : Executed → ℕ → ℕ → Type 0) (f : Executed) (words : List ℕ) → AreColumnsOf R f zero words
+columns_first R f words j lt = absurd (omega arith)
 
-pub columns_other : (narrow stored : Bool) (f : Executed) (n : ℕ) (words : List ℕ) → is_event (f n) ≡ false → AreColumns narrow stored f n words → AreColumns narrow stored f (suc n) words
-columns_other narrow stored f n words none old j lt ev e = elim (cases_eq j n) [
+pub columns_other : (R : Executed → ℕ → ℕ → Type 0) (f : Executed) (n : ℕ) (words : List ℕ) → is_event (f n) ≡ false → AreColumnsOf R f n words → AreColumnsOf R f (suc n) words
+columns_other R f n words none old j lt ev e = elim (cases_eq j n) [
   | inl same ↦ absurd (false≢true (sym none ∙ subst (λ (k : ℕ). is_event (f k) ≡ true) same ev))
   | inr ne ↦ old j (omega arith) ev e
 ]
 
-within : (stored : Bool) (i : Instruction) → IsWithinFile i → (p : Place) → reads_of stored i p → IsPlace p
-within true i w p r = w.stored p r
-within false i w p r = w.addresses p r
+-- the loads of which the relation holds at an event, by their places
+abbrev pub Found : (Executed → ℕ → ℕ → Type 0) → Executed → ℕ → ℕ → Type 0
+Found R f j e = (i : ℕ) × (event_place f i ≡ e) × R f i j
 
-pub columns_event : (narrow stored : Bool) (f : Executed) (n : ℕ) (words : List ℕ) (t : Taints) → is_event (f n) ≡ true → event_place f n < length words → IsWithinFile (f n)
-    → AreTaints (passes_of narrow) f n t → AreColumns narrow stored f n words → AreColumns narrow stored f (suc n) (set words (event_place f n) (read_word stored (f n) t))
-columns_event narrow stored f n words t event lt inside taints old j j_lt ev e = elim (cases_eq j n) [
-  | inl same ↦ subst (λ (k : ℕ). Bit (get_or (set words (event_place f n) (read_word stored (f n) t)) (event_place f k) 0) e ↔ ((i : ℕ) × (event_place f i ≡ e) × LoadReaches (passes_of narrow) (reads_of stored) f i k)) (sym same) here
+pub columns_event : (R : Executed → ℕ → ℕ → Type 0) (f : Executed) (n : ℕ) (words : List ℕ) (w : ℕ) → is_event (f n) ≡ true → event_place f n < length words
+    → ((e : ℕ) → Bit w e ↔ Found R f n e) → AreColumnsOf R f n words → AreColumnsOf R f (suc n) (set words (event_place f n) w)
+columns_event R f n words w event lt here old j j_lt ev e = elim (cases_eq j n) [
+  | inl same ↦ subst (λ (k : ℕ). Bit (get_or (set words (event_place f n) w) (event_place f k) 0) e ↔ Found R f k e) (sym same)
+      (subst (λ (x : ℕ). Bit x e ↔ Found R f n e) (sym (get_or-set_same words (event_place f n) w 0 lt)) (here e))
   | inr ne ↦
       let less : event_place f j < event_place f n = place_lt f j n ev (omega arith) in
-      subst (λ (w : ℕ). Bit w e ↔ ((i : ℕ) × (event_place f i ≡ e) × LoadReaches (passes_of narrow) (reads_of stored) f i j))
-      (sym (get_or-set_other words (event_place f n) (event_place f j) (read_word stored (f n) t) 0 (λ eq. absurd (omega arith))))
+      subst (λ (x : ℕ). Bit x e ↔ Found R f j e)
+      (sym (get_or-set_other words (event_place f n) (event_place f j) w 0 (λ eq. absurd (omega arith))))
       (old j (omega arith) ev e)
 ]
-  where
-    u : (e : ℕ) → Bit (read_word stored (f n) t) e ↔ ((a : Place) × reads_of stored (f n) a × Bit (word_of t a) e)
-    u = read_word-union stored (f n) t
 
-    forth : Bit (read_word stored (f n) t) e → (i : ℕ) × (event_place f i ≡ e) × LoadReaches (passes_of narrow) (reads_of stored) f i n
+-- the word of those places that an instruction reads so has the loads that reach one of them
+pub union_found : (narrow : Bool) (Reads : Instruction → Place → Type 0) (f : Executed) (n : ℕ) (t : Taints) (w : ℕ) → ((p : Place) → Reads (f n) p → IsPlace p)
+    → AreTaints (passes_of narrow) f n t → IsUnion Reads (f n) t w → (e : ℕ) → Bit w e ↔ Found (LoadReaches (passes_of narrow) Reads) f n e
+union_found narrow Reads f n t w inside taints u e = (forth, back)
+  where
+    forth : Bit w e → Found (LoadReaches (passes_of narrow) Reads) f n e
     forth b =
         let (a, reads, bit) = (u e).0 b in
-        let (i, load, place, x) = (taints a (within stored (f n) inside a reads) e).0 bit in
+        let (i, load, place, x) = (taints a (inside a reads) e).0 bit in
         (i, place, (load, (a, reads, x)))
 
-    back : (i : ℕ) × (event_place f i ≡ e) × LoadReaches (passes_of narrow) (reads_of stored) f i n → Bit (read_word stored (f n) t) e
+    back : Found (LoadReaches (passes_of narrow) Reads) f n e → Bit w e
     back y =
         let (i, place, reaches) = y in
         let (load, rest) = reaches in
         let (a, reads, x) = rest in
-        (u e).1 (a, reads, (taints a (within stored (f n) inside a reads) e).1 (i, load, place, x))
+        (u e).1 (a, reads, (taints a (inside a reads) e).1 (i, load, place, x))
 
-    here : Bit (get_or (set words (event_place f n) (read_word stored (f n) t)) (event_place f n) 0) e ↔ ((i : ℕ) × (event_place f i ≡ e) × LoadReaches (passes_of narrow) (reads_of stored) f i n)
-    here = subst (λ (w : ℕ). Bit w e ↔ ((i : ℕ) × (event_place f i ≡ e) × LoadReaches (passes_of narrow) (reads_of stored) f i n))
-        (sym (get_or-set_same words (event_place f n) (read_word stored (f n) t) 0 lt)) (forth, back)
-
--- what holds in the loop
-pub record IsReached (narrow stored : Bool) (f : Executed) (n : ℕ) (t : Taints) (words : List ℕ) (place : ℕ) : Type 0 where
-  pub taints : AreTaints (passes_of narrow) f n t
-  pub height : length t.registers ≡ 256
-  pub width : length words ≡ 128
-  pub here : place ≡ event_place f n
-  pub columns : AreColumns narrow stored f n words
-
-no_word : (t : Taints) → t.registers ≡ replicate 256 0 → t.compared ≡ 0 → (p : Place) → IsPlace p → word_of t p ≡ 0
-no_word t zeros none (Register r) lt = ap (λ (xs : List ℕ). get_or xs r 0) zeros ∙ get_or-replicate 256 r 0 0 lt
-no_word t zeros none Cr0 lt = none
-
-pub reached_first : (narrow stored : Bool) (f : Executed) (t : Taints) (words : List ℕ) → t.registers ≡ replicate 256 0 → t.compared ≡ 0 → length words ≡ 128 → IsReached narrow stored f 0 t words 0
-reached_first narrow stored f t words zeros none width = record {
-  taints = taints_first (passes_of narrow) f t (no_word t zeros none);
-  height = ap length zeros ∙ length-replicate {A = ℕ} 256 0;
-  width = width;
-  here = refl;
-  columns = columns_first narrow stored f words;
-}
-
-pub reached_event : (narrow stored : Bool) (f : Executed) (n : ℕ) (t : Taints) (words : List ℕ) (place : ℕ) (i : Instruction) → i ≡ f n → is_event i ≡ true → event_place f n < 128 → IsWithinFile i
-    → IsReached narrow stored f n t words place → IsReached narrow stored f (n + 1) (noted narrow i place t) (set words place (read_word stored i t)) (place + 1)
-reached_event narrow stored f n t words place i same event lt inside x = rw add-one (record {
-  taints = taints_more narrow f n t (noted narrow i place t)
-      (λ a operand. inside.operands a (subst (λ (j : Instruction). IsOperand j a) (sym same) operand)) x.taints
-      (subst (λ (j : Instruction). IsStep narrow j (event_place f n) t (noted narrow i place t)) same
-      (subst (λ (k : ℕ). IsStep narrow i k t (noted narrow i place t)) x.here (noted-step narrow i place t (λ load. omega (arith, x.here)) x.height)));
-  height = with_word_long i _ t ∙ x.height;
-  width = length-set words place (read_word stored i t) ∙ x.width;
-  here = omega (arith, x.here, place_event f n (subst (λ (j : Instruction). is_event j ≡ true) same event));
-  columns =
-      subst (λ (j : Instruction). AreColumns narrow stored f (suc n) (set words place (read_word stored j t))) (sym same)
-      (subst (λ (k : ℕ). AreColumns narrow stored f (suc n) (set words k (read_word stored (f n) t))) (sym x.here)
-      (columns_event narrow stored f n words t (subst (λ (j : Instruction). is_event j ≡ true) same event) (omega (arith, x.width)) (subst (λ (j : Instruction). IsWithinFile j) same inside) x.taints x.columns));
-})
+within : (stored : Bool) (i : Instruction) → IsWithinFile i → (p : Place) → reads_of stored i p → IsPlace p
+within true i w p r = w.stored p r
+within false i w p r = w.addresses p r
 
 load_is_event : (i : Instruction) → is_load i ≡ true → is_event i ≡ false → ⊥
 load_is_event (Load d a) l e = false≢true (sym e)
@@ -137,17 +103,59 @@ load_is_event (Barrier f) l e = absurd (false≢true l)
 pub load_place : (i : Instruction) (place : ℕ) → is_event i ≡ false → is_load i ≡ true → place < 128
 load_place i place e l = absurd (load_is_event i l e)
 
+-- what reaches each place, behind one instruction more
+pub taints_next : (narrow : Bool) (f : Executed) (n : ℕ) (t : Taints) (place : ℕ) (i : Instruction) → i ≡ f n → IsWithinFile i → (is_load i ≡ true → place < 128) → place ≡ event_place f n → length t.registers ≡ 256
+    → AreTaints (passes_of narrow) f n t → AreTaints (passes_of narrow) f (suc n) (noted narrow i place t)
+taints_next narrow f n t place i same inside fits here height old =
+    taints_more narrow f n t (noted narrow i place t)
+    (λ a operand. inside.operands a (subst (λ (j : Instruction). IsOperand j a) (sym same) operand)) old
+    (subst (λ (j : Instruction). IsStep narrow j (event_place f n) t (noted narrow i place t)) same
+    (subst (λ (k : ℕ). IsStep narrow i k t (noted narrow i place t)) here (noted-step narrow i place t fits height)))
+
+-- what holds in the loop
+pub record IsReached (narrow stored : Bool) (f : Executed) (n : ℕ) (t : Taints) (words : List ℕ) (place : ℕ) : Type 0 where
+  pub taints : AreTaints (passes_of narrow) f n t
+  pub height : length t.registers ≡ 256
+  pub width : length words ≡ 128
+  pub here : place ≡ event_place f n
+  pub columns : AreColumns narrow stored f n words
+
+pub no_word : (t : Taints) → t.registers ≡ replicate 256 0 → t.compared ≡ 0 → (p : Place) → IsPlace p → word_of t p ≡ 0
+no_word t zeros none (Register r) lt = ap (λ (xs : List ℕ). get_or xs r 0) zeros ∙ get_or-replicate 256 r 0 0 lt
+no_word t zeros none Cr0 lt = none
+
+pub reached_first : (narrow stored : Bool) (f : Executed) (t : Taints) (words : List ℕ) → t.registers ≡ replicate 256 0 → t.compared ≡ 0 → length words ≡ 128 → IsReached narrow stored f 0 t words 0
+reached_first narrow stored f t words zeros none width = record {
+  taints = taints_first (passes_of narrow) f t (no_word t zeros none);
+  height = ap length zeros ∙ length-replicate {A = ℕ} 256 0;
+  width = width;
+  here = refl;
+  columns = columns_first (LoadReaches (passes_of narrow) (reads_of stored)) f words;
+}
+
+pub reached_event : (narrow stored : Bool) (f : Executed) (n : ℕ) (t : Taints) (words : List ℕ) (place : ℕ) (i : Instruction) → i ≡ f n → is_event i ≡ true → event_place f n < 128 → IsWithinFile i
+    → IsReached narrow stored f n t words place → IsReached narrow stored f (n + 1) (noted narrow i place t) (set words place (read_word stored i t)) (place + 1)
+reached_event narrow stored f n t words place i same event lt inside x = rw add-one (record {
+  taints = taints_next narrow f n t place i same inside (λ load. omega (arith, lt, x.here)) x.here x.height x.taints;
+  height = with_word_long i _ t ∙ x.height;
+  width = length-set words place (read_word stored i t) ∙ x.width;
+  here = omega (arith, x.here, place_event f n (subst (λ (j : Instruction). is_event j ≡ true) same event));
+  columns =
+      subst (λ (k : ℕ). AreColumns narrow stored f (suc n) (set words k (read_word stored i t))) (sym x.here)
+      (columns_event (LoadReaches (passes_of narrow) (reads_of stored)) f n words (read_word stored i t) (subst (λ (j : Instruction). is_event j ≡ true) same event) (omega (arith, lt, x.width))
+      (union_found narrow (reads_of stored) f n t (read_word stored i t) (within stored (f n) (subst (λ (j : Instruction). IsWithinFile j) same inside)) x.taints
+      (subst (λ (j : Instruction). IsUnion (reads_of stored) j t (read_word stored i t)) same (read_word-union stored i t)))
+      x.columns);
+})
+
 pub reached_other : (narrow stored : Bool) (f : Executed) (n : ℕ) (t : Taints) (words : List ℕ) (place : ℕ) (i : Instruction) → i ≡ f n → is_event i ≡ false → IsWithinFile i
     → IsReached narrow stored f n t words place → IsReached narrow stored f (n + 1) (noted narrow i place t) words place
 reached_other narrow stored f n t words place i same event inside x = rw add-one (record {
-  taints = taints_more narrow f n t (noted narrow i place t)
-      (λ a operand. inside.operands a (subst (λ (j : Instruction). IsOperand j a) (sym same) operand)) x.taints
-      (subst (λ (j : Instruction). IsStep narrow j (event_place f n) t (noted narrow i place t)) same
-      (subst (λ (k : ℕ). IsStep narrow i k t (noted narrow i place t)) x.here (noted-step narrow i place t (load_place i place event) x.height)));
+  taints = taints_next narrow f n t place i same inside (load_place i place event) x.here x.height x.taints;
   height = with_word_long i _ t ∙ x.height;
   width = x.width;
   here = omega (arith, x.here, place_other f n (subst (λ (j : Instruction). is_event j ≡ false) same event));
-  columns = columns_other narrow stored f n words (subst (λ (j : Instruction). is_event j ≡ false) same event) x.columns;
+  columns = columns_other (LoadReaches (passes_of narrow) (reads_of stored)) f n words (subst (λ (j : Instruction). is_event j ≡ false) same event) x.columns;
 })
 
 -- the instruction at a place, whatever stands past the end

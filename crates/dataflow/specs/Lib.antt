@@ -3,3 +3,5 @@ pub mod Law
 pub mod Execution
 pub mod Taints
 pub mod Within
+pub mod Control
+pub mod Dependencies

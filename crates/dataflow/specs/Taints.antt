@@ -97,7 +97,10 @@ pub record IsWithinFile (i : Instruction) : Type 0 where
   pub addresses : (p : Place) → IsAddressRegister i p → IsPlace p
   pub stored : (p : Place) → IsStoredRegister i p → IsPlace p
 
--- at each event, the word has the loads that reach it so, by their places among the events
+-- at each event, the word has the loads of which the relation holds, by their places among the events
+abbrev pub AreColumnsOf : (Executed → ℕ → ℕ → Type 0) → Executed → ℕ → List ℕ → Type 0
+AreColumnsOf R at n words = (j : ℕ) → j < n → IsTrue (is_event (at j)) → (e : ℕ)
+    → Bit (slice_index words (event_place at j)) e ↔ ((i : ℕ) × (event_place at i ≡ e) × R at i j)
+
 abbrev pub AreColumns : Bool → Bool → Executed → ℕ → List ℕ → Type 0
-AreColumns narrow stored at n words = (j : ℕ) → j < n → IsTrue (is_event (at j)) → (e : ℕ)
-    → Bit (slice_index words (event_place at j)) e ↔ ((i : ℕ) × (event_place at i ≡ e) × LoadReaches (passes_of narrow) (reads_of stored) at i j)
+AreColumns narrow stored = AreColumnsOf (LoadReaches (passes_of narrow) (reads_of stored))

@@ -1,5 +1,5 @@
 -- Where the pairs of a run lie.
-use Rattle.std.specs.Prelude.{ℕ, ◌<◌, List, All}
+use Rattle.std.specs.Prelude.{ℕ, ◌<◌, All}
 use Rattle.dataflow.specs.declared.lists.Links.{Links}
 
 abbrev pub IsPairWithin : ℕ → ℕ × ℕ → Type 0

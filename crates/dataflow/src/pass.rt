@@ -1,12 +1,15 @@
 //! The dependencies of a run.
-ghost use Rattle.std.specs.Prelude.{ℕ, ◌≡◌, ◌<◌, ◌≤◌, IfOk, All, length, replicate};
+ghost use Rattle.std.specs.Prelude.{ℕ, ◌≡◌, ◌<◌, ◌≤◌, ◌↔◌, true, IfOk, IsTrue, All, length, replicate};
 ghost use Rattle.dataflow.specs.Chains as chains;
+ghost use Rattle.dataflow.specs.Control as control;
+ghost use Rattle.dataflow.specs.Dependencies as found;
+ghost use Rattle.ppc_semantics.specs.Machine as machine;
 ghost use Rattle.dataflow.specs.Taints as taint;
 ghost use Rattle.dataflow.specs.Within.{IsPairWithin, IsWithin};
 ghost use Rattle.ppc_semantics.specs.Runs as runs;
 
 use crate::lists::Links;
-use crate::taints::{Taints, is_event, no_taints, note, operands, reach};
+use crate::taints::{Taints, is_event, no_taints, note, operands, reach, registers_fit};
 use litmus_ppc::Fence;
 use ppc_semantics::{Instruction, Run, RunStep};
 use std::alloc::{AllocError, Global};
@@ -28,15 +31,22 @@ fn event_count(steps: &[RunStep]) -> usize
 }
 
 /// What is known of the loads along a run, as far as control goes.
-#[derive(Drop)]
+#[derive(Clone, Copy)]
 struct Control {
     taints: Taints,
+    /// The loads that reach the CR0 of a conditional branch.
     branched: u128,
+    /// Those that did so before an `isync`.
     synchronised: u128,
 }
 
 impl Control {
-    fn new() -> Control {
+    fn new() -> Control
+        ensures registers { result.taints.registers ≡ replicate 256 0 }
+        ensures compared { result.taints.compared ≡ 0 }
+        ensures branched { result.branched ≡ 0 }
+        ensures synchronised { result.synchronised ≡ 0 }
+    {
         Control {
             taints: no_taints(),
             branched: 0,
@@ -44,9 +54,21 @@ impl Control {
         }
     }
 
+    /// The loads that go before an event by control.
+    fn word(&self, synchronised: bool) -> u128
+        ensures { result ≡ control.control_word synchronised self.now }
+    {
+        if synchronised {
+            self.synchronised
+        } else {
+            self.branched
+        }
+    }
+
     /// One instruction more, with its place among the events if it is one.
     fn note(&mut self, instruction: Instruction, place: u32)
-        requires { place < 128 }
+        requires { machine.is_load instruction ≡ true → place < 128 }
+        ensures { self.new ≡ control.steered instruction place self.old }
     {
         match instruction {
             Instruction::Branch(_, _) => {
@@ -63,38 +85,45 @@ impl Control {
 
 /// For each event, the loads from which it is behind a conditional branch, or, where
 /// `synchronised`, behind an `isync` that is so.
-fn control_columns(steps: &[RunStep], synchronised: bool) -> Columns {
+fn control_columns(steps: &[RunStep], synchronised: bool) -> Columns
+    requires { chains.event_place (runs.executed steps.now) (length steps.now) ≤ 128 }
+    ensures { taint.AreColumnsOf (control.control_of synchronised) (runs.executed steps.now) (length steps.now) result }
+{
     let mut control = Control::new();
     let mut columns = [0; 128];
-    let mut place: u32 = 0;
+    let mut place = 0;
     for step in steps {
-        if place < 128 {
-            let event = is_event(step.instruction);
-            if event {
-                columns[place as usize] = if synchronised {
-                    control.synchronised
-                } else {
-                    control.branched
-                };
-            }
-            control.note(step.instruction, place);
-            if event {
-                place += 1;
-            }
+        let instruction = step.instruction;
+        registers_fit(instruction);
+        if is_event(instruction) {
+            columns[place as usize] = control.word(synchronised);
+            control.note(instruction, place);
+            place += 1;
+        } else {
+            control.note(instruction, place);
         }
     }
     columns
 }
 
+/// Whether the word has the bit of a place.
+fn has(word: u128, place: usize) -> bool
+    requires { place < 128 }
+    ensures { IsTrue result ↔ taint.Bit word place }
+{
+    (word >> place) & 1 == 1
+}
+
 /// The pairs of a load and an event that it reaches, by rising loads.
 fn pairs(alloc: Global, columns: &Columns, count: usize) -> Result<Vec<(usize, usize)>, AllocError>
     requires { count ≤ 128 }
-    ensures { IfOk result (λ v. All (IsPairWithin count) v.items) }
+    ensures within { IfOk result (λ v. All (IsPairWithin count) v.items) }
+    ensures exact { IfOk result (λ v. found.ArePairs columns.now count v.items) }
 {
     let mut pairs = Vec::new(alloc);
     for from in 0..count {
         for to in 0..count {
-            if (columns[to] >> from) & 1 == 1 {
+            if has(columns[to], from) {
                 pairs.push((from, to))?;
             }
         }
@@ -116,9 +145,11 @@ fn no_links(alloc: Global) -> Links
 
 /// How the loads of the run reach its events: along chains of instructions that are no accesses,
 /// each of which reads a register, or CR0, that was last written by the one before. An exclusive
-/// or of a register with itself carries all but `need`. A run of over 128 events has no links.
+/// or, or a difference, of a register with itself carries all but `need`. A run of over 128 events
+/// has no links.
 pub fn links(alloc: Global, run: &Run) -> Result<Links, AllocError>
-    ensures { IfOk result (IsWithin (chains.event_place (runs.executed run.now.steps.items) (length run.now.steps.items))) }
+    ensures within { IfOk result (IsWithin (chains.event_place (runs.executed run.now.steps.items) (length run.now.steps.items))) }
+    ensures exact { chains.event_place (runs.executed run.now.steps.items) (length run.now.steps.items) ≤ 128 → IfOk result (found.AreLinks (runs.executed run.now.steps.items)) }
 {
     let steps = &run.steps;
     let count = event_count(steps);

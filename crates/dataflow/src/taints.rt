@@ -5,8 +5,7 @@ ghost use Rattle.ppc_semantics.specs.Machine as machine;
 ghost use Rattle.ppc_semantics.specs.Runs as runs;
 ghost use Rattle.dataflow.specs.Taints as taint;
 
-use litmus_ppc::Operation;
-use ppc_semantics::{Instruction, RunStep};
+use ppc_semantics::{Instruction, RunStep, cancels, is_load};
 
 /// For each register, and for CR0, the loads that reach it: bits, by their places among the events.
 #[derive(Clone, Copy)]
@@ -122,25 +121,6 @@ fn reads(taints: &Taints, instruction: Instruction, stored: bool) -> u128
     }
 }
 
-pub fn is_load(instruction: Instruction) -> bool
-    ensures { result ≡ machine.is_load instruction }
-{
-    matches!(
-        instruction,
-        Instruction::Load(..) | Instruction::LoadIndexed(..)
-    )
-}
-
-/// Whether the operation of two registers has always the same value, as they are one.
-fn cancels(operation: Operation, a: u8, b: u8) -> bool
-    ensures { result ≡ machine.cancels operation a b }
-{
-    match operation {
-        Operation::SubtractFrom | Operation::Xor => a == b,
-        Operation::Add | Operation::Or | Operation::And => false,
-    }
-}
-
 /// Whether the instruction is a load, a store or a fence.
 pub fn is_event(instruction: Instruction) -> bool
     ensures { result ≡ chains.is_event instruction }
@@ -155,8 +135,8 @@ pub fn is_event(instruction: Instruction) -> bool
     )
 }
 
-/// Every register is within the file.
-fn is_within(instruction: Instruction)
+/// Every register is within the file of registers: nothing is done, and the contract says it.
+pub fn registers_fit(instruction: Instruction)
     ensures operands { (p : chains.Place) → chains.IsOperand instruction p → taint.IsPlace p }
     ensures addresses { (p : chains.Place) → chains.IsAddressRegister instruction p → taint.IsPlace p }
     ensures stored { (p : chains.Place) → chains.IsStoredRegister instruction p → taint.IsPlace p }
@@ -188,7 +168,7 @@ pub fn reach(steps: &[RunStep], narrow: bool, stored: bool) -> [u128; 128]
     let mut place = 0;
     for step in steps {
         let instruction = step.instruction;
-        is_within(instruction);
+        registers_fit(instruction);
         if is_event(instruction) {
             columns[place as usize] = reads(&taints, instruction, stored);
             note(&mut taints, instruction, narrow, place);

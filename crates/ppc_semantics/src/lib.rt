@@ -21,5 +21,5 @@ pub use instruction::{Event, Instruction, Line, Program, RunStep};
 pub use lowering::program;
 pub use rounds::{MAX_COMBINATIONS, MAX_EVENTS, domain, domain_of};
 pub use run::{Domain, Run};
-pub use state::State;
+pub use state::{State, cancels, is_load};
 pub use value::{Comparison, Value};

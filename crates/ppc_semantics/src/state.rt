@@ -46,6 +46,7 @@ fn outcome(operation: Operation, v: Value, w: Value) -> Value
     }
 }
 
+/// Whether the operation of two registers has always the same value, as they are one.
 pub fn cancels(operation: Operation, a: u8, b: u8) -> bool
     ensures { result ≡ machine.cancels operation a b }
 {
@@ -179,6 +180,7 @@ pub fn is_fault(instruction: Instruction, state: &State) -> bool
     }
 }
 
+/// Whether the instruction reads memory.
 pub fn is_load(instruction: Instruction) -> bool
     ensures { result ≡ machine.is_load instruction }
 {

@@ -1,7 +1,17 @@
-use Rattle.std.proofs.Common.{length}
+use Rattle.std.proofs.Common.{length, false, true}
 use Rattle.ppc_semantics.specs.Runs.{executed}
-use Rattle.dataflow.specs.Chains.{event_place}
+use Rattle.dataflow.specs.Chains.{event_place, is_plain, is_narrow, IsAddr, IsData, IsNeed, IsCtrl, IsCtrlIsync}
+use Rattle.dataflow.proofs.LinkLists.{list_of, reach_loads, ctrl_loads, ctrlisync_loads}
 use Rattle.dataflow.proofs.pass.links.Goals as goal
 
-pub returns-then-count-gt128 : goal.returns-then-count-gt128
-returns-then-count-gt128 c = c.no_links.ensures (event_place (executed c.args.run.now.steps.items) (length c.args.run.now.steps.items))
+pub returns-then-count-gt128-clause-within : goal.returns-then-count-gt128-clause-within
+returns-then-count-gt128-clause-within c = c.no_links.ensures (event_place (executed c.args.run.now.steps.items) (length c.args.run.now.steps.items))
+
+pub returns-clause-exact : goal.returns-clause-exact
+returns-clause-exact c = λ few. record {
+  addr = list_of IsAddr _ _ _ _ _ _ (reach_loads is_plain false) c.deref.ensures.value c.deref-2.ensures.value c.event_count-count.ensures c.reach.ensures c.in_ok-pairs.ensures.exact;
+  «data» = list_of IsData _ _ _ _ _ _ (reach_loads is_plain true) c.deref.ensures.value c.deref-3.ensures.value c.event_count-count.ensures c.reach-2.ensures c.in_ok-pairs-2.ensures.exact;
+  ctrl = list_of IsCtrl _ _ _ _ _ _ ctrl_loads c.deref.ensures.value c.deref-4.ensures.value c.event_count-count.ensures c.control_columns.ensures c.in_ok-pairs-3.ensures.exact;
+  ctrlisync = list_of IsCtrlIsync _ _ _ _ _ _ ctrlisync_loads c.deref.ensures.value c.deref-5.ensures.value c.event_count-count.ensures c.control_columns-2.ensures c.in_ok-pairs-4.ensures.exact;
+  need = list_of IsNeed _ _ _ _ _ _ (reach_loads is_narrow true) c.deref.ensures.value c.deref-6.ensures.value c.event_count-count.ensures c.reach-3.ensures c.in_ok-pairs-5.ensures.exact;
+}

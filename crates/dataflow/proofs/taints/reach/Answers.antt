@@ -30,7 +30,7 @@ overflow_add-place c =
 pub loop-step-preserved : goal.loop-step-preserved
 loop-step-preserved c =
     let same = instruction_at c.args.steps.now c.loop-step.step-index _ c.loop-step-test.true in
-    let inside : IsWithinFile _ = record { operands = c.is_within.ensures.operands; addresses = c.is_within.ensures.addresses; stored = c.is_within.ensures.stored } in
+    let inside : IsWithinFile _ = record { operands = c.registers_fit.ensures.operands; addresses = c.registers_fit.ensures.addresses; stored = c.registers_fit.ensures.stored } in
     elim c.if-is_event.branch [
       | then-is_event w ↦
           let event = sym c.is_event.ensures ∙ w.if-is_event.true in

@@ -1,0 +1,31 @@
+-- The loads that control goes by, as bits of a word.
+use Rattle.std.specs.Prelude.{ℕ, bit_or, Bool, true, false, if◌then◌else◌}
+use Rattle.ppc_semantics.specs.declared.instruction.Instruction.{Instruction}
+use Rattle.ppc_semantics.specs.Machine.{is_branch}
+use Rattle.dataflow.specs.declared.taints.Taints.{Taints}
+use Rattle.dataflow.specs.Taints.{operand_word, noted}
+use Rattle.dataflow.specs.declared.pass.Control.{Control}
+use Rattle.dataflow.specs.Chains.{Executed, IsCtrl, IsCtrlIsync, is_isync}
+
+-- what is known of the loads after an instruction: those that reach the CR0 of a conditional branch, and those that
+-- did so before an `isync`
+abbrev pub branched_after : Instruction → Taints → ℕ → ℕ
+branched_after i t branched = if is_branch i then bit_or branched (operand_word i t) else branched
+
+abbrev pub synchronised_after : Instruction → ℕ → ℕ → ℕ
+synchronised_after i branched synchronised = if is_isync i then bit_or synchronised branched else synchronised
+
+abbrev pub steered : Instruction → ℕ → Control → Control
+steered i place c = record {
+  taints = noted false i place c.taints;
+  branched = branched_after i c.taints c.branched;
+  synchronised = synchronised_after i c.branched c.synchronised;
+}
+
+abbrev pub control_of : Bool → Executed → ℕ → ℕ → Type 0
+control_of true = IsCtrlIsync
+control_of false = IsCtrl
+
+abbrev pub control_word : Bool → Control → ℕ
+control_word true c = c.synchronised
+control_word false c = c.branched

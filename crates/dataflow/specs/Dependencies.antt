@@ -1,0 +1,18 @@
+-- The dependencies of a run, as lists of pairs.
+use Rattle.std.specs.Prelude.{ℕ, ◌<◌, ◌↔◌, List, Contains, slice_index}
+use Rattle.dataflow.specs.declared.lists.Links.{Links}
+use Rattle.dataflow.specs.Chains.{Executed, IsAddr, IsData, IsCtrl, IsCtrlIsync, IsNeed, IsRising, IsListOf}
+use Rattle.dataflow.specs.Taints.{Bit}
+
+-- each list has just the pairs of its dependency, in rising order
+pub record AreLinks (at : Executed) (links : Links) : Type 0 where
+  pub addr : IsListOf IsAddr at links.addr_pairs.items
+  pub «data» : IsListOf IsData at links.data_pairs.items
+  pub ctrl : IsListOf IsCtrl at links.ctrl_pairs.items
+  pub ctrlisync : IsListOf IsCtrlIsync at links.ctrlisync_pairs.items
+  pub need : IsListOf IsNeed at links.need_pairs.items
+
+-- the pairs of a place whose bit a word has, and the place of the word
+pub record ArePairs (words : List ℕ) (count : ℕ) (ps : List (ℕ × ℕ)) : Type 0 where
+  pub rising : IsRising ps
+  pub exact : (p : ℕ × ℕ) → Contains ps p ↔ ((p.0 < count) × (p.1 < count) × Bit (slice_index words p.1) p.0)
