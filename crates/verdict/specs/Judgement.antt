@@ -1,13 +1,23 @@
 -- What the numbers of kept candidates say of a condition.
-use Rattle.std.specs.Prelude.{◌≡◌, ℕ, Bool, ◌==◌, nat_lt, if◌then◌else◌}
+use Rattle.std.specs.Prelude.{◌≡◌, ℕ, Bool, true, false, not, List, sum_by, ◌==◌, nat_lt, if◌then◌else◌}
 use Rattle.litmus_values.specs.declared.test.Quantifier.{Quantifier}
 use Rattle.litmus_values.specs.declared.test.Quantifier.TheVariants.{Exists, NotExists, Forall}
+use Rattle.verdict.specs.declared.answer.CountedState.{CountedState}
 use Rattle.verdict.specs.declared.answer.Evaluation.{Evaluation}
 use Rattle.verdict.specs.declared.answer.Observation.{Observation}
 use Rattle.verdict.specs.declared.answer.Observation.TheVariants.{Never, Sometimes, Always}
 use Rattle.verdict.specs.declared.answer.Outcome.{Outcome}
 use Rattle.verdict.specs.declared.answer.OutcomeResult.{OutcomeResult}
 use Rattle.verdict.specs.declared.answer.OutcomeResult.TheVariants.{Refused, Evaluated}
+
+-- whether two truth values are the same
+abbrev pub is_same : Bool → Bool → Bool
+is_same true b = b
+is_same false b = not b
+
+-- how many kept candidates end in the states that pass a test
+abbrev pub total_of : (CountedState → Bool) → List CountedState → ℕ
+total_of test states = sum_by (λ s. if test s then s.count else 0) states
 
 -- of so many kept candidates that satisfy the proposition, and so many that do not
 abbrev pub observation_of : ℕ → ℕ → Observation

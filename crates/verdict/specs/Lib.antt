@@ -1,1 +1,7 @@
 pub mod Judgement
+pub mod Kept
+pub mod Meaning
+pub mod Names
+pub mod Order
+pub mod Shown
+pub mod Text

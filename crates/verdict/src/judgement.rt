@@ -1,7 +1,10 @@
 //! From candidates, checks and flags to an outcome.
 
-ghost use Rattle.std.specs.Prelude.{◌≡◌, IfOk};
-ghost use Rattle.verdict.specs.Judgement.{observation_of, is_met, IsJudged, IsOutcomeOf};
+ghost use Rattle.std.specs.Prelude.{◌≡◌, ℕ, ◌<◌, ◌&&◌, ◌++◌, [], ◌∷◌, false, if◌then◌else◌, IfOk, OnOk, min, ◌-◌, ◌^◌, length, vec_len, slice_index_or};
+ghost use Rattle.std.specs.List.{list_any};
+ghost use Rattle.verdict.specs.Kept.{holds_at, is_kept, holds_on_some, names_of};
+ghost use Rattle.verdict.specs.Names.{is_name};
+ghost use Rattle.verdict.specs.Judgement.{is_same, total_of, observation_of, is_met, IsJudged, IsOutcomeOf};
 
 use crate::answer::{CountedState, Evaluation, Observation, Outcome, OutcomeResult};
 use crate::final_states::{StateCounts, final_states};
@@ -20,9 +23,12 @@ pub struct Raised<'a> {
     pub holds: &'a [bool],
 }
 
-fn keep_where(kept: &mut [bool], holds: &[bool]) {
-    for (keep, holds) in kept.iter_mut().zip(holds) {
-        *keep = *keep && *holds;
+// Takes out what the check does not hold on.
+fn keep_where(kept: &mut [bool], holds: &[bool])
+    ensures { (k : ℕ) → k < length kept.old → slice_index_or kept.new k false ≡ (slice_index_or kept.old k false && holds_at k holds.now) }
+{
+    for (place, keep) in kept.iter_mut().enumerate() {
+        *keep = *keep && holds.get(place).copied() == Some(true);
     }
 }
 
@@ -31,7 +37,10 @@ fn kept_candidates(
     alloc: Global,
     candidates: usize,
     checks: &[Vec<bool>],
-) -> Result<Vec<bool>, AllocError> {
+) -> Result<Vec<bool>, AllocError>
+    ensures len { IfOk result (λ v. vec_len v ≡ candidates) }
+    ensures kept { IfOk result (λ v. (k : ℕ) → k < candidates → slice_index_or v.items k false ≡ is_kept checks.now k) }
+{
     let mut kept = vec![in alloc; true; candidates]?;
     for holds in checks {
         keep_where(&mut kept, holds);
@@ -39,16 +48,40 @@ fn kept_candidates(
     Ok(kept)
 }
 
-fn holds_on_some(kept: &[bool], holds: &[bool]) -> bool {
+fn holds_on_some(kept: &[bool], holds: &[bool]) -> bool
+    ensures { result ≡ holds_on_some kept.now holds.now }
+{
     kept.iter().zip(holds).any(|(kept, holds)| *kept && *holds)
 }
 
-fn raised_names(alloc: Global, kept: &[bool], flags: &[Raised]) -> Result<Vec<Name>, AllocError> {
+fn is_among(names: &[Name], name: &Name) -> bool
+    ensures { result ≡ list_any (is_name name.now) names.now }
+{
+    for known in names {
+        if known.is_same(name) {
+            return true;
+        }
+    }
+    false
+}
+
+// Appends a name that is not there.
+fn add_name(alloc: Global, names: &mut Vec<Name>, name: &Name) -> Result<(), AllocError>
+    ensures { OnOk result (names.new.items ≡ names.old.items ++ (if list_any (is_name name.now) names.old.items then [] else name.now ∷ [])) }
+{
+    if !is_among(names, name) {
+        names.push(name.copied(alloc)?)?;
+    }
+    Ok(())
+}
+
+fn raised_names(alloc: Global, kept: &[bool], flags: &[Raised]) -> Result<Vec<Name>, AllocError>
+    ensures { IfOk result (λ v. v.items ≡ names_of (λ f. holds_on_some kept.now f.holds.now) flags.now) }
+{
     let mut names: Vec<Name> = Vec::new(alloc);
     for flag in flags {
-        let is_new = !names.iter().any(|name| name.is_same(flag.name));
-        if is_new && holds_on_some(kept, flag.holds) {
-            names.push(flag.name.copied(alloc)?)?;
+        if holds_on_some(kept, flag.holds) {
+            add_name(alloc, &mut names, flag.name)?;
         }
     }
     Ok(names)
@@ -75,7 +108,11 @@ fn counted_states(
     Ok(states)
 }
 
-fn total(states: &[CountedState], holds: bool) -> u64 {
+// How many kept candidates end in the states on which the proposition comes out so, or the
+// greatest number where that is less.
+fn total(states: &[CountedState], holds: bool) -> u64
+    ensures { result ≡ min (total_of (λ s. is_same s.holds holds) states.now) (2 ^ 64 - 1) }
+{
     let mut all = 0u64;
     for state in states {
         if state.holds == holds {

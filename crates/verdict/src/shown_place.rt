@@ -1,5 +1,10 @@
 //! The registers and locations that a state shows.
 
+ghost use Rattle.std.specs.Prelude.{◌≡◌, ◌++◌, [], ◌∷◌, IfOk, OnOk};
+ghost use Rattle.litmus_values.specs.Value.{formula_of};
+ghost use Rattle.verdict.specs.Meaning.{location_of, known_place, places_of};
+ghost use Rattle.verdict.specs.Shown.{known_places, Adds, AreShown};
+
 use litmus_ppc::{Place, Proposition};
 use source_text::Name;
 use std::alloc::{AllocError, Global};
@@ -13,12 +18,21 @@ pub enum ShownPlace {
 }
 
 /// The place of a name among the locations.
-pub fn location_of(locations: &[Name], name: &Name) -> Option<usize> {
-    locations.iter().position(|location| location.is_same(name))
+pub fn location_of(locations: &[Name], name: &Name) -> Option<usize>
+    ensures { result ≡ location_of locations.now name.now }
+{
+    for (i, location) in locations.iter().enumerate() {
+        if location.is_same(name) {
+            return Some(i);
+        }
+    }
+    None
 }
 
 /// What is shown for a place of the text.
-pub fn shown_place(locations: &[Name], place: &Place) -> Option<ShownPlace> {
+pub fn shown_place(locations: &[Name], place: &Place) -> Option<ShownPlace>
+    ensures { result ≡ known_place locations.now place.now }
+{
     match place {
         Place::Register(thread, register) => {
             Some(ShownPlace::Register(*thread, register.number()))
@@ -34,7 +48,9 @@ fn add_place(
     shown: &mut BTreeSet<ShownPlace>,
     locations: &[Name],
     place: &Place,
-) -> Result<(), AllocError> {
+) -> Result<(), AllocError>
+    ensures { OnOk result (Adds shown.old.keys shown.new.keys (known_places locations.now (place.now ∷ []))) }
+{
     if let Some(place) = shown_place(locations, place) {
         shown.insert(place)?;
     }
@@ -45,7 +61,9 @@ fn add_proposition(
     shown: &mut BTreeSet<ShownPlace>,
     locations: &[Name],
     proposition: &Proposition,
-) -> Result<(), AllocError> {
+) -> Result<(), AllocError>
+    ensures { OnOk result (Adds shown.old.keys shown.new.keys (known_places locations.now (places_of (formula_of proposition.now)))) }
+{
     match proposition {
         Proposition::Constant(_) => Ok(()),
         Proposition::Holds(place, _) => add_place(shown, locations, place),
@@ -64,7 +82,9 @@ pub fn shown_places(
     locations: &[Name],
     proposition: &Proposition,
     observed: &[Place],
-) -> Result<Vec<ShownPlace>, AllocError> {
+) -> Result<Vec<ShownPlace>, AllocError>
+    ensures { IfOk result (λ v. AreShown locations.now (places_of (formula_of proposition.now) ++ observed.now) v.items) }
+{
     let mut shown = BTreeSet::new(alloc);
     add_proposition(&mut shown, locations, proposition)?;
     for place in observed {

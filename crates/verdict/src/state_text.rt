@@ -1,18 +1,27 @@
 //! States as they are printed.
 
+ghost use Rattle.std.specs.Prelude.{◌≡◌, ◌++◌, IfOk, OnOk, codes};
+ghost use Rattle.litmus_ppc.specs.Printing.{place_text, between};
+ghost use Rattle.verdict.specs.Text.{name_at, place_of, value_text, held_text, state_text};
+
 use crate::answer::FinalValue;
 use crate::shown_place::ShownPlace;
+use litmus_ppc::{Value, put_value};
 use source_text::{Name, put_bytes, put_decimal};
 use std::alloc::{AllocError, Global};
 
-fn put_location(text: &mut Vec<u8>, locations: &[Name], location: usize) -> Result<(), AllocError> {
+fn put_location(text: &mut Vec<u8>, locations: &[Name], location: usize) -> Result<(), AllocError>
+    ensures { OnOk result (text.new.items ≡ text.old.items ++ name_at locations.now location) }
+{
     match locations.get(location) {
         Some(name) => put_bytes(text, name.as_bytes()),
         None => Ok(()),
     }
 }
 
-fn put_place(text: &mut Vec<u8>, locations: &[Name], place: ShownPlace) -> Result<(), AllocError> {
+fn put_shown(text: &mut Vec<u8>, locations: &[Name], place: ShownPlace) -> Result<(), AllocError>
+    ensures { OnOk result (text.new.items ≡ text.old.items ++ place_text (place_of locations.now place)) }
+{
     match place {
         ShownPlace::Register(thread, register) => {
             put_decimal(text, thread as u64)?;
@@ -27,17 +36,33 @@ fn put_place(text: &mut Vec<u8>, locations: &[Name], place: ShownPlace) -> Resul
     }
 }
 
-fn put_value(text: &mut Vec<u8>, locations: &[Name], value: FinalValue) -> Result<(), AllocError> {
+fn put_final(text: &mut Vec<u8>, locations: &[Name], value: FinalValue) -> Result<(), AllocError>
+    ensures { OnOk result (text.new.items ≡ text.old.items ++ value_text locations.now value) }
+{
     match value {
-        FinalValue::Number(number) => {
-            if number < 0 {
-                put_bytes(text, b"-")?;
-            }
-            put_decimal(text, u64::from(number.unsigned_abs()))
-        }
+        FinalValue::Number(number) => put_value(text, &Value::Number(number)),
         FinalValue::Address(location) => put_location(text, locations, location),
         FinalValue::NoValue => Ok(()),
     }
+}
+
+// Appends what a place holds, behind a space unless it is the first.
+fn put_held(
+    text: &mut Vec<u8>,
+    locations: &[Name],
+    number: usize,
+    place: ShownPlace,
+    value: FinalValue,
+) -> Result<(), AllocError>
+    ensures { OnOk result (text.new.items ≡ text.old.items ++ (between (codes " ") number ++ held_text locations.now place value)) }
+{
+    if number > 0 {
+        put_bytes(text, b" ")?;
+    }
+    put_shown(text, locations, place)?;
+    put_bytes(text, b"=")?;
+    put_final(text, locations, value)?;
+    put_bytes(text, b";")
 }
 
 /// The state, as `1:r1=0; [x]=1;`.
@@ -46,16 +71,14 @@ pub fn state_text(
     locations: &[Name],
     places: &[ShownPlace],
     values: &[FinalValue],
-) -> Result<Vec<u8>, AllocError> {
+) -> Result<Vec<u8>, AllocError>
+    ensures { IfOk result (λ v. v.items ≡ state_text locations.now places.now values.now) }
+{
     let mut text = Vec::new(alloc);
-    for (place, value) in places.iter().zip(values) {
-        if !text.is_empty() {
-            put_bytes(&mut text, b" ")?;
+    for (i, place) in places.iter().enumerate() {
+        if let Some(value) = values.get(i) {
+            put_held(&mut text, locations, i, *place, *value)?;
         }
-        put_place(&mut text, locations, *place)?;
-        put_bytes(&mut text, b"=")?;
-        put_value(&mut text, locations, *value)?;
-        put_bytes(&mut text, b";")?;
     }
     Ok(text)
 }

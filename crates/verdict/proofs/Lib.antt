@@ -1,0 +1,4 @@
+pub mod HeldTexts
+pub mod Names
+pub mod Orders
+pub mod Places

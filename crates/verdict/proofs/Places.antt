@@ -1,0 +1,75 @@
+-- Laws of the places of names, and of lists of places.
+use Rattle.std.proofs.Common.{ℕ, Bool, true, false, ◌||◌, cond, Some, None, ◌≡◌, ◌+◌, ◌<◌, ◌≤◌, take, List, [], ◌∷◌, ◌++◌, length, get_or, nat_lt, refl, sym, ap, subst, ◌∙◌, arith}
+use Rattle.std.specs.List.{position_or_len}
+use Rattle.std.proofs.lemmas.List.Sums.{position_or_len_is}
+use Rattle.std.proofs.lemmas.Bool.Decides.{Decides-ltb, nat_tests}
+use Rattle.std.proofs.lemmas.Cmp.{eq_by_cmp_equiv}
+use Rattle.std.specs.List.{list_any}
+use Rattle.std.specs.Ordering.{is_eq}
+use Rattle.std.specs.declared.cmp.Ordering.{Ordering}
+use Rattle.std.specs.List.Sorted.{IsStrictlySortedBy}
+use Rattle.std.proofs.lemmas.List.{take_more, take_all, append_assoc}
+use Rattle.std.proofs.lemmas.List.Folds.{list_any-append}
+use Rattle.std.proofs.lemmas.List.Elements.{filter_map-append}
+use Rattle.litmus_values.specs.declared.test.Place.{Place}
+use Rattle.verdict.specs.Order.{is_place}
+use Rattle.verdict.specs.Shown.{is_among, Adds, known_places, AreShown}
+use Rattle.verdict.specs.declared.shown_place.ShownPlace.{ShownPlace}
+use Rattle.verdict.proofs.Orders.{place_orders, place_total}
+use Rattle.verdict.specs.contracts.shown_place.ShownPlaceOrd.TheImpl as place_ord
+use Rattle.verdict.specs.Names.{is_name}
+use Rattle.verdict.specs.Meaning.{location_of, known_place}
+
+pub location_found : (ls : List (List ℕ)) (n : List ℕ) (i : ℕ) (d : List ℕ) → i < length ls → ((k : ℕ) → k < i → is_name n (get_or ls k d) ≡ false) → is_name n (get_or ls i d) ≡ true → location_of ls n ≡ Some i
+location_found ls n i d lt before here =
+    let e : position_or_len (is_name n) ls ≡ i = position_or_len_is (is_name n) ls i d (omega arith) before (λ _. here) in
+    ap (λ (k : ℕ). cond (nat_lt k (length ls)) (Some k) None) e ∙ ap (λ (b : Bool). cond b (Some i) None) ((Decides-ltb i (length ls)).1 lt)
+
+pub location_missing : (ls : List (List ℕ)) (n : List ℕ) (d : List ℕ) → ((k : ℕ) → k < length ls → is_name n (get_or ls k d) ≡ false) → location_of ls n ≡ None
+location_missing ls n d before =
+    let e : position_or_len (is_name n) ls ≡ length ls = position_or_len_is (is_name n) ls (length ls) d (omega arith) before (λ lt. absurd (omega arith)) in
+    let f : nat_lt (length ls) (length ls) ≡ false = grind (arith, nat_tests) in
+    ap (λ (k : ℕ). cond (nat_lt k (length ls)) (Some k) None) e ∙ ap (λ (b : Bool). cond b (Some (length ls)) None) f
+
+either_way : (there here : Bool) → cond here true there ≡ (there || (here || false))
+either_way true true = refl
+either_way true false = refl
+either_way false true = refl
+either_way false false = refl
+
+-- a set with one place more
+pub one_added : (old new : List ShownPlace) (k : ShownPlace) → ((q : ShownPlace) → list_any (λ x. is_eq ((place_ord.ghosts).cmp q x)) new ≡ cond (is_eq ((place_ord.ghosts).cmp k q)) true (list_any (λ x. is_eq ((place_ord.ghosts).cmp q x)) old)) → Adds old new (k ∷ [])
+one_added old new k h p =
+    subst (λ (R : ShownPlace → ShownPlace → Ordering). (q : ShownPlace) → list_any (λ x. is_eq (R q x)) new ≡ cond (is_eq (R k q)) true (list_any (λ x. is_eq (R q x)) old)) place_orders h p
+    ∙ ap (λ (b : Bool). cond b true (is_among old p)) ((eq_by_cmp_equiv place_total).symm k p)
+    ∙ either_way (is_among old p) (is_place p k)
+
+or_false : (b : Bool) → (b || false) ≡ b
+or_false true = refl
+or_false false = refl
+
+or_assoc : (a b d : Bool) → ((a || b) || d) ≡ (a || (b || d))
+or_assoc true b d = refl
+or_assoc false b d = refl
+
+pub none_added : (old : List ShownPlace) → Adds old old []
+none_added old p = sym (or_false (is_among old p))
+
+pub added_twice : (ls : List (List ℕ)) (old mid new : List ShownPlace) (ps qs : List Place) → Adds old mid (known_places ls ps) → Adds mid new (known_places ls qs) → Adds old new (known_places ls (ps ++ qs))
+added_twice ls old mid new ps qs h k p =
+    k p ∙ ap (λ (b : Bool). b || is_among (known_places ls qs) p) (h p) ∙ or_assoc (is_among old p) (is_among (known_places ls ps) p) (is_among (known_places ls qs) p)
+    ∙ ap (λ (b : Bool). is_among old p || b) (sym (list_any-append (is_place p) (known_places ls ps) (known_places ls qs)))
+    ∙ ap (λ (l : List ShownPlace). is_among old p || is_among l p) (sym (filter_map-append (known_place ls) ps qs))
+
+pub one_place_more : (ls : List (List ℕ)) (mid new : List ShownPlace) (front observed : List Place) (i : ℕ) (d : Place) → i < length observed → Adds [] mid (known_places ls (front ++ take i observed)) → Adds mid new (known_places ls (get_or observed i d ∷ [])) → Adds [] new (known_places ls (front ++ take (i + 1) observed))
+one_place_more ls mid new front observed i d lt h k =
+    subst (λ (l : List Place). Adds [] new (known_places ls l)) (append_assoc front (take i observed) (get_or observed i d ∷ []) ∙ ap (λ (l : List Place). front ++ l) (sym (take_more observed i d lt)))
+    (added_twice ls [] mid new (front ++ take i observed) (get_or observed i d ∷ []) h k)
+
+-- the places of a set that has just these, in its order
+pub all_shown : (ls : List (List ℕ)) (front observed : List Place) (i : ℕ) (keys shown : List ShownPlace) → length observed ≤ i → shown ≡ keys → IsStrictlySortedBy ((place_ord.ghosts).cmp) keys → Adds [] keys (known_places ls (front ++ take i observed)) → AreShown ls (front ++ observed) shown
+all_shown ls front observed i keys shown past same sorted h =
+    subst (λ (l : List ShownPlace). AreShown ls (front ++ observed) l) (sym same) (record {
+      ordered = subst (λ (R : ShownPlace → ShownPlace → Ordering). IsStrictlySortedBy R keys) place_orders sorted;
+      exact = λ p. h p ∙ ap (λ (l : List Place). is_among (known_places ls (front ++ l)) p) (take_all i observed past);
+    })

@@ -1,0 +1,39 @@
+-- The candidates that a model keeps, and the names that they raise.
+use Rattle.std.specs.Prelude.{ℕ, Bool, false, not, ◌&&◌, List, [], ◌∷◌, Vec, map, filter, slice_index_or}
+use Rattle.std.specs.List.{list_all, list_any, enumerate_from, zip}
+use Rattle.std.specs.declared.alloc.Global.{Global}
+use Rattle.verdict.specs.Names.{is_name}
+use Rattle.verdict.specs.declared.judgement.Raised.{Raised}
+
+-- whether a check that has these answers holds on the candidate at this place
+abbrev pub holds_at : ℕ → List Bool → Bool
+holds_at place answers = slice_index_or answers place false
+
+-- a candidate is kept where all checks hold on it
+abbrev pub is_kept : List (Vec Bool Global) → ℕ → Bool
+is_kept checks place = list_all (λ answers. holds_at place answers.items) checks
+
+-- the candidates that are kept, each with its place
+abbrev pub kept : {X : Type 0} → List (Vec Bool Global) → List X → List (ℕ × X)
+kept checks candidates = filter (λ x. is_kept checks x.0) (enumerate_from 0 candidates)
+
+-- whether two lists of answers are both true at some place
+abbrev pub holds_on_some : List Bool → List Bool → Bool
+holds_on_some kept answers = list_any (λ x. x.0 && x.1) (zip kept answers)
+
+-- a flag is raised where its check holds on some kept candidate
+abbrev pub is_raised : {X : Type 0} → List (ℕ × X) → Raised → Bool
+is_raised candidates flag = list_any (λ x. holds_at x.0 flag.holds.now) candidates
+
+-- the names of a list, each once, where it stands first
+abbrev pub each_once : List (List ℕ) → List (List ℕ)
+each_once [] = []
+each_once (n ∷ ns) = n ∷ filter (λ m. not (is_name n m)) (each_once ns)
+
+-- the names of the flags that pass a test, each once, in the order of the text
+unfoldable pub names_of : (Raised → Bool) → List Raised → List (List ℕ)
+names_of test flags = each_once (map (λ f. f.name.now) (filter test flags))
+
+-- the names that the kept candidates raise
+abbrev pub raised_names : {X : Type 0} → List (ℕ × X) → List Raised → List (List ℕ)
+raised_names candidates flags = names_of (is_raised candidates) flags

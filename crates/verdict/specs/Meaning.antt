@@ -1,0 +1,66 @@
+-- When a state satisfies a proposition.
+use Rattle.std.specs.Prelude.{ℕ, Bool, true, false, not, ◌&&◌, ◌||◌, ◌==◌, List, [], ◌∷◌, ◌++◌, Option, Some, None, position}
+use Rattle.std.specs.Option.{option_map}
+use Rattle.std.specs.Ordering.{int_eq}
+use Rattle.litmus_values.specs.declared.test.Connective.{Connective}
+use Rattle.litmus_values.specs.declared.test.Connective.TheVariants.{And, Or, Implies}
+use Rattle.litmus_values.specs.declared.test.Place.{Place}
+use Rattle.litmus_values.specs.declared.test.Place.TheVariants as places
+use Rattle.litmus_values.specs.declared.test.Value as text
+use Rattle.litmus_values.specs.declared.test.Value.TheVariants as texts
+use Rattle.litmus_values.specs.Value.{Formula, Constant, Holds, Not, Join}
+use Rattle.verdict.specs.Names.{is_name}
+use Rattle.verdict.specs.declared.answer.FinalValue.{FinalValue}
+use Rattle.verdict.specs.declared.answer.FinalValue.TheVariants as values
+use Rattle.verdict.specs.declared.shown_place.ShownPlace.{ShownPlace}
+use Rattle.verdict.specs.declared.shown_place.ShownPlace.TheVariants as shown
+
+-- the place of a name among the locations of a test
+abbrev pub location_of : List (List ℕ) → List ℕ → Option ℕ
+location_of locations name = position (is_name name) locations
+
+-- a place that a test writes, where its location is one of the test
+abbrev pub known_place : List (List ℕ) → Place → Option ShownPlace
+known_place locations (places.Register thread register) = Some (shown.Register thread register)
+known_place locations (places.Location name) = option_map shown.Location (location_of locations name)
+
+-- a value that a test writes, where its location is one of the test
+abbrev pub known_value : List (List ℕ) → text.Value → Option FinalValue
+known_value locations (texts.Number number) = Some (values.Number number)
+known_value locations (texts.Address name) = option_map values.Address (location_of locations name)
+
+abbrev pub is_value : FinalValue → FinalValue → Bool
+is_value (values.Number m) (values.Number n) = int_eq m n
+is_value (values.Address k) (values.Address l) = k == l
+is_value values.NoValue values.NoValue = true
+is_value (values.Number m) (values.Address l) = false
+is_value (values.Number m) values.NoValue = false
+is_value (values.Address k) (values.Number n) = false
+is_value (values.Address k) values.NoValue = false
+is_value values.NoValue (values.Number n) = false
+is_value values.NoValue (values.Address l) = false
+
+-- whether a known place holds a known value: nothing holds of others
+abbrev pub is_held : (ShownPlace → FinalValue) → Option ShownPlace → Option FinalValue → Bool
+is_held held (Some place) (Some value) = is_value (held place) value
+is_held held (Some place) None = false
+is_held held None value = false
+
+abbrev pub joined_by : Connective → Bool → Bool → Bool
+joined_by And a b = a && b
+joined_by Or a b = a || b
+joined_by Implies a b = not a || b
+
+-- whether a proposition is true where the places hold this
+abbrev pub satisfies : List (List ℕ) → (ShownPlace → FinalValue) → Formula → Bool
+satisfies locations held (Constant b) = b
+satisfies locations held (Holds place value) = is_held held (known_place locations place) (known_value locations value)
+satisfies locations held (Not a) = not (satisfies locations held a)
+satisfies locations held (Join op a b) = joined_by op (satisfies locations held a) (satisfies locations held b)
+
+-- the places of a proposition
+abbrev pub places_of : Formula → List Place
+places_of (Constant b) = []
+places_of (Holds place value) = place ∷ []
+places_of (Not a) = places_of a
+places_of (Join op a b) = places_of a ++ places_of b

@@ -1,0 +1,33 @@
+-- States as they are printed.
+use Rattle.std.specs.Prelude.{ℕ, List, [], ◌++◌, map, slice_index_or, codes}
+use Rattle.std.specs.List.{zip}
+use Rattle.std.specs.Fmt.{signed_decimal}
+use Rattle.litmus_values.specs.declared.test.Place.{Place}
+use Rattle.litmus_values.specs.declared.test.Place.TheVariants as places
+use Rattle.litmus_ppc.specs.Printing.{joined, place_text}
+use Rattle.verdict.specs.declared.answer.FinalValue.{FinalValue}
+use Rattle.verdict.specs.declared.answer.FinalValue.TheVariants as values
+use Rattle.verdict.specs.declared.shown_place.ShownPlace.{ShownPlace}
+use Rattle.verdict.specs.declared.shown_place.ShownPlace.TheVariants as shown
+
+-- the name of the location at this place among those of the test
+abbrev pub name_at : List (List ℕ) → ℕ → List ℕ
+name_at locations location = slice_index_or locations location []
+
+-- a place of a state, as tests write it
+abbrev pub place_of : List (List ℕ) → ShownPlace → Place
+place_of locations (shown.Register thread register) = places.Register thread register
+place_of locations (shown.Location location) = places.Location (name_at locations location)
+
+abbrev pub value_text : List (List ℕ) → FinalValue → List ℕ
+value_text locations (values.Number number) = signed_decimal number
+value_text locations (values.Address location) = name_at locations location
+value_text locations values.NoValue = []
+
+-- what a place holds, as `1:r1=0;`
+abbrev pub held_text : List (List ℕ) → ShownPlace → FinalValue → List ℕ
+held_text locations place value = place_text (place_of locations place) ++ (codes "=" ++ (value_text locations value ++ codes ";"))
+
+-- the state, its places joined by one space
+abbrev pub state_text : List (List ℕ) → List ShownPlace → List FinalValue → List ℕ
+state_text locations places values = joined (codes " ") (map (λ x. held_text locations x.0 x.1) (zip places values))
