@@ -1,6 +1,6 @@
 -- When the names that are held are those of a candidate.
 use Rattle.std.specs.Prelude.{ℕ, ◌≡◌, ◌<◌, ◌↔◌, List, length, get_or, min, Contains}
-use Rattle.cat_syntax.specs.declared.predefined.Predefined.{Predefined}
+use Rattle.cat_values.specs.declared.predefined.Predefined.{Predefined}
 use Rattle.candidates.specs.declared.candidate.Combination.{Combination}
 use Rattle.bit_relations.specs.Relation.{IsRelation, IsEvents}
 use Rattle.base_env.specs.declared.names.Named.{Named}
@@ -8,7 +8,7 @@ use Rattle.base_env.specs.declared.names.Shared.{Shared}
 use Rattle.base_env.specs.Events.{At, Below, ReadsFrom, Coherence}
 use Rattle.base_env.specs.Names.{IsIn, Fixed}
 use Rattle.bit_relations.specs.Pairs.{Inter, Union, Inverse, Composed}
-use Rattle.cat_syntax.specs.declared.predefined.Predefined.TheVariants as names
+use Rattle.cat_values.specs.declared.predefined.Predefined.TheVariants as names
 use Rattle.base_env.specs.Known.{Known, EventsOf, SharedPairs, set_names, shared_names}
 
 -- the events of a set among the first n events of a combination

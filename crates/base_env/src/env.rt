@@ -3,7 +3,7 @@
 use crate::names::Base;
 use bit_relations::{EventSet, Rel};
 use candidates::{Combination, Execution};
-use cat_syntax::Predefined;
+use cat_values::Predefined;
 use std::alloc::{AllocError, Global};
 
 /// The predefined names of one candidate, all over the number of its events.

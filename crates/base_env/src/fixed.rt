@@ -7,7 +7,7 @@ ghost use Rattle.base_env.specs.Names.{Fixed};
 
 use bit_relations::Rel;
 use candidates::{Action, Combination, Event};
-use cat_syntax::Predefined;
+use cat_values::Predefined;
 use litmus_ppc::Fence;
 
 /// Adds a pair of events, if the relation can have it.

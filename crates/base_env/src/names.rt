@@ -2,7 +2,7 @@
 ghost use Rattle.std.specs.Prelude.{◌≡◌, ℕ, ◌≤◌, ◌↔◌, MatchOption, Contains, length};
 ghost use Rattle.bit_relations.specs.Relation.{Has, IsRelation, IsEvents};
 ghost use Rattle.bit_relations.specs.Pairs.{Inter};
-ghost use Rattle.cat_syntax.specs.declared.predefined.Predefined.TheVariants as names;
+ghost use Rattle.cat_values.specs.declared.predefined.Predefined.TheVariants as names;
 ghost use Rattle.base_env.specs.Known.{AreKnown, EventsUnder, PairsUnder, EventsOf, PairsOf, SharedPairs, EventsFound, set_names, shared_names};
 ghost use Rattle.base_env.specs.Candidate.{AreSets, AreShared, IsEntered, IsReading, IsOrdered, Gives, SetIn, RelationIn};
 
@@ -11,7 +11,7 @@ use crate::fixed::write_fixed;
 use crate::sets::set_of;
 use bit_relations::{EventSet, MAX_EVENTS, Rel};
 use candidates::Combination;
-use cat_syntax::{PREDEFINED, Predefined};
+use cat_values::{PREDEFINED, Predefined};
 use std::alloc::{AllocError, Global};
 use std::marker::Model;
 

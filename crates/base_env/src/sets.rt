@@ -7,7 +7,7 @@ ghost use Rattle.base_env.specs.Names.{IsIn};
 use crate::fixed::is_access;
 use bit_relations::EventSet;
 use candidates::{Action, Event};
-use cat_syntax::Predefined;
+use cat_values::Predefined;
 use litmus_ppc::Fence;
 
 /// Whether an event is in a predefined set; no event is in a name that is no set.

@@ -1,7 +1,7 @@
 -- One more name of a group.
 use Rattle.std.proofs.Common.{ℕ, ◌≡◌, ◌<◌, ◌+◌, List, [], ◌∷◌, ◌++◌, length, map, reverse, drop, get_or, refl, add-one}
 use Rattle.std.proofs.Math.Seq.{drop-cons}
-use Rattle.cat_syntax.specs.declared.model.Binding.{Binding}
+use Rattle.cat_values.specs.declared.model.Binding.{Binding}
 use Rattle.binding_graph.specs.declared.scope.Entry.{Entry}
 use Rattle.binding_graph.specs.declared.scope.Binder.TheVariants as binders
 use Rattle.binding_graph.specs.declared.resolved.Kind.TheVariants.{OfRelation}

@@ -1,9 +1,9 @@
 -- What a name stands for, and the kinds of expressions.
 use Rattle.std.specs.Prelude.{ℕ, List, [], ◌∷◌, length, Bool, true, false, ◌&&◌, bytes_eq, if◌then◌else◌, Option, Some, None}
-use Rattle.cat_syntax.specs.declared.model.Infix.{Infix}
-use Rattle.cat_syntax.specs.declared.model.Infix.TheVariants.{Union, Sequence, Difference, Intersection, Product}
-use Rattle.cat_syntax.specs.declared.model.CheckWord.{CheckWord}
-use Rattle.cat_syntax.specs.declared.model.CheckWord.TheVariants.{Acyclic, Irreflexive, Empty}
+use Rattle.cat_values.specs.declared.model.Infix.{Infix}
+use Rattle.cat_values.specs.declared.model.Infix.TheVariants.{Union, Sequence, Difference, Intersection, Product}
+use Rattle.cat_values.specs.declared.model.CheckWord.{CheckWord}
+use Rattle.cat_values.specs.declared.model.CheckWord.TheVariants.{Acyclic, Irreflexive, Empty}
 use Rattle.binding_graph.specs.declared.resolved.Kind.{Kind}
 use Rattle.binding_graph.specs.declared.resolved.Kind.TheVariants.{OfSet, OfRelation, OfAny}
 use Rattle.binding_graph.specs.declared.scope.Found.{Found}

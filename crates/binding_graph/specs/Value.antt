@@ -1,13 +1,13 @@
 -- A model without functions of its own as plain data, without where it lies in memory.
 use Rattle.std.specs.Prelude.{ℕ, List, [], ◌∷◌, Bool, map}
-use Rattle.cat_syntax.specs.declared.model.Infix.{Infix}
-use Rattle.cat_syntax.specs.declared.model.Postfix.{Postfix}
-use Rattle.cat_syntax.specs.declared.model.CheckWord.{CheckWord}
-use Rattle.cat_syntax.specs.declared.model.Expression.{Expression}
-use Rattle.cat_syntax.specs.declared.model.Expression.TheVariants as code
-use Rattle.cat_syntax.specs.declared.model.Binding as code_binding
-use Rattle.cat_syntax.specs.declared.model.Item as code_item
-use Rattle.cat_syntax.specs.declared.model.Item.TheVariants as items
+use Rattle.cat_values.specs.declared.model.Infix.{Infix}
+use Rattle.cat_values.specs.declared.model.Postfix.{Postfix}
+use Rattle.cat_values.specs.declared.model.CheckWord.{CheckWord}
+use Rattle.cat_values.specs.declared.model.Expression.{Expression}
+use Rattle.cat_values.specs.declared.model.Expression.TheVariants as code
+use Rattle.cat_values.specs.declared.model.Binding as code_binding
+use Rattle.cat_values.specs.declared.model.Item as code_item
+use Rattle.cat_values.specs.declared.model.Item.TheVariants as items
 use Rattle.binding_graph.specs.declared.resolved.Kind.{Kind}
 use Rattle.binding_graph.specs.declared.scope.Binder.{Binder}
 use Rattle.binding_graph.specs.declared.scope.Entry as code_entry

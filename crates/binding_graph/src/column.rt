@@ -5,7 +5,7 @@ use crate::kinds::{joined, takes};
 use crate::plan::{Piece, Sight};
 use crate::resolved::Kind;
 use crate::signature::{Signature, has_any, kind_at, weighed, weight};
-use cat_syntax::{Expression, Infix};
+use cat_values::{Expression, Infix};
 use source_text::Name;
 use std::alloc::{AllocError, Global};
 

@@ -17,7 +17,7 @@ use crate::resolved::{Input, Kind};
 use crate::scope::{Binder, Entry, Scope};
 use crate::signature::Signature;
 use crate::uses::Uses;
-use cat_syntax::{Binding, Check, Expression, Item};
+use cat_values::{Binding, Check, Expression, Item};
 use source_text::Name;
 use std::alloc::{AllocError, Global};
 

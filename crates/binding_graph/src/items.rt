@@ -13,7 +13,7 @@ use crate::plan::{Plan, Sight};
 use crate::resolved::{Body, CheckCode, Code, Resolved, ResolvedItem, Role};
 use crate::scope::Scope;
 use crate::uses::{Uses, inputs_at, items_of};
-use cat_syntax::{Binding, Check, Expression, Item, ModelText};
+use cat_values::{Binding, Check, Expression, Item, ModelText};
 use source_text::Name;
 use std::alloc::{AllocError, Global};
 

@@ -12,7 +12,7 @@ use crate::kinds::{is_turned, joined, takes};
 use crate::resolved::Kind;
 use crate::scope::{Binder, Entry, Found, find, kind_found};
 use crate::signature::weighed;
-use cat_syntax::{Binding, Expression, Infix};
+use cat_values::{Binding, Expression, Infix};
 use source_text::Name;
 
 /// The kind of an expression, its size and its first fault.

@@ -4,7 +4,7 @@ ghost use Rattle.std.specs.Prelude.{◌≡◌};
 ghost use Rattle.binding_graph.specs.Kinds.{joined, takes, marked, narrowed, is_set, is_relation, takes_body, is_turned};
 
 use crate::resolved::Kind;
-use cat_syntax::{CheckWord, Infix};
+use cat_values::{CheckWord, Infix};
 
 impl Kind {
     /// Whether it may stand where a set is wanted.

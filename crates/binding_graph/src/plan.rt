@@ -5,7 +5,7 @@ use crate::function::{Function, MAX_PARAMETERS};
 use crate::kinds::is_turned;
 use crate::scope::{Binder, Entry, find};
 use crate::uses::Uses;
-use cat_syntax::{Expression, Infix, Postfix};
+use cat_values::{Expression, Infix, Postfix};
 use source_text::Name;
 use std::alloc::{AllocError, Global};
 

@@ -1,6 +1,6 @@
 //! A model without fault.
 
-use cat_syntax::{CheckWord, Postfix, Predefined};
+use cat_values::{CheckWord, Postfix, Predefined};
 use source_text::Name;
 
 /// Whether an expression is a set of events or a relation, or fits either.

@@ -6,7 +6,7 @@ ghost use Rattle.binding_graph.specs.Kinds.{found, kind_found};
 
 use crate::function::Function;
 use crate::resolved::{Input, Kind};
-use cat_syntax::{PREDEFINED, Predefined};
+use cat_values::{PREDEFINED, Predefined};
 use source_text::Name;
 use std::alloc::{AllocError, Global};
 

@@ -4,27 +4,28 @@ use Rattle.std.specs.Prelude.{IfOk, IfErr, MatchResult}
 use Rattle.std.proofs.lemmas.Bool.{cases_lt}
 use Rattle.std.specs.declared.vec.Vec.{Vec}
 use Rattle.std.specs.declared.alloc.Global.{Global}
-use Rattle.cat_syntax.specs.declared.fault.CatRule.{CatRule}
-use Rattle.cat_syntax.specs.declared.fault.CatRule.TheVariants.{TooLong}
+use Rattle.cat_tokens.specs.declared.rule.CatRule.{CatRule}
+use Rattle.cat_tokens.specs.declared.rule.CatRule.TheVariants.{TooLong}
 use Rattle.cat_syntax.specs.declared.fault.CatFault.{CatFault}
 use Rattle.cat_syntax.specs.declared.fault.CatFault.TheVariants as faults
-use Rattle.cat_syntax.specs.declared.lexer.Front.{Front}
-use Rattle.cat_syntax.specs.declared.lexer.Front.TheVariants.{Layout, Lexeme}
-use Rattle.cat_syntax.specs.declared.model.Item.{Item}
-use Rattle.cat_syntax.specs.declared.parts.Form.{Form}
-use Rattle.cat_syntax.specs.declared.parts.Form.TheVariants as forms
-use Rattle.cat_syntax.specs.declared.token.Token.{Token}
-use Rattle.cat_syntax.specs.declared.token.Token.TheVariants.{End}
-use Rattle.cat_syntax.specs.Value.{Clause}
-use Rattle.cat_syntax.specs.Grammar.{Placed, tokens_of, ItemTree}
-use Rattle.cat_syntax.specs.Lexer.{front}
+use Rattle.cat_tokens.specs.declared.lexer.Front.{Front}
+use Rattle.cat_tokens.specs.declared.lexer.Front.TheVariants.{Layout, Lexeme}
+use Rattle.cat_values.specs.declared.model.Item.{Item}
+use Rattle.cat_grammar.specs.declared.form.Form.{Form}
+use Rattle.cat_grammar.specs.declared.form.Form.TheVariants as forms
+use Rattle.cat_tokens.specs.declared.token.Token.{Token}
+use Rattle.cat_tokens.specs.declared.token.Token.TheVariants.{End}
+use Rattle.cat_values.specs.Value.{Clause}
+use Rattle.cat_tokens.specs.Tokens.{Placed, tokens_of}
+use Rattle.cat_grammar.specs.Grammar.{ItemTree}
+use Rattle.cat_tokens.specs.Lexer.{front, after_front, tokens_from, lexed}
 use Rattle.cat_syntax.specs.Faults.{IsMemory}
-use Rattle.cat_syntax.specs.ReadingItems.{clause_of, clauses_of}
-use Rattle.cat_syntax.specs.ReadingTexts.{after_front, tokens_from, lexed, reading, ReadsTo}
+use Rattle.cat_values.specs.Values.{clause_of, clauses_of}
+use Rattle.cat_syntax.specs.ReadingTexts.{reading, ReadsTo}
 use Rattle.cat_syntax.specs.Reads.{Reads, FaultAt, IsLong, InText, IsFaultOf}
 use Rattle.cat_syntax.proofs.Texts.{too_long, fits}
-use Rattle.cat_syntax.proofs.Groups.{length-items_meaning}
-use Rattle.cat_syntax.proofs.Outcomes.{no_fault, fault_found, items_found, items_only}
+use Rattle.cat_grammar.proofs.Groups.{length-items_meaning}
+use Rattle.cat_grammar.proofs.Outcomes.{no_fault, fault_found, items_found, items_only}
 
 -- the last token of a text is its end
 ends_last : (skip place : ℕ) (bytes : List ℕ) → (ts : List Token) × (tokens_of (tokens_from skip place bytes) ≡ ts ++ End ∷ [])

@@ -8,23 +8,24 @@ use Rattle.std.proofs.lemmas.List.Sums.{sum_by-cons}
 use Rattle.cat_syntax.specs.declared.frames.Frame.TheVariants as frames
 use mathlib.Core.Former.{Count}
 use Rattle.std.proofs.Common.{Vec, Global}
-use Rattle.cat_syntax.specs.declared.model.Expression.{Expression, Row_of-Expression, end_of-Expression, more_of-Expression, items-the_row-Expression, items_hidden-the_row-Expression-0}
-use Rattle.cat_syntax.specs.declared.model.Expression.TheVariants as expressions
-use Rattle.cat_syntax.specs.declared.model.Expression.TheVariants.{Applied'}
-use Rattle.cat_syntax.specs.declared.model.Infix.{Infix}
-use Rattle.cat_syntax.specs.declared.model.Infix.TheVariants.{Product}
-use Rattle.cat_syntax.specs.declared.fault.CatRule.TheVariants.{TooDeep}
+use Rattle.cat_values.specs.declared.model.Expression.{Expression, Row_of-Expression, end_of-Expression, more_of-Expression, items-the_row-Expression, items_hidden-the_row-Expression-0}
+use Rattle.cat_values.specs.declared.model.Expression.TheVariants as expressions
+use Rattle.cat_values.specs.declared.model.Expression.TheVariants.{Applied'}
+use Rattle.cat_values.specs.declared.model.Infix.{Infix}
+use Rattle.cat_values.specs.declared.model.Infix.TheVariants.{Product}
+use Rattle.cat_tokens.specs.declared.rule.CatRule.TheVariants.{TooDeep}
 use Rattle.cat_syntax.specs.declared.frames.Fed as code_fed
 use Rattle.cat_syntax.specs.declared.frames.StepError.{StepError}
-use Rattle.cat_syntax.specs.declared.model.CheckWord.{CheckWord}
-use Rattle.cat_syntax.specs.declared.token.Token.{Token}
-use Rattle.cat_syntax.specs.declared.token.Token.TheVariants as tokens
-use Rattle.cat_syntax.specs.Value.{Term, Join, Not, Apply, OneMore, gathered}
+use Rattle.cat_values.specs.declared.model.CheckWord.{CheckWord}
+use Rattle.cat_tokens.specs.declared.token.Token.{Token}
+use Rattle.cat_tokens.specs.declared.token.Token.TheVariants as tokens
+use Rattle.cat_values.specs.Value.{Term, Join, Not, Apply, OneMore, gathered}
 use Rattle.cat_syntax.specs.declared.frames.Frame as code_frame
-use Rattle.cat_syntax.specs.Machine as machine
-use Rattle.cat_syntax.specs.Grammar.{level}
-use Rattle.cat_syntax.specs.Reading.{term_of, terms_of, frame_of, stacked, stack_of, is_open, is_no_bracket, Feeds}
-use Rattle.cat_syntax.specs.Grammar.{limits}
+use Rattle.cat_grammar.specs.Machine as machine
+use Rattle.cat_grammar.specs.Grammar.{level, limits}
+use Rattle.cat_values.specs.Values.{term_of}
+use Rattle.cat_values.proofs.Arguments.{applied_term}
+use Rattle.cat_syntax.specs.Reading.{frame_of, stacked, stack_of, is_open, is_no_bracket, Feeds}
 
 pub stacked-push : (fs : List code_frame.Frame) (f : code_frame.Frame) (below : List machine.Frame) → stacked (fs ++ f ∷ []) below ≡ frame_of f ∷ stacked fs below
 stacked-push [] f below = refl
@@ -120,20 +121,6 @@ star_tilde_other fs gs all used left t r other e pushed h =
     by_token : (u : Token) → ((w : CheckWord) → u ≡ tokens.Check w → ⊥) → Feeds t r (machine.operand limits (machine.InPrefix ∷ machine.infix_at Product (stack_of fs) (term_of left)) used u) → Feeds t r (machine.after_star_tilde limits (stack_of fs) used (term_of left) u)
     by_token (tokens.Check w) n k = absurd (n w refl)
     by_token _ n k = k
-
--- the arguments of a function, as a list
-terms_row : (n : _) (row : Row_of-Expression n) → terms_of row ≡ gathered (map term_of (items-the_row-Expression n row))
-terms_row n end_of-Expression = refl
-terms_row n (more_of-Expression a others) = ap (OneMore (term_of a)) (terms_row _ others)
-
-abbrev row_of : Expression → (n : Count) × Row_of-Expression n
-row_of (Applied' n _ row) = (_, row)
-row_of _ = (_, end_of-Expression)
-
-pub applied_term : (n : List ℕ) (args : Vec Expression Global) → term_of (expressions.Applied n args) ≡ Apply n (gathered (map term_of args.items))
-applied_term n args =
-    let row = row_of (expressions.Applied n args) in
-    ap (Apply n) (terms_row row.0 row.1 ∙ ap (λ (l : List Expression). gathered (map term_of l)) (items_hidden-the_row-Expression-0 args))
 
 -- one more argument
 map-push : (args : List Expression) (a : Expression) → map term_of (args ++ a ∷ []) ≡ map term_of args ++ term_of a ∷ []

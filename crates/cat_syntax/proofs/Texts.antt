@@ -7,70 +7,23 @@ use Rattle.std.proofs.lemmas.List.{at_drop_more, drop_more, drop_all, length-dro
 use Rattle.std.proofs.lemmas.List.{drop-drop, take_all}
 use Rattle.cat_syntax.specs.declared.fault.CatFault.{CatFault}
 use Rattle.cat_syntax.specs.declared.fault.CatFault.TheVariants as faults
-use Rattle.cat_syntax.specs.declared.fault.CatRule.TheVariants.{TooLong, Syntax}
-use Rattle.cat_syntax.specs.declared.fault.CatRule.{CatRule}
-use Rattle.cat_syntax.specs.declared.model.Item.{Item}
-use Rattle.cat_syntax.specs.Value.{Clause}
-use Rattle.cat_syntax.specs.ReadingItems.{clause_of, clauses_of}
-use Rattle.cat_syntax.specs.declared.parts.Form.{Form}
-use Rattle.cat_syntax.specs.declared.token.Token.{Token}
-use Rattle.cat_syntax.specs.declared.token.Token.TheVariants as tokens
-use Rattle.cat_syntax.specs.declared.lexer.Front.{Front}
-use Rattle.cat_syntax.specs.declared.lexer.Front.TheVariants.{Layout, Lexeme}
-use Rattle.cat_syntax.specs.Lexer.{front}
-use Rattle.cat_syntax.specs.Grammar.{Limits, Placed}
-use Rattle.cat_syntax.specs.ItemMachine.{State, step, start}
-use Rattle.cat_syntax.specs.Grammar.{limits}
-use Rattle.cat_syntax.specs.ReadingTexts.{after_front, tokens_from, reading, lexed, FailsAt}
-use Rattle.cat_syntax.specs.Running.{Ran, placed, and_then, run, items_of}
-
--- passing over bytes
-pub tokens_skip : (k place : ℕ) (bs : List ℕ) → k ≤ length bs → tokens_from k place bs ≡ tokens_from 0 (place + k) (drop k bs)
-unfolding tokens_from
-tokens_skip zero place bs h = ap (λ n. tokens_from 0 n bs) (omega arith)
-tokens_skip (suc k) place [] h = absurd (omega arith)
-tokens_skip (suc k) place (b ∷ bs) h =
-    tokens_skip k (place + 1) bs (omega arith) ∙ ap (λ n. tokens_from 0 n (drop k bs)) (omega arith)
-
-pub tokens_past : (k place : ℕ) (bs : List ℕ) → length bs ≤ k → tokens_from k place bs ≡ tokens_from 0 (place + length bs) []
-unfolding tokens_from
-tokens_past zero place [] h = ap (λ n. record { token = tokens.End; place = n } ∷ []) (omega arith)
-tokens_past zero place (b ∷ bs) h = absurd (omega arith)
-tokens_past (suc k) place [] h = ap (λ n. record { token = tokens.End; place = n } ∷ []) (omega arith)
-tokens_past (suc k) place (b ∷ bs) h = tokens_past k (place + 1) bs (omega arith) ∙ ap (λ n. tokens_from 0 n []) (omega arith)
-
--- one token, or what stands between tokens
-module _ (bytes : List ℕ) (p n q : ℕ) (lt : p < length bytes) (is : q ≡ p + min (max n 1) (length bytes - p)) where
-  next : tokens_from (n - 1) (p + 1) (drop (p + 1) bytes) ≡ tokens_from 0 q (drop q bytes)
-  next = choose (cases_lt (n - 1) (length (drop (p + 1) bytes)))
-    where
-      choose : ((n - 1) < length (drop (p + 1) bytes)) ⊎ (length (drop (p + 1) bytes) ≤ (n - 1)) → tokens_from (n - 1) (p + 1) (drop (p + 1) bytes) ≡ tokens_from 0 q (drop q bytes)
-      choose (inl less) =
-          let le : n - 1 ≤ length (drop (p + 1) bytes) = omega arith in
-          let l = length-drop (p + 1) bytes in
-          let e : p + 1 + (n - 1) ≡ q = omega arith in
-          tokens_skip (n - 1) (p + 1) (drop (p + 1) bytes) le ∙ ap (tokens_from 0 (p + 1 + (n - 1))) (drop-drop (n - 1) (p + 1) bytes) ∙ ap (λ k. tokens_from 0 k (drop k bytes)) e
-      choose (inr le) =
-          let l = length-drop (p + 1) bytes in
-          let e : p + 1 + length (drop (p + 1) bytes) ≡ q = omega arith in
-          tokens_past (n - 1) (p + 1) (drop (p + 1) bytes) le ∙ ap (λ k. tokens_from 0 k []) e ∙ ap (tokens_from 0 q) (sym (drop_all q bytes (omega arith)))
-
-  opens_with : (f : Front) → f ≡ front (drop p bytes) → tokens_from 0 p (drop p bytes) ≡ after_front p f (λ skip. tokens_from skip (p + 1) (drop (p + 1) bytes))
-  unfolding tokens_from
-  opens_with f e =
-      at_drop_more (tokens_from 0 p) bytes p 0 lt
-      ∙ ap (λ (g : Front). after_front p g (λ skip. tokens_from skip (p + 1) (drop (p + 1) bytes))) (ap front (sym (drop_more bytes p 0 lt)) ∙ sym e)
-
-  pub layout_turn : (f : Front) → f ≡ front (drop p bytes) → f ≡ Layout n → tokens_from 0 p (drop p bytes) ≡ tokens_from 0 q (drop q bytes)
-  layout_turn f e k = opens_with f e ∙ ap (λ (g : Front). after_front p g (λ skip. tokens_from skip (p + 1) (drop (p + 1) bytes))) k ∙ next
-
-  pub lexeme_turn : (f : Front) (t : Token) → f ≡ front (drop p bytes) → f ≡ Lexeme t n → tokens_from 0 p (drop p bytes) ≡ record { token = t; place = p } ∷ tokens_from 0 q (drop q bytes)
-  lexeme_turn f t e k =
-      opens_with f e ∙ ap (λ (g : Front). after_front p g (λ skip. tokens_from skip (p + 1) (drop (p + 1) bytes))) k ∙ ap (λ (ps : List Placed). record { token = t; place = p } ∷ ps) next
-
-pub at_end : (bytes : List ℕ) (p : ℕ) → p ≤ length bytes → length bytes ≤ p → tokens_from 0 p (drop p bytes) ≡ record { token = tokens.End; place = p } ∷ []
-unfolding tokens_from
-at_end bytes p low high = ap (tokens_from 0 p) (drop_all p bytes high)
+use Rattle.cat_tokens.specs.declared.rule.CatRule.TheVariants.{TooLong, Syntax}
+use Rattle.cat_tokens.specs.declared.rule.CatRule.{CatRule}
+use Rattle.cat_values.specs.declared.model.Item.{Item}
+use Rattle.cat_values.specs.Value.{Clause}
+use Rattle.cat_values.specs.Values.{clause_of, clauses_of}
+use Rattle.cat_grammar.specs.declared.form.Form.{Form}
+use Rattle.cat_tokens.specs.declared.token.Token.{Token}
+use Rattle.cat_tokens.specs.declared.token.Token.TheVariants as tokens
+use Rattle.cat_tokens.specs.declared.lexer.Front.{Front}
+use Rattle.cat_tokens.specs.declared.lexer.Front.TheVariants.{Layout, Lexeme}
+use Rattle.cat_tokens.specs.Lexer.{front, after_front, tokens_from, lexed}
+use Rattle.cat_grammar.specs.Grammar.{Limits, limits}
+use Rattle.cat_tokens.specs.Tokens.{Placed}
+use Rattle.cat_grammar.specs.ItemMachine.{State, step, start}
+use Rattle.cat_syntax.specs.ReadingTexts.{reading, FailsAt}
+use Rattle.cat_tokens.proofs.Lexed.{layout_turn, lexeme_turn, at_end}
+use Rattle.cat_grammar.specs.Running.{Ran, placed, and_then, run, items_of}
 
 -- the reader's turns
 module _ (most : Limits) (form : Form) (bytes : List ℕ) (before : ℕ) (s : State) (p n q : ℕ) (all : Ran) (so_far : all ≡ run most form before s (tokens_from 0 p (drop p bytes))) where

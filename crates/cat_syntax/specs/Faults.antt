@@ -2,7 +2,7 @@
 use Rattle.std.specs.Prelude.{◌≡◌, ℕ, ◌≤◌}
 use Rattle.cat_syntax.specs.declared.fault.CatFault.{CatFault}
 use Rattle.cat_syntax.specs.declared.fault.CatFault.TheVariants.{Refused, OutOfMemory}
-use Rattle.cat_syntax.specs.declared.fault.CatRule.TheVariants.{TooLong}
+use Rattle.cat_tokens.specs.declared.rule.CatRule.TheVariants.{TooLong}
 
 -- the place is at most this
 abbrev pub IsWithin : ℕ → CatFault → Type 0

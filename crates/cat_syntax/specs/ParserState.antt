@@ -2,8 +2,9 @@
 use Rattle.std.specs.Prelude.{◌≡◌, Result, Ok, Err}
 use Rattle.cat_syntax.specs.declared.frames.StepError.{StepError}
 use Rattle.cat_syntax.specs.declared.items.Parser.{Parser}
-use Rattle.cat_syntax.specs.ItemMachine.{State, Fault}
-use Rattle.cat_syntax.specs.ReadingItems.{clauses_of, part_of, Fails}
+use Rattle.cat_grammar.specs.ItemMachine.{State, Fault}
+use Rattle.cat_values.specs.Values.{clauses_of}
+use Rattle.cat_syntax.specs.ReadingItems.{part_of, Fails}
 
 abbrev pub state_of : Parser → State
 state_of p = record { items = clauses_of p.items.items; part = part_of p.part }

@@ -1,37 +1,21 @@
 -- What the reader holds of an expression, as the machine sees it.
 use Rattle.std.specs.Prelude.{◌≡◌, List, [], ◌∷◌, Bool, true, false, map, Result, Ok, Err}
-use Rattle.cat_syntax.specs.declared.fault.CatRule.{CatRule}
+use Rattle.cat_tokens.specs.declared.rule.CatRule.{CatRule}
 use Rattle.cat_syntax.specs.declared.frames.StepError.{StepError}
 use Rattle.cat_syntax.specs.declared.frames.StepError.TheVariants as errors
-use Rattle.cat_syntax.specs.declared.model.Expression.{Expression, Row_of-Expression, end_of-Expression, more_of-Expression}
-use Rattle.cat_syntax.specs.declared.model.Expression.TheVariants.{Named, Everything, NoPairs, NoEvents, Joined', Marked', Complement', Identity', Applied'}
+use Rattle.cat_values.specs.declared.model.Expression.{Expression, Row_of-Expression, end_of-Expression, more_of-Expression}
+use Rattle.cat_values.specs.declared.model.Expression.TheVariants.{Named, Everything, NoPairs, NoEvents, Joined', Marked', Complement', Identity', Applied'}
 use Rattle.cat_syntax.specs.declared.frames.Frame as code_frame
 use Rattle.cat_syntax.specs.declared.frames.Frame.TheVariants as frames
 use Rattle.cat_syntax.specs.declared.frames.Hole as code_hole
 use Rattle.cat_syntax.specs.declared.frames.Hole.TheVariants as holes
 use Rattle.cat_syntax.specs.declared.frames.Fed as code_fed
 use Rattle.cat_syntax.specs.declared.frames.Fed.TheVariants as fed
-use Rattle.cat_syntax.specs.declared.token.Token.{Token}
-use Rattle.cat_syntax.specs.declared.token.Token.TheVariants as tokens
-use Rattle.cat_syntax.specs.Value.{Term, Terms, Atom, AllEvents, EmptyRelation, EmptySet, Join, Mark, Not, On, Apply, NoTerm, OneMore}
-use Rattle.cat_syntax.specs.Machine as machine
-
-abbrev mutual
-  -- an expression without where it lies in memory
-  pub term_of : Expression → Term
-  term_of (Named n) = Atom n
-  term_of Everything = AllEvents
-  term_of NoPairs = EmptyRelation
-  term_of NoEvents = EmptySet
-  term_of (Joined' op p a q b) = Join op (term_of a) (term_of b)
-  term_of (Marked' op p a) = Mark op (term_of a)
-  term_of (Complement' p a) = Not (term_of a)
-  term_of (Identity' p a) = On (term_of a)
-  term_of (Applied' n shape row) = Apply n (terms_of row)
-
-  pub terms_of : {m : _} → Row_of-Expression m → Terms
-  terms_of end_of-Expression = NoTerm
-  terms_of (more_of-Expression a others) = OneMore (term_of a) (terms_of others)
+use Rattle.cat_tokens.specs.declared.token.Token.{Token}
+use Rattle.cat_tokens.specs.declared.token.Token.TheVariants as tokens
+use Rattle.cat_values.specs.Value.{Term, Terms, Atom, AllEvents, EmptyRelation, EmptySet, Join, Mark, Not, On, Apply, NoTerm, OneMore}
+use Rattle.cat_values.specs.Values.{term_of}
+use Rattle.cat_grammar.specs.Machine as machine
 
 abbrev pub frame_of : code_frame.Frame → machine.Frame
 frame_of frames.Group = machine.InGroup

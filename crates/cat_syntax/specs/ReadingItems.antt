@@ -4,13 +4,13 @@ use Rattle.cat_syntax.specs.declared.frames.StepError.{StepError}
 use Rattle.cat_syntax.specs.declared.frames.StepError.TheVariants as errors
 use Rattle.cat_syntax.specs.declared.frames.Fed.{Fed}
 use Rattle.cat_syntax.specs.declared.frames.Fed.TheVariants as feds
-use Rattle.cat_syntax.specs.declared.token.Token.{Token}
-use Rattle.cat_syntax.specs.declared.token.Token.TheVariants as tokens
-use Rattle.cat_syntax.specs.declared.model.Binding as code_binding
-use Rattle.cat_syntax.specs.declared.model.ShownExpression.{ShownExpression}
-use Rattle.cat_syntax.specs.declared.model.Check as code_check
-use Rattle.cat_syntax.specs.declared.model.Item.{Item}
-use Rattle.cat_syntax.specs.declared.model.Item.TheVariants as items
+use Rattle.cat_tokens.specs.declared.token.Token.{Token}
+use Rattle.cat_tokens.specs.declared.token.Token.TheVariants as tokens
+use Rattle.cat_values.specs.declared.model.Binding as code_binding
+use Rattle.cat_values.specs.declared.model.ShownExpression.{ShownExpression}
+use Rattle.cat_values.specs.declared.model.Check as code_check
+use Rattle.cat_values.specs.declared.model.Item.{Item}
+use Rattle.cat_values.specs.declared.model.Item.TheVariants as items
 use Rattle.cat_syntax.specs.declared.lets.Group as code_group
 use Rattle.cat_syntax.specs.declared.lets.LetPart as code_let
 use Rattle.cat_syntax.specs.declared.lets.LetPart.TheVariants as lets
@@ -19,30 +19,11 @@ use Rattle.cat_syntax.specs.declared.parts.Head as code_head
 use Rattle.cat_syntax.specs.declared.parts.Head.TheVariants as heads
 use Rattle.cat_syntax.specs.declared.parts.Part as code_part
 use Rattle.cat_syntax.specs.declared.parts.Part.TheVariants as parts
-use Rattle.cat_syntax.specs.Value.{Term, Clause, Checked, Binding, Function, Checking, Flagging, Showing, Including}
-use Rattle.cat_syntax.specs.Machine as terms
-use Rattle.cat_syntax.specs.ItemMachine as machine
-use Rattle.cat_syntax.specs.Reading.{term_of, stack_of, hole_of}
-
-abbrev pub binding_of : code_binding.Binding → List ℕ × Term
-binding_of b = (b.name, term_of b.body)
-
-abbrev pub shown_of : ShownExpression → Term × Option (List ℕ)
-shown_of s = (term_of s.body, s.label)
-
-abbrev pub check_of : code_check.Check → Checked
-check_of c = record { negated = c.negated; word = c.word; body = term_of c.body }
-
-abbrev pub clause_of : Item → Clause
-clause_of (items.Let recursive group) = Binding recursive (map binding_of group.items)
-clause_of (items.Function name parameters body) = Function name parameters.items (term_of body)
-clause_of (items.Check check label) = Checking (check_of check) label
-clause_of (items.Flag check label) = Flagging (check_of check) label
-clause_of (items.Show hidden shown) = Showing hidden (map shown_of shown.items)
-clause_of (items.Include path) = Including path
-
-abbrev pub clauses_of : List Item → List Clause
-clauses_of is = map clause_of is
+use Rattle.cat_values.specs.Value.{Term, Clause, Checked, Binding, Function, Checking, Flagging, Showing, Including}
+use Rattle.cat_grammar.specs.Machine as terms
+use Rattle.cat_grammar.specs.ItemMachine as machine
+use Rattle.cat_values.specs.Values.{term_of, binding_of, shown_of, clauses_of}
+use Rattle.cat_syntax.specs.Reading.{stack_of, hole_of}
 
 abbrev pub group_of : code_group.Group → machine.Group
 group_of g = record { recursive = g.recursive; bindings = map binding_of g.bindings.items }

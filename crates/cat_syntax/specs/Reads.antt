@@ -1,13 +1,14 @@
 -- What a text reads as, and where it is at fault.
 use Rattle.std.specs.Prelude.{◌≡◌, ℕ, ◌<◌, ◌≤◌, List, length}
-use Rattle.cat_syntax.specs.declared.fault.CatRule.{CatRule}
-use Rattle.cat_syntax.specs.declared.fault.CatRule.TheVariants.{TooLong}
+use Rattle.cat_tokens.specs.declared.rule.CatRule.{CatRule}
+use Rattle.cat_tokens.specs.declared.rule.CatRule.TheVariants.{TooLong}
 use Rattle.cat_syntax.specs.declared.fault.CatFault.{CatFault}
 use Rattle.cat_syntax.specs.declared.fault.CatFault.TheVariants.{Refused, OutOfMemory}
-use Rattle.cat_syntax.specs.declared.parts.Form.{Form}
-use Rattle.cat_syntax.specs.Value.{Clause}
-use Rattle.cat_syntax.specs.Grammar.{limits, Means, tokens_of, IsFault}
-use Rattle.cat_syntax.specs.ReadingTexts.{lexed}
+use Rattle.cat_grammar.specs.declared.form.Form.{Form}
+use Rattle.cat_values.specs.Value.{Clause}
+use Rattle.cat_grammar.specs.Grammar.{limits, Means, IsFault}
+use Rattle.cat_tokens.specs.Tokens.{tokens_of}
+use Rattle.cat_tokens.specs.Lexer.{lexed}
 
 -- no text is longer than 65,536 bytes, and its tokens mean these items
 pub record Reads (form : Form) (bytes : List ℕ) (v : List Clause) : Type 0 where

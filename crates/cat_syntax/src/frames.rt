@@ -1,20 +1,20 @@
 //! What stands open within an expression.
 
 ghost use Rattle.std.specs.Prelude.{◌≡◌, ◌+◌, IfOk};
-ghost use Rattle.cat_syntax.specs.Machine.{open_count, is_outermost, fold_to, opened, infix_at};
-ghost use Rattle.cat_syntax.specs.Grammar.{limits, level, left_level};
-ghost use Rattle.cat_syntax.specs.Reading.{term_of, frame_of, stack_of, Feeds};
-ghost use Rattle.cat_syntax.specs.declared.token.Token.{Token};
+ghost use Rattle.cat_grammar.specs.Machine.{open_count, is_outermost, fold_to, opened, infix_at};
+ghost use Rattle.cat_grammar.specs.Grammar.{limits, level, left_level};
+ghost use Rattle.cat_values.specs.Values.{term_of};
+ghost use Rattle.cat_syntax.specs.Reading.{frame_of, stack_of, Feeds};
+ghost use Rattle.cat_tokens.specs.declared.token.Token.{Token};
 ghost use Rattle.cat_syntax.specs.declared.frames.StepError.TheVariants.{OutOfMemory};
 
-use crate::fault::CatRule;
-use crate::model::{CheckWord, Expression, Infix};
-use crate::token::Token;
+use cat_tokens::{CatRule, Token};
+use cat_values::{CheckWord, Expression, Infix};
 use source_text::Name;
 use std::alloc::{AllocError, AllocFailed, Global};
 
 /// Why a token was not taken.
-#[derive(Debug, Drop)]
+#[derive(Drop)]
 pub enum StepError {
     OutOfMemory,
     /// The token breaks a rule.
@@ -40,7 +40,7 @@ impl<T: Drop> From<AllocFailed<T>> for StepError {
 }
 
 /// What stands open to the left of a place in an expression.
-#[derive(Debug, Drop)]
+#[derive(Drop)]
 pub enum Frame {
     /// `(`
     Group,
@@ -55,7 +55,7 @@ pub enum Frame {
 }
 
 /// What was read last.
-#[derive(Debug, Drop)]
+#[derive(Drop)]
 pub enum Hole {
     /// An operand is wanted.
     Wants,
@@ -71,7 +71,7 @@ pub enum Hole {
 }
 
 /// What a token did.
-#[derive(Debug, Drop)]
+#[derive(Drop)]
 pub enum Fed {
     /// The expression goes on.
     Goes(Vec<Frame>, usize, Hole),
@@ -87,31 +87,29 @@ pub const MAX_NESTING: usize = 64;
 /// How many infix and postfix operators an expression may have.
 pub const MAX_OPERATORS: usize = 1024;
 
-impl Infix {
-    // How tightly the operator binds.
-    fn level(self) -> usize
-        ensures { result ≡ level self }
-    {
-        match self {
-            Infix::Union => 1,
-            Infix::Sequence => 2,
-            Infix::Difference => 3,
-            Infix::Intersection => 4,
-            Infix::Product => 5,
-        }
+// How tightly the operator binds.
+fn level(op: Infix) -> usize
+    ensures { result ≡ level op }
+{
+    match op {
+        Infix::Union => 1,
+        Infix::Sequence => 2,
+        Infix::Difference => 3,
+        Infix::Intersection => 4,
+        Infix::Product => 5,
     }
+}
 
-    // How tight its left operand must be. `\` alone groups to the left.
-    fn left_level(self) -> usize
-        ensures { result ≡ left_level self }
-    {
-        match self {
-            Infix::Union => 2,
-            Infix::Sequence => 3,
-            Infix::Difference => 3,
-            Infix::Intersection => 5,
-            Infix::Product => 6,
-        }
+// How tight its left operand must be. `\` alone groups to the left.
+fn left_level(op: Infix) -> usize
+    ensures { result ≡ left_level op }
+{
+    match op {
+        Infix::Union => 2,
+        Infix::Sequence => 3,
+        Infix::Difference => 3,
+        Infix::Intersection => 5,
+        Infix::Product => 6,
     }
 }
 
@@ -148,11 +146,11 @@ impl Frame {
 /// Joins the operand with what binds at least this tightly to its left.
 pub fn joined(
     alloc: Global,
-    level: usize,
+    least: usize,
     frames: &mut Vec<Frame>,
     operand: Expression,
 ) -> Result<Expression, AllocError>
-    ensures { IfOk result (λ v. fold_to level (stack_of frames.old.items) (term_of operand)
+    ensures { IfOk result (λ v. fold_to least (stack_of frames.old.items) (term_of operand)
         ≡ (stack_of frames.new.items, term_of v)) }
 {
     let mut operand = operand;
@@ -160,7 +158,7 @@ pub fn joined(
         match frame {
             Frame::Prefix => operand = Expression::Complement(Box::new(alloc, operand)?),
             Frame::Left(op, left) => {
-                if level <= op.level() {
+                if least <= level(op) {
                     let left = Box::new(alloc, left)?;
                     operand = Expression::Joined(op, left, Box::new(alloc, operand)?);
                 } else {
@@ -226,7 +224,7 @@ pub fn infix_after(
     ensures { IfOk result (λ fs. stack_of fs.items ≡ infix_at op (stack_of frames.items) (term_of left)) }
 {
     let mut frames = frames;
-    let left = joined(alloc, op.left_level(), &mut frames, left)?;
+    let left = joined(alloc, left_level(op), &mut frames, left)?;
     frames.push(Frame::Left(op, left))?;
     Ok(frames)
 }

@@ -1,18 +1,18 @@
 //! Reads items, a token after the other.
 
 ghost use Rattle.std.specs.Prelude.{◌≡◌};
-ghost use Rattle.cat_syntax.specs.Grammar.{limits, has_no_effect};
-ghost use Rattle.cat_syntax.specs.Reading.{term_of};
-ghost use Rattle.cat_syntax.specs.ItemMachine.{begin_item, excess, unless, item_or_end, after_title, after_tilde, after_flag, after_include, finished, item_ended, item_ended_by_tilde, after_body, and_read, label_begun, shown_on, after_as, after_show_as, after_show_label, goes_on, step_part, start, step};
-ghost use Rattle.cat_syntax.specs.ReadingItems.{show_of, clause_of, clauses_of, head_of, part_of, Gives, Steps, fed_of, token_of};
+ghost use Rattle.cat_grammar.specs.Grammar.{limits, has_no_effect};
+ghost use Rattle.cat_values.specs.Values.{term_of, clause_of, clauses_of};
+ghost use Rattle.cat_grammar.specs.ItemMachine.{begin_item, excess, unless, item_or_end, after_title, after_tilde, after_flag, after_include, finished, item_ended, item_ended_by_tilde, after_body, and_read, label_begun, shown_on, after_as, after_show_as, after_show_label, goes_on, step_part, start, step};
+ghost use Rattle.cat_syntax.specs.ReadingItems.{show_of, head_of, part_of, Gives, Steps, fed_of, token_of};
 
-use crate::fault::CatRule;
 use crate::frames::{Fed, StepError};
 use crate::lets::{LetPart, after_let};
-use crate::model::{CheckWord, Expression, Item};
-use crate::parts::{CheckHead, Form, Head, Part, ShowHead, body_begun, check_body, show_body};
+use crate::parts::{Head, Part, ShowHead, body_begun, check_body, show_body};
 use crate::terms::feed;
-use crate::token::Token;
+use cat_grammar::{CheckHead, Form};
+use cat_tokens::{CatRule, Token};
+use cat_values::{CheckWord, Expression, Item};
 use std::alloc::Global;
 use std::mem;
 

@@ -1,16 +1,15 @@
 //! Reads what stands before the expressions of a `let`.
 
 ghost use Rattle.std.specs.Prelude.{◌≡◌, [], IfOk};
-ghost use Rattle.cat_syntax.specs.Grammar.{limits};
-ghost use Rattle.cat_syntax.specs.Reading.{term_of};
-ghost use Rattle.cat_syntax.specs.ItemMachine.{fresh, extended, group_clause, after_keyword, bound_name, parameter_read, after_parameter, after_let_name, after_bound, after_parameters, after_let};
-ghost use Rattle.cat_syntax.specs.ReadingItems.{group_of, clause_of, let_of, part_of, Gives};
+ghost use Rattle.cat_grammar.specs.Grammar.{limits};
+ghost use Rattle.cat_values.specs.Values.{term_of, clause_of};
+ghost use Rattle.cat_grammar.specs.ItemMachine.{fresh, extended, group_clause, after_keyword, bound_name, parameter_read, after_parameter, after_let_name, after_bound, after_parameters, after_let};
+ghost use Rattle.cat_syntax.specs.ReadingItems.{group_of, let_of, part_of, Gives};
 
-use crate::fault::CatRule;
 use crate::frames::StepError;
-use crate::model::{Binding, Expression, Item};
 use crate::parts::{Head, Part, body_begun};
-use crate::token::Token;
+use cat_tokens::{CatRule, Token};
+use cat_values::{Binding, Expression, Item};
 use source_text::Name;
 use std::alloc::{AllocError, Global};
 
@@ -21,14 +20,14 @@ pub const MAX_NAMES: usize = 64;
 pub const MAX_PARAMETERS: usize = 8;
 
 /// The bindings of a `let` so far.
-#[derive(Debug, Drop)]
+#[derive(Drop)]
 pub struct Group {
     pub recursive: bool,
     pub bindings: Vec<Binding>,
 }
 
 /// Where in the head of a `let` the reader stands.
-#[derive(Debug, Drop)]
+#[derive(Drop)]
 pub enum LetPart {
     /// After `let`.
     Keyword,

@@ -1,40 +1,26 @@
 //! Where in an item the reader stands.
 
 ghost use Rattle.std.specs.Prelude.{◌≡◌, IfOk};
-ghost use Rattle.cat_syntax.specs.Reading.{term_of};
-ghost use Rattle.cat_syntax.specs.ItemMachine.{checked, shown_also, shown_clause, begin_body, begin_check, begin_show};
-ghost use Rattle.cat_syntax.specs.ReadingItems.{check_of, show_of, clause_of, head_of, part_of};
+ghost use Rattle.cat_values.specs.Values.{term_of, check_of, clause_of};
+ghost use Rattle.cat_grammar.specs.ItemMachine.{checked, shown_also, shown_clause, begin_body, begin_check, begin_show};
+ghost use Rattle.cat_syntax.specs.ReadingItems.{show_of, head_of, part_of};
 
 use crate::frames::{Frame, Hole};
 use crate::lets::{Group, LetPart};
-use crate::model::{Check, CheckWord, Expression, Item, ShownExpression};
+use cat_grammar::CheckHead;
+use cat_values::{CheckWord, Expression, Item, ShownExpression};
 use source_text::Name;
 use std::alloc::{AllocError, Global};
 
-/// What the text is read as.
-#[derive(Clone, Copy, Debug, PartialEq, Eq)]
-pub enum Form {
-    Model,
-    Item,
-}
-
-/// A check whose expression is read.
-#[derive(Clone, Copy, Debug, PartialEq, Eq)]
-pub struct CheckHead {
-    pub flagged: bool,
-    pub negated: bool,
-    pub word: CheckWord,
-}
-
 /// The expressions of a `show` or an `unshow` so far.
-#[derive(Debug, Drop)]
+#[derive(Drop)]
 pub struct ShowHead {
     pub hidden: bool,
     pub shown: Vec<ShownExpression>,
 }
 
 /// The item whose expression is read.
-#[derive(Debug, Drop)]
+#[derive(Drop)]
 pub enum Head {
     Bound(Group, Name),
     Function(Name, Vec<Name>),
@@ -43,7 +29,7 @@ pub enum Head {
 }
 
 /// Where the reader stands.
-#[derive(Debug, Drop)]
+#[derive(Drop)]
 pub enum Part {
     /// Where a title may stand.
     Title,
@@ -91,19 +77,6 @@ pub fn show_body(alloc: Global, hidden: bool) -> Part
         shown: Vec::new(alloc),
     };
     body_begun(alloc, Head::Show(head))
-}
-
-impl CheckHead {
-    /// The check with its expression.
-    pub fn with(self, body: Expression) -> Check
-        ensures { check_of result ≡ checked self (term_of body) }
-    {
-        Check {
-            negated: self.negated,
-            word: self.word,
-            body,
-        }
-    }
 }
 
 impl ShowHead {

@@ -2,23 +2,22 @@
 
 ghost use Rattle.std.specs.Prelude.{◌≡◌, ℕ, ◌<◌, ◌≤◌, List, [], ◌∷◌, length, IfOk, IfErr, MatchResult};
 ghost use Rattle.cat_syntax.specs.Faults.{IsWithin, IsTooLong, IsMemory};
-ghost use Rattle.cat_syntax.specs.Lexer.{front};
-ghost use Rattle.cat_syntax.specs.Grammar.{limits};
-ghost use Rattle.cat_syntax.specs.ItemMachine.{step};
+ghost use Rattle.cat_tokens.specs.Lexer.{front};
+ghost use Rattle.cat_grammar.specs.Grammar.{limits};
+ghost use Rattle.cat_grammar.specs.ItemMachine.{step};
 ghost use Rattle.cat_syntax.specs.ParserState.{state_of};
-ghost use Rattle.cat_syntax.specs.ReadingItems.{clause_of, clauses_of};
+ghost use Rattle.cat_values.specs.Values.{clause_of, clauses_of};
 ghost use Rattle.cat_syntax.specs.ReadingTexts.{reading, StepsAt, ReadsTo};
 ghost use Rattle.cat_syntax.specs.Reads.{Reads, IsFaultOf};
-ghost use Rattle.cat_syntax.specs.Running.{placed};
-ghost use Rattle.cat_syntax.specs.Value.{Clause};
+ghost use Rattle.cat_grammar.specs.Running.{placed};
+ghost use Rattle.cat_values.specs.Value.{Clause};
 
-use crate::fault::{CatFault, CatRule};
+use crate::fault::CatFault;
 use crate::frames::StepError;
 use crate::items::Parser;
-use crate::lexer::{Front, front_of};
-use crate::model::{Item, ModelText};
-use crate::parts::Form;
-use crate::token::Token;
+use cat_grammar::Form;
+use cat_tokens::{CatRule, Front, Token, front_of};
+use cat_values::{Item, ModelText};
 use source_text::MAX_BYTES;
 use std::alloc::{AllocError, Global};
 

@@ -1,17 +1,17 @@
 //! Reads an expression, a token after the other.
 
 ghost use Rattle.std.specs.Prelude.{◌≡◌, ◌+◌};
-ghost use Rattle.cat_syntax.specs.Machine.{fold_to, operand, after_brace, ended, closed, square_closed, comma_read, after, after_name, after_star, after_star_tilde, feed};
-ghost use Rattle.cat_syntax.specs.Grammar.{limits};
-ghost use Rattle.cat_syntax.specs.Reading.{term_of, stack_of, hole_of, Feeds};
-ghost use Rattle.cat_syntax.specs.declared.token.Token.TheVariants.{Close, CloseSquare, Comma};
+ghost use Rattle.cat_grammar.specs.Machine.{fold_to, operand, after_brace, ended, closed, square_closed, comma_read, after, after_name, after_star, after_star_tilde, feed};
+ghost use Rattle.cat_grammar.specs.Grammar.{limits};
+ghost use Rattle.cat_values.specs.Values.{term_of};
+ghost use Rattle.cat_syntax.specs.Reading.{stack_of, hole_of, Feeds};
+ghost use Rattle.cat_tokens.specs.declared.token.Token.TheVariants.{Close, CloseSquare, Comma};
 
-use crate::fault::CatRule;
 use crate::frames::{
     Fed, Frame, Hole, MAX_OPERATORS, StepError, are_outermost, infix_after, joined, opened,
 };
-use crate::model::{Expression, Infix, Postfix};
-use crate::token::Token;
+use cat_tokens::{CatRule, Token};
+use cat_values::{Expression, Infix, Postfix};
 use source_text::Name;
 use std::alloc::Global;
 

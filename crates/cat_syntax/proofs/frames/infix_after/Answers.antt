@@ -1,7 +1,8 @@
 use Rattle.std.proofs.Common.{ap, sym, ◌∙◌}
 use Rattle.cat_syntax.specs.declared.frames.Frame.TheVariants.{Left}
-use Rattle.cat_syntax.specs.Machine.{fold_to, left_frames}
-use Rattle.cat_syntax.specs.Reading.{stack_of, term_of}
+use Rattle.cat_grammar.specs.Machine.{fold_to, left_frames}
+use Rattle.cat_syntax.specs.Reading.{stack_of}
+use Rattle.cat_values.specs.Values.{term_of}
 use Rattle.cat_syntax.proofs.Stack.{stack_of-push}
 use Rattle.cat_syntax.proofs.frames.infix_after.Goals as goal
 

@@ -1,6 +1,6 @@
 use Rattle.std.proofs.Common.{ap, refl}
 use Rattle.cat_syntax.specs.declared.frames.Frame.TheVariants as frames
-use Rattle.cat_syntax.specs.Reading.{term_of}
+use Rattle.cat_values.specs.Values.{term_of}
 use Rattle.cat_syntax.proofs.Stack.{popped_prefix, popped_left, popped_stays, popped_bracket}
 use Rattle.cat_syntax.proofs.frames.joined.Goals as goal
 
@@ -10,11 +10,11 @@ loop-frame-preserved-in-Prefix c =
 
 pub loop-frame-preserved : goal.loop-frame-preserved
 loop-frame-preserved c =
-    popped_left _ _ _ _ _ c.loop-frame.invariant _ c.in-Some.ensures.items _ _ _ _ c.in-Left.is c.in_ok-left-in-Left.ensures.ok (ap term_of c.in_ok-new-in-Left.ensures.ok) (rw (← c.level.ensures) c.if-level.true)
+    popped_left _ _ _ _ _ c.loop-frame.invariant _ c.in-Some.ensures.items _ _ _ _ c.in-Left.is c.in_ok-left-in-Left.ensures.ok (ap term_of c.in_ok-new-in-Left.ensures.ok) (rw (← c.level.ensures) c.if-least-level.true)
 
-pub returns-else-level : goal.returns-else-level
-returns-else-level c =
-    popped_stays _ _ _ _ _ c.loop-frame.invariant _ c.in-Some.ensures.items _ _ _ c.in-Left.is (rw (← c.level.ensures) c.if-level.false) c.in_ok-push-in-Left.ensures.items
+pub returns-else-least-level : goal.returns-else-least-level
+returns-else-least-level c =
+    popped_stays _ _ _ _ _ c.loop-frame.invariant _ c.in-Some.ensures.items _ _ _ c.in-Left.is (rw (← c.level.ensures) c.if-least-level.false) c.in_ok-push-in-Left.ensures.items
 
 pub returns-in-Group : goal.returns-in-Group
 returns-in-Group c = popped_bracket _ _ _ _ _ c.loop-frame.invariant _ c.in-Some.ensures.items frames.Group c.in-Group.is refl _ c.in_ok-push-in-Group.ensures.items

@@ -1,5 +1,5 @@
 use Rattle.std.proofs.Common.{◌≡◌, ap, ◌∙◌, arith}
-use Rattle.cat_syntax.specs.Machine.{open_count}
+use Rattle.cat_grammar.specs.Machine.{open_count}
 use Rattle.cat_syntax.specs.Reading.{stack_of}
 use Rattle.cat_syntax.proofs.Stack.{opened_below}
 use Rattle.cat_syntax.proofs.frames.opened.Goals as goal

@@ -1,12 +1,12 @@
 use Rattle.std.proofs.Common.{◌≡◌, ◌+◌, List, Ok, ap, sym, subst, ◌∙◌, arith, min, ◌-◌, length}
 use Rattle.cat_syntax.specs.ParserState.{state_of}
-use Rattle.cat_syntax.specs.Grammar.{limits}
+use Rattle.cat_grammar.specs.Grammar.{limits}
 use Rattle.cat_syntax.specs.ReadingTexts.{FailsAt}
-use Rattle.cat_syntax.specs.Running.{items_of, placed}
-use Rattle.cat_syntax.specs.ItemMachine.{step}
-use Rattle.cat_syntax.specs.Value.{Clause}
-use Rattle.cat_syntax.specs.declared.token.Token.TheVariants.{End}
-use Rattle.cat_syntax.specs.declared.parts.Form.{Form}
+use Rattle.cat_grammar.specs.Running.{items_of, placed}
+use Rattle.cat_grammar.specs.ItemMachine.{step}
+use Rattle.cat_values.specs.Value.{Clause}
+use Rattle.cat_tokens.specs.declared.token.Token.TheVariants.{End}
+use Rattle.cat_grammar.specs.declared.form.Form.{Form}
 use Rattle.cat_syntax.proofs.Texts.{layout_run, lexeme_run, lexeme_fails, end_run, end_fails, too_long, fits, refused}
 use Rattle.cat_syntax.proofs.read.read_all.Goals as goal
 

@@ -1,9 +1,9 @@
 use Rattle.std.proofs.Common.{◌≡◌, ◌-◌, ◌≤◌, length, drop}
-use Rattle.cat_syntax.specs.ItemMachine.{start}
+use Rattle.cat_grammar.specs.ItemMachine.{start}
 use Rattle.cat_syntax.specs.ParserState.{state_of}
-use Rattle.cat_syntax.specs.Grammar.{limits}
-use Rattle.cat_syntax.specs.ReadingTexts.{lexed, tokens_from}
-use Rattle.cat_syntax.specs.Running.{run}
+use Rattle.cat_grammar.specs.Grammar.{limits}
+use Rattle.cat_tokens.specs.Lexer.{lexed, tokens_from}
+use Rattle.cat_grammar.specs.Running.{run}
 use Rattle.cat_syntax.proofs.read.read_all.Given as goal
 
 abbrev pub invariant-loop-place : goal.invariant-loop-place

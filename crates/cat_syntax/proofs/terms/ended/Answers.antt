@@ -1,5 +1,5 @@
 use Rattle.std.proofs.Common.{ap, sym, ◌∙◌}
-use Rattle.cat_syntax.specs.Machine.{ended, Refuses}
+use Rattle.cat_grammar.specs.Machine.{ended, Refuses}
 use Rattle.cat_syntax.proofs.Stack.{popped_of}
 use Rattle.cat_syntax.proofs.terms.ended.Goals as goal
 

@@ -1,0 +1,11 @@
+pub mod Branches
+pub mod Complete
+pub mod CompleteItems
+pub mod Faults
+pub mod Finishes
+pub mod Groups
+pub mod Outcomes
+pub mod Runs
+pub mod Shapes
+pub mod Sound
+pub mod SoundItems

@@ -1,0 +1,24 @@
+-- The reader over a list of tokens.
+use Rattle.std.proofs.Common.{◌≡◌, List, [], ◌∷◌, ◌++◌, Result, Ok, Err, refl, ap}
+use Rattle.cat_grammar.specs.declared.form.Form.{Form}
+use Rattle.cat_tokens.specs.declared.token.Token.{Token}
+use Rattle.cat_grammar.specs.Grammar.{Limits}
+use Rattle.cat_grammar.specs.ItemMachine.{Fault, State, step}
+
+infixl 10 ◌>>=◌
+abbrev pub ◌>>=◌ : {A B : Type 0} → Result A Fault → (A → Result B Fault) → Result B Fault
+(Ok x) >>= f = f x
+(Err e) >>= f = Err e
+
+-- the tokens one after another
+abbrev pub taken : Limits → Form → State → List Token → Result State Fault
+taken most form s [] = Ok s
+taken most form s (t ∷ ts) = step most form s t >>= λ s'. taken most form s' ts
+
+pub taken-append : (most : Limits) (form : Form) (s s' : State) (ts us : List Token) → taken most form s ts ≡ Ok s' → taken most form s (ts ++ us) ≡ taken most form s' us
+taken-append most form s s' [] us e = ap (λ (r : Result State Fault). r >>= λ x. taken most form x us) e
+taken-append most form s s' (t ∷ ts) us e = by_step (step most form s t) e (λ x k. taken-append most form x s' ts us k)
+  where
+    by_step : (r : Result State Fault) → (r >>= λ x. taken most form x ts) ≡ Ok s' → ((x : State) → taken most form x ts ≡ Ok s' → taken most form x (ts ++ us) ≡ taken most form s' us) → (r >>= λ x. taken most form x (ts ++ us)) ≡ taken most form s' us
+    by_step (Ok x) k f = f x k
+    by_step (Err d) k f = absurd cc

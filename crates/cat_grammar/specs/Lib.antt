@@ -1,0 +1,4 @@
+pub mod Grammar
+pub mod ItemMachine
+pub mod Machine
+pub mod Running

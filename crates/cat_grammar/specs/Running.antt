@@ -1,0 +1,30 @@
+-- How the reader goes over the tokens of a text.
+use Rattle.std.specs.Prelude.{ℕ, List, [], ◌∷◌, Result, Ok, Err}
+use Rattle.cat_tokens.specs.declared.rule.CatRule.{CatRule}
+use Rattle.cat_grammar.specs.declared.form.Form.{Form}
+use Rattle.cat_values.specs.Value.{Clause}
+use Rattle.cat_grammar.specs.Grammar.{Limits}
+use Rattle.cat_tokens.specs.Tokens.{Placed}
+use Rattle.cat_grammar.specs.ItemMachine.{Fault, Here, Before, State, step}
+
+abbrev pub Ran : Type 0
+Ran = Result State (CatRule × ℕ)
+
+-- a fault of a token at a place, after one at the place before
+abbrev pub placed : ℕ → ℕ → Result State Fault → Ran
+placed before place (Ok s) = Ok s
+placed before place (Err (Here r)) = Err (r, place)
+placed before place (Err (Before r)) = Err (r, before)
+
+abbrev pub and_then : Ran → (State → Ran) → Ran
+and_then (Ok s) f = f s
+and_then (Err e) f = Err e
+
+-- the tokens one after another, with the place of the first fault
+abbrev pub run : Limits → Form → ℕ → State → List Placed → Ran
+run most form before s [] = Ok s
+run most form before s (p ∷ ps) = and_then (placed before p.place (step most form s p.token)) (λ s'. run most form p.place s' ps)
+
+abbrev pub items_of : Ran → Result (List Clause) (CatRule × ℕ)
+items_of (Ok s) = Ok s.items
+items_of (Err e) = Err e

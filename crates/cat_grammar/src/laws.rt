@@ -1,0 +1,24 @@
+//! Laws of the grammar and of the machine that reads it.
+
+ghost use Rattle.std.specs.Prelude.{◌≡◌, ℕ, List, [], ◌∷◌, ◌++◌, Ok, Err};
+ghost use Rattle.cat_values.specs.Value.{Clause};
+ghost use Rattle.cat_tokens.specs.declared.token.Token.{Token};
+ghost use Rattle.cat_tokens.specs.declared.token.Token.TheVariants.{End};
+ghost use Rattle.cat_tokens.specs.declared.rule.CatRule.{CatRule};
+ghost use Rattle.cat_tokens.specs.Tokens.{Placed, tokens_of};
+ghost use Rattle.cat_grammar.specs.declared.form.Form.{Form};
+ghost use Rattle.cat_grammar.specs.Grammar.{limits, Means, IsFault};
+ghost use Rattle.cat_grammar.specs.ItemMachine.{start};
+ghost use Rattle.cat_grammar.specs.Running.{run, items_of};
+
+/// The machine that goes from token to token reads just the texts of the grammar, within the limits of the language.
+pub fn reads_the_grammar()
+    // What it takes to the end is a text that means the items it gives.
+    ensures found { (form : Form) (ps : List Placed) (ts : List Token) → tokens_of ps ≡ ts ++ End ∷ [] → (cs : List Clause) → items_of (run limits form 0 (start form) ps) ≡ Ok cs → Means limits form (tokens_of ps) cs }
+    // A text means nothing else than the items it gives.
+    ensures only { (form : Form) (ps : List Placed) (cs v : List Clause) → items_of (run limits form 0 (start form) ps) ≡ Ok cs → Means limits form (tokens_of ps) v → cs ≡ v }
+    // What it refuses is at fault there, by the rule that is broken there.
+    ensures fault { (form : Form) (ps : List Placed) (rule : CatRule) (place : ℕ) → items_of (run limits form 0 (start form) ps) ≡ Err (rule, place) → IsFault limits form ps rule place }
+    // A text that means some items has no fault.
+    ensures whole { (form : Form) (ps : List Placed) (v : List Clause) (rule : CatRule) (place : ℕ) → Means limits form (tokens_of ps) v → IsFault limits form ps rule place → ⊥ }
+{}

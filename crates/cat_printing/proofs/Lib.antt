@@ -1,0 +1,5 @@
+pub mod Applied
+pub mod Named
+pub mod Printed
+pub mod PrintedTrees
+pub mod Separated

@@ -1,0 +1,300 @@
+-- What a text means has names that are names: what is read can be printed and read again.
+use Rattle.std.proofs.Common.{◌≡◌, ℕ, zero, suc, ◌+◌, ◌-◌, ◌<◌, Bool, true, false, List, [], ◌∷◌, length, get_or, take, refl, sym, ap, ◌∙◌, subst, arith}
+use Rattle.std.specs.Prelude.{Option, Some, None, codes, slice_index, ◌==◌, ◌&&◌, ◌||◌, not, if◌then◌else◌}
+use Rattle.std.specs.Str.{bytes_eq}
+use Rattle.std.specs.List.{position_or_len}
+use Rattle.std.proofs.lemmas.Bool.Decides.{nat_tests}
+use Rattle.std.proofs.lemmas.List.{length-take, get_or-take}
+use Rattle.std.proofs.lemmas.List.Sums.{fails_before_first}
+use Rattle.source_text.specs.Layout.{quoted_from, comment_of}
+use Rattle.cat_tokens.specs.declared.token.Token.{Token}
+use Rattle.cat_tokens.specs.declared.token.Token.TheVariants as tokens
+use Rattle.cat_tokens.specs.declared.lexer.Front.{Front}
+use Rattle.cat_tokens.specs.declared.lexer.Front.TheVariants.{Layout, Lexeme}
+use Rattle.cat_values.specs.declared.model.Infix.{Infix}
+use Rattle.cat_values.specs.declared.model.Infix.TheVariants.{Union, Sequence, Difference, Intersection, Product}
+use Rattle.cat_grammar.specs.declared.form.Form.{Form}
+use Rattle.cat_grammar.specs.declared.form.Form.TheVariants as forms
+use Rattle.cat_values.specs.Value.{Terms, NoTerm, OneMore, Clause}
+use Rattle.cat_tokens.specs.Words.{item_word, part_word, is_definition_word, is_other_word, name_or_broken, word_or, word_token}
+use Rattle.cat_tokens.specs.Lexer.{is_layout, is_letter, is_name_byte, ends_name, comment_front, quoted_front, word_front, sign_token, front, after_front, tokens_from, lexed}
+use Rattle.cat_grammar.specs.Grammar as grammar
+use Rattle.cat_tokens.specs.Tokens.{Placed, tokens_of}
+use Rattle.cat_grammar.specs.Grammar.{Tree, Trees, Word, Underscore, Zero, Braces, Pair, Post, Prefix, Group, Square, Application, Last, More, infix_token, postfix_token, spelled, spelled_arguments, meaning, meanings, Limits, Bound, CheckTree, ItemTree, Let, Check, Flag, Show, Include, show_token, spelled_rec, spelled_tilde, spelled_label, spelled_bound, spelled_group, spelled_parameters, spelled_check, spelled_one, spelled_shown, spelled_item, spelled_items, group_meaning, shown_meaning, item_meaning, items_meaning, IsItem, AreItems, Title, NoTitle, NameTitle, StringTitle, spelled_title, Means}
+use Rattle.cat_printing.specs.Written as written
+use Rattle.cat_printing.specs.Written.{IsName, IsTerm, AreTerms, AreOthers, AreNames, IsLabel, AreBindings, IsWritten, AreWritten, IsTextOfItem, IsTextOfModel}
+
+-- ---- tokens
+
+abbrev IsNamed : Token → Type 0
+IsNamed (tokens.Name n) = IsName n
+IsNamed _ = Unit {0}
+
+abbrev AreNamed : List Token → Type 0
+AreNamed [] = Unit {0}
+AreNamed (t ∷ ts) = IsNamed t × AreNamed ts
+
+abbrev IsNamedFront : Front → Type 0
+IsNamedFront (Layout n) = Unit {0}
+IsNamedFront (Lexeme t n) = IsNamed t
+
+abbrev IsNamedOption : Option Token → Type 0
+IsNamedOption None = Unit {0}
+IsNamedOption (Some t) = IsNamed t
+
+-- by a test
+tested : {A : Type 0} (P : A → Type 0) (b : Bool) (x y : A) → (b ≡ true → P x) → (b ≡ false → P y) → P (if b then x else y)
+tested P true x y p q = p refl
+tested P false x y p q = q refl
+
+either : {A : Type 0} (P : A → Type 0) (b : Bool) (x y : A) → P x → P y → P (if b then x else y)
+either P true x y p q = p
+either P false x y p q = q
+
+sign_named : (b : ℕ) → IsNamed (sign_token b)
+unfolding sign_token
+sign_named b =
+    either IsNamed (b == 124) _ _ tt (either IsNamed (b == 59) _ _ tt (either IsNamed (b == 92) _ _ tt (either IsNamed (b == 38) _ _ tt (
+    either IsNamed (b == 43) _ _ tt (either IsNamed (b == 63) _ _ tt (either IsNamed (b == 42) _ _ tt (either IsNamed (b == 126) _ _ tt (
+    either IsNamed (b == 40) _ _ tt (either IsNamed (b == 41) _ _ tt (either IsNamed (b == 91) _ _ tt (either IsNamed (b == 93) _ _ tt (
+    either IsNamed (b == 123) _ _ tt (either IsNamed (b == 125) _ _ tt (either IsNamed (b == 95) _ _ tt (either IsNamed (b == 48) _ _ tt (
+    either IsNamed (b == 44) _ _ tt (either IsNamed (b == 61) _ _ tt tt)))))))))))))))))
+
+item_named : (t : List ℕ) → IsNamedOption (item_word t)
+unfolding item_word
+item_named t =
+    either IsNamedOption (bytes_eq t (codes "let")) _ _ tt (either IsNamedOption (bytes_eq t (codes "acyclic")) _ _ tt (
+    either IsNamedOption (bytes_eq t (codes "irreflexive")) _ _ tt (either IsNamedOption (bytes_eq t (codes "empty")) _ _ tt (
+    either IsNamedOption (bytes_eq t (codes "flag")) _ _ tt (either IsNamedOption (bytes_eq t (codes "show")) _ _ tt (
+    either IsNamedOption (bytes_eq t (codes "unshow")) _ _ tt (either IsNamedOption (bytes_eq t (codes "include")) _ _ tt tt)))))))
+
+part_named : (t : List ℕ) → IsNamedOption (part_word t)
+unfolding part_word
+part_named t =
+    either IsNamedOption (bytes_eq t (codes "rec")) _ _ tt (either IsNamedOption (bytes_eq t (codes "and")) _ _ tt (
+    either IsNamedOption (bytes_eq t (codes "as")) _ _ tt tt))
+
+-- a word is a name only where it is no word of the language
+module _ (n : List ℕ) (first : is_letter (slice_index n 0) ≡ true) (each : (k : ℕ) → k < length n → is_name_byte (slice_index n k) ≡ true) where
+  abbrev broken : Bool
+  broken = is_definition_word n || is_other_word n
+
+  by_test : (b : Bool) → (word_token n ≡ name_or_broken b n) → IsNamed (name_or_broken b n)
+  by_test true e = tt
+  by_test false e = record { first = first; each = each; no_word = e }
+
+  by_part : (o : Option Token) → IsNamedOption o → (word_token n ≡ word_or o (name_or_broken broken n)) → IsNamed (word_or o (name_or_broken broken n))
+  by_part None h e = by_test broken e
+  by_part (Some t) h e = h
+
+  by_item : (o : Option Token) → IsNamedOption o → (word_token n ≡ word_or o (word_or (part_word n) (name_or_broken broken n))) → IsNamed (word_or o (word_or (part_word n) (name_or_broken broken n)))
+  by_item None h e = by_part (part_word n) (part_named n) e
+  by_item (Some t) h e = h
+
+  pub word_named : IsNamed (word_token n)
+  word_named = by_item (item_word n) (item_named n) refl
+
+letter_in_name : (b : ℕ) → is_letter b ≡ true → is_name_byte b ≡ true
+letter_in_name b h = grind (arith, nat_tests)
+
+first_of : (b : ℕ) (bs : List ℕ) → is_letter b ≡ true → slice_index (take (position_or_len ends_name (b ∷ bs)) (b ∷ bs)) 0 ≡ b
+first_of b bs h =
+    let some : position_or_len ends_name (b ∷ bs) ≡ suc (position_or_len ends_name bs) = ap (λ (x : Bool). if x then 1 + position_or_len ends_name bs else 0) (twice (is_name_byte b) ∙ letter_in_name b h) ∙ one_more (position_or_len ends_name bs) in
+    ap (λ (k : ℕ). slice_index (take k (b ∷ bs)) 0) some
+  where
+    twice : (x : Bool) → not (not x) ≡ x
+    twice true = refl
+    twice false = refl
+
+    one_more : (k : ℕ) → 1 + k ≡ suc k
+    one_more k = omega arith
+
+name_byte : (b : Bool) → not b ≡ false → b ≡ true
+name_byte true h = refl
+name_byte false h = sym h
+
+each_of : (bs : List ℕ) (k : ℕ) → k < length (take (position_or_len ends_name bs) bs) → is_name_byte (slice_index (take (position_or_len ends_name bs) bs) k) ≡ true
+each_of bs k lt =
+    let n = position_or_len ends_name bs in
+    let l = length-take n bs in
+    ap is_name_byte (get_or-take n bs k 0 (omega arith)) ∙ name_byte (is_name_byte (get_or bs k 0)) (fails_before_first ends_name bs k 0 (omega arith))
+
+word_front_named : (b : ℕ) (bs : List ℕ) → is_letter b ≡ true → IsNamedFront (word_front (b ∷ bs) (position_or_len ends_name (b ∷ bs)))
+word_front_named b bs h = word_named (take (position_or_len ends_name (b ∷ bs)) (b ∷ bs)) (ap is_letter (first_of b bs h) ∙ h) (each_of (b ∷ bs))
+
+comment_named : (n : ℕ) (o : Option ℕ) → IsNamedFront (comment_front n o)
+comment_named n None = tt
+comment_named n (Some k) = tt
+
+quoted_named : (bs : List ℕ) (o : Option ℕ) → IsNamedFront (quoted_front bs o)
+quoted_named bs None = tt
+quoted_named bs (Some k) = tt
+
+front_named : (b : ℕ) (bs : List ℕ) → IsNamedFront (front (b ∷ bs))
+unfolding front
+front_named b bs =
+    let x = slice_index (b ∷ bs) 1 in
+    let y = slice_index (b ∷ bs) 2 in
+    either IsNamedFront (is_layout b) _ _ tt (tested IsNamedFront (is_letter b) _ _ (word_front_named b bs) (λ _.
+    either IsNamedFront (b == 47 && x == 47) _ _ tt (either IsNamedFront (b == 40 && x == 42) _ _ (comment_named (length (b ∷ bs)) (comment_of (b ∷ bs))) (
+    either IsNamedFront (b == 34) _ _ (quoted_named (b ∷ bs) (quoted_from (b ∷ bs))) (
+    either IsNamedFront (b == 43 && x == 43) _ _ tt (either IsNamedFront (b == 94 && x == 45 && y == 49) _ _ tt (sign_named b)))))))
+
+after_named : (place : ℕ) (f : Front) (later : ℕ → List Placed) → IsNamedFront f → ((k : ℕ) → AreNamed (tokens_of (later k))) → AreNamed (tokens_of (after_front place f later))
+after_named place (Layout n) later h more = more (n - 1)
+after_named place (Lexeme t n) later h more = (h, more (n - 1))
+
+tokens_named : (skip place : ℕ) (bs : List ℕ) → AreNamed (tokens_of (tokens_from skip place bs))
+unfolding tokens_from
+tokens_named zero place [] = (tt, tt)
+tokens_named (suc k) place [] = (tt, tt)
+tokens_named (suc k) place (b ∷ bs) = tokens_named k (place + 1) bs
+tokens_named zero place (b ∷ bs) = after_named place (front (b ∷ bs)) (λ k. tokens_from k (place + 1) bs) (front_named b bs) (λ k. tokens_named k (place + 1) bs)
+
+-- ---- trees
+
+infix_named : (op : Infix) (ts : List Token) → AreNamed (infix_token op ∷ ts) → AreNamed ts
+infix_named Union ts h = h.1
+infix_named Sequence ts h = h.1
+infix_named Difference ts h = h.1
+infix_named Intersection ts h = h.1
+infix_named Product ts h = h.1
+
+others : (vs : Terms) → AreTerms vs → AreOthers vs
+others NoTerm h = tt
+others (OneMore a more) h = h
+
+mutual
+  tree_named : (t : Tree) (rest : List Token) → AreNamed (spelled t rest) → IsTerm (meaning t) × AreNamed rest
+  tree_named (Word n) rest h = h
+  tree_named Underscore rest h = h
+  tree_named Zero rest h = h
+  tree_named Braces rest h = h.1
+  tree_named (Pair op a b) rest h =
+      let x = tree_named a (infix_token op ∷ spelled b rest) h in
+      let y = tree_named b rest x.1.1 in
+      ((x.0, y.0), y.1)
+  tree_named (Post op a) rest h =
+      let x = tree_named a (postfix_token op ∷ rest) h in
+      (x.0, x.1.1)
+  tree_named (Prefix a) rest h = tree_named a rest h.1
+  tree_named (Group a) rest h =
+      let x = tree_named a (tokens.Close ∷ rest) h.1 in
+      (x.0, x.1.1)
+  tree_named (Square a) rest h =
+      let x = tree_named a (tokens.CloseSquare ∷ rest) h.1 in
+      (x.0, x.1.1)
+  tree_named (Application n arguments) rest h =
+      let x = trees_named arguments rest h.1.1 in
+      ((h.0, x.0), x.1)
+
+  trees_named : (ts : Trees) (rest : List Token) → AreNamed (spelled_arguments ts rest) → AreTerms (meanings ts) × AreNamed rest
+  trees_named (Last a) rest h =
+      let x = tree_named a (tokens.Close ∷ rest) h in
+      ((x.0, tt), x.1.1)
+  trees_named (More a more) rest h =
+      let x = tree_named a (tokens.Comma ∷ spelled_arguments more rest) h in
+      let y = trees_named more rest x.1.1 in
+      ((x.0, others (meanings more) y.0), y.1)
+
+-- ---- items
+
+label_named : (l : Option (List ℕ)) (rest : List Token) → AreNamed (spelled_label l rest) → IsLabel l × AreNamed rest
+label_named None rest h = (tt, h)
+label_named (Some n) rest h = h.1
+
+rec_named : (recursive : Bool) (rest : List Token) → AreNamed (spelled_rec recursive rest) → AreNamed rest
+rec_named true rest h = h.1
+rec_named false rest h = h
+
+tilde_named : (negated : Bool) (rest : List Token) → AreNamed (spelled_tilde negated rest) → AreNamed rest
+tilde_named true rest h = h.1
+tilde_named false rest h = h
+
+check_named : (c : CheckTree) (rest : List Token) → AreNamed (spelled_check c rest) → IsTerm (meaning c.body) × AreNamed rest
+check_named c rest h = tree_named c.body rest (tilde_named c.negated (tokens.Check c.word ∷ spelled c.body rest) h).1
+
+group_named : (g : List Bound) (rest : List Token) → AreNamed (spelled_group g rest) → AreBindings (group_meaning g) × AreNamed rest
+group_named [] rest h = (tt, h)
+group_named (b ∷ []) rest h =
+    let x = tree_named b.body rest h.1.1 in
+    ((h.0, x.0, tt), x.1)
+group_named (b ∷ c ∷ bs) rest h =
+    let x = tree_named b.body (tokens.And ∷ spelled_group (c ∷ bs) rest) h.1.1 in
+    let y = group_named (c ∷ bs) rest x.1.1 in
+    ((h.0, x.0, y.0), y.1)
+
+parameters_named : (ps : List (List ℕ)) (rest : List Token) → AreNamed (spelled_parameters ps rest) → AreNames ps × AreNamed rest
+parameters_named [] rest h = (tt, h)
+parameters_named (p ∷ []) rest h = ((h.0, tt), h.1)
+parameters_named (p ∷ q ∷ ps) rest h =
+    let x = parameters_named (q ∷ ps) rest h.1.1 in
+    ((h.0, x.0), x.1)
+
+shown_named : (ss : List grammar.Shown) (rest : List Token) → AreNamed (spelled_shown ss rest) → written.AreShown (shown_meaning ss) × AreNamed rest
+shown_named [] rest h = (tt, h)
+shown_named (s ∷ []) rest h =
+    let x = tree_named s.body (spelled_label s.label rest) h in
+    let y = label_named s.label rest x.1 in
+    ((x.0, y.0, tt), y.1)
+shown_named (s ∷ u ∷ ss) rest h =
+    let more = tokens.Comma ∷ spelled_shown (u ∷ ss) rest in
+    let x = tree_named s.body (spelled_label s.label more) h in
+    let y = label_named s.label more x.1 in
+    let z = shown_named (u ∷ ss) rest y.1.1 in
+    ((x.0, y.0, z.0), z.1)
+
+group_length : (g : List Bound) → length (group_meaning g) ≡ length g
+group_length [] = refl
+group_length (b ∷ bs) = ap suc (group_length bs)
+
+shown_length : (ss : List grammar.Shown) → length (shown_meaning ss) ≡ length ss
+shown_length [] = refl
+shown_length (s ∷ ss) = ap suc (shown_length ss)
+
+item_named_of : (most : Limits) (i : ItemTree) (rest : List Token) → IsItem most i → AreNamed (spelled_item i rest) → IsWritten (item_meaning i) × AreNamed rest
+item_named_of most (Let recursive group) rest is h =
+    let x = group_named group rest (rec_named recursive (spelled_group group rest) h.1) in
+    let l = group_length group in
+    let some = is.0 in
+    ((omega arith, x.0), x.1)
+item_named_of most (grammar.Function n parameters body) rest is h =
+    let x = parameters_named parameters (tokens.Close ∷ tokens.Equals ∷ spelled body rest) h.1.1.1 in
+    let y = tree_named body rest x.1.1.1 in
+    ((h.1.0, is.0, x.0, y.0), y.1)
+item_named_of most (Check c label) rest is h =
+    let x = check_named c (spelled_label label rest) h in
+    let y = label_named label rest x.1 in
+    ((x.0, y.0), y.1)
+item_named_of most (Flag c label) rest is h =
+    let x = check_named c (tokens.As ∷ tokens.Name label ∷ rest) h.1 in
+    ((x.0, x.1.1.0), x.1.1.1)
+item_named_of most (Show hidden shown) rest is h =
+    let x = shown_named shown rest h.1 in
+    let l = shown_length shown in
+    let some = is.0 in
+    ((omega arith, x.0), x.1)
+item_named_of most (Include path) rest is h = (is, h.1.1)
+
+items_named : (most : Limits) (is : List ItemTree) (rest : List Token) → AreItems most is → AreNamed (spelled_items is rest) → AreWritten (items_meaning is)
+items_named most [] rest each h = tt
+items_named most (i ∷ is) rest each h =
+    let x = item_named_of most i (spelled_items is rest) each.0 h in
+    (x.0, items_named most is rest each.1 x.1)
+
+title_named : (t : Title) (rest : List Token) → AreNamed (spelled_title t rest) → AreNamed rest
+title_named NoTitle rest h = h
+title_named (NameTitle n) rest h = h.1
+title_named (StringTitle s) rest h = h.1
+
+-- what a text means is a value that a text can have
+meant_is_written : (bytes : List ℕ) (most : Limits) (form : Form) (v : List Clause) → Means most form (tokens_of (lexed bytes)) v → AreWritten v
+meant_is_written bytes most form v m =
+    let closing = tokens.End ∷ [] in
+    subst AreWritten m.meant (items_named most m.items closing m.each (title_named m.title (spelled_items m.items closing) (subst AreNamed m.whole (tokens_named 0 0 bytes))))
+
+pub item_is_written : (bytes : List ℕ) (c : Clause) → IsTextOfItem bytes c → IsWritten c
+item_is_written bytes c h = (meant_is_written bytes h.0 forms.Item (c ∷ []) h.1).0
+
+pub model_is_written : (bytes : List ℕ) (cs : List Clause) → IsTextOfModel bytes cs → AreWritten cs
+model_is_written bytes cs h = meant_is_written bytes h.0 forms.Model cs h.1

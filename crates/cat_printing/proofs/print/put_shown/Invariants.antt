@@ -1,0 +1,9 @@
+use Rattle.std.proofs.Common.{◌≡◌, ◌++◌, drop}
+use Rattle.std.specs.Prelude.{codes, map}
+use Rattle.cat_values.specs.Values.{shown_of}
+use Rattle.cat_printing.specs.Printing.{joined, shown_text}
+use Rattle.cat_printing.proofs.Separated.{from}
+use Rattle.cat_printing.proofs.print.put_shown.Given as goal
+
+abbrev pub invariant-loop-i : goal.invariant-loop-i
+invariant-loop-i l = l.text.items ++ from (codes ", ") l.i (map (λ s. shown_text (shown_of s)) (drop l.i l.shown)) ≡ l.initial.text.items ++ joined (codes ", ") (map shown_text (map shown_of l.shown))

@@ -1,9 +1,0 @@
-use Rattle.std.proofs.Common.{◌≡◌, ◌++◌, drop}
-use Rattle.std.specs.Prelude.{codes, map}
-use Rattle.cat_syntax.specs.Reading.{term_of}
-use Rattle.cat_syntax.specs.Printing.{joined, printed_term}
-use Rattle.cat_syntax.proofs.Separated.{from}
-use Rattle.cat_syntax.proofs.print.+print.Given as goal
-
-abbrev pub invariant-put_arguments-loop-i : goal.invariant-put_arguments-loop-i
-invariant-put_arguments-loop-i l = l.text.items ++ from (codes ", ") l.i (map (λ e. printed_term (term_of e)) (drop l.i l.arguments)) ≡ l.initial.text.items ++ joined (codes ", ") (map printed_term (map term_of l.arguments))

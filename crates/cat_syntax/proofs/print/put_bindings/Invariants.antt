@@ -1,9 +1,0 @@
-use Rattle.std.proofs.Common.{◌≡◌, ◌++◌, drop}
-use Rattle.std.specs.Prelude.{codes, map}
-use Rattle.cat_syntax.specs.ReadingItems.{binding_of}
-use Rattle.cat_syntax.specs.Printing.{joined, binding_text}
-use Rattle.cat_syntax.proofs.Separated.{from}
-use Rattle.cat_syntax.proofs.print.put_bindings.Given as goal
-
-abbrev pub invariant-loop-i : goal.invariant-loop-i
-invariant-loop-i l = l.text.items ++ from (codes " and ") l.i (map (λ b. binding_text (binding_of b)) (drop l.i l.group)) ≡ l.initial.text.items ++ joined (codes " and ") (map binding_text (map binding_of l.group))

@@ -1,8 +1,0 @@
-use Rattle.std.proofs.Common.{◌≡◌, ◌++◌, drop}
-use Rattle.std.specs.Prelude.{codes, map}
-use Rattle.cat_syntax.specs.Printing.{joined}
-use Rattle.cat_syntax.proofs.Separated.{from}
-use Rattle.cat_syntax.proofs.print.put_names.Given as goal
-
-abbrev pub invariant-loop-i : goal.invariant-loop-i
-invariant-loop-i l = l.text.items ++ from (codes ", ") l.i (map (λ n. n) (drop l.i l.names)) ≡ l.initial.text.items ++ joined (codes ", ") l.names

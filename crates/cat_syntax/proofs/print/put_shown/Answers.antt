@@ -1,9 +1,0 @@
-use Rattle.std.proofs.Common.{ap, ◌++◌}
-use Rattle.std.specs.Prelude.{codes}
-use Rattle.cat_syntax.specs.ReadingItems.{shown_of}
-use Rattle.cat_syntax.specs.Printing.{shown_text}
-use Rattle.cat_syntax.proofs.Separated.{from_all_of}
-use Rattle.cat_syntax.proofs.print.put_shown.Goals as goal
-
-pub loop-i-init : goal.loop-i-init
-loop-i-init c = ap (λ l. c.args.text.now.items ++ l) (from_all_of shown_text shown_of (codes ", ") c.args.shown.now)

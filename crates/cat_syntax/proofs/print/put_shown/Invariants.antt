@@ -1,9 +1,0 @@
-use Rattle.std.proofs.Common.{◌≡◌, ◌++◌, drop}
-use Rattle.std.specs.Prelude.{codes, map}
-use Rattle.cat_syntax.specs.ReadingItems.{shown_of}
-use Rattle.cat_syntax.specs.Printing.{joined, shown_text}
-use Rattle.cat_syntax.proofs.Separated.{from}
-use Rattle.cat_syntax.proofs.print.put_shown.Given as goal
-
-abbrev pub invariant-loop-i : goal.invariant-loop-i
-invariant-loop-i l = l.text.items ++ from (codes ", ") l.i (map (λ s. shown_text (shown_of s)) (drop l.i l.shown)) ≡ l.initial.text.items ++ joined (codes ", ") (map shown_text (map shown_of l.shown))

@@ -1,0 +1,149 @@
+//! Cuts a text into tokens.
+
+ghost use Rattle.std.specs.Prelude.{◌≡◌, ◌<◌, ◌≤◌, length, slice_index, IfOk};
+ghost use Rattle.std.specs.List.{position_or_len};
+ghost use Rattle.source_text.specs.Layout.{quoted_from, comment_of};
+ghost use Rattle.cat_tokens.specs.Lexer.{is_letter, is_name_byte, ends_name, is_layout, comment_front, quoted_front, sign_token, sign_front, front};
+
+use crate::rule::CatRule;
+use crate::token::{Mark, Sign, Token};
+use crate::words::word_token;
+use source_text::{Name, comment_length, is_blank, line_length, quoted_length};
+use std::alloc::{AllocError, Global};
+
+/// What a text begins with, and how many bytes it takes.
+#[derive(Debug, Drop)]
+pub enum Front {
+    Layout(usize),
+    Lexeme(Token, usize),
+}
+
+fn is_layout(byte: u8) -> bool
+    ensures { result ≡ is_layout byte }
+{
+    is_blank(byte) || byte == b'\n'
+}
+
+fn is_letter(byte: u8) -> bool
+    ensures { result ≡ is_letter byte }
+{
+    (b'A' <= byte && byte <= b'Z') || (b'a' <= byte && byte <= b'z')
+}
+
+fn is_name_byte(byte: u8) -> bool
+    ensures { result ≡ is_name_byte byte }
+{
+    is_letter(byte)
+        || (b'0' <= byte && byte <= b'9')
+        || byte == b'_'
+        || byte == b'.'
+        || byte == b'-'
+}
+
+fn name_length(text: &[u8]) -> usize
+    ensures value { result ≡ position_or_len ends_name text.now }
+    ensures within { result ≤ length text.now }
+{
+    for (i, byte) in text.iter().enumerate() {
+        if !is_name_byte(*byte) {
+            return i;
+        }
+    }
+    text.len()
+}
+
+// The byte at an index, or 0 past the end.
+fn byte_at(text: &[u8], i: usize) -> u8
+    ensures { result ≡ slice_index text.now i }
+{
+    if i < text.len() { text[i] } else { 0 }
+}
+
+fn comment(text: &[u8]) -> Front
+    ensures { result ≡ comment_front (length text.now) (comment_of text.now) }
+{
+    match comment_length(text) {
+        Some(n) => Front::Layout(n),
+        None => Front::Lexeme(Token::Broken(CatRule::Syntax), text.len()),
+    }
+}
+
+fn quoted(alloc: Global, text: &[u8]) -> Result<Front, AllocError>
+    ensures { IfOk result (λ f. f ≡ quoted_front text.now (quoted_from text.now)) }
+{
+    match quoted_length(text) {
+        Some(n) => Ok(Front::Lexeme(Token::Quoted(Name::new(alloc, &text[1..n - 1])?), n)),
+        None => Ok(Front::Lexeme(Token::Broken(CatRule::Syntax), text.len())),
+    }
+}
+
+// The token of one byte.
+#[tactic(auto, unfolding(crate::specs::Lexer::sign_token))]
+fn sign_token(byte: u8) -> Token
+    ensures { result ≡ sign_token byte }
+{
+    match byte {
+        b'|' => Token::Sign(Sign::Bar),
+        b';' => Token::Sign(Sign::Semicolon),
+        b'\\' => Token::Sign(Sign::Backslash),
+        b'&' => Token::Sign(Sign::Ampersand),
+        b'+' => Token::Mark(Mark::Plus),
+        b'?' => Token::Mark(Mark::Question),
+        b'*' => Token::Star,
+        b'~' => Token::Tilde,
+        b'(' => Token::Open,
+        b')' => Token::Close,
+        b'[' => Token::OpenSquare,
+        b']' => Token::CloseSquare,
+        b'{' => Token::OpenBrace,
+        b'}' => Token::CloseBrace,
+        b'_' => Token::Underscore,
+        b'0' => Token::Zero,
+        b',' => Token::Comma,
+        b'=' => Token::Equals,
+        _ => Token::Broken(CatRule::Token),
+    }
+}
+
+// What a text begins with that is neither a blank nor a word.
+fn mark_or_sign(text: &[u8]) -> Front
+    requires { 0 < length text.now }
+    ensures { result ≡ sign_front text.now }
+{
+    let byte = text[0];
+    let next = byte_at(text, 1);
+    if byte == b'+' && next == b'+' {
+        return Front::Lexeme(Token::Broken(CatRule::Unsupported), 2);
+    }
+    if byte == b'^' && next == b'-' && byte_at(text, 2) == b'1' {
+        return Front::Lexeme(Token::Mark(Mark::Inverse), 3);
+    }
+    Front::Lexeme(sign_token(byte), 1)
+}
+
+/// What the text begins with.
+#[tactic(auto, unfolding(crate::specs::Lexer::front))]
+pub fn front_of(alloc: Global, text: &[u8]) -> Result<Front, AllocError>
+    requires { 0 < length text.now }
+    ensures { IfOk result (λ f. f ≡ front text.now) }
+{
+    let byte = text[0];
+    let next = byte_at(text, 1);
+    if is_layout(byte) {
+        return Ok(Front::Layout(1));
+    }
+    if is_letter(byte) {
+        let n = name_length(text);
+        return Ok(Front::Lexeme(word_token(alloc, &text[..n])?, n));
+    }
+    if byte == b'/' && next == b'/' {
+        return Ok(Front::Layout(line_length(text)));
+    }
+    if byte == b'(' && next == b'*' {
+        return Ok(comment(text));
+    }
+    if byte == b'"' {
+        return quoted(alloc, text);
+    }
+    Ok(mark_or_sign(text))
+}

@@ -1,0 +1,113 @@
+//! The tokens of a text.
+
+ghost use Rattle.std.specs.Prelude.{◌≡◌};
+ghost use Rattle.cat_tokens.specs.Tokens.{infix_of, postfix_of, rule_of, begins_operand};
+
+use crate::rule::CatRule;
+use cat_values::{CheckWord, Infix, Postfix};
+use source_text::Name;
+
+/// An infix operator of one sign that is never postfix.
+#[derive(Clone, Copy, Debug, PartialEq, Eq)]
+pub enum Sign {
+    Bar,
+    Semicolon,
+    Backslash,
+    Ampersand,
+}
+
+/// A postfix operator that is never infix.
+#[derive(Clone, Copy, Debug, PartialEq, Eq)]
+pub enum Mark {
+    Plus,
+    Question,
+    Inverse,
+}
+
+/// A token, the end of the text, or what stands where no token begins.
+#[derive(Debug, Drop)]
+pub enum Token {
+    Name(Name),
+    /// A string, by the text between its quotes.
+    Quoted(Name),
+    Sign(Sign),
+    Mark(Mark),
+    Star,
+    Tilde,
+    Open,
+    Close,
+    OpenSquare,
+    CloseSquare,
+    OpenBrace,
+    CloseBrace,
+    Underscore,
+    Zero,
+    Comma,
+    Equals,
+    Let,
+    Rec,
+    And,
+    As,
+    Check(CheckWord),
+    Flag,
+    Show,
+    Unshow,
+    Include,
+    End,
+    /// What stands nowhere, with the rule that it breaks.
+    Broken(CatRule),
+}
+
+impl Sign {
+    /// The operator that the sign stands for.
+    pub fn infix(self) -> Infix
+        ensures { result ≡ infix_of self }
+    {
+        match self {
+            Sign::Bar => Infix::Union,
+            Sign::Semicolon => Infix::Sequence,
+            Sign::Backslash => Infix::Difference,
+            Sign::Ampersand => Infix::Intersection,
+        }
+    }
+}
+
+impl Mark {
+    /// The operator that the mark stands for.
+    pub fn postfix(self) -> Postfix
+        ensures { result ≡ postfix_of self }
+    {
+        match self {
+            Mark::Plus => Postfix::Transitive,
+            Mark::Question => Postfix::Reflexive,
+            Mark::Inverse => Postfix::Inverse,
+        }
+    }
+}
+
+impl Token {
+    /// The rule that the token breaks where it cannot stand.
+    pub fn rule(&self) -> CatRule
+        ensures { result ≡ rule_of self.now }
+    {
+        match self {
+            Token::Broken(rule) => *rule,
+            _ => CatRule::Syntax,
+        }
+    }
+
+    /// Whether an operand begins with the token, the prefix `~` aside.
+    pub fn begins_operand(&self) -> bool
+        ensures { result ≡ begins_operand self.now }
+    {
+        match self {
+            Token::Name(_) => true,
+            Token::Open => true,
+            Token::OpenSquare => true,
+            Token::OpenBrace => true,
+            Token::Underscore => true,
+            Token::Zero => true,
+            _ => false,
+        }
+    }
+}

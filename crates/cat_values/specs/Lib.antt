@@ -1,0 +1,4 @@
+pub mod Parts
+pub mod PredefinedNames
+pub mod Value
+pub mod Values
