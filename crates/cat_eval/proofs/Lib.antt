@@ -1,1 +1,12 @@
 pub mod Among
+pub mod Codes
+pub mod Evaluated
+pub mod Growing
+pub mod Grown
+pub mod Monotone
+pub mod Packed
+pub mod Places
+pub mod Same
+pub mod Stacks
+pub mod Steps
+pub mod Turns

@@ -1,6 +1,8 @@
 //! The value of a name over a list of candidates.
 
-ghost use Rattle.std.specs.Prelude.{◌≤◌};
+ghost use Rattle.std.specs.Prelude.{◌≡◌, ◌≤◌, slice_get};
+ghost use Rattle.bit_relations.specs.Relation.{IsRelation, IsEvents};
+ghost use Rattle.cat_eval.specs.Named.{ColumnEvents, ColumnPairs, PairsFound};
 
 use bit_relations::{EventSet, PackedRelations, Rel};
 use std::alloc::{AllocError, Global};
@@ -36,32 +38,29 @@ impl Column {
         self.len() == 0
     }
 
-    /// The set of a candidate: empty where there is none.
+    /// The set of a candidate of so many events: empty where there is none.
     pub(crate) fn set(&self, candidate: usize, count: usize) -> EventSet
         requires { count ≤ 128 }
+        ensures { IsEvents result count (ColumnEvents self.now candidate count) }
     {
         match self {
             Column::Sets(values) => match values.get(candidate) {
-                Some(value) => *value,
-                None => EventSet::empty(count),
+                Some(value) if value.count() == count => *value,
+                _ => EventSet::empty(count),
             },
             Column::Relations(_) => EventSet::empty(count),
         }
     }
 
-    /// Writes the relation of a candidate to a place: the empty one where there is none.
+    /// Writes the relation of a candidate of so many events to a place: the empty one where there
+    /// is none.
     pub(crate) fn write_relation(&self, candidate: usize, count: usize, place: &mut Rel)
         requires { count ≤ 128 }
+        ensures { IsRelation place.new count (ColumnPairs self.now candidate count) }
     {
         match self {
             Column::Sets(_) => place.clear(count),
-            Column::Relations(values) => {
-                if candidate < values.len() {
-                    values.read_into(candidate, place);
-                } else {
-                    place.clear(count);
-                }
-            }
+            Column::Relations(values) => write_packed(values, candidate, count, place),
         }
     }
 
@@ -72,5 +71,18 @@ impl Column {
             Column::Relations(values) => values.push(relation)?,
         }
         Ok(())
+    }
+}
+
+/// Writes one relation of a list to a place: the empty one where there is none of so many events.
+fn write_packed(values: &PackedRelations, candidate: usize, count: usize, place: &mut Rel)
+    requires { count ≤ 128 }
+    ensures { IsRelation place.new count (PairsFound (slice_get values.now candidate) count) }
+{
+    if candidate < values.len() && values.count_at(candidate) == count {
+        values.read_into(candidate, place);
+        let _count = place.count();
+    } else {
+        place.clear(count);
     }
 }

@@ -105,6 +105,15 @@ fn columns_of(alloc: Global, bodies: &[Body]) -> Result<Vec<Column>, AllocError>
     Ok(columns)
 }
 
+/// Where the bodies of a group are evaluated.
+fn solver_of(alloc: Global, recursive: bool, bodies: &[Body]) -> Result<Solver, AllocError> {
+    if recursive {
+        Solver::of_group(alloc, bodies)
+    } else {
+        Ok(Solver::new(alloc))
+    }
+}
+
 /// The value of each name of a group, for each candidate of a space. `inputs` are the values of
 /// the item's inputs, in their order. The names of a `let rec` have the least values that satisfy
 /// its equations. An item of another kind has no names.
@@ -122,7 +131,7 @@ pub fn eval_group(
                 bodies,
                 inputs,
                 recursive: *recursive,
-                solver: Solver::new(alloc, item, bodies)?,
+                solver: solver_of(alloc, *recursive, bodies)?,
                 columns: columns_of(alloc, bodies)?,
                 candidate: 0,
             };

@@ -1,6 +1,8 @@
 //! What the names of an item stand for in one candidate.
 
-ghost use Rattle.std.specs.Prelude.{◌≤◌};
+ghost use Rattle.std.specs.Prelude.{◌≡◌, ◌≤◌};
+ghost use Rattle.bit_relations.specs.Relation.{IsRelation, IsEvents};
+ghost use Rattle.cat_eval.specs.Named.{EventsNamed, PairsNamed, Of};
 
 use crate::column::Column;
 use base_env::Base;
@@ -23,13 +25,16 @@ pub(crate) struct Names<'a> {
 impl Names<'_> {
     /// How many events the candidate has.
     pub(crate) fn count(&self) -> usize
-        ensures { result ≤ 128 }
+        ensures value { result ≡ self.now.base.now.count }
+        ensures few { result ≤ 128 }
     {
         self.base.count()
     }
 
     /// The set that a name stands for: empty where it stands for none.
-    pub(crate) fn set(&self, source: Source) -> EventSet {
+    pub(crate) fn set(&self, source: Source) -> EventSet
+        ensures { IsEvents result self.now.base.now.count (EventsNamed self.now source) }
+    {
         match source {
             Source::Predefined(name) => self.base.set(name),
             Source::Input(place) => match self.inputs.get(place) {
@@ -42,17 +47,26 @@ impl Names<'_> {
 
     /// Writes the relation that a name stands for to a place: the empty one where it stands for
     /// none.
-    pub(crate) fn write_relation(&self, source: Source, place: &mut Rel) {
+    pub(crate) fn write_relation(&self, source: Source, place: &mut Rel)
+        ensures { IsRelation place.new self.now.base.now.count (PairsNamed self.now source) }
+    {
         match source {
             Source::Predefined(name) => self.base.write_relation(name, place),
             Source::Input(input) => match self.inputs.get(input) {
                 Some(column) => column.write_relation(self.candidate, self.count(), place),
                 None => place.clear(self.count()),
             },
-            Source::Own(position) => match self.own.get(position) {
-                Some(value) => place.copy_from(value),
-                None => place.clear(self.count()),
-            },
+            Source::Own(position) => self.write_own(position, place),
+        }
+    }
+
+    /// Writes the present value of a name of the recursive group itself.
+    fn write_own(&self, position: usize, place: &mut Rel)
+        ensures { IsRelation place.new self.now.base.now.count (Of self.now.base.now.count self.now.own.now position) }
+    {
+        match self.own.get(position) {
+            Some(value) if value.count() == self.count() => place.copy_from(value),
+            _ => place.clear(self.count()),
         }
     }
 }

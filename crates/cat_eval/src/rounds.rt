@@ -58,7 +58,7 @@ fn uses_any(steps: &[Step], names: u64) -> bool
 }
 
 /// The names of a group whose bodies use a name that grew.
-fn next_among(bodies: &[Body], grew: u64) -> u64
+pub(crate) fn next_among(bodies: &[Body], grew: u64) -> u64
     ensures { (k : ℕ) → k < 64 → IsAmong result k ↔ UsesAt grew bodies.now k }
 {
     let mut names = 0;
