@@ -1,3 +1,4 @@
 pub mod Filters
 pub mod OrderLaws
+pub mod Spaces
 pub mod Stores

@@ -1,4 +1,6 @@
 //! Candidate executions, shared by combinations of runs.
+ghost use Rattle.std.specs.Prelude.{◌≡◌, ◌-◌, ◌^◌, ◌<◌, ◌≤◌, ◌↔◌, min, length, IsTrue, IfOk, IfSome, IfNone, HoldsAt};
+ghost use Rattle.candidates.specs.Space.{candidates_of, candidates_in, registers_at, IsExecution};
 
 use litmus_ppc::Fence;
 use ppc_semantics::Value;
@@ -68,9 +70,22 @@ pub struct Execution {
 }
 
 impl Combination {
-    /// How many candidates it has.
-    pub fn candidate_count(&self) -> usize {
+    /// How many candidates it has, or the greatest number where that is less.
+    pub fn candidate_count(&self) -> usize
+        ensures { result ≡ min (length (candidates_of self.now)) (2 ^ 64 - 1) }
+    {
         self.sources.len().saturating_mul(self.orders.len())
+    }
+
+    /// Whether it has a candidate at this place.
+    fn has(&self, place: usize) -> bool
+        ensures { IsTrue result ↔ (place < length (candidates_of self.now)) }
+    {
+        let orders = self.orders.len();
+        if orders == 0 {
+            return false;
+        }
+        place / orders < self.sources.len()
     }
 
     /// The candidate at this place among those of the combination.
@@ -79,18 +94,14 @@ impl Combination {
         alloc: Global,
         registers: &[Vec<[Value; 32]>],
         place: usize,
-    ) -> Result<Option<Execution>, AllocError> {
+    ) -> Result<Execution, AllocError>
+        requires { place < length (candidates_of self.now) }
+        ensures { IfOk result (λ e. HoldsAt (λ t. IsExecution registers.now self.now t e) (candidates_of self.now) place) }
+    {
         let orders = self.orders.len();
-        if orders == 0 {
-            return Ok(None);
-        }
-        let Some(sources) = self.sources.get(place / orders) else {
-            return Ok(None);
-        };
-        let Some(order) = self.orders.get(place % orders) else {
-            return Ok(None);
-        };
-        Ok(Some(Execution {
+        let sources = &self.sources[place / orders];
+        let order = &self.orders[place % orders];
+        Ok(Execution {
             events: Vec::from_slice(alloc, &self.events)?,
             addr_pairs: Vec::from_slice(alloc, &self.addr_pairs)?,
             data_pairs: Vec::from_slice(alloc, &self.data_pairs)?,
@@ -99,7 +110,7 @@ impl Combination {
             sources: Vec::from_slice(alloc, sources)?,
             order: Vec::from_slice(alloc, order)?,
             registers: final_registers(alloc, registers, &self.runs)?,
-        }))
+        })
     }
 }
 
@@ -108,10 +119,12 @@ fn final_registers(
     alloc: Global,
     registers: &[Vec<[Value; 32]>],
     runs: &[usize],
-) -> Result<Vec<[Value; 32]>, AllocError> {
+) -> Result<Vec<[Value; 32]>, AllocError>
+    ensures { IfOk result (λ v. v.items ≡ registers_at registers.now runs.now) }
+{
     let mut found = Vec::with_capacity(alloc, runs.len())?;
-    for (thread, run) in registers.iter().zip(runs) {
-        if let Some(values) = thread.get(*run) {
+    for thread in 0..runs.len().min(registers.len()) {
+        if let Some(values) = registers[thread].get(runs[thread]) {
             found.push(*values)?;
         }
     }
@@ -119,8 +132,10 @@ fn final_registers(
 }
 
 impl Space {
-    /// How many candidates there are.
-    pub fn len(&self) -> usize {
+    /// How many candidates there are, or the greatest number where that is less.
+    pub fn len(&self) -> usize
+        ensures { result ≡ min (length (candidates_in self.now.combinations.items)) (2 ^ 64 - 1) }
+    {
         let mut count = 0usize;
         for combination in &self.combinations {
             count = count.saturating_add(combination.candidate_count());
@@ -129,19 +144,24 @@ impl Space {
     }
 
     /// Whether there is no candidate.
-    pub fn is_empty(&self) -> bool {
+    pub fn is_empty(&self) -> bool
+        ensures { IsTrue result ↔ (length (candidates_in self.now.combinations.items) ≡ 0) }
+    {
         self.len() == 0
     }
 
     /// The candidate at a place, from 0; `None` where there are no more than `place`.
-    pub fn execution(&self, alloc: Global, place: usize) -> Result<Option<Execution>, AllocError> {
+    pub fn execution(&self, alloc: Global, place: usize) -> Result<Option<Execution>, AllocError>
+        ensures some { IfOk result (λ o. IfSome o (λ e. (place < length (candidates_in self.now.combinations.items)) × HoldsAt (λ x. IsExecution self.now.registers.items x.0 x.1 e) (candidates_in self.now.combinations.items) place)) }
+        ensures none { IfOk result (λ o. IfNone o (length (candidates_in self.now.combinations.items) ≤ place)) }
+    {
         let mut left = place;
         for combination in &self.combinations {
-            let count = combination.candidate_count();
-            if left < count {
-                return combination.execution(alloc, &self.registers, left);
+            if combination.has(left) {
+                let found = combination.execution(alloc, &self.registers, left)?;
+                return Ok(Some(found));
             }
-            left -= count;
+            left -= combination.candidate_count();
         }
         Ok(None)
     }

@@ -1,0 +1,187 @@
+-- Laws of the list of candidates.
+use Rattle.std.proofs.Common.{Option, Some, None, slice_get, ◌⊎◌, inl, inr, drop, drop-cons, add-one, append_assoc, ℕ, zero, suc, ◌≡◌, ◌<◌, ◌≤◌, ◌+◌, ◌*◌, ◌/◌, ◌%◌, ◌↔◌, List, [], ◌∷◌, ◌++◌, map, take, length, get_or, refl, sym, ap, subst, ◌∙◌, arith, Vec}
+use Rattle.std.specs.List.{flat_map, filter_map, zip, cons_option}
+use Rattle.std.specs.Option.{option_to_list}
+use Rattle.std.proofs.lemmas.Bool.{cases_lt}
+use Rattle.std.proofs.lemmas.Option.{slice_get_read, slice_get_past}
+use Rattle.std.specs.declared.alloc.Global.{Global}
+use Rattle.std.proofs.Math.Nat.{suc-mul, zero-mul, mul-zero, mul_comm, mod-lt, div-add-mod, div-lt_iff_lt-mul}
+use Rattle.std.proofs.Math.Seq.{take-length}
+use Rattle.std.proofs.lemmas.List.{length-append, length-map, get_or-map, length-take-le, take_more, append-nil, drop_all}
+use Rattle.std.proofs.lemmas.List.Concat.{get_or-flat_map, flat_map-append}
+use Rattle.std.proofs.lemmas.List.Folds.{length-flat_map-take}
+use Rattle.std.specs.Prelude.{HoldsAt}
+use Rattle.ppc_semantics.specs.declared.value.Value.{Value}
+use Rattle.candidates.specs.Lists.{lists_of}
+use Rattle.candidates.specs.Space.{pairs, candidates_of, candidates_in, registers_at, IsExecution}
+use Rattle.candidates.specs.declared.candidate.Combination.{Combination}
+use Rattle.candidates.specs.declared.candidate.Execution.{Execution}
+
+length-pairs : {X Y : Type 0} (xs : List X) (ys : List Y) → length (pairs xs ys) ≡ length xs * length ys
+length-pairs [] ys = sym (zero-mul (length ys))
+length-pairs {X} {Y} (x ∷ xs) ys =
+    let f : Y → X × Y = λ y. (x, y) in
+    let a : length (map f ys ++ pairs xs ys) ≡ length (map f ys) + length (pairs xs ys) = length-append (map f ys) (pairs xs ys) in
+    let m : length (map f ys) ≡ length ys = length-map ys f in
+    let r : length (pairs xs ys) ≡ length xs * length ys = length-pairs xs ys in
+    let s : suc (length xs) * length ys ≡ length xs * length ys + length ys = suc-mul (length xs) (length ys) in
+    omega arith
+
+-- before the pairs of the i-th come i times as many as the second list has
+length-before : {X Y : Type 0} (xs : List X) (ys : List Y) (i : ℕ) → i ≤ length xs → length (pairs (take i xs) ys) ≡ i * length ys
+length-before xs ys i le = length-pairs (take i xs) ys ∙ ap (λ (n : ℕ). n * length ys) (length-take-le i xs le)
+
+abbrev beside : {X Y : Type 0} → X → Y → X × Y
+beside x y = (x, y)
+
+get_or-pairs : {X Y : Type 0} (xs : List X) (ys : List Y) (p : ℕ) (x : X) (y : Y) (d : X × Y) → 0 < length ys → p / length ys < length xs → get_or (pairs xs ys) p d ≡ (get_or xs (p / length ys) x, get_or ys (p % length ys) y)
+get_or-pairs {X} {Y} xs ys p x y d some lt =
+    ap (λ (k : ℕ). get_or (pairs xs ys) k d) place
+    ∙ get_or-flat_map (λ (u : X). map (beside {Y = Y} u) ys) xs (p / length ys) (p % length ys) x d lt inside
+    ∙ get_or-map (beside {Y = Y} (get_or xs (p / length ys) x)) ys (p % length ys) y d (mod-lt p some)
+  where
+    inside : p % length ys < length (map (beside {Y = Y} (get_or xs (p / length ys) x)) ys)
+    inside = let m : length (map (beside {Y = Y} (get_or xs (p / length ys) x)) ys) ≡ length ys = length-map ys (beside {Y = Y} (get_or xs (p / length ys) x)) in let l : p % length ys < length ys = mod-lt p some in omega arith
+
+    place : p ≡ length (flat_map (λ (u : X). map (beside {Y = Y} u) ys) (take (p / length ys) xs)) + p % length ys
+    place =
+        let b : length (pairs (take (p / length ys) xs) ys) ≡ (p / length ys) * length ys = length-before xs ys (p / length ys) (omega (arith, lt)) in
+        let q : length ys * (p / length ys) + p % length ys ≡ p = div-add-mod p (length ys) in
+        let c : length ys * (p / length ys) ≡ (p / length ys) * length ys = mul_comm (length ys) (p / length ys) in
+        omega (arith, b, q, c)
+
+-- how many candidates a combination has
+pub length-candidates : (c : Combination) → length (candidates_of c) ≡ length c.sources.items * length c.orders.items
+unfolding candidates_of
+length-candidates c =
+    let s : length (lists_of c.sources.items) ≡ length c.sources.items = length-map c.sources.items (λ v. v.items) in
+    let o : length (lists_of c.orders.items) ≡ length c.orders.items = length-map c.orders.items (λ v. v.items) in
+    length-pairs (lists_of c.sources.items) (lists_of c.orders.items) ∙ ap (λ (n : ℕ). n * length (lists_of c.orders.items)) s ∙ ap (λ (n : ℕ). length c.sources.items * n) o
+
+pub has_none : (c : Combination) (p : ℕ) → length c.orders.items ≡ 0 → p < length (candidates_of c) → ⊥
+has_none c p none lt =
+    let e : length (candidates_of c) ≡ length c.sources.items * length c.orders.items = length-candidates c in
+    let z : length c.sources.items * 0 ≡ 0 = mul-zero (length c.sources.items) in
+    let f : length c.sources.items * length c.orders.items ≡ length c.sources.items * 0 = ap (λ (n : ℕ). length c.sources.items * n) none in
+    omega arith
+
+pub has_place : (c : Combination) (p : ℕ) → 0 < length c.orders.items → (p / length c.orders.items < length c.sources.items) ↔ (p < length (candidates_of c))
+has_place c p some = subst (λ (n : ℕ). (p / length c.orders.items < length c.sources.items) ↔ (p < n)) (sym (length-candidates c)) (div-lt_iff_lt-mul some)
+
+-- the candidate at a place
+pub candidate_at : (c : Combination) (p : ℕ) (d : List ℕ × List ℕ) (v w : Vec ℕ Global) → 0 < length c.orders.items → p / length c.orders.items < length c.sources.items → get_or (candidates_of c) p d ≡ ((get_or c.sources.items (p / length c.orders.items) v).items, (get_or c.orders.items (p % length c.orders.items) w).items)
+unfolding candidates_of
+candidate_at c p d v w some lt =
+    let o : length (lists_of c.orders.items) ≡ length c.orders.items = length-map c.orders.items (λ v. v.items) in
+    let s : length (lists_of c.sources.items) ≡ length c.sources.items = length-map c.sources.items (λ v. v.items) in
+    get_or-pairs (lists_of c.sources.items) (lists_of c.orders.items) p v.items w.items d (subst (λ (n : ℕ). 0 < n) (sym o) some) (subst (λ (n : ℕ). p / n < length (lists_of c.sources.items)) (sym o) (subst (λ (n : ℕ). p / length c.orders.items < n) (sym s) lt))
+    ∙ ap (λ (n : ℕ). (get_or (lists_of c.sources.items) (p / n) v.items, get_or (lists_of c.orders.items) (p % n) w.items)) o
+    ∙ ap (λ (l : List ℕ). (l, get_or (lists_of c.orders.items) (p % length c.orders.items) w.items)) (get_or-map (λ (u : Vec ℕ Global). u.items) c.sources.items (p / length c.orders.items) v v.items lt)
+    ∙ ap (λ (l : List ℕ). ((get_or c.sources.items (p / length c.orders.items) v).items, l)) (get_or-map (λ (u : Vec ℕ Global). u.items) c.orders.items (p % length c.orders.items) w w.items (mod-lt p some))
+
+-- one combination after others
+pub length-one : (c : Combination) → length {A = Combination × (List ℕ × List ℕ)} (map (λ t. (c, t)) (candidates_of c)) ≡ length (candidates_of c)
+length-one c = length-map (candidates_of c) (λ t. (c, t))
+
+pub candidate_in : (cs : List Combination) (i p : ℕ) (e : Combination) (t : List ℕ × List ℕ) (d : Combination × (List ℕ × List ℕ)) → i < length cs → p < length (candidates_of (get_or cs i e)) → get_or (candidates_in cs) (length (candidates_in (take i cs)) + p) d ≡ (get_or cs i e, get_or (candidates_of (get_or cs i e)) p t)
+candidate_in cs i p e t d lt inside =
+    get_or-flat_map (λ c. map (λ t. (c, t)) (candidates_of c)) cs i p e d lt (subst (λ (n : ℕ). p < n) (sym (length-one (get_or cs i e))) inside)
+    ∙ get_or-map (λ (u : List ℕ × List ℕ). (get_or cs i e, u)) (candidates_of (get_or cs i e)) p t d inside
+
+pub one_combination_more : (cs : List Combination) (i : ℕ) (e : Combination) → i < length cs → e ≡ get_or cs i e → length (candidates_in (take (i + 1) cs)) ≡ length (candidates_in (take i cs)) + length (candidates_of e)
+one_combination_more cs i e lt is =
+    ap (λ (l : List Combination). length (candidates_in l)) (take_more cs i e lt ∙ ap (λ (x : Combination). take i cs ++ x ∷ []) (sym is))
+    ∙ ap (λ (l : List (Combination × (List ℕ × List ℕ))). length l) (flat_map-append (λ c. map (λ t. (c, t)) (candidates_of c)) (take i cs) (e ∷ []))
+    ∙ length-append (candidates_in (take i cs)) (map (λ t. (e, t)) (candidates_of e) ++ [])
+    ∙ ap (λ (l : List (Combination × (List ℕ × List ℕ))). length (candidates_in (take i cs)) + length l) (append-nil (map (λ t. (e, t)) (candidates_of e)))
+    ∙ ap (λ (n : ℕ). length (candidates_in (take i cs)) + n) (length-one e)
+
+pub all_before : (cs : List Combination) (i : ℕ) → i ≡ length cs → take i cs ≡ cs
+all_before cs i e = rw e (take-length cs)
+
+abbrev own : Combination → List (Combination × (List ℕ × List ℕ))
+own c = map (λ (t : List ℕ × List ℕ). beside c t) (candidates_of c)
+
+-- a place among those of one combination is one of the whole list
+pub place_within : (cs : List Combination) (i left place : ℕ) (e : Combination) → i < length cs → e ≡ get_or cs i e → left < length (candidates_of e) → length (candidates_in (take i cs)) + left ≡ place → place < length (candidates_in cs)
+place_within cs i left place e lt is inside at =
+    let m : length (candidates_in (take i cs)) + length (own (get_or cs i e)) ≤ length (candidates_in cs) = length-flat_map-take own cs i e lt in
+    let o : length (own (get_or cs i e)) ≡ length (candidates_of (get_or cs i e)) = length-one (get_or cs i e) in
+    let k : left < length (candidates_of (get_or cs i e)) = subst (λ (c : Combination). left < length (candidates_of c)) is inside in
+    omega (arith, m, o, k, at)
+
+pub found_there : (threads : List (Vec (List Value) Global)) (cs : List Combination) (i left place : ℕ) (e : Combination) (x : Execution) → i < length cs → e ≡ get_or cs i e → left < length (candidates_of e) → length (candidates_in (take i cs)) + left ≡ place → HoldsAt (λ t. IsExecution threads e t x) (candidates_of e) left → HoldsAt (λ u. IsExecution threads u.0 u.1 x) (candidates_in cs) place
+found_there threads cs i left place e x lt is inside at holds d =
+    subst (λ (u : Combination × (List ℕ × List ℕ)). IsExecution threads u.0 u.1 x) (sym there) (subst (λ (c : Combination). IsExecution threads c (get_or (candidates_of c) left d.1) x) is (holds d.1))
+  where
+    k : left < length (candidates_of (get_or cs i e))
+    k = subst (λ (c : Combination). left < length (candidates_of c)) is inside
+
+    there : get_or (candidates_in cs) place d ≡ (get_or cs i e, get_or (candidates_of (get_or cs i e)) left d.1)
+    there = ap (λ (n : ℕ). get_or (candidates_in cs) n d) (sym at) ∙ candidate_in cs i left e d.1 d lt k
+
+-- a place at which there is a candidate
+pub has_orders : (c : Combination) (p : ℕ) → p < length (candidates_of c) → 0 < length c.orders.items
+has_orders c p lt = elim (cases_lt 0 (length c.orders.items)) [
+  | inl some ↦ some
+  | inr few ↦ absurd (has_none c p (omega (arith, few)) lt)
+]
+
+pub candidate_there : (threads : List (Vec (List Value) Global)) (c : Combination) (p n : ℕ) (v w : Vec ℕ Global) (x : Execution) → n ≡ length c.orders.items → p < length (candidates_of c) → v ≡ get_or c.sources.items (p / n) v → w ≡ get_or c.orders.items (p % n) w → IsExecution threads c (v.items, w.items) x → HoldsAt (λ t. IsExecution threads c t x) (candidates_of c) p
+candidate_there threads c p n v w x is lt source order holds d =
+    subst (λ (t : List ℕ × List ℕ). IsExecution threads c t x) (sym there) holds
+  where
+    there : get_or (candidates_of c) p d ≡ (v.items, w.items)
+    there =
+        candidate_at c p d v w (has_orders c p lt) ((has_place c p (has_orders c p lt)).1 lt)
+        ∙ sym (ap (λ (k : ℕ). ((get_or c.sources.items (p / k) v).items, (get_or c.orders.items (p % k) w).items)) is)
+        ∙ sym (ap (λ (u : Vec ℕ Global). (u.items, (get_or c.orders.items (p % n) w).items)) source)
+        ∙ sym (ap (λ (u : Vec ℕ Global). (v.items, u.items)) order)
+
+-- the registers of one thread more
+pub one_thread_more : (threads : List (Vec (List Value) Global)) (runs : List ℕ) (i : ℕ) (t : Vec (List Value) Global) (found found' all : List (List Value)) → i < length threads → i < length runs → t ≡ get_or threads i t → found ++ registers_at (drop i threads) (drop i runs) ≡ all → found' ≡ found ++ option_to_list (slice_get t.items (get_or runs i 0)) → found' ++ registers_at (drop (i + 1) threads) (drop (i + 1) runs) ≡ all
+one_thread_more threads runs i t found found' all lt lr is before more =
+    ap (λ (l : List (List Value)). l ++ rest) more
+    ∙ append_assoc found (option_to_list (slice_get t.items (get_or runs i 0))) rest
+    ∙ ap (λ (l : List (List Value)). found ++ l) (listed (slice_get t.items (get_or runs i 0)) rest)
+    ∙ ap (λ (u : Vec (List Value) Global). found ++ cons_option (slice_get u.items (get_or runs i 0)) rest) is
+    ∙ ap (λ (l : List (List Value)). found ++ l) (sym here)
+    ∙ before
+  where
+    rest : List (List Value)
+    rest = registers_at (drop (i + 1) threads) (drop (i + 1) runs)
+
+    listed : (o : Option (List Value)) (l : List (List Value)) → option_to_list o ++ l ≡ cons_option o l
+    listed None l = refl
+    listed (Some x) l = refl
+
+    here : registers_at (drop i threads) (drop i runs) ≡ cons_option (slice_get (get_or threads i t).items (get_or runs i 0)) rest
+    here =
+        ap (λ (l : List (Vec (List Value) Global)). registers_at l (drop i runs)) (drop-cons threads i t lt)
+        ∙ ap (λ (l : List ℕ). registers_at (get_or threads i t ∷ drop (suc i) threads) l) (drop-cons runs i 0 lr)
+        ∙ ap (λ (k : ℕ). cons_option (slice_get (get_or threads i t).items (get_or runs i 0)) (registers_at (drop k threads) (drop k runs))) (sym (add-one i))
+
+zip-nil : {X Y : Type 0} (xs : List X) → zip {X = Y} xs [] ≡ []
+zip-nil [] = refl
+zip-nil (x ∷ xs) = refl
+
+-- after the last of the runs or of the threads
+pub all_threads : (threads : List (Vec (List Value) Global)) (runs : List ℕ) (i : ℕ) (found all : List (List Value)) → (length threads ≤ i) ⊎ (length runs ≤ i) → found ++ registers_at (drop i threads) (drop i runs) ≡ all → found ≡ all
+all_threads threads runs i found all past before = sym (append-nil found) ∙ ap (λ (l : List (List Value)). found ++ l) (sym none) ∙ before
+  where
+    none : registers_at (drop i threads) (drop i runs) ≡ []
+    none = elim past [
+      | inl few ↦ ap (λ (l : List (Vec (List Value) Global)). registers_at l (drop i runs)) (drop_all i threads few)
+      | inr few ↦
+          ap (λ (l : List ℕ). registers_at (drop i threads) l) (drop_all i runs few)
+          ∙ ap (λ (l : List (Vec (List Value) Global × ℕ)). filter_map (λ p. slice_get p.0.items p.1) l) (zip-nil (drop i threads))
+    ]
+
+-- what a look-up adds
+pub found_one : (xs ys before after : List (List Value)) (i : ℕ) (v : List Value) → ys ≡ xs → i < length ys → HoldsAt (λ y. v ≡ y) ys i → after ≡ before ++ v ∷ [] → after ≡ before ++ option_to_list (slice_get xs i)
+found_one xs ys before after i v same lt is more =
+    more ∙ ap (λ (o : Option (List Value)). before ++ option_to_list o) (sym (slice_get_read ys (length ys) i v refl lt (is v)) ∙ ap (λ (l : List (List Value)). slice_get l i) same)
+
+pub found_no_one : (xs ys before after : List (List Value)) (i : ℕ) → ys ≡ xs → length ys ≤ i → after ≡ before → after ≡ before ++ option_to_list (slice_get xs i)
+found_no_one xs ys before after i same past more =
+    more ∙ sym (append-nil before) ∙ ap (λ (o : Option (List Value)). before ++ option_to_list o) (sym (slice_get_past ys i past) ∙ ap (λ (l : List (List Value)). slice_get l i) same)

@@ -1,0 +1,41 @@
+use Rattle.std.proofs.Common.{◌≡◌, ◌<◌, ◌/◌, ◌%◌, length, arith, rules, ◌∙◌}
+use Rattle.std.proofs.Math.Nat.{mod-lt}
+use Rattle.candidates.proofs.Spaces.{has_orders, has_place, candidate_there}
+use Rattle.candidates.proofs.candidate.Combination.execution.Goals as goal
+
+pub nonzero_div-place : goal.nonzero_div-place
+nonzero_div-place c =
+    let some = has_orders c.args.self.now c.args.place c.requires in
+    omega (arith, some, c.args.self.now.orders.ok.0)
+
+pub index-sources-requires : goal.index-sources-requires
+index-sources-requires c =
+    let orders : c.len-orders.result ≡ length c.args.self.now.orders.items = omega (arith, c.args.self.now.orders.ok.0) in
+    let lt : c.args.place / c.len-orders.result < length c.args.self.now.sources.items = rw orders ((has_place c.args.self.now c.args.place (has_orders c.args.self.now c.args.place c.requires)).1 c.requires) in
+    omega (arith, lt, c.args.self.now.sources.ok.0)
+
+pub nonzero_rem-place : goal.nonzero_rem-place
+nonzero_rem-place c =
+    let some = has_orders c.args.self.now c.args.place c.requires in
+    omega (arith, some, c.args.self.now.orders.ok.0)
+
+pub index-order-requires : goal.index-order-requires
+index-order-requires c =
+    let orders : c.len-orders.result ≡ length c.args.self.now.orders.items = omega (arith, c.args.self.now.orders.ok.0) in
+    let lt : c.args.place % c.len-orders.result < length c.args.self.now.orders.items = rw orders (mod-lt c.args.place (has_orders c.args.self.now c.args.place c.requires)) in
+    omega (arith, lt, c.args.self.now.orders.ok.0)
+
+pub returns : goal.returns
+returns c =
+    candidate_there c.args.registers.now c.args.self.now c.args.place c.len-orders.result c.index-sources.result.now c.index-order.result.now _
+    (omega (arith, c.args.self.now.orders.ok.0)) c.requires c.index-sources.ensures c.index-order.ensures
+    (record {
+      events = c.in_ok-from_slice.ensures.items ∙ c.deref.ensures.value;
+      addr_pairs = c.in_ok-from_slice-2.ensures.items ∙ c.deref-2.ensures.value;
+      data_pairs = c.in_ok-from_slice-3.ensures.items ∙ c.deref-3.ensures.value;
+      ctrl_pairs = c.in_ok-from_slice-4.ensures.items ∙ c.deref-4.ensures.value;
+      ctrlisync_pairs = c.in_ok-from_slice-5.ensures.items ∙ c.deref-5.ensures.value;
+      sources = c.in_ok-from_slice-6.ensures.items ∙ c.deref-6.ensures.value;
+      order = c.in_ok-from_slice-7.ensures.items ∙ c.deref-7.ensures.value;
+      registers = search rules;
+    })

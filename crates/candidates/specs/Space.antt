@@ -1,0 +1,35 @@
+-- The candidates of a space, as a list.
+use Rattle.std.specs.Prelude.{Vec, ℕ, ◌≡◌, List, map, slice_get}
+use Rattle.std.specs.List.{flat_map, filter_map, zip}
+use Rattle.std.specs.declared.alloc.Global.{Global}
+use Rattle.ppc_semantics.specs.declared.value.Value.{Value}
+use Rattle.candidates.specs.Lists.{lists_of}
+use Rattle.candidates.specs.declared.candidate.Combination.{Combination}
+use Rattle.candidates.specs.declared.candidate.Execution.{Execution}
+
+-- each of the first list with each of the second, the first one slowest
+abbrev pub pairs : {X Y : Type 0} → List X → List Y → List (X × Y)
+pairs xs ys = flat_map (λ x. map (λ y. (x, y)) ys) xs
+
+-- the candidates of a combination: each way to read with each order of the stores
+unfoldable pub candidates_of : Combination → List (List ℕ × List ℕ)
+candidates_of c = pairs (lists_of c.sources.items) (lists_of c.orders.items)
+
+-- those of combinations after one another, each with its combination
+abbrev pub candidates_in : List Combination → List (Combination × (List ℕ × List ℕ))
+candidates_in cs = flat_map (λ c. map (λ t. (c, t)) (candidates_of c)) cs
+
+-- what the registers of each thread hold at the end of its run
+abbrev pub registers_at : List (Vec (List Value) Global) → List ℕ → List (List Value)
+registers_at threads runs = filter_map (λ p. slice_get p.0.items p.1) (zip threads runs)
+
+-- the execution is this candidate of the combination, where each thread has runs with these registers at their ends
+pub record IsExecution (threads : List (Vec (List Value) Global)) (c : Combination) (t : List ℕ × List ℕ) (e : Execution) : Type 0 where
+  pub events : e.events.items ≡ c.events.items
+  pub addr_pairs : e.addr_pairs.items ≡ c.addr_pairs.items
+  pub data_pairs : e.data_pairs.items ≡ c.data_pairs.items
+  pub ctrl_pairs : e.ctrl_pairs.items ≡ c.ctrl_pairs.items
+  pub ctrlisync_pairs : e.ctrlisync_pairs.items ≡ c.ctrlisync_pairs.items
+  pub sources : e.sources.items ≡ t.0
+  pub order : e.order.items ≡ t.1
+  pub registers : e.registers.items ≡ registers_at threads c.runs.items
