@@ -1,7 +1,7 @@
 //! Which predefined names an item uses, and what they change with.
 
 use binding_graph::{ResolvedItem, Role, Source, Step};
-use cat_syntax::Predefined;
+use cat_values::Predefined;
 use std::alloc::{AllocError, Global};
 
 /// What an item needs to know of a candidate.
