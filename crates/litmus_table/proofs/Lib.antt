@@ -1,3 +1,11 @@
+pub mod Cells
+pub mod Complete
+pub mod Finishes
 pub mod Operands
 pub mod Places
+pub mod Rules
+pub mod Sound
+pub mod Tables
+pub mod Tests
 pub mod Threads
+pub mod Values

@@ -1,6 +1,6 @@
 -- The checks of labels, made of a table that the grammar allows: a label that is defined twice, and a branch to a label
 -- that stands before it or nowhere in its thread.
-use Rattle.std.specs.Prelude.{ℕ, zero, suc, ◌+◌, List, [], ◌∷◌, ◌++◌, Bool, true, false, ◌||◌, Option, Some, None, if◌then◌else◌}
+use Rattle.std.specs.Prelude.{ℕ, zero, suc, ◌+◌, List, [], ◌∷◌, ◌++◌, Bool, false, ◌||◌, Option, Some, None, if◌then◌else◌}
 use Rattle.std.specs.Str.{bytes_eq}
 use Rattle.litmus_tokens.specs.declared.rule.LitmusRule.{LitmusRule}
 use Rattle.litmus_tokens.specs.declared.rule.LitmusRule.TheVariants as rules
@@ -75,7 +75,15 @@ late_notes above (Branches w before ∷ ns) =
     if is_in w above then Some (record { rule = rules.BackwardBranch; before = before }) else (
     if is_in w (defined ns) then late_notes above ns else Some (record { rule = rules.Label; before = before }))
 
--- the threads from this number on, in their order
+-- the notes of the threads from this number on, in their order
+abbrev pub columns_notes : ℕ → ℕ → List Token → List RowTree → List (List Note)
+columns_notes k zero before rs = []
+columns_notes k (suc n) before rs = column_notes k before rs ∷ columns_notes (k + 1) n before rs
+
+-- thread by thread
+abbrev pub first_late : List (List Note) → Option Late
+first_late [] = None
+first_late (ns ∷ nss) = or_else (late_notes [] ns) (first_late nss)
+
 abbrev pub late_columns : ℕ → ℕ → List Token → List RowTree → Option Late
-late_columns k zero before rs = None
-late_columns k (suc n) before rs = or_else (late_notes [] (column_notes k before rs)) (late_columns (k + 1) n before rs)
+late_columns k n before rs = first_late (columns_notes k n before rs)

@@ -1,5 +1,6 @@
 pub mod Grammar
 pub mod Late
+pub mod Laws
 pub mod Machine
 pub mod Reading
 pub mod Within

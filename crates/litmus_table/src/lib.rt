@@ -2,6 +2,7 @@
 #![tactic(auto)]
 
 mod late;
+pub mod laws;
 mod opcode;
 mod operand;
 mod table;

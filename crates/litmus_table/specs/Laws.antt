@@ -1,0 +1,151 @@
+-- What the reader of tables takes, in terms of the grammar.
+use Rattle.std.specs.Prelude.{◌≡◌, ℕ, zero, suc, ◌+◌, List, [], ◌∷◌, ◌++◌, map, Bool, true, false, ◌||◌, ◌&&◌, Option, Some, None}
+use Rattle.litmus_tokens.specs.declared.stage.Stage.{Stage}
+use Rattle.litmus_tokens.specs.declared.stage.Stage.TheVariants.{CellBegins, InCell}
+use Rattle.litmus_tokens.specs.declared.token.Token.{Token}
+use Rattle.litmus_tokens.specs.declared.token.Token.TheVariants as tokens
+use Rattle.litmus_tokens.specs.declared.token.Mark.TheVariants.{Tilde}
+use Rattle.litmus_tokens.specs.Words.{ends_table}
+use Rattle.litmus_tokens.specs.Texts as texts
+use Rattle.litmus_tokens.specs.Texts.{tokens_of, StandsAt}
+use Rattle.litmus_tokens.specs.Faults.{Says, cell_ruling}
+use Rattle.litmus_values.specs.declared.instruction.Instruction.{Instruction}
+use Rattle.litmus_values.specs.declared.instruction.Instruction.TheVariants as instructions
+use Rattle.litmus_values.specs.declared.test.Step.{Step}
+use Rattle.litmus_values.specs.declared.test.Step.TheVariants as steps
+use Rattle.litmus_table.specs.Grammar.{RowTree, ThreadTree, spelled_rows, spelled_thread, AreCells, AreRows, columns_meaning, thread_meaning}
+use Rattle.litmus_table.specs.Late.{Note, Defines, Branches, thread_notes, columns_notes}
+use Rattle.litmus_table.specs.Machine.{Placed, State, start, widened, step, is_row_start, can_end, rule_at}
+
+-- ---- tables and threads on lists of tokens
+
+-- these tokens are the rows of a table, of a first column and so many others
+pub record IsTable (others : ℕ) (ts : List Token) : Type 0 where
+  pub rows : List RowTree
+  pub fine : AreRows others rows
+  pub whole : ts ≡ spelled_rows rows []
+
+-- these tokens are the text of a thread alone
+pub record IsThread (ts : List Token) : Type 0 where
+  pub tree : ThreadTree
+  pub fine : AreCells (tree.first ∷ tree.others)
+  pub whole : ts ≡ spelled_thread tree []
+
+-- ---- what is taken
+
+abbrev pub then_on : (State → Option State) → Option State → Option State
+then_on later None = None
+then_on later (Some s) = later s
+
+-- where these tokens lead
+abbrev pub run : State → List texts.Placed → Option State
+run s [] = Some s
+run s (p ∷ ps) = then_on (λ u. run u ps) (step s p.token p.place)
+
+-- a first column and so many others, before the first row
+abbrev pub columns : ℕ → State
+columns zero = widened start
+columns (suc n) = widened (columns n)
+
+pub record Takes (s : State) (ps : List texts.Placed) : Type 0 where
+  pub after : State
+  pub by : run s ps ≡ Some after
+
+-- some tokens lead to where the table, or the text of a thread, may end
+pub record Finishes (may_end : State → Bool) (s : State) : Type 0 where
+  pub rest : List texts.Placed
+  pub after : State
+  pub by : run s rest ≡ Some after
+  pub ended : may_end after ≡ true
+
+abbrev pub is_whole : State → Bool
+is_whole s = can_end s.hole
+
+-- ---- what is kept
+
+abbrev pub steps_of : List Placed → List (List Step)
+steps_of ts = map (λ t. t.steps) ts
+
+-- a label that a step defines or branches to, and the byte that is kept for it
+pub data Mark : Type 0 where
+  Defined : (label : List ℕ) (place : ℕ) → Mark
+  Branched : (label : List ℕ) (place : ℕ) → Mark
+
+abbrev pub instruction_marks : Instruction → ℕ → List Mark
+instruction_marks (instructions.BranchIf condition label) place = Branched label place ∷ []
+instruction_marks (instructions.Branch label) place = Branched label place ∷ []
+instruction_marks i place = []
+
+abbrev pub step_marks : Step → ℕ → List Mark
+step_marks (steps.Label label) place = Defined label place ∷ []
+step_marks (steps.Instruction i) place = instruction_marks i place
+
+abbrev pub marks : List Step → List ℕ → List Mark
+marks [] places = []
+marks (s ∷ ss) [] = []
+marks (s ∷ ss) (p ∷ ps) = step_marks s p ++ marks ss ps
+
+-- these are the labels of these notes, and each byte is where the label stands in the text
+abbrev pub AreMarks : List texts.Placed → List Note → List Mark → Type 0
+AreMarks text [] [] = Unit {0}
+AreMarks text (Defines w before ∷ ns) (Defined v place ∷ ms) = (v ≡ w) × StandsAt text before place × AreMarks text ns ms
+AreMarks text (Branches w before ∷ ns) (Branched v place ∷ ms) = (v ≡ w) × StandsAt text before place × AreMarks text ns ms
+AreMarks text ns ms = ⊥
+
+-- so for each thread
+abbrev pub AreNoted : List texts.Placed → List (List Note) → List Placed → Type 0
+AreNoted text [] [] = Unit {0}
+AreNoted text (ns ∷ nss) (t ∷ ts) = AreMarks text ns (marks t.steps t.places) × AreNoted text nss ts
+AreNoted text nss ts = ⊥
+
+-- In the text qs, ps, rs the tokens ps are these rows: they lead to where the table may end, with what the rows mean.
+pub record TakesRows (others : ℕ) (qs ps rs : List texts.Placed) (rows : List RowTree) : Type 0 where
+  pub after : State
+  pub by : run (columns others) ps ≡ Some after
+  pub ended : is_row_start after ≡ true
+  pub meant : steps_of after.threads ≡ columns_meaning 0 (others + 1) rows
+  pub noted : AreNoted (qs ++ ps ++ rs) (columns_notes 0 (others + 1) (tokens_of qs) rows) after.threads
+
+-- and so for the text of a thread alone
+pub record TakesCells (qs ps rs : List texts.Placed) (tree : ThreadTree) : Type 0 where
+  pub after : State
+  pub by : run (columns 0) ps ≡ Some after
+  pub ended : is_whole after ≡ true
+  pub meant : steps_of after.threads ≡ thread_meaning tree ∷ []
+  pub noted : AreNoted (qs ++ ps ++ rs) (thread_notes (tokens_of qs) (tree.first ∷ tree.others) ∷ []) after.threads
+
+-- ---- what can stand
+
+-- a token that begins what stands behind the table
+abbrev pub begins_tail : Token → Bool
+begins_tail (tokens.Word w) = ends_table w
+begins_tail (tokens.Mark Tilde) = true
+begins_tail t = false
+
+abbrev pub is_end : Token → Bool
+is_end tokens.End = true
+is_end t = false
+
+abbrev pub is_taken : Option State → Bool
+is_taken None = false
+is_taken (Some s) = true
+
+-- whether a token ends the table here, or the text of a thread alone
+abbrev pub ends_at : Bool → State → Token → Bool
+ends_at false s t = is_row_start s && begins_tail t
+ends_at true s t = is_whole s && is_end t
+
+-- whether a token can stand here
+abbrev pub stands : Bool → State → Token → Bool
+stands alone s t = is_taken (step s t 0) || ends_at alone s t
+
+abbrev pub IsInCell : Stage → Type 0
+IsInCell CellBegins = Unit {0}
+IsInCell InCell = Unit {0}
+IsInCell s = ⊥
+
+-- the rule that a token breaks which cannot stand is the one that the definition of faults gives it
+abbrev pub GivesRules : Type 0
+GivesRules =
+    (alone : Bool) (s : State) (stage : Stage) (t : Token) → IsInCell stage → stands alone s t ≡ false
+    → Says (λ u. stands alone s u ≡ true) stage (cell_ruling stage t) (rule_at alone s t)
