@@ -1,3 +1,4 @@
+pub mod Atoms
 pub mod HeldTexts
 pub mod Names
 pub mod Orders

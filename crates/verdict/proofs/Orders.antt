@@ -1,10 +1,17 @@
 -- The orders that are derived are those of the definitions.
-use Rattle.std.proofs.Common.{◌≡◌, refl, subst}
+use Rattle.std.proofs.Common.{ℕ, Bool, true, false, ◌&&◌, eqb, ◌≡◌, refl, sym, ap, ◌∙◌, subst, arith}
 use mathlib.Core.Path.{fun_ext}
 use Rattle.std.specs.Cmp.{IsTotalOrder}
 use Rattle.std.specs.declared.cmp.Ordering.{Ordering}
-use Rattle.std.proofs.lemmas.Cmp.{lists_total}
-use Rattle.verdict.specs.Order.{place_cmp, value_cmp, state_cmp}
+use Rattle.std.proofs.lemmas.Cmp.{lists_total, tied_itself}
+use Rattle.std.proofs.lemmas.Bool.{false≢true}
+use Rattle.std.proofs.lemmas.Bool.Decides.{Decides-eqb, nat_tests}
+use Rattle.std.specs.Ordering.{is_eq, ordering_then, nat_cmp}
+use Rattle.std.specs.declared.cmp.Ordering.TheVariants.{Less, Equal, Greater}
+use Rattle.verdict.specs.Order.{place_cmp, value_cmp, state_cmp, is_place}
+use Rattle.verdict.specs.Meaning.{is_value}
+use Rattle.verdict.specs.contracts.shown_place.ShownPlacePartialEq.TheImpl as place_eq
+use Rattle.verdict.specs.contracts.answer.FinalValuePartialEq.TheImpl as value_eq
 use Rattle.verdict.specs.declared.answer.FinalValue.{FinalValue}
 use Rattle.verdict.specs.declared.answer.FinalValue.TheVariants.{Number, Address, NoValue}
 use Rattle.verdict.specs.declared.shown_place.ShownPlace.{ShownPlace}
@@ -45,3 +52,46 @@ value_total = subst (λ (R : FinalValue → FinalValue → Ordering). IsTotalOrd
 
 pub state_total : IsTotalOrder state_cmp
 state_total = lists_total value_total
+
+is_eq_then : (o r : Ordering) → is_eq (ordering_then o r) ≡ (is_eq o && is_eq r)
+is_eq_then Less r = refl
+is_eq_then Equal r = refl
+is_eq_then Greater r = refl
+
+eq_from_cmp : (m n : ℕ) → eqb m n ≡ is_eq (nat_cmp m n)
+eq_from_cmp m n = grind (arith, nat_tests)
+
+-- `==` is what the order calls equal
+pub place_eq_is : (p q : ShownPlace) → (place_eq.ghosts).eq p q ≡ is_place p q
+place_eq_is (Register t r) (Register u s) =
+    ap (λ (b : Bool). b && eqb r s) (eq_from_cmp t u) ∙ ap (λ (b : Bool). is_eq (nat_cmp t u) && b) (eq_from_cmp r s) ∙ sym (is_eq_then (nat_cmp t u) (nat_cmp r s))
+place_eq_is (Register t r) (Location l) = refl
+place_eq_is (Location k) (Register u s) = refl
+place_eq_is (Location k) (Location l) = eq_from_cmp k l
+
+both_true : (a b : Bool) → (a && b) ≡ true → (a ≡ true) × (b ≡ true)
+both_true true true h = (refl, refl)
+both_true true false h = absurd (false≢true h)
+both_true false b h = absurd (false≢true h)
+
+pub is_place_same : (p q : ShownPlace) → is_place p q ≡ true → p ≡ q
+is_place_same (Register t r) (Register u s) h =
+    let e = both_true (eqb t u) (eqb r s) (place_eq_is (Register t r) (Register u s) ∙ h) in
+    ap (λ (x : ℕ). Register x r) ((Decides-eqb t u).0 e.0) ∙ ap (λ (x : ℕ). Register u x) ((Decides-eqb r s).0 e.1)
+is_place_same (Register t r) (Location l) h = absurd (false≢true h)
+is_place_same (Location k) (Register u s) h = absurd (false≢true h)
+is_place_same (Location k) (Location l) h = ap Location ((Decides-eqb k l).0 (eq_from_cmp k l ∙ h))
+
+pub is_place_itself : (p : ShownPlace) → is_place p p ≡ true
+is_place_itself p = ap is_eq (tied_itself place_total p)
+
+pub value_eq_is : (v w : FinalValue) → (value_eq.ghosts).eq v w ≡ is_value v w
+value_eq_is (Number m) (Number n) = refl
+value_eq_is (Number m) (Address l) = refl
+value_eq_is (Number m) NoValue = refl
+value_eq_is (Address k) (Number n) = refl
+value_eq_is (Address k) (Address l) = refl
+value_eq_is (Address k) NoValue = refl
+value_eq_is NoValue (Number n) = refl
+value_eq_is NoValue (Address l) = refl
+value_eq_is NoValue NoValue = refl

@@ -1,5 +1,5 @@
 -- Laws of the places of names, and of lists of places.
-use Rattle.std.proofs.Common.{ℕ, Bool, true, false, ◌||◌, cond, Some, None, ◌≡◌, ◌+◌, ◌<◌, ◌≤◌, take, List, [], ◌∷◌, ◌++◌, length, get_or, nat_lt, refl, sym, ap, subst, ◌∙◌, arith}
+use Rattle.std.proofs.Common.{ℕ, Bool, true, false, ◌||◌, cond, Some, None, ◌≡◌, ◌+◌, ◌<◌, ◌≤◌, take, List, [], ◌∷◌, ◌++◌, length, get_or, nat_lt, refl, sym, ap, subst, ◌∙◌, arith, position}
 use Rattle.std.specs.List.{position_or_len}
 use Rattle.std.proofs.lemmas.List.Sums.{position_or_len_is}
 use Rattle.std.proofs.lemmas.Bool.Decides.{Decides-ltb, nat_tests}
@@ -17,19 +17,18 @@ use Rattle.verdict.specs.Shown.{is_among, Adds, known_places, AreShown}
 use Rattle.verdict.specs.declared.shown_place.ShownPlace.{ShownPlace}
 use Rattle.verdict.proofs.Orders.{place_orders, place_total}
 use Rattle.verdict.specs.contracts.shown_place.ShownPlaceOrd.TheImpl as place_ord
-use Rattle.verdict.specs.Names.{is_name}
-use Rattle.verdict.specs.Meaning.{location_of, known_place}
+use Rattle.verdict.specs.Meaning.{known_place}
 
-pub location_found : (ls : List (List ℕ)) (n : List ℕ) (i : ℕ) (d : List ℕ) → i < length ls → ((k : ℕ) → k < i → is_name n (get_or ls k d) ≡ false) → is_name n (get_or ls i d) ≡ true → location_of ls n ≡ Some i
-location_found ls n i d lt before here =
-    let e : position_or_len (is_name n) ls ≡ i = position_or_len_is (is_name n) ls i d (omega arith) before (λ _. here) in
-    ap (λ (k : ℕ). cond (nat_lt k (length ls)) (Some k) None) e ∙ ap (λ (b : Bool). cond b (Some i) None) ((Decides-ltb i (length ls)).1 lt)
+pub first_found : {X : Type 0} (p : X → Bool) (xs : List X) (i : ℕ) (d : X) → i < length xs → ((k : ℕ) → k < i → p (get_or xs k d) ≡ false) → p (get_or xs i d) ≡ true → position p xs ≡ Some i
+first_found p xs i d lt before here =
+    let e : position_or_len p xs ≡ i = position_or_len_is p xs i d (omega arith) before (λ _. here) in
+    ap (λ (k : ℕ). cond (nat_lt k (length xs)) (Some k) None) e ∙ ap (λ (b : Bool). cond b (Some i) None) ((Decides-ltb i (length xs)).1 lt)
 
-pub location_missing : (ls : List (List ℕ)) (n : List ℕ) (d : List ℕ) → ((k : ℕ) → k < length ls → is_name n (get_or ls k d) ≡ false) → location_of ls n ≡ None
-location_missing ls n d before =
-    let e : position_or_len (is_name n) ls ≡ length ls = position_or_len_is (is_name n) ls (length ls) d (omega arith) before (λ lt. absurd (omega arith)) in
-    let f : nat_lt (length ls) (length ls) ≡ false = grind (arith, nat_tests) in
-    ap (λ (k : ℕ). cond (nat_lt k (length ls)) (Some k) None) e ∙ ap (λ (b : Bool). cond b (Some (length ls)) None) f
+pub none_found : {X : Type 0} (p : X → Bool) (xs : List X) (d : X) → ((k : ℕ) → k < length xs → p (get_or xs k d) ≡ false) → position p xs ≡ None
+none_found p xs d before =
+    let e : position_or_len p xs ≡ length xs = position_or_len_is p xs (length xs) d (omega arith) before (λ lt. absurd (omega arith)) in
+    let f : nat_lt (length xs) (length xs) ≡ false = grind (arith, nat_tests) in
+    ap (λ (k : ℕ). cond (nat_lt k (length xs)) (Some k) None) e ∙ ap (λ (b : Bool). cond b (Some (length xs)) None) f
 
 either_way : (there here : Bool) → cond here true there ≡ (there || (here || false))
 either_way true true = refl

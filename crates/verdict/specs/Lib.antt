@@ -1,3 +1,4 @@
+pub mod Compiled
 pub mod Judgement
 pub mod Kept
 pub mod Meaning

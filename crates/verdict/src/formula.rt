@@ -1,5 +1,12 @@
 //! Propositions over final states.
 
+ghost use Rattle.std.specs.Prelude.{◌≡◌, IfOk, position};
+ghost use Rattle.litmus_values.specs.Value as text;
+ghost use Rattle.litmus_values.specs.Value.{formula_of};
+ghost use Rattle.verdict.specs.Compiled.{value_of, Means};
+ghost use Rattle.verdict.specs.Meaning.{known_value};
+ghost use Rattle.verdict.specs.Order.{is_place};
+
 use crate::answer::FinalValue;
 use crate::shown_place::{ShownPlace, location_of, shown_place};
 use litmus_ppc::{Connective, Place, Proposition, Value};
@@ -16,7 +23,9 @@ pub enum Formula {
     Joined(Connective, Box<Formula>, Box<Formula>),
 }
 
-fn final_value(locations: &[Name], value: &Value) -> Option<FinalValue> {
+fn final_value(locations: &[Name], value: &Value) -> Option<FinalValue>
+    ensures { result ≡ known_value locations.now value.now }
+{
     match value {
         Value::Number(number) => Some(FinalValue::Number(*number)),
         Value::Address(name) => match location_of(locations, name) {
@@ -26,16 +35,30 @@ fn final_value(locations: &[Name], value: &Value) -> Option<FinalValue> {
     }
 }
 
-fn atom(places: &[ShownPlace], locations: &[Name], place: &Place, value: &Value) -> Formula {
+// The number of a place among those that are shown.
+fn place_number(places: &[ShownPlace], place: ShownPlace) -> Option<usize>
+    ensures { result ≡ position (is_place place) places.now }
+{
+    for (i, shown) in places.iter().enumerate() {
+        if place == *shown {
+            return Some(i);
+        }
+    }
+    None
+}
+
+fn atom(places: &[ShownPlace], locations: &[Name], place: &Place, value: &Value) -> Formula
+    ensures { Means locations.now places.now (text.Holds place.now value.now) result }
+{
     let Some(shown) = shown_place(locations, place) else {
         return Formula::Constant(false);
     };
     let Some(value) = final_value(locations, value) else {
         return Formula::Constant(false);
     };
-    match places.binary_search(&shown) {
-        Ok(at) => Formula::Holds(at, value),
-        Err(_) => Formula::Constant(false),
+    match place_number(places, shown) {
+        Some(number) => Formula::Holds(number, value),
+        None => Formula::Constant(false),
     }
 }
 
@@ -45,7 +68,9 @@ pub fn formula_over(
     places: &[ShownPlace],
     locations: &[Name],
     proposition: &Proposition,
-) -> Result<Formula, AllocError> {
+) -> Result<Formula, AllocError>
+    ensures { IfOk result (λ f. Means locations.now places.now (formula_of proposition.now) f) }
+{
     match proposition {
         Proposition::Constant(value) => Ok(Formula::Constant(*value)),
         Proposition::Holds(place, value) => Ok(atom(places, locations, place, value)),
@@ -62,7 +87,9 @@ pub fn formula_over(
 }
 
 /// Whether the state satisfies the formula.
-pub fn satisfies(formula: &Formula, state: &[FinalValue]) -> bool {
+pub fn satisfies(formula: &Formula, state: &[FinalValue]) -> bool
+    ensures { result ≡ value_of state.now formula.now }
+{
     match formula {
         Formula::Constant(value) => *value,
         Formula::Holds(at, value) => match state.get(*at) {

@@ -2,7 +2,7 @@ use Rattle.std.proofs.Common.{arith, ◌≡◌, [], false, get_or, sym, below_mo
 use Rattle.std.proofs.lemmas.Grind.{common_steps}
 use Rattle.verdict.specs.Names.{is_name}
 use Rattle.verdict.proofs.Names.{is_name-Decides}
-use Rattle.verdict.proofs.Places.{location_found, location_missing}
+use Rattle.verdict.proofs.Places.{first_found, none_found}
 use Rattle.verdict.proofs.shown_place.location_of.Goals as goal
 
 pub loop-i-preserved : goal.loop-i-preserved
@@ -12,7 +12,7 @@ loop-i-preserved c =
 
 pub returns-then-is_same : goal.returns-then-is_same
 returns-then-is_same c =
-    sym (location_found c.args.locations.now c.args.name.now c.loop-i.i [] c.loop-i-test.true c.loop-i.invariant (grind (arith, common_steps, is_name-Decides)))
+    sym (first_found (is_name c.args.name.now) c.args.locations.now c.loop-i.i [] c.loop-i-test.true c.loop-i.invariant (grind (arith, common_steps, is_name-Decides)))
 
 pub returns : goal.returns
-returns c = sym (location_missing c.args.locations.now c.args.name.now [] (λ k lt. c.loop-i.invariant k (omega arith)))
+returns c = sym (none_found (is_name c.args.name.now) c.args.locations.now [] (λ k lt. c.loop-i.invariant k (omega arith)))

@@ -1,0 +1,29 @@
+-- What a proposition over the places of a state says of it.
+use Rattle.std.specs.Prelude.{ℕ, ◌≡◌, Bool, true, false, not, List, Option, Some, None, map, slice_get}
+use Rattle.litmus_values.specs.declared.test.Place.{Place}
+use Rattle.litmus_values.specs.Value as text
+use Rattle.verdict.specs.Meaning.{is_value, joined_by, satisfies, places_of}
+use Rattle.verdict.specs.Shown.{known_places, is_among}
+use Rattle.verdict.specs.declared.answer.FinalValue.{FinalValue}
+use Rattle.verdict.specs.declared.formula.Formula as code
+use Rattle.verdict.specs.declared.formula.Formula.TheVariants as formulas
+use Rattle.verdict.specs.declared.shown_place.ShownPlace.{ShownPlace}
+
+abbrev pub is_there : Option FinalValue → FinalValue → Bool
+is_there None value = false
+is_there (Some held) value = is_value held value
+
+-- whether it is true of the state
+abbrev pub value_of : List FinalValue → code.Formula → Bool
+value_of state (formulas.Constant b) = b
+value_of state (formulas.Holds at value) = is_there (slice_get state at) value
+value_of state (formulas.Not' p a) = not (value_of state a)
+value_of state (formulas.Joined' op p a q b) = joined_by op (value_of state a) (value_of state b)
+
+-- all known places of a text are among these
+abbrev pub Shows : List (List ℕ) → List ShownPlace → List Place → Type 0
+Shows locations shown places = (p : ShownPlace) → is_among (known_places locations places) p ≡ true → is_among shown p ≡ true
+
+-- it is true of each state over these places just where the proposition is
+abbrev pub Means : List (List ℕ) → List ShownPlace → text.Formula → code.Formula → Type 0
+Means locations shown proposition f = Shows locations shown (places_of proposition) → (held : ShownPlace → FinalValue) → value_of (map held shown) f ≡ satisfies locations held proposition
