@@ -1,8 +1,10 @@
 pub mod Among
 pub mod Codes
+pub mod Entering
 pub mod Evaluated
 pub mod Growing
 pub mod Grown
+pub mod Likeness
 pub mod Monotone
 pub mod Packed
 pub mod Places
@@ -10,3 +12,4 @@ pub mod Same
 pub mod Stacks
 pub mod Steps
 pub mod Turns
+pub mod Visits

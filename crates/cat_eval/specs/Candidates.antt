@@ -1,26 +1,29 @@
--- How many candidates there are.
-use Rattle.std.specs.Prelude.{ℕ, ◌*◌, length, sum_by}
+-- The candidates of a combination, and how many names an item binds.
+use Rattle.std.specs.Prelude.{ℕ, List, length, map, Vec}
+use Rattle.std.specs.List.{flat_map}
+use Rattle.std.specs.declared.alloc.Global.{Global}
 use Rattle.candidates.specs.declared.candidate.Combination.{Combination}
-use Rattle.candidates.specs.declared.candidate.Space.{Space}
 use Rattle.binding_graph.specs.declared.resolved.Role.{Role}
 use Rattle.binding_graph.specs.declared.resolved.Role.TheVariants as roles
 
--- the candidates of a combination: each way to read with each order
-abbrev pub combined_count : Combination → ℕ
-combined_count combination = length combination.sources.items * length combination.orders.items
+-- one candidate: a combination of runs, the store that each load reads, and the order of the stores
+abbrev pub Candidate : Type 0
+Candidate = Combination × (List ℕ × List ℕ)
 
--- the candidates of a space
-abbrev pub candidate_count : Space → ℕ
-candidate_count space = sum_by combined_count space.combinations.items
+-- the candidates of a combination that read so, one for each order
+abbrev pub reading_so : Combination → List ℕ → List (Vec ℕ Global) → List Candidate
+reading_so combination sources orders = map (λ order. (combination, (sources, order.items))) orders
+
+-- those that read in one of these ways
+abbrev pub reading_in : Combination → List (Vec ℕ Global) → List Candidate
+reading_in combination ways = flat_map (λ sources. reading_so combination sources.items combination.orders.items) ways
+
+-- those of combinations after one another
+abbrev pub of_combinations : List Combination → List Candidate
+of_combinations combinations = flat_map (λ one. reading_in one one.sources.items) combinations
 
 -- how many names an item binds
 abbrev pub name_count : Role → ℕ
 name_count (roles.Group recursive bodies) = length bodies.items
 name_count (roles.Check check) = 0
 name_count roles.Silent = 0
-
--- how many answers a check gives over a space, and another item none
-abbrev pub answer_count : Role → ℕ → ℕ
-answer_count (roles.Group recursive bodies) candidates = 0
-answer_count (roles.Check check) candidates = candidates
-answer_count roles.Silent candidates = 0

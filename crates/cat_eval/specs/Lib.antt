@@ -1,8 +1,12 @@
+pub mod Alike
 pub mod Candidates
 pub mod Checks
 pub mod Least
 pub mod Meaning
 pub mod Named
+pub mod Needed
 pub mod Rising
 pub mod Running
 pub mod Uses
+pub mod Values
+pub mod Worlds

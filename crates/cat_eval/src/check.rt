@@ -1,7 +1,8 @@
 //! Whether a check holds.
 
-ghost use Rattle.std.specs.Prelude.{◌≡◌, length, IfOk};
-ghost use Rattle.cat_eval.specs.Candidates.{candidate_count, answer_count};
+ghost use Rattle.std.specs.Prelude.{◌≡◌, ℕ, List, IfOk};
+ghost use Rattle.base_env.specs.Known.{Known};
+ghost use Rattle.cat_eval.specs.Values.{AreAnswers, AnswersOf};
 
 use crate::column::Column;
 use crate::machine::Machine;
@@ -23,7 +24,7 @@ struct CheckRun<'a> {
 }
 
 impl Visit for CheckRun<'_> {
-    ghost has_taken = { λ run lists n. length run.answers.items ≡ n };
+    ghost has_taken = { λ first bases run. (run.check ≡ first.check) × (run.inputs ≡ first.inputs) × AreAnswers first.check.now first.inputs.now bases run.answers.items };
 
     fn visit(&mut self, base: &Base) -> Result<(), AllocError> {
         let names = Names {
@@ -49,7 +50,7 @@ pub fn eval_check(
     space: &Space,
     inputs: &[&Column],
 ) -> Result<Vec<bool>, AllocError>
-    ensures { IfOk result (λ v. length v.items ≡ answer_count item.now.role (candidate_count space.now)) }
+    ensures { IfOk result (λ v. AnswersOf item.now.role inputs.now space.now v.items) }
 {
     match &item.role {
         Role::Check(check) => {

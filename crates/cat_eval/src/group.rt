@@ -78,7 +78,7 @@ impl GroupRun<'_> {
 }
 
 impl Visit for GroupRun<'_> {
-    ghost has_taken = { λ run lists n. length run.columns.items ≡ lists };
+    ghost has_taken = { λ first bases run. length run.columns.items ≡ length first.columns.items };
 
     fn visit(&mut self, base: &Base) -> Result<(), AllocError> {
         if self.recursive {

@@ -1,6 +1,9 @@
 //! Which predefined names an item uses, and what they change with.
 
-use binding_graph::{ResolvedItem, Role, Source, Step};
+ghost use Rattle.std.specs.Prelude.{◌≡◌, ◌||◌, IfOk, OnOk};
+ghost use Rattle.cat_eval.specs.Needed.{changes_with_reads, changes_with_orders, step_passes, steps_read, steps_order, bodies_read, bodies_order, role_reads, role_orders};
+
+use binding_graph::{Body, ResolvedItem, Role, Source, Step};
 use cat_values::Predefined;
 use std::alloc::{AllocError, Global};
 
@@ -16,7 +19,9 @@ pub(crate) struct Needs {
 }
 
 /// Whether a name changes with the stores that the loads read.
-fn changes_with_reads(name: Predefined) -> bool {
+fn changes_with_reads(name: Predefined) -> bool
+    ensures { result ≡ changes_with_reads name }
+{
     matches!(
         name,
         Predefined::ReadsFrom
@@ -30,7 +35,9 @@ fn changes_with_reads(name: Predefined) -> bool {
 }
 
 /// Whether a name changes with the order of the stores.
-fn changes_with_orders(name: Predefined) -> bool {
+fn changes_with_orders(name: Predefined) -> bool
+    ensures { result ≡ changes_with_orders name }
+{
     matches!(
         name,
         Predefined::Coherence
@@ -45,42 +52,63 @@ fn changes_with_orders(name: Predefined) -> bool {
 
 impl Needs {
     /// What an item needs.
-    pub(crate) fn of(alloc: Global, item: &ResolvedItem) -> Result<Needs, AllocError> {
+    pub(crate) fn of(alloc: Global, item: &ResolvedItem) -> Result<Needs, AllocError>
+        ensures { IfOk result (λ needs. (needs.reads ≡ role_reads item.now.role) × (needs.orders ≡ role_orders item.now.role)) }
+    {
         let mut needs = Needs {
             names: Vec::new(alloc),
             reads: false,
             orders: false,
         };
         match &item.role {
-            Role::Group { bodies, .. } => {
-                for body in bodies {
-                    needs.add_all(&body.code.steps)?;
-                }
-            }
+            Role::Group { bodies, .. } => needs.add_bodies(bodies)?,
             Role::Check(check) => needs.add_all(&check.code.steps)?,
             Role::Silent => {}
         }
         Ok(needs)
     }
 
-    /// Adds what the steps need.
-    fn add_all(&mut self, steps: &[Step]) -> Result<(), AllocError> {
-        for step in steps {
-            match step {
-                Step::PushSet(Source::Predefined(name))
-                | Step::PushRelation(Source::Predefined(name)) => self.add(*name)?,
-                _ => {}
-            }
+    /// Adds what the bodies of a group need.
+    fn add_bodies(&mut self, bodies: &[Body]) -> Result<(), AllocError>
+        ensures { OnOk result ((self.new.reads ≡ (self.old.reads || bodies_read bodies.now)) × (self.new.orders ≡ (self.old.orders || bodies_order bodies.now))) }
+    {
+        for body in bodies {
+            self.add_all(&body.code.steps)?;
         }
         Ok(())
     }
 
+    /// Adds what the steps need.
+    fn add_all(&mut self, steps: &[Step]) -> Result<(), AllocError>
+        ensures { OnOk result ((self.new.reads ≡ (self.old.reads || steps_read steps.now)) × (self.new.orders ≡ (self.old.orders || steps_order steps.now))) }
+    {
+        for step in steps {
+            self.add_step(*step)?;
+        }
+        Ok(())
+    }
+
+    /// Adds what one step needs.
+    fn add_step(&mut self, step: Step) -> Result<(), AllocError>
+        ensures { OnOk result ((self.new.reads ≡ (self.old.reads || step_passes changes_with_reads step)) × (self.new.orders ≡ (self.old.orders || step_passes changes_with_orders step))) }
+    {
+        match step {
+            Step::PushSet(source) | Step::PushRelation(source) => match source {
+                Source::Predefined(name) => self.add(name),
+                Source::Input(_) | Source::Own(_) => Ok(()),
+            },
+            _ => Ok(()),
+        }
+    }
+
     /// Adds a name.
-    fn add(&mut self, name: Predefined) -> Result<(), AllocError> {
+    fn add(&mut self, name: Predefined) -> Result<(), AllocError>
+        ensures { OnOk result ((self.new.reads ≡ (self.old.reads || changes_with_reads name)) × (self.new.orders ≡ (self.old.orders || changes_with_orders name))) }
+    {
+        self.reads = self.reads || changes_with_reads(name);
+        self.orders = self.orders || changes_with_orders(name);
         if !self.names.as_slice().contains(&name) {
             self.names.push(name)?;
-            self.reads = self.reads || changes_with_reads(name);
-            self.orders = self.orders || changes_with_orders(name);
         }
         Ok(())
     }

@@ -1,46 +1,80 @@
 //! Combinations of runs that differ in values alone.
 
+ghost use Rattle.std.specs.Prelude.{◌≡◌, IsTrue};
+ghost use Rattle.cat_eval.specs.Alike.{IsActionLike, IsLike, AreEventsLike, AreAlike};
+
 use candidates::{Action, Combination, Event};
 
+/// Whether two actions are of one kind and one location.
+fn is_action_like(first: Action, second: Action) -> bool
+    ensures { IsTrue result → IsActionLike first second }
+{
+    match (first, second) {
+        (
+            Action::Read { location: one, .. },
+            Action::Read {
+                location: other,
+                ..
+            },
+        ) => one == other,
+        (
+            Action::Write { location: one, .. },
+            Action::Write {
+                location: other,
+                ..
+            },
+        ) => one == other,
+        (Action::Fence(one), Action::Fence(other)) => one == other,
+        _ => false,
+    }
+}
+
 /// Whether two events are of one thread, one kind and one location.
-fn is_like(first: &Event, second: &Event) -> bool {
-    first.thread == second.thread
-        && match (first.action, second.action) {
-            (
-                Action::Read { location: one, .. },
-                Action::Read {
-                    location: other,
-                    ..
-                },
-            ) => { one == other }
-            (
-                Action::Write { location: one, .. },
-                Action::Write {
-                    location: other,
-                    ..
-                },
-            ) => { one == other }
-            (Action::Fence(one), Action::Fence(other)) => one == other,
-            _ => false,
-        }
+fn is_like(first: &Event, second: &Event) -> bool
+    ensures { IsTrue result → IsLike first.now second.now }
+{
+    first.thread == second.thread && is_action_like(first.action, second.action)
 }
 
 /// Whether the events of two combinations are alike one by one.
-fn are_events_like(first: &[Event], second: &[Event]) -> bool {
-    first.len() == second.len()
-        && first
-            .iter()
-            .zip(second.iter())
-            .all(|(one, other)| is_like(one, other))
+fn are_events_like(first: &[Event], second: &[Event]) -> bool
+    ensures { IsTrue result → AreEventsLike first.now second.now }
+{
+    if first.len() != second.len() {
+        return false;
+    }
+    for place in 0..first.len() {
+        if !is_like(&first[place], &second[place]) {
+            return false;
+        }
+    }
+    true
+}
+
+/// Whether two lists of pairs are the same.
+fn are_same_pairs(first: &[(usize, usize)], second: &[(usize, usize)]) -> bool
+    ensures { IsTrue result → first.now ≡ second.now }
+{
+    first == second
 }
 
 /// Whether two combinations differ at most in the values that are read and written. Then all the
 /// predefined names are the same that do not change with the stores that the loads read nor with
 /// the order of the stores.
-pub(crate) fn is_same_shape(first: &Combination, second: &Combination) -> bool {
-    are_events_like(&first.events, &second.events)
-        && first.addr_pairs.as_slice() == second.addr_pairs.as_slice()
-        && first.data_pairs.as_slice() == second.data_pairs.as_slice()
-        && first.ctrl_pairs.as_slice() == second.ctrl_pairs.as_slice()
-        && first.ctrlisync_pairs.as_slice() == second.ctrlisync_pairs.as_slice()
+pub(crate) fn is_same_shape(first: &Combination, second: &Combination) -> bool
+    ensures { IsTrue result → AreAlike first.now second.now }
+{
+    if !are_events_like(&first.events, &second.events) {
+        return false;
+    }
+    if !are_same_pairs(&first.addr_pairs, &second.addr_pairs) {
+        return false;
+    }
+    if !are_same_pairs(&first.data_pairs, &second.data_pairs) {
+        return false;
+    }
+    if !are_same_pairs(&first.ctrl_pairs, &second.ctrl_pairs) {
+        return false;
+    }
+    are_same_pairs(&first.ctrlisync_pairs, &second.ctrlisync_pairs)
 }

@@ -1,7 +1,12 @@
 //! All candidates of a space, one after another.
 
-ghost use Rattle.std.specs.Prelude.{◌≡◌, ℕ, ◌+◌, ◌*◌, length, OnOk};
-ghost use Rattle.cat_eval.specs.Candidates.{combined_count, candidate_count};
+ghost use Rattle.std.specs.Prelude.{◌≡◌, ℕ, ◌++◌, List, [], ◌∷◌, length, IsTrue, IfSome, OnOk, MatchOption};
+ghost use Rattle.candidates.specs.Space.{candidates_in};
+ghost use Rattle.base_env.specs.Known.{Known};
+ghost use Rattle.base_env.specs.Candidate.{IsEntered, IsReading, IsOrdered};
+ghost use Rattle.cat_eval.specs.Alike.{AreAlike};
+ghost use Rattle.cat_eval.specs.Candidates.{reading_so, reading_in};
+ghost use Rattle.cat_eval.specs.Worlds.{AreWorlds};
 
 use crate::needs::Needs;
 use crate::shape::is_same_shape;
@@ -11,12 +16,44 @@ use std::alloc::{AllocError, Global};
 
 /// What is done with each candidate.
 pub(crate) trait Visit {
-    /// So many lists of values it has, and it has taken so many candidates.
-    ghost has_taken: { Self → ℕ → ℕ → Type 0 };
+    /// From the first state on it has taken candidates of these predefined names, one after
+    /// another.
+    ghost has_taken: { Self → List Known → Self → Type 0 };
 
     /// Takes the next candidate, of which the predefined names are given.
     fn visit(&mut self, base: &Base) -> Result<(), AllocError>
-        ensures { (lists n : ℕ) → has_taken self.old lists n → OnOk result (has_taken self.new lists (n + 1)) };
+        ensures { (first : _) (bases : List Known) → has_taken first bases self.old → OnOk result (has_taken first (bases ++ base.now ∷ []) self.new) };
+}
+
+/// Goes over to an order of the stores, where a name changes with it.
+fn go_to_order(needs: &Needs, base: &mut Base, combination: &Combination, order: &[u8])
+    ensures entered { IsEntered base.old combination.now → IsEntered base.new combination.now }
+    ensures reading { (sources : List ℕ) → IsReading base.old combination.now sources → IsReading base.new combination.now sources }
+    ensures ordered { IsTrue needs.now.orders → IsOrdered base.new combination.now order.now }
+{
+    if needs.orders {
+        base.order(combination, order);
+    }
+}
+
+/// Goes over to a way to read, where a name changes with it.
+fn go_to_sources(needs: &Needs, base: &mut Base, combination: &Combination, sources: &[u8])
+    ensures entered { IsEntered base.old combination.now → IsEntered base.new combination.now }
+    ensures reading { IsTrue needs.now.reads → IsReading base.new combination.now sources.now }
+{
+    if needs.reads {
+        base.read_from(combination, sources);
+    }
+}
+
+/// Goes over to a combination, after another one where it is given.
+fn go_to_combination(entered: Option<&Combination>, base: &mut Base, combination: &Combination)
+    ensures { IfSome entered.entry (λ earlier. IsEntered base.old earlier.now) → IsEntered base.new combination.now }
+{
+    match entered {
+        Some(earlier) if is_same_shape(earlier, combination) => {}
+        _ => base.enter(combination),
+    }
 }
 
 /// Visits the candidates of a combination that read in the present way.
@@ -26,12 +63,12 @@ fn visit_orders<V: Visit>(
     base: &mut Base,
     visitor: &mut V,
 ) -> Result<(), AllocError>
-    ensures { (lists n : ℕ) → V.has_taken visitor.old lists n → OnOk result (V.has_taken visitor.new lists (n + length combination.now.orders.items)) }
+    requires { IsEntered base.old combination.now }
+    ensures entered { IsEntered base.new combination.now }
+    ensures taken { (sources : List ℕ) → (IsTrue needs.now.reads → IsReading base.old combination.now sources) → (first : _) (bases : List Known) → V.has_taken first bases visitor.old → OnOk result ((more : List Known) × AreWorlds needs.now.reads needs.now.orders more (reading_so combination.now sources combination.now.orders.items) × V.has_taken first (bases ++ more) visitor.new) }
 {
     for order in &combination.orders {
-        if needs.orders {
-            base.order(combination, order);
-        }
+        go_to_order(needs, base, combination, order);
         visitor.visit(base)?;
     }
     Ok(())
@@ -44,23 +81,15 @@ fn visit_combination<V: Visit>(
     base: &mut Base,
     visitor: &mut V,
 ) -> Result<(), AllocError>
-    ensures { (lists n : ℕ) → V.has_taken visitor.old lists n → OnOk result (V.has_taken visitor.new lists (n + combined_count combination.now)) }
+    requires { IsEntered base.old combination.now }
+    ensures entered { IsEntered base.new combination.now }
+    ensures taken { (first : _) (bases : List Known) → V.has_taken first bases visitor.old → OnOk result ((more : List Known) × AreWorlds needs.now.reads needs.now.orders more (reading_in combination.now combination.now.sources.items) × V.has_taken first (bases ++ more) visitor.new) }
 {
     for sources in &combination.sources {
-        if needs.reads {
-            base.read_from(combination, sources);
-        }
+        go_to_sources(needs, base, combination, sources);
         visit_orders(combination, needs, base, visitor)?;
     }
     Ok(())
-}
-
-/// Whether the base need not be made anew for a combination after it was made for another one.
-fn is_entered(entered: Option<&Combination>, combination: &Combination) -> bool {
-    match entered {
-        Some(earlier) => is_same_shape(earlier, combination),
-        None => false,
-    }
 }
 
 /// Visits all candidates of a space, in order, with the predefined names that are needed.
@@ -70,14 +99,12 @@ pub(crate) fn visit_all<V: Visit>(
     needs: &Needs,
     visitor: &mut V,
 ) -> Result<(), AllocError>
-    ensures { (lists : ℕ) → V.has_taken visitor.old lists 0 → OnOk result (V.has_taken visitor.new lists (candidate_count space.now)) }
+    ensures { V.has_taken visitor.old [] visitor.old → OnOk result ((bases : List Known) × AreWorlds needs.now.reads needs.now.orders bases (candidates_in space.now.combinations.items) × V.has_taken visitor.old bases visitor.new) }
 {
     let mut base = Base::of_names(alloc, &needs.names)?;
     let mut entered = None;
     for combination in &space.combinations {
-        if !is_entered(entered, combination) {
-            base.enter(combination);
-        }
+        go_to_combination(entered, &mut base, combination);
         entered = Some(combination);
         visit_combination(combination, needs, &mut base, visitor)?;
     }

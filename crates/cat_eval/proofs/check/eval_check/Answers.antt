@@ -1,5 +1,13 @@
-use Rattle.std.proofs.Common.{rules}
+use Rattle.std.proofs.Common.{◌≡◌, ◌∙◌, refl, ap}
+use Rattle.cat_eval.specs.Needed.{steps_read, steps_order, role_reads, role_orders}
+use Rattle.cat_eval.proofs.Visits.{no_answers}
 use Rattle.cat_eval.proofs.check.eval_check.Goals as goal
 
 pub returns-in_ok-visit_all-in-Check : goal.returns-in_ok-visit_all-in-Check
-returns-in_ok-visit_all-in-Check c = rw c.in-Check.is (c.in_ok-visit_all-in-Check.ensures 0 (search rules))
+returns-in_ok-visit_all-in-Check c =
+    let needs = c.in_ok-of-in-Check.field-0 in
+    let steps = c.in-Check.check.code.steps.items in
+    let reads : needs.reads ≡ steps_read steps = c.in_ok-of-in-Check.ensures.0 ∙ ap role_reads c.in-Check.is in
+    let orders : needs.orders ≡ steps_order steps = c.in_ok-of-in-Check.ensures.1 ∙ ap role_orders c.in-Check.is in
+    let (bases, worlds, taken) = c.in_ok-visit_all-in-Check.ensures (refl, refl, rw c.new-in-Check.ensures.items (no_answers c.in-Check.check c.args.inputs.now)) in
+    rw c.in-Check.is (bases, rw (reads, orders) at worlds, taken.2)

@@ -1,6 +1,13 @@
-use Rattle.std.proofs.Common.{ℕ, take, sum_by}
-use Rattle.cat_eval.specs.Candidates.{combined_count}
+use Rattle.std.proofs.Common.{List, [], take}
+use Rattle.std.specs.Prelude.{IfSome}
+use Rattle.base_env.specs.Known.{Known}
+use Rattle.base_env.specs.Candidate.{IsEntered}
+use Rattle.cat_eval.specs.Candidates.{of_combinations}
+use Rattle.cat_eval.specs.Worlds.{AreWorlds}
 use Rattle.cat_eval.proofs.walk.visit_all.Given as goal
 
 abbrev pub invariant-loop-combination : goal.invariant-loop-combination
-invariant-loop-combination g l = (lists : ℕ) → g.V.Visit.has_taken l.initial.visitor lists 0 → g.V.Visit.has_taken l.visitor lists (sum_by combined_count (take l.combination-index l.space.combinations.items))
+invariant-loop-combination g l =
+    IfSome l.entered (λ earlier. IsEntered l.base earlier.now)
+    × (g.V.Visit.has_taken l.initial.visitor [] l.initial.visitor
+    → (bases : List Known) × AreWorlds l.needs.reads l.needs.orders bases (of_combinations (take l.combination-index l.space.combinations.items)) × g.V.Visit.has_taken l.initial.visitor bases l.visitor)

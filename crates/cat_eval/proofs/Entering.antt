@@ -1,0 +1,73 @@
+-- What of a base stays as the candidates go on, and lists of bases for lists of candidates.
+use Rattle.std.proofs.Common.{ℕ, ◌≡◌, ◌∙◌, ◌++◌, ◌+◌, ◌<◌, List, [], ◌∷◌, length, take, get_or, refl, sym, ap, add-one, arith}
+use Rattle.std.specs.Prelude.{Bool, Vec, map}
+use Rattle.std.specs.List.{flat_map}
+use Rattle.std.specs.declared.alloc.Global.{Global}
+use Rattle.std.proofs.lemmas.List.{map-append, append-nil}
+use Rattle.std.proofs.lemmas.Grind.{flat_map-append}
+use Rattle.std.proofs.Math.Seq.{take-suc}
+use Rattle.candidates.specs.declared.candidate.Combination.{Combination}
+use Rattle.base_env.specs.Known.{Known}
+use Rattle.base_env.specs.Candidate.{IsEntered, IsReading}
+use Rattle.candidates.specs.Lists.{lists_of}
+use Rattle.candidates.specs.Space.{pairs, candidates_of, candidates_in}
+use Rattle.cat_eval.specs.Candidates.{Candidate, reading_so, reading_in, of_combinations}
+use Rattle.cat_eval.specs.Worlds.{AreWorlds}
+
+pub entered_same : (old new : Known) (c : Combination) → new.count ≡ old.count → new.sets ≡ old.sets → new.shared ≡ old.shared → IsEntered old c → IsEntered new c
+entered_same old new c count sets shared h = record {
+  count = count ∙ h.count;
+  sets = rw (sets, count) h.sets;
+  shared = rw (shared, count) h.shared;
+}
+
+pub reading_same : (old new : Known) (c : Combination) (sources : List ℕ) → new.count ≡ old.count → new.reads_from ≡ old.reads_from → IsReading old c sources → IsReading new c sources
+reading_same old new c sources count reads h = rw (count, reads) h
+
+pub worlds_more : (reads orders : Bool) (bases more : List Known) (some others : List Candidate) → AreWorlds reads orders bases some → AreWorlds reads orders more others → AreWorlds reads orders (bases ++ more) (some ++ others)
+worlds_more reads orders [] more [] others h k = k
+worlds_more reads orders [] more (c ∷ cs) others h k = absurd h
+worlds_more reads orders (b ∷ bs) more [] others h k = absurd h
+worlds_more reads orders (b ∷ bs) more (c ∷ cs) others h k = (h.0, worlds_more reads orders bs more cs others h.1 k)
+
+pub worlds_long : (reads orders : Bool) (bases : List Known) (some : List Candidate) → AreWorlds reads orders bases some → length bases ≡ length some
+worlds_long reads orders [] [] h = refl
+worlds_long reads orders [] (c ∷ cs) h = absurd h
+worlds_long reads orders (b ∷ bs) [] h = absurd h
+worlds_long reads orders (b ∷ bs) (c ∷ cs) h = let e : length bs ≡ length cs = worlds_long reads orders bs cs h.1 in omega (arith, e)
+
+-- one item of a list further
+pub map_step : {X Y : Type 0} (f : X → Y) (xs : List X) (i : ℕ) (x : X) → i < length xs → x ≡ get_or xs i x → map f (take (i + 1) xs) ≡ map f (take i xs) ++ f x ∷ []
+map_step f xs i x lt is =
+    let grown : take (i + 1) xs ≡ take i xs ++ x ∷ [] = rw (add-one i) (take-suc xs i x lt ∙ ap (λ y. take i xs ++ y ∷ []) (sym is)) in
+    ap (map f) grown ∙ map-append f (take i xs) (x ∷ [])
+
+pub flat_step : {X Y : Type 0} (f : X → List Y) (xs : List X) (i : ℕ) (x : X) → i < length xs → x ≡ get_or xs i x → flat_map f (take (i + 1) xs) ≡ flat_map f (take i xs) ++ f x
+flat_step f xs i x lt is =
+    let grown : take (i + 1) xs ≡ take i xs ++ x ∷ [] = rw (add-one i) (take-suc xs i x lt ∙ ap (λ y. take i xs ++ y ∷ []) (sym is)) in
+    ap (flat_map f) grown ∙ flat_map-append f (take i xs) (x ∷ []) ∙ ap (λ ys. flat_map f (take i xs) ++ ys) (one f x)
+  where
+    one : {X Y : Type 0} (f : X → List Y) (x : X) → flat_map f (x ∷ []) ≡ f x
+    one f x = append-nil (f x)
+
+-- the candidates in the order of the loops are those of the space
+so_listed : (c : Combination) (sources : List ℕ) (orders : List (Vec ℕ Global)) → reading_so c sources orders ≡ map (λ t. (c, t)) (map (λ y. (sources, y)) (lists_of orders))
+so_listed c sources [] = refl
+so_listed c sources (o ∷ os) = ap (λ (rest : List Candidate). (c, (sources, o.items)) ∷ rest) (so_listed c sources os)
+
+ways_listed : (c : Combination) (ways orders : List (Vec ℕ Global)) → flat_map (λ s. reading_so c s.items orders) ways ≡ map (λ t. (c, t)) (pairs (lists_of ways) (lists_of orders))
+ways_listed c [] orders = refl
+ways_listed c (w ∷ ws) orders =
+    ap (λ (front : List Candidate). front ++ flat_map (λ s. reading_so c s.items orders) ws) (so_listed c w.items orders)
+    ∙ ap (λ (back : List Candidate). map (λ t. (c, t)) (map (λ y. (w.items, y)) (lists_of orders)) ++ back) (ways_listed c ws orders)
+    ∙ sym (map-append (λ t. (c, t)) (map (λ y. (w.items, y)) (lists_of orders)) (pairs (lists_of ws) (lists_of orders)))
+
+in_listed : (c : Combination) → reading_in c c.sources.items ≡ map (λ t. (c, t)) (candidates_of c)
+unfolding candidates_of
+in_listed c = ways_listed c c.sources.items c.orders.items
+
+pub listed : (cs : List Combination) → of_combinations cs ≡ candidates_in cs
+listed [] = refl
+listed (c ∷ cs) =
+    ap (λ (front : List Candidate). front ++ of_combinations cs) (in_listed c)
+    ∙ ap (λ (back : List Candidate). map (λ t. (c, t)) (candidates_of c) ++ back) (listed cs)

@@ -1,0 +1,28 @@
+use Rattle.std.proofs.Common.{◌≡◌, ◌++◌, arith, take, append_assoc}
+use Rattle.std.proofs.lemmas.List.{take_all}
+use Rattle.cat_eval.specs.Candidates.{reading_so}
+use Rattle.cat_eval.proofs.Entering.{worlds_more, flat_step}
+use Rattle.cat_eval.proofs.walk.visit_combination.Goals as goal
+
+pub loop-sources-preserved : goal.loop-sources-preserved
+loop-sources-preserved g c =
+    let combination = c.args.combination.now in
+    let needs = c.args.needs.now in
+    let before = c.loop-sources.invariant in (
+      c.visit_orders.ensures.entered,
+      (λ first bases taken.
+          let (more, worlds, was) = before.1 first bases taken in
+          let (new, here, now) = c.in_ok-visit_orders.ensures.taken c.sources-item.result.items (λ reads. rw c.deref.ensures.value at (c.go_to_sources.ensures.reading reads)) first (bases ++ more) was in (
+            more ++ new,
+            rw (flat_step (λ sources. reading_so combination sources.items combination.orders.items) combination.sources.items c.loop-sources.sources-index c.sources-item.result (rw c.deref-sources-items.ensures.value at c.loop-sources-test.true) (rw c.deref-sources-items.ensures.value at c.sources-item.is))
+                (worlds_more needs.reads needs.orders more new _ _ worlds here),
+            rw (append_assoc bases more new) at now,
+          )),
+    )
+
+pub returns-clause-taken : goal.returns-clause-taken
+returns-clause-taken g c = λ first bases taken.
+    let index = c.loop-sources.sources-index in
+    let ways = c.args.combination.now.sources.items in
+    let whole : take index ways ≡ ways = take_all index ways (omega (arith, c.loop-sources-test.false, c.deref-sources-items.ensures.len)) in
+    rw whole at (c.loop-sources.invariant.1 first bases taken)

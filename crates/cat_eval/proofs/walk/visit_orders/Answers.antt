@@ -1,0 +1,35 @@
+use Rattle.std.proofs.Common.{◌≡◌, ◌++◌, ◌∷◌, [], arith, take, append_assoc}
+use Rattle.std.proofs.lemmas.List.{take_all}
+use Rattle.cat_eval.specs.Candidates.{Candidate}
+use Rattle.cat_eval.specs.Worlds.{IsWorld}
+use Rattle.cat_eval.proofs.Entering.{worlds_more, map_step}
+use Rattle.cat_eval.proofs.walk.visit_orders.Goals as goal
+
+pub loop-order-preserved : goal.loop-order-preserved
+loop-order-preserved g c =
+    let combination = c.args.combination.now in
+    let needs = c.args.needs.now in
+    let before = c.loop-order.invariant in
+    let base = c.go_to_order.new.base in (
+      c.go_to_order.ensures.entered before.0,
+      (λ sources held. c.go_to_order.ensures.reading sources (before.1 sources held)),
+      (λ sources reading first bases taken.
+          let (more, worlds, was) = before.2 sources reading first bases taken in
+          let world : IsWorld needs.reads needs.orders base (combination, (sources, c.order-item.result.items)) = record {
+            entered = c.go_to_order.ensures.entered before.0;
+            reading = λ reads. c.go_to_order.ensures.reading sources (before.1 sources (reading reads));
+            ordered = λ orders. rw c.deref.ensures.value at (c.go_to_order.ensures.ordered orders);
+          } in (
+            more ++ base ∷ [],
+            rw (map_step {Y = Candidate} (λ order. (combination, (sources, order.items))) combination.orders.items c.loop-order.order-index c.order-item.result (rw c.deref-order-items.ensures.value at c.loop-order-test.true) (rw c.deref-order-items.ensures.value at c.order-item.is))
+                (worlds_more needs.reads needs.orders more (base ∷ []) _ _ worlds (world, tt)),
+            rw (append_assoc bases more (base ∷ [])) at (c.in_ok-visit.ensures first (bases ++ more) was),
+          )),
+    )
+
+pub returns-clause-taken : goal.returns-clause-taken
+returns-clause-taken g c = λ sources reading first bases taken.
+    let index = c.loop-order.order-index in
+    let orders = c.args.combination.now.orders.items in
+    let whole : take index orders ≡ orders = take_all index orders (omega (arith, c.loop-order-test.false, c.deref-order-items.ensures.len)) in
+    rw whole at (c.loop-order.invariant.2 sources reading first bases taken)

@@ -1,0 +1,33 @@
+-- Combinations of runs that differ in values alone.
+use Rattle.std.specs.Prelude.{ℕ, ◌≡◌, ◌<◌, List, length, slice_index_or}
+use Rattle.candidates.specs.declared.candidate.Action.{Action}
+use Rattle.candidates.specs.declared.candidate.Action.TheVariants.{Read, Write, Fence}
+use Rattle.candidates.specs.declared.candidate.Combination.{Combination}
+use Rattle.candidates.specs.declared.candidate.Event.{Event}
+
+-- of one kind and one location
+abbrev pub IsActionLike : Action → Action → Type 0
+IsActionLike (Read l v) (Read m w) = l ≡ m
+IsActionLike (Read l v) (Write m w) = ⊥
+IsActionLike (Read l v) (Fence g) = ⊥
+IsActionLike (Write l v) (Read m w) = ⊥
+IsActionLike (Write l v) (Write m w) = l ≡ m
+IsActionLike (Write l v) (Fence g) = ⊥
+IsActionLike (Fence f) (Read m w) = ⊥
+IsActionLike (Fence f) (Write m w) = ⊥
+IsActionLike (Fence f) (Fence g) = f ≡ g
+
+-- and of one thread
+abbrev pub IsLike : Event → Event → Type 0
+IsLike e f = (e.thread ≡ f.thread) × IsActionLike e.action f.action
+
+abbrev pub AreEventsLike : List Event → List Event → Type 0
+AreEventsLike es fs = (length es ≡ length fs) × ((i : ℕ) → i < length es → (d : Event) → IsLike (slice_index_or es i d) (slice_index_or fs i d))
+
+-- the events are alike one by one, and the dependencies are the same
+pub record AreAlike (c d : Combination) : Type 0 where
+  pub events : AreEventsLike c.events.items d.events.items
+  pub addr : c.addr_pairs.items ≡ d.addr_pairs.items
+  pub data_pairs : c.data_pairs.items ≡ d.data_pairs.items
+  pub ctrl : c.ctrl_pairs.items ≡ d.ctrl_pairs.items
+  pub ctrlisync : c.ctrlisync_pairs.items ≡ d.ctrlisync_pairs.items

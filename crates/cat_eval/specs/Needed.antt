@@ -1,0 +1,77 @@
+-- Which predefined names change with what the loads read, and which with the order of the stores.
+use Rattle.std.specs.Prelude.{Bool, true, false, List}
+use Rattle.std.specs.List.{list_any}
+use Rattle.cat_values.specs.declared.predefined.Predefined.{Predefined}
+use Rattle.cat_values.specs.declared.predefined.Predefined.TheVariants as names
+use Rattle.binding_graph.specs.declared.resolved.Body.{Body}
+use Rattle.binding_graph.specs.declared.resolved.Role.{Role}
+use Rattle.binding_graph.specs.declared.resolved.Role.TheVariants as roles
+use Rattle.binding_graph.specs.declared.resolved.Source.{Source}
+use Rattle.binding_graph.specs.declared.resolved.Source.TheVariants as sources
+use Rattle.binding_graph.specs.declared.resolved.Step.{Step}
+use Rattle.binding_graph.specs.declared.resolved.Step.TheVariants as steps
+
+abbrev pub changes_with_reads : Predefined → Bool
+changes_with_reads names.ReadsFrom = true
+changes_with_reads names.ReadsFromExternal = true
+changes_with_reads names.ReadsFromInternal = true
+changes_with_reads names.FromReads = true
+changes_with_reads names.FromReadsExternal = true
+changes_with_reads names.FromReadsInternal = true
+changes_with_reads names.Communication = true
+changes_with_reads _ = false
+
+abbrev pub changes_with_orders : Predefined → Bool
+changes_with_orders names.Coherence = true
+changes_with_orders names.CoherenceExternal = true
+changes_with_orders names.CoherenceInternal = true
+changes_with_orders names.FromReads = true
+changes_with_orders names.FromReadsExternal = true
+changes_with_orders names.FromReadsInternal = true
+changes_with_orders names.Communication = true
+changes_with_orders _ = false
+
+-- whether the step pushes a predefined name that passes a test
+abbrev pub source_passes : (Predefined → Bool) → Source → Bool
+source_passes test (sources.Predefined name) = test name
+source_passes test (sources.Input place) = false
+source_passes test (sources.Own position) = false
+
+abbrev pub step_passes : (Predefined → Bool) → Step → Bool
+step_passes test (steps.PushSet source) = source_passes test source
+step_passes test steps.PushAllEvents = false
+step_passes test steps.PushNoEvents = false
+step_passes test (steps.BlendSets how) = false
+step_passes test steps.TurnSet = false
+step_passes test (steps.PushRelation source) = source_passes test source
+step_passes test steps.PushNoPairs = false
+step_passes test (steps.BlendRelations how) = false
+step_passes test steps.Compose = false
+step_passes test steps.Multiply = false
+step_passes test steps.Restrict = false
+step_passes test (steps.Close how) = false
+step_passes test steps.TurnRelation = false
+
+-- whether the expression uses a name that changes so
+abbrev pub steps_read : List Step → Bool
+steps_read xs = list_any (step_passes changes_with_reads) xs
+
+abbrev pub steps_order : List Step → Bool
+steps_order xs = list_any (step_passes changes_with_orders) xs
+
+-- whether some expression of the item does
+abbrev pub bodies_read : List Body → Bool
+bodies_read bodies = list_any (λ body. steps_read body.code.steps.items) bodies
+
+abbrev pub bodies_order : List Body → Bool
+bodies_order bodies = list_any (λ body. steps_order body.code.steps.items) bodies
+
+abbrev pub role_reads : Role → Bool
+role_reads (roles.Group recursive bodies) = bodies_read bodies.items
+role_reads (roles.Check check) = steps_read check.code.steps.items
+role_reads roles.Silent = false
+
+abbrev pub role_orders : Role → Bool
+role_orders (roles.Group recursive bodies) = bodies_order bodies.items
+role_orders (roles.Check check) = steps_order check.code.steps.items
+role_orders roles.Silent = false
