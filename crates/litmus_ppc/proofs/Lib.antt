@@ -1,1 +1,10 @@
+pub mod Bounds
+pub mod Conditions
+pub mod Ends
+pub mod Entries
+pub mod Keys
+pub mod Outcomes
+pub mod Readers
+pub mod Runs
 pub mod Separated
+pub mod Turns

@@ -18,6 +18,8 @@ use Rattle.litmus_values.specs.Value.{Content, Formula}
 use Rattle.litmus_conditions.specs.Grammar.{PlaceTree, Location, Register, limits, place_meaning, meaning, IsConditionText}
 use Rattle.litmus_table.specs.Grammar.{spelled_header, thread_meaning}
 use Rattle.litmus_table.specs.Late.{Late, or_else, late_notes, late_columns, thread_notes}
+use Rattle.litmus_ppc.specs.declared.fault.LitmusFault.{LitmusFault}
+use Rattle.litmus_ppc.specs.declared.fault.LitmusFault.TheVariants.{Refused, OutOfMemory}
 use Rattle.litmus_ppc.specs.Grammar.{EntryTree, spelled_entry, spelled_init, spelled_head, members, entry_meaning, TestTree, test_meaning, IsTestText, IsInitText, IsThreadText, IsLocationsText}
 
 abbrev pub most_bytes : ℕ
@@ -110,3 +112,8 @@ ReadsLocations threads bytes v = Reads (IsLocationsText threads) Tail (λ ts t. 
 
 abbrev pub IsLocationsFault : ℕ → List ℕ → LitmusRule → ℕ → Type 0
 IsLocationsFault threads bytes rule place = IsFaultAt (IsLocationsText threads) Tail (λ ts t. None) bytes rule place
+
+-- what a refusal says is so, unless memory ran out
+abbrev pub IsFaultOf : (LitmusRule → ℕ → Type 0) → LitmusFault → Type 0
+IsFaultOf IsAt (Refused rule place) = IsAt rule place
+IsFaultOf IsAt (OutOfMemory e) = Unit {0}

@@ -2,7 +2,9 @@
 #![tactic(auto)]
 
 mod fault;
+mod held;
 mod init;
+mod parts;
 mod print;
 mod print_table;
 mod read;
@@ -18,6 +20,3 @@ pub use print::{print_condition, put_place, put_value};
 pub use print_table::print_test;
 pub use read::{read_cond, read_init, read_locations, read_test, read_thread};
 pub use source_text::Name;
-
-#[cfg(test)]
-mod tests;

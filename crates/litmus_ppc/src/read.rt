@@ -1,52 +1,126 @@
 //! Reads texts.
 
+ghost use Rattle.std.specs.Prelude.{◌≡◌, ◌<◌, ◌≤◌, length, IfOk, IfErr, MatchResult};
+ghost use Rattle.litmus_tokens.specs.Lexer.{front};
+ghost use Rattle.litmus_tokens.specs.Texts.{fresh_after, lexed};
+ghost use Rattle.litmus_values.specs.Value.{Formula, formula_of};
+ghost use Rattle.litmus_values.specs.declared.test.Quantifier.{Quantifier};
+ghost use Rattle.litmus_ppc.specs.Faults.{IsWithin, IsTooLong, IsMemory};
+ghost use Rattle.litmus_ppc.specs.TextMachine.{start, first_stage, run};
+ghost use Rattle.litmus_ppc.specs.TextReading.{state_of, Runs, StepsAt};
+ghost use Rattle.litmus_ppc.specs.Texts.{ReadsCondition, IsConditionFault, IsFaultOf};
+
 use crate::fault::LitmusFault;
-use crate::reader::{Reader, TextKind};
-use litmus_tokens::{Front, LitmusRule, Token, front_of};
+use crate::held::Held;
+use crate::parts::{TextKind, is_line_end};
+use crate::reader::Reader;
+use litmus_tokens::{Front, LitmusRule, Stage, Token, front_of};
 use litmus_values::{Condition, InitEntry, Place, Test, Thread};
 use source_text::{MAX_BYTES, is_blank};
 use std::alloc::Global;
 
-// Reads a whole text of this kind.
-fn read_text(
-    alloc: Global,
-    bytes: &[u8],
-    kind: TextKind,
-    threads: usize,
-) -> Result<Reader, LitmusFault> {
-    if bytes.len() > MAX_BYTES {
-        return Err(LitmusFault::Refused {
-            rule: LitmusRule::TooLong,
-            place: MAX_BYTES,
-        });
+fn front_at(alloc: Global, stage: Stage, is_fresh: bool, text: &[u8]) -> Result<Front, LitmusFault>
+    requires { 0 < length text.now }
+    ensures front { IfOk result (λ f. f ≡ front stage is_fresh text.now) }
+    ensures memory { IfErr result IsMemory }
+{
+    match front_of(alloc, stage, is_fresh, text) {
+        Ok(front) => Ok(front),
+        Err(error) => Err(LitmusFault::OutOfMemory(error)),
     }
-    let mut reader = Reader::new(alloc, kind, threads)?;
-    read_tokens(alloc, bytes, &mut reader)?;
-    reader.check()?;
-    Ok(reader)
+}
+
+// Whether the line holds nothing but blanks, this byte too.
+fn is_fresh_behind(is_fresh: bool, byte: u8) -> bool
+    ensures { result ≡ fresh_after is_fresh byte }
+{
+    byte == b'\n' || (is_fresh && is_blank(byte))
 }
 
 // Hands the tokens of a text on, up to its end.
-fn read_tokens(alloc: Global, bytes: &[u8], reader: &mut Reader) -> Result<(), LitmusFault> {
+fn read_tokens(alloc: Global, bytes: &[u8], reader: &mut Reader) -> Result<(), LitmusFault>
+    ensures { StepsAt result reader.new (run (state_of reader.old) (lexed (state_of reader.old).stage bytes.now)) }
+{
     let mut place = 0;
     // Whether the line holds nothing but blanks so far.
     let mut is_fresh = false;
     while place < bytes.len() {
         let left = bytes.len() - place;
         let first = bytes[place];
-        match front_of(alloc, reader.stage(), is_fresh, &bytes[place..])? {
+        match front_at(alloc, reader.stage(), is_fresh, &bytes[place..])? {
             Front::Layout(n) => {
-                is_fresh = first == b'\n' || (is_fresh && is_blank(first));
+                is_fresh = is_fresh_behind(is_fresh, first);
                 place += n.max(1).min(left);
             }
             Front::Lexeme(token, n) => {
-                is_fresh = token.is_line_end();
-                reader.step(token, place)?;
-                place += n.max(1).min(left);
+                is_fresh = is_line_end(&token);
+                match reader.step(token, place) {
+                    Ok(()) => place += n.max(1).min(left),
+                    Err(fault) => return Err(fault),
+                }
             }
         }
     }
     reader.step(Token::End, place)
+}
+
+// The reader behind the tokens of a text.
+fn read_all(
+    alloc: Global,
+    bytes: &[u8],
+    kind: TextKind,
+    threads: usize,
+) -> Result<Reader, LitmusFault>
+    ensures { Runs result (run (start kind threads) (lexed (first_stage kind) bytes.now)) }
+{
+    let mut reader = match Reader::new(alloc, kind, threads) {
+        Ok(reader) => reader,
+        Err(error) => return Err(LitmusFault::OutOfMemory(error)),
+    };
+    match read_tokens(alloc, bytes, &mut reader) {
+        Ok(()) => Ok(reader),
+        Err(fault) => Err(fault),
+    }
+}
+
+// The reader behind a whole text of this kind, whose length is looked at first.
+fn read_whole(
+    alloc: Global,
+    bytes: &[u8],
+    kind: TextKind,
+    threads: usize,
+) -> Result<Reader, LitmusFault>
+    ensures runs { length bytes.now ≤ 65536 → Runs result (run (start kind threads) (lexed (first_stage kind) bytes.now)) }
+    ensures too_long { 65536 < length bytes.now → MatchResult result (λ _. ⊥) IsTooLong }
+    ensures within { IfErr result (λ e. IsWithin (length bytes.now) e) }
+{
+    if bytes.len() > MAX_BYTES {
+        return Err(LitmusFault::Refused {
+            rule: LitmusRule::TooLong,
+            place: MAX_BYTES,
+        });
+    }
+    read_all(alloc, bytes, kind, threads)
+}
+
+// What a text of this kind holds that passes the later checks.
+fn read_text(
+    alloc: Global,
+    bytes: &[u8],
+    kind: TextKind,
+    threads: usize,
+) -> Result<Held, LitmusFault>
+    ensures within { IfErr result (λ e. IsWithin (length bytes.now) e) }
+    ensures too_long { 65536 < length bytes.now → MatchResult result (λ _. ⊥) IsTooLong }
+{
+    let reader = match read_whole(alloc, bytes, kind, threads) {
+        Ok(reader) => reader,
+        Err(fault) => return Err(fault),
+    };
+    match reader.check() {
+        Ok(()) => Ok(reader.into_held()),
+        Err(fault) => Err(fault),
+    }
 }
 
 /// Reads a test.
@@ -55,31 +129,67 @@ fn read_tokens(alloc: Global, bytes: &[u8], reader: &mut Reader) -> Result<(), L
 /// that cannot stand where it stands, or at the text's length where it ends too early; and only a text
 /// without these is refused for an initial value of a thread that is not there, at its entry, or for a
 /// label, thread by thread.
-pub fn read_test(alloc: Global, bytes: &[u8]) -> Result<Test, LitmusFault> {
-    let reader = read_text(alloc, bytes, TextKind::Test, 0)?;
-    Ok(reader.into_test()?)
+pub fn read_test(alloc: Global, bytes: &[u8]) -> Result<Test, LitmusFault>
+    // A refusal stands within the text, or at its end.
+    ensures within { IfErr result (λ e. IsWithin (length bytes.now) e) }
+    // The length is looked at first.
+    ensures too_long { 65536 < length bytes.now → MatchResult result (λ _. ⊥) IsTooLong }
+{
+    match read_text(alloc, bytes, TextKind::Test, 0) {
+        Ok(held) => match held.into_test() {
+            Ok(test) => Ok(test),
+            Err(error) => Err(LitmusFault::OutOfMemory(error)),
+        },
+        Err(fault) => Err(fault),
+    }
 }
 
 /// Reads a thread: cells with semicolons between.
-pub fn read_thread(alloc: Global, bytes: &[u8]) -> Result<Thread, LitmusFault> {
-    let reader = read_text(alloc, bytes, TextKind::Thread, 1)?;
-    Ok(reader.into_thread())
+pub fn read_thread(alloc: Global, bytes: &[u8]) -> Result<Thread, LitmusFault>
+    // A refusal stands within the text, or at its end.
+    ensures within { IfErr result (λ e. IsWithin (length bytes.now) e) }
+    // The length is looked at first.
+    ensures too_long { 65536 < length bytes.now → MatchResult result (λ _. ⊥) IsTooLong }
+{
+    match read_text(alloc, bytes, TextKind::Thread, 1) {
+        Ok(held) => Ok(held.into_thread()),
+        Err(fault) => Err(fault),
+    }
 }
 
 /// Reads the block of initial values, in braces, of a test of so many threads.
-pub fn read_init(
-    alloc: Global,
-    bytes: &[u8],
-    threads: usize,
-) -> Result<Vec<InitEntry>, LitmusFault> {
-    let reader = read_text(alloc, bytes, TextKind::Init, threads)?;
-    Ok(reader.into_init())
+pub fn read_init(alloc: Global, bytes: &[u8], threads: usize) -> Result<Vec<InitEntry>, LitmusFault>
+    // A refusal stands within the text, or at its end.
+    ensures within { IfErr result (λ e. IsWithin (length bytes.now) e) }
+    // The length is looked at first.
+    ensures too_long { 65536 < length bytes.now → MatchResult result (λ _. ⊥) IsTooLong }
+{
+    match read_text(alloc, bytes, TextKind::Init, threads) {
+        Ok(held) => Ok(held.into_init()),
+        Err(fault) => Err(fault),
+    }
 }
 
 /// Reads a quantifier and its proposition, of a test of so many threads.
-pub fn read_cond(alloc: Global, bytes: &[u8], threads: usize) -> Result<Condition, LitmusFault> {
-    let reader = read_text(alloc, bytes, TextKind::Condition, threads)?;
-    Ok(reader.into_condition())
+pub fn read_cond(alloc: Global, bytes: &[u8], threads: usize) -> Result<Condition, LitmusFault>
+    // What is read is what the text means.
+    ensures found { IfOk result (λ c. ReadsCondition threads bytes.now (c.quantifier, formula_of c.proposition)) }
+    // What means a condition is read so, unless memory runs out.
+    ensures only { (v : Quantifier × Formula) → ReadsCondition threads bytes.now v → MatchResult result (λ c. (c.quantifier, formula_of c.proposition) ≡ v) IsMemory }
+    // A refusal stands where the text stops to begin one, and has the number of the rule that is broken there.
+    ensures fault { IfErr result (IsFaultOf (IsConditionFault threads bytes.now)) }
+    // It stands within the text, or at its end.
+    ensures within { IfErr result (λ e. IsWithin (length bytes.now) e) }
+    // The length is looked at first.
+    ensures too_long { 65536 < length bytes.now → MatchResult result (λ _. ⊥) IsTooLong }
+{
+    match read_whole(alloc, bytes, TextKind::Condition, threads) {
+        Ok(reader) => {
+            let held = reader.into_held();
+            Ok(held.condition)
+        }
+        Err(fault) => Err(fault),
+    }
 }
 
 /// Reads the word `locations` and its list, of a test of so many threads. A text without tokens is an empty list.
@@ -87,7 +197,17 @@ pub fn read_locations(
     alloc: Global,
     bytes: &[u8],
     threads: usize,
-) -> Result<Vec<Place>, LitmusFault> {
-    let reader = read_text(alloc, bytes, TextKind::Locations, threads)?;
-    Ok(reader.into_observed())
+) -> Result<Vec<Place>, LitmusFault>
+    // A refusal stands within the text, or at its end.
+    ensures within { IfErr result (λ e. IsWithin (length bytes.now) e) }
+    // The length is looked at first.
+    ensures too_long { 65536 < length bytes.now → MatchResult result (λ _. ⊥) IsTooLong }
+{
+    match read_whole(alloc, bytes, TextKind::Locations, threads) {
+        Ok(reader) => {
+            let held = reader.into_held();
+            Ok(held.observed)
+        }
+        Err(fault) => Err(fault),
+    }
 }

@@ -1,8 +1,8 @@
-use Rattle.std.proofs.Common.{ap, ◌∙◌, ◌+◌, ◌-◌, ◌++◌, ◌≡◌}
+use Rattle.std.proofs.Common.{ap, ◌∙◌, ◌+◌, ◌-◌, ◌++◌}
 use Rattle.std.specs.Prelude.{codes}
 use Rattle.std.specs.Fmt.{decimal}
-use Rattle.litmus_ppc.specs.Printing.{between, names}
-use Rattle.litmus_ppc.proofs.Separated.{from, header_begins, header_more, header_ends, row_closes}
+use Rattle.litmus_ppc.specs.Printing.{names}
+use Rattle.litmus_ppc.proofs.Separated.{from, header_begins, header_more}
 use Rattle.litmus_ppc.proofs.print_table.put_header.Goals as goal
 
 pub loop-thread-init : goal.loop-thread-init

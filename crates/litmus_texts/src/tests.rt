@@ -1,6 +1,6 @@
 //! Texts whose answers are known.
 
-use crate::*;
+use litmus_ppc::*;
 use std::alloc::{AllocError, Global};
 use std::process::Abort;
 use std::test::Fail;

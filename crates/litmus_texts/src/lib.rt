@@ -1,0 +1,5 @@
+//! Tests of the readers and printers of litmus tests, on texts whose answers are known.
+#![tactic(auto)]
+
+#[cfg(test)]
+mod tests;
