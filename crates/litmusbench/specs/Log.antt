@@ -3,6 +3,8 @@ use Rattle.std.specs.Prelude.{◌≡◌, ℕ, List, [], ◌∷◌, ◌++◌, Boo
 use Rattle.std.specs.List.{flat_map}
 use Rattle.litmus_values.specs.declared.test.Quantifier.{Quantifier}
 use Rattle.litmus_values.specs.declared.test.Quantifier.TheVariants.{Exists, NotExists, Forall}
+use Rattle.binding_graph.specs.Numbers.{number as fault_number}
+use Rattle.ppc_semantics.specs.Numbers.{number as refusal_number}
 use Rattle.verdict.specs.declared.answer.CountedState.{CountedState}
 use Rattle.verdict.specs.declared.answer.Evaluation.{Evaluation}
 use Rattle.verdict.specs.declared.answer.Observation.{Observation}
@@ -69,15 +71,15 @@ unfoldable pub head_line : List ℕ → Quantifier → List ℕ
 head_line name kind = codes "Test " ++ name ++ codes " " ++ kind_word kind ++ line_end
 
 -- a refusal of a model or of a test, with its number
-abbrev pub IsRefusalLine : Refusal → List ℕ → Type 0
-IsRefusalLine (Model _) line = (n : ℕ) × (line ≡ codes "Refused M" ++ decimal n ++ line_end)
-IsRefusalLine (Space _) line = (n : ℕ) × (line ≡ codes "Refused E" ++ decimal n ++ line_end)
+abbrev pub refusal_line : Refusal → List ℕ
+refusal_line (Model fault) = codes "Refused M" ++ decimal (fault_number fault) ++ line_end
+refusal_line (Space refusal) = codes "Refused E" ++ decimal (refusal_number refusal) ++ line_end
 
--- what stands behind the head
-abbrev pub IsResult : List ℕ → List ℕ → OutcomeResult → List ℕ → Type 0
-IsResult name condition (Refused r) text = IsRefusalLine r text
-IsResult name condition (Evaluated e) text = text ≡ evaluation_lines name condition e
+-- what stands behind the head, of a test of this name and this printed condition
+abbrev pub result_text : List ℕ → List ℕ → OutcomeResult → List ℕ
+result_text name condition (Refused refusal) = refusal_line refusal
+result_text name condition (Evaluated e) = evaluation_lines name condition e
 
 -- the log of a test of this name
-abbrev pub IsLog : List ℕ → Outcome → List ℕ → Type 0
-IsLog name o log = (text : List ℕ) × (log ≡ head_line name o.kind ++ text) × IsResult name o.condition.items o.result text
+abbrev pub log_of : List ℕ → Outcome → List ℕ
+log_of name o = head_line name o.kind ++ result_text name o.condition.items o.result

@@ -1,8 +1,8 @@
 //! Outcomes as they are printed.
 
-ghost use Rattle.std.specs.Prelude.{◌≡◌, ◌++◌, List, ℕ, OnOk, IfOk, codes, length, decimal};
+ghost use Rattle.std.specs.Prelude.{◌≡◌, ◌++◌, OnOk, IfOk, codes, length, decimal};
 ghost use Rattle.std.specs.List.{flat_map};
-ghost use Rattle.litmusbench.specs.Log.{kind_word, observation_word, met_word, line_end, state_line, flag_line, state_lines, witness_lines, counts, condition_line, observation_line, evaluation_lines, head_line, IsLog, IsRefusalLine};
+ghost use Rattle.litmusbench.specs.Log.{kind_word, observation_word, met_word, line_end, state_line, flag_line, state_lines, witness_lines, counts, condition_line, observation_line, evaluation_lines, head_line, refusal_line, log_of};
 
 use litmus_ppc::{Name, Quantifier};
 use source_text::{put_bytes, put_decimal};
@@ -39,14 +39,18 @@ fn met_word(ok: bool) -> &'static [u8]
 }
 
 fn put_refusal(text: &mut Vec<u8>, refusal: Refusal) -> Result<(), AllocError>
-    ensures { OnOk result ((line : List ℕ) × (text.new.items ≡ text.old.items ++ line) × IsRefusalLine refusal line) }
+    ensures { OnOk result (text.new.items ≡ text.old.items ++ refusal_line refusal) }
 {
-    let (letter, number) = match refusal {
-        Refusal::Model(fault) => (b'M', fault.number()),
-        Refusal::Space(refusal) => (b'E', refusal.number()),
+    let number = match refusal {
+        Refusal::Model(fault) => {
+            put_bytes(text, b"Refused M")?;
+            fault.number()
+        }
+        Refusal::Space(refusal) => {
+            put_bytes(text, b"Refused E")?;
+            refusal.number()
+        }
     };
-    put_bytes(text, b"Refused ")?;
-    text.push(letter)?;
     put_decimal(text, u64::from(number))?;
     put_bytes(text, b"\n")
 }
@@ -170,7 +174,7 @@ fn put_head(text: &mut Vec<u8>, name: &[u8], kind: Quantifier) -> Result<(), All
 
 /// The log of a test of this name: each line ends with a line feed.
 pub fn outcome_log(alloc: Global, name: &[u8], outcome: &Outcome) -> Result<Vec<u8>, AllocError>
-    ensures { IfOk result (λ log. IsLog name.now outcome.now log.items) }
+    ensures { IfOk result (λ log. log.items ≡ log_of name.now outcome.now) }
 {
     let mut text = Vec::new(alloc);
     put_head(&mut text, name, outcome.kind)?;

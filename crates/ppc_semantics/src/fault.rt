@@ -1,5 +1,8 @@
 //! Why a test has no list of candidates.
 
+ghost use Rattle.std.specs.Prelude.{◌≡◌};
+ghost use Rattle.ppc_semantics.specs.Numbers.{number};
+
 use std::alloc::AllocError;
 use thiserror::Error;
 
@@ -16,7 +19,9 @@ pub enum EvalRefusal {
 
 impl EvalRefusal {
     /// The number that it is printed with, from 1 to 6.
-    pub fn number(self) -> u8 {
+    pub fn number(self) -> u8
+        ensures { result ≡ number self }
+    {
         match self {
             EvalRefusal::TooManyEvents => 1,
             EvalRefusal::TooManyValues => 2,
