@@ -12,7 +12,7 @@ use Rattle.litmus_values.specs.declared.test.Step.{Step}
 use Rattle.litmus_table.specs.Grammar.{InstructionTree, CellTree, RowTree, spelled_label, spelled_instruction, spelled_cell, spelled_cells, spelled_rows, spelled_steps, AreCells, AreRows, cell_steps, cells_steps, nth_cell, column, columns_meaning}
 use Rattle.litmus_table.specs.Late.{Note, cell_notes, nth_notes, column_notes, thread_notes, columns_notes}
 use Rattle.litmus_table.specs.Machine.{Placed, fresh, Hole, Begins, State, at, is_last, hole_step, step, can_end}
-use Rattle.litmus_table.specs.Laws.{then_on, run, steps_of, AreMarks, AreNoted, marks as marks_of}
+use Rattle.litmus_table.specs.Laws.{then_on, run, steps_of, AreMarks, IsNoted, AreNoted, marks as marks_of}
 use Rattle.litmus_table.proofs.Cells.{stand, run_from, Adds, adds_none, adds_both, cell_run}
 use Rattle.litmus_table.proofs.Finishes.{separator}
 use Rattle.litmus_table.proofs.Tests.{le_true, le_false}
@@ -168,8 +168,14 @@ module _ (text : List texts.Placed) (whole : List Token) (byte : List Token → 
       ap (λ (l : List Step). cells_steps (nth_cell k (r.first ∷ r.others)) ++ l) (rows_steps-column rs k) ∙ sym (cells_steps-append (nth_cell k (r.first ∷ r.others)) (column k rs))
 
   -- what a thread has that had nothing
-  pub fresh_steps : (u : Placed) (ss : List Step) (ns : List Note) → Grows fresh u ss ns → (u.steps ≡ ss) × AreMarks text ns (marks_of u.steps u.places)
-  fresh_steps u ss ns a = (a.steps_are, subst (λ (l : List Step). AreMarks text ns (marks_of l u.places)) (sym a.steps_are) (subst (λ (l : List ℕ). AreMarks text ns (marks_of ss l)) (sym a.places_are) a.marked))
+  pub fresh_steps : (u : Placed) (ss : List Step) (ns : List Note) → Grows fresh u ss ns → (u.steps ≡ ss) × IsNoted text ns u
+  fresh_steps u ss ns a = (
+    a.steps_are,
+    record {
+      each = ap length a.steps_are ∙ a.many ∙ ap length (sym a.places_are);
+      marked = subst (λ (l : List Step). AreMarks text ns (marks_of l u.places)) (sym a.steps_are) (subst (λ (l : List ℕ). AreMarks text ns (marks_of ss l)) (sym a.places_are) a.marked);
+    },
+  )
 
   abbrev pub freshes : ℕ → List Placed
   freshes zero = []
@@ -186,7 +192,7 @@ module _ (text : List texts.Placed) (whole : List Token) (byte : List Token → 
       let first : u.steps ≡ cells_steps (column k rs) = h.0 ∙ ef zero ∙ ap (λ (i : ℕ). cells_steps (column i rs)) here in
       let notes : g zero ≡ column_notes k b rs = eg zero ∙ ap (λ (i : ℕ). column_notes i b rs) here in (
         ap (λ (l : List Step). l ∷ steps_of us) first ∙ ap (λ (l : List (List Step)). cells_steps (column k rs) ∷ l) r.0,
-        (subst (λ (ns : List Note). AreMarks text ns (marks_of u.steps u.places)) notes h.1, r.1),
+        (subst (λ (ns : List Note). IsNoted text ns u) notes h.1, r.1),
       )
   gathered zero k rs b f g (u ∷ us) ef eg a = absurd a
   gathered (suc n) k rs b f g [] ef eg a = absurd a

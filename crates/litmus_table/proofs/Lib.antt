@@ -1,6 +1,8 @@
 pub mod Cells
 pub mod Complete
 pub mod Finishes
+pub mod First
+pub mod Labels
 pub mod Operands
 pub mod Places
 pub mod Rules
@@ -9,3 +11,4 @@ pub mod Tables
 pub mod Tests
 pub mod Threads
 pub mod Values
+pub mod Walk

@@ -1,5 +1,5 @@
 -- What the reader of tables takes, in terms of the grammar.
-use Rattle.std.specs.Prelude.{◌≡◌, ℕ, zero, suc, ◌+◌, List, [], ◌∷◌, ◌++◌, map, Bool, true, false, ◌||◌, ◌&&◌, Option, Some, None}
+use Rattle.std.specs.Prelude.{◌≡◌, ℕ, zero, suc, ◌+◌, List, [], ◌∷◌, ◌++◌, map, length, Bool, true, false, ◌||◌, ◌&&◌, Option, Some, None}
 use Rattle.litmus_tokens.specs.declared.stage.Stage.{Stage}
 use Rattle.litmus_tokens.specs.declared.stage.Stage.TheVariants.{CellBegins, InCell}
 use Rattle.litmus_tokens.specs.declared.token.Token.{Token}
@@ -92,10 +92,14 @@ AreMarks text (Defines w before ∷ ns) (Defined v place ∷ ms) = (v ≡ w) × 
 AreMarks text (Branches w before ∷ ns) (Branched v place ∷ ms) = (v ≡ w) × StandsAt text before place × AreMarks text ns ms
 AreMarks text ns ms = ⊥
 
+pub record IsNoted (text : List texts.Placed) (ns : List Note) (t : Placed) : Type 0 where
+  pub each : length t.steps ≡ length t.places
+  pub marked : AreMarks text ns (marks t.steps t.places)
+
 -- so for each thread
 abbrev pub AreNoted : List texts.Placed → List (List Note) → List Placed → Type 0
 AreNoted text [] [] = Unit {0}
-AreNoted text (ns ∷ nss) (t ∷ ts) = AreMarks text ns (marks t.steps t.places) × AreNoted text nss ts
+AreNoted text (ns ∷ nss) (t ∷ ts) = IsNoted text ns t × AreNoted text nss ts
 AreNoted text nss ts = ⊥
 
 -- In the text qs, ps, rs the tokens ps are these rows: they lead to where the table may end, with what the rows mean.

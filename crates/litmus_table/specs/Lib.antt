@@ -1,3 +1,4 @@
+pub mod Checks
 pub mod Grammar
 pub mod Late
 pub mod Laws

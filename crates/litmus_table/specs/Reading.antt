@@ -1,7 +1,8 @@
 -- What the reader holds of a table, as the machine sees it.
-use Rattle.std.specs.Prelude.{◌≡◌, ℕ, List, map, drop, Option, Some, None, Result, Ok, Err}
+use Rattle.std.specs.Prelude.{◌≡◌, ℕ, List, [], ◌∷◌, map, drop, Option, Some, None, Result, Ok, Err}
 use Rattle.litmus_conditions.specs.declared.step.StepError.{StepError}
 use Rattle.litmus_conditions.specs.declared.step.StepError.TheVariants as errors
+use Rattle.litmus_values.specs.declared.test.Step.{Step}
 use Rattle.litmus_table.specs.declared.late.PlacedThread.{PlacedThread}
 use Rattle.litmus_table.specs.declared.operand.Pending as code_pending
 use Rattle.litmus_table.specs.declared.table.Cell.{Cell}
@@ -15,6 +16,11 @@ thread_of t = record { steps = t.steps.items; places = t.places.items }
 
 abbrev pub threads_of : List PlacedThread → List machine.Placed
 threads_of ts = map thread_of ts
+
+-- the steps of the first thread, if there is one
+abbrev pub first_steps : List machine.Placed → List Step
+first_steps [] = []
+first_steps (t ∷ ts) = t.steps
 
 abbrev pub pending_of : code_pending.Pending → machine.Pending
 pending_of p = record { opcode = p.opcode; wants = drop p.taken (data_form p.opcode); registers = p.registers.items; value = p.value }

@@ -1,6 +1,11 @@
 //! The checks of labels, made once a whole text is read.
 
-ghost use Rattle.std.specs.Prelude.{◌≡◌, ℕ, IfOk};
+ghost use Rattle.std.specs.Prelude.{◌≡◌, ℕ, List, [], ◌∷◌, ◌++◌, length, IfOk};
+ghost use Rattle.std.specs.Ordering.{nat_cmp};
+ghost use Rattle.std.specs.Cmp.Lexicographic.{slice_cmp};
+ghost use Rattle.std.specs.BTreeMap.{get_by};
+ghost use Rattle.litmus_values.specs.declared.test.Step as declared_step;
+ghost use Rattle.litmus_table.specs.Checks.{AreFirst, first_from, label_rule, target_rule, instruction_rule, step_rule, checked};
 ghost use Rattle.litmus_table.specs.Machine.{fresh, noted};
 ghost use Rattle.litmus_table.specs.Reading.{thread_of};
 ghost use Rattle.litmus_table.specs.Within.{AllAtMost, IsFoundWithin};
@@ -50,14 +55,12 @@ impl PlacedThread {
     }
 
     // The number of the step that first defines each label.
-    fn definitions(&self, alloc: Global) -> Result<BTreeMap<Vec<u8>, usize>, AllocError> {
+    fn definitions(&self, alloc: Global) -> Result<BTreeMap<&[u8], usize>, AllocError>
+        ensures { IfOk result (λ m. AreFirst m self.now.steps.items) }
+    {
         let mut first = BTreeMap::new(alloc);
         for (i, step) in self.steps.iter().enumerate() {
-            if let Step::Label(name) = step
-                && !first.contains_key(name.as_bytes())
-            {
-                first.insert(Vec::from_slice(alloc, name.as_bytes())?, i)?;
-            }
+            note_first(&mut first, step, i)?;
         }
         Ok(first)
     }
@@ -65,13 +68,15 @@ impl PlacedThread {
     /// The first label that is defined twice, or the first branch to a label that stands before it or
     /// nowhere in the thread.
     pub fn check_labels(&self, alloc: Global) -> Result<Option<LateFault>, AllocError>
-        ensures { (n : ℕ) → AllAtMost n self.now.places.items → IfOk result (IsFoundWithin n) }
+        ensures found { IfOk result (λ f. f ≡ checked (λ w. first_from w 0 self.now.steps.items) 0 self.now.steps.items self.now.places.items) }
+        ensures within { (n : ℕ) → AllAtMost n self.now.places.items → IfOk result (IsFoundWithin n) }
     {
         let definitions = self.definitions(alloc)?;
         for (i, step) in self.steps.iter().enumerate() {
-            if let Some(rule) = broken(&definitions, step, i)
-                && i < self.places.len()
-            {
+            if i >= self.places.len() {
+                return Ok(None);
+            }
+            if let Some(rule) = step_rule(&definitions, step, i) {
                 return Ok(Some(LateFault {
                     rule,
                     place: self.places[i],
@@ -82,20 +87,40 @@ impl PlacedThread {
     }
 }
 
-// The rule that the step of this number breaks.
-fn broken(
-    definitions: &BTreeMap<Vec<u8>, usize>,
-    step: &Step,
+// Keeps the number of a step that defines a label, if none before it does.
+fn note_first<'a>(
+    first: &mut BTreeMap<&'a [u8], usize>,
+    step: &'a Step,
     number: usize,
-) -> Option<LitmusRule> {
+) -> Result<(), AllocError>
+    ensures { (before : List declared_step.Step) → length before ≡ number → AreFirst first.old before → IfOk result (λ _. AreFirst first.new (before ++ step.now ∷ [])) }
+{
     match step {
-        Step::Label(name) => repeats(definitions, name, number),
-        Step::Instruction(instruction) => goes_wrong(definitions, instruction, number),
+        Step::Label(name) => {
+            if first.contains_key(name.as_bytes()) {
+                return Ok(());
+            }
+            first.insert(name.as_bytes(), number)?;
+            Ok(())
+        }
+        Step::Instruction(_) => Ok(()),
+    }
+}
+
+// The rule that the step of this number breaks.
+fn step_rule(definitions: &BTreeMap<&[u8], usize>, step: &Step, number: usize) -> Option<LitmusRule>
+    ensures { result ≡ step_rule (λ w. get_by (λ k. slice_cmp nat_cmp w k.now) definitions.now) step.now number }
+{
+    match step {
+        Step::Label(name) => label_rule(definitions, name, number),
+        Step::Instruction(instruction) => instruction_rule(definitions, instruction, number),
     }
 }
 
 // The rule that a label breaks, as the step of this number.
-fn repeats(definitions: &BTreeMap<Vec<u8>, usize>, name: &Name, i: usize) -> Option<LitmusRule> {
+fn label_rule(definitions: &BTreeMap<&[u8], usize>, name: &Name, i: usize) -> Option<LitmusRule>
+    ensures { result ≡ label_rule (get_by (λ k. slice_cmp nat_cmp name.now k.now) definitions.now) i }
+{
     match definitions.get(name.as_bytes()) {
         Some(first) if *first < i => Some(LitmusRule::Label),
         _ => None,
@@ -103,19 +128,27 @@ fn repeats(definitions: &BTreeMap<Vec<u8>, usize>, name: &Name, i: usize) -> Opt
 }
 
 // The rule that an instruction breaks, as the step of this number.
-fn goes_wrong(
-    definitions: &BTreeMap<Vec<u8>, usize>,
+fn instruction_rule(
+    definitions: &BTreeMap<&[u8], usize>,
     instruction: &Instruction,
     i: usize,
-) -> Option<LitmusRule> {
-    let label = match instruction {
+) -> Option<LitmusRule>
+    ensures { result ≡ instruction_rule (λ w. get_by (λ k. slice_cmp nat_cmp w k.now) definitions.now) instruction.now i }
+{
+    match instruction {
         Instruction::BranchIf {
             condition: _,
             label,
-        } => label,
-        Instruction::Branch { label } => label,
-        _ => return None,
-    };
+        } => target_rule(definitions, label, i),
+        Instruction::Branch { label } => target_rule(definitions, label, i),
+        _ => None,
+    }
+}
+
+// The rule that a branch to a label breaks, as the step of this number.
+fn target_rule(definitions: &BTreeMap<&[u8], usize>, label: &Name, i: usize) -> Option<LitmusRule>
+    ensures { result ≡ target_rule (get_by (λ k. slice_cmp nat_cmp label.now k.now) definitions.now) i }
+{
     match definitions.get(label.as_bytes()) {
         None => Some(LitmusRule::Label),
         Some(first) if *first < i => Some(LitmusRule::BackwardBranch),

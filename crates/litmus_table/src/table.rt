@@ -1,9 +1,13 @@
 //! Reads the table of threads.
 
-ghost use Rattle.std.specs.Prelude.{◌≡◌, ◌≤◌, ℕ, length, IfOk, OnOk, Some};
+ghost use Rattle.std.specs.Prelude.{◌≡◌, ◌≤◌, ℕ, List, map, length, IfOk, OnOk, Some};
 ghost use Rattle.litmus_table.specs.Machine.{start, noted, put_at, is_last, ended, operation, begins, cell, operand, target_read, finished, goes_on, step, hole_step, widened, named, is_begin, is_row_start, can_end, wanted, rule_of_word, separator_rule, rule_at};
+ghost use Rattle.litmus_tokens.specs.Texts.{Placed};
+ghost use Rattle.litmus_table.specs.Checks.{IsFoundAt};
+ghost use Rattle.litmus_table.specs.Late.{Note, first_late};
+ghost use Rattle.litmus_table.specs.Laws.{AreNoted, steps_of};
 ghost use Rattle.litmus_table.specs.Within.{AreWithin, IsFoundWithin};
-ghost use Rattle.litmus_table.specs.Reading.{threads_of, pending_of, hole_of, table_of, Cells, Steps};
+ghost use Rattle.litmus_table.specs.Reading.{threads_of, pending_of, hole_of, table_of, first_steps, Cells, Steps};
 
 use crate::late::{LateFault, PlacedThread};
 use crate::opcode::{Opcode, Want, opcode_of};
@@ -312,7 +316,10 @@ impl Table {
 
     /// Makes the later checks, thread by thread.
     pub fn check_labels(&self) -> Result<Option<LateFault>, AllocError>
-        ensures { (n : ℕ) → AreWithin n (table_of self.now).threads → IfOk result (IsFoundWithin n) }
+        // The byte is one of those that were kept.
+        ensures within { (n : ℕ) → AreWithin n (table_of self.now).threads → IfOk result (IsFoundWithin n) }
+        // What it finds is what the definitions find, at the byte where that stands.
+        ensures found { (text : List Placed) (notes : List (List Note)) → AreNoted text notes (table_of self.now).threads → IfOk result (λ f. IsFoundAt text f (first_late notes)) }
     {
         for thread in &self.threads {
             if let Some(fault) = thread.check_labels(self.alloc)? {
@@ -323,7 +330,9 @@ impl Table {
     }
 
     /// The threads, without their places.
-    pub fn into_threads(self) -> Result<Vec<Thread>, AllocError> {
+    pub fn into_threads(self) -> Result<Vec<Thread>, AllocError>
+        ensures { IfOk result (λ ts. map (λ t. t.steps.items) ts.items ≡ steps_of (table_of self).threads) }
+    {
         let mut threads = Vec::new(self.alloc);
         for thread in self.threads {
             threads.push(thread.into_thread())?;
@@ -332,7 +341,9 @@ impl Table {
     }
 
     /// The first thread, without its places: the only one of a thread's text alone.
-    pub fn into_thread(self) -> Thread {
+    pub fn into_thread(self) -> Thread
+        ensures { result.steps.items ≡ first_steps (table_of self).threads }
+    {
         for thread in self.threads {
             return thread.into_thread();
         }

@@ -8,4 +8,4 @@ pub returns-in-Some : goal.returns-in-Some
 returns-in-Some c = λ n k. missing_kept n c.threads-threads.result c.in-Some.place (held_of c.args.self.now.held) k (sym c.in-Some.ensures)
 
 pub returns-in-Ok-Some : goal.returns-in-Ok-Some
-returns-in-Ok-Some c = λ n k. subst (IsFoundWithin n) c.in-Ok-Some.field-0-is (c.in-Ok-Some.ensures n k.1)
+returns-in-Ok-Some c = λ n k. subst (IsFoundWithin n) c.in-Ok-Some.field-0-is (c.in-Ok-Some.ensures.within n k.1)
