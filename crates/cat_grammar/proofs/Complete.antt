@@ -1,5 +1,5 @@
 -- The machine takes the expression that a tree spells.
-use Rattle.std.proofs.Common.{◌≡◌, ℕ, ◌+◌, ◌<◌, ◌≤◌, Bool, true, false, List, [], ◌∷◌, ◌++◌, Option, Some, None, Result, Ok, Err, length, refl, sym, ap, ◌∙◌, arith}
+use Rattle.std.proofs.Common.{◌≡◌, ℕ, ◌+◌, ◌<◌, ◌≤◌, Bool, true, false, List, [], ◌∷◌, ◌++◌, Option, None, Result, Ok, Err, length, refl, sym, ap, ◌∙◌, arith}
 use Rattle.std.specs.Prelude.{nat_le, nat_lt, if◌then◌else◌}
 use Rattle.std.proofs.lemmas.Bool.Decides.{nat_tests}
 use Rattle.cat_tokens.specs.declared.rule.CatRule.{CatRule}
@@ -16,8 +16,8 @@ use Rattle.cat_values.specs.declared.model.Postfix.{Postfix}
 use Rattle.cat_values.specs.declared.model.Postfix.TheVariants as postfix
 use Rattle.cat_values.specs.Value.{Term, Terms, Clause, Atom, AllEvents, EmptyRelation, EmptySet, Join, Mark, Not, On, Apply, OneMore, NoTerm, gathered}
 use Rattle.cat_grammar.specs.Grammar.{Tree, Word, Underscore, Zero, Braces, Pair, Post, Prefix, Group, Square, Application, Trees, Last, More, infix_token, postfix_token, spelled, spelled_arguments, meaning, meanings, level, left_level, right_level, tightness, IsGrouped, AreGrouped, depth, depths, operators, operators_of, Limits}
-use Rattle.cat_grammar.specs.Machine.{Frame, InGroup, InSquare, InPrefix, LeftOf, InArguments, Hole, Wants, HasBrace, HasName, Has, HasStar, HasStarTilde, Fed, Goes, Ends, EndsTilde, Refuses, open_count, fold_to, is_outermost, opened, left_frames, infix_at, ended, closed, square_closed, comma_read, star_tilde}
-use Rattle.cat_grammar.specs.ItemMachine.{Head, Part, Body, AfterTilde, Fault, State, begin_check, excess, unless, unless_before, item_or_end, finished, at, added, goes_on}
+use Rattle.cat_grammar.specs.Machine.{Frame, InGroup, InSquare, InPrefix, LeftOf, InArguments, Hole, Wants, HasName, Has, HasStar, HasStarTilde, Fed, Goes, Ends, EndsTilde, Refuses, open_count, fold_to, is_outermost, opened, left_frames, infix_at, ended, closed, square_closed, comma_read, star_tilde}
+use Rattle.cat_grammar.specs.ItemMachine.{Head, Body, AfterTilde, Fault, State, begin_check, excess, unless, unless_before, item_or_end, finished, at, added, goes_on}
 use Rattle.cat_grammar.proofs.Runs.{◌>>=◌, taken}
 use Rattle.cat_grammar.proofs.Branches.{right_level-le, IsOutermost, is_outermost-true}
 

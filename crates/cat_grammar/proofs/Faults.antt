@@ -1,5 +1,5 @@
 -- Where the machine stops, there is the fault.
-use Rattle.std.proofs.Common.{◌≡◌, ℕ, ◌+◌, ◌<◌, ◌≤◌, Bool, true, false, List, [], ◌∷◌, ◌++◌, Option, Some, None, Result, Ok, Err, length, refl, sym, ap, ◌∙◌, subst, arith, append_assoc, ◌⊎◌, inl, inr}
+use Rattle.std.proofs.Common.{◌≡◌, ℕ, ◌+◌, ◌<◌, ◌≤◌, Bool, true, false, List, [], ◌∷◌, ◌++◌, Result, Ok, Err, length, refl, sym, ap, ◌∙◌, subst, arith, append_assoc, ◌⊎◌, inl, inr}
 use Rattle.std.proofs.lemmas.List.{append-nil}
 use Rattle.std.specs.Prelude.{nat_lt, ◌&&◌, if◌then◌else◌}
 use Rattle.std.proofs.lemmas.Bool.Decides.{nat_tests}
@@ -10,7 +10,7 @@ use Rattle.cat_grammar.specs.declared.form.Form.TheVariants as forms
 use Rattle.cat_tokens.specs.declared.token.Token.{Token}
 use Rattle.cat_tokens.specs.declared.token.Token.TheVariants as tokens
 use Rattle.cat_values.specs.Value.{Clause}
-use Rattle.cat_grammar.specs.Grammar.{Limits, Begins, SameCounts, SameDepths, IsSeparator, AsksForMore, CanStand, BeginsText, BeforeAName, last_two, last_place, broken_rule, is_tilde, is_check, plain_rule, first_place, IsRefusal, Nowhere, TooMany, TooDeep, Plain, IsFault}
+use Rattle.cat_grammar.specs.Grammar.{Limits, Begins, SameCounts, SameDepths, IsSeparator, CanStand, BeginsText, BeforeAName, last_two, last_place, is_tilde, is_check, IsRefusal, Nowhere, TooMany, TooDeep, Plain, IsFault}
 use Rattle.cat_tokens.specs.Tokens.{Placed, tokens_of}
 use Rattle.cat_grammar.specs.ItemMachine as items
 use Rattle.cat_grammar.specs.ItemMachine.{And, Parameter, Part, InLet, Fault, Here, Before, State, step, start}

@@ -1,6 +1,6 @@
 -- Every state can be finished, but where a name too many would have to follow.
-use Rattle.std.proofs.Common.{◌≡◌, ℕ, ◌+◌, ◌<◌, ◌≤◌, Bool, true, false, List, [], ◌∷◌, ◌++◌, Option, Some, None, Result, Ok, Err, length, refl, sym, ap, ◌∙◌, subst, arith}
-use Rattle.std.specs.Prelude.{nat_le, nat_lt, ◌==◌, codes, if◌then◌else◌}
+use Rattle.std.proofs.Common.{◌≡◌, ℕ, ◌+◌, ◌<◌, Bool, true, false, List, [], ◌∷◌, ◌++◌, Option, Some, None, Result, Ok, Err, length, refl, ap, ◌∙◌, arith}
+use Rattle.std.specs.Prelude.{nat_lt, ◌==◌, codes, if◌then◌else◌}
 use Rattle.std.proofs.lemmas.Bool.Decides.{nat_tests}
 use Rattle.cat_tokens.specs.declared.rule.CatRule.{CatRule}
 use Rattle.cat_tokens.specs.declared.rule.CatRule.TheVariants as rules
@@ -9,7 +9,6 @@ use Rattle.cat_values.specs.declared.model.Infix.TheVariants.{Product}
 use Rattle.cat_values.specs.declared.model.Postfix.TheVariants as postfix
 use Rattle.cat_grammar.specs.declared.form.Form.{Form}
 use Rattle.cat_grammar.specs.declared.form.Form.TheVariants as forms
-use Rattle.cat_grammar.specs.declared.form.CheckHead.{CheckHead}
 use Rattle.cat_tokens.specs.declared.token.Token.{Token}
 use Rattle.cat_tokens.specs.declared.token.Token.TheVariants as tokens
 use Rattle.cat_values.specs.Value.{Term, Clause, Atom, EmptySet, Join, Mark, Not, On, Apply, Function, Including, gathered}
@@ -20,7 +19,7 @@ use Rattle.cat_grammar.specs.ItemMachine.{Keyword, Named, And, Parameter, AfterP
 use Rattle.cat_grammar.proofs.Runs.{◌>>=◌, taken, taken-append}
 use Rattle.cat_grammar.proofs.Groups.{length-push}
 use Rattle.cat_grammar.proofs.SoundItems.{sound}
-use Rattle.cat_grammar.proofs.Complete.{body, from, le_true, lt_is_true}
+use Rattle.cat_grammar.proofs.Complete.{body, from, le_true}
 use Rattle.cat_grammar.proofs.CompleteItems.{complete}
 
 -- the names of what is added

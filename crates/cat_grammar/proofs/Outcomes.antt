@@ -1,5 +1,5 @@
 -- What a run over the tokens of a text gives is what the grammar says.
-use Rattle.std.proofs.Common.{◌≡◌, ℕ, ◌+◌, ◌<◌, ◌≤◌, Bool, true, false, List, [], ◌∷◌, ◌++◌, Option, Some, None, Result, Ok, Err, length, refl, sym, ap, ◌∙◌, subst, arith, append_assoc}
+use Rattle.std.proofs.Common.{◌≡◌, ℕ, ◌+◌, Bool, true, false, List, [], ◌∷◌, ◌++◌, Result, Ok, Err, length, refl, sym, ap, ◌∙◌, subst, arith, append_assoc}
 use Rattle.std.specs.Prelude.{◌==◌, if◌then◌else◌}
 use Rattle.cat_tokens.specs.declared.rule.CatRule.{CatRule}
 use Rattle.cat_tokens.specs.declared.rule.CatRule.TheVariants as rules
@@ -9,13 +9,13 @@ use Rattle.cat_grammar.specs.declared.form.Form.TheVariants as forms
 use Rattle.cat_tokens.specs.declared.token.Token.{Token}
 use Rattle.cat_tokens.specs.declared.token.Token.TheVariants as tokens
 use Rattle.cat_values.specs.Value.{Term, Clause, Atom, Mark}
-use Rattle.cat_grammar.specs.Grammar.{Limits, limits, Means, Begins, CanStand, BeginsText, IsFault}
+use Rattle.cat_grammar.specs.Grammar.{Limits, limits, Means, BeginsText, IsFault}
 use Rattle.cat_tokens.specs.Tokens.{Placed, tokens_of}
 use Rattle.cat_grammar.specs.Machine.{Frame, Hole, Wants, HasBrace, HasName, Has, HasStar, HasStarTilde, fold_to, ended, feed}
 use Rattle.cat_grammar.specs.ItemMachine as items
 use Rattle.cat_grammar.specs.ItemMachine.{Keyword, Named, And, Parameter, AfterParameter, Parameters, Head, Part, Start, InLet, AfterFlag, AfterTilde, Body, Label, ShowLabel, AfterShowLabel, AfterInclude, Done, Fault, Here, Before, State, end_of, item_or_end, finished, shown_clause, at, added, goes_on, step_part, step, start}
 use Rattle.cat_grammar.specs.Running.{Ran, run, items_of}
-use Rattle.cat_grammar.proofs.Runs.{◌>>=◌, taken, taken-append}
+use Rattle.cat_grammar.proofs.Runs.{◌>>=◌, taken}
 use Rattle.cat_grammar.proofs.SoundItems.{sound}
 use Rattle.cat_grammar.proofs.CompleteItems.{complete}
 use Rattle.cat_grammar.proofs.Faults.{Outcome, outcome, tokens_of-append}

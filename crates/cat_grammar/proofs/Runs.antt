@@ -1,5 +1,5 @@
 -- The reader over a list of tokens.
-use Rattle.std.proofs.Common.{◌≡◌, List, [], ◌∷◌, ◌++◌, Result, Ok, Err, refl, ap}
+use Rattle.std.proofs.Common.{◌≡◌, List, [], ◌∷◌, ◌++◌, Result, Ok, Err, ap}
 use Rattle.cat_grammar.specs.declared.form.Form.{Form}
 use Rattle.cat_tokens.specs.declared.token.Token.{Token}
 use Rattle.cat_grammar.specs.Grammar.{Limits}

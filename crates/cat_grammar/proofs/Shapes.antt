@@ -1,6 +1,6 @@
 -- What one step does: the limits bear on it in one place alone, and its fault is that of the grammar.
-use Rattle.std.proofs.Common.{◌≡◌, ℕ, ◌+◌, ◌<◌, ◌≤◌, Bool, true, false, List, [], ◌∷◌, ◌++◌, Option, Some, None, Result, Ok, Err, length, refl, sym, ap, ◌∙◌, subst, arith, ◌⊎◌, inl, inr}
-use Rattle.std.specs.Prelude.{nat_le, nat_lt, ◌==◌, ◌&&◌, if◌then◌else◌}
+use Rattle.std.proofs.Common.{◌≡◌, ℕ, ◌+◌, Bool, true, false, List, [], ◌∷◌, ◌++◌, Option, Some, None, Result, Ok, Err, length, refl, sym, ap, ◌∙◌, subst, ◌⊎◌, inl, inr}
+use Rattle.std.specs.Prelude.{nat_lt, ◌==◌, ◌&&◌, if◌then◌else◌}
 use Rattle.cat_tokens.specs.declared.rule.CatRule.{CatRule}
 use Rattle.cat_tokens.specs.declared.rule.CatRule.TheVariants as rules
 use Rattle.cat_values.specs.declared.model.CheckWord.{CheckWord}
@@ -13,7 +13,7 @@ use Rattle.cat_tokens.specs.declared.token.Token.{Token}
 use Rattle.cat_tokens.specs.declared.token.Token.TheVariants as tokens
 use Rattle.cat_values.specs.Value.{Term, Clause, Atom, AllEvents, EmptyRelation, Mark, Checking, Including}
 use Rattle.cat_grammar.specs.Grammar.{Limits, IsSeparator, broken_rule, is_include, is_name, is_rec_or_and, is_tilde, is_check, plain_rule, has_no_effect}
-use Rattle.cat_grammar.specs.Machine.{Frame, InGroup, InSquare, InPrefix, LeftOf, InArguments, Hole, Wants, HasBrace, HasName, Has, HasStar, HasStarTilde, Fed, Goes, Ends, EndsTilde, Refuses, open_count, fold_to, is_outermost, opened, operand, after_brace, infix_at, counted, ended, closed, square_closed, comma_read, after, after_name, star_tilde, star_then, after_star, after_star_tilde, feed}
+use Rattle.cat_grammar.specs.Machine.{Frame, InGroup, InSquare, InPrefix, LeftOf, InArguments, Hole, Wants, HasBrace, HasName, Has, HasStar, HasStarTilde, Fed, Goes, Ends, EndsTilde, Refuses, open_count, fold_to, is_outermost, operand, after_brace, infix_at, ended, closed, square_closed, comma_read, after, after_name, star_tilde, star_then, after_star, after_star_tilde, feed}
 use Rattle.cat_tokens.specs.Tokens.{rule_of, begins_operand, infix_of, postfix_of}
 use Rattle.cat_grammar.specs.ItemMachine as items
 use Rattle.cat_grammar.specs.ItemMachine.{Group, Keyword, Named, And, Parameter, AfterParameter, Parameters, Head, BoundHead, FunctionHead, CheckedHead, ShownHead, Part, Start, InLet, AfterFlag, AfterTilde, Body, Label, ShowLabel, AfterShowLabel, AfterInclude, Done, Fault, Here, Before, State, begin_body, begin_check, begin_show, begin_item, excess, unless, unless_before, end_of, item_or_end, after_title, after_tilde, after_flag, fresh, extended, after_keyword, bound_name, parameter_read, after_parameter, after_let_name, after_bound, after_parameters, after_let, checked, shown_also, shown_clause, finished, at, added, item_ended, item_ended_by_tilde, and_read, label_begun, shown_on, after_body, labelled, after_as, after_show_as, after_show_label, after_include, goes_on, step_part, step, start}

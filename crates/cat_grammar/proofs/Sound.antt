@@ -1,10 +1,8 @@
 -- Tokens that the machine takes within an expression are spelled by a tree.
-use Rattle.std.proofs.Common.{◌≡◌, ℕ, ◌+◌, ◌<◌, ◌≤◌, Bool, true, false, List, [], ◌∷◌, ◌++◌, Some, None, Result, Ok, Err, refl, sym, ap, ◌∙◌, subst, arith}
+use Rattle.std.proofs.Common.{◌≡◌, ℕ, ◌+◌, ◌<◌, ◌≤◌, Bool, true, false, List, [], ◌∷◌, ◌++◌, refl, sym, ap, ◌∙◌, subst, arith}
 use Rattle.std.specs.Prelude.{nat_le, nat_lt, if◌then◌else◌}
 use Rattle.std.proofs.lemmas.Bool.Decides.{nat_tests}
-use Rattle.cat_tokens.specs.declared.rule.CatRule.{CatRule}
 use Rattle.cat_tokens.specs.declared.rule.CatRule.TheVariants as rules
-use Rattle.cat_values.specs.declared.model.CheckWord.{CheckWord}
 use Rattle.cat_tokens.specs.declared.token.Sign.{Sign}
 use Rattle.cat_tokens.specs.declared.token.Sign.TheVariants.{Bar, Semicolon, Backslash, Ampersand}
 use Rattle.cat_tokens.specs.declared.token.Mark as mark
@@ -15,11 +13,11 @@ use Rattle.cat_values.specs.declared.model.Infix.{Infix}
 use Rattle.cat_values.specs.declared.model.Infix.TheVariants.{Union, Sequence, Difference, Intersection, Product}
 use Rattle.cat_values.specs.declared.model.Postfix.{Postfix}
 use Rattle.cat_values.specs.declared.model.Postfix.TheVariants as postfix
-use Rattle.cat_values.specs.Value.{Term, Atom, AllEvents, EmptyRelation, EmptySet, Join, Mark, Not, On, Apply, gathered}
-use Rattle.cat_grammar.specs.Grammar.{Tree, Word, Underscore, Zero, Braces, Post, Group, Square, Application, infix_token, postfix_token, spelled, meaning, level, left_level, tightness, IsGrouped, depth, depths, operators, operators_of, Limits, IsExpression}
+use Rattle.cat_values.specs.Value.{Term, Atom, EmptySet, Join, Mark, Not, Apply}
+use Rattle.cat_grammar.specs.Grammar.{Tree, Word, Underscore, Zero, Braces, Post, Group, Square, Application, infix_token, postfix_token, spelled, meaning, level, left_level, tightness, IsGrouped, depth, operators, Limits, IsExpression}
 use Rattle.cat_grammar.specs.Machine.{Frame, InGroup, InSquare, InPrefix, LeftOf, InArguments, Hole, Wants, HasBrace, HasName, Has, HasStar, HasStarTilde, Fed, Goes, Ends, EndsTilde, Refuses, open_count, fold_to, is_outermost, opened, operand, after_brace, left_frames, infix_at, counted, ended, closed, square_closed, comma_read, after, after_name, star_tilde, star_then, after_star, after_star_tilde, feed}
 use Rattle.cat_tokens.specs.Tokens.{begins_operand, infix_of, postfix_of}
-use Rattle.cat_grammar.proofs.Branches.{Branch, BGroup, BSquare, BPrefix, BLeft, BArguments, values, frame, frames, before, need, opens, count, Fine, Stops, open_count-frames, right_level-le, left_level-le, need-le, opens-le, meets, Folded, folded, IsOutermost, outermost, arguments_of, sum_operators, spelled-arguments_of, meanings-arguments_of, grouped-arguments_of, depths-arguments_of, operators-arguments_of, before_arguments, before_arguments-push, values-push, sum_operators-push, arguments_fine-push}
+use Rattle.cat_grammar.proofs.Branches.{Branch, BGroup, BSquare, BPrefix, BLeft, BArguments, frame, frames, before, need, opens, count, Fine, Stops, open_count-frames, right_level-le, left_level-le, need-le, opens-le, meets, Folded, folded, IsOutermost, outermost, arguments_of, spelled-arguments_of, meanings-arguments_of, grouped-arguments_of, depths-arguments_of, operators-arguments_of, before_arguments-push, values-push, sum_operators-push, arguments_fine-push}
 
 -- an operand is wanted here
 pub record Open (most : Limits) (whole rest : List Token) (fs : List Frame) (used : ℕ) : Type 0 where

@@ -2,15 +2,10 @@
 use Rattle.std.specs.Prelude.{ℕ, ◌+◌, List, [], ◌∷◌, ◌++◌, Bool, true, false, nat_lt, nat_le, if◌then◌else◌}
 use Rattle.cat_tokens.specs.declared.rule.CatRule.{CatRule}
 use Rattle.cat_tokens.specs.declared.rule.CatRule.TheVariants.{Syntax, TooDeep}
-use Rattle.cat_tokens.specs.declared.token.Sign.{Sign}
-use Rattle.cat_tokens.specs.declared.token.Sign.TheVariants.{Bar, Semicolon, Backslash, Ampersand}
-use Rattle.cat_tokens.specs.declared.token.Mark as mark
-use Rattle.cat_tokens.specs.declared.token.Mark.TheVariants.{Plus, Question, Inverse}
 use Rattle.cat_tokens.specs.declared.token.Token.{Token}
 use Rattle.cat_tokens.specs.declared.token.Token.TheVariants as tokens
 use Rattle.cat_values.specs.declared.model.Infix.{Infix}
-use Rattle.cat_values.specs.declared.model.Infix.TheVariants.{Union, Sequence, Difference, Intersection, Product}
-use Rattle.cat_values.specs.declared.model.Postfix.{Postfix}
+use Rattle.cat_values.specs.declared.model.Infix.TheVariants.{Product}
 use Rattle.cat_values.specs.declared.model.Postfix.TheVariants as postfix
 use Rattle.cat_tokens.specs.Tokens.{rule_of, begins_operand, infix_of, postfix_of}
 use Rattle.cat_grammar.specs.Grammar.{Limits, level, left_level}

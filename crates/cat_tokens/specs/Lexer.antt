@@ -1,5 +1,5 @@
 -- The tokens of a text, each with the byte that it begins at.
-use Rattle.std.specs.Prelude.{ℕ, zero, suc, ◌+◌, ◌-◌, List, [], ◌∷◌, Bool, ◌||◌, ◌&&◌, ◌==◌, nat_le, not, Option, Some, None, length, take, drop, slice_index, codes, if◌then◌else◌}
+use Rattle.std.specs.Prelude.{ℕ, zero, suc, ◌+◌, ◌-◌, List, [], ◌∷◌, Bool, ◌||◌, ◌&&◌, ◌==◌, nat_le, not, Option, Some, None, length, take, drop, slice_index, if◌then◌else◌}
 use Rattle.std.specs.List.{position_or_len}
 use Rattle.cat_tokens.specs.Words.{word_token}
 use Rattle.cat_tokens.specs.Tokens.{Placed}

@@ -1,5 +1,5 @@
 -- What the types of the code stand for.
-use Rattle.std.specs.Prelude.{◌≡◌, ℕ, List, Option, map}
+use Rattle.std.specs.Prelude.{ℕ, List, Option, map}
 use Rattle.cat_values.specs.declared.model.Expression.{Expression, Row_of-Expression, end_of-Expression, more_of-Expression}
 use Rattle.cat_values.specs.declared.model.Expression.TheVariants.{Named, Everything, NoPairs, NoEvents, Joined', Marked', Complement', Identity', Applied'}
 use Rattle.cat_values.specs.declared.model.Binding as code_binding

@@ -1,4 +1,4 @@
-use Rattle.std.proofs.Common.{◌≡◌, ◌↔◌, map, length, drop}
+use Rattle.std.proofs.Common.{◌≡◌, ◌↔◌, length, drop}
 use Rattle.cat_values.specs.Values.{clauses_of}
 use Rattle.cat_values.proofs.model.ModelText.is_same.Given as goal
 
