@@ -1,4 +1,12 @@
+pub mod Arising
+pub mod Cycles
+pub mod Deriving
+pub mod Extending
 pub mod Filters
+pub mod Finding
+pub mod Members
+pub mod Numbers
 pub mod OrderLaws
 pub mod Spaces
 pub mod Stores
+pub mod WayLists

@@ -48,7 +48,7 @@ numbers-append test at (x ∷ xs) e =
     first true vs ws h = ap (λ (l : List ℕ). at ∷ l) h
     first false vs ws h = h
 
-one_event_more : (test : Event → Bool) (es : List Event) (i : ℕ) (d : Event) → i < length es → numbers test 0 (take (i + 1) es) ≡ numbers test 0 (take i es) ++ cond (test (get_or es i d)) (i ∷ []) []
+pub one_event_more : (test : Event → Bool) (es : List Event) (i : ℕ) (d : Event) → i < length es → numbers test 0 (take (i + 1) es) ≡ numbers test 0 (take i es) ++ cond (test (get_or es i d)) (i ∷ []) []
 one_event_more test es i d lt =
     let k : length (take i es) ≡ min i (length es) = length-take i es in
     let n : 0 + length (take i es) ≡ i = omega arith in

@@ -1,3 +1,5 @@
 pub mod Lists
 pub mod Orders
+pub mod Rounds
 pub mod Space
+pub mod Ways

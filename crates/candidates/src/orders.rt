@@ -50,7 +50,7 @@ fn stores_at(alloc: Global, events: &[Event], location: usize) -> Result<Vec<u8>
 }
 
 /// The front with the rest behind it.
-fn joined(alloc: Global, front: &[u8], rest: &[u8]) -> Result<Vec<u8>, AllocError>
+pub fn joined(alloc: Global, front: &[u8], rest: &[u8]) -> Result<Vec<u8>, AllocError>
     ensures { IfOk result (λ v. v.items ≡ front.now ++ rest.now) }
 {
     let mut whole = Vec::with_capacity(alloc, front.len() + rest.len())?;

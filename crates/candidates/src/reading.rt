@@ -1,8 +1,12 @@
 //! The ways in which the loads of a combination of runs read its stores.
 
-ghost use Rattle.std.specs.Prelude.{◌≤◌};
+ghost use Rattle.std.specs.Prelude.{◌≡◌, ◌<◌, ◌≤◌, ◌↔◌, ◌⊎◌, length, IsTrue, IfOk, OnOk, MatchOption};
+ghost use Rattle.bit_relations.specs.Relation.{IsMember, IsEvents};
+ghost use Rattle.candidates.specs.Rounds.{IsInside, IsMeeting, CanRead, CanArise, WithStores, WithLoads, IsRound, HasDerived, TellsPossible, GainsNext, AreNext, AreOver, HasOver, HasWays};
+ghost use Rattle.candidates.specs.Lists.{lists_of};
 
 use crate::candidate::{Action, Event};
+use crate::orders::joined;
 use bit_relations::{EventSet, MAX_EVENTS};
 use ppc_semantics::Value;
 use std::alloc::{AllocError, Global};
@@ -29,26 +33,77 @@ pub struct Reading {
     stores: Vec<Store>,
 }
 
-/// Adds the event, if the set can have it.
-fn put(set: &mut EventSet, event: usize) {
-    if event < set.count() {
+/// Adds the event, if it is wanted and the set can have it.
+fn add_if(set: &mut EventSet, is_wanted: bool, event: usize)
+    ensures { IsEvents set.new set.old.count (λ x. IsMember set.old x ⊎ ((x < set.old.count) × (x ≡ event) × IsTrue is_wanted)) }
+{
+    let count = set.count();
+    if is_wanted && event < count {
         set.insert(event);
     }
 }
 
 /// Whether the set has the event.
-fn has(set: &EventSet, event: usize) -> bool {
+fn has(set: &EventSet, event: usize) -> bool
+    ensures { IsTrue result ↔ IsMember set.now event }
+{
     event < set.count() && set.contains(event)
 }
 
 /// Whether the second set has all events of the first.
-fn is_within(set: &EventSet, other: &EventSet) -> bool {
+fn is_within(set: &EventSet, other: &EventSet) -> bool
+    ensures { IsTrue result ↔ IsInside set.now other.now }
+{
     set.count() == other.count() && set.minus(other).is_empty()
 }
 
 /// Whether the sets have a common event.
-fn meets(set: &EventSet, other: &EventSet) -> bool {
+fn meets(set: &EventSet, other: &EventSet) -> bool
+    ensures { IsTrue result ↔ IsMeeting set.now other.now }
+{
     set.count() == other.count() && !set.inter(other).is_empty()
+}
+
+/// Whether both sets have the event.
+fn has_both(set: &EventSet, other: &EventSet, event: usize) -> bool
+    ensures { IsTrue result ↔ (IsMember set.now event × IsMember other.now event) }
+{
+    has(set, event) && has(other, event)
+}
+
+/// Whether the load at this place is the one to leave out.
+fn is_left(without: Option<usize>, place: usize) -> bool
+    ensures { IsTrue result ↔ (without ≡ Some place) }
+{
+    match without {
+        Some(left) => left == place,
+        None => false,
+    }
+}
+
+/// Whether the load at this place reads an event of the set: the first ones what `way` says, the
+/// others any store of their location and value.
+fn can_read(load: &Load, way: &[u8], place: usize, derived: &EventSet) -> bool
+    ensures { IsTrue result ↔ CanRead way.now derived.now place load.now }
+{
+    if place < way.len() {
+        has(derived, usize::from(way[place]))
+    } else {
+        meets(&load.sources, derived)
+    }
+}
+
+/// Whether the load at this place reads an event of the set, and is not the one to leave out.
+fn can_arise(
+    load: &Load,
+    way: &[u8],
+    without: Option<usize>,
+    place: usize,
+    derived: &EventSet,
+) -> bool
+    ensures { IsTrue result ↔ CanArise way.now without derived.now place load.now }
+{
+    !is_left(without, place) && can_read(load, way, place, derived)
 }
 
 /// The stores of a location and a value.
@@ -63,7 +118,7 @@ fn stores_of(count: usize, events: &[Event], location: usize, value: Value) -> E
         } = event.action
         {
             if place == location && stored == value {
-                put(&mut found, number);
+                add_if(&mut found, true, number);
             }
         }
     }
@@ -77,7 +132,7 @@ fn needs_of(count: usize, need_pairs: &[(usize, usize)], store: usize) -> EventS
     let mut found = EventSet::empty(count);
     for (load, needing) in need_pairs {
         if *needing == store {
-            put(&mut found, *load);
+            add_if(&mut found, true, *load);
         }
     }
     found
@@ -114,46 +169,56 @@ impl Reading {
         })
     }
 
-    /// Adds the stores whose needs are derived.
-    fn derive_stores(&self, derived: &mut EventSet) {
+    /// The events, and the stores whose needs are among them.
+    fn with_stores(&self, derived: &EventSet) -> EventSet
+        ensures { WithStores self.now derived.now result }
+    {
+        let mut next = *derived;
+        let _count = derived.count();
         for store in &self.stores {
-            if is_within(&store.needs, derived) {
-                put(derived, store.event);
-            }
+            add_if(&mut next, is_within(&store.needs, derived), store.event);
         }
+        next
     }
 
-    /// Adds the loads, but for one, that read a derived store: the first ones what `way` says,
-    /// the others any store of their location and value.
-    fn derive_loads(&self, way: &[u8], without: Option<usize>, derived: &mut EventSet) {
+    /// The events, and the loads but for one, if any, that read one of them.
+    fn with_loads(&self, way: &[u8], without: Option<usize>, derived: &EventSet) -> EventSet
+        ensures { WithLoads self.now way.now without derived.now result }
+    {
+        let mut next = *derived;
+        let _count = derived.count();
         for (place, load) in self.loads.iter().enumerate() {
-            let is_read = match way.get(place) {
-                Some(source) => has(derived, usize::from(*source)),
-                None => meets(&load.sources, derived),
-            };
-            if is_read && without != Some(place) {
-                put(derived, load.event);
-            }
+            let is_wanted = can_arise(load, way, without, place, derived);
+            add_if(&mut next, is_wanted, load.event);
         }
+        next
+    }
+
+    /// The events, and what arises from them at once.
+    fn round(&self, way: &[u8], without: Option<usize>, derived: &EventSet) -> EventSet
+        ensures { IsRound self.now way.now without derived.now result }
+    {
+        self.with_loads(way, without, &self.with_stores(derived))
     }
 
     /// The loads and stores whose values can arise in some order, where the first loads read as
     /// `way` says and one load, if any, is left out.
-    fn derived(&self, way: &[u8], without: Option<usize>) -> EventSet {
+    fn derived(&self, way: &[u8], without: Option<usize>) -> EventSet
+        ensures { HasDerived self.now way.now without result }
+    {
         let mut derived = EventSet::empty(self.count.min(MAX_EVENTS));
-        for _ in 0..self.count {
-            let before = derived;
-            self.derive_stores(&mut derived);
-            self.derive_loads(way, without, &mut derived);
-            if derived.is_same(&before) {
-                break;
-            }
+        let mut next = self.round(way, without, &derived);
+        while !next.is_same(&derived) {
+            derived = next;
+            next = self.round(way, without, &derived);
         }
         derived
     }
 
     /// Whether all loads can read without a cycle.
-    fn is_possible(&self) -> bool {
+    fn is_possible(&self) -> bool
+        ensures { TellsPossible self.now result }
+    {
         let derived = self.derived(&[], None);
         for load in &self.loads {
             if !has(&derived, load.event) {
@@ -172,14 +237,13 @@ impl Reading {
         load: &Load,
         place: usize,
         longer: &mut Vec<Vec<u8>>,
-    ) -> Result<(), AllocError> {
+    ) -> Result<(), AllocError>
+        ensures { OnOk result (GainsNext self.now load.now place way.now (lists_of longer.old.items) (lists_of longer.new.items)) }
+    {
         let derived = self.derived(way, Some(place));
         for store in 0..self.count.min(MAX_EVENTS) {
-            if has(&load.sources, store) && has(&derived, store) {
-                let mut one = Vec::with_capacity(alloc, way.len() + 1)?;
-                one.extend_from_slice(way)?;
-                one.push(store as u8)?;
-                longer.push(one)?;
+            if has_both(&load.sources, &derived, store) {
+                longer.push(joined(alloc, way, &[store as u8])?)?;
             }
         }
         Ok(())
@@ -194,7 +258,9 @@ impl Reading {
         load: &Load,
         place: usize,
         limit: usize,
-    ) -> Result<Option<Vec<Vec<u8>>>, AllocError> {
+    ) -> Result<Option<Vec<Vec<u8>>>, AllocError>
+        ensures { IfOk result (λ o. MatchOption o (AreOver self.now load.now place (lists_of ways.now) limit) (λ v. AreNext self.now load.now place (length ways.now) (lists_of ways.now) (lists_of v.items))) }
+    {
         let mut longer = Vec::with_capacity(alloc, ways.len())?;
         for way in ways {
             self.extend(alloc, way, load, place, &mut longer)?;
@@ -208,7 +274,9 @@ impl Reading {
     /// The ways to read in which what is read and what is needed make no cycle, in lexicographic
     /// order: for each load in event order the number of its store. `None` where there are over
     /// `limit`.
-    pub fn ways(&self, alloc: Global, limit: usize) -> Result<Option<Vec<Vec<u8>>>, AllocError> {
+    pub fn ways(&self, alloc: Global, limit: usize) -> Result<Option<Vec<Vec<u8>>>, AllocError>
+        ensures { IfOk result (λ o. MatchOption o (HasOver self.now limit) (λ v. HasWays self.now (lists_of v.items))) }
+    {
         let mut ways = Vec::new(alloc);
         if self.is_possible() {
             ways.push(Vec::new(alloc))?;
