@@ -1,4 +1,6 @@
 pub mod Compiled
+pub mod Counting
+pub mod Final
 pub mod Judgement
 pub mod Kept
 pub mod Meaning

@@ -1,5 +1,13 @@
 //! The final states of the kept candidates.
 
+ghost use Rattle.std.specs.Prelude.{◌≡◌, ℕ, ◌+◌, ◌-◌, ◌^◌, min, List, map, drop, length, if◌then◌else◌, IfOk, OnOk};
+ghost use Rattle.candidates.specs.Space.{candidates_in, candidates_of};
+ghost use Rattle.verdict.specs.Counting.{count_kept, count_column, tally, Counts};
+ghost use Rattle.verdict.specs.Kept.{holds_at};
+ghost use Rattle.verdict.specs.Final.{value_shown, final_register, stored_at, final_word, final_value, final_state};
+ghost use Rattle.verdict.specs.Order.{is_state};
+ghost use Rattle.verdict.specs.declared.answer.FinalValue.{FinalValue};
+
 use crate::answer::FinalValue;
 use crate::shown_place::ShownPlace;
 use candidates::{Action, Combination, Space};
@@ -10,7 +18,9 @@ use std::collections::BTreeMap;
 /// How many candidates end in each state.
 pub type StateCounts = BTreeMap<Vec<FinalValue>, u64>;
 
-fn final_value(value: Value) -> FinalValue {
+fn final_value(value: Value) -> FinalValue
+    ensures { result ≡ value_shown value }
+{
     match value {
         Value::Number(number) => FinalValue::Number(number.cast_signed()),
         Value::Address(location) => FinalValue::Address(location),
@@ -18,7 +28,9 @@ fn final_value(value: Value) -> FinalValue {
     }
 }
 
-fn final_register(space: &Space, combination: &Combination, thread: usize, register: u8) -> Value {
+fn final_register(space: &Space, combination: &Combination, thread: usize, register: u8) -> Value
+    ensures { result ≡ final_register space.now combination.now thread register }
+{
     let Some(runs) = space.registers.get(thread) else {
         return Value::NoValue;
     };
@@ -34,63 +46,116 @@ fn final_register(space: &Space, combination: &Combination, thread: usize, regis
     }
 }
 
-// Writes down what the event stores, if it is a store.
-fn note_store(combination: &Combination, event: u8, words: &mut [Value]) {
-    let Some(event) = combination.events.get(usize::from(event)) else {
-        return;
-    };
-    if let Action::Write { location, value } = event.action {
-        if let Some(word) = words.get_mut(location) {
-            *word = value;
+// What the event stores at the location, if it stores there.
+fn stored_at(combination: &Combination, location: usize, event: u8) -> Option<Value>
+    ensures { result ≡ stored_at combination.now location event }
+{
+    let event = combination.events.get(usize::from(event))?;
+    match event.action {
+        Action::Write {
+            location: to,
+            value,
+        } => { if to == location { Some(value) } else { None } }
+        Action::Read { .. } => None,
+        Action::Fence(_) => None,
+    }
+}
+
+// What the location holds after the stores in this order.
+fn final_word(combination: &Combination, order: &[u8], location: usize) -> Value
+    ensures { result ≡ final_word combination.now order.now location }
+{
+    let mut word = Value::NoValue;
+    for event in order {
+        if let Some(value) = stored_at(combination, location, *event) {
+            word = value;
         }
     }
-}
-
-// What each location holds after the stores in this order, which has each location's initial store.
-fn note_stores(combination: &Combination, order: &[u8], words: &mut [Value]) {
-    for event in order {
-        note_store(combination, *event, words);
-    }
-}
-
-fn final_word(words: &[Value], location: usize) -> Value {
-    match words.get(location) {
-        Some(value) => *value,
-        None => Value::NoValue,
-    }
+    word
 }
 
 fn final_state(
     alloc: Global,
     space: &Space,
     combination: &Combination,
-    words: &[Value],
+    order: &[u8],
     places: &[ShownPlace],
-) -> Result<Vec<FinalValue>, AllocError> {
+) -> Result<Vec<FinalValue>, AllocError>
+    ensures { IfOk result (λ v. v.items ≡ map (final_value space.now combination.now order.now) places.now) }
+{
     let mut state = Vec::with_capacity(alloc, places.len())?;
     for place in places {
         let value = match *place {
             ShownPlace::Register(thread, register) => {
                 final_register(space, combination, thread, register)
             }
-            ShownPlace::Location(location) => final_word(words, location),
+            ShownPlace::Location(location) => final_word(combination, order, location),
         };
         state.push(final_value(value))?;
     }
     Ok(state)
 }
 
-// How many candidates of the combination with this order are kept, where `kept` begins with those
-// of the combination.
-fn kept_with_order(kept: &[bool], ways: usize, orders: usize, order: usize) -> u64 {
+fn is_kept_at(kept: &[bool], place: usize) -> bool
+    ensures { result ≡ holds_at place kept.now }
+{
+    match kept.get(place) {
+        Some(keep) => *keep,
+        None => false,
+    }
+}
+
+// What stands from a place on.
+fn kept_from(kept: &[bool], place: usize) -> &[bool]
+    ensures { result.now ≡ drop place kept.now }
+{
+    match kept.get(place..) {
+        Some(rest) => rest,
+        None => &[],
+    }
+}
+
+// How many candidates of a combination with this order are kept, where `kept` begins with those of
+// the combination: a row of its orders for each way to read.
+fn kept_with_order(kept: &[bool], ways: usize, orders: usize, order: usize) -> u64
+    ensures { result ≡ count_column ways orders order kept.now }
+{
     let mut count = 0u64;
-    for way in 0..ways {
-        let candidate = way.saturating_mul(orders).saturating_add(order);
-        if let Some(true) = kept.get(candidate).copied() {
-            count = count.saturating_add(1);
+    let mut rest = kept;
+    for _way in 0..ways {
+        if is_kept_at(rest, order) {
+            count += 1;
         }
+        rest = kept_from(rest, orders);
     }
     count
+}
+
+fn add_count(counts: &mut StateCounts, state: Vec<FinalValue>, found: u64) -> Result<(), AllocError>
+    ensures { OnOk result ((v : List FinalValue) → tally counts.new.entries v ≡ (if is_state v state.items then min (tally counts.old.entries v + found) (2 ^ 64 - 1) else tally counts.old.entries v)) }
+{
+    let had = counts.get(&state).copied().unwrap_or(0);
+    counts.insert(state, had.saturating_add(found))?;
+    Ok(())
+}
+
+// Counts so many candidates with this order of the stores.
+fn count_order(
+    alloc: Global,
+    space: &Space,
+    combination: &Combination,
+    order: &[u8],
+    places: &[ShownPlace],
+    found: u64,
+    counts: &mut StateCounts,
+) -> Result<(), AllocError>
+    ensures { OnOk result (Counts counts.old.entries counts.new.entries (λ v. if is_state v (map (final_value space.now combination.now order.now) places.now) then found else 0)) }
+{
+    if found == 0 {
+        return Ok(());
+    }
+    let state = final_state(alloc, space, combination, order, places)?;
+    add_count(counts, state, found)
 }
 
 fn count_combination(
@@ -100,20 +165,23 @@ fn count_combination(
     kept: &[bool],
     places: &[ShownPlace],
     counts: &mut StateCounts,
-) -> Result<(), AllocError> {
+) -> Result<(), AllocError>
+    ensures { OnOk result (Counts counts.old.entries counts.new.entries (λ v. count_kept (λ t. is_state v (map (final_value space.now combination.now t.1) places.now)) kept.now (candidates_of combination.now))) }
+{
     let ways = combination.sources.len();
     let orders = combination.orders.len();
-    let mut words = vec![in alloc; Value::NoValue; space.locations.len()]?;
     for (k, order) in combination.orders.iter().enumerate() {
         let found = kept_with_order(kept, ways, orders, k);
-        if found > 0 {
-            note_stores(combination, order, &mut words);
-            let state = final_state(alloc, space, combination, &words, places)?;
-            let count = counts.entry(state)?.or_insert(0);
-            *count = count.saturating_add(found);
-        }
+        count_order(alloc, space, combination, order, places, found, counts)?;
     }
     Ok(())
+}
+
+// What stands behind the answers for the candidates of a combination.
+fn kept_after<'k>(kept: &'k [bool], combination: &Combination) -> &'k [bool]
+    ensures { result.now ≡ drop (length (candidates_of combination.now)) kept.now }
+{
+    kept_from(kept, combination.candidate_count().min(kept.len()))
 }
 
 /// The final states of the kept candidates over these places, each with the number of kept
@@ -123,19 +191,14 @@ pub fn final_states(
     space: &Space,
     kept: &[bool],
     places: &[ShownPlace],
-) -> Result<StateCounts, AllocError> {
+) -> Result<StateCounts, AllocError>
+    ensures { IfOk result (λ t. (v : List FinalValue) → tally t.entries v ≡ min (count_kept (λ x. is_state v (final_state space.now places.now x)) kept.now (candidates_in space.now.combinations.items)) (2 ^ 64 - 1)) }
+{
     let mut counts = BTreeMap::new(alloc);
     let mut rest = kept;
     for combination in &space.combinations {
         count_combination(alloc, space, combination, rest, places, &mut counts)?;
-        let candidates = combination
-            .sources
-            .len()
-            .saturating_mul(combination.orders.len());
-        rest = match rest.get(candidates..) {
-            Some(rest) => rest,
-            None => &[],
-        };
+        rest = kept_after(rest, combination);
     }
     Ok(counts)
 }

@@ -1,0 +1,136 @@
+-- Laws of a list of counts.
+use Rattle.std.proofs.Common.{ℕ, ◌+◌, ◌-◌, ◌^◌, min, Bool, true, false, cond, ◌≡◌, List, [], ◌∷◌, Option, Some, None, Vec, Global, refl, sym, ap, subst, ◌∙◌, arith, zero-add}
+use mathlib.Core.Path.{fun_ext}
+use Rattle.std.specs.Option.{unwrap_or}
+use Rattle.std.specs.Map.{lookup}
+use Rattle.std.specs.BTreeMap.{insert_entry}
+use Rattle.std.specs.Cmp.Lexicographic.{slice_cmp}
+use Rattle.std.specs.Ordering.{is_eq, match_ordering}
+use Rattle.std.specs.declared.cmp.Ordering.{Ordering}
+use Rattle.std.specs.declared.cmp.Ordering.TheVariants.{Less, Equal, Greater}
+use Rattle.std.proofs.lemmas.Cmp.{alike_right}
+use Rattle.verdict.specs.Order.{value_cmp, state_cmp, is_state}
+use Rattle.verdict.specs.Counting.{tally, Counts}
+use Rattle.verdict.specs.declared.answer.FinalValue.{FinalValue}
+use Rattle.verdict.proofs.Orders.{value_orders, state_total}
+use Rattle.verdict.specs.contracts.answer.FinalValueOrd.TheImpl as value_ord
+
+abbrev pub Entries : Type 0
+Entries = List (Vec FinalValue Global × ℕ)
+
+abbrev pub put : Entries → Vec FinalValue Global → ℕ → Entries
+put es k w = insert_entry (λ x y. state_cmp x.items y.items) es k w
+
+abbrev found : List FinalValue → Entries → Option ℕ
+found v es = lookup (λ k. is_state v k.items) es
+
+either : (b : Bool) (w : ℕ) (o : Option ℕ) → unwrap_or (cond b (Some w) o) 0 ≡ cond b w (unwrap_or o 0)
+either true w o = refl
+either false w o = refl
+
+is_eq_Equal : (o : Ordering) → is_eq o ≡ true → o ≡ Equal
+is_eq_Equal Less h = cc
+is_eq_Equal Equal h = refl
+is_eq_Equal Greater h = cc
+
+same_swap : (a b : Bool) (w u t : ℕ) → a ≡ b → cond b w t ≡ cond a w (cond b u t)
+same_swap true true w u t h = refl
+same_swap false false w u t h = refl
+same_swap true false w u t h = cc
+same_swap false true w u t h = cc
+
+apart_swap : (a b : Bool) (w u t : ℕ) → (a ≡ true → b ≡ true → ⊥) → cond b u (cond a w t) ≡ cond a w (cond b u t)
+apart_swap true true w u t h = absurd (h refl refl)
+apart_swap true false w u t h = refl
+apart_swap false true w u t h = refl
+apart_swap false false w u t h = refl
+
+put_at : (v : List FinalValue) (k : Vec FinalValue Global) (w : ℕ) (e : Vec FinalValue Global × ℕ) (es : Entries) (o : Ordering) → state_cmp k.items e.0.items ≡ o → unwrap_or (found v (put es k w)) 0 ≡ cond (is_state v k.items) w (unwrap_or (found v es) 0) → unwrap_or (found v (match_ordering o ((k, w) ∷ e ∷ es) ((e.0, w) ∷ es) (e ∷ put es k w))) 0 ≡ cond (is_state v k.items) w (unwrap_or (found v (e ∷ es)) 0)
+put_at v k w e es Less is more = either (is_state v k.items) w (found v (e ∷ es))
+put_at v k w e es Equal is more =
+    either (is_state v e.0.items) w (found v es)
+    ∙ same_swap (is_state v k.items) (is_state v e.0.items) w e.1 (unwrap_or (found v es) 0) (ap is_eq (alike_right state_total k.items e.0.items v is))
+    ∙ ap (cond (is_state v k.items) w) (sym (either (is_state v e.0.items) e.1 (found v es)))
+put_at v k w e es Greater is more =
+    either (is_state v e.0.items) e.1 (found v (put es k w))
+    ∙ ap (cond (is_state v e.0.items) e.1) more
+    ∙ apart_swap (is_state v k.items) (is_state v e.0.items) w e.1 (unwrap_or (found v es) 0) apart
+    ∙ ap (cond (is_state v k.items) w) (sym (either (is_state v e.0.items) e.1 (found v es)))
+  where
+    apart : is_state v k.items ≡ true → is_state v e.0.items ≡ true → ⊥
+    apart h g =
+        let a : state_cmp v k.items ≡ Equal = is_eq_Equal (state_cmp v k.items) h in
+        let b : state_cmp v e.0.items ≡ Equal = is_eq_Equal (state_cmp v e.0.items) g in
+        let m : state_cmp v e.0.items ≡ state_cmp k.items e.0.items = state_total.congr v k.items e.0.items a in
+        cc
+
+put_found : (v : List FinalValue) (k : Vec FinalValue Global) (w : ℕ) (es : Entries) → unwrap_or (found v (put es k w)) 0 ≡ cond (is_state v k.items) w (unwrap_or (found v es) 0)
+put_found v k w [] = either (is_state v k.items) w None
+put_found v k w (e ∷ es) = put_at v k w e es (state_cmp k.items e.0.items) refl (put_found v k w es)
+
+alike_found : (v s : List FinalValue) (es : Entries) → is_state v s ≡ true → found s es ≡ found v es
+alike_found v s es h =
+    ap (λ (t : Vec FinalValue Global → Bool). lookup t es) (fun_ext (λ k. ap is_eq (sym (state_total.congr v s k.items (is_eq_Equal (state_cmp v s) h)))))
+
+gained : (v s : List FinalValue) (es : Entries) (had more : ℕ) (b : Bool) → is_state v s ≡ b → had ≡ unwrap_or (found s es) 0 → cond b (min (had + more) (2 ^ 64 - 1)) (unwrap_or (found v es) 0) ≡ cond b (min (unwrap_or (found v es) 0 + more) (2 ^ 64 - 1)) (unwrap_or (found v es) 0)
+gained v s es had more true h e = ap (λ (n : ℕ). min (n + more) (2 ^ 64 - 1)) (e ∙ ap (λ (o : Option ℕ). unwrap_or o 0) (alike_found v s es h))
+gained v s es had more false h e = refl
+
+-- so many more at one state
+pub Raises : (FinalValue → FinalValue → Ordering) → Type 0
+Raises R = (old new : Entries) (s : Vec FinalValue Global) (had more : ℕ) → had ≡ unwrap_or (lookup (λ k. is_eq (slice_cmp R s.items k.items)) old) 0 → new ≡ insert_entry (λ x y. slice_cmp R x.items y.items) old s (min (had + more) (2 ^ 64 - 1)) → (v : List FinalValue) → tally new v ≡ cond (is_state v s.items) (min (tally old v + more) (2 ^ 64 - 1)) (tally old v)
+
+raises_by_states : Raises value_cmp
+unfolding tally Raises
+raises_by_states old new s had more e is v =
+    ap (λ (es : Entries). unwrap_or (found v es) 0) is
+    ∙ put_found v s (min (had + more) (2 ^ 64 - 1)) old
+    ∙ gained v s.items old had more (is_state v s.items) refl e
+
+raises_there : Raises ((value_ord.ghosts).cmp)
+raises_there = subst Raises (sym value_orders) raises_by_states
+
+pub raised : (old new : Entries) (s : Vec FinalValue Global) (had more : ℕ) → had ≡ unwrap_or (lookup (λ k. is_eq (slice_cmp ((value_ord.ghosts).cmp) s.items k.items)) old) 0 → new ≡ insert_entry (λ x y. slice_cmp ((value_ord.ghosts).cmp) x.items y.items) old s (min (had + more) (2 ^ 64 - 1)) → (v : List FinalValue) → tally new v ≡ cond (is_state v s.items) (min (tally old v + more) (2 ^ 64 - 1)) (tally old v)
+unfolding Raises
+raised = raises_there
+
+add_found : (new old before found : ℕ) (b : Bool) → new ≡ cond b (min (old + found) (2 ^ 64 - 1)) old → old ≡ min before (2 ^ 64 - 1) → new ≡ min (before + cond b found 0) (2 ^ 64 - 1)
+add_found new old before found true e h = omega arith
+add_found new old before found false e h = omega arith
+
+add_none : (old before : ℕ) (b : Bool) → old ≡ min before (2 ^ 64 - 1) → old ≡ min (before + cond b 0 0) (2 ^ 64 - 1)
+add_none old before true h = omega arith
+add_none old before false h = omega arith
+
+-- some are found that end in one state
+pub some_found : (old new : Entries) (s state : List FinalValue) (more : ℕ) → s ≡ state → ((v : List FinalValue) → tally new v ≡ cond (is_state v s) (min (tally old v + more) (2 ^ 64 - 1)) (tally old v)) → Counts old new (λ v. cond (is_state v state) more 0)
+unfolding Counts
+some_found old new s state more is h before start v =
+    add_found (tally new v) (tally old v) (before v) more (is_state v state) (subst (λ (t : List FinalValue). tally new v ≡ cond (is_state v t) (min (tally old v + more) (2 ^ 64 - 1)) (tally old v)) is (h v)) (start v)
+
+pub none_counted : (old : Entries) (state : List FinalValue) (more : ℕ) → more ≡ 0 → Counts old old (λ v. cond (is_state v state) more 0)
+unfolding Counts
+none_counted old state more none before start v =
+    add_none (tally old v) (before v) (is_state v state) (start v) ∙ ap (λ (n : ℕ). min (before v + cond (is_state v state) n 0) (2 ^ 64 - 1)) (sym none)
+
+-- nothing more
+pub no_more_counted : (old : Entries) (more : List FinalValue → ℕ) → ((v : List FinalValue) → more v ≡ 0) → Counts old old more
+unfolding Counts
+no_more_counted old more none before start v =
+    let n : before v ≡ before v + more v = omega (arith, none v) in
+    start v ∙ ap (λ (m : ℕ). min m (2 ^ 64 - 1)) n
+
+-- one after another
+pub counted_twice : (old mid new : Entries) (first second both : List FinalValue → ℕ) → Counts old mid first → Counts mid new second → ((v : List FinalValue) → both v ≡ first v + second v) → Counts old new both
+unfolding Counts
+counted_twice old mid new first second both h k sum before start v =
+    let e : (before v + first v) + second v ≡ before v + both v = omega (arith, sum v) in
+    k (λ w. before w + first w) (h before start) v ∙ ap (λ (n : ℕ). min n (2 ^ 64 - 1)) e
+
+pub same_counts : (old new : Entries) (first both : List FinalValue → ℕ) → Counts old new first → ((v : List FinalValue) → both v ≡ first v) → Counts old new both
+unfolding Counts
+same_counts old new first both h same before start v = h before start v ∙ ap (λ (n : ℕ). min (before v + n) (2 ^ 64 - 1)) (sym (same v))
+
+pub from_nothing : (new : Entries) (more : List FinalValue → ℕ) → Counts [] new more → (v : List FinalValue) → tally new v ≡ min (more v) (2 ^ 64 - 1)
+unfolding Counts tally
+from_nothing new more h v = h (λ w. 0) (λ w. refl) v ∙ ap (λ (n : ℕ). min n (2 ^ 64 - 1)) (zero-add (more v))

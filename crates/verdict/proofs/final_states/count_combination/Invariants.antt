@@ -1,0 +1,10 @@
+use Rattle.std.proofs.Common.{take, map, length}
+use Rattle.verdict.specs.Counting.{Counts}
+use Rattle.verdict.specs.Final.{final_value}
+use Rattle.verdict.specs.Order.{is_state}
+use Rattle.verdict.proofs.Columns.{by_orders}
+use Rattle.verdict.proofs.final_states.count_combination.Given as goal
+
+abbrev pub invariant-loop-k : goal.invariant-loop-k
+invariant-loop-k l =
+    Counts l.initial.counts.entries l.counts.entries (λ v. by_orders (λ o. is_state v (map (final_value l.space l.combination o.items) l.places)) (length l.combination.sources.items) (length l.combination.orders.items) 0 l.kept (take l.k l.combination.orders.items))

@@ -1,0 +1,25 @@
+-- How many candidates end in a state.
+use Rattle.std.specs.Prelude.{ℕ, ◌≡◌, zero, suc, ◌+◌, ◌-◌, ◌^◌, min, Bool, ◌&&◌, List, [], ◌∷◌, Vec, drop, unwrap_or, if◌then◌else◌}
+use Rattle.std.specs.Map.{lookup}
+use Rattle.std.specs.declared.alloc.Global.{Global}
+use Rattle.verdict.specs.Kept.{holds_at}
+use Rattle.verdict.specs.Order.{is_state}
+use Rattle.verdict.specs.declared.answer.FinalValue.{FinalValue}
+
+-- how many of a list pass a test and have true at their place in another
+unfoldable pub count_kept : {X : Type 0} → (X → Bool) → List Bool → List X → ℕ
+count_kept test kept [] = 0
+count_kept test kept (x ∷ xs) = (if holds_at 0 kept && test x then 1 else 0) + count_kept test (drop 1 kept) xs
+
+-- how many of so many rows of a width have true in this column
+unfoldable pub count_column : ℕ → ℕ → ℕ → List Bool → ℕ
+count_column zero width column kept = 0
+count_column (suc rows) width column kept = (if holds_at column kept then 1 else 0) + count_column rows width column (drop width kept)
+
+-- what a list of counts has at a state
+unfoldable pub tally : List (Vec FinalValue Global × ℕ) → List FinalValue → ℕ
+tally entries v = unwrap_or (lookup (λ k. is_state v k.items) entries) 0
+
+-- the second list has so many more at each state than the first, up to the greatest number
+unfoldable pub Counts : List (Vec FinalValue Global × ℕ) → List (Vec FinalValue Global × ℕ) → (List FinalValue → ℕ) → Type 0
+Counts old new more = (before : List FinalValue → ℕ) → ((v : List FinalValue) → tally old v ≡ min (before v) (2 ^ 64 - 1)) → (v : List FinalValue) → tally new v ≡ min (before v + more v) (2 ^ 64 - 1)
