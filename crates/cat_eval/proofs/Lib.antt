@@ -1,5 +1,6 @@
 pub mod Among
 pub mod Codes
+pub mod Columns
 pub mod Entering
 pub mod Evaluated
 pub mod Growing

@@ -1,7 +1,9 @@
 //! The value of a name over a list of candidates.
 
-ghost use Rattle.std.specs.Prelude.{◌≡◌, ◌≤◌, slice_get};
+ghost use Rattle.std.specs.Prelude.{◌≡◌, ◌≤◌, slice_get, OnOk};
 ghost use Rattle.bit_relations.specs.Relation.{IsRelation, IsEvents};
+ghost use Rattle.binding_graph.specs.declared.resolved.Kind.TheVariants as kinds;
+ghost use Rattle.cat_eval.specs.Values.{Adds, IsFor, column_len};
 ghost use Rattle.cat_eval.specs.Named.{ColumnEvents, ColumnPairs, PairsFound};
 
 use bit_relations::{EventSet, PackedRelations, Rel};
@@ -16,17 +18,25 @@ pub enum Column {
 
 impl Column {
     /// A list of sets without a value.
-    pub fn of_sets(alloc: Global) -> Column {
+    pub fn of_sets(alloc: Global) -> Column
+        ensures kind { IsFor kinds.OfSet result }
+        ensures empty { column_len result ≡ 0 }
+    {
         Column::Sets(Vec::new(alloc))
     }
 
     /// A list of relations without a value.
-    pub fn of_relations(alloc: Global) -> Column {
+    pub fn of_relations(alloc: Global) -> Column
+        ensures kind { IsFor kinds.OfRelation result }
+        ensures empty { column_len result ≡ 0 }
+    {
         Column::Relations(PackedRelations::new(alloc))
     }
 
     /// How many candidates it has a value for.
-    pub fn len(&self) -> usize {
+    pub fn len(&self) -> usize
+        ensures { result ≡ column_len self.now }
+    {
         match self {
             Column::Sets(values) => values.len(),
             Column::Relations(values) => values.len(),
@@ -65,7 +75,9 @@ impl Column {
     }
 
     /// Adds the value of the next candidate, of which the one of its kind counts.
-    pub(crate) fn push(&mut self, set: &EventSet, relation: &Rel) -> Result<(), AllocError> {
+    pub(crate) fn push(&mut self, set: &EventSet, relation: &Rel) -> Result<(), AllocError>
+        ensures { OnOk result (Adds self.old self.new set.now relation.now) }
+    {
         match self {
             Column::Sets(values) => values.push(*set)?,
             Column::Relations(values) => values.push(relation)?,

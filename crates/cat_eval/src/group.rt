@@ -1,7 +1,14 @@
 //! The values of the names of a group.
 
-ghost use Rattle.std.specs.Prelude.{◌≡◌, ◌≤◌, length, IfOk};
+ghost use Rattle.std.specs.Prelude.{◌≡◌, ℕ, ◌<◌, ◌≤◌, List, [], true, false, length, slice_index_or, IfOk, OnOk};
+ghost use Rattle.base_env.specs.Known.{Known};
+ghost use Rattle.bit_relations.specs.Relation.{Relation, Events, IsRelation, IsEvents, no_slot};
+ghost use Rattle.binding_graph.specs.Trees.{RelTree};
 ghost use Rattle.cat_eval.specs.Candidates.{name_count};
+ghost use Rattle.cat_eval.specs.Least.{IsLeast, AreMonotone};
+ghost use Rattle.cat_eval.specs.Named.{EventsIn, PairsOutside};
+ghost use Rattle.cat_eval.specs.Rising.{AreCodes};
+ghost use Rattle.cat_eval.specs.Values.{Adds, IsFor, IsMeant, column_len};
 
 use crate::column::Column;
 use crate::needs::Needs;
@@ -21,8 +28,6 @@ struct GroupRun<'a> {
     recursive: bool,
     solver: Solver,
     columns: Vec<Column>,
-    /// The number of the next candidate.
-    candidate: usize,
 }
 
 /// Adds a value to one of the columns: what is of its kind.
@@ -32,10 +37,12 @@ fn put(
     set: &EventSet,
     relation: &Rel,
 ) -> Result<(), AllocError>
-    ensures { length columns.new.items ≡ length columns.old.items }
+    ensures long { length columns.new.items ≡ length columns.old.items }
+    ensures others { (j : ℕ) → (j ≡ position → ⊥) → (c : Column) → slice_index_or columns.new.items j c ≡ slice_index_or columns.old.items j c }
+    ensures added { OnOk result (position < length columns.old.items → (c : Column) → Adds (slice_index_or columns.old.items position c) (slice_index_or columns.new.items position c) set.now relation.now) }
 {
-    if let Some(column) = columns.get_mut(position) {
-        column.push(set, relation)?;
+    if position < columns.len() {
+        columns[position].push(set, relation)?;
     }
     Ok(())
 }
@@ -43,37 +50,72 @@ fn put(
 /// Adds to each column its relation.
 fn put_all(columns: &mut Vec<Column>, values: &[Rel], count: usize) -> Result<(), AllocError>
     requires { count ≤ 128 }
-    ensures { length columns.new.items ≡ length columns.old.items }
+    ensures long { length columns.new.items ≡ length columns.old.items }
+    ensures added { OnOk result ((j : ℕ) → j < length values.now → j < length columns.old.items → (c : Column) → (s : Events) × Adds (slice_index_or columns.old.items j c) (slice_index_or columns.new.items j c) s (slice_index_or values.now j no_slot)) }
 {
     let none = EventSet::empty(count);
-    for (position, value) in values.iter().enumerate() {
-        put(columns, position, &none, value)?;
+    for position in 0..values.len() {
+        put(columns, position, &none, &values[position])?;
     }
     Ok(())
 }
 
+/// How many candidates the columns have values for.
+fn taken(columns: &[Column]) -> usize
+    ensures { 0 < length columns.now → (c : Column) → result ≡ column_len (slice_index_or columns.now 0 c) }
+{
+    if columns.len() > 0 {
+        columns[0].len()
+    } else {
+        0
+    }
+}
+
 impl GroupRun<'_> {
-    /// Evaluates each body once.
-    fn evaluate_each(&mut self, base: &Base) -> Result<(), AllocError>
-        ensures { length self.new.columns.items ≡ length self.old.columns.items }
+    /// Evaluates one body.
+    fn evaluate_one(
+        &mut self,
+        base: &Base,
+        candidate: usize,
+        position: usize,
+    ) -> Result<(), AllocError>
+        requires { position < length self.old.bodies.now }
+        ensures fixed { (self.new.bodies ≡ self.old.bodies) × (self.new.inputs ≡ self.old.inputs) × (self.new.recursive ≡ self.old.recursive) × (self.new.solver.own ≡ self.old.solver.own) }
+        ensures long { length self.new.columns.items ≡ length self.old.columns.items }
+        ensures others { (j : ℕ) → (j ≡ position → ⊥) → (c : Column) → slice_index_or self.new.columns.items j c ≡ slice_index_or self.old.columns.items j c }
+        ensures added { OnOk result (self.old.solver.own.items ≡ [] → position < length self.old.columns.items → (c : Column) (b : Body) → (s : Events) × (r : Relation) × Adds (slice_index_or self.old.columns.items position c) (slice_index_or self.new.columns.items position c) s r × IsMeant (slice_index_or self.old.bodies.now position b).code.kind (slice_index_or self.old.bodies.now position b).code.steps.items self.old.inputs.now base.now candidate s r) }
     {
         let bodies = self.bodies;
-        for (position, body) in bodies.iter().enumerate() {
-            self.solver
-                .evaluate(body, base, self.inputs, self.candidate)?;
-            let set = self.solver.set(base.count());
-            put(&mut self.columns, position, &set, self.solver.relation())?;
+        let inputs = self.inputs;
+        self.solver
+            .evaluate(&bodies[position], base, inputs, candidate)?;
+        let set = self.solver.set(base.count());
+        put(&mut self.columns, position, &set, self.solver.relation())?;
+        Ok(())
+    }
+
+    /// Evaluates each body once.
+    fn evaluate_each(&mut self, base: &Base, candidate: usize) -> Result<(), AllocError>
+        ensures fixed { (self.new.bodies ≡ self.old.bodies) × (self.new.inputs ≡ self.old.inputs) × (self.new.recursive ≡ self.old.recursive) × (self.new.solver.own ≡ self.old.solver.own) }
+        ensures long { length self.new.columns.items ≡ length self.old.columns.items }
+        ensures added { OnOk result (self.old.solver.own.items ≡ [] → (j : ℕ) → j < length self.old.bodies.now → j < length self.old.columns.items → (c : Column) (b : Body) → (s : Events) × (r : Relation) × Adds (slice_index_or self.old.columns.items j c) (slice_index_or self.new.columns.items j c) s r × IsMeant (slice_index_or self.old.bodies.now j b).code.kind (slice_index_or self.old.bodies.now j b).code.steps.items self.old.inputs.now base.now candidate s r) }
+    {
+        for position in 0..self.bodies.len() {
+            self.evaluate_one(base, candidate, position)?;
         }
         Ok(())
     }
 
     /// Makes the names the least values that satisfy the equations.
-    fn solve(&mut self, base: &Base) -> Result<(), AllocError>
-        ensures { length self.new.columns.items ≡ length self.old.columns.items }
+    fn solve(&mut self, base: &Base, candidate: usize) -> Result<(), AllocError>
+        ensures fixed { (self.new.bodies ≡ self.old.bodies) × (self.new.inputs ≡ self.old.inputs) × (self.new.recursive ≡ self.old.recursive) }
+        ensures long { length self.new.columns.items ≡ length self.old.columns.items }
+        ensures added { OnOk result (length self.old.solver.own.items ≡ length self.old.bodies.now → (trees : List RelTree) → AreCodes trees self.old.bodies.now → AreMonotone trees → length trees ≤ 64 → IsLeast base.now.count (EventsIn base.now self.old.inputs.now candidate) (PairsOutside base.now self.old.inputs.now candidate) trees self.new.solver.own.items × ((j : ℕ) → j < length self.old.bodies.now → j < length self.old.columns.items → (c : Column) → (s : Events) × Adds (slice_index_or self.old.columns.items j c) (slice_index_or self.new.columns.items j c) s (slice_index_or self.new.solver.own.items j no_slot))) }
     {
         self.solver
-            .solve(self.bodies, base, self.inputs, self.candidate)?;
-        put_all(&mut self.columns, self.solver.values(), base.count())
+            .solve(self.bodies, base, self.inputs, candidate)?;
+        put_all(&mut self.columns, self.solver.values(), base.count())?;
+        Ok(())
     }
 }
 
@@ -81,28 +123,37 @@ impl Visit for GroupRun<'_> {
     ghost has_taken = { λ first bases run. length run.columns.items ≡ length first.columns.items };
 
     fn visit(&mut self, base: &Base) -> Result<(), AllocError> {
+        let candidate = taken(&self.columns);
         if self.recursive {
-            self.solve(base)?;
+            self.solve(base, candidate)?;
         } else {
-            self.evaluate_each(base)?;
+            self.evaluate_each(base, candidate)?;
         }
-        self.candidate = self.candidate.wrapping_add(1);
         Ok(())
     }
 }
 
 /// A column without a value for each body.
 fn columns_of(alloc: Global, bodies: &[Body]) -> Result<Vec<Column>, AllocError>
-    ensures { IfOk result (λ v. length v.items ≡ length bodies.now) }
+    ensures { IfOk result (λ v. (length v.items ≡ length bodies.now) × ((j : ℕ) → j < length bodies.now → (b : Body) (c : Column) → IsFor (slice_index_or bodies.now j b).code.kind (slice_index_or v.items j c) × (column_len (slice_index_or v.items j c) ≡ 0))) }
 {
     let mut columns = Vec::new(alloc);
     for body in bodies {
-        columns.push(match body.code.kind {
-            Kind::OfSet => Column::of_sets(alloc),
-            Kind::OfRelation | Kind::OfAny => Column::of_relations(alloc),
-        })?;
+        columns.push(column_for(alloc, body.code.kind))?;
     }
     Ok(columns)
+}
+
+/// A column without a value, for values of a kind.
+fn column_for(alloc: Global, kind: Kind) -> Column
+    ensures kind { IsFor kind result }
+    ensures empty { column_len result ≡ 0 }
+{
+    match kind {
+        Kind::OfSet => Column::of_sets(alloc),
+        Kind::OfRelation => Column::of_relations(alloc),
+        Kind::OfAny => Column::of_relations(alloc),
+    }
 }
 
 /// Where the bodies of a group are evaluated.
@@ -133,7 +184,6 @@ pub fn eval_group(
                 recursive: *recursive,
                 solver: solver_of(alloc, *recursive, bodies)?,
                 columns: columns_of(alloc, bodies)?,
-                candidate: 0,
             };
             visit_all(alloc, space, &Needs::of(alloc, item)?, &mut run)?;
             Ok(run.columns)
