@@ -1,9 +1,11 @@
 -- The laws of one bit of a word.
-use Rattle.std.proofs.Common.{ℕ, ◌≡◌, ◌<◌, ◌≤◌, ◌↔◌, ◌⊎◌, ◌+◌, ◌-◌, ◌*◌, ◌%◌, ◌/◌, ◌^◌, zero, suc, refl, w64, min, max, inl, inr, arith, sym, ap, ◌∙◌}
+use Rattle.std.proofs.Common.{ℕ, ◌≡◌, ◌<◌, ◌≤◌, ◌↔◌, ◌⊎◌, ◌+◌, ◌-◌, ◌*◌, ◌%◌, ◌/◌, ◌^◌, zero, suc, refl, subst, cond, eqb, mod-lt, pow_pos, w64, min, max, inl, inr, arith, sym, ap, ◌∙◌}
 use Rattle.std.specs.Int.{bit_at, bit_not}
 use Rattle.std.specs.Int.RustNames.{bit_or, bit_and}
 use Rattle.std.proofs.lemmas.Nat.Bits.{bit_at_or, bit_at_and, bit_at-zero, bit_at-lt, same_from_bits, bit_at_above, bit_at_not, bit_at_set_same, bit_at_set_other, shr_and_one, bit_at_ones, bit_at_ones_above, ones_shr, bit_at_cat_low}
 use Rattle.std.proofs.lemmas.Bool.{cases_lt, cases_eq}
+use Rattle.std.proofs.lemmas.Bool.Decides.{eqb_tells}
+use Rattle.std.proofs.lemmas.Nat.{div-add-mod'}
 use Rattle.bit_relations.specs.Relation.{Bit}
 
 zero_or_one : (n : ℕ) → n ≡ 0 → n ≡ 1 → ⊥
@@ -92,6 +94,48 @@ Bit-set x a k lt =
           rw e ((λ h. inl h), (λ h. elim h [ inl old ↦ old | inr same ↦ absurd (other (sym same)) ]))
     ]
 
+-- the word of one bit
+Bit-one : (a k : ℕ) → a < 64 → Bit (1 * 2 ^ a % 2 ^ 64) k ↔ (a ≡ k)
+Bit-one a k lt = (
+  (λ h. elim ((Bit-set 0 a k lt).0 ((Bit-or 0 (1 * 2 ^ a % 2 ^ 64) k).1 (inr h))) [
+    | inl none ↦ absurd (Bit-zero k none)
+    | inr same ↦ same
+  ]),
+  (λ e. elim ((Bit-or 0 (1 * 2 ^ a % 2 ^ 64) k).0 ((Bit-set 0 a k lt).1 (inr e))) [
+    | inl none ↦ absurd (Bit-zero k none)
+    | inr h ↦ h
+  ]),
+)
+
+-- `acc | if s & 1 << k == 0 { 0 } else { row }`
+pub Bit-chosen : (acc s k row b : ℕ) → k < 64 → Bit (bit_or acc (cond (eqb (bit_and s (1 * 2 ^ k % 2 ^ 64)) 0) 0 row)) b ↔ (Bit acc b ⊎ (Bit s k × Bit row b))
+Bit-chosen acc s k row b lt =
+    elim (eqb_tells met 0) [
+      | inl zero_met ↦ rw zero_met.0 (
+        (λ h. elim ((Bit-or acc 0 b).0 h) [ inl old ↦ inl old | inr none ↦ absurd (Bit-zero b none) ]),
+        (λ h. (Bit-or acc 0 b).1 (elim h [ inl old ↦ inl old | inr t ↦ absurd (Bit-zero k (subst (λ (x : ℕ). Bit x k) zero_met.1 (has t.0))) ])),
+      )
+      | inr some ↦ rw some.0 (
+        (λ h. elim ((Bit-or acc row b).0 h) [ inl old ↦ inl old | inr new ↦ inr (set some.1, new) ]),
+        (λ h. (Bit-or acc row b).1 (elim h [ inl old ↦ inl old | inr t ↦ inr t.1 ])),
+      )
+    ]
+  where
+    met : ℕ
+    met = bit_and s (1 * 2 ^ k % 2 ^ 64)
+
+    has : Bit s k → Bit met k
+    has h = (Bit-and s (1 * 2 ^ k % 2 ^ 64) k).1 (h, (Bit-one k k lt).1 refl)
+
+    set : (met ≡ 0 → ⊥) → Bit s k
+    set some = elim (Bit_cases s k) [
+      | inl here ↦ here
+      | inr unset ↦ absurd (some (same_word met 0 (λ c. (
+        (λ h. let t = (Bit-and s (1 * 2 ^ k % 2 ^ 64) c).0 h in absurd (unset (subst (λ (x : ℕ). Bit s x) (sym ((Bit-one k c lt).0 t.1)) t.0))),
+        (λ h. absurd (Bit-zero c h)),
+      ))))
+    ]
+
 -- all ones where the word has the bit, and else 0
 unfoldable pub spread : ℕ → ℕ → ℕ
 spread s k = (0 + (2 ^ 64 - bit_and (s / 2 ^ k) 1)) % 2 ^ 64
@@ -134,27 +178,28 @@ pub Bit-ones : (k : ℕ) → k < 64 → Bit (2 ^ 64 - 1) k
 unfolding Bit
 Bit-ones k lt = bit_at_ones 64 k lt
 
--- a word whose bits are all below the width fits
-pub word_fits : (w : ℕ) → ((k : ℕ) → Bit w k → k < 64) → w < 2 ^ 64
+-- a number whose bits are all below n fits
+pub fits_below : (n w : ℕ) → ((k : ℕ) → Bit w k → k < n) → w < 2 ^ n
 unfolding Bit
-word_fits w below =
-    let e : w ≡ w % 2 ^ 64 = same_from_bits w (w % 2 ^ 64) each in
-    let lt : w % 2 ^ 64 < 2 ^ 64 = omega arith in
-    omega arith
+fits_below n w below = subst (λ (x : ℕ). x < 2 ^ n) (sym (same_from_bits w (w % 2 ^ n) each)) small
   where
-    split : w ≡ (w / 2 ^ 64) * 2 ^ 64 + w % 2 ^ 64
-    split = omega arith
+    small : w % 2 ^ n < 2 ^ n
+    small = mod-lt w (pow_pos n)
 
-    zero_bit : {n : ℕ} → n < 2 → (n ≡ 1 → ⊥) → n ≡ 0
+    zero_bit : {m : ℕ} → m < 2 → (m ≡ 1 → ⊥) → m ≡ 0
     zero_bit lt not_one = omega arith
 
-    each : (k : ℕ) → bit_at w k ≡ bit_at (w % 2 ^ 64) k
-    each k = elim (cases_lt k 64) [
-      | inl lt ↦ ap (λ (n : ℕ). bit_at n k) split ∙ bit_at_cat_low (w / 2 ^ 64) 64 (w % 2 ^ 64) k lt
+    each : (k : ℕ) → bit_at w k ≡ bit_at (w % 2 ^ n) k
+    each k = elim (cases_lt k n) [
+      | inl lt ↦ ap (λ (x : ℕ). bit_at x k) (sym (div-add-mod' w (2 ^ n))) ∙ bit_at_cat_low (w / 2 ^ n) n (w % 2 ^ n) k lt
       | inr ge ↦
-          let high : bit_at (w % 2 ^ 64) k ≡ 0 = bit_at_above (w % 2 ^ 64) 64 k (omega arith) ge in
-          zero_bit (bit_at-lt w k) (λ h. let lt : k < 64 = below k h in omega arith) ∙ sym high
+          let high : bit_at (w % 2 ^ n) k ≡ 0 = bit_at_above (w % 2 ^ n) n k small ge in
+          zero_bit (bit_at-lt w k) (λ h. let lt : k < n = below k h in omega arith) ∙ sym high
     ]
+
+-- a word whose bits are all below the width fits
+pub word_fits : (w : ℕ) → ((k : ℕ) → Bit w k → k < 64) → w < 2 ^ 64
+word_fits w below = fits_below 64 w below
 
 -- the lowest bits of a word of ones
 pub Bit-lowest : (n b : ℕ) → n ≤ 64 → Bit ((2 ^ 64 - 1) / 2 ^ (64 - n)) b ↔ (b < n)

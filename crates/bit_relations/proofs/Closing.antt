@@ -2,13 +2,13 @@
 use Rattle.std.specs.Prelude.{IsTrue}
 use Rattle.std.proofs.Common.{Bool, ℕ, ◌≡◌, ◌<◌, ◌≤◌, ◌+◌, ◌↔◌, List, [], ◌∷◌, length, get_or, inl, inr, arith, sym, ◌∙◌, subst}
 use Rattle.std.proofs.lemmas.Bool.{cases_lt}
-use Rattle.bit_relations.specs.Pairs.{Path, Plus, IsAcyclic}
+use Rattle.bit_relations.specs.Pairs.{Path, Plus, PlusBelow, IsAcyclic}
 use Rattle.bit_relations.specs.Relation.{Bit, AreColumns, wide}
 use Rattle.bit_relations.specs.Rows.{RowsHave, AllFit, AreWritten, Taken, Through}
 use Rattle.bit_relations.proofs.Bits.{Bit-width, Bit-zero}
 use Rattle.bit_relations.proofs.Columns.{IsColumn, IsMade, Within, taken_apart, column_written, empty_row}
 use Rattle.bit_relations.proofs.Wide.{low_bit}
-use Rattle.bit_relations.proofs.Paths.{PlusBelow, PlusBelow-suc, PlusBelow-start}
+use Rattle.bit_relations.proofs.Paths.{PlusBelow-suc, PlusBelow-start}
 
 pub Through-within : (R : ℕ → ℕ → Type 0) (middle n : ℕ) → Within R n → Within (Through middle R) n
 Through-within R middle n within a b (inl r) = within a b r
@@ -38,8 +38,8 @@ through n end middle k low high low' high' select enough columns sel write_low w
     covered : {a : ℕ} → a < n → a < end
     covered p = omega (arith, enough)
 
-pub close_step : (R : ℕ → ℕ → Type 0) (k : ℕ) (old new : List ℕ) → ((a b : ℕ) → RowsHave old a b ↔ PlusBelow R k a b) → ((a b : ℕ) → RowsHave new a b ↔ Through k (RowsHave old) a b) → (a b : ℕ) → RowsHave new a b ↔ PlusBelow R (k + 1) a b
-close_step R k old new are turn a b = (
+pub close_step : (R : ℕ → ℕ → Type 0) (k : ℕ) (Old New : ℕ → ℕ → Type 0) → ((a b : ℕ) → Old a b ↔ PlusBelow R k a b) → ((a b : ℕ) → New a b ↔ Through k Old a b) → (a b : ℕ) → New a b ↔ PlusBelow R (k + 1) a b
+close_step R k Old New are turn a b = (
   (λ h. (PlusBelow-suc R k a b).1 (elim ((turn a b).0 h) [
     | inl kept ↦ inl ((are a b).0 kept)
     | inr t ↦ inr ((are a k).0 t.0, (are k b).0 t.1)
@@ -137,7 +137,7 @@ closed_low n low high low' few columns height fits pairs = record {
 -- one step on rows of one word
 pub step_low : (R : ℕ → ℕ → Type 0) (n end k : ℕ) (old new : List ℕ) → n ≤ end → Within R n → ((a b : ℕ) → RowsHave old a b ↔ PlusBelow R k a b) → AreWritten old new end (Taken (RowsHave old) (RowsHave old) k (get_or old k 0)) → (a b : ℕ) → RowsHave new a b ↔ PlusBelow R (k + 1) a b
 step_low R n end k old new enough within are written =
-    close_step R k old new are (λ a b. elim (cases_lt a end) [
+    close_step R k (RowsHave old) (RowsHave new) are (λ a b. elim (cases_lt a end) [
       | inl inside ↦ written.inside a inside b
       | inr past ↦ rw (written.outside a past) (
         (λ h. inl h),
@@ -151,7 +151,7 @@ step_low R n end k old new enough within are written =
 -- an empty row
 pub passed_low : (R : ℕ → ℕ → Type 0) (k : ℕ) (old : List ℕ) → ((a b : ℕ) → RowsHave old a b ↔ PlusBelow R k a b) → get_or old k 0 ≡ 0 → (a b : ℕ) → RowsHave old a b ↔ PlusBelow R (k + 1) a b
 passed_low R k old are empty =
-    close_step R k old old are (λ a b. (
+    close_step R k (RowsHave old) (RowsHave old) are (λ a b. (
       (λ h. inl h),
       (λ h. elim h [ inl o ↦ o | inr t ↦ absurd (Bit-zero b (subst (λ (x : ℕ). Bit x b) empty t.1)) ]),
     ))

@@ -1,85 +1,65 @@
 -- Eight words joined lane by lane.
-use Rattle.std.proofs.Common.{ℕ, ◌≡◌, ◌<◌, ◌≤◌, ◌+◌, ◌-◌, ◌/◌, ◌%◌, ◌^◌, ◌↔◌, ◌⊎◌, List, length, get_or, replicate, inl, inr, arith, sym, ap, ◌∙◌, refl}
-use Rattle.std.proofs.lemmas.Simd.{length-zip2, get_or-zip2, length-replicate, get_or-replicate}
+use Rattle.std.proofs.Common.{ℕ, ◌≡◌, ◌<◌, ◌≤◌, ◌+◌, ◌-◌, ◌%◌, ◌^◌, ◌↔◌, ◌⊎◌, List, length, get_or, replicate, inl, inr, arith, sym, ap, ◌∙◌, refl}
+use Rattle.std.proofs.lemmas.Simd.{length-zip2, get_or-zip2, length-replicate, get_or-replicate, tops_compared, length-sel_l, get_or-sel_l}
 use Rattle.std.proofs.Common.{◌++◌, take, drop, length-take-le, length-drop, get_or-take, get_or-drop, zero-add}
 use Rattle.std.proofs.lemmas.List.{get_or-append_right}
 use lib.ListN.{get_or-append}
 use Rattle.std.proofs.lemmas.Bool.{cases_lt}
 use borrow.Rule.Slice.PartMut.{put_mid, mid_of, post_of, put_same}
 use Rattle.std.proofs.lemmas.Simd.{get_or-put_chunk_at, get_or-put_chunk_above, length-put_chunk}
-use Rattle.std.specs.Simd.Lanes.{zip2, put_chunk, chunk}
+use Rattle.std.specs.Simd.Lanes.{zip2, sel_l, top, put_chunk, chunk}
 use Rattle.std.specs.Int.RustNames.{bit_or, bit_and}
-use Rattle.std.proofs.Common.{subst}
-use Rattle.bit_relations.proofs.Bits.{spread, Bit-spread, Bit-width, word_fits}
+use Rattle.std.proofs.Common.{subst, ◌*◌, w64, Bool, false, cond, eqb, map}
+use Rattle.bit_relations.proofs.Bits.{Bit-chosen, Bit-width, word_fits}
 use Rattle.bit_relations.specs.Relation.{Bit}
 use Rattle.bit_relations.specs.Rows.{RowsHave, AllFit, AreWritten, AreLanesJoined, IsStored, JoinedFrom, Taken}
 
--- the operations on a lane
-abbrev f_or : ℕ → ℕ → ℕ
-f_or x y = bit_or x y
-
-abbrev f_and : ℕ → ℕ → ℕ
-f_and x y = bit_and x y
-
-abbrev f_sub : ℕ → ℕ → ℕ
-f_sub x y = (x + (2 ^ 64 - y)) % 2 ^ 64
-
-abbrev f_shr : ℕ → ℕ → ℕ
-f_shr x y = x / 2 ^ y
-
 -- what is joined to each lane of acc
 abbrev pub joined_lanes : List ℕ → List ℕ → ℕ → ℕ → List ℕ
-joined_lanes acc select k row =
-    zip2 f_or acc (zip2 f_and (zip2 f_sub (replicate 8 0) (zip2 f_and (zip2 f_shr select (replicate 8 k)) (replicate 8 1))) (replicate 8 row))
+joined_lanes acc select bit row =
+    zip2 bit_or acc (sel_l (map (top 63) (zip2 (λ a b. cond (eqb a b) (2 ^ 64 - 1) 0) (zip2 bit_and select (replicate 8 bit)) (replicate 8 0))) (replicate 8 0) (replicate 8 row))
 
-pub lanes_joined : (acc select : List ℕ) (k row : ℕ) → length acc ≡ 8 → length select ≡ 8 → row < 2 ^ 64 → (length (joined_lanes acc select k row) ≡ 8) × AreLanesJoined acc select k row (joined_lanes acc select k row)
-unfolding spread
-lanes_joined acc select k row long_acc long_select fits =
-    (length-zip2 f_or acc all (long_acc ∙ sym long_all) ∙ long_acc, lane)
+pub lanes_joined : (acc select : List ℕ) (k row : ℕ) → k < 64 → length acc ≡ 8 → length select ≡ 8 → (length (joined_lanes acc select (1 * 2 ^ k % 2 ^ 64) row) ≡ 8) × AreLanesJoined acc select k row (joined_lanes acc select (1 * 2 ^ k % 2 ^ 64) row)
+lanes_joined acc select k row small long_acc long_select =
+    rw (tops_compared w64 eqb met (replicate 8 0)) (length-zip2 bit_or acc all (long_acc ∙ sym long_all) ∙ long_acc, lane)
   where
-    shifted : List ℕ
-    shifted = zip2 f_shr select (replicate 8 k)
+    bit : ℕ
+    bit = 1 * 2 ^ k % 2 ^ 64
 
-    long_shifted : length shifted ≡ 8
-    long_shifted = length-zip2 f_shr select (replicate 8 k) (long_select ∙ sym (length-replicate 8 k)) ∙ long_select
+    met : List ℕ
+    met = zip2 bit_and select (replicate 8 bit)
 
-    ones : List ℕ
-    ones = zip2 f_and shifted (replicate 8 1)
+    long_met : length met ≡ 8
+    long_met = length-zip2 bit_and select (replicate 8 bit) (long_select ∙ sym (length-replicate 8 bit)) ∙ long_select
 
-    long_ones : length ones ≡ 8
-    long_ones = length-zip2 f_and shifted (replicate 8 1) (long_shifted ∙ sym (length-replicate {A = ℕ} 8 1)) ∙ long_shifted
+    unset : List Bool
+    unset = zip2 eqb met (replicate 8 0)
 
-    wide : List ℕ
-    wide = zip2 f_sub (replicate 8 0) ones
-
-    long_wide : length wide ≡ 8
-    long_wide = length-zip2 f_sub (replicate 8 0) ones (length-replicate {A = ℕ} 8 0 ∙ sym long_ones) ∙ length-replicate {A = ℕ} 8 0
+    long_unset : length unset ≡ 8
+    long_unset = length-zip2 eqb met (replicate 8 0) (long_met ∙ sym (length-replicate {A = ℕ} 8 0)) ∙ long_met
 
     all : List ℕ
-    all = zip2 f_and wide (replicate 8 row)
+    all = sel_l unset (replicate 8 0) (replicate 8 row)
 
     long_all : length all ≡ 8
-    long_all = length-zip2 f_and wide (replicate 8 row) (long_wide ∙ sym (length-replicate 8 row)) ∙ long_wide
+    long_all = length-sel_l unset (replicate 8 0) (replicate 8 row) long_unset long_unset ∙ long_unset
 
-    lane : AreLanesJoined acc select k row (zip2 f_or acc all)
+    lane : AreLanesJoined acc select k row (zip2 bit_or acc all)
     lane i lt b =
         let in_acc : i < length acc = rw long_acc lt in
         let in_all : i < length all = rw long_all lt in
-        let in_wide : i < length wide = rw long_wide lt in
-        let in_ones : i < length ones = rw long_ones lt in
-        let in_shifted : i < length shifted = rw long_shifted lt in
+        let in_met : i < length met = rw long_met lt in
+        let in_unset : i < length unset = rw long_unset lt in
         let in_select : i < length select = rw long_select lt in
-        let shifted_at : get_or shifted i 0 ≡ f_shr (get_or select i 0) k =
-        get_or-zip2 f_shr select (replicate 8 k) i 0 0 0 in_select lt ∙ ap (f_shr (get_or select i 0)) (get_or-replicate 8 i k 0 lt) in
-        let ones_at : get_or ones i 0 ≡ f_and (f_shr (get_or select i 0) k) 1 =
-        get_or-zip2 f_and shifted (replicate 8 1) i 0 0 0 in_shifted lt ∙ (rw (shifted_at, get_or-replicate {A = ℕ} 8 i 1 0 lt) refl) in
-        let wide_at : get_or wide i 0 ≡ f_sub 0 (f_and (f_shr (get_or select i 0) k) 1) =
-        get_or-zip2 f_sub (replicate 8 0) ones i 0 0 0 lt in_ones ∙ (rw (ones_at, get_or-replicate {A = ℕ} 8 i 0 0 lt) refl) in
-        let all_at : get_or all i 0 ≡ f_and (f_sub 0 (f_and (f_shr (get_or select i 0) k) 1)) row =
-        get_or-zip2 f_and wide (replicate 8 row) i 0 0 0 in_wide lt ∙ (rw (wide_at, get_or-replicate 8 i row 0 lt) refl) in
-        let joined_at : get_or (zip2 f_or acc all) i 0 ≡ f_or (get_or acc i 0) (f_and (f_sub 0 (f_and (f_shr (get_or select i 0) k) 1)) row) =
-        get_or-zip2 f_or acc all i 0 0 0 in_acc in_all ∙ (rw all_at refl) in
-        rw joined_at (Bit-spread (get_or acc i 0) (get_or select i 0) k row b fits)
+        let met_at : get_or met i 0 ≡ bit_and (get_or select i 0) bit =
+        get_or-zip2 bit_and select (replicate 8 bit) i 0 0 0 in_select lt ∙ ap (bit_and (get_or select i 0)) (get_or-replicate 8 i bit 0 lt) in
+        let unset_at : get_or unset i false ≡ eqb (bit_and (get_or select i 0) bit) 0 =
+        get_or-zip2 eqb met (replicate 8 0) i 0 0 false in_met lt ∙ (rw (met_at, get_or-replicate {A = ℕ} 8 i 0 0 lt) refl) in
+        let all_at : get_or all i 0 ≡ cond (eqb (bit_and (get_or select i 0) bit) 0) 0 row =
+        get_or-sel_l unset (replicate 8 0) (replicate 8 row) i 0 in_unset lt lt ∙ (rw (unset_at, get_or-replicate {A = ℕ} 8 i 0 0 lt, get_or-replicate 8 i row 0 lt) refl) in
+        let joined_at : get_or (zip2 bit_or acc all) i 0 ≡ bit_or (get_or acc i 0) (cond (eqb (bit_and (get_or select i 0) bit) 0) 0 row) =
+        get_or-zip2 bit_or acc all i 0 0 0 in_acc in_all ∙ (rw all_at refl) in
+        rw joined_at (Bit-chosen (get_or acc i 0) (get_or select i 0) k row b small)
 
 pub stored : (rows lanes : List ℕ) (at n : ℕ) → at + n ≡ 128 → 8 ≤ n → length lanes ≡ 8 → length rows ≡ 128 → IsStored rows at lanes (put_mid at n rows (put_chunk 0 (mid_of at n rows) lanes))
 stored rows lanes at n whole room long height = record {

@@ -1,15 +1,11 @@
 -- Laws of relations for the crates above.
-use Rattle.std.proofs.Common.{ℕ, ◌≡◌, ◌<◌, ◌≤◌, ◌+◌, ◌*◌, ◌^◌, ◌↔◌, ◌⊎◌, List, [], ◌∷◌, length, get_or, suc, inl, inr, arith, sym, ap, ◌∙◌, refl}
-use Rattle.std.specs.Int.{bit_at}
-use Rattle.std.proofs.Common.{◌/◌, ◌%◌}
+use Rattle.std.proofs.Common.{ℕ, ◌≡◌, ◌<◌, ◌≤◌, ◌^◌, ◌↔◌, ◌⊎◌, List, [], ◌∷◌, length, get_or, suc, inl, inr, arith, sym, ap, ◌∙◌, refl}
 use Rattle.std.proofs.Math.Nat.{eq-or-lt_of_le}
-use Rattle.std.proofs.lemmas.Bool.{cases_lt}
-use Rattle.std.proofs.lemmas.Nat.Bits.{same_from_bits, bit_at_cat_low, bit_at_above, bit_at-lt}
 use Rattle.std.specs.Int.RustNames.{bit_or}
 use Rattle.std.proofs.lemmas.Nat.{le_or_l}
 use Rattle.std.proofs.lemmas.List.{ext_get_or}
 use Rattle.bit_relations.specs.Relation.{Relation, IsRegular, Has, Bit, IsWithin, room_in, room_of}
-use Rattle.bit_relations.proofs.Bits.{Bit-or, same_word}
+use Rattle.bit_relations.proofs.Bits.{Bit-or, fits_below, same_word}
 
 -- two regular relations on as many events with the same pairs are one
 pub same_relation : (r s : Relation) → IsRegular r → IsRegular s → r.count ≡ s.count → ((a b : ℕ) → Has r a b ↔ Has s a b) → r ≡ s
@@ -43,32 +39,10 @@ rows_grow (x ∷ xs) (y ∷ ys) e fits within =
       | inr gt ↦ inr (let r : room_in xs ≡ room_in ys = ap room_in same in omega arith)
     ]
 
--- a row whose bits are all below the greatest count fits
-row_fits : (w : ℕ) → ((k : ℕ) → Bit w k → k < 128) → w < 2 ^ 128
-unfolding Bit
-row_fits w below =
-    let e : w ≡ w % 2 ^ 128 = same_from_bits w (w % 2 ^ 128) each in
-    let lt : w % 2 ^ 128 < 2 ^ 128 = omega arith in
-    omega arith
-  where
-    split : w ≡ (w / 2 ^ 128) * 2 ^ 128 + w % 2 ^ 128
-    split = omega arith
-
-    zero_bit : {n : ℕ} → n < 2 → (n ≡ 1 → ⊥) → n ≡ 0
-    zero_bit lt not_one = omega arith
-
-    each : (k : ℕ) → bit_at w k ≡ bit_at (w % 2 ^ 128) k
-    each k = elim (cases_lt k 128) [
-      | inl lt ↦ ap (λ (n : ℕ). bit_at n k) split ∙ bit_at_cat_low (w / 2 ^ 128) 128 (w % 2 ^ 128) k lt
-      | inr ge ↦
-          let high : bit_at (w % 2 ^ 128) k ≡ 0 = bit_at_above (w % 2 ^ 128) 128 k (omega arith) ge in
-          zero_bit (bit_at-lt w k) (λ h. let lt : k < 128 = below k h in omega arith) ∙ sym high
-    ]
-
 -- a relation with the pairs of another is it, or has less room left
 pub grows : (r s : Relation) → IsRegular r → IsRegular s → r.count ≡ s.count → IsWithin r s → (r ≡ s) ⊎ (room_of s < room_of r)
 grows r s p q count within =
-    elim (rows_grow r.rows s.rows (p.height ∙ sym q.height) (λ a. row_fits _ (λ k h. let w = q.within a k h in omega (arith, w.1, q.few))) (λ a b. within a b)) [
+    elim (rows_grow r.rows s.rows (p.height ∙ sym q.height) (λ a. fits_below 128 _ (λ k h. let w = q.within a k h in omega (arith, w.1, q.few))) (λ a b. within a b)) [
       | inl rows ↦ inl (ap (λ (n : ℕ). of_parts n r.rows) count ∙ ap (λ (xs : List ℕ). of_parts s.count xs) rows)
       | inr less ↦ inr less
     ]

@@ -1,5 +1,5 @@
 -- Words of bits as pairs.
-use Rattle.std.specs.Prelude.{ℕ, ◌≡◌, ◌<◌, ◌≤◌, ◌+◌, ◌^◌, ◌↔◌, ◌⊎◌, List, length, slice_index}
+use Rattle.std.specs.Prelude.{ℕ, ◌≡◌, ◌<◌, ◌≤◌, ◌+◌, ◌-◌, ◌^◌, ◌↔◌, ◌⊎◌, List, length, slice_index}
 use Rattle.bit_relations.specs.Relation.{Bit}
 
 abbrev pub RowsHave : List ℕ → ℕ → ℕ → Type 0
@@ -74,3 +74,7 @@ AreLanesJoined acc select k row result =
 pub record IsStored (old : List ℕ) (at : ℕ) (lanes new : List ℕ) : Type 0 where
   pub inside : (i : ℕ) → i < 8 → slice_index new (at + i) ≡ slice_index lanes i
   pub outside : (a : ℕ) → (a < at) ⊎ (at + 8 ≤ a) → slice_index new a ≡ slice_index old a
+
+-- the bits of sixteen rows: those of `own` are the rows from `at` on, where `at` is 0 or 8, and those of `other` the rest
+abbrev pub Sixteen : ℕ → List ℕ → List ℕ → ℕ → ℕ → Type 0
+Sixteen at own other a b = ((j : ℕ) × (j < 8) × (a ≡ at + j) × RowsHave own j b) ⊎ ((j : ℕ) × (j < 8) × (a ≡ 8 - at + j) × RowsHave other j b)

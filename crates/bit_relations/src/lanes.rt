@@ -1,6 +1,7 @@
 //! Kernels that take eight words at a time, for blocks of 64 by 64 bits.
-ghost use Rattle.std.specs.Prelude.{◌≡◌, ℕ, ◌<◌, ◌≤◌, ◌+◌, ◌*◌, ◌↔◌, length, slice_index};
-ghost use Rattle.bit_relations.specs.Rows.{RowsHave, AreWritten, Taken, AreLanesJoined, IsStored, JoinedFrom};
+ghost use Rattle.std.specs.Prelude.{◌≡◌, ℕ, ◌<◌, ◌≤◌, ◌+◌, ◌*◌, ◌↔◌, ◌⊎◌, List, length, slice_index};
+ghost use Rattle.bit_relations.specs.Pairs.{Plus, PlusBelow};
+ghost use Rattle.bit_relations.specs.Rows.{RowsHave, AllFit, AreWritten, Taken, AreLanesJoined, IsStored, JoinedFrom, Sixteen};
 
 use crate::words::MAX_EVENTS;
 use std::simd::prelude::*;
@@ -12,8 +13,8 @@ pub fn join(acc: u64x8, select: u64x8, k: u32, row: u64) -> u64x8
     ensures count { length result ≡ 8 }
     ensures lanes { AreLanesJoined acc select k row result }
 {
-    let ones = (select >> u64x8::splat(k as u64)) & u64x8::splat(1);
-    acc | ((u64x8::splat(0) - ones) & u64x8::splat(row))
+    let unset = (select & u64x8::splat(1 << k)).simd_eq(u64x8::splat(0));
+    acc | unset.select(u64x8::splat(0), u64x8::splat(row))
 }
 
 /// The eight words from a place on.
@@ -55,6 +56,53 @@ pub(crate) fn join_own(words: &mut [u64; MAX_EVENTS], k: usize, word: u64, block
         let lanes = load(words, 8 * block);
         let joined = join(lanes, lanes, k as u32, word);
         store(words, 8 * block, joined);
+    }
+}
+
+/// Takes the events of eight rows, `own`, as middles, one after another: those from `at` on, as many as `end` says. Each of
+/// sixteen rows that leads to a middle gets the middle's row.
+fn close_eight(own: u64x8, other: u64x8, at: usize, end: usize) -> (u64x8, u64x8)
+    requires place { (at ≡ 0) ⊎ (at ≡ 8) }
+    requires few { end ≤ 8 }
+    ensures own { length result.0 ≡ 8 }
+    ensures other { length result.1 ≡ 8 }
+    ensures pairs { (rows : List ℕ) → ((a b : ℕ) → Sixteen at own other a b ↔ PlusBelow (RowsHave rows) at a b) → (a b : ℕ) → Sixteen at result.0 result.1 a b ↔ PlusBelow (RowsHave rows) (at + end) a b }
+{
+    let mut these = own;
+    let mut those = other;
+    for k in 0..end {
+        let row = these[k];
+        let middle = (at + k) as u32;
+        these = join(these, these, middle, row);
+        those = join(those, those, middle, row);
+    }
+    (these, those)
+}
+
+/// Writes the first sixteen words.
+fn store_sixteen(words: &mut [u64; MAX_EVENTS], first: u64x8, second: u64x8)
+    ensures { AreWritten words.old words.new 16 (Sixteen 0 first second) }
+{
+    store(words, 0, first);
+    store(words, 8, second);
+}
+
+/// Closes at most sixteen rows of one word over paths of one step or more.
+pub(crate) fn close_sixteen(words: &mut [u64; MAX_EVENTS], count: usize)
+    requires few { count ≤ 16 }
+    requires within { (a b : ℕ) → RowsHave words.old a b → (a < count) × (b < count) }
+    ensures height { length words.new ≡ 128 }
+    ensures fits { AllFit words.new }
+    ensures pairs { (a b : ℕ) → RowsHave words.new a b ↔ Plus (RowsHave words.old) a b }
+{
+    let first = load(words, 0);
+    let second = load(words, 8);
+    let early = close_eight(first, second, 0, count.min(8));
+    if count > 8 {
+        let late = close_eight(early.1, early.0, 8, count - 8);
+        store_sixteen(words, late.1, late.0);
+    } else {
+        store_sixteen(words, early.0, early.1);
     }
 }
 

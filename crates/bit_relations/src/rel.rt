@@ -16,9 +16,9 @@ use std::marker::Model;
 /// A relation between the events below a count.
 #[derive(Clone, Copy)]
 pub struct Rel {
-    count: usize,
     low: [u64; MAX_EVENTS],
     high: [u64; MAX_EVENTS],
+    count: usize,
 }
 
 impl Model for Rel {
@@ -54,9 +54,9 @@ impl Rel {
         requires { count ≤ 128 }
         ensures { IsRelation result count (Identity count) }
     {
-        let mut made = Rel::empty(count);
-        made.add_identity();
-        made
+        let mut diagonal = Rel::empty(count);
+        diagonal.add_identity();
+        diagonal
     }
 
     /// The pairs from an event of one set to an event of another.
@@ -189,9 +189,9 @@ impl Rel {
     pub fn opt(&self) -> Rel
         ensures { IsRelation result self.now.count (Opt self.now.count (Has self.now)) }
     {
-        let mut made = *self;
-        made.add_identity();
-        made
+        let mut reflexive = *self;
+        reflexive.add_identity();
+        reflexive
     }
 
     /// Its pairs with both ends in a set.

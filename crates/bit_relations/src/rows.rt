@@ -4,7 +4,7 @@ ghost use Rattle.bit_relations.specs.Relation.{Bit, wide, AreColumns};
 ghost use Rattle.bit_relations.specs.Rows.{RowsHave, AreWritten, AllFit, JoinedBelow, Inverted, Through};
 ghost use Rattle.bit_relations.specs.Pairs.{Plus, IsAcyclic};
 
-use crate::lanes::{blocks_of, join_block, join_both, join_own};
+use crate::lanes::{blocks_of, close_sixteen, join_block, join_both, join_own};
 use crate::word::{has_event, in_high, in_low, taken, with_bit};
 use crate::words::{MAX_EVENTS, is_diagonal_free};
 
@@ -89,8 +89,8 @@ pub fn compose(
     }
 }
 
-/// Closes rows of one word over paths of one step or more.
-fn close_low(low: &mut [u64; MAX_EVENTS], count: usize)
+/// Closes rows of one word over paths of one step or more, with one event after another in the middle.
+fn close_blocks(low: &mut [u64; MAX_EVENTS], count: usize)
     requires few { count ≤ 64 }
     requires within { (a b : ℕ) → RowsHave low.old a b → (a < count) × (b < count) }
     ensures height { length low.new ≡ 128 }
@@ -103,6 +103,21 @@ fn close_low(low: &mut [u64; MAX_EVENTS], count: usize)
         if row != 0 {
             join_own(low, middle, row, blocks);
         }
+    }
+}
+
+/// Closes rows of one word over paths of one step or more.
+fn close_low(low: &mut [u64; MAX_EVENTS], count: usize)
+    requires few { count ≤ 64 }
+    requires within { (a b : ℕ) → RowsHave low.old a b → (a < count) × (b < count) }
+    ensures height { length low.new ≡ 128 }
+    ensures fits { AllFit low.new }
+    ensures pairs { (a b : ℕ) → RowsHave low.new a b ↔ Plus (RowsHave low.old) a b }
+{
+    if count <= 8 || count > 16 {
+        close_blocks(low, count);
+    } else {
+        close_sixteen(low, count);
     }
 }
 

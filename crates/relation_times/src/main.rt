@@ -187,16 +187,41 @@ fn time_plain<R: Clock>(
     Ok(least)
 }
 
+/// How often a call is repeated before the clock is read again.
+fn calls_of(count: usize, is_timed: bool) -> u32 {
+    if is_timed {
+        2000 / (count.min(128) as u32 + 1) + 1
+    } else {
+        1
+    }
+}
+
+fn show_times<R: Print>(
+    rt: &R,
+    name: &str,
+    count: usize,
+    calls: u32,
+    lanes: &Timing,
+    plain: &Timing,
+) -> io::Result<()> {
+    let each = u128::from(calls).max(1);
+    println!(rt;
+        "| {name} | {count} | {} | {} | {} | {} | {} | {} |",
+        lanes.compose / each,
+        plain.compose / each,
+        lanes.plus / each,
+        plain.plus / each,
+        lanes.acyclic / each,
+        plain.acyclic / each
+    )
+}
+
 fn show<R: Clock + Print>(rt: &R, shape: Shape, count: usize, is_timed: bool) -> io::Result<()>
     requires { count ≤ 128 }
 {
     let name = shape.name();
     let both = relations(shape, count);
-    let calls = if is_timed {
-        2000 / (count as u32 + 1) + 1
-    } else {
-        1
-    };
+    let calls = calls_of(count, is_timed);
     let turns = if is_timed { TURNS } else { 1 };
     let mut composed = Rel::empty(count);
     let mut closed = Rel::empty(count);
@@ -219,16 +244,7 @@ fn show<R: Clock + Print>(rt: &R, shape: Shape, count: usize, is_timed: bool) ->
         lanes.is_acyclic
     )?;
     if is_timed {
-        let each = u128::from(calls).max(1);
-        println!(rt;
-            "| {name} | {count} | {} | {} | {} | {} | {} | {} |",
-            lanes.compose / each,
-            plain.compose / each,
-            lanes.plus / each,
-            plain.plus / each,
-            lanes.acyclic / each,
-            plain.acyclic / each
-        )?;
+        show_times(rt, name, count, calls, &lanes, &plain)?;
     }
     Ok(())
 }

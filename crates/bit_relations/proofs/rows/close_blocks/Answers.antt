@@ -1,8 +1,8 @@
 use Rattle.std.proofs.Common.{arith, ◌∙◌}
 use Rattle.bit_relations.proofs.Closing.{step_low, passed_low}
 use Rattle.bit_relations.proofs.Paths.{PlusBelow-zero, PlusBelow-all}
-use Rattle.bit_relations.proofs.rows.close_low.Goals as goal
-use Rattle.bit_relations.proofs.rows.close_low.Goals.{then-row-ne0, else-row-ne0}
+use Rattle.bit_relations.proofs.rows.close_blocks.Goals as goal
+use Rattle.bit_relations.proofs.rows.close_blocks.Goals.{then-row-ne0, else-row-ne0}
 
 pub loop-middle-init : goal.loop-middle-init
 loop-middle-init c = (c.told-low, c.fits-low, λ a b. PlusBelow-zero _ a b)
