@@ -15,10 +15,3 @@ pub use packed::PackedRelations;
 pub use rel::Rel;
 pub use set::EventSet;
 pub use words::MAX_EVENTS;
-
-#[cfg(test)]
-mod lists;
-#[cfg(test)]
-mod packed_tests;
-#[cfg(test)]
-mod tests;

@@ -1,7 +1,7 @@
 //! The operations against a plain program over lists of pairs.
 ghost use Rattle.std.specs.Prelude.{◌≡◌, ◌≤◌};
 
-use crate::{EventSet, Rel};
+use bit_relations::{EventSet, Rel};
 use std::alloc::{AllocError, Global};
 use std::process::Abort;
 use std::test::Fail;

@@ -1,7 +1,7 @@
 //! Tests of packed lists.
 ghost use Rattle.std.specs.Prelude.{◌≤◌};
 
-use super::*;
+use bit_relations::{PackedRelations, Rel};
 use std::alloc::{AllocError, Global};
 use std::process::Abort;
 use std::test::Fail;

@@ -1,6 +1,6 @@
 ghost use Rattle.std.specs.Prelude.{◌≡◌, ◌≤◌};
 
-use super::*;
+use bit_relations::Rel;
 use std::process::Abort;
 use std::test::Fail;
 
