@@ -1,14 +1,15 @@
 -- One more name of a group.
-use Rattle.std.proofs.Common.{ℕ, ◌≡◌, ◌<◌, ◌+◌, List, [], ◌∷◌, ◌++◌, length, map, reverse, drop, get_or, refl, add-one}
+use Rattle.std.proofs.Common.{ℕ, ◌≡◌, ◌<◌, ◌+◌, List, [], ◌∷◌, ◌++◌, length, map, reverse, drop, get_or, refl, add-one, take, ◌≤◌, arith, ap, length-take}
+use Rattle.std.proofs.lemmas.List.{take-append-le}
 use Rattle.std.proofs.Math.Seq.{drop-cons}
 use Rattle.cat_values.specs.declared.model.Binding.{Binding}
-use Rattle.binding_graph.specs.declared.scope.Entry.{Entry}
-use Rattle.binding_graph.specs.declared.scope.Binder.TheVariants as binders
-use Rattle.binding_graph.specs.declared.resolved.Kind.TheVariants.{OfRelation}
-use Rattle.binding_graph.specs.Value.{Naming, entry_of, bound_of, term_of, IsPlain, ArePlain}
-use Rattle.binding_graph.specs.Kinds.{kind}
-use Rattle.binding_graph.specs.Faults.{with_own, with_all}
-use Rattle.binding_graph.proofs.Scopes.{rev_push}
+use Rattle.binding_kinds.specs.declared.scope.Entry.{Entry}
+use Rattle.binding_kinds.specs.declared.scope.Binder.TheVariants as binders
+use Rattle.binding_kinds.specs.declared.kinds.Kind.TheVariants.{OfRelation}
+use Rattle.binding_kinds.specs.Value.{Naming, entry_of, bound_of, term_of, IsPlain, ArePlain}
+use Rattle.binding_kinds.specs.Kinds.{kind}
+use Rattle.binding_kinds.specs.Faults.{with_own, with_all}
+use Rattle.binding_kinds.proofs.Scopes.{rev_push}
 
 -- one more recursive name
 pub own_more : (g : List Binding) (i item : ℕ) (d : Binding) (s : List Entry) (e : Entry) → i < length g → e.name ≡ (get_or g i d).name → e.kind ≡ OfRelation → e.binder ≡ binders.Bound (record { item = item; position = i }) → with_own (reverse (map entry_of s)) item i (map bound_of (drop i g)) ≡ with_own (reverse (map entry_of (s ++ e ∷ []))) item (i + 1) (map bound_of (drop (i + 1) g))
@@ -21,3 +22,10 @@ all_more outer g i item d s e lt name k b = rw (drop-cons g i d lt, rev_push ent
 -- the next body, and those behind it
 pub plain_more : (g : List Binding) (i : ℕ) (d : Binding) → i < length g → ArePlain (map bound_of (drop i g)) → IsPlain (term_of (get_or g i d).body) × ArePlain (map bound_of (drop (i + 1) g))
 plain_more g i d lt h = rw (add-one i) (rw (drop-cons g i d lt) at h)
+
+at_most : {X : Type 0} (a b : List X) → take (length a) b ≡ a → length a ≤ length b
+at_most a b e = omega (arith, ap length e, length-take (length a) b)
+
+-- what was there stays with one more at the end
+pub kept_more : {X : Type 0} (old now new : List X) (x : X) → take (length old) now ≡ old → new ≡ now ++ x ∷ [] → take (length old) new ≡ old
+kept_more old now new x kept is = let le : length old ≤ length now = at_most old now kept in rw (is, take-append-le (length old) now (x ∷ []) le) kept

@@ -1,5 +1,7 @@
-pub mod Scopes
-pub mod First
-pub mod FirstGroup
-pub mod FirstItem
 pub mod Grown
+pub mod Indexed
+pub mod Meant
+pub mod Lowered
+pub mod Bodies
+pub mod Done
+pub mod Answered

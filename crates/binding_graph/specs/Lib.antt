@@ -1,7 +1,7 @@
-pub mod Value
-pub mod Kinds
-pub mod Faults
-pub mod Verdict
-pub mod Seen
-pub mod Numbers
 pub mod Trees
+pub mod Inputs
+pub mod Meaning
+pub mod Lowering
+pub mod Resolved
+pub mod Stacks
+pub mod Refusals

@@ -1,35 +1,32 @@
 //! The names that an item adds, and its first fault.
 
-ghost use Rattle.std.specs.Prelude.{◌≡◌, IfOk, OnOk, reverse, map, length, false};
-ghost use Rattle.binding_graph.specs.Value.{entry_of, bound_of, clause_of, term_of, IsPlain, ArePlain, IsPlainClause};
-ghost use Rattle.binding_graph.specs.Kinds.{kind, takes_body};
-ghost use Rattle.binding_graph.specs.Faults.{with_own, with_all, extended};
-ghost use Rattle.binding_graph.specs.Verdict.{first_of, first_of_item, or_else, unless};
+ghost use Rattle.std.specs.Prelude.{◌≡◌, IfOk, OnOk, reverse, map, length, take, false};
+ghost use Rattle.binding_kinds.specs.Value.{entry_of, bound_of, clause_of, term_of, IsPlain, ArePlain, IsPlainClause};
+ghost use Rattle.binding_kinds.specs.Kinds.{kind, takes_body};
+ghost use Rattle.binding_kinds.specs.Faults.{with_own, with_all, extended};
+ghost use Rattle.binding_kinds.specs.Verdict.{first_of, first_of_item, or_else, unless};
 
-use crate::column::signatures;
 use crate::expand::expand;
-use crate::fault::ModelFault;
-use crate::function::{Function, count_parts};
-use crate::judge::{group_fault, judge, or_else, parameter_fault, unless};
-use crate::kinds::takes_body;
-use crate::plan::{Plan, Sight};
-use crate::resolved::{Input, Kind};
-use crate::scope::{Binder, Entry, Scope};
-use crate::signature::Signature;
+use crate::plan::Plan;
 use crate::uses::Uses;
+use binding_kinds::{
+    Binder, Entry, Function, Input, Kind, ModelFault, Scope, Sight, Signature, count_parts,
+    group_fault, judge, or_else, parameter_fault, signatures, takes_body, unless,
+};
 use cat_values::{Binding, Check, Expression, Item};
 use source_text::Name;
 use std::alloc::{AllocError, Global};
 
 /// Adds the names of a recursive group.
-#[tactic(auto, using(crate::proofs::Scopes::rev_push))]
+#[tactic(auto, using(binding_kinds::proofs::Scopes::rev_push))]
 fn declare_own(
     alloc: Global,
     entries: &mut Vec<Entry>,
     item: usize,
     group: &[Binding],
 ) -> Result<(), AllocError>
-    ensures { OnOk result (reverse (map entry_of entries.new.items) ≡ with_own (reverse (map entry_of entries.old.items)) item 0 (map bound_of group.now)) }
+    ensures kept { OnOk result (take (length entries.old.items) entries.new.items ≡ entries.old.items) }
+    ensures names { OnOk result (reverse (map entry_of entries.new.items) ≡ with_own (reverse (map entry_of entries.old.items)) item 0 (map bound_of group.now)) }
 {
     for (position, binding) in group.iter().enumerate() {
         entries.push(Entry {
@@ -42,7 +39,7 @@ fn declare_own(
 }
 
 /// Adds the names of a group whose bodies see the names before it.
-#[tactic(auto, using(crate::proofs::Scopes::rev_push))]
+#[tactic(auto, using(binding_kinds::proofs::Scopes::rev_push))]
 fn declare_all(
     alloc: Global,
     entries: &mut Vec<Entry>,
@@ -50,7 +47,8 @@ fn declare_all(
     item: usize,
     group: &[Binding],
 ) -> Result<(), AllocError>
-    ensures { ArePlain (map bound_of group.now) → OnOk result (reverse (map entry_of entries.new.items) ≡ with_all (reverse (map entry_of entries.old.items)) (reverse (map entry_of entries.old.items)) item 0 (map bound_of group.now)) }
+    ensures kept { OnOk result (take (length entries.old.items) entries.new.items ≡ entries.old.items) }
+    ensures names { ArePlain (map bound_of group.now) → OnOk result (reverse (map entry_of entries.new.items) ≡ with_all (reverse (map entry_of entries.old.items)) (reverse (map entry_of entries.old.items)) item 0 (map bound_of group.now)) }
 {
     let before = entries.len();
     for (position, binding) in group.iter().enumerate() {
@@ -81,6 +79,7 @@ pub fn item_fault(
     item: &Item,
 ) -> Result<Option<ModelFault>, AllocError>
     ensures fault { IsPlainClause (clause_of item.now) → IfOk result (λ f. f ≡ first_of_item (reverse (map entry_of scope.old.entries.items)) place (clause_of item.now)) }
+    ensures kept { IsPlainClause (clause_of item.now) → OnOk result (take (length scope.old.entries.items) scope.new.entries.items ≡ scope.old.entries.items) }
     ensures names { IsPlainClause (clause_of item.now) → OnOk result (reverse (map entry_of scope.new.entries.items) ≡ extended (reverse (map entry_of scope.old.entries.items)) place (clause_of item.now)) }
 {
     let from = scope.entries.len();
@@ -175,7 +174,7 @@ fn function_of(
         expansion.into_pieces()
     };
     let (constant, factors) = count_parts(&template);
-    let (slots, functions) = uses.into_lists();
+    let (values, functions) = uses.into_lists();
     Ok(Function {
         item: place,
         arity,
@@ -185,7 +184,7 @@ fn function_of(
         constant,
         factors,
         signatures,
-        slots,
+        values,
         functions,
     })
 }

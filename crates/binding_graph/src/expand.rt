@@ -1,7 +1,10 @@
 //! Expressions with the functions that they apply put in.
 
-use crate::function::{Function, MAX_SIZE};
-use crate::plan::{Node, Piece};
+ghost use Rattle.std.specs.Prelude.{◌≡◌, [], ◌∷◌, ◌++◌, IfOk, OnOk};
+ghost use Rattle.binding_graph.specs.Lowering.{AreAllPlain, plain_of};
+
+use crate::plan::Node;
+use binding_kinds::{Function, MAX_SIZE, Piece};
 use std::alloc::{AllocError, Global};
 
 /// Where an operand begins.
@@ -35,7 +38,9 @@ fn operands_of(piece: Piece) -> usize {
 }
 
 impl Expansion {
-    fn new(alloc: Global) -> Expansion {
+    fn new(alloc: Global) -> Expansion
+        ensures { result.pieces.items ≡ [] }
+    {
         Expansion {
             pieces: Vec::new(alloc),
             operands: Vec::new(alloc),
@@ -56,7 +61,9 @@ impl Expansion {
         pieces
     }
 
-    fn begin(&mut self, is_oversized: bool) -> Result<(), AllocError> {
+    fn begin(&mut self, is_oversized: bool) -> Result<(), AllocError>
+        ensures { self.new.pieces.items ≡ self.old.pieces.items }
+    {
         self.operands.push(Operand {
             start: self.pieces.len(),
             is_oversized,
@@ -65,7 +72,9 @@ impl Expansion {
     }
 
     /// The last two operands become one.
-    fn join(&mut self) {
+    fn join(&mut self)
+        ensures { self.new.pieces.items ≡ self.old.pieces.items }
+    {
         if let Some(right) = self.operands.pop() {
             if let Some(left) = self.operands.last_mut() {
                 left.is_oversized = left.is_oversized || right.is_oversized;
@@ -73,7 +82,9 @@ impl Expansion {
         }
     }
 
-    fn put(&mut self, piece: Piece) -> Result<(), AllocError> {
+    fn put(&mut self, piece: Piece) -> Result<(), AllocError>
+        ensures { OnOk result (self.new.pieces.items ≡ self.old.pieces.items ++ piece ∷ []) }
+    {
         match operands_of(piece) {
             0 => self.begin(false)?,
             1 => {}
@@ -143,7 +154,9 @@ pub fn expand(
     alloc: Global,
     functions: &[Function],
     nodes: &[Node],
-) -> Result<Expansion, AllocError> {
+) -> Result<Expansion, AllocError>
+    ensures { AreAllPlain nodes.now → IfOk result (λ e. e.pieces.items ≡ plain_of nodes.now) }
+{
     let mut expansion = Expansion::new(alloc);
     for node in nodes {
         match node {

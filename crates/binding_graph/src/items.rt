@@ -1,19 +1,25 @@
 //! The items of a model, one after another.
 
-ghost use Rattle.std.specs.Prelude.{◌≡◌, ◌+◌, vec_len, IfOk, OnOk, MatchResult, reverse, map, length};
-ghost use Rattle.binding_graph.specs.Value.{entry_of, clause_of, ArePlainClauses};
-ghost use Rattle.binding_graph.specs.Faults.{HasNoFault, FirstFault};
-ghost use Rattle.binding_graph.specs.Verdict.{first};
+ghost use Rattle.std.specs.Prelude.{◌≡◌, ◌+◌, ◌≤◌, [], ◌∷◌, ◌++◌, true, false, vec_len, IfOk, OnOk, MatchResult, reverse, map, length, take};
+ghost use Rattle.binding_kinds.specs.Value.{entry_of, clause_of, term_of, bound_of, IsPlain, ArePlain, IsPlainClause, ArePlainClauses};
+ghost use Rattle.binding_kinds.specs.Faults.{HasNoFault, FirstFault};
+ghost use Rattle.binding_kinds.specs.Verdict.{first};
+ghost use Rattle.binding_kinds.specs.Fits.{IsFit, AreFit, IsFitClause, AreKnown};
+ghost use Rattle.binding_kinds.specs.Outermost.{naming_of};
+ghost use Rattle.binding_graph.specs.Refusals.{IfRefused};
+ghost use Rattle.binding_graph.specs.Inputs.{IsIndexed, with_uses, with_all_uses, inputs_of};
+ghost use Rattle.binding_graph.specs.Meaning.{IsCode};
+ghost use Rattle.binding_graph.specs.Resolved.{AreBodies, IsGroup, IsCheck, IsResolvedIn, AreResolved};
 
 use crate::declare::item_fault;
 use crate::expand::expand;
-use crate::fault::{ModelFault, ResolveFault};
+use crate::fault::ResolveFault;
 use crate::lower::lower;
-use crate::plan::{Plan, Sight};
+use crate::plan::Plan;
 use crate::resolved::{Body, CheckCode, Code, Resolved, ResolvedItem, Role};
-use crate::scope::Scope;
-use crate::uses::{Uses, inputs_at, items_of};
-use cat_values::{Binding, Check, Expression, Item, ModelText};
+use crate::uses::{Uses, inputs_of_values, items_of};
+use binding_kinds::{ModelFault, Scope, Sight};
+use cat_values::{Binding, Check, Expression, Item, ModelText, PREDEFINED};
 use source_text::Name;
 use std::alloc::{AllocError, Global};
 
@@ -22,13 +28,28 @@ use std::alloc::{AllocError, Global};
 /// The fault that is answered is the first by item and then by place in the text; at one place
 /// the order is M1, M4, M6, M7, M3, M2, M5.
 pub fn resolve(alloc: Global, text: &ModelText) -> Result<Resolved, ResolveFault>
-    ensures { IfOk result (λ r. vec_len r.items ≡ vec_len text.now.items) }
+    ensures whole { IfOk result (λ r. vec_len r.items ≡ vec_len text.now.items) }
+    ensures fault { let names = reverse (map naming_of PREDEFINED) in let clauses = map clause_of text.now.items.items in ArePlainClauses clauses → MatchResult result (λ _. HasNoFault names 0 clauses) (λ e. IfRefused e (λ k. FirstFault names 0 clauses k)) }
+    ensures items { let names = reverse (map naming_of PREDEFINED) in let clauses = map clause_of text.now.items.items in ArePlainClauses clauses → IfOk result (λ r. AreResolved names 0 clauses r.items.items) }
+{
+    match resolve_all(alloc, &text.items) {
+        Ok(Ok(items)) => Ok(Resolved { items }),
+        Ok(Err(fault)) => Err(ResolveFault::Refused(fault)),
+        Err(error) => Err(ResolveFault::OutOfMemory(error)),
+    }
+}
+
+/// The items of a model resolved, or the first fault.
+fn resolve_all(
+    alloc: Global,
+    items: &[Item],
+) -> Result<Result<Vec<ResolvedItem>, ModelFault>, AllocError>
+    ensures fault { let names = reverse (map naming_of PREDEFINED) in ArePlainClauses (map clause_of items.now) → IfOk result (λ r. MatchResult r (λ _. HasNoFault names 0 (map clause_of items.now)) (λ k. FirstFault names 0 (map clause_of items.now) k)) }
+    ensures whole { IfOk result (λ r. IfOk r (λ v. vec_len v ≡ length items.now)) }
+    ensures items { let names = reverse (map naming_of PREDEFINED) in ArePlainClauses (map clause_of items.now) → IfOk result (λ r. IfOk r (λ v. AreResolved names 0 (map clause_of items.now) v.items)) }
 {
     let mut scope = Scope::new(alloc)?;
-    match resolve_items(alloc, &mut scope, &text.items)? {
-        Ok(items) => Ok(Resolved { items }),
-        Err(fault) => Err(ResolveFault::Refused(fault)),
-    }
+    resolve_items(alloc, &mut scope, items)
 }
 
 /// The items resolved, or the first fault.
@@ -39,6 +60,7 @@ fn find_items(
 ) -> Result<(Vec<ResolvedItem>, Option<ModelFault>), AllocError>
     ensures fault { ArePlainClauses (map clause_of items.now) → IfOk result (λ r. r.1 ≡ first (reverse (map entry_of scope.old.entries.items)) 0 (map clause_of items.now)) }
     ensures whole { IfOk result (λ r. r.1 ≡ None → vec_len r.0 ≡ length items.now) }
+    ensures items { let names = reverse (map entry_of scope.old.entries.items) in AreKnown names → ArePlainClauses (map clause_of items.now) → IfOk result (λ r. r.1 ≡ None → AreResolved names 0 (map clause_of items.now) r.0.items) }
 {
     let mut resolved = Vec::new(alloc);
     for (place, item) in items.iter().enumerate() {
@@ -61,6 +83,7 @@ pub fn resolve_items(
 ) -> Result<Result<Vec<ResolvedItem>, ModelFault>, AllocError>
     ensures fault { ArePlainClauses (map clause_of items.now) → IfOk result (λ r. MatchResult r (λ _. HasNoFault (reverse (map entry_of scope.old.entries.items)) 0 (map clause_of items.now)) (λ k. FirstFault (reverse (map entry_of scope.old.entries.items)) 0 (map clause_of items.now) k)) }
     ensures whole { IfOk result (λ r. IfOk r (λ v. vec_len v ≡ length items.now)) }
+    ensures items { let names = reverse (map entry_of scope.old.entries.items) in AreKnown names → ArePlainClauses (map clause_of items.now) → IfOk result (λ r. IfOk r (λ v. AreResolved names 0 (map clause_of items.now) v.items)) }
 {
     let (resolved, fault) = find_items(alloc, scope, items)?;
     match fault {
@@ -70,13 +93,17 @@ pub fn resolve_items(
 }
 
 fn push_item(items: &mut Vec<ResolvedItem>, item: ResolvedItem) -> Result<(), AllocError>
-    ensures { OnOk result (vec_len items.new ≡ vec_len items.old + 1) }
+    ensures count { OnOk result (vec_len items.new ≡ vec_len items.old + 1) }
+    ensures items { OnOk result (items.new.items ≡ items.old.items ++ item ∷ []) }
 {
     items.push(item)?;
     Ok(())
 }
 
-fn silent(alloc: Global) -> ResolvedItem {
+fn silent(alloc: Global) -> ResolvedItem
+    ensures role { result.role ≡ Role.Silent }
+    ensures inputs { result.inputs.items ≡ [] }
+{
     ResolvedItem {
         role: Role::Silent,
         inputs: Vec::new(alloc),
@@ -94,12 +121,14 @@ fn lower_item(
     scope: &Scope,
     from: usize,
     item: &Item,
-) -> Result<ResolvedItem, AllocError> {
+) -> Result<ResolvedItem, AllocError>
+    ensures { let names = reverse (map entry_of (take from scope.now.entries.items)) in let own = reverse (map entry_of scope.now.entries.items) in from ≤ vec_len scope.now.entries → IsPlainClause (clause_of item.now) → IsFitClause names own (clause_of item.now) → IfOk result (λ r. IsResolvedIn names own from (clause_of item.now) r) }
+{
     match item {
         Item::Let { recursive, group } => lower_group(alloc, scope, from, *recursive, group),
-        Item::Check { check, .. } => lower_check(alloc, scope, check, None),
+        Item::Check { check, .. } => lower_check(alloc, scope, from, check, None),
         Item::Flag { check, label } => {
-            lower_check(alloc, scope, check, copied_label(alloc, label)?)
+            lower_check(alloc, scope, from, check, copied_label(alloc, label)?)
         }
         Item::Function { .. } => lower_function(alloc, scope),
         Item::Show { .. } => Ok(silent(alloc)),
@@ -113,21 +142,26 @@ fn lower_function(alloc: Global, scope: &Scope) -> Result<ResolvedItem, AllocErr
         None => Ok(silent(alloc)),
         Some(function) => Ok(ResolvedItem {
             role: Role::Silent,
-            inputs: inputs_at(alloc, &scope.entries, &function.slots)?,
+            inputs: inputs_of_values(alloc, &function.values)?,
             functions: items_of(alloc, &scope.functions, &function.functions)?,
         }),
     }
 }
 
 /// The names that a body sees of which the item's own begin at that slot.
-fn sight_of(scope: &Scope, from: usize, recursive: bool) -> Sight<'_> {
+fn sight_of(scope: &Scope, from: usize, recursive: bool) -> Sight<'_>
+    ensures all { recursive ≡ true → result.entries.now ≡ scope.now.entries.items }
+    ensures before { recursive ≡ false → from ≤ vec_len scope.now.entries → result.entries.now ≡ take from scope.now.entries.items }
+    ensures parameters { result.parameters.now ≡ [] }
+    ensures from { result.from ≡ from }
+{
     let all = scope.entries.as_slice();
-    let entries = match all.get(..from) {
-        Some(before) if !recursive => before,
-        _ => all,
-    };
     Sight {
-        entries,
+        entries: if recursive || from > all.len() {
+            all
+        } else {
+            &all[..from]
+        },
         functions: &scope.functions,
         parameters: &[],
         from,
@@ -140,11 +174,37 @@ fn code_of(
     sight: &Sight,
     term: &Expression,
     uses: &mut Uses,
-) -> Result<Code, AllocError> {
+) -> Result<Code, AllocError>
+    ensures code { sight.now.parameters.now ≡ [] → IsPlain (term_of term.now) → IsIndexed uses.old.places.items uses.old.values.items → length sight.now.entries.now ≤ vec_len uses.old.places → IsFit (reverse (map entry_of sight.now.entries.now)) (term_of term.now) → IfOk result (λ c. IsCode (reverse (map entry_of sight.now.entries.now)) (reverse uses.new.values.items) sight.now.from (term_of term.now) c) }
+    ensures uses { sight.now.parameters.now ≡ [] → IsPlain (term_of term.now) → IsIndexed uses.old.places.items uses.old.values.items → length sight.now.entries.now ≤ vec_len uses.old.places → OnOk result (reverse uses.new.values.items ≡ with_uses (reverse (map entry_of sight.now.entries.now)) sight.now.from (term_of term.now) (reverse uses.old.values.items)) }
+    ensures indexed { sight.now.parameters.now ≡ [] → IsPlain (term_of term.now) → IsIndexed uses.old.places.items uses.old.values.items → length sight.now.entries.now ≤ vec_len uses.old.places → OnOk result (IsIndexed uses.new.places.items uses.new.values.items) }
+    ensures places { sight.now.parameters.now ≡ [] → IsPlain (term_of term.now) → IsIndexed uses.old.places.items uses.old.values.items → length sight.now.entries.now ≤ vec_len uses.old.places → OnOk result (vec_len uses.new.places ≡ vec_len uses.old.places) }
+{
     let mut plan = Plan::new(alloc);
     plan.put_term(sight, false, term, uses)?;
     let expansion = expand(alloc, sight.functions, &plan.nodes)?;
-    lower(alloc, sight.entries, uses, sight.from, &expansion.pieces)
+    lower(alloc, uses, sight.from, &expansion.pieces)
+}
+
+/// The steps of the bodies of a group.
+fn lower_bodies(
+    alloc: Global,
+    sight: &Sight,
+    group: &[Binding],
+    uses: &mut Uses,
+) -> Result<Vec<Body>, AllocError>
+    ensures bodies { sight.now.parameters.now ≡ [] → ArePlain (map bound_of group.now) → AreFit (reverse (map entry_of sight.now.entries.now)) (map bound_of group.now) → IsIndexed uses.old.places.items uses.old.values.items → length sight.now.entries.now ≤ vec_len uses.old.places → IfOk result (λ v. AreBodies (reverse (map entry_of sight.now.entries.now)) sight.now.from (reverse uses.old.values.items) (map bound_of group.now) v.items) }
+    ensures uses { sight.now.parameters.now ≡ [] → ArePlain (map bound_of group.now) → AreFit (reverse (map entry_of sight.now.entries.now)) (map bound_of group.now) → IsIndexed uses.old.places.items uses.old.values.items → length sight.now.entries.now ≤ vec_len uses.old.places → OnOk result (reverse uses.new.values.items ≡ with_all_uses (reverse (map entry_of sight.now.entries.now)) sight.now.from (map bound_of group.now) (reverse uses.old.values.items)) }
+{
+    let mut bodies = Vec::new(alloc);
+    for binding in group {
+        let code = code_of(alloc, sight, &binding.body, uses)?;
+        bodies.push(Body {
+            name: binding.name.copied(alloc)?,
+            code,
+        })?;
+    }
+    Ok(bodies)
 }
 
 /// The steps of a group.
@@ -154,20 +214,16 @@ fn lower_group(
     from: usize,
     recursive: bool,
     group: &[Binding],
-) -> Result<ResolvedItem, AllocError> {
+) -> Result<ResolvedItem, AllocError>
+    ensures all { let names = reverse (map entry_of scope.now.entries.items) in recursive ≡ true → ArePlain (map bound_of group.now) → AreFit names (map bound_of group.now) → IfOk result (λ r. IsGroup names from true (map bound_of group.now) r) }
+    ensures before { let names = reverse (map entry_of (take from scope.now.entries.items)) in recursive ≡ false → from ≤ vec_len scope.now.entries → ArePlain (map bound_of group.now) → AreFit names (map bound_of group.now) → IfOk result (λ r. IsGroup names from false (map bound_of group.now) r) }
+{
     let sight = sight_of(scope, from, recursive);
     let mut uses = Uses::new(alloc, scope)?;
-    let mut bodies = Vec::new(alloc);
-    for binding in group {
-        let code = code_of(alloc, &sight, &binding.body, &mut uses)?;
-        bodies.push(Body {
-            name: binding.name.copied(alloc)?,
-            code,
-        })?;
-    }
+    let bodies = lower_bodies(alloc, &sight, group, &mut uses)?;
     Ok(ResolvedItem {
         role: Role::Group { recursive, bodies },
-        inputs: inputs_at(alloc, &scope.entries, &uses.slots)?,
+        inputs: inputs_of_values(alloc, &uses.values)?,
         functions: items_of(alloc, &scope.functions, &uses.functions)?,
     })
 }
@@ -176,10 +232,13 @@ fn lower_group(
 fn lower_check(
     alloc: Global,
     scope: &Scope,
+    from: usize,
     check: &Check,
     flag: Option<Name>,
-) -> Result<ResolvedItem, AllocError> {
-    let sight = sight_of(scope, scope.entries.len(), false);
+) -> Result<ResolvedItem, AllocError>
+    ensures { let names = reverse (map entry_of (take from scope.now.entries.items)) in from ≤ vec_len scope.now.entries → IsPlain (term_of check.now.body) → IsFit names (term_of check.now.body) → IfOk result (λ r. IsCheck names from check.now.word (term_of check.now.body) r) }
+{
+    let sight = sight_of(scope, from, false);
     let mut uses = Uses::new(alloc, scope)?;
     let code = code_of(alloc, &sight, &check.body, &mut uses)?;
     Ok(ResolvedItem {
@@ -189,7 +248,7 @@ fn lower_check(
             code,
             flag,
         }),
-        inputs: inputs_at(alloc, &scope.entries, &uses.slots)?,
+        inputs: inputs_of_values(alloc, &uses.values)?,
         functions: items_of(alloc, &scope.functions, &uses.functions)?,
     })
 }

@@ -1,29 +1,17 @@
 //! Expressions in postfix order, whose names are resolved.
 
-use crate::fault::ModelFault;
-use crate::function::{Function, MAX_PARAMETERS};
-use crate::kinds::is_turned;
-use crate::scope::{Binder, Entry, find};
+ghost use Rattle.std.specs.Prelude.{◌≡◌, ◌≤◌, List, [], ◌∷◌, ◌++◌, length, map, reverse, vec_len, OnOk};
+ghost use Rattle.binding_kinds.specs.Value.{entry_of, term_of, IsPlain};
+ghost use Rattle.binding_kinds.specs.Kinds.{found};
+ghost use Rattle.binding_graph.specs.declared.plan.Node.{Node};
+ghost use Rattle.binding_graph.specs.Inputs.{IsIndexed, with_name, with_uses};
+ghost use Rattle.binding_graph.specs.Lowering.{piece_of, nodes_of};
+
 use crate::uses::Uses;
-use cat_values::{Expression, Infix, Postfix};
+use binding_kinds::{MAX_PARAMETERS, Meaning, ModelFault, Piece, Sight, is_turned};
+use cat_values::Expression;
 use source_text::Name;
 use std::alloc::{AllocError, Global};
-
-/// A part of an expression without applications, in postfix order.
-#[derive(Clone, Copy, Debug, PartialEq, Eq)]
-pub enum Piece {
-    /// A name, by its slot.
-    Value(usize),
-    /// A parameter of the function whose body it is.
-    Parameter(usize),
-    Everything,
-    NoPairs,
-    NoEvents,
-    Joined(Infix),
-    Marked(Postfix),
-    Complement,
-    Identity,
-}
 
 /// A part of an expression, in postfix order.
 #[derive(Clone, Copy, Debug, PartialEq, Eq)]
@@ -31,17 +19,6 @@ pub enum Node {
     Plain(Piece),
     /// A function of the scope, after its arguments.
     Applied(usize),
-}
-
-/// The names that an expression sees.
-#[derive(Clone, Copy)]
-pub struct Sight<'a> {
-    pub entries: &'a [Entry],
-    pub functions: &'a [Function],
-    /// The parameters of the function whose body it is.
-    pub parameters: &'a [Name],
-    /// The names of the item itself have this slot and those behind it.
-    pub from: usize,
 }
 
 /// An expression in postfix order.
@@ -54,61 +31,10 @@ pub struct Plan {
     pub fault: Option<ModelFault>,
 }
 
-/// The place of the parameter of that name.
-fn parameter(parameters: &[Name], name: &Name) -> Option<usize> {
-    let mut last = None;
-    for (place, one) in parameters.iter().enumerate() {
-        if one.is_same(name) {
-            last = Some(place);
-        }
-    }
-    last
-}
-
-impl Sight<'_> {
-    /// What a name without arguments stands for.
-    pub fn value(&self, name: &Name) -> Result<Piece, ModelFault> {
-        if let Some(place) = parameter(self.parameters, name) {
-            return Ok(Piece::Parameter(place));
-        }
-        match find(self.entries, name) {
-            None => Err(ModelFault::Unbound),
-            Some(found) => match found.binder {
-                Binder::Applicable(_) => Err(ModelFault::Arity),
-                Binder::Predefined(_) => Ok(Piece::Value(found.slot)),
-                Binder::Bound(_) => Ok(Piece::Value(found.slot)),
-            },
-        }
-    }
-
-    /// The function that a name with so many arguments stands for.
-    pub fn function(&self, name: &Name, count: usize) -> Result<usize, ModelFault> {
-        if parameter(self.parameters, name).is_some() {
-            return Err(ModelFault::Arity);
-        }
-        let Some(found) = find(self.entries, name) else {
-            return Err(ModelFault::Unbound);
-        };
-        match found.binder {
-            Binder::Applicable(function) => match self.functions.get(function) {
-                Some(one) if one.arity == count => Ok(function),
-                _ => Err(ModelFault::Arity),
-            },
-            _ => Err(ModelFault::Arity),
-        }
-    }
-
-    /// Whether the function has that parameter under a complement or right of a difference.
-    fn is_under(&self, function: usize, place: usize) -> bool {
-        match self.functions.get(function) {
-            Some(one) => one.is_under(place),
-            None => false,
-        }
-    }
-}
-
 impl Plan {
-    pub fn new(alloc: Global) -> Plan {
+    pub fn new(alloc: Global) -> Plan
+        ensures { result.nodes.items ≡ [] }
+    {
         Plan {
             nodes: Vec::new(alloc),
             under: [false; MAX_PARAMETERS],
@@ -116,17 +42,30 @@ impl Plan {
         }
     }
 
-    fn put(&mut self, node: Node) -> Result<(), AllocError> {
+    fn put(&mut self, node: Node) -> Result<(), AllocError>
+        ensures { OnOk result (self.new.nodes.items ≡ self.old.nodes.items ++ node ∷ []) }
+    {
         self.nodes.push(node)?;
         Ok(())
     }
 
     /// Stands for a name at fault.
-    fn put_fault(&mut self, fault: ModelFault) -> Result<(), AllocError> {
+    fn put_fault(&mut self, fault: ModelFault) -> Result<(), AllocError>
+        ensures { OnOk result (self.new.nodes.items ≡ self.old.nodes.items ++ Node.Plain Piece.NoPairs ∷ []) }
+    {
         if self.fault.is_none() {
             self.fault = Some(fault);
         }
         self.put(Node::Plain(Piece::NoPairs))
+    }
+
+    /// The parameter stands under a complement or not.
+    fn mark_under(&mut self, place: usize, under: bool)
+        ensures { self.new.nodes.items ≡ self.old.nodes.items }
+    {
+        if let Some(mark) = self.under.get_mut(place) {
+            *mark = *mark || under;
+        }
     }
 
     fn put_name(
@@ -135,20 +74,21 @@ impl Plan {
         under: bool,
         name: &Name,
         uses: &mut Uses,
-    ) -> Result<(), AllocError> {
+    ) -> Result<(), AllocError>
+        ensures nodes { sight.now.parameters.now ≡ [] → OnOk result (self.new.nodes.items ≡ self.old.nodes.items ++ Node.Plain (piece_of (found (reverse (map entry_of sight.now.entries.now)) name.now)) ∷ []) }
+        ensures uses { sight.now.parameters.now ≡ [] → IsIndexed uses.old.places.items uses.old.values.items → length sight.now.entries.now ≤ vec_len uses.old.places → OnOk result (reverse uses.new.values.items ≡ with_name (reverse uses.old.values.items) sight.now.from (found (reverse (map entry_of sight.now.entries.now)) name.now)) }
+        ensures indexed { sight.now.parameters.now ≡ [] → IsIndexed uses.old.places.items uses.old.values.items → length sight.now.entries.now ≤ vec_len uses.old.places → OnOk result (IsIndexed uses.new.places.items uses.new.values.items) }
+        ensures places { vec_len uses.new.places ≡ vec_len uses.old.places }
+    {
         match sight.value(name) {
             Err(fault) => self.put_fault(fault),
-            Ok(Piece::Parameter(place)) => {
-                if let Some(mark) = self.under.get_mut(place) {
-                    *mark = *mark || under;
-                }
+            Ok(Meaning::Parameter(place)) => {
+                self.mark_under(place, under);
                 self.put(Node::Plain(Piece::Parameter(place)))
             }
-            Ok(piece) => {
-                if let Piece::Value(slot) = piece {
-                    uses.add_slot(sight, slot)?;
-                }
-                self.put(Node::Plain(piece))
+            Ok(Meaning::Value(found)) => {
+                uses.add_value(sight.from, found)?;
+                self.put(Node::Plain(Piece::Value(found)))
             }
         }
     }
@@ -160,7 +100,12 @@ impl Plan {
         under: bool,
         term: &Expression,
         uses: &mut Uses,
-    ) -> Result<(), AllocError> {
+    ) -> Result<(), AllocError>
+        ensures nodes { sight.now.parameters.now ≡ [] → IsPlain (term_of term.now) → OnOk result ((rest : List Node) → self.new.nodes.items ++ rest ≡ self.old.nodes.items ++ nodes_of (reverse (map entry_of sight.now.entries.now)) (term_of term.now) rest) }
+        ensures uses { sight.now.parameters.now ≡ [] → IsPlain (term_of term.now) → IsIndexed uses.old.places.items uses.old.values.items → length sight.now.entries.now ≤ vec_len uses.old.places → OnOk result (reverse uses.new.values.items ≡ with_uses (reverse (map entry_of sight.now.entries.now)) sight.now.from (term_of term.now) (reverse uses.old.values.items)) }
+        ensures indexed { sight.now.parameters.now ≡ [] → IsPlain (term_of term.now) → IsIndexed uses.old.places.items uses.old.values.items → length sight.now.entries.now ≤ vec_len uses.old.places → OnOk result (IsIndexed uses.new.places.items uses.new.values.items) }
+        ensures places { sight.now.parameters.now ≡ [] → IsPlain (term_of term.now) → vec_len uses.new.places ≡ vec_len uses.old.places }
+    {
         match term {
             Expression::Named(name) => self.put_name(sight, under, name, uses),
             Expression::Everything => self.put(Node::Plain(Piece::Everything)),

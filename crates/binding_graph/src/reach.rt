@@ -2,7 +2,8 @@
 
 ghost use Rattle.std.specs.Prelude.{◌≡◌, ◌<◌, ◌≤◌, [], get_or, length, vec_len, All, IfOk};
 
-use crate::resolved::{Input, Resolved, ResolvedItem, Role};
+use crate::resolved::{Resolved, ResolvedItem, Role};
+use binding_kinds::Input;
 use std::alloc::{AllocError, Global};
 
 /// The names of other items that the item at that place uses, each once, in the order of first

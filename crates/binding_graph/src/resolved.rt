@@ -1,15 +1,8 @@
 //! A model without fault.
 
+use binding_kinds::{Input, Kind};
 use cat_values::{CheckWord, Postfix, Predefined};
 use source_text::Name;
-
-/// Whether an expression is a set of events or a relation, or fits either.
-#[derive(Clone, Copy, Debug, PartialEq, Eq)]
-pub enum Kind {
-    OfSet,
-    OfRelation,
-    OfAny,
-}
 
 /// What a name stands for, where it is used.
 #[derive(Clone, Copy, Debug, PartialEq, Eq)]
@@ -81,13 +74,6 @@ pub enum Role {
     Check(CheckCode),
     /// A function, a `show`, an `unshow` or an `include`.
     Silent,
-}
-
-/// A name of another item: the item's place in the model, and the name's position in its group.
-#[derive(Clone, Copy, Debug, PartialEq, Eq)]
-pub struct Input {
-    pub item: usize,
-    pub position: usize,
 }
 
 /// An item whose names are resolved.

@@ -1,16 +1,16 @@
 //! What an item uses.
 
-use crate::function::Function;
-use crate::plan::Sight;
-use crate::resolved::Input;
-use crate::scope::{Binder, Entry, Scope};
+ghost use Rattle.std.specs.Prelude.{◌≡◌, ◌<◌, [], None, get_or, reverse, map, vec_len, unwrap_or, IfOk, OnOk};
+ghost use Rattle.binding_graph.specs.Inputs.{IsIndexed, place_of, noted, with_found};
+
+use binding_kinds::{Binder, Found, Function, Input, Scope, Sight, Used};
 use std::alloc::{AllocError, Global};
 
 /// The names of other items that an item uses, and the functions that it applies, through others
 /// too, each once, in the order of first use.
 #[derive(Drop)]
 pub struct Uses {
-    pub slots: Vec<usize>,
+    pub values: Vec<Used>,
     pub functions: Vec<usize>,
     /// For each slot its place among those used.
     places: Vec<Option<usize>>,
@@ -20,9 +20,13 @@ pub struct Uses {
 
 impl Uses {
     /// Nothing is used.
-    pub fn new(alloc: Global, scope: &Scope) -> Result<Uses, AllocError> {
+    pub fn new(alloc: Global, scope: &Scope) -> Result<Uses, AllocError>
+        ensures values { IfOk result (λ u. u.values.items ≡ []) }
+        ensures indexed { IfOk result (λ u. IsIndexed u.places.items u.values.items) }
+        ensures places { IfOk result (λ u. vec_len u.places ≡ vec_len scope.now.entries) }
+    {
         let mut places = Vec::new(alloc);
-        for _entry in &scope.entries {
+        'slots: for _entry in &scope.entries {
             places.push(None)?;
         }
         let mut applied = Vec::new(alloc);
@@ -30,44 +34,66 @@ impl Uses {
             applied.push(false)?;
         }
         Ok(Uses {
-            slots: Vec::new(alloc),
+            values: Vec::new(alloc),
             functions: Vec::new(alloc),
             places,
             applied,
         })
     }
 
-    /// The place of the slot among those used.
-    pub fn place_of(&self, slot: usize) -> usize {
+    /// The place of the slot among those used, where it is used.
+    fn place_at(&self, slot: usize) -> Option<usize>
+        ensures { result ≡ get_or self.now.places.items slot None }
+    {
         match self.places.get(slot) {
-            Some(Some(place)) => *place,
-            _ => 0,
+            Some(place) => *place,
+            None => None,
         }
     }
 
-    /// The slot is used, which counts where another item binds its name.
-    pub fn add_slot(&mut self, sight: &Sight, slot: usize) -> Result<(), AllocError> {
-        if slot >= sight.from {
+    /// The place of the slot among those used, or 0.
+    pub fn place_of(&self, slot: usize) -> usize
+        ensures { IsIndexed self.now.places.items self.now.values.items → result ≡ unwrap_or (place_of (reverse self.now.values.items) slot) 0 }
+    {
+        match self.place_at(slot) {
+            Some(place) => place,
+            None => 0,
+        }
+    }
+
+    /// A name is used, which counts where another item binds it: the names of the item itself
+    /// have the slot `from` and those behind it.
+    pub fn add_value(&mut self, from: usize, found: Found) -> Result<(), AllocError>
+        ensures values { IsIndexed self.old.places.items self.old.values.items → found.slot < vec_len self.old.places → OnOk result (reverse self.new.values.items ≡ with_found (reverse self.old.values.items) from found) }
+        ensures indexed { IsIndexed self.old.places.items self.old.values.items → found.slot < vec_len self.old.places → OnOk result (IsIndexed self.new.places.items self.new.values.items) }
+        ensures places { vec_len self.new.places ≡ vec_len self.old.places }
+    {
+        if found.slot >= from {
             return Ok(());
         }
-        match sight.entries.get(slot) {
-            Some(entry) => match entry.binder {
-                Binder::Bound(_) => self.note_slot(slot),
-                Binder::Predefined(_) => Ok(()),
-                Binder::Applicable(_) => Ok(()),
-            },
-            None => Ok(()),
+        match found.binder {
+            Binder::Bound(input) => self.note(Used {
+                slot: found.slot,
+                input,
+            }),
+            Binder::Predefined(_) => Ok(()),
+            Binder::Applicable(_) => Ok(()),
         }
     }
 
-    /// Notes a slot at its first use.
-    fn note_slot(&mut self, slot: usize) -> Result<(), AllocError> {
-        let next = self.slots.len();
-        if let Some(place) = self.places.get_mut(slot) {
-            if place.is_none() {
-                *place = Some(next);
-                self.slots.push(slot)?;
-            }
+    /// Notes a name at its first use.
+    fn note(&mut self, value: Used) -> Result<(), AllocError>
+        ensures values { IsIndexed self.old.places.items self.old.values.items → value.slot < vec_len self.old.places → OnOk result (reverse self.new.values.items ≡ noted (reverse self.old.values.items) value) }
+        ensures indexed { IsIndexed self.old.places.items self.old.values.items → value.slot < vec_len self.old.places → OnOk result (IsIndexed self.new.places.items self.new.values.items) }
+        ensures places { vec_len self.new.places ≡ vec_len self.old.places }
+    {
+        if self.place_at(value.slot).is_some() {
+            return Ok(());
+        }
+        let next = self.values.len();
+        self.values.push(value)?;
+        if value.slot < self.places.len() {
+            self.places[value.slot] = Some(next);
         }
         Ok(())
     }
@@ -94,37 +120,29 @@ impl Uses {
             for inner in &one.functions {
                 self.note_function(*inner)?;
             }
-            for slot in &one.slots {
-                self.note_slot(*slot)?;
+            for value in &one.values {
+                self.note(*value)?;
             }
         }
         Ok(())
     }
 
-    /// The slots that are used, and the functions that are applied.
-    pub fn into_lists(self) -> (Vec<usize>, Vec<usize>) {
+    /// The names that are used, and the functions that are applied.
+    pub fn into_lists(self) -> (Vec<Used>, Vec<usize>) {
         let Uses {
-            slots,
-            functions,
-            ..
+            values, functions, ..
         } = self;
-        (slots, functions)
+        (values, functions)
     }
 }
 
-/// The names of those slots, as those of items.
-pub fn inputs_at(
-    alloc: Global,
-    entries: &[Entry],
-    slots: &[usize],
-) -> Result<Vec<Input>, AllocError> {
+/// The names that are used, as those of items.
+pub fn inputs_of_values(alloc: Global, values: &[Used]) -> Result<Vec<Input>, AllocError>
+    ensures { IfOk result (λ v. v.items ≡ map (λ u. u.input) values.now) }
+{
     let mut inputs = Vec::new(alloc);
-    for slot in slots {
-        if let Some(entry) = entries.get(*slot) {
-            if let Binder::Bound(input) = entry.binder {
-                inputs.push(input)?;
-            }
-        }
+    for value in values {
+        inputs.push(value.input)?;
     }
     Ok(inputs)
 }

@@ -1,8 +1,8 @@
 use Rattle.std.proofs.Common.{◌≡◌, length, ◌<◌, ◌≤◌, arith, ◌∙◌, take, length-append, refl}
 use Rattle.std.proofs.lemmas.List.{take-append-le}
-use Rattle.binding_graph.specs.declared.scope.Entry.{Entry}
-use Rattle.binding_graph.specs.declared.scope.Binder.TheVariants as binders
-use Rattle.binding_graph.specs.Value.{term_of, IsPlain}
+use Rattle.binding_kinds.specs.declared.scope.Entry.{Entry}
+use Rattle.binding_kinds.specs.declared.scope.Binder.TheVariants as binders
+use Rattle.binding_kinds.specs.Value.{term_of, IsPlain}
 use Rattle.binding_graph.proofs.Grown.{all_more, plain_more}
 use Rattle.binding_graph.proofs.declare.declare_all.Goals as goal
 

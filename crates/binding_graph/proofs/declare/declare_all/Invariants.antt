@@ -1,6 +1,6 @@
 use Rattle.std.proofs.Common.{◌≡◌, ◌≤◌, reverse, map, drop, take, length}
-use Rattle.binding_graph.specs.Value.{entry_of, bound_of, ArePlain}
-use Rattle.binding_graph.specs.Faults.{with_all}
+use Rattle.binding_kinds.specs.Value.{entry_of, bound_of, ArePlain}
+use Rattle.binding_kinds.specs.Faults.{with_all}
 use Rattle.binding_graph.proofs.declare.declare_all.Given as goal
 
 abbrev pub invariant-loop-position : goal.invariant-loop-position

@@ -1,8 +1,8 @@
-use Rattle.binding_graph.proofs.FirstItem.{judged_items, JudgesItems}
+use Rattle.binding_kinds.proofs.FirstItem.{judged_items, JudgesItems}
 use Rattle.std.proofs.Common.{ℕ, Option, Some, None, subst, sym, ◌∙◌, ◌≡◌, List}
-use Rattle.binding_graph.specs.declared.fault.ModelFault.{ModelFault}
-use Rattle.binding_graph.specs.Value.{Naming, Clause}
-use Rattle.binding_graph.specs.Verdict.{first}
+use Rattle.binding_kinds.specs.declared.fault.ModelFault.{ModelFault}
+use Rattle.binding_kinds.specs.Value.{Naming, Clause}
+use Rattle.binding_kinds.specs.Verdict.{first}
 use Rattle.binding_graph.proofs.items.resolve_items.Goals as goal
 
 given : (names : List Naming) (from : ℕ) (cs : List Clause) (o : Option ModelFault) → o ≡ first names from cs → JudgesItems names from cs o

@@ -1,0 +1,58 @@
+-- The names of other items that expressions use, the latest first: a name's place is the number of those behind it,
+-- so it stays the same as more are used.
+use Rattle.std.specs.Prelude.{◌≡◌, ℕ, ◌==◌, nat_le, List, [], ◌∷◌, length, map, reverse, if◌then◌else◌, Option, Some, None, is_some, get_or}
+use Rattle.binding_kinds.specs.declared.scope.Input.{Input}
+use Rattle.binding_kinds.specs.declared.scope.Used.{Used}
+use Rattle.binding_kinds.specs.declared.scope.Found.{Found}
+use Rattle.binding_kinds.specs.declared.scope.Binder.{Binder}
+use Rattle.binding_kinds.specs.declared.scope.Binder.TheVariants as binders
+use Rattle.binding_kinds.specs.Value.{Term, Word, Everything, NoPairs, NoEvents, Join, Mark, Not, Only, Call, Naming, Bound}
+use Rattle.binding_kinds.specs.Kinds.{found}
+
+-- the place of the name with that slot
+abbrev pub place_of : List Used → ℕ → Option ℕ
+place_of [] slot = None
+place_of (u ∷ us) slot = if u.slot == slot then Some (length us) else place_of us slot
+
+-- one more name, unless it is there
+abbrev pub noted : List Used → Used → List Used
+noted us u = if is_some (place_of us u.slot) then us else u ∷ us
+
+-- A name counts where another item binds it.
+abbrev pub with_binder : List Used → ℕ → Binder → List Used
+with_binder us slot (binders.Predefined p) = us
+with_binder us slot (binders.Bound i) = noted us (record { slot = slot; input = i })
+with_binder us slot (binders.Applicable f) = us
+
+-- The names of the item itself have the slot `from` and those behind it.
+abbrev pub with_found : List Used → ℕ → Found → List Used
+with_found us from f = if nat_le from f.slot then us else with_binder us f.slot f.binder
+
+abbrev pub with_name : List Used → ℕ → Option Found → List Used
+with_name us from None = us
+with_name us from (Some f) = with_found us from f
+
+-- the names that are used, with those of an expression
+abbrev pub with_uses : List Naming → ℕ → Term → List Used → List Used
+with_uses names from (Word x) us = with_name us from (found names x)
+with_uses names from Everything us = us
+with_uses names from NoPairs us = us
+with_uses names from NoEvents us = us
+with_uses names from (Join op a b) us = with_uses names from b (with_uses names from a us)
+with_uses names from (Mark op a) us = with_uses names from a us
+with_uses names from (Not a) us = with_uses names from a us
+with_uses names from (Only a) us = with_uses names from a us
+with_uses names from (Call x) us = us
+
+-- the names that the bodies of a group use
+abbrev pub with_all_uses : List Naming → ℕ → List Bound → List Used → List Used
+with_all_uses names from [] us = us
+with_all_uses names from (b ∷ bs) us = with_all_uses names from bs (with_uses names from b.body us)
+
+-- what the names used are in their items, in the order of first use
+abbrev pub inputs_of : List Used → List Input
+inputs_of us = map (λ u. u.input) (reverse us)
+
+-- the table has the place of each name used
+abbrev pub IsIndexed : List (Option ℕ) → List Used → Type 0
+IsIndexed places values = (slot : ℕ) → get_or places slot None ≡ place_of (reverse values) slot

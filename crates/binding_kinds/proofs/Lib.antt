@@ -1,0 +1,5 @@
+pub mod Scopes
+pub mod First
+pub mod FirstGroup
+pub mod FirstItem
+pub mod Fitting

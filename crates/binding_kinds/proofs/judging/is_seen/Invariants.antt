@@ -1,0 +1,7 @@
+use Rattle.std.proofs.Common.{◌≡◌, take}
+use Rattle.binding_kinds.specs.Seen.{names_of}
+use Rattle.binding_kinds.specs.Verdict.{is_seen}
+use Rattle.binding_kinds.proofs.judging.is_seen.Given as goal
+
+abbrev pub invariant-loop-binding : goal.invariant-loop-binding
+invariant-loop-binding l = l.seen ≡ is_seen (names_of (take l.binding-index l.before)) l.name

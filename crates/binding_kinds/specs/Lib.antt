@@ -1,0 +1,9 @@
+pub mod Value
+pub mod Kinds
+pub mod Faults
+pub mod Verdict
+pub mod Seen
+pub mod Numbers
+pub mod Meanings
+pub mod Fits
+pub mod Outermost

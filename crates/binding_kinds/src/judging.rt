@@ -1,0 +1,330 @@
+//! The kinds and the first fault of expressions and groups.
+
+ghost use Rattle.std.specs.Prelude.{◌≡◌, [], List, reverse, map};
+ghost use Rattle.binding_kinds.specs.Value.{Naming, entry_of, term_of, bound_of, IsPlain, ArePlain};
+ghost use Rattle.binding_kinds.specs.Kinds.{kind, kind_found, found, joined, takes, marked, narrowed, is_set, is_relation};
+ghost use Rattle.binding_kinds.specs.Verdict.{first_of, first_in, of_binding, is_seen, or_else, unless, of_name, of_slot};
+ghost use Rattle.binding_kinds.specs.Seen.{names_of};
+
+use crate::fault::ModelFault;
+use crate::function::{Function, MAX_SIZE};
+use crate::kinds::{Kind, is_turned, joined, takes};
+use crate::scope::{Binder, Entry, Found, find, kind_found};
+use crate::signature::weighed;
+use cat_values::{Binding, Expression, Infix};
+use source_text::Name;
+
+/// The kind of an expression, its size and its first fault.
+#[derive(Clone, Copy, Debug, PartialEq, Eq)]
+pub struct Judged {
+    pub kind: Kind,
+    pub size: usize,
+    pub fault: Option<ModelFault>,
+}
+
+/// What is known of the arguments of an application so far.
+#[derive(Clone, Copy, Debug, PartialEq, Eq)]
+struct Arguments {
+    /// Their kinds, weighed by place.
+    combination: usize,
+    /// The size of the application.
+    size: usize,
+    /// Their first fault.
+    fault: Option<ModelFault>,
+}
+
+/// The first fault that is there.
+pub fn or_else(first: Option<ModelFault>, later: Option<ModelFault>) -> Option<ModelFault>
+    ensures { result ≡ or_else first later }
+{
+    match first {
+        None => later,
+        Some(fault) => Some(fault),
+    }
+}
+
+/// The fault, unless the test holds.
+pub fn unless(holds: bool, fault: ModelFault) -> Option<ModelFault>
+    ensures { result ≡ unless holds fault }
+{
+    if holds { None } else { Some(fault) }
+}
+
+/// A name, a sign or an application at fault: it fits every kind.
+fn faulty(fault: ModelFault) -> Judged {
+    Judged {
+        kind: Kind::OfAny,
+        size: 1,
+        fault: Some(fault),
+    }
+}
+
+/// `_`, `0` or `{}`.
+fn sign(of: Kind) -> Judged
+    ensures kind { result.kind ≡ of }
+    ensures fault { result.fault ≡ None }
+{
+    Judged {
+        kind: of,
+        size: 1,
+        fault: None,
+    }
+}
+
+/// The fault of a name without arguments that was looked for.
+fn name_fault(from: usize, under: bool, found: Option<Found>) -> Option<ModelFault>
+    ensures { result ≡ of_name from under found }
+{
+    match found {
+        None => Some(ModelFault::Unbound),
+        Some(found) => match found.binder {
+            Binder::Applicable(_) => Some(ModelFault::Arity),
+            Binder::Predefined(_) => recursive_fault(from, under, found.slot),
+            Binder::Bound(_) => recursive_fault(from, under, found.slot),
+        },
+    }
+}
+
+/// The fault of a name that may be recursive.
+fn recursive_fault(from: usize, under: bool, slot: usize) -> Option<ModelFault>
+    ensures { result ≡ of_slot from under slot }
+{
+    if under && from <= slot {
+        Some(ModelFault::NotMonotone)
+    } else {
+        None
+    }
+}
+
+fn judge_name(entries: &[Entry], from: usize, under: bool, name: &Name) -> Judged
+    ensures kind { result.kind ≡ kind_found (found (reverse (map entry_of entries.now)) name.now) }
+    ensures fault { result.fault ≡ of_name from under (found (reverse (map entry_of entries.now)) name.now) }
+{
+    let found = find(entries, name);
+    Judged {
+        kind: kind_found(found),
+        size: 1,
+        fault: name_fault(from, under, found),
+    }
+}
+
+/// The function that a name with so many arguments stands for.
+fn function_of<'a>(
+    entries: &[Entry],
+    functions: &'a [Function],
+    name: &Name,
+    count: usize,
+) -> Result<&'a Function, ModelFault> {
+    let Some(found) = find(entries, name) else {
+        return Err(ModelFault::Unbound);
+    };
+    match found.binder {
+        Binder::Applicable(function) => match functions.get(function) {
+            Some(one) if one.arity == count => Ok(one),
+            _ => Err(ModelFault::Arity),
+        },
+        Binder::Predefined(_) => Err(ModelFault::Arity),
+        Binder::Bound(_) => Err(ModelFault::Arity),
+    }
+}
+
+impl Arguments {
+    /// No argument yet.
+    fn of(function: &Function) -> Arguments {
+        Arguments {
+            combination: 0,
+            size: function.constant,
+            fault: None,
+        }
+    }
+
+    /// With the argument at that place.
+    fn with(self, function: &Function, place: usize, one: Judged) -> Arguments {
+        let more = function.factor(place).saturating_mul(one.size);
+        Arguments {
+            combination: self.combination.saturating_add(weighed(one.kind, place)),
+            size: self.size.saturating_add(more),
+            fault: or_else(self.fault, one.fault),
+        }
+    }
+
+    /// The application.
+    fn applied(self, function: &Function) -> Judged {
+        if function.is_oversized || self.size > MAX_SIZE {
+            return Judged {
+                kind: Kind::OfAny,
+                size: self.size.max(MAX_SIZE + 1),
+                fault: Some(ModelFault::TooLarge),
+            };
+        }
+        let signature = function.signature(self.combination);
+        Judged {
+            kind: signature.kind,
+            size: self.size,
+            fault: or_else(unless(!signature.clashes, ModelFault::Kind), self.fault),
+        }
+    }
+}
+
+/// What an infix operator makes.
+fn judged_infix(op: Infix, first: Judged, second: Judged) -> Judged
+    ensures kind { result.kind ≡ joined op first.kind second.kind }
+    ensures fault { result.fault ≡ or_else first.fault (or_else (unless (takes op first.kind second.kind) ModelFault.Kind) second.fault) }
+{
+    let here = unless(takes(op, first.kind, second.kind), ModelFault::Kind);
+    Judged {
+        kind: joined(op, first.kind, second.kind),
+        size: first.size.saturating_add(second.size).saturating_add(1),
+        fault: or_else(first.fault, or_else(here, second.fault)),
+    }
+}
+
+/// What a postfix operator makes.
+fn judged_postfix(inner: Judged) -> Judged
+    ensures kind { result.kind ≡ marked inner.kind }
+    ensures fault { result.fault ≡ or_else inner.fault (unless (is_relation inner.kind) ModelFault.Kind) }
+{
+    let here = unless(inner.kind.is_relation(), ModelFault::Kind);
+    Judged {
+        kind: inner.kind.marked(),
+        size: inner.size.saturating_add(1),
+        fault: or_else(inner.fault, here),
+    }
+}
+
+/// A complement.
+fn judged_complement(inner: Judged) -> Judged
+    ensures kind { result.kind ≡ inner.kind }
+    ensures fault { result.fault ≡ inner.fault }
+{
+    Judged {
+        kind: inner.kind,
+        size: inner.size.saturating_add(1),
+        fault: inner.fault,
+    }
+}
+
+/// An identity.
+fn judged_identity(inner: Judged) -> Judged
+    ensures kind { result.kind ≡ narrowed inner.kind }
+    ensures fault { result.fault ≡ or_else (unless (is_set inner.kind) ModelFault.Kind) inner.fault }
+{
+    let here = unless(inner.kind.is_set(), ModelFault::Kind);
+    Judged {
+        kind: inner.kind.narrowed(),
+        size: inner.size.saturating_add(1),
+        fault: or_else(here, inner.fault),
+    }
+}
+
+/// The kind, the size and the first fault of an expression, seen under a complement or not.
+/// The names of the item itself have the slot `from` and those behind it.
+pub fn judge(
+    entries: &[Entry],
+    functions: &[Function],
+    from: usize,
+    under: bool,
+    term: &Expression,
+) -> Judged
+    ensures kind { IsPlain (term_of term.now) → result.kind ≡ kind (reverse (map entry_of entries.now)) (term_of term.now) }
+    ensures fault { IsPlain (term_of term.now) → result.fault ≡ first_of (reverse (map entry_of entries.now)) from under (term_of term.now) }
+{
+    match term {
+        Expression::Named(name) => judge_name(entries, from, under, name),
+        Expression::Everything => sign(Kind::OfSet),
+        Expression::NoPairs => sign(Kind::OfRelation),
+        Expression::NoEvents => sign(Kind::OfSet),
+        Expression::Joined(op, left, right) => {
+            let first = judge(entries, functions, from, under, left);
+            let second = judge(entries, functions, from, is_turned(*op, under), right);
+            judged_infix(*op, first, second)
+        }
+        Expression::Marked(_, operand) => {
+            judged_postfix(judge(entries, functions, from, under, operand))
+        }
+        Expression::Complement(operand) => {
+            judged_complement(judge(entries, functions, from, true, operand))
+        }
+        Expression::Identity(operand) => {
+            judged_identity(judge(entries, functions, from, under, operand))
+        }
+        Expression::Applied(name, arguments) => {
+            match function_of(entries, functions, name, arguments.len()) {
+                Err(fault) => faulty(fault),
+                Ok(function) => {
+                    let mut all = Arguments::of(function);
+                    for (place, argument) in arguments.iter().enumerate() {
+                        let inner = under || function.is_under(place);
+                        let one = judge(entries, functions, from, inner, argument);
+                        all = all.with(function, place, one);
+                    }
+                    all.applied(function)
+                }
+            }
+        }
+    }
+}
+
+/// Whether one of the bindings has the name.
+fn is_seen(before: &[Binding], name: &Name) -> bool
+    ensures { result ≡ is_seen (names_of before.now) name.now }
+{
+    let mut seen = false;
+    for binding in before {
+        if binding.name.is_same(name) {
+            seen = true;
+        }
+    }
+    seen
+}
+
+/// The first fault of a binding's own name.
+fn binding_fault(
+    body: Kind,
+    recursive: bool,
+    before: &[Binding],
+    binding: &Binding,
+) -> Option<ModelFault>
+    ensures { (names : List Naming) → body ≡ kind names (bound_of binding.now).body → result ≡ of_binding names recursive (names_of before.now) (bound_of binding.now) }
+{
+    if is_seen(before, &binding.name) {
+        return Some(ModelFault::Duplicate);
+    }
+    if recursive && body == Kind::OfSet {
+        return Some(ModelFault::SetInRec);
+    }
+    None
+}
+
+/// The first fault of the bindings of a group.
+pub fn group_fault(
+    entries: &[Entry],
+    functions: &[Function],
+    from: usize,
+    recursive: bool,
+    group: &[Binding],
+) -> Option<ModelFault>
+    ensures { ArePlain (map bound_of group.now) → result ≡ first_in (reverse (map entry_of entries.now)) from recursive [] (map bound_of group.now) }
+{
+    for (place, binding) in group.iter().enumerate() {
+        let body = judge(entries, functions, from, false, &binding.body);
+        let own = binding_fault(body.kind, recursive, &group[..place], binding);
+        let fault = or_else(own, body.fault);
+        if fault.is_some() {
+            return fault;
+        }
+    }
+    None
+}
+
+/// The first fault of the parameters of a function.
+pub fn parameter_fault(parameters: &[Name]) -> Option<ModelFault> {
+    for (place, parameter) in parameters.iter().enumerate() {
+        for earlier in &parameters[..place] {
+            if earlier.is_same(parameter) {
+                return Some(ModelFault::Duplicate);
+            }
+        }
+    }
+    None
+}

@@ -1,0 +1,125 @@
+//! What names stand for.
+
+ghost use Rattle.std.specs.Prelude.{◌≡◌, reverse, map, IfOk};
+ghost use Rattle.binding_kinds.specs.Value.{entry_of};
+ghost use Rattle.binding_kinds.specs.Kinds.{found, kind_found};
+ghost use Rattle.binding_kinds.specs.Outermost.{kind_of_predefined, naming_of};
+
+use crate::function::Function;
+use crate::kinds::Kind;
+use cat_values::{PREDEFINED, Predefined};
+use source_text::Name;
+use std::alloc::{AllocError, Global};
+
+/// A name of another item: the item's place in the model, and the name's position in its group.
+#[derive(Clone, Copy, Debug, PartialEq, Eq)]
+pub struct Input {
+    pub item: usize,
+    pub position: usize,
+}
+
+/// What binds a name.
+#[derive(Clone, Copy, Debug, PartialEq, Eq)]
+pub enum Binder {
+    Predefined(Predefined),
+    /// A name of a group.
+    Bound(Input),
+    /// A function, by its place among the functions of the scope.
+    Applicable(usize),
+}
+
+/// A name that stands for something.
+#[derive(Drop)]
+pub struct Entry {
+    pub name: Name,
+    pub kind: Kind,
+    pub binder: Binder,
+}
+
+/// Where a name is bound, as a place in the scope, and what it stands for there.
+#[derive(Clone, Copy, Debug, PartialEq, Eq)]
+pub struct Found {
+    pub slot: usize,
+    pub kind: Kind,
+    pub binder: Binder,
+}
+
+/// A name of another item that an item uses, by its slot and by its place in that item.
+#[derive(Clone, Copy, Debug, PartialEq, Eq)]
+pub struct Used {
+    pub slot: usize,
+    pub input: Input,
+}
+
+/// The names that are seen, the latest last. A name's place, its slot, stays the same as the
+/// scope grows.
+#[derive(Drop)]
+pub struct Scope {
+    pub entries: Vec<Entry>,
+    pub functions: Vec<Function>,
+}
+
+/// The last entry of that name.
+#[tactic(auto, using(crate::proofs::Scopes::rev_more))]
+pub fn find(entries: &[Entry], name: &Name) -> Option<Found>
+    ensures { result ≡ found (reverse (map entry_of entries.now)) name.now }
+{
+    let mut last = None;
+    for (slot, entry) in entries.iter().enumerate() {
+        if entry.name.as_bytes() == name.as_bytes() {
+            last = Some(Found {
+                slot,
+                kind: entry.kind,
+                binder: entry.binder,
+            });
+        }
+    }
+    last
+}
+
+/// The kind of a name that was looked for.
+pub fn kind_found(found: Option<Found>) -> Kind
+    ensures { result ≡ kind_found found }
+{
+    match found {
+        None => Kind::OfAny,
+        Some(found) => found.kind,
+    }
+}
+
+fn kind_of_predefined(one: Predefined) -> Kind
+    ensures { result ≡ kind_of_predefined one }
+{
+    if one.is_set() {
+        Kind::OfSet
+    } else {
+        Kind::OfRelation
+    }
+}
+
+/// The entries of predefined names.
+fn predefined_entries(alloc: Global, names: &[Predefined]) -> Result<Vec<Entry>, AllocError>
+    ensures { IfOk result (λ v. map entry_of v.items ≡ map naming_of names.now) }
+{
+    let mut entries = Vec::new(alloc);
+    for one in names {
+        entries.push(Entry {
+            name: Name::new(alloc, one.spelling())?,
+            kind: kind_of_predefined(*one),
+            binder: Binder::Predefined(*one),
+        })?;
+    }
+    Ok(entries)
+}
+
+impl Scope {
+    /// The predefined names.
+    pub fn new(alloc: Global) -> Result<Scope, AllocError>
+        ensures { IfOk result (λ s. map entry_of s.entries.items ≡ map naming_of PREDEFINED) }
+    {
+        Ok(Scope {
+            entries: predefined_entries(alloc, &PREDEFINED)?,
+            functions: Vec::new(alloc),
+        })
+    }
+}

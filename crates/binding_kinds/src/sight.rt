@@ -1,0 +1,88 @@
+//! The names that an expression sees.
+
+ghost use Rattle.std.specs.Prelude.{◌≡◌, reverse, map};
+ghost use Rattle.binding_kinds.specs.Value.{entry_of};
+ghost use Rattle.binding_kinds.specs.Kinds.{found};
+ghost use Rattle.binding_kinds.specs.Meanings.{parameter_of, meaning_of};
+
+use crate::fault::ModelFault;
+use crate::function::Function;
+use crate::scope::{Binder, Entry, Found, find};
+use source_text::Name;
+
+/// The names that an expression sees.
+#[derive(Clone, Copy)]
+pub struct Sight<'a> {
+    pub entries: &'a [Entry],
+    pub functions: &'a [Function],
+    /// The parameters of the function whose body it is.
+    pub parameters: &'a [Name],
+    /// The names of the item itself have this slot and those behind it.
+    pub from: usize,
+}
+
+/// What a name without arguments stands for.
+#[derive(Clone, Copy, PartialEq, Eq)]
+pub enum Meaning {
+    /// A parameter, by its place.
+    Parameter(usize),
+    Value(Found),
+}
+
+/// The place of the parameter of that name.
+#[tactic(auto, using(crate::proofs::Scopes::rev_next))]
+fn parameter(parameters: &[Name], name: &Name) -> Option<usize>
+    ensures { result ≡ parameter_of (reverse parameters.now) name.now }
+{
+    let mut last = None;
+    for (place, one) in parameters.iter().enumerate() {
+        if one.as_bytes() == name.as_bytes() {
+            last = Some(place);
+        }
+    }
+    last
+}
+
+impl Sight<'_> {
+    /// What a name without arguments stands for.
+    pub fn value(&self, name: &Name) -> Result<Meaning, ModelFault>
+        ensures { result ≡ meaning_of (parameter_of (reverse self.now.parameters.now) name.now) (found (reverse (map entry_of self.now.entries.now)) name.now) }
+    {
+        if let Some(place) = parameter(self.parameters, name) {
+            return Ok(Meaning::Parameter(place));
+        }
+        match find(self.entries, name) {
+            None => Err(ModelFault::Unbound),
+            Some(found) => match found.binder {
+                Binder::Applicable(_) => Err(ModelFault::Arity),
+                Binder::Predefined(_) => Ok(Meaning::Value(found)),
+                Binder::Bound(_) => Ok(Meaning::Value(found)),
+            },
+        }
+    }
+
+    /// The function that a name with so many arguments stands for.
+    pub fn function(&self, name: &Name, count: usize) -> Result<usize, ModelFault> {
+        if parameter(self.parameters, name).is_some() {
+            return Err(ModelFault::Arity);
+        }
+        let Some(found) = find(self.entries, name) else {
+            return Err(ModelFault::Unbound);
+        };
+        match found.binder {
+            Binder::Applicable(function) => match self.functions.get(function) {
+                Some(one) if one.arity == count => Ok(function),
+                _ => Err(ModelFault::Arity),
+            },
+            _ => Err(ModelFault::Arity),
+        }
+    }
+
+    /// Whether the function has that parameter under a complement or right of a difference.
+    pub fn is_under(&self, function: usize, place: usize) -> bool {
+        match self.functions.get(function) {
+            Some(one) => one.is_under(place),
+            None => false,
+        }
+    }
+}

@@ -1,0 +1,5 @@
+//! Tests of what models mean.
+#![tactic(auto)]
+
+#[cfg(test)]
+mod tests;
