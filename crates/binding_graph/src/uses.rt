@@ -130,7 +130,9 @@ impl Uses {
     /// The names that are used, and the functions that are applied.
     pub fn into_lists(self) -> (Vec<Used>, Vec<usize>) {
         let Uses {
-            values, functions, ..
+            values,
+            functions,
+            ..
         } = self;
         (values, functions)
     }

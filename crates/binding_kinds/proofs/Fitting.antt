@@ -69,10 +69,11 @@ fit names from under NoPairs h p e = tt
 fit names from under NoEvents h p e = tt
 fit names from under (Join op a b) h p e =
     let rest = none_later (first_of names from under a) _ e in
-    let here = none_first (unless (takes op (kind names a) (kind names b)) faults.Kind) _ rest in
-    (fit names from under a h p.0 (none_first _ _ e),
-    fit names from (is_turned op under) b h p.1 (none_later (unless (takes op (kind names a) (kind names b)) faults.Kind) _ rest),
-    holds _ faults.Kind here)
+    let here = none_first (unless (takes op (kind names a) (kind names b)) faults.Kind) _ rest in (
+      fit names from under a h p.0 (none_first _ _ e),
+      fit names from (is_turned op under) b h p.1 (none_later (unless (takes op (kind names a) (kind names b)) faults.Kind) _ rest),
+      holds _ faults.Kind here,
+    )
 fit names from under (Mark op a) h p e =
     (fit names from under a h p (none_first _ _ e), holds (is_relation (kind names a)) faults.Kind (none_later (first_of names from under a) _ e))
 fit names from under (Not a) h p e = fit names from true a h p e

@@ -4,7 +4,6 @@ ghost use Rattle.std.specs.Prelude.{◌≤◌, ◌<◌};
 
 use crate::kinds::Kind;
 
-
 /// What an application makes of arguments of some kinds.
 #[derive(Clone, Copy, Debug, PartialEq, Eq)]
 pub struct Signature {

@@ -1,7 +1,7 @@
 //! Each refusal once, what an item uses, and functions put in.
 
 use binding_graph::{
-    Input, Kind, Resolved, ResolveFault, Role, Source, Step, inputs_of, resolve, used,
+    Input, Kind, ResolveFault, Resolved, Role, Source, Step, inputs_of, resolve, used,
 };
 use cat_syntax::{Predefined, read_model};
 use std::alloc::Global;

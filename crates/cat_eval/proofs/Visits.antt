@@ -4,8 +4,8 @@ use Rattle.std.specs.Prelude.{Some, slice_get, not}
 use mathlib.Core.Bool.{beq}
 use Rattle.std.proofs.lemmas.Bool.{false≢true}
 use Rattle.bit_relations.specs.Relation.{Relation, Has, IsRelation, Events, IsMember, IsEvents}
-use Rattle.binding_graph.specs.declared.resolved.Kind.{Kind}
-use Rattle.binding_graph.specs.declared.resolved.Kind.TheVariants as kinds
+use Rattle.binding_kinds.specs.declared.kinds.Kind.{Kind}
+use Rattle.binding_kinds.specs.declared.kinds.Kind.TheVariants as kinds
 use Rattle.binding_graph.specs.Trees.{SetTree, RelTree, set_code, rel_code}
 use Rattle.cat_eval.specs.Meaning.{MeansSet, Means}
 use Rattle.cat_eval.specs.Named.{EventsIn, PairsOutside, WithOwn, Of}

@@ -1,8 +1,8 @@
 -- The answers of a check, candidate by candidate.
 use Rattle.std.specs.Prelude.{ℕ, ◌≡◌, ◌↔◌, Bool, true, false, IsTrue, List, [], ◌∷◌, ◌++◌, length, Some, slice_get}
 use denote.Ref.{Bor}
-use Rattle.binding_graph.specs.declared.resolved.Kind.{Kind}
-use Rattle.binding_graph.specs.declared.resolved.Kind.TheVariants as kinds
+use Rattle.binding_kinds.specs.declared.kinds.Kind.{Kind}
+use Rattle.binding_kinds.specs.declared.kinds.Kind.TheVariants as kinds
 use Rattle.binding_graph.specs.declared.resolved.CheckCode.{CheckCode}
 use Rattle.binding_graph.specs.declared.resolved.Role.{Role}
 use Rattle.binding_graph.specs.declared.resolved.Role.TheVariants as roles

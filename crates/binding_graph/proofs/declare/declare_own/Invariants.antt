@@ -7,6 +7,6 @@ abbrev pub invariant-loop-position : goal.invariant-loop-position
 invariant-loop-position l = record {
   kept : take (length l.fn.entries.items) l.entries.items ≡ l.fn.entries.items;
   names :
-    with_own (reverse (map entry_of l.fn.entries.items)) l.item 0 (map bound_of l.group)
-    ≡ with_own (reverse (map entry_of l.entries.items)) l.item l.position (map bound_of (drop l.position l.group));
+      with_own (reverse (map entry_of l.fn.entries.items)) l.item 0 (map bound_of l.group)
+      ≡ with_own (reverse (map entry_of l.entries.items)) l.item l.position (map bound_of (drop l.position l.group));
 }

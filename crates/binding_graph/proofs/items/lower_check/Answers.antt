@@ -13,5 +13,5 @@ returns c = λ le plain fit.
     let room : length c.sight_of-sight.result.entries.now ≤ vec_len c.in_ok-uses.uses.places = rw (before, c.in_ok-uses.ensures.places) (omega (arith, length-take c.args.from c.args.scope.now.entries.items)) in
     let f : IsFit (reverse (map entry_of c.sight_of-sight.result.entries.now)) t = rw before fit in
     let done = checked _ c.sight_of-sight.result.entries.now _ c.sight_of-sight.result.from t c.in_ok-code.code c.in_ok-uses.uses.values.items c.code_of.new.uses.values.items _ c.in_ok-inputs_of_values.field-0.items before s.from c.in_ok-uses.ensures.values
-        (c.in_ok-code.ensures.code s.parameters plain c.in_ok-uses.ensures.indexed room f) (c.in_ok-code.ensures.uses s.parameters plain c.in_ok-uses.ensures.indexed room) c.deref.ensures.value c.in_ok-inputs_of_values.ensures in
+    (c.in_ok-code.ensures.code s.parameters plain c.in_ok-uses.ensures.indexed room f) (c.in_ok-code.ensures.uses s.parameters plain c.in_ok-uses.ensures.indexed room) c.deref.ensures.value c.in_ok-inputs_of_values.ensures in
     ((refl, done.0), done.1)

@@ -12,7 +12,7 @@ returns-clause-all c = λ yes plain fit.
     let room : length c.sight_of-sight.result.entries.now ≤ vec_len c.in_ok-uses.uses.places = rw (all, c.in_ok-uses.ensures.places) (omega arith) in
     let f : AreFit (reverse (map entry_of c.sight_of-sight.result.entries.now)) (map bound_of c.args.group.now) = rw all fit in
     let done = grouped _ c.sight_of-sight.result.entries.now _ c.sight_of-sight.result.from (map bound_of c.args.group.now) c.in_ok-bodies.bodies.items c.in_ok-uses.uses.values.items c.lower_bodies.new.uses.values.items _ c.in_ok-inputs_of_values.field-0.items all s.from c.in_ok-uses.ensures.values
-        (c.in_ok-bodies.ensures.bodies s.parameters plain f c.in_ok-uses.ensures.indexed room) (c.in_ok-bodies.ensures.uses s.parameters plain f c.in_ok-uses.ensures.indexed room) c.deref.ensures.value c.in_ok-inputs_of_values.ensures in
+    (c.in_ok-bodies.ensures.bodies s.parameters plain f c.in_ok-uses.ensures.indexed room) (c.in_ok-bodies.ensures.uses s.parameters plain f c.in_ok-uses.ensures.indexed room) c.deref.ensures.value c.in_ok-inputs_of_values.ensures in
     ((yes, done.0), done.1)
 
 pub returns-clause-before : goal.returns-clause-before
@@ -22,5 +22,5 @@ returns-clause-before c = λ no le plain fit.
     let room : length c.sight_of-sight.result.entries.now ≤ vec_len c.in_ok-uses.uses.places = rw (before, c.in_ok-uses.ensures.places) (omega (arith, length-take c.args.from c.args.scope.now.entries.items)) in
     let f : AreFit (reverse (map entry_of c.sight_of-sight.result.entries.now)) (map bound_of c.args.group.now) = rw before fit in
     let done = grouped _ c.sight_of-sight.result.entries.now _ c.sight_of-sight.result.from (map bound_of c.args.group.now) c.in_ok-bodies.bodies.items c.in_ok-uses.uses.values.items c.lower_bodies.new.uses.values.items _ c.in_ok-inputs_of_values.field-0.items before s.from c.in_ok-uses.ensures.values
-        (c.in_ok-bodies.ensures.bodies s.parameters plain f c.in_ok-uses.ensures.indexed room) (c.in_ok-bodies.ensures.uses s.parameters plain f c.in_ok-uses.ensures.indexed room) c.deref.ensures.value c.in_ok-inputs_of_values.ensures in
+    (c.in_ok-bodies.ensures.bodies s.parameters plain f c.in_ok-uses.ensures.indexed room) (c.in_ok-bodies.ensures.uses s.parameters plain f c.in_ok-uses.ensures.indexed room) c.deref.ensures.value c.in_ok-inputs_of_values.ensures in
     ((no, done.0), done.1)
