@@ -6,8 +6,8 @@ use Rattle.std.proofs.Math.Seq.{get_or-append_right}
 use denote.Ref.{Bor}
 use Rattle.bit_relations.specs.Relation.{Relation, IsRelation, Events, IsEvents}
 use Rattle.binding_graph.specs.declared.resolved.Body.{Body}
-use Rattle.binding_graph.specs.declared.resolved.Kind.{Kind}
-use Rattle.binding_graph.specs.declared.resolved.Kind.TheVariants as kinds
+use Rattle.binding_kinds.specs.declared.kinds.Kind.{Kind}
+use Rattle.binding_kinds.specs.declared.kinds.Kind.TheVariants as kinds
 use Rattle.binding_graph.specs.declared.resolved.Step.{Step}
 use Rattle.binding_graph.specs.Trees.{SetTree, RelTree, set_code, rel_code}
 use Rattle.base_env.specs.Known.{Known}

@@ -2,7 +2,7 @@
 
 ghost use Rattle.std.specs.Prelude.{◌≡◌, ◌≤◌, slice_get, OnOk};
 ghost use Rattle.bit_relations.specs.Relation.{IsRelation, IsEvents};
-ghost use Rattle.binding_graph.specs.declared.resolved.Kind.TheVariants as kinds;
+ghost use Rattle.binding_kinds.specs.declared.kinds.Kind.TheVariants as kinds;
 ghost use Rattle.cat_eval.specs.Values.{Adds, IsFor, column_len};
 ghost use Rattle.cat_eval.specs.Named.{ColumnEvents, ColumnPairs, PairsFound};
 
