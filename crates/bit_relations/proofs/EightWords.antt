@@ -16,11 +16,11 @@ use Rattle.bit_relations.specs.Rows.{RowsHave, AllFit, AreWritten, AreLanesJoine
 
 -- what is joined to each lane of acc
 abbrev pub joined_lanes : List ℕ → List ℕ → ℕ → ℕ → List ℕ
-joined_lanes acc select bit row =
-    zip2 bit_or acc (sel_l (map (top 63) (zip2 (λ a b. cond (eqb a b) (2 ^ 64 - 1) 0) (zip2 bit_and select (replicate 8 bit)) (replicate 8 0))) (replicate 8 0) (replicate 8 row))
+joined_lanes acc select bit added =
+    zip2 bit_or acc (sel_l (map (top 63) (zip2 (λ a b. cond (eqb a b) (2 ^ 64 - 1) 0) (zip2 bit_and select (replicate 8 bit)) (replicate 8 0))) (replicate 8 0) (replicate 8 added))
 
-pub lanes_joined : (acc select : List ℕ) (k row : ℕ) → k < 64 → length acc ≡ 8 → length select ≡ 8 → (length (joined_lanes acc select (1 * 2 ^ k % 2 ^ 64) row) ≡ 8) × AreLanesJoined acc select k row (joined_lanes acc select (1 * 2 ^ k % 2 ^ 64) row)
-lanes_joined acc select k row small long_acc long_select =
+pub lanes_joined : (acc select : List ℕ) (k added : ℕ) → k < 64 → length acc ≡ 8 → length select ≡ 8 → (length (joined_lanes acc select (1 * 2 ^ k % 2 ^ 64) added) ≡ 8) × AreLanesJoined acc select k added (joined_lanes acc select (1 * 2 ^ k % 2 ^ 64) added)
+lanes_joined acc select k added small long_acc long_select =
     rw (tops_compared w64 eqb met (replicate 8 0)) (length-zip2 bit_or acc all (long_acc ∙ sym long_all) ∙ long_acc, lane)
   where
     bit : ℕ
@@ -39,12 +39,12 @@ lanes_joined acc select k row small long_acc long_select =
     long_unset = length-zip2 eqb met (replicate 8 0) (long_met ∙ sym (length-replicate {A = ℕ} 8 0)) ∙ long_met
 
     all : List ℕ
-    all = sel_l unset (replicate 8 0) (replicate 8 row)
+    all = sel_l unset (replicate 8 0) (replicate 8 added)
 
     long_all : length all ≡ 8
-    long_all = length-sel_l unset (replicate 8 0) (replicate 8 row) long_unset long_unset ∙ long_unset
+    long_all = length-sel_l unset (replicate 8 0) (replicate 8 added) long_unset long_unset ∙ long_unset
 
-    lane : AreLanesJoined acc select k row (zip2 bit_or acc all)
+    lane : AreLanesJoined acc select k added (zip2 bit_or acc all)
     lane i lt b =
         let in_acc : i < length acc = rw long_acc lt in
         let in_all : i < length all = rw long_all lt in
@@ -55,11 +55,11 @@ lanes_joined acc select k row small long_acc long_select =
         get_or-zip2 bit_and select (replicate 8 bit) i 0 0 0 in_select lt ∙ ap (bit_and (get_or select i 0)) (get_or-replicate 8 i bit 0 lt) in
         let unset_at : get_or unset i false ≡ eqb (bit_and (get_or select i 0) bit) 0 =
         get_or-zip2 eqb met (replicate 8 0) i 0 0 false in_met lt ∙ (rw (met_at, get_or-replicate {A = ℕ} 8 i 0 0 lt) refl) in
-        let all_at : get_or all i 0 ≡ cond (eqb (bit_and (get_or select i 0) bit) 0) 0 row =
-        get_or-sel_l unset (replicate 8 0) (replicate 8 row) i 0 in_unset lt lt ∙ (rw (unset_at, get_or-replicate {A = ℕ} 8 i 0 0 lt, get_or-replicate 8 i row 0 lt) refl) in
-        let joined_at : get_or (zip2 bit_or acc all) i 0 ≡ bit_or (get_or acc i 0) (cond (eqb (bit_and (get_or select i 0) bit) 0) 0 row) =
+        let all_at : get_or all i 0 ≡ cond (eqb (bit_and (get_or select i 0) bit) 0) 0 added =
+        get_or-sel_l unset (replicate 8 0) (replicate 8 added) i 0 in_unset lt lt ∙ (rw (unset_at, get_or-replicate {A = ℕ} 8 i 0 0 lt, get_or-replicate 8 i added 0 lt) refl) in
+        let joined_at : get_or (zip2 bit_or acc all) i 0 ≡ bit_or (get_or acc i 0) (cond (eqb (bit_and (get_or select i 0) bit) 0) 0 added) =
         get_or-zip2 bit_or acc all i 0 0 0 in_acc in_all ∙ (rw all_at refl) in
-        rw joined_at (Bit-chosen (get_or acc i 0) (get_or select i 0) k row b small)
+        rw joined_at (Bit-chosen (get_or acc i 0) (get_or select i 0) k added b small)
 
 pub stored : (rows lanes : List ℕ) (at n : ℕ) → at + n ≡ 128 → 8 ≤ n → length lanes ≡ 8 → length rows ≡ 128 → IsStored rows at lanes (put_mid at n rows (put_chunk 0 (mid_of at n rows) lanes))
 stored rows lanes at n whole room long height = record {
@@ -121,11 +121,11 @@ loaded rows at n room whole height = (
     long_mid = length-take-le n (drop at rows) (omega (arith, length-drop at rows))
 
 -- words joined with one that fits still fit
-pub lane_fits : (acc select joined : List ℕ) (k row i : ℕ) → i < 8 → row < 2 ^ 64 → get_or acc i 0 < 2 ^ 64 → AreLanesJoined acc select k row joined → get_or joined i 0 < 2 ^ 64
-lane_fits acc select joined k row i lt fits_row fits_acc step =
+pub lane_fits : (acc select joined : List ℕ) (k added i : ℕ) → i < 8 → added < 2 ^ 64 → get_or acc i 0 < 2 ^ 64 → AreLanesJoined acc select k added joined → get_or joined i 0 < 2 ^ 64
+lane_fits acc select joined k added i lt fits_row fits_acc step =
     word_fits (get_or joined i 0) (λ b h. elim ((step i lt b).0 h) [
       | inl o ↦ Bit-width (get_or acc i 0) b fits_acc o
-      | inr t ↦ Bit-width row b fits_row t.1
+      | inr t ↦ Bit-width added b fits_row t.1
     ])
 
 -- eight words more
@@ -135,7 +135,7 @@ written_block old new next lanes i m P end long before put small each = record {
   fits = λ f a. elim (cases_lt a i) [
     | inl lt ↦ rw (put.outside a (inl lt)) (before.fits f a)
     | inr ge ↦ elim (cases_lt a (i + 8)) [
-      | inl lt ↦ rw (row a ge lt) (small (before.fits f) (a - i) (omega arith))
+      | inl lt ↦ rw (added a ge lt) (small (before.fits f) (a - i) (omega arith))
       | inr past ↦ rw (put.outside a (inr past)) (before.fits f a)
     ]
   ];
@@ -144,13 +144,13 @@ written_block old new next lanes i m P end long before put small each = record {
     | inr ge ↦
         let within : a < i + 8 = omega (arith, lt) in
         let here : i + (a - i) ≡ a = omega arith in
-        rw (row a ge within) (subst (λ (x : ℕ). RowsHave lanes (a - i) b ↔ P x b) here (each (a - i) (omega arith) b))
+        rw (added a ge within) (subst (λ (x : ℕ). RowsHave lanes (a - i) b ↔ P x b) here (each (a - i) (omega arith) b))
   ];
   outside = λ a le. put.outside a (inr (omega (arith, le))) ∙ before.outside a (omega (arith, le));
 }
   where
-    row : (a : ℕ) → i ≤ a → a < i + 8 → get_or next a 0 ≡ get_or lanes (a - i) 0
-    row a ge lt =
+    added : (a : ℕ) → i ≤ a → a < i + 8 → get_or next a 0 ≡ get_or lanes (a - i) 0
+    added a ge lt =
         let here : a ≡ i + (a - i) = omega arith in
         ap (λ (x : ℕ). get_or next x 0) here ∙ put.inside (a - i) (omega arith)
 
@@ -159,12 +159,12 @@ pub lanes_still : (old new lanes : List ℕ) (i j : ℕ) (P : ℕ → ℕ → Ty
 lanes_still old new lanes i j P before here = here ∙ before.outside (i + j) (omega arith)
 
 -- one lane that is joined, as the words that it was loaded from
-pub lane_taken : (acc select joined accs selects : List ℕ) (i j k row : ℕ) → j < 8 → get_or acc j 0 ≡ get_or accs (i + j) 0 → get_or select j 0 ≡ get_or selects (i + j) 0 → AreLanesJoined acc select k row joined → (b : ℕ) → RowsHave joined j b ↔ Taken (RowsHave accs) (RowsHave selects) k row (i + j) b
-lane_taken acc select joined accs selects i j k row lt from_acc from_select step b =
+pub lane_taken : (acc select joined accs selects : List ℕ) (i j k added : ℕ) → j < 8 → get_or acc j 0 ≡ get_or accs (i + j) 0 → get_or select j 0 ≡ get_or selects (i + j) 0 → AreLanesJoined acc select k added joined → (b : ℕ) → RowsHave joined j b ↔ Taken (RowsHave accs) (RowsHave selects) k added (i + j) b
+lane_taken acc select joined accs selects i j k added lt from_acc from_select step b =
     subst (λ (y : ℕ). Joined (get_or accs (i + j) 0) y) from_select (subst (λ (x : ℕ). Joined x (get_or select j 0)) from_acc (step j lt b))
   where
     Joined : ℕ → ℕ → Type 0
-    Joined x y = RowsHave joined j b ↔ (Bit x b ⊎ (Bit y k × Bit row b))
+    Joined x y = RowsHave joined j b ↔ (Bit x b ⊎ (Bit y k × Bit added b))
 
 -- lanes that are joined with one word more
 pub joined_more : (at c : ℕ) (acc select others old new : List ℕ) → ((i b : ℕ) → i < 8 → RowsHave old i b ↔ JoinedFrom at c (RowsHave acc) (RowsHave select) (RowsHave others) i b) → AreLanesJoined old select c (get_or others (c + at) 0) new → (i b : ℕ) → i < 8 → RowsHave new i b ↔ JoinedFrom at (c + 1) (RowsHave acc) (RowsHave select) (RowsHave others) i b
