@@ -43,13 +43,3 @@ pub enum Token {
     /// What breaks a rule of its own.
     Broken(LitmusRule),
 }
-
-impl Token {
-    /// Whether the token is the end of the line that the test's name stands in.
-    pub fn is_line_end(&self) -> bool {
-        match self {
-            Token::LineEnd => true,
-            _ => false,
-        }
-    }
-}
