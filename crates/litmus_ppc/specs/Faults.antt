@@ -1,6 +1,10 @@
 -- What a refusal says, and where that stands which the later checks may blame.
-use Rattle.std.specs.Prelude.{◌≡◌, ℕ, ◌≤◌, List, [], ◌∷◌}
-use Rattle.litmus_tokens.specs.declared.rule.LitmusRule.TheVariants.{TooLong}
+use Rattle.std.specs.Prelude.{◌≡◌, ℕ, ◌≤◌, List, [], ◌∷◌, Option, Some, None, Result, Ok, Err}
+use Rattle.litmus_tokens.specs.Texts.{Placed}
+use Rattle.litmus_tokens.specs.declared.rule.LitmusRule.TheVariants.{TooLong, Init}
+use Rattle.litmus_table.specs.declared.late.LateFault.{LateFault}
+use Rattle.litmus_table.specs.Checks.{IsFoundAt}
+use Rattle.litmus_table.specs.Late.{Late}
 use Rattle.litmus_table.specs.Within.{AreWithin}
 use Rattle.litmus_ppc.specs.declared.fault.LitmusFault.{LitmusFault}
 use Rattle.litmus_ppc.specs.declared.fault.LitmusFault.TheVariants.{Refused, OutOfMemory}
@@ -28,3 +32,15 @@ AreAtMost n (p ∷ ps) = (p ≤ n) × AreAtMost n ps
 -- each entry, label and branch stands at most there
 abbrev pub AreKept : ℕ → Held → Type 0
 AreKept n h = AreAtMost n h.init.starts × AreWithin n h.table.threads
+
+-- What a later check answers is what is found, unless memory ran out: the entry that begins there,
+abbrev pub IsMissingFound : Result (Unit {0}) LitmusFault → Option ℕ → Type 0
+IsMissingFound (Ok u) found = found ≡ None
+IsMissingFound (Err (Refused rule place)) found = (rule ≡ Init) × (found ≡ Some place)
+IsMissingFound (Err (OutOfMemory e)) found = ⊥
+
+-- and the label or the branch.
+abbrev pub IsLateFound : List Placed → Result (Unit {0}) LitmusFault → Option Late → Type 0
+IsLateFound text (Ok u) found = IsFoundAt text None found
+IsLateFound text (Err (Refused rule place)) found = IsFoundAt text (Some (record { rule = rule; place = place })) found
+IsLateFound text (Err (OutOfMemory e)) found = Unit {0}

@@ -103,26 +103,6 @@ fn read_whole(
     read_all(alloc, bytes, kind, threads)
 }
 
-// What a text of this kind holds that passes the later checks.
-fn read_text(
-    alloc: Global,
-    bytes: &[u8],
-    kind: TextKind,
-    threads: usize,
-) -> Result<Held, LitmusFault>
-    ensures within { IfErr result (λ e. IsWithin (length bytes.now) e) }
-    ensures too_long { 65536 < length bytes.now → MatchResult result (λ _. ⊥) IsTooLong }
-{
-    let reader = match read_whole(alloc, bytes, kind, threads) {
-        Ok(reader) => reader,
-        Err(fault) => return Err(fault),
-    };
-    match reader.check() {
-        Ok(()) => Ok(reader.into_held()),
-        Err(fault) => Err(fault),
-    }
-}
-
 /// Reads a test.
 ///
 /// A text of over 65,536 bytes is refused before all else. Otherwise the fault is at the first token
@@ -135,12 +115,22 @@ pub fn read_test(alloc: Global, bytes: &[u8]) -> Result<Test, LitmusFault>
     // The length is looked at first.
     ensures too_long { 65536 < length bytes.now → MatchResult result (λ _. ⊥) IsTooLong }
 {
-    match read_text(alloc, bytes, TextKind::Test, 0) {
-        Ok(held) => match held.into_test() {
-            Ok(test) => Ok(test),
-            Err(error) => Err(LitmusFault::OutOfMemory(error)),
-        },
-        Err(fault) => Err(fault),
+    let reader = match read_whole(alloc, bytes, TextKind::Test, 0) {
+        Ok(reader) => reader,
+        Err(fault) => return Err(fault),
+    };
+    match reader.check_init() {
+        Ok(()) => {}
+        Err(fault) => return Err(fault),
+    }
+    match reader.check_labels() {
+        Ok(()) => {}
+        Err(fault) => return Err(fault),
+    }
+    let held = reader.into_held();
+    match held.into_test() {
+        Ok(test) => Ok(test),
+        Err(error) => Err(LitmusFault::OutOfMemory(error)),
     }
 }
 
@@ -151,8 +141,15 @@ pub fn read_thread(alloc: Global, bytes: &[u8]) -> Result<Thread, LitmusFault>
     // The length is looked at first.
     ensures too_long { 65536 < length bytes.now → MatchResult result (λ _. ⊥) IsTooLong }
 {
-    match read_text(alloc, bytes, TextKind::Thread, 1) {
-        Ok(held) => Ok(held.into_thread()),
+    let reader = match read_whole(alloc, bytes, TextKind::Thread, 1) {
+        Ok(reader) => reader,
+        Err(fault) => return Err(fault),
+    };
+    match reader.check_labels() {
+        Ok(()) => {
+            let held = reader.into_held();
+            Ok(held.into_thread())
+        }
         Err(fault) => Err(fault),
     }
 }
@@ -164,8 +161,15 @@ pub fn read_init(alloc: Global, bytes: &[u8], threads: usize) -> Result<Vec<Init
     // The length is looked at first.
     ensures too_long { 65536 < length bytes.now → MatchResult result (λ _. ⊥) IsTooLong }
 {
-    match read_text(alloc, bytes, TextKind::Init, threads) {
-        Ok(held) => Ok(held.into_init()),
+    let reader = match read_whole(alloc, bytes, TextKind::Init, threads) {
+        Ok(reader) => reader,
+        Err(fault) => return Err(fault),
+    };
+    match reader.check_init() {
+        Ok(()) => {
+            let held = reader.into_held();
+            Ok(held.into_init())
+        }
         Err(fault) => Err(fault),
     }
 }

@@ -1,9 +1,13 @@
 //! Takes the tokens of a text one after another.
 
-ghost use Rattle.std.specs.Prelude.{◌≡◌, ℕ, IfOk, IfErr};
+ghost use Rattle.std.specs.Prelude.{◌≡◌, ℕ, List, IfOk, IfErr};
+ghost use Rattle.litmus_tokens.specs.Texts.{Placed};
+ghost use Rattle.litmus_table.specs.Late.{Note, first_late};
+ghost use Rattle.litmus_table.specs.Laws.{AreNoted};
 ghost use Rattle.litmus_table.specs.Reading.{table_of};
-ghost use Rattle.litmus_ppc.specs.Faults.{IsWithin, AreKept};
-ghost use Rattle.litmus_ppc.specs.TextMachine.{start, placed, step, rule_at, stage_rule};
+ghost use Rattle.litmus_ppc.specs.Faults.{IsWithin, AreKept, IsMissingFound, IsLateFound};
+ghost use Rattle.litmus_ppc.specs.InitMachine.{missing};
+ghost use Rattle.litmus_ppc.specs.TextMachine.{start, placed, step, rule_at, stage_rule, threads_in};
 ghost use Rattle.litmus_ppc.specs.TextReading.{held_of, state_of, StepsAt};
 
 use crate::fault::LitmusFault;
@@ -93,16 +97,31 @@ impl Reader {
         }
     }
 
-    /// The checks that are made once the whole text is read.
-    pub fn check(&self) -> Result<(), LitmusFault>
+    /// Refuses an initial value of a thread that is not there, which is looked for once the whole text is read.
+    pub fn check_init(&self) -> Result<(), LitmusFault>
+        // It answers the byte of the first such entry.
+        ensures found { IsMissingFound result (missing (threads_in (state_of self.now).kind (state_of self.now).threads (state_of self.now).held) (state_of self.now).held.init.entries (state_of self.now).held.init.starts) }
         // A fault stands no further on than what is blamed.
-        ensures { (n : ℕ) → AreKept n (state_of self.now).held → IfErr result (IsWithin n) }
+        ensures within { (n : ℕ) → AreKept n (state_of self.now).held → IfErr result (IsWithin n) }
     {
         let threads = self.held.threads(self.kind, self.threads);
-        if let Some(place) = self.held.init.missing(threads) {
-            let rule = LitmusRule::Init;
-            return Err(LitmusFault::Refused { rule, place });
+        match self.held.init.missing(threads) {
+            Some(place) => Err(LitmusFault::Refused {
+                rule: LitmusRule::Init,
+                place,
+            }),
+            None => Ok(()),
         }
+    }
+
+    /// Refuses a label that is defined twice and a branch to a label that stands before it or nowhere, which are
+    /// looked for once the whole text is read.
+    pub fn check_labels(&self) -> Result<(), LitmusFault>
+        // It answers what the definitions find, thread by thread.
+        ensures found { (text : List Placed) (notes : List (List Note)) → AreNoted text notes (state_of self.now).held.table.threads → IsLateFound text result (first_late notes) }
+        // A fault stands no further on than what is blamed.
+        ensures within { (n : ℕ) → AreKept n (state_of self.now).held → IfErr result (IsWithin n) }
+    {
         match self.held.table.check_labels() {
             Ok(Some(LateFault { rule, place })) => Err(LitmusFault::Refused { rule, place }),
             Ok(None) => Ok(()),
