@@ -3,6 +3,9 @@ pub mod Conditions
 pub mod Ends
 pub mod Entries
 pub mod Keys
+pub mod ListReaders
+pub mod Listed
+pub mod Lists
 pub mod Outcomes
 pub mod Readers
 pub mod Runs

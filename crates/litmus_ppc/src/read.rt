@@ -1,6 +1,6 @@
 //! Reads texts.
 
-ghost use Rattle.std.specs.Prelude.{◌≡◌, ◌<◌, ◌≤◌, length, IfOk, IfErr, MatchResult};
+ghost use Rattle.std.specs.Prelude.{◌≡◌, ◌<◌, ◌≤◌, List, length, IfOk, IfErr, MatchResult};
 ghost use Rattle.litmus_tokens.specs.Lexer.{front};
 ghost use Rattle.litmus_tokens.specs.Texts.{fresh_after, lexed};
 ghost use Rattle.litmus_values.specs.Value.{Formula, formula_of};
@@ -8,7 +8,7 @@ ghost use Rattle.litmus_values.specs.declared.test.Quantifier.{Quantifier};
 ghost use Rattle.litmus_ppc.specs.Faults.{IsWithin, IsTooLong, IsMemory};
 ghost use Rattle.litmus_ppc.specs.TextMachine.{start, first_stage, run};
 ghost use Rattle.litmus_ppc.specs.TextReading.{state_of, Runs, StepsAt};
-ghost use Rattle.litmus_ppc.specs.Texts.{ReadsCondition, IsConditionFault, IsFaultOf};
+ghost use Rattle.litmus_ppc.specs.Texts.{ReadsCondition, IsConditionFault, ReadsLocations, IsLocationsFault, IsFaultOf};
 
 use crate::fault::LitmusFault;
 use crate::held::Held;
@@ -202,7 +202,13 @@ pub fn read_locations(
     bytes: &[u8],
     threads: usize,
 ) -> Result<Vec<Place>, LitmusFault>
-    // A refusal stands within the text, or at its end.
+    // What is read is what the text means.
+    ensures found { IfOk result (λ v. ReadsLocations threads bytes.now v.items) }
+    // What means a list of places is read so, unless memory runs out.
+    ensures only { (v : List Place) → ReadsLocations threads bytes.now v → MatchResult result (λ r. r.items ≡ v) IsMemory }
+    // A refusal stands where the text stops to begin one, and has the number of the rule that is broken there.
+    ensures fault { IfErr result (IsFaultOf (IsLocationsFault threads bytes.now)) }
+    // It stands within the text, or at its end.
     ensures within { IfErr result (λ e. IsWithin (length bytes.now) e) }
     // The length is looked at first.
     ensures too_long { 65536 < length bytes.now → MatchResult result (λ _. ⊥) IsTooLong }

@@ -1,0 +1,64 @@
+-- What the reader of a list of places answers is what the grammar says.
+use Rattle.std.proofs.Common.{◌≡◌, ℕ, ◌<◌, ◌≤◌, false, List, length, map, Ok, refl, sym, ap, ◌∙◌, inl, inr, ◌⊎◌}
+use Rattle.std.proofs.lemmas.Bool.{cases_lt}
+use Rattle.litmus_tokens.specs.declared.stage.Stage.TheVariants.{Tail}
+use Rattle.litmus_tokens.specs.Texts.{tokens_of, lexed}
+use Rattle.litmus_values.specs.declared.test.Place.{Place}
+use Rattle.litmus_conditions.specs.Grammar.{place_meaning}
+use Rattle.litmus_ppc.specs.declared.fault.LitmusFault.{LitmusFault}
+use Rattle.litmus_ppc.specs.declared.fault.LitmusFault.TheVariants as faults
+use Rattle.litmus_ppc.specs.declared.parts.TextKind.TheVariants as kinds
+use Rattle.litmus_ppc.specs.Grammar.{members, IsLocationsText}
+use Rattle.litmus_ppc.specs.TextMachine.{State, Ran, run, start, nothing}
+use Rattle.litmus_ppc.specs.TextReading.{FailsAt}
+use Rattle.litmus_ppc.specs.Texts as texts
+use Rattle.litmus_ppc.specs.Texts.{ReadsLocations, IsLocationsFault, IsFaultOf}
+use Rattle.litmus_ppc.specs.Faults as faults_of
+use Rattle.litmus_ppc.proofs.Bounds.{is_short}
+use Rattle.litmus_ppc.proofs.Ends.{ends_done}
+use Rattle.litmus_ppc.proofs.Listed.{list_taken, list_reading}
+use Rattle.litmus_ppc.proofs.Lists.{list_whole}
+use Rattle.litmus_ppc.proofs.Outcomes.{fault_found, no_fault}
+use Rattle.litmus_ppc.proofs.Runs.{ends_last}
+
+abbrev ran : State → Ran
+ran s = Ok s
+
+same_state : (a b : State) → ran a ≡ ran b → a ≡ b
+same_state a b e = cc
+
+module _ (threads : ℕ) (few : threads < 18446744073709551616) (bytes : List ℕ) where
+  abbrev made : Ran
+  made = run (start kinds.Locations threads) (lexed Tail bytes)
+
+  text_of : (s : State) → made ≡ Ok s → IsLocationsText threads (tokens_of (lexed Tail bytes))
+  text_of s e =
+      let l = ends_last Tail false 0 0 bytes in
+      list_whole threads (lexed Tail bytes) Tail (nothing kinds.Locations) s e (ends_done (start kinds.Locations threads) s l.0 l.1 (ap (run (start kinds.Locations threads)) (sym l.2) ∙ e))
+
+  meant_by : (s : State) → made ≡ Ok s → (x : IsLocationsText threads (tokens_of (lexed Tail bytes))) → map place_meaning (members x.items) ≡ s.held.observed
+  meant_by s e x =
+      let t = list_taken threads few (lexed Tail bytes) x in
+      let same : t.0 ≡ s = same_state t.0 s (sym t.1 ∙ e) in
+      sym t.2 ∙ ap (λ (y : State). y.held.observed) same
+
+  pub locations_found : (s : State) → (length bytes ≤ 65536 → made ≡ Ok s) → (65536 < length bytes → ⊥) → ReadsLocations threads bytes s.held.observed
+  locations_found s h bounded =
+      let le = is_short bytes bounded in
+      let x = text_of s (h le) in
+      record { short = le; text = x; in_time = refl; meant = meant_by s (h le) x }
+
+  pub locations_only : (s : State) → (length bytes ≤ 65536 → made ≡ Ok s) → (v : List Place) → ReadsLocations threads bytes v → s.held.observed ≡ v
+  locations_only s h v r = sym (meant_by s (h r.short) r.text) ∙ r.meant
+
+  pub locations_only_memory : (d : LitmusFault) → (length bytes ≤ 65536 → FailsAt d made) → (v : List Place) → ReadsLocations threads bytes v → faults_of.IsMemory d
+  locations_only_memory (faults.OutOfMemory e) h v r = tt
+  locations_only_memory (faults.Refused rule place) h v r = no_fault (IsLocationsText threads) kinds.Locations threads (list_reading threads few) (lexed Tail bytes) rule place r.text (h r.short)
+
+  pub locations_fault : (d : LitmusFault) → (length bytes ≤ 65536 → FailsAt d made) → (65536 < length bytes → faults_of.IsTooLong d) → IsFaultOf (IsLocationsFault threads bytes) d
+  locations_fault (faults.OutOfMemory e) h long = tt
+  locations_fault (faults.Refused rule place) h long = choose (cases_lt 65536 (length bytes))
+    where
+      choose : (65536 < length bytes) ⊎ (length bytes ≤ 65536) → IsLocationsFault threads bytes rule place
+      choose (inl lt) = texts.IsTooLong lt (long lt).0 (long lt).1
+      choose (inr le) = texts.IsGrammar le (fault_found (IsLocationsText threads) kinds.Locations threads (list_reading threads few) (lexed Tail bytes) rule place (h le))
