@@ -1,0 +1,4 @@
+pub mod Conditions
+pub mod Numbers
+pub mod Places
+pub mod Read
