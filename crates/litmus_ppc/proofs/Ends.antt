@@ -41,7 +41,7 @@ no_operand p (Some wants.Comma) = refl
 no_operand p (Some wants.Open) = refl
 no_operand p (Some wants.Close) = refl
 
-no_cell : (ts : List table.Placed) (c : ℕ) (hole : table.Hole) (place : ℕ) → table.hole_step ts c hole End place ≡ None
+pub no_cell : (ts : List table.Placed) (c : ℕ) (hole : table.Hole) (place : ℕ) → table.hole_step ts c hole End place ≡ None
 no_cell ts c table.Begins place = refl
 no_cell ts c table.Labelled place = refl
 no_cell ts c (table.Within p) place = ap (λ (o : Option table.Pending). table.operand ts c o place) (no_operand p (table.first_of p.wants))

@@ -2,6 +2,7 @@ pub mod Bounds
 pub mod Conditions
 pub mod Ends
 pub mod Entries
+pub mod Inner
 pub mod Keys
 pub mod ListReaders
 pub mod Listed
@@ -10,4 +11,9 @@ pub mod Outcomes
 pub mod Readers
 pub mod Runs
 pub mod Separated
+pub mod Spelled
+pub mod Splits
+pub mod TextReaders
+pub mod ThreadReader
+pub mod Threads
 pub mod Turns

@@ -6,7 +6,7 @@ ghost use Rattle.litmus_conditions.specs.Grammar.{limits};
 ghost use Rattle.litmus_conditions.specs.PlaceMachine.{place_step};
 ghost use Rattle.litmus_conditions.specs.Reading.{stack_of, hole_of};
 ghost use Rattle.litmus_table.specs.Machine.{named};
-ghost use Rattle.litmus_table.specs.Reading.{table_of};
+ghost use Rattle.litmus_table.specs.Reading.{table_of, first_steps};
 ghost use Rattle.litmus_ppc.specs.InitMachine.{step as init_step};
 ghost use Rattle.litmus_ppc.specs.InitReading.{block_of};
 ghost use Rattle.litmus_ppc.specs.TextMachine.{HasColumn, part_step, nothing, title_read, init_went, table_went, row_read, cell_read, item_begun, item_went, next_item, item_read, fed, threads_in};
@@ -258,7 +258,9 @@ impl Held {
     }
 
     /// The thread that was read.
-    pub fn into_thread(self) -> Thread {
+    pub fn into_thread(self) -> Thread
+        ensures { result.steps.items ≡ first_steps (held_of self).table.threads }
+    {
         self.table.into_thread()
     }
 

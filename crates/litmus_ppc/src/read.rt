@@ -5,10 +5,11 @@ ghost use Rattle.litmus_tokens.specs.Lexer.{front};
 ghost use Rattle.litmus_tokens.specs.Texts.{fresh_after, lexed};
 ghost use Rattle.litmus_values.specs.Value.{Formula, formula_of};
 ghost use Rattle.litmus_values.specs.declared.test.Quantifier.{Quantifier};
+ghost use Rattle.litmus_values.specs.declared.test.Step.{Step};
 ghost use Rattle.litmus_ppc.specs.Faults.{IsWithin, IsTooLong, IsMemory};
 ghost use Rattle.litmus_ppc.specs.TextMachine.{start, first_stage, run};
 ghost use Rattle.litmus_ppc.specs.TextReading.{state_of, Runs, StepsAt};
-ghost use Rattle.litmus_ppc.specs.Texts.{ReadsCondition, IsConditionFault, ReadsLocations, IsLocationsFault, IsFaultOf};
+ghost use Rattle.litmus_ppc.specs.Texts.{ReadsThread, IsThreadFault, ReadsCondition, IsConditionFault, ReadsLocations, IsLocationsFault, IsFaultOf};
 
 use crate::fault::LitmusFault;
 use crate::held::Held;
@@ -136,7 +137,14 @@ pub fn read_test(alloc: Global, bytes: &[u8]) -> Result<Test, LitmusFault>
 
 /// Reads a thread: cells with semicolons between.
 pub fn read_thread(alloc: Global, bytes: &[u8]) -> Result<Thread, LitmusFault>
-    // A refusal stands within the text, or at its end.
+    // What is read is what the text means.
+    ensures found { IfOk result (λ t. ReadsThread bytes.now t.steps.items) }
+    // What means a thread is read so, unless memory runs out.
+    ensures only { (v : List Step) → ReadsThread bytes.now v → MatchResult result (λ t. t.steps.items ≡ v) IsMemory }
+    // A refusal stands where the text stops to begin one, and has the number of the rule that is broken there; a text
+    // that is one is refused at the first label or branch that the checks of labels find.
+    ensures fault { IfErr result (IsFaultOf (IsThreadFault bytes.now)) }
+    // It stands within the text, or at its end.
     ensures within { IfErr result (λ e. IsWithin (length bytes.now) e) }
     // The length is looked at first.
     ensures too_long { 65536 < length bytes.now → MatchResult result (λ _. ⊥) IsTooLong }

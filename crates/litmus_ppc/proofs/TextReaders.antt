@@ -1,0 +1,99 @@
+-- What a reader answers is what the grammar and the later checks say.
+use Rattle.std.proofs.Common.{◌≡◌, ℕ, ◌<◌, ◌≤◌, List, ◌∷◌, ◌++◌, length, Option, Some, None, Result, Ok, Err, refl, sym, ap, ◌∙◌, subst, inl, inr, ◌⊎◌}
+use Rattle.std.proofs.lemmas.Bool.{cases_lt}
+use Rattle.litmus_tokens.specs.declared.rule.LitmusRule.{LitmusRule}
+use Rattle.litmus_tokens.specs.declared.token.Token.{Token}
+use Rattle.litmus_tokens.specs.Texts.{Placed, tokens_of, lexed, StandsAt}
+use Rattle.litmus_tokens.specs.declared.token.Token.TheVariants as tokens
+use Rattle.litmus_table.specs.Checks.{IsFoundAt}
+use Rattle.litmus_table.specs.Late.{Late}
+use Rattle.litmus_ppc.specs.declared.fault.LitmusFault.{LitmusFault}
+use Rattle.litmus_ppc.specs.declared.fault.LitmusFault.TheVariants as faults
+use Rattle.litmus_ppc.specs.declared.parts.TextKind.{TextKind}
+use Rattle.litmus_ppc.specs.TextMachine.{State, Ran, run, start, first_stage}
+use Rattle.litmus_ppc.specs.TextMachine as text
+use Rattle.litmus_ppc.specs.TextReading.{FailsAt}
+use Rattle.litmus_ppc.specs.Texts as texts
+use Rattle.litmus_ppc.specs.Texts.{Reads, IsFaultAt, IsFaultOf}
+use Rattle.litmus_ppc.specs.Faults.{IsTooLong, IsMemory, IsLateFound}
+use Rattle.litmus_ppc.proofs.Bounds.{is_short}
+use Rattle.litmus_ppc.proofs.Ends.{ends_done}
+use Rattle.litmus_ppc.proofs.Inner.{AreInner, lexed_ends, before_inner}
+use Rattle.litmus_ppc.proofs.Outcomes.{ReadingWhere, fault_where, no_fault_where}
+
+abbrev ran : State → Ran
+ran s = Ok s
+
+pub same_state : (a b : State) → ran a ≡ ran b → a ≡ b
+same_state a b e = cc
+
+-- what the later checks answered
+abbrev refusal : LitmusFault → Result (Unit {0}) LitmusFault
+refusal d = Err d
+
+module _ (IsText : List Token → Type 0) (kind : TextKind) (threads : ℕ) (V : Type 0) (late : (ts : List Token) → IsText ts → Option Late) (value : (ts : List Token) → IsText ts → V)
+    (known : ReadingWhere AreInner IsText kind threads)
+    (whole : (ps : List Placed) (s : State) → run (start kind threads) ps ≡ Ok s → s.part ≡ text.Done → IsText (tokens_of ps))
+    (held : State → V)
+    (holds : (ps : List Placed) (s : State) (x : IsText (tokens_of ps)) → run (start kind threads) ps ≡ Ok s → held s ≡ value (tokens_of ps) x) (bytes : List ℕ) where
+  abbrev ps : List Placed
+  ps = lexed (first_stage kind) bytes
+
+  abbrev made : Ran
+  made = run (start kind threads) ps
+
+  fine : (before : List Placed) (p : Placed) (behind : List Placed) → ps ≡ before ++ p ∷ behind → AreInner (tokens_of before)
+  fine before p behind e =
+      let l = lexed_ends (first_stage kind) bytes in
+      before_inner l.inner (record { token = tokens.End; place = l.place }) before p behind (sym e ∙ l.split) l.are_inner
+
+  text_of : (s : State) → made ≡ Ok s → IsText (tokens_of ps)
+  text_of s e =
+      let l = lexed_ends (first_stage kind) bytes in
+      whole ps s e (ends_done (start kind threads) s l.inner l.place (ap (run (start kind threads)) (sym l.split) ∙ e))
+
+  -- the later checks of this text find that
+  abbrev Finds : Result (Unit {0}) LitmusFault → Type 0
+  Finds r = (x : IsText (tokens_of ps)) → IsLateFound ps r (late (tokens_of ps) x)
+
+  nothing_found : (o : Option Late) → IsFoundAt ps None o → o ≡ None
+  nothing_found None f = refl
+  nothing_found (Some l) f = absurd f
+
+  pub text_found : (s : State) (u : Unit {0}) → (length bytes ≤ 65536 → made ≡ Ok s) → (65536 < length bytes → ⊥) → (length bytes ≤ 65536 → Finds (Ok u)) → Reads IsText (first_stage kind) late value bytes (held s)
+  text_found s u h bounded finds =
+      let le = is_short bytes bounded in
+      let x = text_of s (h le) in
+      record { short = le; text = x; in_time = nothing_found (late (tokens_of ps) x) (finds le x); meant = sym (holds ps s x (h le)) }
+
+  pub text_only : (s : State) → (length bytes ≤ 65536 → made ≡ Ok s) → (v : V) → Reads IsText (first_stage kind) late value bytes v → held s ≡ v
+  text_only s h v r = holds ps s r.text (h r.short) ∙ r.meant
+
+  -- where the text was refused
+  pub text_only_memory : (d : LitmusFault) → (length bytes ≤ 65536 → FailsAt d made) → (v : V) → Reads IsText (first_stage kind) late value bytes v → IsMemory d
+  text_only_memory (faults.OutOfMemory e) h v r = tt
+  text_only_memory (faults.Refused rule place) h v r = no_fault_where AreInner IsText kind threads known ps fine rule place r.text (h r.short)
+
+  -- where a later check refused it
+  pub text_only_late : (d : LitmusFault) → (length bytes ≤ 65536 → Finds (refusal d)) → (v : V) → Reads IsText (first_stage kind) late value bytes v → IsMemory d
+  text_only_late (faults.OutOfMemory e) finds v r = tt
+  text_only_late (faults.Refused rule place) finds v r = subst (IsFoundAt ps (Some (record { rule = rule; place = place }))) r.in_time (finds r.short r.text)
+
+  pub text_fault : (d : LitmusFault) → (length bytes ≤ 65536 → FailsAt d made) → (65536 < length bytes → IsTooLong d) → IsFaultOf (IsFaultAt IsText (first_stage kind) late bytes) d
+  text_fault (faults.OutOfMemory e) h long = tt
+  text_fault (faults.Refused rule place) h long = choose (cases_lt 65536 (length bytes))
+    where
+      choose : (65536 < length bytes) ⊎ (length bytes ≤ 65536) → IsFaultAt IsText (first_stage kind) late bytes rule place
+      choose (inl lt) = texts.IsTooLong lt (long lt).0 (long lt).1
+      choose (inr le) = texts.IsGrammar le (fault_where AreInner IsText kind threads known ps fine rule place (h le))
+
+  pub text_fault_late : (d : LitmusFault) (s : State) → (length bytes ≤ 65536 → made ≡ Ok s) → (65536 < length bytes → ⊥) → (length bytes ≤ 65536 → Finds (refusal d)) → IsFaultOf (IsFaultAt IsText (first_stage kind) late bytes) d
+  text_fault_late (faults.OutOfMemory e) s h bounded finds = tt
+  text_fault_late (faults.Refused rule place) s h bounded finds =
+      let le = is_short bytes bounded in
+      let x = text_of s (h le) in
+      by_found le x (late (tokens_of ps) x) refl (finds le x)
+    where
+      by_found : length bytes ≤ 65536 → (x : IsText (tokens_of ps)) (o : Option Late) → late (tokens_of ps) x ≡ o → IsFoundAt ps (Some (record { rule = rule; place = place })) o → IsFaultAt IsText (first_stage kind) late bytes rule place
+      by_found le x None e f = absurd f
+      by_found le x (Some l) e f = texts.IsLater le (record { text = x; found = l; is_found = e; rule_is = sym f.0; stands = f.1 })
