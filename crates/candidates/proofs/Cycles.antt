@@ -1,5 +1,5 @@
 -- Finite relations without a cycle.
-use Rattle.std.proofs.Common.{ℕ, zero, suc, ◌≡◌, ◌<◌, ◌+◌, ◌⊎◌, inl, inr, List, [], ◌∷◌, ◌++◌, arith, sym, subst, refl}
+use Rattle.std.proofs.Common.{ℕ, zero, suc, ◌≡◌, ◌<◌, ◌⊎◌, inl, inr, List, [], ◌∷◌, ◌++◌, arith, sym, subst, refl}
 use Rattle.std.proofs.lemmas.Bool.{cases_eq}
 use Rattle.bit_relations.specs.Pairs.{Path, Plus, IsAcyclic}
 

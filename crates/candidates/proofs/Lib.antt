@@ -4,6 +4,7 @@ pub mod Deriving
 pub mod Extending
 pub mod Filters
 pub mod Finding
+pub mod Gathering
 pub mod Members
 pub mod Numbers
 pub mod OrderLaws

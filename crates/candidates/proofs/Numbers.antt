@@ -98,7 +98,7 @@ rising test at (e ∷ es) i j lt within = go (test e) i j lt within (λ k l. fro
     go true (suc k) (suc l) below inside above rest = rest k l (omega (arith, below)) (omega (arith, inside))
     go false k l below inside above rest = rest k l below inside
 
-as_many : (test : Event → Bool) (at : ℕ) (es : List Event) → length (filter test es) ≡ length (numbers test at es)
+pub as_many : (test : Event → Bool) (at : ℕ) (es : List Event) → length (filter test es) ≡ length (numbers test at es)
 as_many test at [] = refl
 as_many test at (e ∷ es) = go (test e) (as_many test (at + 1) es)
   where

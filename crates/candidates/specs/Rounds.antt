@@ -1,14 +1,24 @@
 -- How the values that can arise are found, round by round.
-use Rattle.std.specs.Prelude.{ℕ, ◌≡◌, ◌<◌, ◌≤◌, ◌⊎◌, ◌↔◌, IsTrue, Bool, List, [], ◌++◌, length, take, slice_index_or, All, map, slice_get, slice_index, Option, Some}
+use Rattle.std.specs.Prelude.{ℕ, ◌≡◌, ◌<◌, ◌≤◌, ◌⊎◌, ◌↔◌, IsTrue, Bool, List, [], ◌++◌, length, take, slice_index_or, All, map, slice_get, slice_index, Option, Some, filter, Contains}
 use Rattle.std.specs.List.{flat_map}
 use Rattle.bit_relations.specs.Relation.{Events, IsMember, IsEvents}
 use Rattle.candidates.specs.Lists.{IsFiltered}
 use Rattle.candidates.specs.Orders.{numbers}
-use Rattle.candidates.specs.Ways.{Source, Derived, IsPossible, AreWays, nexts, accesses_in, is_load, is_store}
+use Rattle.candidates.specs.Ways.{Source, Derived, IsPossible, AreWays, nexts, accesses_in, sources_of, is_load, is_store}
 use Rattle.candidates.specs.declared.candidate.Event.{Event}
 use Rattle.candidates.specs.declared.reading.Reading.{Reading}
 use Rattle.candidates.specs.declared.reading.Load.{Load}
 use Rattle.candidates.specs.declared.reading.Store.{Store}
+
+-- the loads among the first events, each with the stores that it may read
+pub record AreLoads (es : List Event) (n : ℕ) (loads : List Load) : Type 0 where
+  pub events : map (λ l. l.event) loads ≡ numbers is_load 0 (take n es)
+  pub sources : (k : ℕ) (l : Load) (e : Event) → slice_get loads k ≡ Some l → slice_get (filter is_load (take n es)) k ≡ Some e → IsEvents l.sources (length es) (Contains (sources_of es e))
+
+-- the stores among the first events, each with the loads that it needs
+pub record AreStores (es : List Event) (pairs : List (ℕ × ℕ)) (n : ℕ) (stores : List Store) : Type 0 where
+  pub events : map (λ s. s.event) stores ≡ numbers is_store 0 (take n es)
+  pub needs : (k : ℕ) (s : Store) → slice_get stores k ≡ Some s → IsEvents s.needs (length es) (λ a. Contains pairs (a, s.event) × Contains (numbers is_load 0 es) a)
 
 -- the loads and stores are those of the events, with their sources and needs
 pub record Shows (es : List Event) (pairs : List (ℕ × ℕ)) (r : Reading) : Type 0 where

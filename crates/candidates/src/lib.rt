@@ -10,8 +10,6 @@ mod orders;
 mod part;
 mod reading;
 mod search;
-#[cfg(test)]
-mod tests;
 
 pub use candidate::{Action, Combination, Event, Execution, Space};
 use layout::Layout;

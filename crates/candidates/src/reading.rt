@@ -1,9 +1,12 @@
 //! The ways in which the loads of a combination of runs read its stores.
 
-ghost use Rattle.std.specs.Prelude.{◌≡◌, ◌<◌, ◌≤◌, ◌↔◌, ◌⊎◌, length, IsTrue, IfOk, OnOk, MatchOption};
+ghost use Rattle.std.specs.Prelude.{◌≡◌, ◌<◌, ◌≤◌, ◌↔◌, ◌⊎◌, length, Contains, IsTrue, IfOk, OnOk, MatchOption};
 ghost use Rattle.bit_relations.specs.Relation.{IsMember, IsEvents};
-ghost use Rattle.candidates.specs.Rounds.{IsInside, IsMeeting, CanRead, CanArise, WithStores, WithLoads, IsRound, HasDerived, TellsPossible, GainsNext, AreNext, AreOver, HasOver, HasWays};
+ghost use Rattle.candidates.specs.Rounds.{IsInside, IsMeeting, CanRead, CanArise, WithStores, WithLoads, IsRound, HasDerived, TellsPossible, GainsNext, AreNext, AreOver, HasOver, HasWays, Shows, AreLoads, AreStores};
 ghost use Rattle.candidates.specs.Lists.{lists_of};
+ghost use Rattle.candidates.specs.Orders.{numbers};
+ghost use Rattle.candidates.specs.Ways.{is_load, is_store, may_read, same_value};
+ghost use Rattle.candidates.specs.Ways as ways;
 
 use crate::candidate::{Action, Event};
 use crate::orders::joined;
@@ -106,36 +109,123 @@ fn can_arise(
     !is_left(without, place) && can_read(load, way, place, derived)
 }
 
-/// The stores of a location and a value.
-fn stores_of(count: usize, events: &[Event], location: usize, value: Value) -> EventSet
-    requires { count ≤ MAX_EVENTS }
+/// Whether the event is a load.
+fn is_read(event: &Event) -> bool
+    ensures { result ≡ is_load event.now }
 {
-    let mut found = EventSet::empty(count);
-    for (number, event) in events.iter().enumerate() {
-        if let Action::Write {
-            location: place,
-            value: stored,
-        } = event.action
-        {
-            if place == location && stored == value {
-                add_if(&mut found, true, number);
-            }
-        }
+    matches!(event.action, Action::Read { .. })
+}
+
+/// Whether the event is a store.
+fn is_write(event: &Event) -> bool
+    ensures { result ≡ is_store event.now }
+{
+    matches!(event.action, Action::Write { .. })
+}
+
+/// Whether there is a load of this number.
+fn has_load(events: &[Event], number: usize) -> bool
+    ensures { IsTrue result ↔ Contains (numbers is_load 0 events.now) number }
+{
+    number < events.len() && is_read(&events[number])
+}
+
+/// Whether the load may read the store: they have one location and value.
+fn is_source(load: &Event, store: &Event) -> bool
+    ensures { result ≡ may_read load.now.action store.now.action }
+{
+    match (load.action, store.action) {
+        (
+            Action::Read { location, value },
+            Action::Write {
+                location: place,
+                value: written,
+            },
+        ) => place == location && is_same(written, value),
+        _ => false,
+    }
+}
+
+/// Whether both are one value.
+fn is_same(value: Value, other: Value) -> bool
+    ensures { result ≡ same_value value other }
+{
+    match (value, other) {
+        (Value::Number(m), Value::Number(n)) => m == n,
+        (Value::Address(k), Value::Address(l)) => k == l,
+        (Value::NoValue, Value::NoValue) => true,
+        _ => false,
+    }
+}
+
+/// The stores that the load may read.
+fn sources_of(events: &[Event], load: &Event) -> EventSet
+    requires { length events.now ≤ MAX_EVENTS }
+    ensures { IsEvents result (length events.now) (Contains (ways.sources_of events.now load.now)) }
+{
+    let mut found = EventSet::empty(events.len());
+    for number in 0..events.len() {
+        add_if(&mut found, is_source(load, &events[number]), number);
     }
     found
 }
 
-/// The loads that the store needs.
-fn needs_of(count: usize, need_pairs: &[(usize, usize)], store: usize) -> EventSet
-    requires { count ≤ MAX_EVENTS }
+/// Whether the pair is a load and the store, which needs its value.
+fn is_need(events: &[Event], pair: (usize, usize), store: usize) -> bool
+    ensures { IsTrue result ↔ ((pair.1 ≡ store) × Contains (numbers is_load 0 events.now) pair.0) }
 {
-    let mut found = EventSet::empty(count);
-    for (load, needing) in need_pairs {
-        if *needing == store {
-            add_if(&mut found, true, *load);
-        }
+    pair.1 == store && has_load(events, pair.0)
+}
+
+/// The loads that the store needs.
+fn needs_of(events: &[Event], need_pairs: &[(usize, usize)], store: usize) -> EventSet
+    requires { length events.now ≤ MAX_EVENTS }
+    ensures { IsEvents result (length events.now) (λ a. Contains need_pairs.now (a, store) × Contains (numbers is_load 0 events.now) a) }
+{
+    let mut found = EventSet::empty(events.len());
+    for number in 0..need_pairs.len() {
+        let pair = need_pairs[number];
+        add_if(&mut found, is_need(events, pair, store), pair.0);
     }
     found
+}
+
+/// The loads among the events.
+fn loads_of(alloc: Global, events: &[Event]) -> Result<Vec<Load>, AllocError>
+    requires { length events.now ≤ MAX_EVENTS }
+    ensures { IfOk result (λ v. AreLoads events.now (length events.now) v.items) }
+{
+    let mut loads = Vec::new(alloc);
+    for number in 0..events.len() {
+        if is_read(&events[number]) {
+            loads.push(Load {
+                event: number,
+                sources: sources_of(events, &events[number]),
+            })?;
+        }
+    }
+    Ok(loads)
+}
+
+/// The stores among the events.
+fn stores_of(
+    alloc: Global,
+    events: &[Event],
+    need_pairs: &[(usize, usize)],
+) -> Result<Vec<Store>, AllocError>
+    requires { length events.now ≤ MAX_EVENTS }
+    ensures { IfOk result (λ v. AreStores events.now need_pairs.now (length events.now) v.items) }
+{
+    let mut stores = Vec::new(alloc);
+    for number in 0..events.len() {
+        if is_write(&events[number]) {
+            stores.push(Store {
+                event: number,
+                needs: needs_of(events, need_pairs, number),
+            })?;
+        }
+    }
+    Ok(stores)
 }
 
 impl Reading {
@@ -145,27 +235,14 @@ impl Reading {
         alloc: Global,
         events: &[Event],
         need_pairs: &[(usize, usize)],
-    ) -> Result<Reading, AllocError> {
-        let count = events.len().min(MAX_EVENTS);
-        let mut loads = Vec::new(alloc);
-        let mut stores = Vec::new(alloc);
-        for (number, event) in events.iter().enumerate() {
-            match event.action {
-                Action::Read { location, value } => loads.push(Load {
-                    event: number,
-                    sources: stores_of(count, events, location, value),
-                })?,
-                Action::Write { .. } => stores.push(Store {
-                    event: number,
-                    needs: needs_of(count, need_pairs, number),
-                })?,
-                Action::Fence(_) => {}
-            }
-        }
+    ) -> Result<Reading, AllocError>
+        ensures { IfOk result (λ r. length events.now ≤ MAX_EVENTS → Shows events.now need_pairs.now r) }
+    {
+        let events = &events[..events.len().min(MAX_EVENTS)];
         Ok(Reading {
-            count,
-            loads,
-            stores,
+            count: events.len(),
+            loads: loads_of(alloc, events)?,
+            stores: stores_of(alloc, events, need_pairs)?,
         })
     }
 

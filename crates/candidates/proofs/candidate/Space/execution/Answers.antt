@@ -1,4 +1,4 @@
-use Rattle.std.proofs.Common.{◌≡◌, ◌<◌, Vec, List, ℕ, length, get_or, ap, subst, ◌∙◌, arith, rules, HoldsAt}
+use Rattle.std.proofs.Common.{◌≡◌, ◌<◌, Vec, List, length, get_or, ap, subst, ◌∙◌, arith, rules, HoldsAt}
 use Rattle.std.specs.declared.alloc.Global.{Global}
 use Rattle.ppc_semantics.specs.declared.value.Value.{Value}
 use Rattle.candidates.specs.Space.{candidates_of, IsExecution}

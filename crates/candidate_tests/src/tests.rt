@@ -1,4 +1,6 @@
-use crate::{Space, space};
+//! Tests whose candidates are known.
+
+use candidates::{Space, space};
 use litmus_ppc::read_test;
 use ppc_semantics::SpaceFault;
 use source_text::{put_bytes, put_decimal};
