@@ -16,8 +16,7 @@ use Rattle.cat_grammar.specs.declared.form.Form.TheVariants as forms
 use Rattle.cat_tokens.specs.declared.token.Token.{Token}
 use Rattle.cat_tokens.specs.declared.token.Token.TheVariants.{End}
 use Rattle.cat_values.specs.Value.{Clause}
-use Rattle.cat_tokens.specs.Tokens.{Placed, tokens_of}
-use Rattle.cat_grammar.specs.Grammar.{ItemTree}
+use Rattle.cat_tokens.specs.Tokens.{tokens_of}
 use Rattle.cat_tokens.specs.Lexer.{front, after_front, tokens_from, lexed}
 use Rattle.cat_syntax.specs.Faults.{IsMemory}
 use Rattle.cat_values.specs.Values.{clause_of, clauses_of}

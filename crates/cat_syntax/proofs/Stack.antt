@@ -6,9 +6,8 @@ use Rattle.std.proofs.lemmas.Bool.Decides.{nat_tests}
 use Rattle.std.proofs.lemmas.List.{map-append}
 use Rattle.std.proofs.lemmas.List.Sums.{sum_by-cons}
 use Rattle.cat_syntax.specs.declared.frames.Frame.TheVariants as frames
-use mathlib.Core.Former.{Count}
 use Rattle.std.proofs.Common.{Vec, Global}
-use Rattle.cat_values.specs.declared.model.Expression.{Expression, Row_of-Expression, end_of-Expression, more_of-Expression, items-the_row-Expression, items_hidden-the_row-Expression-0}
+use Rattle.cat_values.specs.declared.model.Expression.{Expression}
 use Rattle.cat_values.specs.declared.model.Expression.TheVariants as expressions
 use Rattle.cat_values.specs.declared.model.Expression.TheVariants.{Applied'}
 use Rattle.cat_values.specs.declared.model.Infix.{Infix}
@@ -19,7 +18,7 @@ use Rattle.cat_syntax.specs.declared.frames.StepError.{StepError}
 use Rattle.cat_values.specs.declared.model.CheckWord.{CheckWord}
 use Rattle.cat_tokens.specs.declared.token.Token.{Token}
 use Rattle.cat_tokens.specs.declared.token.Token.TheVariants as tokens
-use Rattle.cat_values.specs.Value.{Term, Join, Not, Apply, OneMore, gathered}
+use Rattle.cat_values.specs.Value.{Term, Join, Not, Apply, gathered}
 use Rattle.cat_syntax.specs.declared.frames.Frame as code_frame
 use Rattle.cat_grammar.specs.Machine as machine
 use Rattle.cat_grammar.specs.Grammar.{level, limits}

@@ -1,25 +1,19 @@
 -- The loop over a text.
-use Rattle.std.proofs.Common.{◌≡◌, ℕ, zero, suc, ◌+◌, ◌-◌, ◌<◌, ◌≤◌, List, [], ◌∷◌, ◌++◌, length, take, drop, Result, Ok, Err, refl, sym, ap, ◌∙◌, subst, arith, min, inl, inr, ◌⊎◌}
+use Rattle.std.proofs.Common.{◌≡◌, ℕ, ◌+◌, ◌-◌, ◌<◌, ◌≤◌, List, length, take, drop, Ok, Err, refl, ap, ◌∙◌, arith, min}
 use Rattle.std.specs.Prelude.{max, nat_lt, Bool, true, false, if◌then◌else◌}
 use Rattle.std.proofs.lemmas.Bool.Decides.{nat_tests}
-use Rattle.std.proofs.lemmas.Bool.{cases_lt}
-use Rattle.std.proofs.lemmas.List.{at_drop_more, drop_more, drop_all, length-drop}
-use Rattle.std.proofs.lemmas.List.{drop-drop, take_all}
+use Rattle.std.proofs.lemmas.List.{length-drop}
+use Rattle.std.proofs.lemmas.List.{take_all}
 use Rattle.cat_syntax.specs.declared.fault.CatFault.{CatFault}
 use Rattle.cat_syntax.specs.declared.fault.CatFault.TheVariants as faults
-use Rattle.cat_tokens.specs.declared.rule.CatRule.TheVariants.{TooLong, Syntax}
-use Rattle.cat_tokens.specs.declared.rule.CatRule.{CatRule}
-use Rattle.cat_values.specs.declared.model.Item.{Item}
-use Rattle.cat_values.specs.Value.{Clause}
-use Rattle.cat_values.specs.Values.{clause_of, clauses_of}
+use Rattle.cat_tokens.specs.declared.rule.CatRule.TheVariants.{TooLong}
 use Rattle.cat_grammar.specs.declared.form.Form.{Form}
 use Rattle.cat_tokens.specs.declared.token.Token.{Token}
 use Rattle.cat_tokens.specs.declared.token.Token.TheVariants as tokens
 use Rattle.cat_tokens.specs.declared.lexer.Front.{Front}
 use Rattle.cat_tokens.specs.declared.lexer.Front.TheVariants.{Layout, Lexeme}
-use Rattle.cat_tokens.specs.Lexer.{front, after_front, tokens_from, lexed}
+use Rattle.cat_tokens.specs.Lexer.{front, tokens_from, lexed}
 use Rattle.cat_grammar.specs.Grammar.{Limits, limits}
-use Rattle.cat_tokens.specs.Tokens.{Placed}
 use Rattle.cat_grammar.specs.ItemMachine.{State, step, start}
 use Rattle.cat_syntax.specs.ReadingTexts.{reading, FailsAt}
 use Rattle.cat_tokens.proofs.Lexed.{layout_turn, lexeme_turn, at_end}

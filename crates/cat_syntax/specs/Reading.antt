@@ -1,10 +1,7 @@
 -- What the reader holds of an expression, as the machine sees it.
 use Rattle.std.specs.Prelude.{◌≡◌, List, [], ◌∷◌, Bool, true, false, map, Result, Ok, Err}
-use Rattle.cat_tokens.specs.declared.rule.CatRule.{CatRule}
 use Rattle.cat_syntax.specs.declared.frames.StepError.{StepError}
 use Rattle.cat_syntax.specs.declared.frames.StepError.TheVariants as errors
-use Rattle.cat_values.specs.declared.model.Expression.{Expression, Row_of-Expression, end_of-Expression, more_of-Expression}
-use Rattle.cat_values.specs.declared.model.Expression.TheVariants.{Named, Everything, NoPairs, NoEvents, Joined', Marked', Complement', Identity', Applied'}
 use Rattle.cat_syntax.specs.declared.frames.Frame as code_frame
 use Rattle.cat_syntax.specs.declared.frames.Frame.TheVariants as frames
 use Rattle.cat_syntax.specs.declared.frames.Hole as code_hole
@@ -13,7 +10,6 @@ use Rattle.cat_syntax.specs.declared.frames.Fed as code_fed
 use Rattle.cat_syntax.specs.declared.frames.Fed.TheVariants as fed
 use Rattle.cat_tokens.specs.declared.token.Token.{Token}
 use Rattle.cat_tokens.specs.declared.token.Token.TheVariants as tokens
-use Rattle.cat_values.specs.Value.{Term, Terms, Atom, AllEvents, EmptyRelation, EmptySet, Join, Mark, Not, On, Apply, NoTerm, OneMore}
 use Rattle.cat_values.specs.Values.{term_of}
 use Rattle.cat_grammar.specs.Machine as machine
 

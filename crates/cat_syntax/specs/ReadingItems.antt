@@ -1,16 +1,12 @@
 -- What the reader holds of the items, as the machine sees it.
-use Rattle.std.specs.Prelude.{◌≡◌, ℕ, List, Option, map, Result, Ok, Err}
+use Rattle.std.specs.Prelude.{◌≡◌, List, map, Result, Ok, Err}
 use Rattle.cat_syntax.specs.declared.frames.StepError.{StepError}
 use Rattle.cat_syntax.specs.declared.frames.StepError.TheVariants as errors
 use Rattle.cat_syntax.specs.declared.frames.Fed.{Fed}
 use Rattle.cat_syntax.specs.declared.frames.Fed.TheVariants as feds
 use Rattle.cat_tokens.specs.declared.token.Token.{Token}
 use Rattle.cat_tokens.specs.declared.token.Token.TheVariants as tokens
-use Rattle.cat_values.specs.declared.model.Binding as code_binding
-use Rattle.cat_values.specs.declared.model.ShownExpression.{ShownExpression}
-use Rattle.cat_values.specs.declared.model.Check as code_check
 use Rattle.cat_values.specs.declared.model.Item.{Item}
-use Rattle.cat_values.specs.declared.model.Item.TheVariants as items
 use Rattle.cat_syntax.specs.declared.lets.Group as code_group
 use Rattle.cat_syntax.specs.declared.lets.LetPart as code_let
 use Rattle.cat_syntax.specs.declared.lets.LetPart.TheVariants as lets
@@ -19,7 +15,6 @@ use Rattle.cat_syntax.specs.declared.parts.Head as code_head
 use Rattle.cat_syntax.specs.declared.parts.Head.TheVariants as heads
 use Rattle.cat_syntax.specs.declared.parts.Part as code_part
 use Rattle.cat_syntax.specs.declared.parts.Part.TheVariants as parts
-use Rattle.cat_values.specs.Value.{Term, Clause, Checked, Binding, Function, Checking, Flagging, Showing, Including}
 use Rattle.cat_grammar.specs.Machine as terms
 use Rattle.cat_grammar.specs.ItemMachine as machine
 use Rattle.cat_values.specs.Values.{term_of, binding_of, shown_of, clauses_of}

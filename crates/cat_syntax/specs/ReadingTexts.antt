@@ -1,5 +1,5 @@
 -- What reading a text answers.
-use Rattle.std.specs.Prelude.{◌≡◌, ℕ, ◌+◌, ◌-◌, List, [], ◌∷◌, zero, suc, Result, Ok, Err, length, nat_lt, if◌then◌else◌}
+use Rattle.std.specs.Prelude.{◌≡◌, ℕ, List, Result, Ok, Err, length, nat_lt, if◌then◌else◌}
 use Rattle.std.specs.declared.vec.Vec.{Vec}
 use Rattle.std.specs.declared.alloc.Global.{Global}
 use Rattle.cat_tokens.specs.declared.rule.CatRule.{CatRule}
@@ -9,14 +9,9 @@ use Rattle.cat_syntax.specs.declared.fault.CatFault.TheVariants as faults
 use Rattle.cat_grammar.specs.declared.form.Form.{Form}
 use Rattle.cat_syntax.specs.declared.items.Parser.{Parser}
 use Rattle.cat_values.specs.declared.model.Item.{Item}
-use Rattle.cat_tokens.specs.declared.token.Token.{Token}
-use Rattle.cat_tokens.specs.declared.token.Token.TheVariants as tokens
-use Rattle.cat_tokens.specs.declared.lexer.Front.{Front}
-use Rattle.cat_tokens.specs.declared.lexer.Front.TheVariants.{Layout, Lexeme}
-use Rattle.cat_tokens.specs.Lexer.{front, lexed}
+use Rattle.cat_tokens.specs.Lexer.{lexed}
 use Rattle.cat_values.specs.Value.{Clause}
-use Rattle.cat_grammar.specs.Grammar.{Limits, limits}
-use Rattle.cat_tokens.specs.Tokens.{Placed}
+use Rattle.cat_grammar.specs.Grammar.{limits}
 use Rattle.cat_grammar.specs.ItemMachine.{start}
 use Rattle.cat_grammar.specs.Running.{Ran, run, items_of}
 use Rattle.cat_values.specs.Values.{clauses_of}

@@ -1,4 +1,4 @@
-use Rattle.std.proofs.Common.{ap, sym, ◌∙◌, ◌∷◌, List}
+use Rattle.std.proofs.Common.{ap, ◌∙◌, ◌∷◌}
 use Rattle.cat_grammar.specs.Machine.{closed, Goes, Has}
 use Rattle.cat_values.specs.Value.{Term}
 use Rattle.cat_syntax.specs.Reading.{frame_of, stack_of}

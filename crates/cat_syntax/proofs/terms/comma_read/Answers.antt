@@ -1,6 +1,5 @@
-use Rattle.std.proofs.Common.{ap, sym, ◌∙◌, ◌∷◌, List}
+use Rattle.std.proofs.Common.{ap, ◌∙◌, ◌∷◌, List}
 use Rattle.cat_grammar.specs.Machine.{comma_read, Goes, Wants, Frame}
-use Rattle.cat_values.specs.Value.{Term}
 use Rattle.cat_syntax.specs.Reading.{frame_of, stack_of}
 use Rattle.cat_values.specs.Values.{term_of}
 use Rattle.cat_syntax.specs.declared.frames.Frame as code_frame

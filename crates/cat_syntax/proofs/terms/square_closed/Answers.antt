@@ -1,4 +1,4 @@
-use Rattle.std.proofs.Common.{ap, sym, ◌∙◌, ◌∷◌, List}
+use Rattle.std.proofs.Common.{ap, sym, ◌∙◌, ◌∷◌}
 use Rattle.cat_grammar.specs.Machine.{square_closed, Goes, Has}
 use Rattle.cat_values.specs.Value.{Term, On}
 use Rattle.cat_syntax.specs.Reading.{frame_of, stack_of}
