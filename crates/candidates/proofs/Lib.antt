@@ -1,4 +1,5 @@
 pub mod Arising
+pub mod Counting
 pub mod Cycles
 pub mod Deriving
 pub mod Extending

@@ -20,7 +20,7 @@ both_false false b h k = k
 eq_swap : (a b : ℕ) → nat_eq a b ≡ false → nat_eq b a ≡ false
 eq_swap a b h = grind (arith, nat_tests)
 
-has_store-append : (t : List ℕ) (s x : ℕ) → has_store (t ++ s ∷ []) x ≡ (has_store t x || (nat_eq s x || false))
+pub has_store-append : (t : List ℕ) (s x : ℕ) → has_store (t ++ s ∷ []) x ≡ (has_store t x || (nat_eq s x || false))
 has_store-append t s x = list_any-append (λ y. nat_eq y x) t (s ∷ [])
 
 lacks_both : (t : List ℕ) (s x : ℕ) → has_store (t ++ s ∷ []) x ≡ false → (has_store t x ≡ false) × (nat_eq s x ≡ false)

@@ -1,5 +1,5 @@
 -- Orders of the stores of each location, and of all stores.
-use Rattle.std.specs.Prelude.{ℕ, zero, suc, ◌≡◌, ◌+◌, List, [], ◌∷◌, ◌++◌, map, filter, take, replicate, length, Bool, true, false, not, ◌&&◌, cond, is_some, nat_eq}
+use Rattle.std.specs.Prelude.{ℕ, zero, suc, ◌≡◌, ◌<◌, ◌+◌, ◌-◌, ◌*◌, List, [], ◌∷◌, ◌++◌, map, filter, take, replicate, length, Bool, true, false, not, ◌&&◌, cond, is_some, nat_eq}
 use Rattle.std.specs.List.{flat_map, list_any}
 use Rattle.candidates.specs.Lists.{tuples, IsFiltered, joined_with}
 use Rattle.candidates.specs.declared.candidate.Action.{Action}
@@ -56,3 +56,12 @@ stores_of events location = numbers (is_thread_store location) 0 (take 128 event
 abbrev pub all_orders : List Event → ℕ → List (List ℕ)
 all_orders events zero = [] ∷ []
 all_orders events (suc n) = flat_map (joined_with (orders_of n (stores_of events n))) (all_orders events n)
+
+-- in how many ways so many of a number of things can stand in a row
+abbrev pub rows_of : ℕ → ℕ → ℕ
+rows_of count zero = 1
+rows_of count (suc places) = rows_of count places * (count - places)
+
+-- the initial store of each of the first locations, which has the number of the location, is no store of a thread to it
+abbrev pub AreApart : List Event → ℕ → Type 0
+AreApart events n = (location : ℕ) → location < n → has_store (stores_of events location) location ≡ false

@@ -4,6 +4,8 @@ use Rattle.std.specs.List.{flat_map, filter_map, zip}
 use Rattle.std.specs.declared.alloc.Global.{Global}
 use Rattle.ppc_semantics.specs.declared.value.Value.{Value}
 use Rattle.candidates.specs.Lists.{lists_of}
+use Rattle.candidates.specs.Orders.{all_orders}
+use Rattle.candidates.specs.declared.candidate.Event.{Event}
 use Rattle.candidates.specs.declared.candidate.Combination.{Combination}
 use Rattle.candidates.specs.declared.candidate.Execution.{Execution}
 
@@ -22,6 +24,33 @@ candidates_in cs = flat_map (λ c. map (λ t. (c, t)) (candidates_of c)) cs
 -- what the registers of each thread hold at the end of its run
 abbrev pub registers_at : List (Vec (List Value) Global) → List ℕ → List (List Value)
 registers_at threads runs = filter_map (λ p. slice_get p.0.items p.1) (zip threads runs)
+
+-- a combination as plain data
+pub record Seen : Type 0 where
+  pub events : List Event
+  pub addr_pairs : List (ℕ × ℕ)
+  pub data_pairs : List (ℕ × ℕ)
+  pub ctrl_pairs : List (ℕ × ℕ)
+  pub ctrlisync_pairs : List (ℕ × ℕ)
+  pub runs : List ℕ
+  pub sources : List (List ℕ)
+  pub orders : List (List ℕ)
+
+abbrev pub seen : Combination → Seen
+seen c = record {
+  events = c.events.items;
+  addr_pairs = c.addr_pairs.items;
+  data_pairs = c.data_pairs.items;
+  ctrl_pairs = c.ctrl_pairs.items;
+  ctrlisync_pairs = c.ctrlisync_pairs.items;
+  runs = c.runs.items;
+  sources = lists_of c.sources.items;
+  orders = lists_of c.orders.items;
+}
+
+-- the combination with the orders of its stores, of the first locations
+abbrev pub ordered : ℕ → Seen → Seen
+ordered n s = record s { orders = all_orders s.events n }
 
 -- the execution is this candidate of the combination, where each thread has runs with these registers at their ends
 pub record IsExecution (threads : List (Vec (List Value) Global)) (c : Combination) (t : List ℕ × List ℕ) (e : Execution) : Type 0 where

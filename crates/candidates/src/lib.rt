@@ -32,8 +32,7 @@ pub fn space(alloc: Global, test: &Test) -> Result<Space, SpaceFault> {
     if found.is_faulted {
         return Err(SpaceFault::Refused(EvalRefusal::AddressFault));
     }
-    let mut combinations = found.combinations;
-    orders::put_orders(alloc, &mut combinations, layout.locations.len())?;
+    let combinations = orders::with_orders(alloc, found.combinations, layout.locations.len())?;
     let registers = layout::registers(alloc, &layout.threads)?;
     Ok(Space {
         locations: layout.locations,

@@ -1,27 +1,14 @@
 //! The orders of the stores of a combination of runs.
-ghost use Rattle.std.specs.Prelude.{◌≡◌, ◌++◌, min, IfOk, OnOk};
+ghost use Rattle.std.specs.Prelude.{◌≡◌, ◌-◌, ◌^◌, ◌++◌, length, map, min, IfOk, OnOk};
 ghost use Rattle.std.specs.List.{flat_map};
 ghost use Rattle.candidates.specs.Lists.{lists_of, joined_with};
-ghost use Rattle.candidates.specs.Orders.{with_new, AreOrders, is_thread_store, stores_of, all_orders};
+ghost use Rattle.candidates.specs.Orders.{with_new, AreOrders, is_thread_store, stores_of, all_orders, AreApart};
+ghost use Rattle.candidates.specs.Orders as definitions;
+ghost use Rattle.candidates.specs.Space.{seen, ordered};
 
 use crate::candidate::{Action, Combination, Event};
 use bit_relations::MAX_EVENTS;
 use std::alloc::{AllocError, Global};
-
-/// How many orders the stores have, or the greatest number where that is less.
-pub fn order_count(events: &[Event]) -> usize {
-    let mut stored = [0usize; MAX_EVENTS];
-    let mut count = 1usize;
-    for event in events {
-        if let (Some(_), Action::Write { location, .. }) = (event.thread, event.action) {
-            if let Some(others) = stored.get_mut(location) {
-                *others = others.saturating_add(1);
-                count = count.saturating_mul(*others);
-            }
-        }
-    }
-    count
-}
 
 /// Whether the event is a store of a thread to the location.
 fn is_store(event: &Event, location: usize) -> bool
@@ -145,15 +132,53 @@ fn orders(alloc: Global, events: &[Event], locations: usize) -> Result<Vec<Vec<u
     Ok(orders)
 }
 
-/// Gives each combination the orders of its stores.
-pub fn put_orders(
-    alloc: Global,
-    combinations: &mut [Combination],
-    locations: usize,
-) -> Result<(), AllocError> {
-    for combination in combinations.iter_mut() {
-        let made = orders(alloc, &combination.events, locations)?;
-        combination.orders = made;
+/// In how many orders so many stores can stand, or the greatest number where that is less.
+fn rows_of(count: usize) -> usize
+    ensures { result ≡ min (definitions.rows_of count count) (2 ^ 64 - 1) }
+{
+    let mut rows = 1usize;
+    for places in 0..count {
+        rows = rows.saturating_mul(count - places);
     }
-    Ok(())
+    rows
+}
+
+/// How many stores of threads the location has.
+fn store_count(events: &[Event], location: usize) -> usize
+    ensures { result ≡ length (stores_of events.now location) }
+{
+    let mut count = 0usize;
+    for number in 0..events.len().min(MAX_EVENTS) {
+        if is_store(&events[number], location) {
+            count += 1;
+        }
+    }
+    count
+}
+
+/// How many orders the stores have, or the greatest number where that is less.
+pub fn order_count(events: &[Event], locations: usize) -> usize
+    ensures { AreApart events.now (min locations 128) → result ≡ min (length (all_orders events.now (min locations 128))) (2 ^ 64 - 1) }
+{
+    let mut count = 1usize;
+    for location in 0..locations.min(MAX_EVENTS) {
+        count = count.saturating_mul(rows_of(store_count(events, location)));
+    }
+    count
+}
+
+/// Gives each combination the orders of its stores.
+pub fn with_orders(
+    alloc: Global,
+    combinations: Vec<Combination>,
+    locations: usize,
+) -> Result<Vec<Combination>, AllocError>
+    ensures { IfOk result (λ v. map seen v.items ≡ map (λ c. ordered (min locations 128) (seen c)) combinations.items) }
+{
+    let mut made = Vec::with_capacity(alloc, combinations.len())?;
+    for mut combination in combinations {
+        combination.orders = orders(alloc, &combination.events, locations)?;
+        made.push(combination)?;
+    }
+    Ok(made)
 }

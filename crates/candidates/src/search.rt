@@ -145,7 +145,7 @@ impl Found {
     fn judge(&mut self, alloc: Global, layout: &Layout, front: &Front) -> Result<(), SpaceFault> {
         let mut needs = Vec::new(alloc);
         let events = gather(alloc, layout, &front.runs, &mut needs)?;
-        let orders = order_count(&events).max(1);
+        let orders = order_count(&events, layout.locations.len()).max(1);
         let limit = MAX_CANDIDATES.saturating_sub(self.count) / orders;
         match Reading::new(alloc, &events, &needs)?.ways(alloc, limit)? {
             None => Err(SpaceFault::Refused(EvalRefusal::TooManyCandidates)),
