@@ -2,6 +2,11 @@ pub mod Bounds
 pub mod Conditions
 pub mod Ends
 pub mod Entries
+pub mod InitKeys
+pub mod InitLeft
+pub mod InitReaders
+pub mod InitStarts
+pub mod InitTaken
 pub mod Inner
 pub mod Keys
 pub mod ListReaders

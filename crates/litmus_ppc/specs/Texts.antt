@@ -6,10 +6,10 @@ use Rattle.litmus_tokens.specs.declared.stage.Stage.{Stage}
 use Rattle.litmus_tokens.specs.declared.stage.Stage.TheVariants.{Magic, Init, CellBegins, Tail}
 use Rattle.litmus_tokens.specs.declared.token.Token.{Token}
 use Rattle.litmus_tokens.specs.declared.token.Token.TheVariants as tokens
-use Rattle.litmus_tokens.specs.declared.token.Mark.TheVariants.{OpenBrace, Semicolon}
+use Rattle.litmus_tokens.specs.declared.token.Mark.TheVariants.{OpenBrace, OpenBracket, Colon, Semicolon}
 use Rattle.litmus_tokens.specs.Words.{decimal}
 use Rattle.litmus_tokens.specs.Texts.{tokens_of, lexed, StandsAt}
-use Rattle.litmus_tokens.specs.Faults.{IsFault}
+use Rattle.litmus_tokens.specs.Faults.{CanFollow, IsFault}
 use Rattle.litmus_values.specs.declared.test.Place.{Place}
 use Rattle.litmus_values.specs.declared.test.InitEntry.{InitEntry}
 use Rattle.litmus_values.specs.declared.test.Step.{Step}
@@ -56,6 +56,27 @@ late_of_test ts t = late_test t.tree
 abbrev pub late_of_init : ℕ → (ts : List Token) → IsInitText ts → Option Late
 late_of_init threads ts t = late_entries threads (tokens.Mark OpenBrace ∷ []) (members t.entries)
 
+-- Where the fault of an init block is looked for, its text may break off behind the number of a thread, or its colon: so
+-- a register that repeats is at fault itself, also where each register of its thread was named.
+abbrev pub spelled_colon : Bool → List Token
+spelled_colon true = tokens.Mark Colon ∷ []
+spelled_colon false = []
+
+pub record IsBrokenOff (ts : List Token) : Type 0 where
+  pub before : List Token
+  pub entry : CanFollow IsInitText before (tokens.Mark OpenBracket)
+  pub thread : List ℕ
+  pub colon : Bool
+  pub whole : ts ≡ before ++ tokens.Number false thread ∷ spelled_colon colon
+
+pub data IsInitStart (ts : List Token) : Type 0 where
+  IsWhole : IsInitText ts → IsInitStart ts
+  BreaksOff : IsBrokenOff ts → IsInitStart ts
+
+abbrev pub late_of_start : ℕ → (ts : List Token) → IsInitStart ts → Option Late
+late_of_start threads ts (IsWhole t) = late_of_init threads ts t
+late_of_start threads ts (BreaksOff b) = None
+
 abbrev pub late_of_thread : (ts : List Token) → IsThreadText ts → Option Late
 late_of_thread ts t = late_notes [] (thread_notes [] (t.tree.first ∷ t.tree.others))
 
@@ -93,7 +114,7 @@ abbrev pub ReadsInit : ℕ → List ℕ → List InitEntry → Type 0
 ReadsInit threads bytes v = Reads IsInitText (Init true false) (late_of_init threads) (λ ts t. map entry_meaning (members t.entries)) bytes v
 
 abbrev pub IsInitFault : ℕ → List ℕ → LitmusRule → ℕ → Type 0
-IsInitFault threads bytes rule place = IsFaultAt IsInitText (Init true false) (late_of_init threads) bytes rule place
+IsInitFault threads bytes rule place = IsFaultAt IsInitStart (Init true false) (late_of_start threads) bytes rule place
 
 abbrev pub ReadsThread : List ℕ → List Step → Type 0
 ReadsThread bytes v = Reads IsThreadText CellBegins late_of_thread (λ ts t. thread_meaning t.tree) bytes v

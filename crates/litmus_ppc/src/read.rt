@@ -9,7 +9,7 @@ ghost use Rattle.litmus_values.specs.declared.test.Step.{Step};
 ghost use Rattle.litmus_ppc.specs.Faults.{IsWithin, IsTooLong, IsMemory};
 ghost use Rattle.litmus_ppc.specs.TextMachine.{start, first_stage, run};
 ghost use Rattle.litmus_ppc.specs.TextReading.{state_of, Runs, StepsAt};
-ghost use Rattle.litmus_ppc.specs.Texts.{ReadsThread, IsThreadFault, ReadsCondition, IsConditionFault, ReadsLocations, IsLocationsFault, IsFaultOf};
+ghost use Rattle.litmus_ppc.specs.Texts.{ReadsInit, IsInitFault, ReadsThread, IsThreadFault, ReadsCondition, IsConditionFault, ReadsLocations, IsLocationsFault, IsFaultOf};
 
 use crate::fault::LitmusFault;
 use crate::held::Held;
@@ -164,7 +164,14 @@ pub fn read_thread(alloc: Global, bytes: &[u8]) -> Result<Thread, LitmusFault>
 
 /// Reads the block of initial values, in braces, of a test of so many threads.
 pub fn read_init(alloc: Global, bytes: &[u8], threads: usize) -> Result<Vec<InitEntry>, LitmusFault>
-    // A refusal stands within the text, or at its end.
+    // What is read is what the text means.
+    ensures found { IfOk result (λ v. ReadsInit threads bytes.now v.items) }
+    // What means initial values is read so, unless memory runs out.
+    ensures only { (v : List InitEntry) → ReadsInit threads bytes.now v → MatchResult result (λ r. r.items ≡ v) IsMemory }
+    // A refusal stands where the text stops to begin a block, and has the number of the rule that is broken there; a
+    // text that is one is refused at the first entry of a thread that is not there.
+    ensures fault { IfErr result (IsFaultOf (IsInitFault threads bytes.now)) }
+    // It stands within the text, or at its end.
     ensures within { IfErr result (λ e. IsWithin (length bytes.now) e) }
     // The length is looked at first.
     ensures too_long { 65536 < length bytes.now → MatchResult result (λ _. ⊥) IsTooLong }
