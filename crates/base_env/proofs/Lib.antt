@@ -6,3 +6,5 @@ pub mod Growing
 pub mod Same
 pub mod Held
 pub mod Meant
+pub mod Covering
+pub mod Every

@@ -1,5 +1,5 @@
 -- When the names that are held are those of a candidate.
-use Rattle.std.specs.Prelude.{ℕ, ◌≡◌, ◌<◌, ◌↔◌, List, length, get_or, min, Contains}
+use Rattle.std.specs.Prelude.{ℕ, ◌≡◌, ◌<◌, ◌↔◌, List, length, get_or, min, Contains, Option, Some, None, false}
 use Rattle.cat_values.specs.declared.predefined.Predefined.{Predefined}
 use Rattle.candidates.specs.declared.candidate.Combination.{Combination}
 use Rattle.bit_relations.specs.Relation.{IsRelation, IsEvents}
@@ -9,6 +9,7 @@ use Rattle.base_env.specs.Events.{At, Below, ReadsFrom, Coherence}
 use Rattle.base_env.specs.Names.{IsIn, Fixed}
 use Rattle.bit_relations.specs.Pairs.{Inter, Union, Inverse, Composed}
 use Rattle.cat_values.specs.declared.predefined.Predefined.TheVariants as names
+use Rattle.cat_values.specs.PredefinedNames.{is_set}
 use Rattle.base_env.specs.Known.{Known, EventsOf, SharedPairs, set_names, shared_names}
 
 -- the events of a set among the first n events of a combination
@@ -66,17 +67,30 @@ RelationIn names.FromReadsInternal n c sources order = Inter (SharedIn c n names
 RelationIn names.Communication n c sources order = Union (Union (ReadsIn c n sources) (OrderIn c n order)) (FromReadsIn c n sources order)
 RelationIn name n c sources order = SharedIn c n name
 
+-- the relation, of those that all candidates of a combination share, that a relation is made of
+abbrev pub shared_for : Predefined → Option Predefined
+shared_for names.Identity = None
+shared_for names.ReadsFrom = None
+shared_for names.Coherence = None
+shared_for names.FromReads = None
+shared_for names.Communication = None
+shared_for names.ReadsFromExternal = Some names.External
+shared_for names.CoherenceExternal = Some names.External
+shared_for names.FromReadsExternal = Some names.External
+shared_for names.ReadsFromInternal = Some names.Internal
+shared_for names.CoherenceInternal = Some names.Internal
+shared_for names.FromReadsInternal = Some names.Internal
+shared_for name = Some name
+
+-- it is held, if there is one
+abbrev pub IsThere : List Predefined → Option Predefined → Type 0
+IsThere held None = Unit {0}
+IsThere held (Some name) = Contains held name
+
 -- what a relation needs of those that are held
 abbrev pub Gives : Known → Predefined → Type 0
-Gives known names.Identity = Unit {0}
-Gives known names.ReadsFrom = Unit {0}
-Gives known names.Coherence = Unit {0}
-Gives known names.FromReads = Unit {0}
-Gives known names.Communication = Unit {0}
-Gives known names.ReadsFromExternal = Contains (shared_names known.shared) names.External
-Gives known names.CoherenceExternal = Contains (shared_names known.shared) names.External
-Gives known names.FromReadsExternal = Contains (shared_names known.shared) names.External
-Gives known names.ReadsFromInternal = Contains (shared_names known.shared) names.Internal
-Gives known names.CoherenceInternal = Contains (shared_names known.shared) names.Internal
-Gives known names.FromReadsInternal = Contains (shared_names known.shared) names.Internal
-Gives known name = Contains (shared_names known.shared) name
+Gives known name = IsThere (shared_names known.shared) (shared_for name)
+
+-- what the relations among these names need is held
+abbrev pub AreCovered : List Predefined → List Predefined → Type 0
+AreCovered held ns = (name : Predefined) → Contains ns name → is_set name ≡ false → IsThere held (shared_for name)

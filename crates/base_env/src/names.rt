@@ -1,10 +1,12 @@
 //! The predefined names over the candidates of one combination of runs.
-ghost use Rattle.std.specs.Prelude.{◌≡◌, ℕ, ◌≤◌, ◌↔◌, MatchOption, Contains, length};
+ghost use Rattle.std.specs.Prelude.{◌≡◌, ℕ, ◌≤◌, ◌↔◌, MatchOption, Contains, length, IfOk, OnOk, IsTrue, false};
+ghost use Rattle.std.specs.List.{filter};
+ghost use Rattle.cat_values.specs.PredefinedNames.{is_set};
 ghost use Rattle.bit_relations.specs.Relation.{Has, IsRelation, IsEvents};
 ghost use Rattle.bit_relations.specs.Pairs.{Inter};
 ghost use Rattle.cat_values.specs.declared.predefined.Predefined.TheVariants as names;
 ghost use Rattle.base_env.specs.Known.{AreKnown, EventsUnder, PairsUnder, EventsOf, PairsOf, SharedPairs, EventsFound, set_names, shared_names};
-ghost use Rattle.base_env.specs.Candidate.{AreSets, AreShared, IsEntered, IsReading, IsOrdered, Gives, SetIn, RelationIn};
+ghost use Rattle.base_env.specs.Candidate.{AreSets, AreShared, IsEntered, IsReading, IsOrdered, Gives, AreCovered, shared_for, SetIn, RelationIn};
 
 use crate::changing::{write_order, write_reads};
 use crate::fixed::write_fixed;
@@ -14,23 +16,6 @@ use candidates::Combination;
 use cat_values::{PREDEFINED, Predefined};
 use std::alloc::{AllocError, Global};
 use std::marker::Model;
-
-/// The relations that all candidates of a combination share, but for the identity.
-const SHARED: [Predefined; 13] = [
-    Predefined::ProgramOrder,
-    Predefined::SameLocation,
-    Predefined::ProgramOrderSameLocation,
-    Predefined::Internal,
-    Predefined::External,
-    Predefined::AddressDependency,
-    Predefined::DataDependency,
-    Predefined::ControlDependency,
-    Predefined::ControlIsyncDependency,
-    Predefined::SyncOrder,
-    Predefined::LwsyncOrder,
-    Predefined::EieioOrder,
-    Predefined::IsyncOrder,
-];
 
 /// A relation that all candidates of a combination share.
 #[derive(Drop)]
@@ -70,38 +55,31 @@ impl Model for Base {
     ghost invariant = { λ b. AreKnown b.count b.reads_from b.read_by b.coherence b.from_reads };
 }
 
-/// Whether a name is a part of one of these two: the pairs of events of one thread, and the
-/// other pairs.
-fn is_part_of(name: Predefined, shared: Predefined) -> bool {
-    match shared {
-        Predefined::Internal => matches!(
-            name,
-            Predefined::ReadsFromInternal
-                | Predefined::CoherenceInternal
-                | Predefined::FromReadsInternal
-        ),
-        Predefined::External => matches!(
-            name,
-            Predefined::ReadsFromExternal
-                | Predefined::CoherenceExternal
-                | Predefined::FromReadsExternal
-        ),
-        _ => false,
+/// The relation, of those that all candidates of a combination share, that a relation is made of,
+/// if it is made of one.
+fn shared_for(name: Predefined) -> Option<Predefined>
+    ensures { result ≡ shared_for name }
+{
+    match name {
+        Predefined::Identity
+        | Predefined::ReadsFrom
+        | Predefined::Coherence
+        | Predefined::FromReads
+        | Predefined::Communication => None,
+        Predefined::ReadsFromExternal
+        | Predefined::CoherenceExternal
+        | Predefined::FromReadsExternal => Some(Predefined::External),
+        Predefined::ReadsFromInternal
+        | Predefined::CoherenceInternal
+        | Predefined::FromReadsInternal => Some(Predefined::Internal),
+        _ => Some(name),
     }
-}
-
-/// Whether one of the names is the shared one, or a part of it.
-fn are_over(names: &[Predefined], shared: Predefined) -> bool {
-    for name in names {
-        if *name == shared || is_part_of(*name, shared) {
-            return true;
-        }
-    }
-    false
 }
 
 /// The sets among the names.
-fn sets_of(alloc: Global, names: &[Predefined]) -> Result<Vec<Named>, AllocError> {
+fn sets_of(alloc: Global, names: &[Predefined]) -> Result<Vec<Named>, AllocError>
+    ensures { IfOk result (λ sets. set_names sets.items ≡ filter is_set names.now) }
+{
     let mut sets = Vec::new(alloc);
     for name in names {
         if name.is_set() {
@@ -114,15 +92,44 @@ fn sets_of(alloc: Global, names: &[Predefined]) -> Result<Vec<Named>, AllocError
     Ok(sets)
 }
 
-/// The shared relations that the names are over.
-fn shared_of(alloc: Global, names: &[Predefined]) -> Result<Vec<Shared>, AllocError> {
+/// Whether a relation of this name is there.
+fn is_there(shared: &[Shared], name: Predefined) -> bool
+    ensures { IsTrue result → Contains (shared_names shared.now) name }
+{
+    for one in shared {
+        if one.name == name {
+            return true;
+        }
+    }
+    false
+}
+
+/// Makes room for a relation of this name, if there is none.
+fn make_room(shared: &mut Vec<Shared>, name: Predefined) -> Result<(), AllocError>
+    ensures there { OnOk result (Contains (shared_names shared.new.items) name) }
+    ensures kept { OnOk result ((other : _) → Contains (shared_names shared.old.items) other → Contains (shared_names shared.new.items) other) }
+{
+    if is_there(shared, name) {
+        return Ok(());
+    }
+    shared.push(Shared {
+        name,
+        relation: Rel::empty(0),
+    })?;
+    Ok(())
+}
+
+/// The shared relations that the names are made of.
+fn shared_of(alloc: Global, names: &[Predefined]) -> Result<Vec<Shared>, AllocError>
+    ensures { IfOk result (λ shared. AreCovered (shared_names shared.items) names.now) }
+{
     let mut shared = Vec::new(alloc);
-    for name in SHARED {
-        if are_over(names, name) {
-            shared.push(Shared {
-                name,
-                relation: Rel::empty(0),
-            })?;
+    for name in names {
+        if !name.is_set() {
+            match shared_for(*name) {
+                Some(needed) => make_room(&mut shared, needed)?,
+                None => {}
+            }
         }
     }
     Ok(shared)
@@ -183,7 +190,11 @@ fn find_shared(shared: &[Shared], name: Predefined) -> Option<&Rel>
 impl Base {
     /// The predefined names over the candidates of a combination, before the first `read_from`
     /// and `order`.
-    pub fn new(alloc: Global, combination: &Combination) -> Result<Base, AllocError> {
+    pub fn new(alloc: Global, combination: &Combination) -> Result<Base, AllocError>
+        ensures entered { IfOk result (λ base. IsEntered base combination.now) }
+        ensures sets { IfOk result (λ base. (name : _) → IsTrue (is_set name) → Contains (set_names base.sets) name) }
+        ensures relations { IfOk result (λ base. (name : _) → is_set name ≡ false → Gives base name) }
+    {
         let mut base = Base::of_names(alloc, &PREDEFINED)?;
         base.enter(combination);
         Ok(base)
@@ -191,7 +202,10 @@ impl Base {
 
     /// Some of the predefined names, before the first `enter`. Only these may be asked for: sets
     /// and relations of other names may be empty.
-    pub fn of_names(alloc: Global, names: &[Predefined]) -> Result<Base, AllocError> {
+    pub fn of_names(alloc: Global, names: &[Predefined]) -> Result<Base, AllocError>
+        ensures sets { IfOk result (λ base. set_names base.sets ≡ filter is_set names.now) }
+        ensures relations { IfOk result (λ base. (name : _) → Contains names.now name → is_set name ≡ false → Gives base name) }
+    {
         Ok(Base {
             count: 0,
             sets: sets_of(alloc, names)?,

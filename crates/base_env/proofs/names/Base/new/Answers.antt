@@ -1,0 +1,15 @@
+use Rattle.std.proofs.Common.{◌≡◌, Contains, List}
+use Rattle.cat_values.specs.declared.predefined.Predefined.{Predefined}
+use Rattle.base_env.specs.Known.{set_names, shared_names}
+use Rattle.base_env.specs.Candidate.{IsThere, shared_for}
+use Rattle.base_env.proofs.Every.{all_sets, every_set, every_name}
+use Rattle.base_env.proofs.names.Base.new.Goals as goal
+
+pub returns-clause-sets : goal.returns-clause-sets
+returns-clause-sets c name holds =
+    let held : set_names c.in_ok-base.base.sets ≡ all_sets = c.in_ok-base.ensures.sets in
+    rw (c.enter.ensures.sets, held) (every_set name holds)
+
+pub returns-clause-relations : goal.returns-clause-relations
+returns-clause-relations c name relation =
+    rw c.enter.ensures.shared (c.in_ok-base.ensures.relations name (every_name name) relation)
