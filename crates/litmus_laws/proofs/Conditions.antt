@@ -165,7 +165,7 @@ module _ (threads : ℕ) (few : threads < 18446744073709551616) where
       let x = h.0 in
       rw append_assoc (digits_first (decimal t) _ (are_back t (omega arith)) (decimal_nonempty t (omega arith)))
 
-  first_byte : (f : Formula) (bs : List ℕ) → IsFormula threads f → slice_index (formula_text f ++ bs) 0 ≡ 42 → ⊥
+  pub first_byte : (f : Formula) (bs : List ℕ) → IsFormula threads f → slice_index (formula_text f ++ bs) 0 ≡ 42 → ⊥
   first_byte (Constant true) bs h = λ e. absurd (omega arith)
   first_byte (Constant false) bs h = λ e. absurd (omega arith)
   first_byte (Holds p v) bs h = rw append_assoc (first_place p _ h.0)
@@ -209,7 +209,7 @@ module _ (threads : ℕ) (few : threads < 18446744073709551616) where
       ∙ ap (λ (l : List ℕ). inner Condition (40 ∷ l)) (append_assoc F (41 ∷ []) bs) ∙ open_round Condition (F ++ (41 ∷ bs)) (first_byte f (41 ∷ bs) h)
       ∙ ap (λ (ts : List Token). tokens.Mark marks.Open ∷ ts) (formula_back f (41 ∷ bs) h (close_stops bs) ∙ ap (spelled (tree_of f)) (close_round Condition bs))
 
-  condition_back : (q : Quantifier) (f : Formula) (bs : List ℕ) → IsFormula threads f → inner Condition (condition_text q f ++ bs) ≡ spelled_quantifier q (spelled (Group (tree_of f)) (inner Condition bs))
+  pub condition_back : (q : Quantifier) (f : Formula) (bs : List ℕ) → IsFormula threads f → inner Condition (condition_text q f ++ bs) ≡ spelled_quantifier q (spelled (Group (tree_of f)) (inner Condition bs))
   condition_back Exists f bs h =
       word Condition (codes "exists") (32 ∷ 40 ∷ ((formula_text f ++ 41 ∷ []) ++ bs)) (is_word (codes "exists") refl refl) refl
       ∙ ap (λ (ts : List Token). tokens.Word (codes "exists") ∷ ts) (group_back f bs h)

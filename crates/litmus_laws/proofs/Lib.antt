@@ -1,4 +1,10 @@
 pub mod Conditions
+pub mod Entries
+pub mod Head
+pub mod Instructions
+pub mod Labels
 pub mod Numbers
 pub mod Places
 pub mod Read
+pub mod Rows
+pub mod Whole

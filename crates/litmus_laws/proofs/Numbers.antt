@@ -36,7 +36,7 @@ second_test : {A : Type 0} (x y : Bool) (a b z : A) → x ≡ false → y ≡ tr
 second_test x y a b z p q =
     ap (λ (t : Bool). if t then a else (if y then b else z)) p ∙ ap (λ (t : Bool). if t then b else z) q
 
-word_here : (c : ℕ) (cs bs : List ℕ) → IsWord (c ∷ cs) → ends_word (slice_index bs 0) ≡ true → front Tail false (c ∷ (cs ++ bs)) ≡ Lexeme (tokens.Word (c ∷ cs)) (length (c ∷ cs))
+pub word_here : (c : ℕ) (cs bs : List ℕ) → IsWord (c ∷ cs) → ends_word (slice_index bs 0) ≡ true → front Tail false (c ∷ (cs ++ bs)) ≡ Lexeme (tokens.Word (c ∷ cs)) (length (c ∷ cs))
 word_here c cs bs h e =
     let o = first_of c h.first in
     let l = o.low in

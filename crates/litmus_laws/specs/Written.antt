@@ -1,16 +1,24 @@
 -- The conditions and tests that a text can have.
-use Rattle.std.specs.Prelude.{◌≡◌, ℕ, ◌<◌, List, length, slice_index, Bool, true, ◌||◌, ◌==◌, ℤ, pos, negsuc}
-use Rattle.litmus_tokens.specs.declared.stage.Stage.TheVariants.{Tail}
-use Rattle.litmus_tokens.specs.Lexer.{is_word_byte}
-use Rattle.litmus_tokens.specs.Words.{is_letter}
+use Rattle.std.specs.Prelude.{◌≡◌, ℕ, ◌<◌, ◌≤◌, List, [], ◌∷◌, length, slice_index, Bool, true, false, ◌||◌, ◌==◌, Option, Some, None, ℤ, pos, negsuc}
+use Rattle.litmus_tokens.specs.declared.stage.Stage.TheVariants.{Magic, Tail}
+use Rattle.litmus_tokens.specs.Lexer.{is_word_byte, begins_comment}
+use Rattle.litmus_tokens.specs.Words.{is_letter, is_test_name}
 use Rattle.litmus_tokens.specs.Texts.{tokens_of, lexed}
 use Rattle.litmus_values.specs.declared.test.Place.{Place}
 use Rattle.litmus_values.specs.declared.test.Place.TheVariants as places
 use Rattle.litmus_values.specs.declared.test.Value as declared_value
 use Rattle.litmus_values.specs.declared.test.Value.TheVariants as values
+use Rattle.litmus_values.specs.declared.test.InitEntry.{InitEntry}
+use Rattle.litmus_values.specs.declared.test.Step.{Step}
+use Rattle.litmus_values.specs.declared.test.Step.TheVariants as steps
 use Rattle.litmus_values.specs.declared.test.Quantifier.{Quantifier}
-use Rattle.litmus_values.specs.Value.{Formula, Constant, Holds, Not, Join}
+use Rattle.litmus_values.specs.declared.instruction.Instruction.{Instruction}
+use Rattle.litmus_values.specs.declared.instruction.Instruction.TheVariants as instructions
+use Rattle.litmus_values.specs.Value.{Formula, Constant, Holds, Not, Join, Content}
 use Rattle.litmus_conditions.specs.Grammar.{Limits, IsConditionText, meaning}
+use Rattle.litmus_table.specs.Late.{is_in}
+use Rattle.litmus_ppc.specs.Grammar.{IsTestText, test_meaning}
+use Rattle.litmus_ppc.specs.Texts.{late_test}
 
 abbrev pub begins_word : ℕ → Bool
 begins_word b = is_letter b || b == 95
@@ -41,6 +49,92 @@ IsFormula threads (Holds p v) = IsPlace threads p × IsValue v
 IsFormula threads (Not a) = IsFormula threads a
 IsFormula threads (Join op a b) = IsFormula threads a × IsFormula threads b
 
+-- ---- threads
+
+-- a base is no `r0`
+abbrev pub IsBase : ℕ → Type 0
+IsBase r = (0 < r) × (r < 32)
+
+abbrev pub IsInstruction : Instruction → Type 0
+IsInstruction (instructions.LoadImmediate d n) = (d < 32) × IsNumber n
+IsInstruction (instructions.Move d s) = (d < 32) × (s < 32)
+IsInstruction (instructions.AddImmediate d a n) = (d < 32) × IsBase a × IsNumber n
+IsInstruction (instructions.Compute op d a b) = (d < 32) × (a < 32) × (b < 32)
+IsInstruction (instructions.Load d a) = (d < 32) × IsBase a
+IsInstruction (instructions.LoadIndexed d a b) = (d < 32) × IsBase a × (b < 32)
+IsInstruction (instructions.Store s a) = (s < 32) × IsBase a
+IsInstruction (instructions.StoreIndexed s a b) = (s < 32) × IsBase a × (b < 32)
+IsInstruction (instructions.Compare a b) = (a < 32) × (b < 32)
+IsInstruction (instructions.CompareImmediate a n) = (a < 32) × IsNumber n
+IsInstruction (instructions.BranchIf c l) = IsWord l
+IsInstruction (instructions.Branch l) = IsWord l
+IsInstruction (instructions.Fence f) = Unit {0}
+
+abbrev pub IsStep : Step → Type 0
+IsStep (steps.Label l) = IsWord l
+IsStep (steps.Instruction i) = IsInstruction i
+
+abbrev pub AreSteps : List Step → Type 0
+AreSteps [] = Unit {0}
+AreSteps (s ∷ ss) = IsStep s × AreSteps ss
+
+-- the label that an instruction may go to
+abbrev pub target : Instruction → Option (List ℕ)
+target (instructions.BranchIf c l) = Some l
+target (instructions.Branch l) = Some l
+target i = None
+
+abbrev pub labels : List Step → List (List ℕ)
+labels [] = []
+labels (steps.Label l ∷ ss) = l ∷ labels ss
+labels (steps.Instruction i ∷ ss) = labels ss
+
+-- a label that one goes to stands below and not above
+abbrev pub IsBelow : List (List ℕ) → List (List ℕ) → Option (List ℕ) → Type 0
+IsBelow above below None = Unit {0}
+IsBelow above below (Some l) = (is_in l above ≡ false) × (is_in l below ≡ true)
+
+-- each label stands once, and each branch goes down; above are the labels so far
+abbrev pub AreLabelled : List (List ℕ) → List Step → Type 0
+AreLabelled above [] = Unit {0}
+AreLabelled above (steps.Label l ∷ ss) = (is_in l above ≡ false) × AreLabelled (l ∷ above) ss
+AreLabelled above (steps.Instruction i ∷ ss) = IsBelow above (labels ss) (target i) × AreLabelled above ss
+
+abbrev pub AreThreads : List (List Step) → Type 0
+AreThreads [] = Unit {0}
+AreThreads (t ∷ ts) = AreSteps t × AreLabelled [] t × AreThreads ts
+
+-- ---- tests
+
+abbrev pub Lacks : List Place → Place → Type 0
+Lacks [] p = Unit {0}
+Lacks (q ∷ qs) p = (q ≡ p → ⊥) × Lacks qs p
+
+-- each entry is for a place that no entry before it has
+abbrev pub AreEntries : ℕ → List Place → List InitEntry → Type 0
+AreEntries threads before [] = Unit {0}
+AreEntries threads before (e ∷ es) = IsPlace threads e.place × IsValue e.value × Lacks before e.place × AreEntries threads (e.place ∷ before) es
+
+abbrev pub ArePlaces : ℕ → List Place → Type 0
+ArePlaces threads [] = Unit {0}
+ArePlaces threads (p ∷ ps) = IsPlace threads p × ArePlaces threads ps
+
+-- the two bytes that begin a comment stand in it
+abbrev pub holds_comment : List ℕ → Bool
+holds_comment [] = false
+holds_comment (b ∷ bs) = begins_comment (b ∷ bs) || holds_comment bs
+
+-- a name of at most 255 printable bytes, and one to eight threads
+pub record IsTest (v : Content) : Type 0 where
+  pub name : is_test_name v.name ≡ true
+  pub no_comment : holds_comment v.name ≡ false
+  pub some : 0 < length v.threads
+  pub few : length v.threads ≤ 8
+  pub init : AreEntries (length v.threads) [] v.init
+  pub threads : AreThreads v.threads
+  pub observed : ArePlaces (length v.threads) v.observed
+  pub condition : IsFormula (length v.threads) v.condition
+
 -- ---- what bytes are a text of, where limits are wide enough
 
 -- a condition, in a test of so many threads
@@ -49,3 +143,10 @@ pub record IsTextOfCondition (threads : ℕ) (bytes : List ℕ) (quantifier : Qu
   pub text : IsConditionText most threads (tokens_of (lexed Tail bytes))
   pub asked : text.quantifier ≡ quantifier
   pub meant : meaning text.condition ≡ f
+
+-- a test, which the later checks pass
+pub record IsTextOfTest (bytes : List ℕ) (v : Content) : Type 0 where
+  pub most : Limits
+  pub text : IsTestText most (tokens_of (lexed Magic bytes))
+  pub in_time : late_test text.tree ≡ None
+  pub meant : test_meaning text.tree ≡ v

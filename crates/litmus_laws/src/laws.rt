@@ -2,12 +2,17 @@
 
 ghost use Rattle.std.specs.Prelude.{◌<◌, ℕ};
 ghost use Rattle.litmus_values.specs.declared.test.Quantifier.{Quantifier};
-ghost use Rattle.litmus_values.specs.Value.{Formula};
-ghost use Rattle.litmus_ppc.specs.Printing.{condition_text};
-ghost use Rattle.litmus_laws.specs.Written.{IsFormula, IsTextOfCondition};
+ghost use Rattle.litmus_values.specs.Value.{Formula, Content};
+ghost use Rattle.litmus_ppc.specs.Printing.{condition_text, printed};
+ghost use Rattle.litmus_laws.specs.Written.{IsFormula, IsTest, IsTextOfCondition, IsTextOfTest};
 
 /// What is printed for a condition, in a test of so many threads, reads as that condition, the limits of length and
 /// nesting aside.
 pub fn printed_condition_is_read()
     ensures { (threads : ℕ) (q : Quantifier) (f : Formula) → threads < 18446744073709551616 → IsFormula threads f → IsTextOfCondition threads (condition_text q f) q f }
+{}
+
+/// What is printed for a test reads as that test, the limits of length, nesting and number aside.
+pub fn printed_is_read()
+    ensures { (v : Content) → IsTest v → IsTextOfTest (printed v) v }
 {}
