@@ -1,6 +1,6 @@
 -- What the machine takes to its end is the text of an init block.
 use Rattle.std.proofs.Common.{◌≡◌, ℕ, Bool, true, false, List, [], ◌∷◌, Option, Some, None, Ok, refl, sym, ap, ◌∙◌, subst}
-use Rattle.std.specs.Prelude.{IsTrue, if◌then◌else◌, ℤ}
+use Rattle.std.specs.Prelude.{IsTrue, if◌then◌else◌}
 use Rattle.litmus_tokens.specs.declared.stage.Stage.{Stage}
 use Rattle.litmus_tokens.specs.declared.token.Token.{Token}
 use Rattle.litmus_tokens.specs.declared.token.Token.TheVariants as tokens
@@ -20,7 +20,7 @@ use Rattle.litmus_conditions.specs.PlaceMachine.{place_step, place_of, register_
 use Rattle.litmus_ppc.specs.declared.init.InitHole.{InitHole}
 use Rattle.litmus_ppc.specs.declared.init.InitHole.TheVariants as holes
 use Rattle.litmus_ppc.specs.declared.parts.TextKind.TheVariants as kinds
-use Rattle.litmus_ppc.specs.Grammar.{Listed, EntryTree, spelled_entry, spelled_others, spelled_listed, spelled_init, members, written_place, Lacks, AreEntries, IsInitText}
+use Rattle.litmus_ppc.specs.Grammar.{EntryTree, spelled_entry, spelled_others, written_place, Lacks, AreEntries, IsInitText}
 use Rattle.litmus_ppc.specs.InitMachine as init
 use Rattle.litmus_ppc.specs.InitMachine.{Block, Did, has_key, with_key, begun_at, with_entry, place_went, and_place, valued}
 use Rattle.litmus_ppc.specs.TextMachine as text

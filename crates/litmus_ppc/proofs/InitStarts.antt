@@ -1,6 +1,6 @@
 -- What the machine takes is what an init block may begin with.
 use Rattle.std.proofs.Common.{◌≡◌, ℕ, Bool, true, false, List, [], ◌∷◌, ◌++◌, Option, Some, None, Ok, Err, refl, sym, ap, ◌∙◌, subst, append_assoc}
-use Rattle.std.specs.Prelude.{if◌then◌else◌, ℤ}
+use Rattle.std.specs.Prelude.{if◌then◌else◌}
 use Rattle.std.proofs.lemmas.List.{append-nil}
 use Rattle.litmus_tokens.specs.declared.stage.Stage.{Stage}
 use Rattle.litmus_tokens.specs.declared.stage.Stage.TheVariants as stages
@@ -24,7 +24,7 @@ use Rattle.litmus_ppc.specs.declared.init.InitHole.{InitHole}
 use Rattle.litmus_ppc.specs.declared.init.InitHole.TheVariants as holes
 use Rattle.litmus_ppc.specs.declared.parts.TextKind.{TextKind}
 use Rattle.litmus_ppc.specs.declared.parts.TextKind.TheVariants as kinds
-use Rattle.litmus_ppc.specs.Grammar.{IsInitText, members}
+use Rattle.litmus_ppc.specs.Grammar.{IsInitText}
 use Rattle.litmus_ppc.specs.InitMachine as init
 use Rattle.litmus_ppc.specs.InitMachine.{Block, has_key, with_key, begun_at, with_entry, place_went, and_place, valued}
 use Rattle.litmus_ppc.specs.Texts.{spelled_colon, IsBrokenOff, IsInitStart, IsWhole, BreaksOff}

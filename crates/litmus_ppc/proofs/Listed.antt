@@ -10,7 +10,7 @@ use Rattle.litmus_tokens.specs.declared.token.Token.TheVariants as tokens
 use Rattle.litmus_tokens.specs.declared.token.Mark.TheVariants as marks
 use Rattle.litmus_tokens.specs.Faults.{Begins, CanFollow, ruling, Says}
 use Rattle.litmus_tokens.specs.Stage.{after}
-use Rattle.litmus_tokens.specs.Texts.{Placed, tokens_of, stage_after}
+use Rattle.litmus_tokens.specs.Texts.{Placed, tokens_of}
 use Rattle.litmus_tokens.specs.Words.{decimal, register_of, is_known, or_zero}
 use Rattle.litmus_values.specs.declared.test.Place.{Place}
 use Rattle.litmus_conditions.specs.declared.place.PlaceHole.{PlaceHole}

@@ -1,30 +1,26 @@
 -- The machine takes the texts of lists of places and nothing else.
-use Rattle.std.proofs.Common.{◌≡◌, ℕ, ◌+◌, ◌<◌, ◌≤◌, Bool, true, false, List, [], ◌∷◌, ◌++◌, map, min, Option, Some, None, Result, Ok, Err, refl, sym, ap, ◌∙◌, subst, arith, append_assoc}
+use Rattle.std.proofs.Common.{◌≡◌, ℕ, ◌<◌, Bool, true, false, List, [], ◌∷◌, Option, Some, None, Ok, Err, refl, ap, ◌∙◌, arith}
 use Rattle.std.specs.Prelude.{codes, nat_lt, IsTrue, if◌then◌else◌}
 use Rattle.std.specs.Str.{bytes_eq}
 use Rattle.std.proofs.lemmas.Slice.Eq.{bytes_eq-Decides}
-use Rattle.std.proofs.lemmas.List.{append-nil}
 use Rattle.std.proofs.lemmas.Bool.Decides.{nat_tests}
 use Rattle.litmus_tokens.specs.declared.stage.Stage.{Stage}
-use Rattle.litmus_tokens.specs.declared.stage.Stage.TheVariants.{Tail}
 use Rattle.litmus_tokens.specs.declared.token.Token.{Token}
 use Rattle.litmus_tokens.specs.declared.token.Token.TheVariants as tokens
 use Rattle.litmus_tokens.specs.declared.token.Mark.TheVariants as marks
 use Rattle.litmus_tokens.specs.Stage.{after}
-use Rattle.litmus_tokens.specs.Texts.{Placed, tokens_of, stage_after}
-use Rattle.litmus_tokens.specs.Words.{decimal, register_of, is_register, is_known, or_zero}
-use Rattle.litmus_values.specs.declared.test.Place.{Place}
+use Rattle.litmus_tokens.specs.Texts.{Placed, tokens_of}
+use Rattle.litmus_tokens.specs.Words.{decimal, register_of, is_register, is_known}
 use Rattle.litmus_conditions.specs.declared.place.PlaceHole.{PlaceHole}
 use Rattle.litmus_conditions.specs.declared.place.PlaceHole.TheVariants as places
 use Rattle.litmus_conditions.specs.declared.place.PlaceStep.{PlaceStep}
 use Rattle.litmus_conditions.specs.declared.place.PlaceStep.TheVariants as place_steps
-use Rattle.litmus_conditions.specs.declared.place.WrittenPlace.{WrittenPlace}
-use Rattle.litmus_conditions.specs.Grammar.{PlaceTree, Location, Register, spelled_place, place_meaning, IsPlace, HasThread}
+use Rattle.litmus_conditions.specs.Grammar.{PlaceTree, Location, Register, spelled_place, IsPlace, HasThread}
 use Rattle.litmus_conditions.specs.PlaceMachine.{place_step, place_of, register_ends, is_there}
 use Rattle.litmus_ppc.specs.declared.parts.ItemHole.{ItemHole}
 use Rattle.litmus_ppc.specs.declared.parts.ItemHole.TheVariants as items
 use Rattle.litmus_ppc.specs.declared.parts.TextKind.TheVariants as kinds
-use Rattle.litmus_ppc.specs.Grammar.{Listed, spelled_others, members, spelled_items, spelled_observed, AreItems, IsLocationsText}
+use Rattle.litmus_ppc.specs.Grammar.{spelled_others, AreItems, IsLocationsText}
 use Rattle.litmus_ppc.specs.TextMachine as text
 use Rattle.litmus_ppc.specs.TextMachine.{Part, Held, Next, State, Ran, placed, and_then, stepped, with_place, nothing, start, run, item_went}
 

@@ -2,7 +2,6 @@
 use Rattle.std.specs.Prelude.{◌≡◌, ℕ, ◌≤◌, List, [], ◌∷◌, Option, Some, None, Result, Ok, Err}
 use Rattle.litmus_tokens.specs.Texts.{Placed}
 use Rattle.litmus_tokens.specs.declared.rule.LitmusRule.TheVariants.{TooLong, Init}
-use Rattle.litmus_table.specs.declared.late.LateFault.{LateFault}
 use Rattle.litmus_table.specs.Checks.{IsFoundAt}
 use Rattle.litmus_table.specs.Late.{Late}
 use Rattle.litmus_table.specs.Within.{AreWithin}
