@@ -26,7 +26,7 @@ use Rattle.litmus_ppc.specs.InitMachine.{lacks_thread, missing}
 use Rattle.litmus_ppc.specs.TextMachine.{State, Ran, run, start, threads_in}
 use Rattle.litmus_ppc.specs.TextReading.{FailsAt}
 use Rattle.litmus_ppc.specs.Texts as texts
-use Rattle.litmus_ppc.specs.Texts.{late_entries, late_of_init, ReadsInit, IsInitStart, IsInitFault, IsFaultOf}
+use Rattle.litmus_ppc.specs.Texts.{late_entries, late_of_init, ReadsInit, IsInitFault, IsFaultOf}
 use Rattle.litmus_ppc.specs.Faults as faults_of
 use Rattle.litmus_ppc.proofs.Bounds.{is_short}
 use Rattle.litmus_ppc.proofs.Ends.{ends_done}
@@ -147,7 +147,7 @@ module _ (threads : ℕ) (few : threads < 18446744073709551616) where
 
     pub init_only_memory : (d : LitmusFault) → (length bytes ≤ 65536 → FailsAt d made) → (v : List InitEntry) → ReadsInit threads bytes v → faults_of.IsMemory d
     init_only_memory (faults.OutOfMemory e) h v r = tt
-    init_only_memory (faults.Refused rule place) h v r = no_fault IsInitStart kinds.Init threads (init_reading threads) text_tokens rule place (texts.IsWhole r.text) (h r.short)
+    init_only_memory (faults.Refused rule place) h v r = no_fault (texts.IsStart IsInitText (Init true false)) kinds.Init threads (init_reading threads) text_tokens rule place (texts.IsWhole r.text) (h r.short)
 
     pub init_only_there : (s : State) (d : LitmusFault) → (length bytes ≤ 65536 → made ≡ Ok s) → faults_of.IsMissingFound (Err d) (missing_in s) → (v : List InitEntry) → ReadsInit threads bytes v → faults_of.IsMemory d
     init_only_there s (faults.OutOfMemory e) h found v r = absurd found
@@ -161,9 +161,9 @@ module _ (threads : ℕ) (few : threads < 18446744073709551616) where
       where
         choose : (65536 < length bytes) ⊎ (length bytes ≤ 65536) → IsInitFault threads bytes rule place
         choose (inl lt) = texts.IsTooLong lt (long lt).0 (long lt).1
-        choose (inr le) = texts.IsGrammar le (fault_found IsInitStart kinds.Init threads (init_reading threads) text_tokens rule place (h le))
+        choose (inr le) = texts.IsGrammar le (fault_found (texts.IsStart IsInitText (Init true false)) kinds.Init threads (init_reading threads) text_tokens rule place (h le))
 
-    later_fault : (x : IsInitText (tokens_of text_tokens)) (l : Option Late) (place : ℕ) → late_of_init threads (tokens_of text_tokens) x ≡ l → Matches text_tokens l (Some place) → texts.IsLateFault IsInitStart (Init true false) (texts.late_of_start threads) bytes rules.Init place
+    later_fault : (x : IsInitText (tokens_of text_tokens)) (l : Option Late) (place : ℕ) → late_of_init threads (tokens_of text_tokens) x ≡ l → Matches text_tokens l (Some place) → texts.IsLateFault (texts.IsStart IsInitText (Init true false)) (Init true false) (texts.late_of_start (late_of_init threads)) bytes rules.Init place
     later_fault x (Some l) place e m = record { text = texts.IsWhole x; found = l; is_found = e; rule_is = m.0; stands = m.1 }
     later_fault x None place e m = absurd m
 
@@ -173,4 +173,4 @@ module _ (threads : ℕ) (few : threads < 18446744073709551616) where
         let le = is_short bytes bounded in
         let x = text_of s (h le) in
         let m = subst (Matches text_tokens (late_of_init threads (tokens_of text_tokens) x)) found.1 (matches s (h le) x) in
-        texts.IsLater le (subst (λ (r : _). texts.IsLateFault IsInitStart (Init true false) (texts.late_of_start threads) bytes r place) (sym found.0) (later_fault x (late_of_init threads (tokens_of text_tokens) x) place refl m))
+        texts.IsLater le (subst (λ (r : _). texts.IsLateFault (texts.IsStart IsInitText (Init true false)) (Init true false) (texts.late_of_start (late_of_init threads)) bytes r place) (sym found.0) (later_fault x (late_of_init threads (tokens_of text_tokens) x) place refl m))

@@ -27,7 +27,7 @@ use Rattle.litmus_ppc.specs.declared.parts.TextKind.TheVariants as kinds
 use Rattle.litmus_ppc.specs.Grammar.{IsInitText}
 use Rattle.litmus_ppc.specs.InitMachine as init
 use Rattle.litmus_ppc.specs.InitMachine.{Block, has_key, with_key, begun_at, with_entry, place_went, and_place, valued}
-use Rattle.litmus_ppc.specs.Texts.{spelled_colon, IsBrokenOff, IsInitStart, IsWhole, BreaksOff}
+use Rattle.litmus_ppc.specs.Texts.{spelled_colon, is_init, IsBrokenOff, IsStart, IsWhole, BreaksOff}
 use Rattle.litmus_ppc.specs.TextMachine as text
 use Rattle.litmus_ppc.specs.TextMachine.{Part, Held, Next, State, Ran, placed, and_then, stepped, part_step, start, run, rule_at, init_went}
 use Rattle.litmus_ppc.proofs.InitKeys.{key_of, Keeps, keeps_none, keeps_more, added_new, fresh, lacks_fresh}
@@ -71,6 +71,17 @@ NextKnown ts None = Unit {0}
 NextKnown ts (Some n) = (c : Block) × (n.held ≡ held c) × Known ts n.part c
 
 module _ (threads : ℕ) where
+  -- ---- the part is the init block to its end
+
+  stays : (x : Bool) (ts : List Token) → (y : Bool) × (stage_after (stages.Init true x) ts ≡ stages.Init true y)
+  stays x [] = (x, refl)
+  stays x (t ∷ ts) = by_token t (λ z. stays z ts)
+    where
+      by_token : (u : Token) → ((z : Bool) → (y : Bool) × (stage_after (stages.Init true z) ts ≡ stages.Init true y)) → (y : Bool) × (stage_after (after (stages.Init true x) u) ts ≡ stages.Init true y)
+      by_token (tokens.Mark marks.CloseBrace) later = later false
+      by_token (tokens.Word w) later = later true
+      by_token u later = later false
+
   -- ---- what goes on to the end
 
   record Ended (s : State) : Type 0 where
@@ -214,14 +225,14 @@ module _ (threads : ℕ) where
 
   data CanEnd (ts : List Token) (s : State) : Type 0 where
     Ends : Ended s → CanEnd ts s
-    Breaks : IsBrokenOff ts → CanEnd ts s
+    Breaks : IsBrokenOff IsInitText first_stage ts → CanEnd ts s
 
   place_ends : (ts : List Token) (g : Stage) (b : Block) (hole : PlaceHole) → Known ts (text.Init (holes.InPlace hole)) b → CanEnd ts (standing threads g (text.Init (holes.InPlace hole)) b)
   place_ends ts g b places.Begins k = absurd k.open_so
   place_ends ts g b places.WantsName k = Ends (name_ended g b k.named k.keeps)
   place_ends ts g b (places.WantsBracket n) k = Ends (record { rest = behind_name; state = _; by = refl; done = refl })
-  place_ends ts g b (places.WantsColon d) k = Breaks (record { before = k.open_so.0; entry = k.open_so.1; thread = d; colon = false; whole = k.open_so.2 })
-  place_ends ts g b (places.WantsRegister d) k = Breaks (record { before = k.open_so.0; entry = k.open_so.1; thread = d; colon = true; whole = k.open_so.2 })
+  place_ends ts g b (places.WantsColon d) k = Breaks (record { before = k.open_so.0; in_init = ap is_init (stays false k.open_so.0).1; entry = k.open_so.1; thread = d; colon = false; whole = k.open_so.2 })
+  place_ends ts g b (places.WantsRegister d) k = Breaks (record { before = k.open_so.0; in_init = ap is_init (stays false k.open_so.0).1; entry = k.open_so.1; thread = d; colon = true; whole = k.open_so.2 })
 
   ends : (ts : List Token) (g : Stage) (p : Part) (b : Block) → Known ts p b → CanEnd ts (standing threads g p b)
   ends ts g (text.Init holes.WantsOpen) b k = Ends (record { rest = tokens.Mark marks.OpenBrace ∷ closing; state = _; by = refl; done = refl })
@@ -234,13 +245,13 @@ module _ (threads : ℕ) where
   ends ts g text.Done b k = Ends (record { rest = []; state = _; by = refl; done = refl })
   ends ts g p b k = absurd k.open_so
 
-  begins_by : (ps : List Placed) (s : State) → run (start kinds.Init threads) ps ≡ Ok s → CanEnd (tokens_of ps) s → Begins IsInitStart (tokens_of ps)
+  begins_by : (ps : List Placed) (s : State) → run (start kinds.Init threads) ps ≡ Ok s → CanEnd (tokens_of ps) s → Begins (IsStart IsInitText first_stage) (tokens_of ps)
   begins_by ps s e (Ends x) =
       let same : tokens_of (ps ++ anywhere x.rest) ≡ tokens_of ps ++ x.rest = tokens_of-append ps (anywhere x.rest) ∙ ap (λ (ts : List Token). tokens_of ps ++ ts) (tokens_of-anywhere x.rest) in
       record { rest = x.rest; text = IsWhole (subst IsInitText same (init_whole threads (ps ++ anywhere x.rest) x.state (run-append (start kinds.Init threads) s ps (anywhere x.rest) e ∙ x.by) x.done)) }
-  begins_by ps s e (Breaks x) = record { rest = []; text = BreaksOff (subst IsBrokenOff (sym (append-nil (tokens_of ps))) x) }
+  begins_by ps s e (Breaks x) = record { rest = []; text = BreaksOff (subst (IsBrokenOff IsInitText first_stage) (sym (append-nil (tokens_of ps))) x) }
 
-  init_begins : (ps : List Placed) (s : State) → run (start kinds.Init threads) ps ≡ Ok s → Begins IsInitStart (tokens_of ps)
+  init_begins : (ps : List Placed) (s : State) → run (start kinds.Init threads) ps ≡ Ok s → Begins (IsStart IsInitText first_stage) (tokens_of ps)
   init_begins ps s e =
       let r = reach ps s e in
       begins_by ps s e (subst (CanEnd (tokens_of ps)) (sym r.is) (ends (tokens_of ps) r.stage r.part r.block r.known))
@@ -308,7 +319,7 @@ module _ (threads : ℕ) where
   with_bracket front before us e =
       tokens_of-append front (anywhere (bracket ∷ us)) ∙ ap (λ (ts : List Token). ts ++ tokens_of (anywhere (bracket ∷ us))) e ∙ ap (λ (ts : List Token). before ++ ts) (tokens_of-anywhere (bracket ∷ us)) ∙ sym (append_assoc before (bracket ∷ []) us)
 
-  broken_taken : (ps : List Placed) → IsBrokenOff (tokens_of ps) → (s : State) × (run (start kinds.Init threads) ps ≡ Ok s)
+  broken_taken : (ps : List Placed) → IsBrokenOff IsInitText first_stage (tokens_of ps) → (s : State) × (run (start kinds.Init threads) ps ≡ Ok s)
   broken_taken ps x =
       let c = split_at ps x.before (tokens.Number false x.thread ∷ spelled_colon x.colon) x.whole in
       let us = bracket ∷ x.entry.rest in
@@ -323,33 +334,22 @@ module _ (threads : ℕ) where
       let at_wants : p.0 ≡ standing threads r.stage (text.Init holes.WantsEntry) r.block = r.is ∙ ap (λ (q : Part). standing threads r.stage q r.block) entry in
       (n.0, ap (run (start kinds.Init threads)) c.split ∙ run-append (start kinds.Init threads) p.0 c.front c.back p.1 ∙ ap (λ (y : State). run y c.back) at_wants ∙ n.1)
 
-  init_takes : (ps : List Placed) → IsInitStart (tokens_of ps) → (s : State) × (run (start kinds.Init threads) ps ≡ Ok s)
+  init_takes : (ps : List Placed) → IsStart IsInitText first_stage (tokens_of ps) → (s : State) × (run (start kinds.Init threads) ps ≡ Ok s)
   init_takes ps (IsWhole x) = let r = init_taken threads x.entries ps x.fine x.whole in (r.state, r.by)
   init_takes ps (BreaksOff x) = broken_taken ps x
-
-  -- ---- the part is the init block to its end
-
-  stays : (x : Bool) (ts : List Token) → (y : Bool) × (stage_after (stages.Init true x) ts ≡ stages.Init true y)
-  stays x [] = (x, refl)
-  stays x (t ∷ ts) = by_token t (λ z. stays z ts)
-    where
-      by_token : (u : Token) → ((z : Bool) → (y : Bool) × (stage_after (stages.Init true z) ts ≡ stages.Init true y)) → (y : Bool) × (stage_after (after (stages.Init true x) u) ts ≡ stages.Init true y)
-      by_token (tokens.Mark marks.CloseBrace) later = later false
-      by_token (tokens.Word w) later = later true
-      by_token u later = later false
 
   init_says : (C : Token → Type 0) (kind : TextKind) (rows : table.State) (x : Bool) (t : Token) → Says C (stages.Init true x) (ruling (stages.Init true x) t) (rule_at kind rows (stages.Init true x) t)
   init_says C kind rows x (tokens.Broken rule) = refl
   init_says C kind rows true t = refl
   init_says C kind rows false t = refl
 
-  pub init_reading : Reading IsInitStart kinds.Init threads
+  pub init_reading : Reading (IsStart IsInitText first_stage) kinds.Init threads
   init_reading = record {
     begins = init_begins;
     takes = init_takes;
     says = λ ps s t place e none.
         let f = follows (start kinds.Init threads) s ps e in
         let y = stays false (tokens_of ps) in
-        let C = CanFollow IsInitStart (tokens_of ps) in
+        let C = CanFollow (IsStart IsInitText first_stage) (tokens_of ps) in
         subst (λ (g : Stage). Says C g (ruling g t) (rule_at s.kind s.held.table s.stage t)) (sym y.1) (subst (λ (g : Stage). Says C (stages.Init true y.0) (ruling (stages.Init true y.0) t) (rule_at s.kind s.held.table g t)) (sym (f.stage ∙ y.1)) (init_says C s.kind s.held.table y.0 t));
   }

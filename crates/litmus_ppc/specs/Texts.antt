@@ -8,7 +8,7 @@ use Rattle.litmus_tokens.specs.declared.token.Token.{Token}
 use Rattle.litmus_tokens.specs.declared.token.Token.TheVariants as tokens
 use Rattle.litmus_tokens.specs.declared.token.Mark.TheVariants.{OpenBrace, OpenBracket, Colon, Semicolon}
 use Rattle.litmus_tokens.specs.Words.{decimal}
-use Rattle.litmus_tokens.specs.Texts.{tokens_of, lexed, StandsAt}
+use Rattle.litmus_tokens.specs.Texts.{tokens_of, stage_after, lexed, StandsAt}
 use Rattle.litmus_tokens.specs.Faults.{CanFollow, IsFault}
 use Rattle.litmus_values.specs.declared.test.Place.{Place}
 use Rattle.litmus_values.specs.declared.test.InitEntry.{InitEntry}
@@ -56,26 +56,32 @@ late_of_test ts t = late_test t.tree
 abbrev pub late_of_init : ℕ → (ts : List Token) → IsInitText ts → Option Late
 late_of_init threads ts t = late_entries threads (tokens.Mark OpenBrace ∷ []) (members t.entries)
 
--- Where the fault of an init block is looked for, its text may break off behind the number of a thread, or its colon: so
--- a register that repeats is at fault itself, also where each register of its thread was named.
+-- Where the fault of an init block is looked for, its text may break off behind the number of a thread, or its colon, which
+-- stand where an entry may begin: so a register that repeats is at fault itself, also where each register of its thread
+-- was named.
 abbrev pub spelled_colon : Bool → List Token
 spelled_colon true = tokens.Mark Colon ∷ []
 spelled_colon false = []
 
-pub record IsBrokenOff (ts : List Token) : Type 0 where
+abbrev pub is_init : Stage → Bool
+is_init (Init alone after_word) = true
+is_init s = false
+
+pub record IsBrokenOff (IsText : List Token → Type 0) (start : Stage) (ts : List Token) : Type 0 where
   pub before : List Token
-  pub entry : CanFollow IsInitText before (tokens.Mark OpenBracket)
+  pub in_init : is_init (stage_after start before) ≡ true
+  pub entry : CanFollow IsText before (tokens.Mark OpenBracket)
   pub thread : List ℕ
   pub colon : Bool
   pub whole : ts ≡ before ++ tokens.Number false thread ∷ spelled_colon colon
 
-pub data IsInitStart (ts : List Token) : Type 0 where
-  IsWhole : IsInitText ts → IsInitStart ts
-  BreaksOff : IsBrokenOff ts → IsInitStart ts
+pub data IsStart (IsText : List Token → Type 0) (start : Stage) (ts : List Token) : Type 0 where
+  IsWhole : IsText ts → IsStart IsText start ts
+  BreaksOff : IsBrokenOff IsText start ts → IsStart IsText start ts
 
-abbrev pub late_of_start : ℕ → (ts : List Token) → IsInitStart ts → Option Late
-late_of_start threads ts (IsWhole t) = late_of_init threads ts t
-late_of_start threads ts (BreaksOff b) = None
+abbrev pub late_of_start : {IsText : List Token → Type 0} {start : Stage} → ((ts : List Token) → IsText ts → Option Late) → (ts : List Token) → IsStart IsText start ts → Option Late
+late_of_start late ts (IsWhole t) = late ts t
+late_of_start late ts (BreaksOff b) = None
 
 abbrev pub late_of_thread : (ts : List Token) → IsThreadText ts → Option Late
 late_of_thread ts t = late_notes [] (thread_notes [] (t.tree.first ∷ t.tree.others))
@@ -108,13 +114,13 @@ abbrev pub ReadsTest : List ℕ → Content → Type 0
 ReadsTest bytes v = Reads (IsTestText limits) Magic late_of_test (λ ts t. test_meaning t.tree) bytes v
 
 abbrev pub IsTestFault : List ℕ → LitmusRule → ℕ → Type 0
-IsTestFault bytes rule place = IsFaultAt (IsTestText limits) Magic late_of_test bytes rule place
+IsTestFault bytes rule place = IsFaultAt (IsStart (IsTestText limits) Magic) Magic (late_of_start late_of_test) bytes rule place
 
 abbrev pub ReadsInit : ℕ → List ℕ → List InitEntry → Type 0
 ReadsInit threads bytes v = Reads IsInitText (Init true false) (late_of_init threads) (λ ts t. map entry_meaning (members t.entries)) bytes v
 
 abbrev pub IsInitFault : ℕ → List ℕ → LitmusRule → ℕ → Type 0
-IsInitFault threads bytes rule place = IsFaultAt IsInitStart (Init true false) (late_of_start threads) bytes rule place
+IsInitFault threads bytes rule place = IsFaultAt (IsStart IsInitText (Init true false)) (Init true false) (late_of_start (late_of_init threads)) bytes rule place
 
 abbrev pub ReadsThread : List ℕ → List Step → Type 0
 ReadsThread bytes v = Reads IsThreadText CellBegins late_of_thread (λ ts t. thread_meaning t.tree) bytes v
