@@ -46,14 +46,14 @@ atom_missing ls places place p known none shows =
     not_missing (is_place p) places none
     (shows p (ap (λ (o : Option ShownPlace). is_among (cons_option o []) p) known ∙ ap (λ (b : Bool). b || false) (is_place_itself p)))
 
-or_left : (a b : Bool) → a ≡ true → (a || b) ≡ true
+pub or_left : (a b : Bool) → a ≡ true → (a || b) ≡ true
 or_left a b h = ap (λ (x : Bool). x || b) h
 
 or_right : (a b : Bool) → b ≡ true → (a || b) ≡ true
 or_right true b h = refl
 or_right false b h = h
 
-known_of_both : (ls : List (List ℕ)) (ps qs : List Place) (p : ShownPlace) → is_among (known_places ls (ps ++ qs)) p ≡ (is_among (known_places ls ps) p || is_among (known_places ls qs) p)
+pub known_of_both : (ls : List (List ℕ)) (ps qs : List Place) (p : ShownPlace) → is_among (known_places ls (ps ++ qs)) p ≡ (is_among (known_places ls ps) p || is_among (known_places ls qs) p)
 known_of_both ls ps qs p =
     ap (λ (l : List ShownPlace). is_among l p) (filter_map-append (known_place ls) ps qs) ∙ list_any-append (is_place p) (known_places ls ps) (known_places ls qs)
 

@@ -1,8 +1,11 @@
 pub mod Atoms
 pub mod Columns
 pub mod Finals
+pub mod Evaluations
 pub mod HeldTexts
+pub mod KeptLists
 pub mod Names
 pub mod Orders
 pub mod Places
+pub mod Spread
 pub mod Tallies

@@ -1,5 +1,5 @@
 -- The orders that are derived are those of the definitions.
-use Rattle.std.proofs.Common.{ℕ, Bool, true, false, ◌&&◌, eqb, ◌≡◌, refl, sym, ap, ◌∙◌, subst, arith}
+use Rattle.std.proofs.Common.{ℕ, List, [], ◌∷◌, Bool, true, false, ◌&&◌, eqb, ◌≡◌, refl, sym, ap, ◌∙◌, subst, arith}
 use mathlib.Core.Path.{fun_ext}
 use Rattle.std.specs.Cmp.{IsTotalOrder}
 use Rattle.std.specs.declared.cmp.Ordering.{Ordering}
@@ -8,7 +8,8 @@ use Rattle.std.proofs.lemmas.Bool.{false≢true}
 use Rattle.std.proofs.lemmas.Bool.Decides.{Decides-eqb, nat_tests}
 use Rattle.std.specs.Ordering.{is_eq, ordering_then, nat_cmp}
 use Rattle.std.specs.declared.cmp.Ordering.TheVariants.{Less, Equal, Greater}
-use Rattle.verdict.specs.Order.{place_cmp, value_cmp, state_cmp, is_place}
+use Rattle.std.proofs.lemmas.Map.Lookups.{exact_signed, exact_unsigned}
+use Rattle.verdict.specs.Order.{place_cmp, value_cmp, state_cmp, is_place, is_state}
 use Rattle.verdict.specs.Meaning.{is_value}
 use Rattle.verdict.specs.contracts.shown_place.ShownPlacePartialEq.TheImpl as place_eq
 use Rattle.verdict.specs.contracts.answer.FinalValuePartialEq.TheImpl as value_eq
@@ -68,6 +69,31 @@ place_eq_is (Register t r) (Register u s) =
 place_eq_is (Register t r) (Location l) = refl
 place_eq_is (Location k) (Register u s) = refl
 place_eq_is (Location k) (Location l) = eq_from_cmp k l
+
+value_exact : (v w : FinalValue) → value_cmp v w ≡ Equal → v ≡ w
+value_exact (Number m) (Number n) h = ap Number (exact_signed m n h)
+value_exact (Number m) (Address l) h = cc
+value_exact (Number m) NoValue h = cc
+value_exact (Address k) (Number n) h = cc
+value_exact (Address k) (Address l) h = ap Address (exact_unsigned k l h)
+value_exact (Address k) NoValue h = cc
+value_exact NoValue (Number n) h = cc
+value_exact NoValue (Address l) h = cc
+value_exact NoValue NoValue h = refl
+
+both_equal : (o r : Ordering) → is_eq (ordering_then o r) ≡ true → (o ≡ Equal) × (is_eq r ≡ true)
+both_equal Less r h = absurd (false≢true h)
+both_equal Equal r h = (refl, h)
+both_equal Greater r h = absurd (false≢true h)
+
+-- states that the order calls equal are the same
+pub is_state_same : (v w : List FinalValue) → is_state v w ≡ true → v ≡ w
+is_state_same [] [] h = refl
+is_state_same [] (y ∷ ys) h = absurd (false≢true h)
+is_state_same (x ∷ xs) [] h = absurd (false≢true h)
+is_state_same (x ∷ xs) (y ∷ ys) h =
+    let e = both_equal (value_cmp x y) (state_cmp xs ys) h in
+    ap (λ (z : FinalValue). z ∷ xs) (value_exact x y e.0) ∙ ap (λ (zs : List FinalValue). y ∷ zs) (is_state_same xs ys e.1)
 
 both_true : (a b : Bool) → (a && b) ≡ true → (a ≡ true) × (b ≡ true)
 both_true true true h = (refl, refl)

@@ -1,5 +1,5 @@
 -- Laws of a list of counts.
-use Rattle.std.proofs.Common.{ℕ, ◌+◌, ◌-◌, ◌^◌, min, Bool, true, false, cond, ◌≡◌, List, [], ◌∷◌, Option, Some, None, Vec, Global, refl, sym, ap, subst, ◌∙◌, arith, zero-add}
+use Rattle.std.proofs.Common.{ℕ, ◌<◌, ◌+◌, ◌-◌, ◌^◌, min, Bool, true, false, cond, ◌≡◌, List, [], ◌∷◌, Option, Some, None, Vec, Global, refl, sym, ap, subst, ◌∙◌, arith, zero-add}
 use mathlib.Core.Path.{fun_ext}
 use Rattle.std.specs.Option.{unwrap_or}
 use Rattle.std.specs.Map.{lookup}
@@ -10,7 +10,9 @@ use Rattle.std.specs.declared.cmp.Ordering.{Ordering}
 use Rattle.std.specs.declared.cmp.Ordering.TheVariants.{Less, Equal, Greater}
 use Rattle.std.proofs.lemmas.Cmp.{alike_right}
 use Rattle.verdict.specs.Order.{value_cmp, state_cmp, is_state}
-use Rattle.verdict.specs.Counting.{tally, Counts}
+use Rattle.std.proofs.lemmas.List.Elements.{All-nil}
+use Rattle.std.proofs.lemmas.Map.Views.{All-values-insert_entry}
+use Rattle.verdict.specs.Counting.{tally, AreAbove, Counts}
 use Rattle.verdict.specs.declared.answer.FinalValue.{FinalValue}
 use Rattle.verdict.proofs.Orders.{value_orders, state_total}
 use Rattle.verdict.specs.contracts.answer.FinalValueOrd.TheImpl as value_ord
@@ -94,6 +96,14 @@ pub raised : (old new : Entries) (s : Vec FinalValue Global) (had more : ℕ) �
 unfolding Raises
 raised = raises_there
 
+above_put : (cmp : Vec FinalValue Global → Vec FinalValue Global → Ordering) (old new : Entries) (s : Vec FinalValue Global) (had more : ℕ) → new ≡ insert_entry cmp old s (min (had + more) (2 ^ 64 - 1)) → 0 < more → AreAbove old → AreAbove new
+above_put cmp old new s had more is some above =
+    subst (λ (es : Entries). AreAbove es) (sym is) (All-values-insert_entry cmp s (min (had + more) (2 ^ 64 - 1)) (λ n. 0 < n) old above (omega arith))
+
+-- a count of some more leaves none at 0
+pub above_raised : (old new : Entries) (s : Vec FinalValue Global) (had more : ℕ) → new ≡ insert_entry (λ x y. slice_cmp ((value_ord.ghosts).cmp) x.items y.items) old s (min (had + more) (2 ^ 64 - 1)) → 0 < more → AreAbove old → AreAbove new
+above_raised = above_put (λ x y. slice_cmp ((value_ord.ghosts).cmp) x.items y.items)
+
 add_found : (new old before found : ℕ) (b : Bool) → new ≡ cond b (min (old + found) (2 ^ 64 - 1)) old → old ≡ min before (2 ^ 64 - 1) → new ≡ min (before + cond b found 0) (2 ^ 64 - 1)
 add_found new old before found true e h = omega arith
 add_found new old before found false e h = omega arith
@@ -103,34 +113,44 @@ add_none old before true h = omega arith
 add_none old before false h = omega arith
 
 -- some are found that end in one state
-pub some_found : (old new : Entries) (s state : List FinalValue) (more : ℕ) → s ≡ state → ((v : List FinalValue) → tally new v ≡ cond (is_state v s) (min (tally old v + more) (2 ^ 64 - 1)) (tally old v)) → Counts old new (λ v. cond (is_state v state) more 0)
+pub some_found : (old new : Entries) (s state : List FinalValue) (more : ℕ) → s ≡ state → (AreAbove old → AreAbove new) → ((v : List FinalValue) → tally new v ≡ cond (is_state v s) (min (tally old v + more) (2 ^ 64 - 1)) (tally old v)) → Counts old new (λ v. cond (is_state v state) more 0)
 unfolding Counts
-some_found old new s state more is h before start v =
-    add_found (tally new v) (tally old v) (before v) more (is_state v state) (subst (λ (t : List FinalValue). tally new v ≡ cond (is_state v t) (min (tally old v + more) (2 ^ 64 - 1)) (tally old v)) is (h v)) (start v)
+some_found old new s state more is above h = (
+  above,
+  λ before start v. add_found (tally new v) (tally old v) (before v) more (is_state v state) (subst (λ (t : List FinalValue). tally new v ≡ cond (is_state v t) (min (tally old v + more) (2 ^ 64 - 1)) (tally old v)) is (h v)) (start v),
+)
 
 pub none_counted : (old : Entries) (state : List FinalValue) (more : ℕ) → more ≡ 0 → Counts old old (λ v. cond (is_state v state) more 0)
 unfolding Counts
-none_counted old state more none before start v =
-    add_none (tally old v) (before v) (is_state v state) (start v) ∙ ap (λ (n : ℕ). min (before v + cond (is_state v state) n 0) (2 ^ 64 - 1)) (sym none)
+none_counted old state more none = (
+  λ above. above,
+  λ before start v. add_none (tally old v) (before v) (is_state v state) (start v) ∙ ap (λ (n : ℕ). min (before v + cond (is_state v state) n 0) (2 ^ 64 - 1)) (sym none),
+)
 
 -- nothing more
 pub no_more_counted : (old : Entries) (more : List FinalValue → ℕ) → ((v : List FinalValue) → more v ≡ 0) → Counts old old more
 unfolding Counts
-no_more_counted old more none before start v =
-    let n : before v ≡ before v + more v = omega (arith, none v) in
-    start v ∙ ap (λ (m : ℕ). min m (2 ^ 64 - 1)) n
+no_more_counted old more none = (
+  λ above. above,
+  λ before start v. let n : before v ≡ before v + more v = omega (arith, none v) in start v ∙ ap (λ (m : ℕ). min m (2 ^ 64 - 1)) n,
+)
 
 -- one after another
 pub counted_twice : (old mid new : Entries) (first second both : List FinalValue → ℕ) → Counts old mid first → Counts mid new second → ((v : List FinalValue) → both v ≡ first v + second v) → Counts old new both
 unfolding Counts
-counted_twice old mid new first second both h k sum before start v =
-    let e : (before v + first v) + second v ≡ before v + both v = omega (arith, sum v) in
-    k (λ w. before w + first w) (h before start) v ∙ ap (λ (n : ℕ). min n (2 ^ 64 - 1)) e
+counted_twice old mid new first second both h k sum = (
+  λ above. k.0 (h.0 above),
+  λ before start v. let e : (before v + first v) + second v ≡ before v + both v = omega (arith, sum v) in k.1 (λ w. before w + first w) (h.1 before start) v ∙ ap (λ (n : ℕ). min n (2 ^ 64 - 1)) e,
+)
 
 pub same_counts : (old new : Entries) (first both : List FinalValue → ℕ) → Counts old new first → ((v : List FinalValue) → both v ≡ first v) → Counts old new both
 unfolding Counts
-same_counts old new first both h same before start v = h before start v ∙ ap (λ (n : ℕ). min (before v + n) (2 ^ 64 - 1)) (sym (same v))
+same_counts old new first both h same = (h.0, λ before start v. h.1 before start v ∙ ap (λ (n : ℕ). min (before v + n) (2 ^ 64 - 1)) (sym (same v)))
 
 pub from_nothing : (new : Entries) (more : List FinalValue → ℕ) → Counts [] new more → (v : List FinalValue) → tally new v ≡ min (more v) (2 ^ 64 - 1)
 unfolding Counts tally
-from_nothing new more h v = h (λ w. 0) (λ w. refl) v ∙ ap (λ (n : ℕ). min n (2 ^ 64 - 1)) (zero-add (more v))
+from_nothing new more h v = h.1 (λ w. 0) (λ w. refl) v ∙ ap (λ (n : ℕ). min n (2 ^ 64 - 1)) (zero-add (more v))
+
+pub above_from_nothing : (new : Entries) (more : List FinalValue → ℕ) → Counts [] new more → AreAbove new
+unfolding Counts
+above_from_nothing new more h = h.0 (All-nil (λ n. 0 < n))

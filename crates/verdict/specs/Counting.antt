@@ -1,6 +1,7 @@
 -- How many candidates end in a state.
-use Rattle.std.specs.Prelude.{ℕ, ◌≡◌, zero, suc, ◌+◌, ◌-◌, ◌^◌, min, Bool, ◌&&◌, List, [], ◌∷◌, Vec, drop, unwrap_or, if◌then◌else◌}
-use Rattle.std.specs.Map.{lookup}
+use Rattle.std.specs.Prelude.{ℕ, ◌≡◌, ◌<◌, zero, suc, ◌+◌, ◌-◌, ◌^◌, min, Bool, ◌&&◌, List, [], ◌∷◌, Vec, drop, unwrap_or, if◌then◌else◌}
+use Rattle.std.specs.List.{All}
+use Rattle.std.specs.Map.{lookup, values_of}
 use Rattle.std.specs.declared.alloc.Global.{Global}
 use Rattle.verdict.specs.Kept.{holds_at}
 use Rattle.verdict.specs.Order.{is_state}
@@ -20,6 +21,10 @@ count_column (suc rows) width column kept = (if holds_at column kept then 1 else
 unfoldable pub tally : List (Vec FinalValue Global × ℕ) → List FinalValue → ℕ
 tally entries v = unwrap_or (lookup (λ k. is_state v k.items) entries) 0
 
--- the second list has so many more at each state than the first, up to the greatest number
+-- all counts are above 0
+abbrev pub AreAbove : List (Vec FinalValue Global × ℕ) → Type 0
+AreAbove entries = All (λ n. 0 < n) (values_of entries)
+
+-- the second list has so many more at each state than the first, up to the greatest number, and none that is 0 if the first has none
 unfoldable pub Counts : List (Vec FinalValue Global × ℕ) → List (Vec FinalValue Global × ℕ) → (List FinalValue → ℕ) → Type 0
-Counts old new more = (before : List FinalValue → ℕ) → ((v : List FinalValue) → tally old v ≡ min (before v) (2 ^ 64 - 1)) → (v : List FinalValue) → tally new v ≡ min (before v + more v) (2 ^ 64 - 1)
+Counts old new more = (AreAbove old → AreAbove new) × ((before : List FinalValue → ℕ) → ((v : List FinalValue) → tally old v ≡ min (before v) (2 ^ 64 - 1)) → (v : List FinalValue) → tally new v ≡ min (before v + more v) (2 ^ 64 - 1))

@@ -1,5 +1,6 @@
 pub mod Compiled
 pub mod Counting
+pub mod Evaluated
 pub mod Final
 pub mod Judgement
 pub mod Kept

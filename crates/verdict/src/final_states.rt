@@ -1,8 +1,8 @@
 //! The final states of the kept candidates.
 
-ghost use Rattle.std.specs.Prelude.{◌≡◌, ℕ, ◌+◌, ◌-◌, ◌^◌, min, List, map, drop, length, if◌then◌else◌, IfOk, OnOk};
+ghost use Rattle.std.specs.Prelude.{◌≡◌, ℕ, ◌<◌, ◌+◌, ◌-◌, ◌^◌, min, List, map, drop, length, if◌then◌else◌, IfOk, OnOk};
 ghost use Rattle.candidates.specs.Space.{candidates_in, candidates_of};
-ghost use Rattle.verdict.specs.Counting.{count_kept, count_column, tally, Counts};
+ghost use Rattle.verdict.specs.Counting.{count_kept, count_column, tally, AreAbove, Counts};
 ghost use Rattle.verdict.specs.Kept.{holds_at};
 ghost use Rattle.verdict.specs.Final.{value_shown, final_register, stored_at, final_word, final_value, final_state};
 ghost use Rattle.verdict.specs.Order.{is_state};
@@ -132,7 +132,7 @@ fn kept_with_order(kept: &[bool], ways: usize, orders: usize, order: usize) -> u
 }
 
 fn add_count(counts: &mut StateCounts, state: Vec<FinalValue>, found: u64) -> Result<(), AllocError>
-    ensures { OnOk result ((v : List FinalValue) → tally counts.new.entries v ≡ (if is_state v state.items then min (tally counts.old.entries v + found) (2 ^ 64 - 1) else tally counts.old.entries v)) }
+    ensures { OnOk result ((0 < found → AreAbove counts.old.entries → AreAbove counts.new.entries) × ((v : List FinalValue) → tally counts.new.entries v ≡ (if is_state v state.items then min (tally counts.old.entries v + found) (2 ^ 64 - 1) else tally counts.old.entries v))) }
 {
     let had = counts.get(&state).copied().unwrap_or(0);
     counts.insert(state, had.saturating_add(found))?;
@@ -192,7 +192,8 @@ pub fn final_states(
     kept: &[bool],
     places: &[ShownPlace],
 ) -> Result<StateCounts, AllocError>
-    ensures { IfOk result (λ t. (v : List FinalValue) → tally t.entries v ≡ min (count_kept (λ x. is_state v (final_state space.now places.now x)) kept.now (candidates_in space.now.combinations.items)) (2 ^ 64 - 1)) }
+    ensures above { IfOk result (λ t. AreAbove t.entries) }
+    ensures tally { IfOk result (λ t. (v : List FinalValue) → tally t.entries v ≡ min (count_kept (λ x. is_state v (final_state space.now places.now x)) kept.now (candidates_in space.now.combinations.items)) (2 ^ 64 - 1)) }
 {
     let mut counts = BTreeMap::new(alloc);
     let mut rest = kept;

@@ -1,10 +1,13 @@
 //! From candidates, checks and flags to an outcome.
 
-ghost use Rattle.std.specs.Prelude.{◌≡◌, ℕ, ◌<◌, ◌&&◌, ◌++◌, [], ◌∷◌, false, if◌then◌else◌, IfOk, OnOk, min, ◌-◌, ◌^◌, length, vec_len, slice_index_or};
-ghost use Rattle.std.specs.List.{list_any};
+ghost use Rattle.std.specs.Prelude.{◌≡◌, ℕ, ◌<◌, ◌&&◌, ◌++◌, [], ◌∷◌, false, if◌then◌else◌, IfOk, OnOk, min, ◌-◌, ◌^◌, length, map, vec_len, slice_index_or};
+ghost use Rattle.std.specs.List.{list_any, All};
+ghost use Rattle.std.specs.List.Sorted.{IsStrictlySortedBy};
 ghost use Rattle.verdict.specs.Kept.{holds_at, is_kept, holds_on_some, names_of};
 ghost use Rattle.verdict.specs.Names.{is_name};
-ghost use Rattle.verdict.specs.Judgement.{is_same, total_of, observation_of, is_met, IsJudged, IsOutcomeOf};
+ghost use Rattle.verdict.specs.Evaluated.{values_of, IsWorded, IsEvaluation, IsOutcome};
+ghost use Rattle.verdict.specs.Order.{state_cmp};
+ghost use Rattle.verdict.specs.Judgement.{is_same, total_of, observation_of, is_met, IsOutcomeOf};
 
 use crate::answer::{CountedState, Evaluation, Observation, Outcome, OutcomeResult};
 use crate::final_states::{StateCounts, final_states};
@@ -93,7 +96,11 @@ fn counted_states(
     places: &[ShownPlace],
     formula: &Formula,
     counts: StateCounts,
-) -> Result<Vec<CountedState>, AllocError> {
+) -> Result<Vec<CountedState>, AllocError>
+    ensures counts { IfOk result (λ v. map (λ s. (s.values, s.count)) v.items ≡ counts.entries) }
+    ensures words { IfOk result (λ v. All (IsWorded locations.now places.now formula.now) v.items) }
+    ensures rising { IfOk result (λ v. IsStrictlySortedBy state_cmp (values_of v.items)) }
+{
     let mut states = Vec::new(alloc);
     for (values, count) in counts {
         let text = state_text(alloc, locations, places, &values)?;
@@ -152,7 +159,7 @@ fn evaluation(
     checks: &[Vec<bool>],
     flags: &[Raised],
 ) -> Result<Evaluation, AllocError>
-    ensures { IfOk result (λ e. IsJudged condition.now.quantifier e) }
+    ensures { IfOk result (λ e. IsEvaluation space.now condition.now observed.now checks.now flags.now e) }
 {
     let kept = kept_candidates(alloc, space.len(), checks)?;
     let places = shown_places(alloc, &space.locations, &condition.proposition, observed)?;
@@ -181,7 +188,8 @@ pub fn outcome(
     checks: &[Vec<bool>],
     flags: &[Raised],
 ) -> Result<Outcome, AllocError>
-    ensures { IfOk result (λ o. IsOutcomeOf condition.now.quantifier o) }
+    ensures whole { IfOk result (λ o. IsOutcome space.now condition.now observed.now checks.now flags.now o) }
+    ensures judged { IfOk result (λ o. IsOutcomeOf condition.now.quantifier o) }
 {
     let found = evaluation(alloc, space, condition, observed, checks, flags)?;
     Ok(Outcome {

@@ -1,4 +1,4 @@
-use Rattle.std.proofs.Common.{map}
+use Rattle.std.proofs.Common.{map, arith}
 use Rattle.std.proofs.lemmas.Result.{on_ok_weaker}
 use Rattle.verdict.specs.Final.{final_value}
 use Rattle.verdict.proofs.Tallies.{some_found, none_counted}
@@ -10,5 +10,5 @@ returns-then-found-eq0 c = none_counted c.args.counts.now.entries (map (final_va
 pub returns : goal.returns
 returns c =
     on_ok_weaker c.add_count.result
-    (λ h. some_found c.args.counts.now.entries c.add_count.new.counts.entries c.in_ok-state.state.items (map (final_value c.args.space.now c.args.combination.now c.args.order.now) c.args.places.now) c.args.found c.in_ok-state.ensures h)
+    (λ h. some_found c.args.counts.now.entries c.add_count.new.counts.entries c.in_ok-state.state.items (map (final_value c.args.space.now c.args.combination.now c.args.order.now) c.args.places.now) c.args.found c.in_ok-state.ensures (h.0 (omega (arith, c.if-found-eq0.false))) h.1)
     c.add_count.ensures

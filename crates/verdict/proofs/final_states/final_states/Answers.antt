@@ -7,7 +7,7 @@ use Rattle.verdict.specs.Final.{final_state}
 use Rattle.verdict.specs.Order.{is_state}
 use Rattle.verdict.specs.declared.answer.FinalValue.{FinalValue}
 use Rattle.verdict.proofs.Columns.{none_kept, one_more_counted, after_one_more}
-use Rattle.verdict.proofs.Tallies.{Entries, no_more_counted, counted_twice, from_nothing}
+use Rattle.verdict.proofs.Tallies.{Entries, no_more_counted, counted_twice, from_nothing, above_from_nothing}
 use Rattle.verdict.proofs.final_states.final_states.Goals as goal
 
 pub loop-combination-init : goal.loop-combination-init
@@ -32,8 +32,11 @@ loop-combination-preserved c =
           ∙ ap (λ (l : List Bool). so_far v c.loop-combination.combination-index + count_kept (λ t. test v (e, t)) l (candidates_of e)) (sym c.loop-combination.invariant.0)),
     )
 
-pub returns : goal.returns
-returns c = λ v.
+pub returns-clause-above : goal.returns-clause-above
+returns-clause-above c = above_from_nothing c.loop-combination.counts.entries _ c.loop-combination.invariant.1
+
+pub returns-clause-tally : goal.returns-clause-tally
+returns-clause-tally c = λ v.
     let past : length c.args.space.now.combinations.items ≤ c.loop-combination.combination-index = subst (λ (l : List Combination). length l ≤ c.loop-combination.combination-index) c.deref-combination-items.ensures.value c.loop-combination-test.false in
     from_nothing c.loop-combination.counts.entries _ c.loop-combination.invariant.1 v
     ∙ ap (λ (cs : List Combination). min (count_kept (λ x. is_state v (final_state c.args.space.now c.args.places.now x)) c.args.kept.now (candidates_in cs)) (2 ^ 64 - 1))
