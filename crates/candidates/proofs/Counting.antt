@@ -5,7 +5,7 @@ use Rattle.std.proofs.lemmas.Bool.{cases_lt}
 use Rattle.std.proofs.lemmas.Bool.Decides.{nat_tests}
 use Rattle.std.proofs.lemmas.List.{length-append, length-map, length-take, append-nil}
 use Rattle.std.proofs.lemmas.Nat.{mul-le}
-use Rattle.std.proofs.Math.Nat.{mul-zero, zero-mul, one-mul, suc-mul, mul_comm, mul_assoc, le-mul_of_pos_right}
+use Rattle.std.proofs.Math.Nat.{one-le-mul, mul-zero, zero-mul, one-mul, suc-mul, mul_comm, mul_assoc, le-mul_of_pos_right}
 use Rattle.candidates.specs.Lists.{tuples, IsFiltered, none, kept, joined_with}
 use Rattle.candidates.specs.Orders.{has_store, with_new, AreDistinct, AreOrders, orders_of, numbers, is_thread_store, stores_of, all_orders, rows_of, AreApart}
 use Rattle.candidates.specs.declared.candidate.Event.{Event}
@@ -305,3 +305,17 @@ counted_few test es n count few is =
 
 pub all_counted : (es : List Event) (location n end count : ℕ) → count ≡ length (numbers (is_thread_store location) 0 (take n es)) → end ≡ min (length es) 128 → n ≤ end → end ≤ n → count ≡ length (stores_of es location)
 all_counted es location n end count is e le ge = is ∙ ap (λ (l : List ℕ). length l) (stores_are es {ys = numbers (is_thread_store location) 0 (take n es)} location n end refl e le ge)
+
+-- there is some order
+rows_positive : (count places : ℕ) → places ≤ count → 1 ≤ rows_of count places
+rows_positive count zero le = omega arith
+rows_positive count (suc places) le = one-le-mul (rows_positive count places (omega (arith, le))) (omega (arith, le))
+
+pub some_order : (es : List Event) (n : ℕ) → AreApart es n → 1 ≤ length (all_orders es n)
+some_order es zero apart = omega arith
+some_order es (suc n) apart =
+    let own : length (orders_of n (stores_of es n)) ≡ rows_of (length (stores_of es n)) (length (stores_of es n)) = orders_count n (stores_of es n) (stores_distinct es n) (apart n (omega arith)) in
+    let many : length (all_orders es (suc n)) ≡ length (all_orders es n) * length (orders_of n (stores_of es n)) = joined_length (orders_of n (stores_of es n)) (all_orders es n) in
+    let p : 1 ≤ rows_of (length (stores_of es n)) (length (stores_of es n)) = rows_positive (length (stores_of es n)) (length (stores_of es n)) (omega arith) in
+    let q : 1 ≤ length (all_orders es n) * length (orders_of n (stores_of es n)) = one-le-mul (some_order es n (λ l lt. apart l (omega (arith, lt)))) (omega (arith, own, p)) in
+    omega (arith, many, q)

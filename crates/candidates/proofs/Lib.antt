@@ -6,6 +6,7 @@ pub mod Extending
 pub mod Filters
 pub mod Finding
 pub mod Gathering
+pub mod Judging
 pub mod Members
 pub mod Numbers
 pub mod OrderLaws

@@ -28,7 +28,9 @@ pub const MAX_CANDIDATES: usize = 16_384;
 /// fault.
 pub fn space(alloc: Global, test: &Test) -> Result<Space, SpaceFault> {
     let layout = Layout::new(alloc, test)?;
-    let found = search::search(alloc, &layout)?;
+    let Some(found) = search::search(alloc, &layout)? else {
+        return Err(SpaceFault::Refused(EvalRefusal::TooManyCandidates));
+    };
     if found.is_faulted {
         return Err(SpaceFault::Refused(EvalRefusal::AddressFault));
     }

@@ -352,7 +352,7 @@ impl Reading {
     /// order: for each load in event order the number of its store. `None` where there are over
     /// `limit`.
     pub fn ways(&self, alloc: Global, limit: usize) -> Result<Option<Vec<Vec<u8>>>, AllocError>
-        ensures { IfOk result (λ o. MatchOption o (HasOver self.now limit) (λ v. HasWays self.now (lists_of v.items))) }
+        ensures { IfOk result (λ o. MatchOption o (HasOver self.now limit) (λ v. HasWays self.now (lists_of v.items) × (length v.items ≤ limit))) }
     {
         let mut ways = Vec::new(alloc);
         if self.is_possible() {

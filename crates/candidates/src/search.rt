@@ -1,14 +1,16 @@
 //! The combinations of runs that have candidates.
+ghost use Rattle.std.specs.Prelude.{◌≡◌, ◌≤◌, ◌++◌, map, min, length, IfOk, OnOk, MatchOption};
+ghost use Rattle.candidates.specs.Lists.{lists_of};
+ghost use Rattle.candidates.specs.Space.{seen};
+ghost use Rattle.candidates.specs.Search.{moved, bare, joined_run, with_run, kept, begun, tally, tallied, Fits, Judged, IsTooMuch, Tells};
 
 use crate::MAX_CANDIDATES;
-use crate::candidate::{Combination, Event};
+use crate::candidate::Combination;
 use crate::keys::KeySet;
 use crate::layout::{Layout, ThreadParts};
 use crate::orders::order_count;
 use crate::part::Part;
 use crate::reading::Reading;
-use dataflow::Links;
-use ppc_semantics::{EvalRefusal, SpaceFault};
 use std::alloc::{AllocError, Global};
 
 /// What the search has found: combinations without their orders.
@@ -25,7 +27,10 @@ pub struct Found {
 /// Runs of the first threads, one of each.
 #[derive(Drop)]
 struct Front {
-    runs: Vec<usize>,
+    /// Their combination, without ways to read and without orders.
+    made: Combination,
+    /// A load and a store whose value needs that of the load.
+    needs: Vec<(usize, usize)>,
     /// The locations and values that their loads read.
     reads: KeySet,
     /// The locations and values that they and the initial stores store.
@@ -42,23 +47,6 @@ fn fits(front: &Front, part: &Part, later: &KeySet) -> bool {
     front.reads.is_within(&stored) && part.reads.is_within(&stored)
 }
 
-/// The front with one run more.
-fn extended(alloc: Global, front: &Front, run: usize, part: &Part) -> Result<Front, AllocError> {
-    let mut runs = Vec::with_capacity(alloc, front.runs.len() + 1)?;
-    runs.extend_from_slice(&front.runs)?;
-    runs.push(run)?;
-    let mut reads = front.reads;
-    reads.join(&part.reads);
-    let mut writes = front.writes;
-    writes.join(&part.writes);
-    Ok(Front {
-        runs,
-        reads,
-        writes,
-        is_faulted: front.is_faulted || part.is_faulted,
-    })
-}
-
 /// What some run of these threads stores.
 fn writes_of(threads: &[ThreadParts]) -> KeySet {
     let mut writes = KeySet::empty();
@@ -73,134 +61,160 @@ fn add_pairs(
     pairs: &mut Vec<(usize, usize)>,
     more: &[(usize, usize)],
     base: usize,
-) -> Result<(), AllocError> {
+) -> Result<(), AllocError>
+    ensures { OnOk result (pairs.new.items ≡ pairs.old.items ++ moved base more.now) }
+{
     for (from, to) in more {
         pairs.push((base.saturating_add(*from), base.saturating_add(*to)))?;
     }
     Ok(())
 }
 
-/// Adds the dependencies of a part.
-fn add_links(made: &mut Combination, links: &Links, base: usize) -> Result<(), AllocError> {
-    add_pairs(&mut made.addr_pairs, &links.addr_pairs, base)?;
-    add_pairs(&mut made.data_pairs, &links.data_pairs, base)?;
-    add_pairs(&mut made.ctrl_pairs, &links.ctrl_pairs, base)?;
-    add_pairs(&mut made.ctrlisync_pairs, &links.ctrlisync_pairs, base)?;
+/// The combination with its events and pairs alone.
+fn copied(alloc: Global, made: &Combination) -> Result<Combination, AllocError>
+    ensures { IfOk result (λ c. seen c ≡ bare (seen made.now)) }
+{
+    Ok(Combination {
+        events: Vec::from_slice(alloc, &made.events)?,
+        addr_pairs: Vec::from_slice(alloc, &made.addr_pairs)?,
+        data_pairs: Vec::from_slice(alloc, &made.data_pairs)?,
+        ctrl_pairs: Vec::from_slice(alloc, &made.ctrl_pairs)?,
+        ctrlisync_pairs: Vec::from_slice(alloc, &made.ctrlisync_pairs)?,
+        runs: Vec::from_slice(alloc, &made.runs)?,
+        sources: Vec::new(alloc),
+        orders: Vec::new(alloc),
+    })
+}
+
+/// Adds the run at this place among those of the next thread.
+fn add_run(made: &mut Combination, run: usize, part: &Part) -> Result<(), AllocError>
+    ensures { OnOk result (seen made.new ≡ joined_run run part.now (seen made.old)) }
+{
+    let base = made.events.len();
+    add_pairs(&mut made.addr_pairs, &part.links.addr_pairs, base)?;
+    add_pairs(&mut made.data_pairs, &part.links.data_pairs, base)?;
+    add_pairs(&mut made.ctrl_pairs, &part.links.ctrl_pairs, base)?;
+    add_pairs(&mut made.ctrlisync_pairs, &part.links.ctrlisync_pairs, base)?;
+    made.events.extend_from_slice(&part.events)?;
+    made.runs.push(run)?;
     Ok(())
 }
 
-/// The run of a thread, where the runs have one for it.
-fn chosen<'a>(threads: &'a [ThreadParts], runs: &[usize], thread: usize) -> Option<&'a Part> {
-    threads.get(thread)?.parts.get(*runs.get(thread)?)
-}
-
-/// The combination of the runs, with its ways to read and without its orders.
-fn combination(
-    alloc: Global,
-    layout: &Layout,
-    runs: &[usize],
-    events: Vec<Event>,
-    sources: Vec<Vec<u8>>,
-) -> Result<Combination, AllocError> {
-    let mut made = Combination {
-        events,
-        addr_pairs: Vec::new(alloc),
-        data_pairs: Vec::new(alloc),
-        ctrl_pairs: Vec::new(alloc),
-        ctrlisync_pairs: Vec::new(alloc),
-        runs: Vec::from_slice(alloc, runs)?,
-        sources,
-        orders: Vec::new(alloc),
-    };
-    let mut base = layout.initial.len();
-    for thread in 0..layout.threads.len() {
-        if let Some(part) = chosen(&layout.threads, runs, thread) {
-            add_links(&mut made, &part.links, base)?;
-            base = base.saturating_add(part.events.len());
-        }
-    }
-    Ok(made)
-}
-
-/// The events of the initial stores and of the runs, and the pairs of a load and a store that
-/// needs it.
-fn gather(
-    alloc: Global,
-    layout: &Layout,
-    runs: &[usize],
-    needs: &mut Vec<(usize, usize)>,
-) -> Result<Vec<Event>, AllocError> {
-    let mut events = Vec::from_slice(alloc, &layout.initial)?;
-    for thread in 0..layout.threads.len() {
-        if let Some(part) = chosen(&layout.threads, runs, thread) {
-            add_pairs(needs, &part.links.need_pairs, events.len())?;
-            events.extend_from_slice(&part.events)?;
-        }
-    }
-    Ok(events)
+/// The front with one run more.
+fn extended(alloc: Global, front: &Front, run: usize, part: &Part) -> Result<Front, AllocError>
+    ensures { seen front.now.made ≡ bare (seen front.now.made) → IfOk result (λ f. begun f ≡ with_run run part.now (begun front.now)) }
+{
+    let mut made = copied(alloc, &front.made)?;
+    let mut needs = Vec::from_slice(alloc, &front.needs)?;
+    add_pairs(&mut needs, &part.links.need_pairs, made.events.len())?;
+    add_run(&mut made, run, part)?;
+    let mut reads = front.reads;
+    reads.join(&part.reads);
+    let mut writes = front.writes;
+    writes.join(&part.writes);
+    Ok(Front {
+        made,
+        needs,
+        reads,
+        writes,
+        is_faulted: front.is_faulted || part.is_faulted,
+    })
 }
 
 impl Found {
-    /// Counts the candidates of the runs, and keeps the combination if it has some.
-    fn judge(&mut self, alloc: Global, layout: &Layout, front: &Front) -> Result<(), SpaceFault> {
-        let mut needs = Vec::new(alloc);
-        let events = gather(alloc, layout, &front.runs, &mut needs)?;
-        let orders = order_count(&events, layout.locations.len()).max(1);
+    /// Keeps the combination with its ways to read, if it has some, and counts its candidates,
+    /// which has so many orders.
+    fn keep(&mut self, front: Front, ways: Vec<Vec<u8>>, orders: usize) -> Result<(), AllocError>
+        ensures { OnOk result (tally self.new ≡ kept (begun front) (lists_of ways.items) orders (tally self.old)) }
+    {
+        if !ways.is_empty() {
+            self.count = self.count.saturating_add(ways.len().saturating_mul(orders));
+            self.is_faulted = self.is_faulted || front.is_faulted;
+            if !self.is_faulted {
+                let mut made = front.made;
+                made.sources = ways;
+                self.combinations.push(made)?;
+            }
+        }
+        Ok(())
+    }
+
+    /// Counts the candidates of the runs, and keeps the combination if it has some; `false` where
+    /// there are too many.
+    fn judge(&mut self, alloc: Global, locations: usize, front: Front) -> Result<bool, AllocError>
+        ensures { Fits (min locations 128) (begun front) → self.old.count ≤ 16384 → IfOk result (λ b. Tells b (Judged (min locations 128) (begun front) (tally self.old) (tally self.new) × (self.new.count ≤ 16384)) (IsTooMuch (min locations 128) (begun front) (tally self.old))) }
+    {
+        let orders = order_count(&front.made.events, locations).max(1);
         let limit = MAX_CANDIDATES.saturating_sub(self.count) / orders;
-        match Reading::new(alloc, &events, &needs)?.ways(alloc, limit)? {
-            None => Err(SpaceFault::Refused(EvalRefusal::TooManyCandidates)),
+        match Reading::new(alloc, &front.made.events, &front.needs)?.ways(alloc, limit)? {
+            None => Ok(false),
             Some(ways) => {
-                let more = ways.len().saturating_mul(orders);
-                if more > 0 {
-                    self.count = self.count.saturating_add(more);
-                    self.is_faulted = self.is_faulted || front.is_faulted;
-                    if !self.is_faulted {
-                        let made = combination(alloc, layout, &front.runs, events, ways)?;
-                        self.combinations.push(made).map_err(AllocError::from)?;
-                    }
-                }
-                Ok(())
+                self.keep(front, ways, orders)?;
+                Ok(true)
             }
         }
     }
 }
 
-/// Adds the combinations that begin with the front and go on with a run of each of the threads.
+/// Adds the combinations that begin with the front and go on with a run of each of the threads;
+/// `false` where there are too many candidates.
 fn search_from(
     alloc: Global,
-    layout: &Layout,
+    locations: usize,
     threads: &[ThreadParts],
-    front: &Front,
+    front: Front,
     found: &mut Found,
-) -> Result<(), SpaceFault> {
+) -> Result<bool, AllocError> {
     match threads.split_first() {
-        None => found.judge(alloc, layout, front),
+        None => found.judge(alloc, locations, front),
         Some((thread, others)) => {
             let later = writes_of(others);
             for (run, part) in thread.parts.iter().enumerate() {
-                if fits(front, part, &later) {
-                    let longer = extended(alloc, front, run, part)?;
-                    search_from(alloc, layout, others, &longer, found)?;
+                if fits(&front, part, &later) {
+                    let longer = extended(alloc, &front, run, part)?;
+                    if !search_from(alloc, locations, others, longer, found)? {
+                        return Ok(false);
+                    }
                 }
             }
-            Ok(())
+            Ok(true)
         }
     }
 }
 
-/// The combinations that have candidates, in the order of their runs, without their orders.
-pub fn search(alloc: Global, layout: &Layout) -> Result<Found, SpaceFault> {
-    let front = Front {
-        runs: Vec::new(alloc),
+/// The initial stores alone.
+fn first_front(alloc: Global, layout: &Layout) -> Result<Front, AllocError> {
+    Ok(Front {
+        made: Combination {
+            events: Vec::from_slice(alloc, &layout.initial)?,
+            addr_pairs: Vec::new(alloc),
+            data_pairs: Vec::new(alloc),
+            ctrl_pairs: Vec::new(alloc),
+            ctrlisync_pairs: Vec::new(alloc),
+            runs: Vec::new(alloc),
+            sources: Vec::new(alloc),
+            orders: Vec::new(alloc),
+        },
+        needs: Vec::new(alloc),
         reads: KeySet::empty(),
         writes: layout.initial_writes,
         is_faulted: false,
-    };
+    })
+}
+
+/// The combinations that have candidates, in the order of their runs, without their orders; `None`
+/// where there are too many candidates.
+pub fn search(alloc: Global, layout: &Layout) -> Result<Option<Found>, AllocError> {
+    let front = first_front(alloc, layout)?;
     let mut found = Found {
         combinations: Vec::new(alloc),
         count: 0,
         is_faulted: false,
     };
-    search_from(alloc, layout, &layout.threads, &front, &mut found)?;
-    Ok(found)
+    let locations = layout.locations.len();
+    if search_from(alloc, locations, &layout.threads, front, &mut found)? {
+        Ok(Some(found))
+    } else {
+        Ok(None)
+    }
 }

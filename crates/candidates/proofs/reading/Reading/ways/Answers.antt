@@ -35,4 +35,7 @@ returns-then-len-limit c =
     (omega (arith, c.if-len-limit.true, c.len.ensures, c.loop-place.ways.ok.0, length-map c.loop-place.ways.items (λ v. v.items)))
 
 pub returns : goal.returns
-returns c = all_loads c.args.self.now c.loop-place.place (lists_of c.loop-place.ways.items) (let e = ap (λ (l : List Load). length l) c.deref-load-items.ensures.value in omega (arith, e)) c.loop-place.invariant
+returns c = (
+  all_loads c.args.self.now c.loop-place.place (lists_of c.loop-place.ways.items) (let e = ap (λ (l : List Load). length l) c.deref-load-items.ensures.value in omega (arith, e)) c.loop-place.invariant,
+  omega (arith, c.if-len-limit.false, c.len.ensures, c.loop-place.ways.ok.0),
+)
