@@ -19,33 +19,33 @@ use Rattle.litmus_laws.proofs.Instructions.{tree_of, opcode, instruction_read}
 use Rattle.litmus_laws.proofs.Rows.{step_tree, cell_tree, AreAllSteps, row_tree, rows_of, AreShort, all_short}
 
 -- a label that is defined, or gone to
-data Mark : Type 0 where
+pub data Mark : Type 0 where
   Put : (label : List ℕ) → Mark
   Go : (label : List ℕ) → Mark
 
-abbrev marks_of : List Note → List Mark
+abbrev pub marks_of : List Note → List Mark
 marks_of [] = []
 marks_of (Defines w before ∷ ns) = Put w ∷ marks_of ns
 marks_of (Branches w before ∷ ns) = Go w ∷ marks_of ns
 
-marks-append : (ms ns : List Note) → marks_of (ms ++ ns) ≡ marks_of ms ++ marks_of ns
+pub marks-append : (ms ns : List Note) → marks_of (ms ++ ns) ≡ marks_of ms ++ marks_of ns
 marks-append [] ns = refl
 marks-append (Defines w before ∷ ms) ns = ap (λ (l : List Mark). Put w ∷ l) (marks-append ms ns)
 marks-append (Branches w before ∷ ms) ns = ap (λ (l : List Mark). Go w ∷ l) (marks-append ms ns)
 
-abbrev gone : Option (List ℕ) → List Mark
+abbrev pub gone : Option (List ℕ) → List Mark
 gone None = []
 gone (Some l) = Go l ∷ []
 
-abbrev step_marks : Step → List Mark
+abbrev pub step_marks : Step → List Mark
 step_marks (steps.Label l) = Put l ∷ []
 step_marks (steps.Instruction i) = gone (target i)
 
-abbrev all_marks : List Step → List Mark
+abbrev pub all_marks : List Step → List Mark
 all_marks [] = []
 all_marks (s ∷ ss) = step_marks s ++ all_marks ss
 
-abbrev puts : List Mark → List (List ℕ)
+abbrev pub puts : List Mark → List (List ℕ)
 puts [] = []
 puts (Put l ∷ ms) = l ∷ puts ms
 puts (Go l ∷ ms) = puts ms
@@ -110,12 +110,12 @@ column_all (suc n) (s ∷ ss) le = ap (λ (ms : List Mark). step_marks s ++ ms) 
 
 -- ---- what the check makes of them
 
-abbrev AreFine : List (List ℕ) → List Mark → Type 0
+abbrev pub AreFine : List (List ℕ) → List Mark → Type 0
 AreFine above [] = Unit {0}
 AreFine above (Put l ∷ ms) = (is_in l above ≡ false) × AreFine (l ∷ above) ms
 AreFine above (Go l ∷ ms) = (is_in l above ≡ false) × (is_in l (puts ms) ≡ true) × AreFine above ms
 
-defined_puts : (ns : List Note) → defined ns ≡ puts (marks_of ns)
+pub defined_puts : (ns : List Note) → defined ns ≡ puts (marks_of ns)
 defined_puts [] = refl
 defined_puts (Defines w before ∷ ns) = ap (λ (l : List (List ℕ)). w ∷ l) (defined_puts ns)
 defined_puts (Branches w before ∷ ns) = defined_puts ns
@@ -129,11 +129,11 @@ fine_notes above (Branches w before ∷ ns) h =
     ∙ ap (λ (b : Bool). if b then late_notes above ns else Some (record { rule = rules.Label; before = before })) (ap (is_in w) (defined_puts ns) ∙ h.1)
     ∙ fine_notes above ns h.2
 
-puts_gone : (o : Option (List ℕ)) (ms : List Mark) → puts (gone o ++ ms) ≡ puts ms
+pub puts_gone : (o : Option (List ℕ)) (ms : List Mark) → puts (gone o ++ ms) ≡ puts ms
 puts_gone None ms = refl
 puts_gone (Some l) ms = refl
 
-labels_put : (ss : List Step) → labels ss ≡ puts (all_marks ss)
+pub labels_put : (ss : List Step) → labels ss ≡ puts (all_marks ss)
 labels_put [] = refl
 labels_put (steps.Label l ∷ ss) = ap (λ (x : List (List ℕ)). l ∷ x) (labels_put ss)
 labels_put (steps.Instruction i ∷ ss) = labels_put ss ∙ sym (puts_gone (target i) (all_marks ss))

@@ -3,8 +3,12 @@ pub mod Entries
 pub mod Head
 pub mod Instructions
 pub mod Labels
+pub mod Meant
+pub mod MeantRows
+pub mod MeantTests
 pub mod Numbers
 pub mod Places
 pub mod Read
 pub mod Rows
+pub mod Tokens
 pub mod Whole

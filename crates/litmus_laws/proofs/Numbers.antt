@@ -51,7 +51,7 @@ word w (c ∷ cs) bs h e = inner_turn w c cs bs (tokens.Word (c ∷ cs)) (word_s
 
 -- ---- digits
 
-own : IsNumeralModel (λ ds. are_digits ds ≡ true) (decimal_from 0)
+pub own : IsNumeralModel (λ ds. are_digits ds ≡ true) (decimal_from 0)
 own = numerals_by_fold (λ ds. are_digits ds ≡ true) (search rules) decimal_from (search rules)
 
 pub are_back : (n : ℕ) → n < 2 ^ 64 → are_digits (decimal n) ≡ true

@@ -177,7 +177,7 @@ last_free a w tokens.End = refl
 last_free a w tokens.Bad = refl
 last_free a w (tokens.Broken r) = refl
 
-past_after : (s : Stage) (t : Token) → is_past s ≡ true → is_past (after s t) ≡ true
+pub past_after : (s : Stage) (t : Token) → is_past s ≡ true → is_past (after s t) ≡ true
 past_after Magic t h = absurd cc
 past_after Title t h = absurd cc
 past_after TitleEnd t h = absurd cc

@@ -1,6 +1,6 @@
 //! Laws of the definitions.
 
-ghost use Rattle.std.specs.Prelude.{◌<◌, ℕ};
+ghost use Rattle.std.specs.Prelude.{◌<◌, ℕ, List};
 ghost use Rattle.litmus_values.specs.declared.test.Quantifier.{Quantifier};
 ghost use Rattle.litmus_values.specs.Value.{Formula, Content};
 ghost use Rattle.litmus_ppc.specs.Printing.{condition_text, printed};
@@ -15,4 +15,14 @@ pub fn printed_condition_is_read()
 /// What is printed for a test reads as that test, the limits of length, nesting and number aside.
 pub fn printed_is_read()
     ensures { (v : Content) → IsTest v → IsTextOfTest (printed v) v }
+{}
+
+/// What the text of a condition means, in a test of so many threads, can be printed so.
+pub fn read_condition_is_written()
+    ensures { (threads : ℕ) (bytes : List ℕ) (q : Quantifier) (f : Formula) → IsTextOfCondition threads bytes q f → IsFormula threads f }
+{}
+
+/// What a text means that the later checks pass can be printed so.
+pub fn read_is_written()
+    ensures { (bytes : List ℕ) (v : Content) → IsTextOfTest bytes v → IsTest v }
 {}

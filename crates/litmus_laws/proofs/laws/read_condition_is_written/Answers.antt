@@ -1,0 +1,5 @@
+use Rattle.litmus_laws.proofs.Meant.{condition_is_written}
+use Rattle.litmus_laws.proofs.laws.read_condition_is_written.Goals as goal
+
+pub returns : goal.returns
+returns c = condition_is_written
