@@ -1,6 +1,6 @@
 -- Conditions, as they are read.
 use Rattle.std.proofs.Common.{◌≡◌, ℕ, zero, suc, ◌+◌, ◌<◌, ◌≤◌, Bool, true, false, List, [], ◌∷◌, ◌++◌, length, refl, sym, ap, ◌∙◌, arith, append_assoc}
-use Rattle.std.specs.Prelude.{if◌then◌else◌, ◌&&◌, nat_lt, slice_index, codes}
+use Rattle.std.specs.Prelude.{max, if◌then◌else◌, ◌&&◌, nat_lt, slice_index, codes}
 use Rattle.std.specs.Fmt.{decimal}
 use Rattle.std.proofs.lemmas.Bool.{and_parts, ltb-false}
 use Rattle.std.proofs.lemmas.Bool.Decides.{nat_tests}
@@ -25,9 +25,10 @@ use Rattle.litmus_values.specs.declared.test.Connective.{Connective}
 use Rattle.litmus_values.specs.declared.test.Connective.TheVariants as connectives
 use Rattle.litmus_values.specs.Value.{Formula, Constant, Holds, Not, Join, level}
 use Rattle.litmus_conditions.specs.Grammar as grammar
-use Rattle.litmus_conditions.specs.Grammar.{FormulaTree, Word, Atom, Prefix, Pair, Group, connective_token, spelled, spelled_quantifier, place_meaning, meaning, tightness, IsGrouped, HasAtoms, depth, operators, Limits}
+use Rattle.litmus_conditions.specs.Grammar.{FormulaTree, Word, Atom, Prefix, Pair, Group, connective_token, spelled, spelled_quantifier, place_meaning, meaning, tightness, IsGrouped, HasAtoms, depth, operators, Limits, limits}
 use Rattle.litmus_ppc.specs.Printing.{place_text, value_text, connective_text, bracketed, is_loose, formula_text, condition_text}
-use Rattle.litmus_laws.specs.Written.{begins_word, IsWord, IsPlace, IsFormula, IsTextOfCondition}
+use Rattle.litmus_ppc.specs.Texts.{ReadsCondition}
+use Rattle.litmus_laws.specs.Written.{begins_word, IsWord, IsPlace, IsFormula, IsTextOfCondition, one_where, nesting, joins, IsWithinLimits}
 use Rattle.litmus_laws.proofs.Read.{Within, Entries, Operands, Condition, part, core, free, inner, inner_turn, not_it}
 use Rattle.litmus_laws.proofs.Numbers.{word, are_back}
 use Rattle.litmus_laws.proofs.Places.{equals, Stops, value, value_tree, value_back, value_fine, value_first, place_tree, square_place, place_back, place_fine, place_there}
@@ -239,22 +240,56 @@ module _ (threads : ℕ) (few : threads < 18446744073709551616) where
       ap (λ (x : Formula). Join op x (meaning (grouped (is_loose (level op) b) (tree_of b)))) (meaning-grouped (is_loose (level op + 1) a) (tree_of a) ∙ meaning_back a h.0)
       ∙ ap (Join op a) (meaning-grouped (is_loose (level op) b) (tree_of b) ∙ meaning_back b h.1)
 
+  depth-grouped : (b : Bool) (t : FormulaTree) → depth (grouped b t) ≡ depth t + one_where b
+  depth-grouped true t = refl
+  depth-grouped false t = omega arith
+
+  operators-grouped : (b : Bool) (t : FormulaTree) → operators (grouped b t) ≡ operators t
+  operators-grouped true t = refl
+  operators-grouped false t = refl
+
+  depth_is : (f : Formula) → depth (tree_of f) ≡ nesting f
+  depth_is (Constant b) = refl
+  depth_is (Holds p v) = refl
+  depth_is (Not a) = let one = depth_is a in omega arith
+  depth_is (Join op a b) =
+      ap (λ (n : ℕ). max n (depth (grouped (is_loose (level op) b) (tree_of b)))) (depth-grouped (is_loose (level op + 1) a) (tree_of a) ∙ ap (λ (n : ℕ). n + one_where (is_loose (level op + 1) a)) (depth_is a))
+      ∙ ap (λ (n : ℕ). max (nesting a + one_where (is_loose (level op + 1) a)) n) (depth-grouped (is_loose (level op) b) (tree_of b) ∙ ap (λ (n : ℕ). n + one_where (is_loose (level op) b)) (depth_is b))
+
+  operators_are : (f : Formula) → operators (tree_of f) ≡ joins f
+  operators_are (Constant b) = refl
+  operators_are (Holds p v) = refl
+  operators_are (Not a) = operators_are a
+  operators_are (Join op a b) =
+      ap (λ (n : ℕ). n + operators (grouped (is_loose (level op) b) (tree_of b)) + 1) (operators-grouped (is_loose (level op + 1) a) (tree_of a) ∙ operators_are a)
+      ∙ ap (λ (n : ℕ). joins a + n + 1) (operators-grouped (is_loose (level op) b) (tree_of b) ∙ operators_are b)
+
   -- limits that are wide enough
   abbrev pub enough : Formula → Limits
-  enough f = record { nesting = depth (tree_of f) + 1; operators = operators (tree_of f) }
+  enough f = record { nesting = nesting f + 1; operators = joins f }
 
-  pub fine : (f : Formula) → IsFormula threads f → grammar.IsFormula (enough f) threads (Group (tree_of f))
-  fine f h = record { grouped = grouping f; atoms = atoms f h; shallow = omega arith; short = omega arith }
+  pub fine : (most : Limits) (f : Formula) → IsFormula threads f → nesting f + 1 ≤ most.nesting → joins f ≤ most.operators → grammar.IsFormula most threads (Group (tree_of f))
+  fine most f h deep many =
+      let d = depth_is f in
+      let o = operators_are f in
+      record { grouped = grouping f; atoms = atoms f h; shallow = omega arith; short = omega arith }
+
+  condition_tokens : (q : Quantifier) (f : Formula) → IsFormula threads f → inner Condition (condition_text q f) ≡ spelled_quantifier q (spelled (Group (tree_of f)) (tokens.End ∷ []))
+  condition_tokens q f h =
+      ap (inner Condition) (sym (append-nil (condition_text q f))) ∙ condition_back q f [] h ∙ ap (λ (ts : List Token). spelled_quantifier q (spelled (Group (tree_of f)) ts)) no_bytes
 
   pub condition_is_read : (q : Quantifier) (f : Formula) → IsFormula threads f → IsTextOfCondition threads (condition_text q f) q f
   condition_is_read q f h = record {
     most = enough f;
-    text = record {
-      quantifier = q;
-      condition = Group (tree_of f);
-      fine = fine f h;
-      whole = ap (inner Condition) (sym (append-nil (condition_text q f))) ∙ condition_back q f [] h ∙ ap (λ (ts : List Token). spelled_quantifier q (spelled (Group (tree_of f)) ts)) no_bytes;
-    };
+    text = record { quantifier = q; condition = Group (tree_of f); fine = fine (enough f) f h (omega arith) (omega arith); whole = condition_tokens q f h };
     asked = refl;
     meant = meaning_back f h;
+  }
+
+  pub condition_reads : (q : Quantifier) (f : Formula) → IsFormula threads f → IsWithinLimits (condition_text q f) f → ReadsCondition threads (condition_text q f) (q, f)
+  condition_reads q f h w = record {
+    short = w.short;
+    text = record { quantifier = q; condition = Group (tree_of f); fine = fine limits f h w.shallow w.few; whole = condition_tokens q f h };
+    in_time = refl;
+    meant = ap (λ (g : Formula). (q, g)) (meaning_back f h);
   }

@@ -1,5 +1,5 @@
 -- What the text of a condition means can be printed.
-use Rattle.std.proofs.Common.{◌≡◌, ℕ, zero, suc, ◌<◌, ◌≤◌, Bool, true, false, List, [], ◌∷◌, refl, subst, arith}
+use Rattle.std.proofs.Common.{ap, ◌≡◌, ℕ, zero, suc, ◌<◌, ◌≤◌, Bool, true, false, List, [], ◌∷◌, refl, subst, arith}
 use Rattle.std.specs.Prelude.{if◌then◌else◌, ◌&&◌, ◌==◌, nat_lt, Some, None}
 use Rattle.std.proofs.lemmas.Bool.{and_parts, ltb-true, leb-true}
 use Rattle.litmus_tokens.specs.declared.stage.Stage.TheVariants.{Tail}
@@ -11,7 +11,8 @@ use Rattle.litmus_values.specs.declared.test.Quantifier.{Quantifier}
 use Rattle.litmus_values.specs.declared.test.Quantifier.TheVariants.{Exists, NotExists, Forall}
 use Rattle.litmus_values.specs.Value.{Formula}
 use Rattle.litmus_conditions.specs.Grammar as grammar
-use Rattle.litmus_conditions.specs.Grammar.{PlaceTree, Location, Register, ValueTree, Number, Address, spelled_place, spelled_value, place_meaning, value_meaning, HasThread, FormulaTree, Word, Atom, Prefix, Pair, Group, connective_token, prefix_token, spelled, spelled_quantifier, meaning, HasAtoms}
+use Rattle.litmus_conditions.specs.Grammar.{limits, PlaceTree, Location, Register, ValueTree, Number, Address, spelled_place, spelled_value, place_meaning, value_meaning, HasThread, FormulaTree, Word, Atom, Prefix, Pair, Group, connective_token, prefix_token, spelled, spelled_quantifier, meaning, HasAtoms}
+use Rattle.litmus_ppc.specs.Texts.{ReadsCondition}
 use Rattle.litmus_laws.specs.Written.{IsNumber, IsValue, IsPlace, IsFormula, IsTextOfCondition}
 use Rattle.litmus_laws.proofs.Tokens.{AllFine, tokens_fine, all_fine}
 
@@ -71,3 +72,7 @@ condition_is_written threads bytes q f h =
     let all = subst AllFine h.text.whole (all_fine Tail (tokens_of (lexed Tail bytes)) refl (tokens_fine Tail false 0 0 bytes)) in
     let inside = behind_quantifier threads h.text.quantifier _ all in
     subst (IsFormula threads) h.meant (formula_meant threads h.text.condition _ h.text.fine.atoms inside).0
+
+pub condition_reads_written : (threads : ℕ) (bytes : List ℕ) (q : Quantifier) (f : Formula) → ReadsCondition threads bytes (q, f) → IsFormula threads f
+condition_reads_written threads bytes q f h =
+    condition_is_written threads bytes q f (record { most = limits; text = h.text; asked = ap (λ (p : Quantifier × Formula). p.0) h.meant; meant = ap (λ (p : Quantifier × Formula). p.1) h.meant })

@@ -18,12 +18,12 @@ use Rattle.litmus_values.specs.declared.test.Place.TheVariants as places
 use Rattle.litmus_values.specs.Value.{Content}
 use Rattle.litmus_conditions.specs.declared.place.WrittenPlace.{WrittenPlace}
 use Rattle.litmus_conditions.specs.declared.place.WrittenPlace.TheVariants as written
-use Rattle.litmus_conditions.specs.Grammar.{Limits, PlaceTree, Location, Register, ValueTree, Number, Address, spelled_place, spelled_value, place_meaning, HasThread}
+use Rattle.litmus_conditions.specs.Grammar.{Limits, limits, PlaceTree, Location, Register, ValueTree, Number, Address, spelled_place, spelled_value, place_meaning, HasThread}
 use Rattle.litmus_table.specs.Grammar.{spelled_names, spelled_header, spelled_rows, columns_meaning}
 use Rattle.litmus_table.specs.Late.{late_columns}
 use Rattle.litmus_ppc.specs.Grammar as grammar
 use Rattle.litmus_ppc.specs.Grammar.{Listed, spelled_end, spelled_others, spelled_listed, members, EntryTree, spelled_entry, entry_meaning, written_place, spelled_init, spelled_observed, AreItems, TestTree, spelled_text, spelled_keylines, spelled_condition, spelled_test, test_meaning}
-use Rattle.litmus_ppc.specs.Texts.{is_there, late_entries, late_test, before_entries, before_rows}
+use Rattle.litmus_ppc.specs.Texts.{ReadsTest, is_there, late_entries, late_test, before_entries, before_rows}
 use Rattle.litmus_laws.specs.Written.{IsFormula, Lacks, AreEntries, ArePlaces, IsTest, IsTextOfTest}
 use Rattle.litmus_laws.proofs.Numbers.{own}
 use Rattle.litmus_laws.proofs.Read.{not_it}
@@ -190,3 +190,6 @@ test_written most t h a late =
 pub test_is_written : (bytes : List ℕ) (v : Content) → IsTextOfTest bytes v → IsTest v
 test_is_written bytes v h =
     subst IsTest h.meant (test_written h.most h.text.tree h.text.fine (subst (AreFine Magic) h.text.whole (tokens_fine Magic false 0 0 bytes)) h.in_time)
+
+pub test_reads_written : (bytes : List ℕ) (v : Content) → ReadsTest bytes v → IsTest v
+test_reads_written bytes v h = test_is_written bytes v (record { most = limits; text = h.text; in_time = h.in_time; meant = h.meant })

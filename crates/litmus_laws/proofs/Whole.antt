@@ -1,5 +1,5 @@
 -- Tests, as they are read.
-use Rattle.std.proofs.Common.{◌≡◌, ℕ, ◌+◌, ◌<◌, true, false, List, [], ◌∷◌, ◌++◌, length, refl, sym, ap, ◌∙◌, subst, arith, append_assoc}
+use Rattle.std.proofs.Common.{◌≤◌, ◌≡◌, ℕ, ◌+◌, ◌<◌, true, false, List, [], ◌∷◌, ◌++◌, length, refl, sym, ap, ◌∙◌, subst, arith, append_assoc}
 use Rattle.std.specs.Prelude.{◌==◌, map, slice_index, codes, Option, None}
 use Rattle.litmus_tokens.specs.declared.stage.Stage.TheVariants.{Magic, Header, CellBegins, Tail}
 use Rattle.litmus_tokens.specs.declared.token.Token.{Token}
@@ -14,14 +14,14 @@ use Rattle.litmus_values.specs.declared.test.Quantifier.{Quantifier}
 use Rattle.litmus_values.specs.declared.test.Quantifier.TheVariants.{Exists, NotExists, Forall}
 use Rattle.litmus_values.specs.Value.{Formula, Content}
 use Rattle.litmus_conditions.specs.Grammar as conditions
-use Rattle.litmus_conditions.specs.Grammar.{PlaceTree, FormulaTree, Group, place_meaning, spelled_place, spelled, spelled_quantifier}
+use Rattle.litmus_conditions.specs.Grammar.{Limits, limits, PlaceTree, FormulaTree, Group, place_meaning, spelled_place, spelled, spelled_quantifier}
 use Rattle.litmus_table.specs.Grammar.{spelled_header, spelled_rows}
 use Rattle.litmus_table.specs.Late.{Late, or_else, late_columns}
 use Rattle.litmus_ppc.specs.Grammar as grammar
 use Rattle.litmus_ppc.specs.Grammar.{members, Listed, spelled_others, spelled_listed, EntryTree, spelled_entry, spelled_init, spelled_observed, spelled_condition, spelled_test, TestTree, AreItems, test_meaning, entry_meaning}
-use Rattle.litmus_ppc.specs.Texts.{late_entries, late_test, before_entries, before_rows}
+use Rattle.litmus_ppc.specs.Texts.{ReadsTest, late_entries, late_test, before_entries, before_rows}
 use Rattle.litmus_ppc.specs.Printing.{line, joined, all_of, entry_line, place_text, item_text, observed_text, formula_text, condition_text, names, row_text, rows_text, table_text, longest, printed}
-use Rattle.litmus_laws.specs.Written.{ArePlaces, IsFormula, AreThreads, IsTest, IsTextOfTest}
+use Rattle.litmus_laws.specs.Written.{ArePlaces, IsFormula, AreThreads, IsTest, IsTextOfTest, nesting, joins, IsWithinLimits}
 use Rattle.litmus_laws.proofs.Read.{Condition, read, free, inner, not_it}
 use Rattle.litmus_laws.proofs.Numbers.{word}
 use Rattle.litmus_laws.proofs.Places.{open_square, close_square, place_tree, square_place, place_back, place_fine, place_there}
@@ -156,13 +156,13 @@ module _ (n : List ℕ) (es : List InitEntry) (t : List Step) (ts : List (List S
   count : length (t ∷ ts) ≡ length ts + 1
   count = omega arith
 
-  tree_fine : grammar.IsTest (enough (length (t ∷ ts)) few f) tree
-  tree_fine = record {
+  tree_fine : (most : Limits) → nesting f + 1 ≤ most.nesting → joins f ≤ most.operators → grammar.IsTest most tree
+  tree_fine most deep many = record {
     name = h.name;
     init = subst (grammar.AreEntries []) (sym (members_listed (map entry_tree es))) (entries_fine (length (t ∷ ts)) few es [] tt h.init);
     rows = rows_fine t ts steps 0 (longest (t ∷ ts));
     observed = subst (AreItems (length ts + 1)) (sym (members_listed (map (place_tree true) ps))) (subst (λ (k : ℕ). AreItems k (map (place_tree true) ps)) count (items_fine (length (t ∷ ts)) few ps h.observed));
-    condition = subst (λ (k : ℕ). conditions.IsFormula (enough (length (t ∷ ts)) few f) k (Group (tree_of f))) count (fine (length (t ∷ ts)) few f h.condition);
+    condition = subst (λ (k : ℕ). conditions.IsFormula most k (Group (tree_of f))) count (fine (length (t ∷ ts)) few most f h.condition deep many);
   }
 
   tree_in_time : late_test tree ≡ None
@@ -185,14 +185,31 @@ module _ (n : List ℕ) (es : List InitEntry) (t : List Step) (ts : List (List S
   is_read : IsTextOfTest (printed (content n es (t ∷ ts) ps q f)) (content n es (t ∷ ts) ps q f)
   is_read = record {
     most = enough (length (t ∷ ts)) few f;
-    text = record { tree = tree; fine = tree_fine; whole = tokens_are };
+    text = record { tree = tree; fine = tree_fine (enough (length (t ∷ ts)) few f) (omega arith) (omega arith); whole = tokens_are };
     in_time = tree_in_time;
     meant = tree_means;
   }
 
-by_threads : (n : List ℕ) (es : List InitEntry) (ts : List (List Step)) (ps : List Place) (q : Quantifier) (f : Formula) → IsTest (content n es ts ps q f) → IsTextOfTest (printed (content n es ts ps q f)) (content n es ts ps q f)
+  is_within : IsWithinLimits (printed (content n es (t ∷ ts) ps q f)) f → ReadsTest (printed (content n es (t ∷ ts) ps q f)) (content n es (t ∷ ts) ps q f)
+  is_within w = record {
+    short = w.short;
+    text = record { tree = tree; fine = tree_fine limits w.shallow w.few; whole = tokens_are };
+    in_time = tree_in_time;
+    meant = tree_means;
+  }
+
+by_threads : (n : List ℕ) (es : List InitEntry) (ts : List (List Step)) (ps : List Place) (q : Quantifier) (f : Formula) → IsTest (content n es ts ps q f)
+    → IsTextOfTest (printed (content n es ts ps q f)) (content n es ts ps q f)
 by_threads n es [] ps q f h = let x = h.some in absurd (omega arith)
 by_threads n es (t ∷ ts) ps q f h = is_read n es t ts ps q f h
 
+within_threads : (n : List ℕ) (es : List InitEntry) (ts : List (List Step)) (ps : List Place) (q : Quantifier) (f : Formula) → IsTest (content n es ts ps q f)
+    → IsWithinLimits (printed (content n es ts ps q f)) f → ReadsTest (printed (content n es ts ps q f)) (content n es ts ps q f)
+within_threads n es [] ps q f h w = let x = h.some in absurd (omega arith)
+within_threads n es (t ∷ ts) ps q f h w = is_within n es t ts ps q f h w
+
 pub test_is_read : (v : Content) → IsTest v → IsTextOfTest (printed v) v
 test_is_read v h = by_threads v.name v.init v.threads v.observed v.quantifier v.condition h
+
+pub test_reads : (v : Content) → IsTest v → IsWithinLimits (printed v) v.condition → ReadsTest (printed v) v
+test_reads v h w = within_threads v.name v.init v.threads v.observed v.quantifier v.condition h w

@@ -1,5 +1,5 @@
 -- The conditions and tests that a text can have.
-use Rattle.std.specs.Prelude.{◌≡◌, ℕ, ◌<◌, ◌≤◌, List, [], ◌∷◌, length, slice_index, Bool, true, false, ◌||◌, ◌==◌, Option, Some, None, ℤ, pos, negsuc}
+use Rattle.std.specs.Prelude.{◌≡◌, ℕ, ◌+◌, ◌<◌, ◌≤◌, max, List, [], ◌∷◌, length, slice_index, Bool, true, false, ◌||◌, ◌==◌, Option, Some, None, ℤ, pos, negsuc}
 use Rattle.litmus_tokens.specs.declared.stage.Stage.TheVariants.{Magic, Tail}
 use Rattle.litmus_tokens.specs.Lexer.{is_word_byte, begins_comment}
 use Rattle.litmus_tokens.specs.Words.{is_letter, is_test_name}
@@ -14,11 +14,12 @@ use Rattle.litmus_values.specs.declared.test.Step.TheVariants as steps
 use Rattle.litmus_values.specs.declared.test.Quantifier.{Quantifier}
 use Rattle.litmus_values.specs.declared.instruction.Instruction.{Instruction}
 use Rattle.litmus_values.specs.declared.instruction.Instruction.TheVariants as instructions
-use Rattle.litmus_values.specs.Value.{Formula, Constant, Holds, Not, Join, Content}
-use Rattle.litmus_conditions.specs.Grammar.{Limits, IsConditionText, meaning}
+use Rattle.litmus_values.specs.Value.{Formula, Constant, Holds, Not, Join, Content, level}
+use Rattle.litmus_conditions.specs.Grammar.{Limits, limits, IsConditionText, meaning}
 use Rattle.litmus_table.specs.Late.{is_in}
 use Rattle.litmus_ppc.specs.Grammar.{IsTestText, test_meaning}
-use Rattle.litmus_ppc.specs.Texts.{late_test}
+use Rattle.litmus_ppc.specs.Texts.{most_bytes, late_test}
+use Rattle.litmus_ppc.specs.Printing.{is_loose}
 
 abbrev pub begins_word : ℕ → Bool
 begins_word b = is_letter b || b == 95
@@ -150,3 +151,29 @@ pub record IsTextOfTest (bytes : List ℕ) (v : Content) : Type 0 where
   pub text : IsTestText most (tokens_of (lexed Magic bytes))
   pub in_time : late_test text.tree ≡ None
   pub meant : test_meaning text.tree ≡ v
+
+-- ---- the limits of the format
+
+abbrev pub one_where : Bool → ℕ
+one_where true = 1
+one_where false = 0
+
+-- how many parentheses and `not` are open at once in what is printed
+abbrev pub nesting : Formula → ℕ
+nesting (Constant b) = 0
+nesting (Holds p v) = 0
+nesting (Not a) = nesting a + 2
+nesting (Join op a b) = max (nesting a + one_where (is_loose (level op + 1) a)) (nesting b + one_where (is_loose (level op) b))
+
+-- how many binary operators
+abbrev pub joins : Formula → ℕ
+joins (Constant b) = 0
+joins (Holds p v) = 0
+joins (Not a) = joins a
+joins (Join op a b) = joins a + joins b + 1
+
+-- a text with this proposition in parentheses
+pub record IsWithinLimits (bytes : List ℕ) (f : Formula) : Type 0 where
+  pub short : length bytes ≤ most_bytes
+  pub shallow : nesting f + 1 ≤ limits.nesting
+  pub few : joins f ≤ limits.operators

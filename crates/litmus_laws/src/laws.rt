@@ -4,25 +4,37 @@ ghost use Rattle.std.specs.Prelude.{◌<◌, ℕ, List};
 ghost use Rattle.litmus_values.specs.declared.test.Quantifier.{Quantifier};
 ghost use Rattle.litmus_values.specs.Value.{Formula, Content};
 ghost use Rattle.litmus_ppc.specs.Printing.{condition_text, printed};
-ghost use Rattle.litmus_laws.specs.Written.{IsFormula, IsTest, IsTextOfCondition, IsTextOfTest};
+ghost use Rattle.litmus_ppc.specs.Texts.{ReadsCondition, ReadsTest};
+ghost use Rattle.litmus_laws.specs.Written.{IsFormula, IsTest, IsTextOfCondition, IsTextOfTest, IsWithinLimits};
 
-/// What is printed for a condition, in a test of so many threads, reads as that condition, the limits of length and
-/// nesting aside.
+/// What is printed for a condition, in a test of so many threads, reads as that condition.
 pub fn printed_condition_is_read()
-    ensures { (threads : ℕ) (q : Quantifier) (f : Formula) → threads < 18446744073709551616 → IsFormula threads f → IsTextOfCondition threads (condition_text q f) q f }
+    // The limits of length, nesting and number aside.
+    ensures text { (threads : ℕ) (q : Quantifier) (f : Formula) → threads < 18446744073709551616 → IsFormula threads f → IsTextOfCondition threads (condition_text q f) q f }
+    // Within them, as the reader reads.
+    ensures reads { (threads : ℕ) (q : Quantifier) (f : Formula) → threads < 18446744073709551616 → IsFormula threads f → IsWithinLimits (condition_text q f) f → ReadsCondition threads (condition_text q f) (q, f) }
 {}
 
-/// What is printed for a test reads as that test, the limits of length, nesting and number aside.
+/// What is printed for a test reads as that test.
 pub fn printed_is_read()
-    ensures { (v : Content) → IsTest v → IsTextOfTest (printed v) v }
+    // The limits of length, nesting and number aside.
+    ensures text { (v : Content) → IsTest v → IsTextOfTest (printed v) v }
+    // Within them, as the reader reads.
+    ensures reads { (v : Content) → IsTest v → IsWithinLimits (printed v) v.condition → ReadsTest (printed v) v }
 {}
 
 /// What the text of a condition means, in a test of so many threads, can be printed so.
 pub fn read_condition_is_written()
-    ensures { (threads : ℕ) (bytes : List ℕ) (q : Quantifier) (f : Formula) → IsTextOfCondition threads bytes q f → IsFormula threads f }
+    // The limits of length, nesting and number aside.
+    ensures text { (threads : ℕ) (bytes : List ℕ) (q : Quantifier) (f : Formula) → IsTextOfCondition threads bytes q f → IsFormula threads f }
+    // So what the reader reads.
+    ensures reads { (threads : ℕ) (bytes : List ℕ) (q : Quantifier) (f : Formula) → ReadsCondition threads bytes (q, f) → IsFormula threads f }
 {}
 
 /// What a text means that the later checks pass can be printed so.
 pub fn read_is_written()
-    ensures { (bytes : List ℕ) (v : Content) → IsTextOfTest bytes v → IsTest v }
+    // The limits of length, nesting and number aside.
+    ensures text { (bytes : List ℕ) (v : Content) → IsTextOfTest bytes v → IsTest v }
+    // So what the reader reads.
+    ensures reads { (bytes : List ℕ) (v : Content) → ReadsTest bytes v → IsTest v }
 {}

@@ -1,5 +1,5 @@
-use Rattle.litmus_laws.proofs.Conditions.{condition_is_read}
+use Rattle.litmus_laws.proofs.Conditions.{condition_is_read, condition_reads}
 use Rattle.litmus_laws.proofs.laws.printed_condition_is_read.Goals as goal
 
 pub returns : goal.returns
-returns c = λ threads q f few h. condition_is_read threads few q f h
+returns c = record { text = λ threads q f few h. condition_is_read threads few q f h; reads = λ threads q f few h w. condition_reads threads few q f h w }
