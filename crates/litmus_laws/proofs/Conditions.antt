@@ -3,7 +3,6 @@ use Rattle.std.proofs.Common.{◌≡◌, ℕ, zero, suc, ◌+◌, ◌<◌, ◌�
 use Rattle.std.specs.Prelude.{max, if◌then◌else◌, ◌&&◌, nat_lt, slice_index, codes}
 use Rattle.std.specs.Fmt.{decimal}
 use Rattle.std.proofs.lemmas.Bool.{and_parts, ltb-false}
-use Rattle.std.proofs.lemmas.Bool.Decides.{nat_tests}
 use Rattle.std.proofs.lemmas.Fmt.{decimal_nonempty}
 use Rattle.std.proofs.lemmas.List.{append-nil}
 use Rattle.source_text.specs.Layout.{comment_of}
@@ -12,8 +11,6 @@ use Rattle.litmus_tokens.specs.declared.token.Token.{Token}
 use Rattle.litmus_tokens.specs.declared.token.Token.TheVariants as tokens
 use Rattle.litmus_tokens.specs.declared.token.Mark.TheVariants as marks
 use Rattle.litmus_tokens.specs.declared.lexer.Front.TheVariants.{Lexeme}
-use Rattle.litmus_tokens.specs.Words as words
-use Rattle.litmus_tokens.specs.Words.{is_digit}
 use Rattle.litmus_tokens.specs.Lexer.{is_word_byte, comment_front, front}
 use Rattle.litmus_tokens.specs.Stage.{after}
 use Rattle.litmus_tokens.specs.Texts.{tokens_from}
@@ -30,7 +27,7 @@ use Rattle.litmus_ppc.specs.Printing.{place_text, value_text, connective_text, b
 use Rattle.litmus_ppc.specs.Texts.{ReadsCondition}
 use Rattle.litmus_laws.specs.Written.{begins_word, IsWord, IsPlace, IsFormula, IsTextOfCondition, one_where, nesting, joins, IsWithinLimits}
 use Rattle.litmus_laws.proofs.Read.{Within, Entries, Operands, Condition, part, core, free, inner, inner_turn, not_it}
-use Rattle.litmus_laws.proofs.Numbers.{word, are_back}
+use Rattle.litmus_laws.proofs.Numbers.{digits_first, word, are_back}
 use Rattle.litmus_laws.proofs.Places.{equals, Stops, value, value_tree, value_back, value_fine, value_first, place_tree, square_place, place_back, place_fine, place_there}
 
 -- ---- words and signs
@@ -152,19 +149,12 @@ open_operand : (b : Bool) (text bs : List ℕ) → (slice_index (text ++ bs) 0 �
 open_operand true text bs h = λ e. absurd (omega arith)
 open_operand false text bs h = h
 
-no_star : (d : ℕ) → is_digit d ≡ true → d ≡ 42 → ⊥
-no_star d h e = grind (arith, nat_tests)
-
-digits_first : (ds bs : List ℕ) → words.are_digits ds ≡ true → 0 < length ds → slice_index (ds ++ bs) 0 ≡ 42 → ⊥
-digits_first [] bs h some = absurd (omega arith)
-digits_first (d ∷ ds) bs h some = no_star d (and_parts (is_digit d) (words.are_digits ds) h).0
-
 module _ (threads : ℕ) (few : threads < 18446744073709551616) where
   first_place : (p : Place) (bs : List ℕ) → IsPlace threads p → slice_index (place_text p ++ bs) 0 ≡ 42 → ⊥
   first_place (places.Location x) bs h = λ e. absurd (omega arith)
   first_place (places.Register t r) bs h =
       let x = h.0 in
-      rw append_assoc (digits_first (decimal t) _ (are_back t (omega arith)) (decimal_nonempty t (omega arith)))
+      rw append_assoc (digits_first 42 (decimal t) _ refl (are_back t (omega arith)) (decimal_nonempty t (omega arith)))
 
   pub first_byte : (f : Formula) (bs : List ℕ) → IsFormula threads f → slice_index (formula_text f ++ bs) 0 ≡ 42 → ⊥
   first_byte (Constant true) bs h = λ e. absurd (omega arith)

@@ -17,7 +17,7 @@ use Rattle.litmus_tokens.specs.Lexer.{is_space, is_not_ascii, begins_comment, co
 use Rattle.litmus_tokens.specs.Stage.{after}
 use Rattle.litmus_tokens.specs.Texts.{Placed, tokens_of, ends_line, after_front, tokens_from}
 use Rattle.litmus_laws.specs.Written.{holds_comment}
-use Rattle.litmus_laws.proofs.Read.{Entries, tokens_skip, free, inner}
+use Rattle.litmus_laws.proofs.Read.{three_tests, Entries, tokens_skip, free, inner}
 
 printable : (b : ℕ) → is_printable b ≡ true → (is_space b ≡ false) × (is_not_ascii b ≡ false)
 printable b h = (grind (arith, nat_tests), grind (arith, nat_tests))
@@ -46,12 +46,6 @@ raw_len m (b ∷ bs) rest p c =
     let sum : m + 1 + length bs ≡ m + length (b ∷ bs) = omega arith in
     ap (λ (t : Bool). if t then m else raw_from (m + 1) (bs ++ 10 ∷ rest)) (goes_on b bs rest both.0 none.0)
     ∙ raw_len (m + 1) bs rest both.1 none.1 ∙ sum
-
-three_tests : {A : Type 0} (x y z : Bool) (a b c d : A) → x ≡ false → y ≡ false → z ≡ false → (if x then a else (if y then b else (if z then c else d))) ≡ d
-three_tests x y z a b c d e f g =
-    ap (λ (t : Bool). if t then a else (if y then b else (if z then c else d))) e
-    ∙ ap (λ (t : Bool). if t then b else (if z then c else d)) f
-    ∙ ap (λ (t : Bool). if t then c else d) g
 
 name_here : (c : ℕ) (cs rest : List ℕ) → are_printable (c ∷ cs) ≡ true → holds_comment (c ∷ cs) ≡ false → front Title false (c ∷ (cs ++ 10 ∷ rest)) ≡ Lexeme (tokens.Word (c ∷ cs)) (length (c ∷ cs))
 unfolding front

@@ -38,7 +38,7 @@ use Rattle.litmus_table.specs.Grammar.{InstructionTree, IsOperation}
 use Rattle.litmus_ppc.specs.Printing.{joined, register_text, operation_text, branch_text, fence_text, operands_text, based_text, instruction_text}
 use Rattle.litmus_laws.specs.Written.{begins_word, IsWord, IsNumber, IsBase, IsInstruction}
 use Rattle.litmus_laws.proofs.Read.{Operands, core, read, free, turn, inner, first_of, not_it, word_byte}
-use Rattle.litmus_laws.proofs.Numbers.{word_len, word, number, signed_number, is_negative, digits_of, signed_back, is_int_back, register_back, register_word}
+use Rattle.litmus_laws.proofs.Numbers.{second_test, word_len, word, number, signed_number, is_negative, digits_of, signed_back, is_int_back, register_back, register_word}
 use Rattle.litmus_laws.proofs.Places.{Stops}
 use Rattle.litmus_laws.proofs.Conditions.{is_word, blank, open_round, close_round}
 
@@ -69,10 +69,6 @@ at_seam (c ∷ cs) b bs = at_seam cs b bs
 at_behind : (w : List ℕ) (b : ℕ) (bs : List ℕ) → slice_index (w ++ b ∷ bs) (suc (length w)) ≡ slice_index bs 0
 at_behind [] b bs = refl
 at_behind (c ∷ cs) b bs = at_behind cs b bs
-
-second_test : {A : Type 0} (x y : Bool) (a b z : A) → x ≡ false → y ≡ true → (if x then a else (if y then b else z)) ≡ b
-second_test x y a b z p q =
-    ap (λ (t : Bool). if t then a else (if y then b else z)) p ∙ ap (λ (t : Bool). if t then b else z) q
 
 abbrev cell_front : List ℕ → ℕ → Front
 cell_front bs n = label_front bs n (gap_from 0 0 (drop n bs))

@@ -1,9 +1,9 @@
 -- Words, numbers and registers, as they are read.
-use Rattle.std.proofs.Common.{◌≡◌, ℕ, zero, suc, ◌<◌, ◌^◌, Bool, true, false, List, [], ◌∷◌, ◌++◌, length, get_or, take, refl, ap, ◌∙◌, arith, rules}
+use Rattle.std.proofs.Common.{sym, ◌≡◌, ℕ, zero, suc, ◌<◌, ◌^◌, Bool, true, false, List, [], ◌∷◌, ◌++◌, length, get_or, take, refl, ap, ◌∙◌, arith, rules}
 use Rattle.std.specs.Prelude.{if◌then◌else◌, ◌==◌, ◌||◌, ◌&&◌, nat_le, nat_lt, not, slice_index, Some, None, ℤ, pos, negsuc}
 use Rattle.std.specs.List.{position_or_len}
 use Rattle.std.specs.Fmt.{decimal, signed_decimal}
-use Rattle.std.proofs.lemmas.Bool.{and_parts, and_from, or_right, lt-ltb}
+use Rattle.std.proofs.lemmas.Bool.{both_ways, and_parts, and_from, or_right, lt-ltb}
 use Rattle.std.proofs.lemmas.Bool.Decides.{nat_tests}
 use Rattle.std.proofs.lemmas.List.{length-append, get_or_append_left, take_at}
 use Rattle.std.proofs.lemmas.List.Sums.{position_or_len_is}
@@ -32,7 +32,7 @@ word_len n bs h e =
     (λ k lt. ap ends_word (get_or_append_left n bs 0 k lt) ∙ ap not (h.each k lt))
     (λ _. ap ends_word (at_seam n bs) ∙ e)
 
-second_test : {A : Type 0} (x y : Bool) (a b z : A) → x ≡ false → y ≡ true → (if x then a else (if y then b else z)) ≡ b
+pub second_test : {A : Type 0} (x y : Bool) (a b z : A) → x ≡ false → y ≡ true → (if x then a else (if y then b else z)) ≡ b
 second_test x y a b z p q =
     ap (λ (t : Bool). if t then a else (if y then b else z)) p ∙ ap (λ (t : Bool). if t then b else z) q
 
@@ -116,6 +116,11 @@ minus_here (d ∷ ds) bs some h e =
 pub negative : (w : Within) (n : ℕ) (bs : List ℕ) → n < 2 ^ 64 → ends_digits (slice_index bs 0) ≡ true → inner w (45 ∷ (decimal n ++ bs)) ≡ tokens.Number true (significant (decimal n)) ∷ inner w bs
 negative w n bs h e =
     inner_turn w 45 (decimal n) bs (tokens.Number true (significant (decimal n))) (number_stays w true (significant (decimal n))) (minus_here (decimal n) bs (decimal_nonempty n h) (are_back n h) e)
+
+-- what is no digit does not come first
+pub digits_first : (c : ℕ) (ds bs : List ℕ) → is_digit c ≡ false → are_digits ds ≡ true → 0 < length ds → slice_index (ds ++ bs) 0 ≡ c → ⊥
+digits_first c [] bs e h some = absurd (omega arith)
+digits_first c (d ∷ ds) bs e h some = λ same. both_ways (is_digit c) e (ap is_digit (sym same) ∙ (and_parts (is_digit d) (are_digits ds) h).0)
 
 -- ---- the numbers that they are
 

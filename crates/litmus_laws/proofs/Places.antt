@@ -1,17 +1,15 @@
 -- Places and values, as they are read.
-use Rattle.std.proofs.Common.{◌≡◌, ℕ, ◌<◌, ◌^◌, Bool, true, false, List, [], ◌∷◌, ◌++◌, length, refl, ap, ◌∙◌, arith, append_assoc}
+use Rattle.std.proofs.Common.{◌≡◌, ℕ, ◌<◌, ◌^◌, Bool, true, false, List, [], ◌∷◌, ◌++◌, refl, ap, ◌∙◌, arith, append_assoc}
 use Rattle.std.specs.Prelude.{if◌then◌else◌, slice_index, Option, pos, negsuc}
 use Rattle.std.specs.Fmt.{decimal}
 use Rattle.std.proofs.lemmas.Fmt.{decimal_nonempty}
-use Rattle.std.proofs.lemmas.Bool.{and_parts}
 use Rattle.std.proofs.lemmas.Bool.Decides.{nat_tests}
 use Rattle.litmus_tokens.specs.declared.stage.Stage.TheVariants.{InCell, Tail}
 use Rattle.litmus_tokens.specs.declared.token.Token.{Token}
 use Rattle.litmus_tokens.specs.declared.token.Token.TheVariants as tokens
 use Rattle.litmus_tokens.specs.declared.token.Mark.TheVariants as marks
 use Rattle.litmus_tokens.specs.declared.lexer.Front.TheVariants.{Lexeme}
-use Rattle.litmus_tokens.specs.Words as words
-use Rattle.litmus_tokens.specs.Words.{is_digit, is_int, register_of, is_register, is_known, or_zero}
+use Rattle.litmus_tokens.specs.Words.{register_of, is_known, or_zero}
 use Rattle.litmus_tokens.specs.Lexer.{ends_word, ends_digits, significant, front}
 use Rattle.litmus_tokens.specs.Stage.{after}
 use Rattle.litmus_tokens.specs.Texts.{tokens_from}
@@ -24,7 +22,7 @@ use Rattle.litmus_conditions.specs.Grammar.{PlaceTree, Location, Register, Value
 use Rattle.litmus_ppc.specs.Printing.{register_text, value_text, bare_text, place_text}
 use Rattle.litmus_laws.specs.Written.{begins_word, IsWord, IsValue, IsPlace}
 use Rattle.litmus_laws.proofs.Read.{Within, Entries, Operands, Condition, part, core, free, inner, inner_turn, not_it}
-use Rattle.litmus_laws.proofs.Numbers.{word, number, are_back, signed_number, number_back, is_negative, digits_of, signed_back, is_int_back, register_back, register_word}
+use Rattle.litmus_laws.proofs.Numbers.{digits_first, word, number, are_back, signed_number, number_back, is_negative, digits_of, signed_back, is_int_back, register_back, register_word}
 
 -- ---- signs
 
@@ -78,13 +76,6 @@ value_fine (values.Number z) h = is_int_back z h
 value_fine (values.Address x) h = tt
 
 -- no value begins with the sign behind that of an arrow
-no_sign : (d : ℕ) → is_digit d ≡ true → d ≡ 62 → ⊥
-no_sign d h e = grind (arith, nat_tests)
-
-digits_first : (ds bs : List ℕ) → words.are_digits ds ≡ true → 0 < length ds → slice_index (ds ++ bs) 0 ≡ 62 → ⊥
-digits_first [] bs h some = absurd (omega arith)
-digits_first (d ∷ ds) bs h some = no_sign d (and_parts (is_digit d) (words.are_digits ds) h).0
-
 word_first : (n bs : List ℕ) → IsWord n → slice_index (n ++ bs) 0 ≡ 62 → ⊥
 word_first [] bs h = let bad : false ≡ true = h.first in absurd cc
 word_first (c ∷ cs) bs h = no_begin c h.first
@@ -93,7 +84,7 @@ word_first (c ∷ cs) bs h = no_begin c h.first
     no_begin c h e = grind (arith, nat_tests)
 
 pub value_first : (v : declared_value.Value) (bs : List ℕ) → IsValue v → slice_index (value_text v ++ bs) 0 ≡ 62 → ⊥
-value_first (values.Number (pos n)) bs h = digits_first (decimal n) bs (are_back n (omega arith)) (decimal_nonempty n (omega arith))
+value_first (values.Number (pos n)) bs h = digits_first 62 (decimal n) bs refl (are_back n (omega arith)) (decimal_nonempty n (omega arith))
 value_first (values.Number (negsuc n)) bs h = λ e. absurd (omega arith)
 value_first (values.Address x) bs h = word_first x bs h
 

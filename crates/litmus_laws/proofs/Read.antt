@@ -342,7 +342,7 @@ no_blank b h = let l = h.low in grind (arith, nat_tests)
 ascii : (b : ℕ) → IsOfWord b → nat_le 128 b ≡ false
 ascii b h = let l = h.high in grind (arith, nat_tests)
 
-three_tests : {A : Type 0} (x y z : Bool) (a b c d : A) → x ≡ false → y ≡ false → z ≡ false → (if x then a else (if y then b else (if z then c else d))) ≡ d
+pub three_tests : {A : Type 0} (x y z : Bool) (a b c d : A) → x ≡ false → y ≡ false → z ≡ false → (if x then a else (if y then b else (if z then c else d))) ≡ d
 three_tests x y z a b c d e f g =
     ap (λ (t : Bool). if t then a else (if y then b else (if z then c else d))) e
     ∙ ap (λ (t : Bool). if t then b else (if z then c else d)) f
