@@ -1,20 +1,32 @@
 -- Columns that get a value more.
-use Rattle.std.proofs.Common.{ℕ, ◌≡◌, ◌<◌, ◌≤◌, ◌+◌, ◌-◌, ◌++◌, ◌∙◌, inl, inr, List, [], ◌∷◌, length, get_or, sym, ap, subst, arith}
+use Rattle.std.proofs.Common.{ℕ, ◌≡◌, ◌<◌, ◌≤◌, ◌+◌, ◌-◌, ◌++◌, ◌∙◌, inl, inr, List, [], ◌∷◌, length, length-append, get_or, zero, suc, Bool, true, false, sym, ap, subst, refl, arith}
+use Rattle.std.specs.Prelude.{Some, slice_get}
 use Rattle.std.proofs.lemmas.Bool.{cases_eq}
 use Rattle.std.proofs.lemmas.List.{get_or_append_left, get_or_read}
 use Rattle.std.proofs.Math.Seq.{get_or-append_right}
 use denote.Ref.{Bor}
-use Rattle.bit_relations.specs.Relation.{Relation, IsRelation, Events, IsEvents}
+use Rattle.bit_relations.specs.Relation.{Relation, IsRelation, Events, IsEvents, no_slot}
 use Rattle.binding_graph.specs.declared.resolved.Body.{Body}
 use Rattle.binding_kinds.specs.declared.kinds.Kind.{Kind}
 use Rattle.binding_kinds.specs.declared.kinds.Kind.TheVariants as kinds
+use Rattle.binding_graph.specs.declared.resolved.Role.{Role}
+use Rattle.binding_graph.specs.declared.resolved.Role.TheVariants as roles
+use Rattle.binding_graph.specs.declared.resolved.Source.{Source}
 use Rattle.binding_graph.specs.declared.resolved.Step.{Step}
 use Rattle.binding_graph.specs.Trees.{SetTree, RelTree, set_code, rel_code}
+use Rattle.candidates.specs.declared.candidate.Space.{Space}
 use Rattle.base_env.specs.Known.{Known}
 use Rattle.cat_eval.specs.declared.column.Column.{Column}
+use Rattle.cat_eval.specs.declared.column.Column.TheVariants as columns
+use Rattle.cat_eval.specs.Candidates.{name_count}
+use Rattle.cat_eval.specs.Columns.{HasValue, HaveValues, AreColumns, ColumnsOf, HasOwn}
+use Rattle.cat_eval.specs.Least.{IsLeast, AreMonotone}
 use Rattle.cat_eval.specs.Meaning.{MeansSet, Means}
 use Rattle.cat_eval.specs.Named.{EventsIn, PairsOutside, WithOwn, Of}
-use Rattle.cat_eval.specs.Values.{IsFor, IsMeant, column_len}
+use Rattle.cat_eval.specs.Values.{Adds, IsFor, IsMeant, column_len}
+use Rattle.cat_eval.specs.Rising.{AreCodes}
+use Rattle.cat_eval.proofs.Growing.{codes_long}
+use Rattle.cat_eval.proofs.Visits.{get_more, get_within}
 
 -- a column without a value more, for the next body
 pub one_column_more : (bodies : List Body) (cs : List Column) (i : ℕ) (body : Body) (column : Column) → length cs ≡ i → i < length bodies → body ≡ get_or bodies i body → IsFor body.code.kind column → column_len column ≡ 0
@@ -51,3 +63,195 @@ meant_is inputs base k steps s r us vs sets rels set_is rel_is kinds.OfRelation 
 meant_is inputs base k steps s r us vs sets rels set_is rel_is kinds.OfAny = λ t code.
     let made = rels t code in
     subst (λ (v : Relation). IsRelation v base.count (Means base.count (EventsIn base inputs k) (WithOwn (PairsOutside base inputs k) (Of base.count [])) t)) (sym (rel_is made.0 [] made.1)) made.2
+
+pub get_kept : {X : Type 0} (xs ys : List X) (k : ℕ) (x : X) → slice_get xs k ≡ Some x → slice_get (xs ++ ys) k ≡ Some x
+get_kept [] ys k x e = absurd cc
+get_kept (z ∷ zs) ys zero x e = e
+get_kept (z ∷ zs) ys (suc k) x e = get_kept zs ys k x e
+
+pub get_last : {X : Type 0} (xs : List X) (x : X) → slice_get (xs ++ x ∷ []) (length xs) ≡ Some x
+get_last [] x = refl
+get_last (z ∷ zs) x = get_last zs x
+
+one_of : {X : Type 0} (xs : List X) (j : ℕ) → j < length xs → X
+one_of [] j lt = absurd (omega (arith, lt))
+one_of (x ∷ xs) j lt = x
+
+-- a value more: the kind is the same
+pub adds_for : (kind : Kind) (a b : Column) (s : Events) (r : Relation) → Adds a b s r → IsFor kind a → IsFor kind b
+adds_for kinds.OfSet (columns.Sets xs) (columns.Sets ys) s r adds fits = tt
+adds_for kinds.OfSet (columns.Sets xs) (columns.Relations ys) s r adds fits = absurd adds
+adds_for kinds.OfSet (columns.Relations xs) b s r adds fits = absurd fits
+adds_for kinds.OfRelation (columns.Sets xs) b s r adds fits = absurd fits
+adds_for kinds.OfRelation (columns.Relations xs) (columns.Sets ys) s r adds fits = absurd adds
+adds_for kinds.OfRelation (columns.Relations xs) (columns.Relations ys) s r adds fits = tt
+adds_for kinds.OfAny (columns.Sets xs) b s r adds fits = absurd fits
+adds_for kinds.OfAny (columns.Relations xs) (columns.Sets ys) s r adds fits = absurd adds
+adds_for kinds.OfAny (columns.Relations xs) (columns.Relations ys) s r adds fits = tt
+
+pub adds_long : (a b : Column) (s : Events) (r : Relation) → Adds a b s r → column_len b ≡ column_len a + 1
+adds_long (columns.Sets xs) (columns.Sets ys) s r adds = ap length adds ∙ length-append xs.items (s ∷ [])
+adds_long (columns.Sets xs) (columns.Relations ys) s r adds = absurd adds
+adds_long (columns.Relations xs) (columns.Sets ys) s r adds = absurd adds
+adds_long (columns.Relations xs) (columns.Relations ys) s r adds = ap length adds ∙ length-append xs (r ∷ [])
+
+-- the values of the candidates before stay
+pub adds_old : (a b : Column) (s : Events) (r : Relation) → Adds a b s r → (k : ℕ) (t : Events) (q : Relation) → HasValue a k t q → HasValue b k t q
+adds_old (columns.Sets xs) (columns.Sets ys) s r adds k t q has = rw adds (get_kept xs.items (s ∷ []) k t has)
+adds_old (columns.Sets xs) (columns.Relations ys) s r adds k t q has = absurd adds
+adds_old (columns.Relations xs) (columns.Sets ys) s r adds k t q has = absurd adds
+adds_old (columns.Relations xs) (columns.Relations ys) s r adds k t q has = rw adds (get_kept xs (r ∷ []) k q has)
+
+-- the new value is that of the next candidate
+pub adds_new : (a b : Column) (s : Events) (r : Relation) → Adds a b s r → (k : ℕ) → k ≡ column_len a → HasValue b k s r
+adds_new (columns.Sets xs) (columns.Sets ys) s r adds k at = rw (adds, at) (get_last xs.items s)
+adds_new (columns.Sets xs) (columns.Relations ys) s r adds k at = absurd adds
+adds_new (columns.Relations xs) (columns.Sets ys) s r adds k at = absurd adds
+adds_new (columns.Relations xs) (columns.Relations ys) s r adds k at = rw (adds, at) (get_last xs r)
+
+module _ (bodies : List Body) (inputs : List (Bor Column)) (olds news : List Column) (added : (j : ℕ) → j < length bodies → (c : Column) → (s : Events) × (r : Relation) × Adds (get_or olds j c) (get_or news j c) s r) where
+  pub values_stay : (recursive : Bool) (base : Known) (k : ℕ) → HaveValues recursive bodies inputs base k olds → HaveValues recursive bodies inputs base k news
+  values_stay false base k have = λ j lt c b.
+      let (s, r, has, meant) = have j lt c b in
+      let (t, q, adds) = added j lt c in
+      (s, r, adds_old (get_or olds j c) (get_or news j c) t q adds k s r has, meant)
+  values_stay true base k have = λ trees codes fit few.
+      let (values, least, each) = have trees codes fit few in (
+        values,
+        least,
+        (λ j lt c.
+            let (s, has) = each j lt c in
+            let (t, q, adds) = added j lt c in
+            (s, adds_old (get_or olds j c) (get_or news j c) t q adds k s (get_or values j no_slot) has)),
+      )
+
+  -- one candidate more
+  pub columns_more : (recursive : Bool) (bases : List Known) (base : Known) → length news ≡ length olds → AreColumns recursive bodies inputs bases olds → HaveValues recursive bodies inputs base (length bases) news → AreColumns recursive bodies inputs (bases ++ base ∷ []) news
+  columns_more recursive bases base many before now = record {
+    as_many = many ∙ before.as_many;
+    suited = λ j lt b c.
+        let (s, r, adds) = added j lt c in
+        adds_for (get_or bodies j b).code.kind (get_or olds j c) (get_or news j c) s r adds (before.suited j lt b c);
+    long = λ j lt c.
+        let (s, r, adds) = added j lt c in
+        adds_long (get_or olds j c) (get_or news j c) s r adds ∙ ap (λ (n : ℕ). n + 1) (before.long j lt c) ∙ sym (length-append bases (base ∷ []));
+    values = λ k one at. elim (get_more bases base one k at) [
+      | inl old ↦ values_stay recursive one k (before.values k one old)
+      | inr t ↦ rw (t.0, ← t.1) now
+    ];
+  }
+
+-- before the first candidate
+pub columns_none : (recursive : Bool) (bodies : List Body) (inputs : List (Bor Column)) (cs : List Column) → length cs ≡ length bodies
+    → ((j : ℕ) → j < length bodies → (b : Body) (c : Column) → IsFor (get_or bodies j b).code.kind (get_or cs j c) × (column_len (get_or cs j c) ≡ 0))
+    → AreColumns recursive bodies inputs [] cs
+columns_none recursive bodies inputs cs many fits = record {
+  as_many = many;
+  suited = λ j lt b c. (fits j lt b c).0;
+  long = λ j lt c. (fits j lt (one_of bodies j lt) c).1;
+  values = λ k base at. absurd (none k base at);
+}
+  where
+    none : (k : ℕ) (base : Known) → slice_get [] k ≡ Some base → ⊥
+    none k base e = absurd (omega (arith, get_within [] base k e))
+
+-- of no equations the least solution is the same everywhere
+pub least_of_none : (n m : ℕ) (sets others : Source → ℕ → Type 0) (outer further : Source → ℕ → ℕ → Type 0) (trees : List RelTree) (values : List Relation) → length trees ≡ 0 → IsLeast n sets outer trees values → IsLeast m others further trees values
+least_of_none n m sets others outer further trees values none h = record {
+  as_many = h.as_many;
+  on = λ x lt. absurd (past x (rw h.as_many at lt));
+  solves = λ x lt. absurd (past x lt);
+  inside = λ test closed x lt. absurd (past x lt);
+}
+  where
+    past : (x : ℕ) → x < length trees → ⊥
+    past x lt = omega (arith, lt, none)
+
+module _ (bodies : List Body) (inputs : List (Bor Column)) (bases : List Known) (base : Known) (olds news : List Column) (k : ℕ) (many : length news ≡ length olds) (taken : 0 < length olds → (c : Column) → k ≡ column_len (get_or olds 0 c)) where
+  -- how many candidates were taken is the number of the next one
+  number : (recursive : Bool) → AreColumns recursive bodies inputs bases olds → 0 < length bodies → k ≡ length bases
+  number recursive before lt =
+      let some : 0 < length olds = rw before.as_many lt in
+      let c = one_of olds 0 some in
+      taken some c ∙ before.long 0 lt c
+
+  -- each body was evaluated once
+  pub evaluated_more : (recursive : Bool) → recursive ≡ false → AreColumns recursive bodies inputs bases olds
+      → ((j : ℕ) → j < length bodies → j < length olds → (c : Column) (b : Body) → (s : Events) × (r : Relation) × Adds (get_or olds j c) (get_or news j c) s r × IsMeant (get_or bodies j b).code.kind (get_or bodies j b).code.steps.items inputs base k s r)
+      → AreColumns recursive bodies inputs (bases ++ base ∷ []) news
+  evaluated_more true is before added = absurd cc
+  evaluated_more false is before added = columns_more bodies inputs olds news each false bases base many before now
+    where
+      inside : (j : ℕ) → j < length bodies → j < length olds
+      inside j lt = rw before.as_many lt
+
+      each : (j : ℕ) → j < length bodies → (c : Column) → (s : Events) × (r : Relation) × Adds (get_or olds j c) (get_or news j c) s r
+      each j lt c =
+          let (s, r, adds, meant) = added j lt (inside j lt) c (one_of bodies j lt) in
+          (s, r, adds)
+
+      now : HaveValues false bodies inputs base (length bases) news
+      now j lt c b =
+          let (s, r, adds, meant) = added j lt (inside j lt) c b in
+          let at : k ≡ length bases = number false before (omega (arith, lt)) in (
+            s,
+            r,
+            adds_new (get_or olds j c) (get_or news j c) s r adds (length bases) (sym (before.long j lt c)),
+            subst (λ (n : ℕ). IsMeant (get_or bodies j b).code.kind (get_or bodies j b).code.steps.items inputs base n s r) at meant,
+          )
+
+  -- the equations were solved
+  pub solved_more : (recursive : Bool) (own values : List Relation) → recursive ≡ true → HasOwn recursive bodies own → AreColumns recursive bodies inputs bases olds
+      → ((j : ℕ) → j < length own → j < length olds → (c : Column) → (s : Events) × Adds (get_or olds j c) (get_or news j c) s (get_or values j no_slot))
+      → (length own ≡ length bodies → (trees : List RelTree) → AreCodes trees bodies → AreMonotone trees → length trees ≤ 64 → IsLeast base.count (EventsIn base inputs k) (PairsOutside base inputs k) trees values)
+      → AreColumns recursive bodies inputs (bases ++ base ∷ []) news
+  solved_more false own values is held before added least = absurd cc
+  solved_more true own values is held before added least = columns_more bodies inputs olds news each true bases base many before now
+    where
+      gets : (j : ℕ) → j < length bodies → (c : Column) → (s : Events) × Adds (get_or olds j c) (get_or news j c) s (get_or values j no_slot)
+      gets j lt c = added j (rw held lt) (rw before.as_many lt) c
+
+      each : (j : ℕ) → j < length bodies → (c : Column) → (s : Events) × (r : Relation) × Adds (get_or olds j c) (get_or news j c) s r
+      each j lt c =
+          let (s, adds) = gets j lt c in
+          (s, get_or values j no_slot, adds)
+
+      here : (trees : List RelTree) → AreCodes trees bodies → IsLeast base.count (EventsIn base inputs k) (PairsOutside base inputs k) trees values → IsLeast base.count (EventsIn base inputs (length bases)) (PairsOutside base inputs (length bases)) trees values
+      here trees codes h = elim (cases_eq (length bodies) 0) [
+        | inl none ↦ least_of_none base.count base.count _ _ _ _ trees values (codes_long trees bodies codes ∙ none) h
+        | inr some ↦
+            let at : k ≡ length bases = number true before (omega (arith, some)) in
+            subst (λ (n : ℕ). IsLeast base.count (EventsIn base inputs n) (PairsOutside base inputs n) trees values) at h
+      ]
+
+      now : HaveValues true bodies inputs base (length bases) news
+      now trees codes fit few = (
+        values,
+        here trees codes (least held trees codes fit few),
+        (λ j lt c.
+            let (s, adds) = gets j lt c in
+            (s, adds_new (get_or olds j c) (get_or news j c) s (get_or values j no_slot) adds (length bases) (sym (before.long j lt c)))),
+      )
+
+-- the same group and inputs, by another name
+pub columns_moved : (p q : Bool) (b d : Bor (List Body)) (x y : Bor (List (Bor Column))) → p ≡ q → b ≡ d → x ≡ y → (bases : List Known) (cs : List Column) → AreColumns p b.now x.now bases cs → AreColumns q d.now y.now bases cs
+columns_moved p q b d x y e f g bases cs h =
+    subst (λ (r : Bool). AreColumns r d.now y.now bases cs) e
+    (subst (λ (z : Bor (List Body)). AreColumns p z.now y.now bases cs) f
+    (subst (λ (z : Bor (List (Bor Column))). AreColumns p b.now z.now bases cs) g h))
+
+pub own_moved : (p q : Bool) (b d : Bor (List Body)) → p ≡ q → b ≡ d → (own : List Relation) → HasOwn p b.now own → HasOwn q d.now own
+own_moved p q b d e f own h = subst (λ (r : Bool). HasOwn r d.now own) e (subst (λ (z : Bor (List Body)). HasOwn p z.now own) f h)
+
+pub own_long : (recursive : Bool) (bodies : List Body) (own new : List Relation) → recursive ≡ true → length new ≡ length own → HasOwn recursive bodies own → HasOwn recursive bodies new
+own_long true bodies own new is long h = long ∙ h
+own_long false bodies own new is long h = absurd cc
+
+pub own_none : (recursive : Bool) (bodies : List Body) (own : List Relation) → recursive ≡ false → HasOwn recursive bodies own → own ≡ []
+own_none true bodies own is h = absurd cc
+own_none false bodies own is h = h
+
+pub columns_named : (role : Role) (inputs : List (Bor Column)) (space : Space) (cs : List Column) → ColumnsOf role inputs space cs → length cs ≡ name_count role
+columns_named (roles.Group recursive bodies) inputs space cs h = h.2.as_many
+columns_named (roles.Check check) inputs space cs h = ap length h
+columns_named roles.Silent inputs space cs h = ap length h

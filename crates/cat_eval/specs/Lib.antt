@@ -1,6 +1,7 @@
 pub mod Alike
 pub mod Candidates
 pub mod Checks
+pub mod Columns
 pub mod Least
 pub mod Meaning
 pub mod Named

@@ -5,6 +5,7 @@ ghost use Rattle.base_env.specs.Known.{Known};
 ghost use Rattle.bit_relations.specs.Relation.{Relation, Events, IsRelation, IsEvents, no_slot};
 ghost use Rattle.binding_graph.specs.Trees.{RelTree};
 ghost use Rattle.cat_eval.specs.Candidates.{name_count};
+ghost use Rattle.cat_eval.specs.Columns.{AreColumns, ColumnsOf, HasOwn};
 ghost use Rattle.cat_eval.specs.Least.{IsLeast, AreMonotone};
 ghost use Rattle.cat_eval.specs.Named.{EventsIn, PairsOutside};
 ghost use Rattle.cat_eval.specs.Rising.{AreCodes};
@@ -108,9 +109,10 @@ impl GroupRun<'_> {
 
     /// Makes the names the least values that satisfy the equations.
     fn solve(&mut self, base: &Base, candidate: usize) -> Result<(), AllocError>
-        ensures fixed { (self.new.bodies ≡ self.old.bodies) × (self.new.inputs ≡ self.old.inputs) × (self.new.recursive ≡ self.old.recursive) }
+        ensures fixed { (self.new.bodies ≡ self.old.bodies) × (self.new.inputs ≡ self.old.inputs) × (self.new.recursive ≡ self.old.recursive) × (length self.new.solver.own.items ≡ length self.old.solver.own.items) }
         ensures long { length self.new.columns.items ≡ length self.old.columns.items }
-        ensures added { OnOk result (length self.old.solver.own.items ≡ length self.old.bodies.now → (trees : List RelTree) → AreCodes trees self.old.bodies.now → AreMonotone trees → length trees ≤ 64 → IsLeast base.now.count (EventsIn base.now self.old.inputs.now candidate) (PairsOutside base.now self.old.inputs.now candidate) trees self.new.solver.own.items × ((j : ℕ) → j < length self.old.bodies.now → j < length self.old.columns.items → (c : Column) → (s : Events) × Adds (slice_index_or self.old.columns.items j c) (slice_index_or self.new.columns.items j c) s (slice_index_or self.new.solver.own.items j no_slot))) }
+        ensures added { OnOk result ((j : ℕ) → j < length self.old.solver.own.items → j < length self.old.columns.items → (c : Column) → (s : Events) × Adds (slice_index_or self.old.columns.items j c) (slice_index_or self.new.columns.items j c) s (slice_index_or self.new.solver.own.items j no_slot)) }
+        ensures least { OnOk result (length self.old.solver.own.items ≡ length self.old.bodies.now → (trees : List RelTree) → AreCodes trees self.old.bodies.now → AreMonotone trees → length trees ≤ 64 → IsLeast base.now.count (EventsIn base.now self.old.inputs.now candidate) (PairsOutside base.now self.old.inputs.now candidate) trees self.new.solver.own.items) }
     {
         self.solver
             .solve(self.bodies, base, self.inputs, candidate)?;
@@ -120,7 +122,7 @@ impl GroupRun<'_> {
 }
 
 impl Visit for GroupRun<'_> {
-    ghost has_taken = { λ first bases run. length run.columns.items ≡ length first.columns.items };
+    ghost has_taken = { λ first bases run. (run.bodies ≡ first.bodies) × (run.inputs ≡ first.inputs) × (run.recursive ≡ first.recursive) × HasOwn first.recursive first.bodies.now run.solver.own.items × AreColumns first.recursive first.bodies.now first.inputs.now bases run.columns.items };
 
     fn visit(&mut self, base: &Base) -> Result<(), AllocError> {
         let candidate = taken(&self.columns);
@@ -157,7 +159,9 @@ fn column_for(alloc: Global, kind: Kind) -> Column
 }
 
 /// Where the bodies of a group are evaluated.
-fn solver_of(alloc: Global, recursive: bool, bodies: &[Body]) -> Result<Solver, AllocError> {
+fn solver_of(alloc: Global, recursive: bool, bodies: &[Body]) -> Result<Solver, AllocError>
+    ensures { IfOk result (λ s. HasOwn recursive bodies.now s.own.items) }
+{
     if recursive {
         Solver::of_group(alloc, bodies)
     } else {
@@ -174,7 +178,8 @@ pub fn eval_group(
     space: &Space,
     inputs: &[&Column],
 ) -> Result<Vec<Column>, AllocError>
-    ensures { IfOk result (λ v. length v.items ≡ name_count item.now.role) }
+    ensures values { IfOk result (λ v. ColumnsOf item.now.role inputs.now space.now v.items) }
+    ensures long { IfOk result (λ v. length v.items ≡ name_count item.now.role) }
 {
     match &item.role {
         Role::Group { recursive, bodies } => {
