@@ -16,7 +16,7 @@ use Rattle.ppc_semantics.specs.Runs.{Walk, Run, Outcome, Thread, started, ended,
 use Rattle.ppc_semantics.specs.declared.run.Run as made
 use Rattle.ppc_semantics.specs.AllRuns.{Beginning, begun, gone_over, over_line, over_instruction, goes_on, with_load, spread, next, all_from, whole, shown, shown_of, shown_whole, ShowsRuns}
 
-append_none : {A : Type 0} (xs : List A) → xs ++ [] ≡ xs
+pub append_none : {A : Type 0} (xs : List A) → xs ++ [] ≡ xs
 append_none [] = refl
 append_none (x ∷ xs) = ap (λ (ys : List _). x ∷ ys) (append_none xs)
 
@@ -255,28 +255,28 @@ prefix_before : (Lt : Value → Value → Type 0) (p : List Value) (v w : Value)
 prefix_before Lt [] v w vs ws lt = inl lt
 prefix_before Lt (x ∷ p) v w vs ws lt = inr (refl, prefix_before Lt p v w vs ws lt)
 
-pairs_head : {A : Type 0} (R : A → A → Type 0) (x : A) (xs : List A) → AllPairs R (x ∷ xs) → All (R x) xs
+pub pairs_head : {A : Type 0} (R : A → A → Type 0) (x : A) (xs : List A) → AllPairs R (x ∷ xs) → All (R x) xs
 pairs_head R x xs h k d lt = h zero (suc k) d (omega arith) (omega arith)
 
-pairs_tail : {A : Type 0} (R : A → A → Type 0) (x : A) (xs : List A) → AllPairs R (x ∷ xs) → AllPairs R xs
+pub pairs_tail : {A : Type 0} (R : A → A → Type 0) (x : A) (xs : List A) → AllPairs R (x ∷ xs) → AllPairs R xs
 pairs_tail R x xs h i j d lt below = h (suc i) (suc j) d (omega arith) (omega arith)
 
-all_from_contains : {A : Type 0} (P : A → Type 0) (xs : List A) → ((x : A) → Contains xs x → P x) → All P xs
+pub all_from_contains : {A : Type 0} (P : A → Type 0) (xs : List A) → ((x : A) → Contains xs x → P x) → All P xs
 all_from_contains P xs h k d lt = h (get_or xs k d) (Contains-get_or xs k d lt)
 
-pairs_none : {A : Type 0} (R : A → A → Type 0) → AllPairs R []
+pub pairs_none : {A : Type 0} (R : A → A → Type 0) → AllPairs R []
 pairs_none R i j d lt below = absurd (omega arith)
 
-pairs_one : {A : Type 0} (R : A → A → Type 0) (x : A) → AllPairs R (x ∷ [])
+pub pairs_one : {A : Type 0} (R : A → A → Type 0) (x : A) → AllPairs R (x ∷ [])
 pairs_one R x = AllPairs-cons R x [] (All-nil (R x)) (pairs_none R)
 
-pairs_append : {A : Type 0} (R : A → A → Type 0) (xs ys : List A) → AllPairs R xs → AllPairs R ys → ((x y : A) → Contains xs x → Contains ys y → R x y) → AllPairs R (xs ++ ys)
+pub pairs_append : {A : Type 0} (R : A → A → Type 0) (xs ys : List A) → AllPairs R xs → AllPairs R ys → ((x y : A) → Contains xs x → Contains ys y → R x y) → AllPairs R (xs ++ ys)
 pairs_append R [] ys p q cross = q
 pairs_append R (x ∷ xs) ys p q cross = AllPairs-cons R x (xs ++ ys)
     (All-append (R x) xs ys (pairs_head R x xs p) (all_from_contains (R x) ys (λ y h. cross x y (Contains-append_left (x ∷ []) xs x (Contains-push [] x)) h)))
     (pairs_append R xs ys (pairs_tail R x xs p) q (λ a b h k. cross a b (Contains-append_right (x ∷ []) xs a h) k))
 
-pairs_flat_map : {A B : Type 0} (Q : A → A → Type 0) (R : B → B → Type 0) (f : A → List B) (xs : List A) → AllPairs Q xs → ((x : A) → AllPairs R (f x))
+pub pairs_flat_map : {A B : Type 0} (Q : A → A → Type 0) (R : B → B → Type 0) (f : A → List B) (xs : List A) → AllPairs Q xs → ((x : A) → AllPairs R (f x))
     → ((x y : A) → Q x y → (a b : B) → Contains (f x) a → Contains (f y) b → R a b) → AllPairs R (flat_map f xs)
 pairs_flat_map Q R f [] rising each cross = pairs_none R
 pairs_flat_map Q R f (x ∷ xs) rising each cross = pairs_append R (f x) (flat_map f xs) (each x) (pairs_flat_map Q R f xs (pairs_tail Q x xs rising) each cross)
@@ -321,14 +321,14 @@ module _ (V : List Value) (rising : AllPairs IsLess V) where
   rises [] b awake = pairs_one IsEarlier b
   rises (x ∷ xs) b awake = by_line_rises b.walk.seeking x xs b awake refl (rises xs)
 
-map_contains : {A B : Type 0} (f : A → B) (xs : List A) (y : B) → Contains (map f xs) y → (x : A) × Contains xs x × (f x ≡ y)
+pub map_contains : {A B : Type 0} (f : A → B) (xs : List A) (y : B) → Contains (map f xs) y → (x : A) × Contains xs x × (f x ≡ y)
 map_contains f [] y h = absurd (let lt = h.1 in omega arith)
 map_contains f (x ∷ xs) y h = elim (Contains-append_cases (f x ∷ []) (map f xs) y h) [
   | inl here ↦ (x, Contains-append_left (x ∷ []) xs x (Contains-push [] x), contains_one (f x) y here)
   | inr there ↦ let (z, within, e) = map_contains f xs y there in (z, Contains-append_right (x ∷ []) xs z within, e)
 ]
 
-contains_map : {A B : Type 0} (f : A → B) (xs : List A) (x : A) → Contains xs x → Contains (map f xs) (f x)
+pub contains_map : {A B : Type 0} (f : A → B) (xs : List A) (x : A) → Contains xs x → Contains (map f xs) (f x)
 contains_map f xs x h = go xs h.0 h.1 h.2
   where
     go : (ys : List _) (k : ℕ) → k < length ys → get_or ys k x ≡ x → Contains (map f ys) (f x)
@@ -336,7 +336,7 @@ contains_map f xs x h = go xs h.0 h.1 h.2
     go (y ∷ ys) zero lt e = Contains-append_left (f y ∷ []) (map f ys) (f x) (one_contains (f y) (f x) (ap f e))
     go (y ∷ ys) (suc k) lt e = Contains-append_right (f y ∷ []) (map f ys) (f x) (go ys k (omega arith) e)
 
-pairs_map : {A B : Type 0} (R : B → B → Type 0) (f : A → B) (xs : List A) → AllPairs (λ x y. R (f x) (f y)) xs → AllPairs R (map f xs)
+pub pairs_map : {A B : Type 0} (R : B → B → Type 0) (f : A → B) (xs : List A) → AllPairs (λ x y. R (f x) (f y)) xs → AllPairs R (map f xs)
 pairs_map R f [] h = pairs_none R
 pairs_map R f (x ∷ xs) h =
     AllPairs-cons R (f x) (map f xs)

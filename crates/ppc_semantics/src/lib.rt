@@ -9,8 +9,6 @@ mod lowering;
 mod rounds;
 mod run;
 mod state;
-#[cfg(test)]
-mod tests;
 mod value;
 mod value_set;
 mod walk;

@@ -1,5 +1,14 @@
 //! The values that loads may take, and the bounds of a test.
 
+ghost use Rattle.std.specs.Prelude.{ℕ, ◌≡◌, ◌≤◌, ◌↔◌, ◌-◌, ◌^◌, IfOk, IfErr, OnOk, Contains, min, length};
+ghost use Rattle.std.specs.List.{count_by};
+ghost use Rattle.ppc_semantics.specs.declared.value.Value.{Value};
+ghost use Rattle.ppc_semantics.specs.ValueSet.{IsOne, IsSet};
+ghost use Rattle.ppc_semantics.specs.Runs.{StoresFreely};
+ghost use Rattle.ppc_semantics.specs.AllRuns as all;
+ghost use Rattle.ppc_semantics.specs.FreeWalks.{AreAdded};
+ghost use Rattle.ppc_semantics.specs.Domain as dom;
+
 use crate::enumerate::run_count;
 use crate::fault::{EvalRefusal, SpaceFault};
 use crate::free::{MANY, MAX_VALUES, add_stored, free_count};
@@ -19,7 +28,9 @@ pub const MAX_EVENTS: usize = 128;
 pub const MAX_COMBINATIONS: u64 = 1_048_576;
 
 /// Whether the line is a load, a store or a fence.
-fn makes_event(line: Line) -> bool {
+fn makes_event(line: Line) -> bool
+    ensures { result ≡ dom.has_event line }
+{
     match line {
         Line::Label(_) => false,
         Line::Does(instruction) => matches!(
@@ -33,40 +44,66 @@ fn makes_event(line: Line) -> bool {
     }
 }
 
-fn loads(line: Line) -> bool {
+fn loads(line: Line) -> bool
+    ensures { result ≡ dom.has_load line }
+{
     match line {
         Line::Label(_) => false,
         Line::Does(instruction) => is_load(instruction),
     }
 }
 
+fn events_in(lines: &[Line]) -> usize
+    ensures { result ≡ count_by dom.has_event lines.now }
+{
+    let mut count: usize = 0;
+    for line in lines {
+        if makes_event(*line) {
+            count += 1;
+        }
+    }
+    count
+}
+
+fn loads_in(lines: &[Line]) -> usize
+    ensures { result ≡ count_by dom.has_load lines.now }
+{
+    let mut count: usize = 0;
+    for line in lines {
+        if loads(*line) {
+            count += 1;
+        }
+    }
+    count
+}
+
 /// How many locations, loads, stores and fences the text has.
-fn event_count(program: &Program) -> usize {
+fn event_count(program: &Program) -> usize
+    ensures { result ≡ min (dom.event_total program.now) (2 ^ 64 - 1) }
+{
     let mut count = program.locations.len();
     for lines in &program.threads {
-        for line in lines {
-            if makes_event(*line) {
-                count = count.saturating_add(1);
-            }
-        }
+        count = count.saturating_add(events_in(lines));
     }
     count
 }
 
 /// How many loads the text has.
-fn load_count(program: &Program) -> usize {
+fn load_count(program: &Program) -> usize
+    ensures { result ≡ min (dom.load_total program.now) (2 ^ 64 - 1) }
+{
     let mut count: usize = 0;
     for lines in &program.threads {
-        for line in lines {
-            if loads(*line) {
-                count = count.saturating_add(1);
-            }
-        }
+        count = count.saturating_add(loads_in(lines));
     }
     count
 }
 
-fn initial_values(alloc: Global, program: &Program) -> Result<Vec<Value>, AllocError> {
+/// The values that locations hold at the start.
+fn initial_values(alloc: Global, program: &Program) -> Result<Vec<Value>, AllocError>
+    ensures set { IfOk result (λ v. IsSet v.items) }
+    ensures values { IfOk result (λ v. (u : Value) → Contains v.items u ↔ (Contains program.now.initial.items u × IsOne u)) }
+{
     let mut values = Vec::new(alloc);
     for value in &program.initial {
         add_value(&mut values, *value)?;
@@ -74,16 +111,32 @@ fn initial_values(alloc: Global, program: &Program) -> Result<Vec<Value>, AllocE
     Ok(values)
 }
 
+/// The lines of a thread, and none where it is not there.
+fn thread_lines(program: &Program, thread: usize) -> &[Line]
+    ensures { result.now ≡ (all.thread_of program.now thread).lines }
+{
+    match program.threads.get(thread) {
+        Some(lines) => lines,
+        None => &[],
+    }
+}
+
 /// The values with those that some free run over them stores.
-fn next_values(
-    alloc: Global,
-    program: &Program,
-    values: &[Value],
-) -> Result<Vec<Value>, AllocError> {
+fn next_values(alloc: Global, program: &Program, values: &[Value]) -> Result<Vec<Value>, AllocError>
+    requires { IsSet values.now }
+    ensures set { IfOk result (λ v. IsSet v.items) }
+    ensures added { IfOk result (λ v. AreAdded (StoresFreely (dom.threads_of program.now) (Contains values.now)) values.now v.items) }
+{
     let mut next = Vec::from_slice(alloc, values)?;
-    for (thread, lines) in program.threads.iter().enumerate() {
+    for thread in 0..program.threads.len() {
         let first = State::first(program, thread);
-        add_stored(alloc, lines, first, values, &mut next)?;
+        add_stored(
+            alloc,
+            thread_lines(program, thread),
+            first,
+            values,
+            &mut next,
+        )?;
     }
     Ok(next)
 }

@@ -190,6 +190,13 @@ pub fn is_load(instruction: Instruction) -> bool
     )
 }
 
+/// Whether the instruction is a conditional branch.
+pub fn is_branch(instruction: Instruction) -> bool
+    ensures { result ≡ machine.is_branch instruction }
+{
+    matches!(instruction, Instruction::Branch(_, _))
+}
+
 /// Whether a branch is taken here.
 pub fn goes(instruction: Instruction, state: &State) -> bool
     ensures { result ≡ machine.goes instruction state.now }

@@ -1,6 +1,6 @@
 ghost use Rattle.std.specs.Prelude.{◌<◌};
 
-use crate::{Domain, Event, SpaceFault, Value, domain, runs};
+use ppc_semantics::{Domain, Event, SpaceFault, Value, domain, runs};
 use litmus_ppc::{
     Condition, Fence, InitEntry, Instruction, Name, Place, Proposition, Quantifier, Register, Step,
     Test, Thread,

@@ -1,0 +1,11 @@
+use Rattle.std.proofs.Common.{◌↔◌, take}
+use Rattle.std.specs.List.{Contains}
+use Rattle.ppc_semantics.specs.declared.value.Value.{Value}
+use Rattle.ppc_semantics.specs.ValueSet.{IsOne, IsSet}
+use Rattle.ppc_semantics.proofs.rounds.initial_values.Given as goal
+
+abbrev pub invariant-loop-value : goal.invariant-loop-value
+invariant-loop-value l = record {
+  set : IsSet l.values.items;
+  exact : (u : Value) → Contains l.values.items u ↔ (Contains (take l.value-index l.program.initial.items) u × IsOne u);
+}

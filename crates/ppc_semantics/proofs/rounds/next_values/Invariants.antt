@@ -1,0 +1,12 @@
+use Rattle.std.specs.List.{Contains}
+use Rattle.ppc_semantics.specs.ValueSet.{IsSet}
+use Rattle.ppc_semantics.specs.Runs.{StoresFreely}
+use Rattle.ppc_semantics.specs.FreeWalks.{AreAdded}
+use Rattle.ppc_semantics.specs.Domain.{threads_from}
+use Rattle.ppc_semantics.proofs.rounds.next_values.Given as goal
+
+abbrev pub invariant-loop-thread : goal.invariant-loop-thread
+invariant-loop-thread l = record {
+  set : IsSet l.next.items;
+  added : AreAdded (StoresFreely (threads_from l.program l.thread) (Contains l.values)) l.values l.next.items;
+}

@@ -1,0 +1,127 @@
+-- The domain of a program, and when the program is refused.
+use Rattle.std.specs.Prelude.{Vec, vec_len, ℕ, zero, suc, ◌≡◌, ◌≤◌, ◌<◌, ◌+◌, ◌*◌, ◌↔◌, length, Bool, true, false, List, [], ◌∷◌, ◌++◌, if◌then◌else◌, Contains, All}
+use Rattle.std.specs.List.{AllPairs, sum_by, count_by}
+use Rattle.std.specs.declared.alloc.Global.{Global}
+use Rattle.ppc_semantics.specs.declared.value.Value.{Value}
+use Rattle.ppc_semantics.specs.declared.instruction.Instruction.{Instruction}
+use Rattle.ppc_semantics.specs.declared.instruction.Instruction.TheVariants.{Store, StoreIndexed, Barrier}
+use Rattle.ppc_semantics.specs.declared.instruction.Line.{Line}
+use Rattle.ppc_semantics.specs.declared.instruction.Line.TheVariants.{Label, Does}
+use Rattle.ppc_semantics.specs.declared.instruction.Program.{Program}
+use Rattle.ppc_semantics.specs.declared.fault.EvalRefusal.{EvalRefusal}
+use Rattle.ppc_semantics.specs.declared.fault.EvalRefusal.TheVariants.{TooManyEvents, TooManyValues, TooManyRuns, TooManyCombinations}
+use Rattle.ppc_semantics.specs.declared.fault.SpaceFault.{SpaceFault}
+use Rattle.ppc_semantics.specs.declared.fault.SpaceFault.TheVariants.{Refused, OutOfMemory}
+use Rattle.ppc_semantics.specs.Machine.{is_load}
+use Rattle.ppc_semantics.specs.Runs.{Thread, Run, AreRuns, InDomain}
+use Rattle.ppc_semantics.specs.AllRuns.{thread_of}
+use Rattle.ppc_semantics.specs.FreeRuns.{HasFreeRuns}
+use Rattle.ppc_semantics.specs.ValueSet.{IsOne, IsSet}
+
+-- the first threads of a program, and all
+abbrev pub threads_from : Program → ℕ → List Thread
+threads_from p zero = []
+threads_from p (suc n) = threads_from p n ++ thread_of p n ∷ []
+
+abbrev pub threads_of : Program → List Thread
+threads_of p = threads_from p (vec_len p.threads)
+
+-- the events of the text are its locations, loads, stores and fences
+abbrev pub makes_event : Instruction → Bool
+makes_event (Store d a) = true
+makes_event (StoreIndexed d a b) = true
+makes_event (Barrier f) = true
+makes_event i = is_load i
+
+abbrev pub has_event : Line → Bool
+has_event (Label m) = false
+has_event (Does i) = makes_event i
+
+abbrev pub has_load : Line → Bool
+has_load (Label m) = false
+has_load (Does i) = is_load i
+
+abbrev pub lines_with : (Line → Bool) → Program → ℕ
+lines_with q p = sum_by (λ (lines : Vec Line Global). count_by q lines.items) p.threads.items
+
+abbrev pub event_total : Program → ℕ
+event_total p = length p.locations.items + lines_with has_event p
+
+abbrev pub load_total : Program → ℕ
+load_total p = lines_with has_load p
+
+-- the locations hold values at the start
+abbrev pub AreProper : Program → Type 0
+AreProper p = All IsOne p.initial.items
+
+-- a value after so many rounds
+abbrev pub InRound : Program → ℕ → Value → Type 0
+InRound p k v = InDomain p.initial.items (threads_of p) k v
+
+-- the list has just the values after so many rounds, in their order
+pub record IsRound (p : Program) (k : ℕ) (V : List Value) : Type 0 where
+  pub set : IsSet V
+  pub exact : (v : Value) → Contains V v ↔ InRound p k v
+
+-- there are over 16 values after so many rounds
+abbrev pub HasManyValues : Program → ℕ → Type 0
+HasManyValues p k = (V : List Value) × IsSet V × All (InRound p k) V × (16 < length V)
+
+-- there are at most 16, and some thread has over 4,096 free runs over them
+pub record HasManyRuns (p : Program) (k : ℕ) : Type 0 where
+  pub values : List Value
+  pub round : IsRound p k values
+  pub few : length values ≤ 16
+  pub thread : Thread
+  pub there : Contains (threads_of p) thread
+  pub runs : ℕ
+  pub counted : HasFreeRuns thread values runs
+  pub many : 4096 < runs
+
+-- neither
+pub record IsWithin (p : Program) (k : ℕ) : Type 0 where
+  pub values : List Value
+  pub round : IsRound p k values
+  pub few : length values ≤ 16
+  pub runs : (t : Thread) → Contains (threads_of p) t → (n : ℕ) × HasFreeRuns t values n × (n ≤ 4096)
+
+-- the combinations of runs of threads over the values
+abbrev pub HasRuns : Thread → List Value → ℕ → Type 0
+HasRuns t V n = (all : List Run) × AreRuns t (Contains V) all × (length all ≡ n)
+
+abbrev pub HasCombinations : List Thread → List Value → ℕ → Type 0
+HasCombinations [] V n = n ≡ 1
+HasCombinations (t ∷ ts) V n = (here : ℕ) × (rest : ℕ) × HasRuns t V here × HasCombinations ts V rest × (n ≡ here * rest)
+
+-- what may be, and why not: before the first round and after each, as many as the text has loads
+pub record IsDomain (p : Program) (V : List Value) : Type 0 where
+  pub events : event_total p ≤ 128
+  pub rounds : (k : ℕ) → k ≤ load_total p → IsWithin p k
+  pub last : IsRound p (load_total p) V
+  pub combinations : (n : ℕ) × HasCombinations (threads_of p) V n × (n ≤ 1048576)
+
+pub record IsFirst (p : Program) (k : ℕ) (Fails : Program → ℕ → Type 0) : Type 0 where
+  pub events : event_total p ≤ 128
+  pub bound : k ≤ load_total p
+  pub before : (j : ℕ) → j < k → IsWithin p j
+  pub fails : Fails p k
+
+pub record HasManyCombinations (p : Program) : Type 0 where
+  pub events : event_total p ≤ 128
+  pub rounds : (k : ℕ) → k ≤ load_total p → IsWithin p k
+  pub values : List Value
+  pub last : IsRound p (load_total p) values
+  pub combinations : ℕ
+  pub counted : HasCombinations (threads_of p) values combinations
+  pub many : 1048576 < combinations
+
+abbrev pub IsRefused : Program → EvalRefusal → Type 0
+IsRefused p TooManyEvents = 128 < event_total p
+IsRefused p TooManyValues = (k : ℕ) × IsFirst p k HasManyValues
+IsRefused p TooManyRuns = (k : ℕ) × IsFirst p k HasManyRuns
+IsRefused p TooManyCombinations = HasManyCombinations p
+IsRefused p _ = ⊥
+
+abbrev pub IsFault : Program → SpaceFault → Type 0
+IsFault p (Refused r) = IsRefused p r
+IsFault p (OutOfMemory e) = Unit {0}
