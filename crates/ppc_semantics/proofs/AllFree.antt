@@ -1,5 +1,5 @@
 -- The list of all free runs has just the free runs, each once, and as many as are counted.
-use Rattle.std.proofs.Common.{ℕ, zero, suc, ◌≡◌, ◌⊎◌, ◌↔◌, ◌<◌, ◌+◌, ◌*◌, inl, inr, Bool, true, false, List, [], ◌∷◌, ◌++◌, map, length, get_or, min, refl, sym, ap, subst, ◌∙◌, Option, Some, None, if◌then◌else◌, append_assoc, arith}
+use Rattle.std.proofs.Common.{ℕ, ◌≡◌, ◌↔◌, ◌+◌, ◌*◌, inl, inr, Bool, true, false, List, [], ◌∷◌, ◌++◌, map, length, get_or, refl, sym, ap, subst, ◌∙◌, Option, Some, None, if◌then◌else◌, arith}
 use Rattle.std.specs.List.{flat_map, Contains, All, AllPairs}
 use Rattle.std.proofs.lemmas.List.{length-append, length-map}
 use Rattle.std.proofs.lemmas.List.Elements.{Contains-append_left, Contains-append_right, Contains-append_cases, All-nil, All-cons, All-head, All-tail}
@@ -11,8 +11,8 @@ use Rattle.ppc_semantics.specs.declared.instruction.Line.{Line}
 use Rattle.ppc_semantics.specs.declared.instruction.Line.TheVariants.{Label, Does}
 use Rattle.ppc_semantics.specs.declared.state.State.{State}
 use Rattle.ppc_semantics.specs.Machine.{is_load, is_branch, target}
-use Rattle.ppc_semantics.specs.Runs.{Walk, Outcome, Thread, IsLess, started, ended, advanced, passed, supplied, free_ends, free_obeyed, free_one, free_from, free_run_of}
-use Rattle.ppc_semantics.specs.FreeRuns.{FreeRun, IsFreeRun, IsOther, AreFreeRuns, HasFreeRuns, sized, count_one, count_free, capped}
+use Rattle.ppc_semantics.specs.Runs.{Walk, Outcome, IsLess, started, ended, advanced, passed, supplied, free_ends, free_obeyed, free_one, free_from}
+use Rattle.ppc_semantics.specs.FreeRuns.{FreeRun, IsOther, HasFreeRuns, sized, count_one, count_free, capped}
 use Rattle.ppc_semantics.proofs.RunsExact.{contains_one, one_contains, flat_map_contains, contains_flat_map, map_contains, contains_map, pairs_append, pairs_one, pairs_map, pairs_flat_map}
 
 abbrev pub chose : Bool → FreeRun → FreeRun

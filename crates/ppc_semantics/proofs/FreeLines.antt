@@ -1,15 +1,14 @@
 -- All free runs go on by one line.
-use Rattle.std.proofs.Common.{ℕ, ◌≡◌, Bool, true, false, List, [], ◌∷◌, ◌++◌, map, refl, sym, ap, subst, ◌∙◌, Option, Some, None}
+use Rattle.std.proofs.Common.{ℕ, ◌≡◌, Bool, false, List, [], ◌∷◌, map, refl, sym, ap, subst, ◌∙◌, Option, Some, None}
 use Rattle.std.specs.List.{flat_map}
 use Rattle.std.proofs.lemmas.List.Concat.{flat_map_single}
 use Rattle.ppc_semantics.specs.declared.value.Value.{Value}
-use Rattle.ppc_semantics.specs.declared.value.Value.TheVariants.{NoValue}
 use Rattle.ppc_semantics.specs.declared.instruction.Instruction.{Instruction}
 use Rattle.ppc_semantics.specs.declared.instruction.Line.{Line}
 use Rattle.ppc_semantics.specs.declared.instruction.Line.TheVariants.{Label, Does}
 use Rattle.ppc_semantics.specs.declared.free.FreeWalk.{FreeWalk}
 use Rattle.ppc_semantics.specs.Machine.{is_load, is_branch}
-use Rattle.ppc_semantics.specs.FreeWalks.{walked, over, over_line, does_next, next_on, next_of}
+use Rattle.ppc_semantics.specs.FreeWalks.{over, over_line, does_next, next_on, next_of}
 
 same_lists : {A B : Type 0} (f g : A → List B) (xs : List A) → ((x : A) → f x ≡ g x) → flat_map f xs ≡ flat_map g xs
 same_lists f g [] same = refl

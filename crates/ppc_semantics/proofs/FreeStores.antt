@@ -1,9 +1,9 @@
 -- What free runs store, line by line.
-use Rattle.std.proofs.Common.{ℕ, zero, suc, ◌≡◌, ◌⊎◌, ◌↔◌, ◌<◌, ◌≤◌, ◌+◌, ◌*◌, inl, inr, Bool, true, false, List, [], ◌∷◌, ◌++◌, map, length, get_or, drop, nat_lt, refl, sym, ap, subst, ◌∙◌, Option, Some, None, if◌then◌else◌, append_assoc, arith, rules, add-one}
-use Rattle.std.specs.List.{flat_map, Contains, All, AllPairs}
+use Rattle.std.proofs.Common.{ℕ, zero, suc, ◌≡◌, ◌⊎◌, ◌<◌, ◌≤◌, ◌+◌, ◌*◌, inl, inr, Bool, true, false, List, [], ◌∷◌, ◌++◌, length, get_or, drop, nat_lt, refl, sym, ap, subst, ◌∙◌, Option, Some, None, if◌then◌else◌, append_assoc, arith, rules, add-one}
+use Rattle.std.specs.List.{flat_map, Contains, All}
 use Rattle.std.proofs.Math.Seq.{drop-cons}
 use Rattle.std.proofs.lemmas.List.{drop_all}
-use Rattle.std.proofs.lemmas.List.Elements.{Contains-append_left, Contains-append_right, Contains-append_cases, Contains-get_or, All-nil, All-cons, All-head, All-tail, All-contains}
+use Rattle.std.proofs.lemmas.List.Elements.{Contains-append_left, Contains-append_right, Contains-append_cases, All-cons, All-head, All-tail, All-contains}
 use Rattle.ppc_semantics.specs.declared.value.Value.{Value}
 use Rattle.ppc_semantics.specs.declared.value.Value.TheVariants.{NoValue}
 use Rattle.ppc_semantics.specs.declared.instruction.Instruction.{Instruction}
@@ -16,10 +16,10 @@ use Rattle.ppc_semantics.specs.declared.instruction.RunStep.{RunStep}
 use Rattle.ppc_semantics.specs.declared.state.State.{State}
 use Rattle.ppc_semantics.specs.declared.free.FreeWalk.{FreeWalk}
 use Rattle.ppc_semantics.specs.Machine.{after, event_of, register, sum_of, is_load, is_branch, target}
-use Rattle.ppc_semantics.specs.Runs.{Walk, Outcome, started, ended, ends, advanced, passed, found_at, supplied, free_ends, free_obeyed, free_one, free_from, free_run_of}
+use Rattle.ppc_semantics.specs.Runs.{Walk, Outcome, ended, advanced, passed, supplied, free_ends, free_obeyed, free_one, free_from}
 use Rattle.ppc_semantics.specs.ValueSet.{IsOne}
 use Rattle.ppc_semantics.specs.FreeRuns.{FreeRun, count_one, count_free, sized}
-use Rattle.ppc_semantics.specs.FreeWalks.{walked, over, over_line, stored_by, stored_on, stored_at, one_if, chosen, loaded, does_next, next_on, next_of, goes_by, Stores, SomeStores, AreAdded}
+use Rattle.ppc_semantics.specs.FreeWalks.{walked, over_line, stored_by, stored_on, one_if, chosen, loaded, does_next, next_on, next_of, goes_by, Stores, SomeStores, AreAdded}
 use Rattle.ppc_semantics.proofs.RunsExact.{append_none, contains_one, one_contains, flat_map_contains, contains_flat_map, map_contains, contains_map, all_from_contains}
 use Rattle.ppc_semantics.proofs.AllFree.{all_free, exact, counted, branch_no_load}
 

@@ -2,6 +2,7 @@ pub mod MapInPlace
 pub mod RunList
 pub mod RunsExact
 pub mod Sorted
+pub mod Bounds
 pub mod Rising
 pub mod FreeLines
 pub mod FreeStores

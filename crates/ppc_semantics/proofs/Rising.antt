@@ -1,19 +1,18 @@
 -- The values round by round.
-use Rattle.std.proofs.Common.{ℕ, zero, suc, ◌≡◌, ◌⊎◌, ◌↔◌, ◌<◌, ◌≤◌, ◌+◌, ◌*◌, inl, inr, List, [], ◌∷◌, ◌++◌, length, get_or, take, refl, sym, ap, subst, ◌∙◌, Some, arith, add-one}
-use Rattle.std.specs.List.{Contains, All, AllPairs}
+use Rattle.std.proofs.Common.{ℕ, suc, ◌≡◌, ◌⊎◌, ◌↔◌, ◌<◌, ◌≤◌, ◌+◌, inl, inr, List, [], ◌∷◌, ◌++◌, length, get_or, take, sym, ap, subst, ◌∙◌, Some, add-one}
+use Rattle.std.specs.List.{Contains}
 use Rattle.std.proofs.Math.Seq.{take-suc}
 use Rattle.std.proofs.lemmas.List.{take_all}
-use Rattle.std.proofs.lemmas.List.Elements.{Contains-push, Contains-push_cases, Contains-append_left, Contains-get_or, All-weaker, All-from_get_or, All-get_or}
+use Rattle.std.proofs.lemmas.List.Elements.{Contains-push, Contains-push_cases, Contains-append_left}
 use Rattle.ppc_semantics.specs.declared.value.Value.{Value}
 use Rattle.ppc_semantics.specs.declared.instruction.Line.{Line}
-use Rattle.ppc_semantics.specs.declared.instruction.Event.TheVariants.{Writes}
 use Rattle.ppc_semantics.specs.declared.instruction.Program.{Program}
 use Rattle.ppc_semantics.specs.declared.state.State.{State}
-use Rattle.ppc_semantics.specs.Runs.{Thread, StoresFreely, InDomain, free_run_of}
+use Rattle.ppc_semantics.specs.Runs.{Thread, StoresFreely, free_run_of}
 use Rattle.ppc_semantics.specs.AllRuns.{thread_of}
-use Rattle.ppc_semantics.specs.ValueSet.{IsOne, IsSet, IsAdded}
+use Rattle.ppc_semantics.specs.ValueSet.{IsOne, IsAdded}
 use Rattle.ppc_semantics.specs.FreeWalks.{AreAdded, Stores}
-use Rattle.ppc_semantics.specs.Domain.{threads_from, threads_of, InRound, IsRound, AreProper}
+use Rattle.ppc_semantics.specs.Domain.{threads_from}
 use Rattle.ppc_semantics.proofs.Adding.{added_after}
 
 -- the values at the start

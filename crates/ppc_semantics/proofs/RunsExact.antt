@@ -1,5 +1,5 @@
 -- The list of all runs has just the runs of the thread, in lexicographic order.
-use Rattle.std.proofs.Common.{ℕ, zero, suc, ◌≡◌, ◌⊎◌, ◌↔◌, ◌<◌, ◌+◌, inl, inr, Bool, true, false, List, [], ◌∷◌, ◌++◌, map, length, get_or, refl, sym, ap, subst, ◌∙◌, Option, Some, None, if◌then◌else◌, append_assoc, arith}
+use Rattle.std.proofs.Common.{ℕ, zero, suc, ◌≡◌, ◌↔◌, ◌<◌, inl, inr, Bool, true, false, List, [], ◌∷◌, ◌++◌, map, length, get_or, refl, sym, ap, subst, ◌∙◌, Option, Some, None, if◌then◌else◌, append_assoc, arith}
 use Rattle.std.specs.List.{flat_map, Contains, All, AllPairs}
 use Rattle.std.proofs.lemmas.List.Elements.{Contains-push, Contains-push_cases, Contains-append_left, Contains-append_right, Contains-append_cases, Contains-get_or, All-nil, All-cons, All-head, All-tail, All-append, All-contains}
 use Rattle.std.proofs.lemmas.List.Kept.{AllPairs-cons}
@@ -12,7 +12,7 @@ use Rattle.ppc_semantics.specs.declared.instruction.Line.{Line}
 use Rattle.ppc_semantics.specs.declared.instruction.Line.TheVariants.{Label, Does}
 use Rattle.ppc_semantics.specs.declared.state.State.{State}
 use Rattle.ppc_semantics.specs.Machine.{is_load, is_fault, goes}
-use Rattle.ppc_semantics.specs.Runs.{Walk, Run, Outcome, Thread, started, ended, ends, advanced, passed, supplied, obeyed, one, run_from, run_of, IsBefore, IsLess, IsRun, AreRuns}
+use Rattle.ppc_semantics.specs.Runs.{Walk, Run, Outcome, Thread, ended, ends, advanced, passed, supplied, obeyed, one, run_from, run_of, IsBefore, IsLess, IsRun, AreRuns}
 use Rattle.ppc_semantics.specs.declared.run.Run as made
 use Rattle.ppc_semantics.specs.AllRuns.{Beginning, begun, gone_over, over_line, over_instruction, goes_on, with_load, spread, next, all_from, whole, shown, shown_of, shown_whole, ShowsRuns}
 

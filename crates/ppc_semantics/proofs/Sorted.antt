@@ -1,6 +1,6 @@
 -- A value at its place among others.
-use Rattle.std.proofs.Common.{ℕ, zero, suc, ◌≡◌, ◌<◌, ◌≤◌, ◌⊎◌, ◌+◌, ◌-◌, ◌↔◌, inl, inr, Bool, true, false, List, refl, sym, ap, subst, ◌∙◌, arith, length, get_or}
-use Rattle.std.specs.List.{Contains, AllPairs, insert}
+use Rattle.std.proofs.Common.{ℕ, ◌≡◌, inl, inr, true, false, List, sym, ap, subst, ◌∙◌, arith}
+use Rattle.std.specs.List.{insert}
 use Rattle.ppc_semantics.specs.declared.value.Value.{Value}
 use Rattle.ppc_semantics.specs.declared.value.Value.TheVariants.{Number, Address, NoValue}
 use Rattle.ppc_semantics.specs.Machine.{is_value}

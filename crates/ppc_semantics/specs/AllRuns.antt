@@ -1,5 +1,5 @@
 -- All runs of a thread over a list of values, in order.
-use Rattle.std.specs.Prelude.{Vec, slice_get, slice_index_or, replicate, ℕ, ◌≡◌, ◌≤◌, length, Bool, true, false, List, [], ◌∷◌, ◌++◌, map, take, Option, Some, None, if◌then◌else◌, Contains}
+use Rattle.std.specs.Prelude.{Vec, slice_get, slice_index_or, replicate, ℕ, ◌≡◌, Bool, true, false, List, [], ◌∷◌, ◌++◌, map, take, Option, Some, None, if◌then◌else◌, Contains}
 use Rattle.std.specs.List.{flat_map}
 use Rattle.std.specs.declared.alloc.Global.{Global}
 use Rattle.ppc_semantics.specs.declared.value.Value.{Value}

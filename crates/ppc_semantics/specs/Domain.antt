@@ -1,6 +1,6 @@
 -- The domain of a program, and when the program is refused.
-use Rattle.std.specs.Prelude.{Vec, vec_len, ℕ, zero, suc, ◌≡◌, ◌≤◌, ◌<◌, ◌+◌, ◌*◌, ◌↔◌, length, Bool, true, false, List, [], ◌∷◌, ◌++◌, if◌then◌else◌, Contains, All}
-use Rattle.std.specs.List.{AllPairs, sum_by, count_by}
+use Rattle.std.specs.Prelude.{Vec, vec_len, ℕ, zero, suc, ◌≡◌, ◌≤◌, ◌<◌, ◌+◌, ◌*◌, ◌↔◌, length, Bool, true, false, List, [], ◌∷◌, ◌++◌, Contains, All}
+use Rattle.std.specs.List.{sum_by, count_by}
 use Rattle.std.specs.declared.alloc.Global.{Global}
 use Rattle.ppc_semantics.specs.declared.value.Value.{Value}
 use Rattle.ppc_semantics.specs.declared.instruction.Instruction.{Instruction}
@@ -125,3 +125,29 @@ IsRefused p _ = ⊥
 abbrev pub IsFault : Program → SpaceFault → Type 0
 IsFault p (Refused r) = IsRefused p r
 IsFault p (OutOfMemory e) = Unit {0}
+
+abbrev pub IsMemory : SpaceFault → Type 0
+IsMemory (Refused r) = ⊥
+IsMemory (OutOfMemory e) = Unit {0}
+
+-- the bounds of one round, and which is passed
+abbrev pub HasFewRuns : Program → List Value → ℕ → Type 0
+HasFewRuns p V k = (j : ℕ) → j < k → (n : ℕ) × HasFreeRuns (thread_of p j) V n × (n ≤ 4096)
+
+abbrev pub IsRoundFault : Program → List Value → SpaceFault → Type 0
+IsRoundFault p V (Refused TooManyValues) = 16 < length V
+IsRoundFault p V (Refused TooManyRuns) = (length V ≤ 16) × (j : ℕ) × (j < vec_len p.threads) × (n : ℕ) × HasFreeRuns (thread_of p j) V n × (4096 < n)
+IsRoundFault p V (Refused _) = ⊥
+IsRoundFault p V (OutOfMemory e) = Unit {0}
+
+-- and that of the combinations
+abbrev pub IsCombinationFault : Program → List Value → SpaceFault → Type 0
+IsCombinationFault p V (Refused TooManyCombinations) = (n : ℕ) × HasCombinations (threads_of p) V n × (1048576 < n)
+IsCombinationFault p V (Refused _) = ⊥
+IsCombinationFault p V (OutOfMemory e) = Unit {0}
+
+-- the values after so many rounds, unless there are over 16
+pub record IsNextRound (p : Program) (k : ℕ) (V : List Value) : Type 0 where
+  pub set : IsSet V
+  pub sound : (v : Value) → Contains V v → InRound p k v
+  pub whole : length V ≤ 16 → (v : Value) → InRound p k v → Contains V v

@@ -5,9 +5,8 @@ use Rattle.ppc_semantics.specs.declared.value.Value.{Value}
 use Rattle.ppc_semantics.specs.declared.instruction.Instruction.{Instruction}
 use Rattle.ppc_semantics.specs.declared.instruction.Line.{Line}
 use Rattle.ppc_semantics.specs.declared.instruction.Line.TheVariants.{Label, Does}
-use Rattle.ppc_semantics.specs.declared.state.State.{State}
 use Rattle.ppc_semantics.specs.Machine.{is_load, is_branch, target}
-use Rattle.ppc_semantics.specs.Runs.{Outcome, Thread, IsLess, found_at, free_run_of}
+use Rattle.ppc_semantics.specs.Runs.{Outcome, Thread, found_at, free_run_of}
 
 -- a free run with its choices and its values
 pub record FreeRun : Type 0 where

@@ -1,6 +1,5 @@
 -- Free runs on their way, and what they store.
-use Rattle.std.specs.Prelude.{ℕ, ◌≡◌, ◌≤◌, ◌⊎◌, Bool, true, false, List, [], ◌∷◌, ◌++◌, map, Option, Some, None, if◌then◌else◌, Contains, All, length, nat_lt}
-use Rattle.std.specs.List.{flat_map}
+use Rattle.std.specs.Prelude.{ℕ, ◌≡◌, ◌≤◌, ◌⊎◌, Bool, true, false, List, [], ◌∷◌, ◌++◌, map, Option, Some, None, Contains, All, length, nat_lt}
 use Rattle.ppc_semantics.specs.declared.value.Value.{Value}
 use Rattle.ppc_semantics.specs.declared.value.Value.TheVariants.{NoValue}
 use Rattle.ppc_semantics.specs.declared.instruction.Instruction.{Instruction}

@@ -1,11 +1,12 @@
 //! The values that loads may take, and the bounds of a test.
 
-ghost use Rattle.std.specs.Prelude.{ℕ, ◌≡◌, ◌≤◌, ◌↔◌, ◌-◌, ◌^◌, IfOk, IfErr, OnOk, Contains, min, length};
-ghost use Rattle.std.specs.List.{count_by};
+ghost use Rattle.std.specs.Prelude.{ℕ, ◌≡◌, ◌≤◌, ◌<◌, ◌+◌, ◌↔◌, ◌-◌, ◌^◌, IfOk, IfErr, OnOk, List, Contains, min, length, vec_len};
+ghost use Rattle.std.specs.List.{AllPairs, count_by};
 ghost use Rattle.ppc_semantics.specs.declared.value.Value.{Value};
 ghost use Rattle.ppc_semantics.specs.ValueSet.{IsOne, IsSet};
-ghost use Rattle.ppc_semantics.specs.Runs.{StoresFreely};
+ghost use Rattle.ppc_semantics.specs.Runs.{IsLess, StoresFreely};
 ghost use Rattle.ppc_semantics.specs.AllRuns as all;
+ghost use Rattle.ppc_semantics.specs.FreeRuns.{HasFreeRuns};
 ghost use Rattle.ppc_semantics.specs.FreeWalks.{AreAdded};
 ghost use Rattle.ppc_semantics.specs.Domain as dom;
 
@@ -141,34 +142,130 @@ fn next_values(alloc: Global, program: &Program, values: &[Value]) -> Result<Vec
     Ok(next)
 }
 
+/// How many free runs a thread has over so many values, or 4,097 if there are more.
+fn thread_count(
+    alloc: Global,
+    program: &Program,
+    thread: usize,
+    size: usize,
+) -> Result<u32, SpaceFault>
+    ensures counted { IfOk result (λ n. (V : List Value) → AllPairs IsLess V → length V ≡ size → (m : ℕ) × HasFreeRuns (all.thread_of program.now thread) V m × (n ≡ min m 4097)) }
+    ensures fault { IfErr result (λ e. dom.IsMemory e) }
+{
+    match free_count(alloc, thread_lines(program, thread), size) {
+        Ok(count) => Ok(count),
+        Err(fault) => Err(SpaceFault::OutOfMemory(fault)),
+    }
+}
+
 /// The bounds of one round.
-fn check_round(alloc: Global, program: &Program, values: &[Value]) -> Result<(), SpaceFault> {
+fn check_round(alloc: Global, program: &Program, values: &[Value]) -> Result<(), SpaceFault>
+    requires { IsSet values.now }
+    ensures few { OnOk result (length values.now ≤ 16) }
+    ensures runs { OnOk result (dom.HasFewRuns program.now values.now (vec_len program.now.threads)) }
+    ensures fault { IfErr result (λ e. dom.IsRoundFault program.now values.now e) }
+{
     if values.len() > MAX_VALUES {
         return Err(SpaceFault::Refused(EvalRefusal::TooManyValues));
     }
-    for lines in &program.threads {
-        if free_count(alloc, lines, values.len())? >= MANY {
-            return Err(SpaceFault::Refused(EvalRefusal::TooManyRuns));
+    for thread in 0..program.threads.len() {
+        match thread_count(alloc, program, thread, values.len()) {
+            Ok(count) => {
+                if count >= MANY {
+                    return Err(SpaceFault::Refused(EvalRefusal::TooManyRuns));
+                }
+            }
+            Err(fault) => return Err(fault),
         }
     }
     Ok(())
 }
 
-fn check_combinations(
+/// How many runs a thread has over the values.
+fn thread_runs(
     alloc: Global,
     program: &Program,
+    thread: usize,
     values: &[Value],
-) -> Result<(), SpaceFault> {
+) -> Result<usize, SpaceFault>
+    requires { IsSet values.now }
+    ensures counted { IfOk result (λ n. dom.HasRuns (all.thread_of program.now thread) values.now n) }
+    ensures fault { IfErr result (λ e. dom.IsMemory e) }
+{
+    let first = State::first(program, thread);
+    match run_count(alloc, thread_lines(program, thread), first, values) {
+        Ok(count) => Ok(count),
+        Err(fault) => Err(SpaceFault::OutOfMemory(fault)),
+    }
+}
+
+/// The bound of the combinations of runs.
+fn check_combinations(alloc: Global, program: &Program, values: &[Value]) -> Result<(), SpaceFault>
+    requires { IsSet values.now }
+    ensures few { OnOk result ((n : ℕ) × dom.HasCombinations (dom.threads_of program.now) values.now n × (n ≤ 1048576)) }
+    ensures fault { IfErr result (λ e. dom.IsCombinationFault program.now values.now e) }
+{
     let mut product: u64 = 1;
-    for (thread, lines) in program.threads.iter().enumerate() {
-        let first = State::first(program, thread);
-        let count = run_count(alloc, lines, first, values)?;
-        product = product.saturating_mul(count as u64);
+    for thread in 0..program.threads.len() {
+        match thread_runs(alloc, program, thread, values) {
+            Ok(count) => {
+                product = product.saturating_mul(count as u64);
+            }
+            Err(fault) => return Err(fault),
+        }
     }
     if product > MAX_COMBINATIONS {
         return Err(SpaceFault::Refused(EvalRefusal::TooManyCombinations));
     }
     Ok(())
+}
+
+/// The values before the first round.
+fn first_round(alloc: Global, program: &Program) -> Result<Vec<Value>, SpaceFault>
+    ensures set { IfOk result (λ v. IsSet v.items) }
+    ensures round { IfOk result (λ v. dom.AreProper program.now → dom.IsNextRound program.now 0 v.items) }
+    ensures fault { IfErr result (λ e. dom.IsMemory e) }
+{
+    match initial_values(alloc, program) {
+        Ok(values) => Ok(values),
+        Err(fault) => Err(SpaceFault::OutOfMemory(fault)),
+    }
+}
+
+/// The values after one round more.
+fn next_round(alloc: Global, program: &Program, values: &[Value]) -> Result<Vec<Value>, SpaceFault>
+    requires { IsSet values.now }
+    ensures set { IfOk result (λ v. IsSet v.items) }
+    ensures round { IfOk result (λ v. (k : ℕ) → dom.IsRound program.now k values.now → dom.IsNextRound program.now (k + 1) v.items) }
+    ensures unchanged { IfOk result (λ v. length values.now ≡ length v.items → values.now ≡ v.items) }
+    ensures fault { IfErr result (λ e. dom.IsMemory e) }
+{
+    match next_values(alloc, program, values) {
+        Ok(values) => Ok(values),
+        Err(fault) => Err(SpaceFault::OutOfMemory(fault)),
+    }
+}
+
+/// The values after the last round, where each round is within the bounds.
+fn last_round(alloc: Global, program: &Program) -> Result<Vec<Value>, SpaceFault>
+    requires { dom.event_total program.now ≤ 128 }
+    ensures set { IfOk result (λ v. IsSet v.items) }
+    ensures round { IfOk result (λ v. dom.AreProper program.now → dom.IsRound program.now (dom.load_total program.now) v.items) }
+    ensures within { OnOk result (dom.AreProper program.now → (k : ℕ) → k ≤ dom.load_total program.now → dom.IsWithin program.now k) }
+    ensures fault { IfErr result (λ e. dom.AreProper program.now → dom.IsFault program.now e) }
+{
+    let mut values = first_round(alloc, program)?;
+    check_round(alloc, program, &values)?;
+    for round in 0..load_count(program) {
+        let _rounds_before = round;
+        let next = next_round(alloc, program, &values)?;
+        if next.len() == values.len() {
+            return Ok(values);
+        }
+        check_round(alloc, program, &next)?;
+        values = next;
+    }
+    Ok(values)
 }
 
 /// The values that loads may take: those that locations hold at the start, and, for as many
@@ -178,20 +275,15 @@ fn check_combinations(
 /// Refuses a test of over 128 locations, loads, stores and fences; then, before the first round
 /// and after each, over 16 values and then over 4,096 free runs of a thread; then over 1,048,576
 /// combinations of runs.
-pub fn domain_of(alloc: Global, program: &Program) -> Result<Domain, SpaceFault> {
+pub fn domain_of(alloc: Global, program: &Program) -> Result<Domain, SpaceFault>
+    ensures set { IfOk result (λ d. IsSet d.values.items) }
+    ensures domain { IfOk result (λ d. dom.AreProper program.now → dom.IsDomain program.now d.values.items) }
+    ensures fault { IfErr result (λ e. dom.AreProper program.now → dom.IsFault program.now e) }
+{
     if event_count(program) > MAX_EVENTS {
         return Err(SpaceFault::Refused(EvalRefusal::TooManyEvents));
     }
-    let mut values = initial_values(alloc, program)?;
-    check_round(alloc, program, &values)?;
-    for _ in 0..load_count(program) {
-        let next = next_values(alloc, program, &values)?;
-        if next.len() == values.len() {
-            break;
-        }
-        values = next;
-        check_round(alloc, program, &values)?;
-    }
+    let values = last_round(alloc, program)?;
     check_combinations(alloc, program, &values)?;
     Ok(Domain { values })
 }

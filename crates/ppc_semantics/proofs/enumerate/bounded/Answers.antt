@@ -1,4 +1,4 @@
-use Rattle.std.proofs.Common.{◌≤◌, length, take, sym, ◌∙◌, arith}
+use Rattle.std.proofs.Common.{sym, ◌∙◌, arith}
 use Rattle.std.proofs.lemmas.List.{take_all}
 use Rattle.ppc_semantics.proofs.MapInPlace.{length_take}
 use Rattle.ppc_semantics.proofs.enumerate.bounded.Goals as goal

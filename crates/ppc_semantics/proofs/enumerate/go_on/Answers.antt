@@ -1,5 +1,4 @@
-use Rattle.std.proofs.Common.{sym, ap, ◌∙◌, map}
-use Rattle.std.specs.List.{flat_map}
+use Rattle.std.proofs.Common.{sym, ◌∙◌}
 use Rattle.ppc_semantics.proofs.RunList.{label_as, plain_as}
 use Rattle.ppc_semantics.proofs.enumerate.go_on.Goals as goal
 

@@ -1,5 +1,4 @@
-use Rattle.std.proofs.Common.{ℕ, ◌≡◌, ◌<◌, List, get_or, length, None, rules, arith, sym, ap, ◌∙◌}
-use Rattle.ppc_semantics.specs.FreeRuns.{count_free, capped}
+use Rattle.std.proofs.Common.{ℕ, ◌≡◌, List, get_or, arith, ap, ◌∙◌}
 use Rattle.ppc_semantics.proofs.FreeStores.{under_way, no_way, way_on, way_ends}
 use Rattle.ppc_semantics.proofs.free.add_stored.Goals as goal
 

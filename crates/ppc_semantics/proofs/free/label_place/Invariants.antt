@@ -1,4 +1,4 @@
-use Rattle.std.proofs.Common.{ℕ, ◌≡◌, ◌≤◌, Some, drop}
+use Rattle.std.proofs.Common.{ℕ, ◌≡◌, Some, drop}
 use Rattle.ppc_semantics.specs.FreeRuns.{count_free}
 use Rattle.ppc_semantics.proofs.free.label_place.Given as goal
 

@@ -1,4 +1,3 @@
-use Rattle.std.proofs.Common.{rules}
 use Rattle.ppc_semantics.proofs.Adding.{added_none, added_after, some_none, some_more}
 use Rattle.ppc_semantics.proofs.free.note_all.Goals as goal
 

@@ -1,5 +1,5 @@
 use Rattle.std.proofs.Common.{rules}
-use Rattle.ppc_semantics.proofs.Adding.{added_none, added_full, added_one}
+use Rattle.ppc_semantics.proofs.Adding.{added_one}
 use Rattle.ppc_semantics.proofs.free.note_one.Goals as goal
 
 pub returns-in_ok-add_value-in-Some-clause-added : goal.returns-in_ok-add_value-in-Some-clause-added

@@ -1,4 +1,3 @@
-use Rattle.std.proofs.Common.{rules, arith}
 use Rattle.ppc_semantics.proofs.Rising.{initial_more, initial_end}
 use Rattle.ppc_semantics.proofs.rounds.initial_values.Goals as goal
 
