@@ -1,12 +1,19 @@
 //! A test under a model, from scratch.
 
-ghost use Rattle.std.specs.Prelude.{◌≡◌, IfOk};
+ghost use Rattle.std.specs.Prelude.{◌≡◌, IfOk, map, reverse};
+ghost use Rattle.litmus_values.specs.Value.{formula_of};
+ghost use Rattle.litmus_ppc.specs.Printing.{condition_text};
+ghost use Rattle.binding_kinds.specs.Faults.{HasNoFault, FirstFault};
+ghost use Rattle.binding_kinds.specs.Outermost.{naming_of};
+ghost use Rattle.binding_kinds.specs.Value.{clause_of, ArePlainClauses};
 ghost use Rattle.verdict.specs.Judgement.{IsOutcomeOf, IsAnswerOf};
+ghost use Rattle.memo_graph.specs.Cell.{IsSaid, IsCell, OfModel};
 
 use binding_graph::{CheckCode, ResolveFault, Resolved, ResolvedItem, Role, resolve, used};
 use candidates::{Space, space};
 use cat_eval::{Column, eval_check, eval_group};
 use cat_syntax::ModelText;
+use cat_values::PREDEFINED;
 use litmus_ppc::{Test, print_condition};
 use ppc_semantics::SpaceFault;
 use source_text::Name;
@@ -147,7 +154,8 @@ fn evaluated(
     resolved: &Resolved,
     space: &Space,
 ) -> Result<Outcome, AllocError>
-    ensures { IfOk result (λ o. IsOutcomeOf test.now.condition.quantifier o) }
+    ensures judged { IfOk result (λ o. IsOutcomeOf test.now.condition.quantifier o) }
+    ensures said { IfOk result (λ o. IsSaid space.now test.now o) }
 {
     let found = answers(alloc, space, resolved)?;
     let flags = raised(alloc, &found.flags)?;
@@ -163,6 +171,7 @@ fn evaluated(
 
 fn refused(alloc: Global, test: &Test, refusal: Refusal) -> Result<Outcome, AllocError>
     ensures kind { IfOk result (λ o. o.kind ≡ test.now.condition.quantifier) }
+    ensures text { IfOk result (λ o. o.condition.items ≡ condition_text test.now.condition.quantifier (formula_of test.now.condition.proposition)) }
     ensures refusal { IfOk result (λ o. o.result ≡ OutcomeResult.Refused refusal) }
 {
     Ok(Outcome {
@@ -173,7 +182,9 @@ fn refused(alloc: Global, test: &Test, refusal: Refusal) -> Result<Outcome, Allo
 }
 
 fn over_candidates(alloc: Global, test: &Test, resolved: &Resolved) -> Result<Outcome, AllocError>
-    ensures { IfOk result (λ o. IsAnswerOf test.now.condition.quantifier o) }
+    ensures judged { IfOk result (λ o. IsAnswerOf test.now.condition.quantifier o) }
+    ensures cell { IfOk result (λ o. IsCell test.now o) }
+    ensures model { IfOk result (λ o. OfModel (λ _. ⊥) (Unit {0}) o.result) }
 {
     match space(alloc, test) {
         Ok(space) => evaluated(alloc, test, resolved, &space),
@@ -185,7 +196,9 @@ fn over_candidates(alloc: Global, test: &Test, resolved: &Resolved) -> Result<Ou
 /// What the test says under the model: a fault of the model first, then a refusal of the test, and
 /// else the evaluation of all its candidates.
 pub fn eval_cell(alloc: Global, test: &Test, model: &ModelText) -> Result<Outcome, AllocError>
-    ensures { IfOk result (λ o. IsAnswerOf test.now.condition.quantifier o) }
+    ensures judged { IfOk result (λ o. IsAnswerOf test.now.condition.quantifier o) }
+    ensures cell { IfOk result (λ o. IsCell test.now o) }
+    ensures model { let names = reverse (map naming_of PREDEFINED) in let clauses = map clause_of model.now.items.items in ArePlainClauses clauses → IfOk result (λ o. OfModel (FirstFault names 0 clauses) (HasNoFault names 0 clauses) o.result) }
 {
     match resolve(alloc, model) {
         Ok(resolved) => over_candidates(alloc, test, &resolved),

@@ -1,0 +1,5 @@
+//! Tests of what tests say.
+#![tactic(auto)]
+
+#[cfg(test)]
+mod tests;
