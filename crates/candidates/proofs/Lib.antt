@@ -10,6 +10,7 @@ pub mod Judging
 pub mod Members
 pub mod Numbers
 pub mod OrderLaws
+pub mod Searching
 pub mod Spaces
 pub mod Stores
 pub mod WayLists

@@ -4,7 +4,9 @@ use Rattle.std.specs.List.{flat_map}
 use Rattle.candidates.specs.Orders.{all_orders, AreApart}
 use Rattle.candidates.specs.Ways.{AreWays}
 use Rattle.candidates.specs.Space.{Seen, seen}
+use Rattle.candidates.specs.declared.candidate.Event.{Event}
 use Rattle.candidates.specs.declared.part.Part.{Part}
+use Rattle.candidates.specs.declared.layout.Layout.{Layout}
 use Rattle.candidates.specs.declared.layout.ThreadParts.{ThreadParts}
 use Rattle.candidates.specs.declared.search.Front.{Front}
 use Rattle.candidates.specs.declared.search.Found.{Found}
@@ -38,7 +40,7 @@ joined_run run p s = record s {
 
 abbrev pub with_run : ℕ → Part → Begun → Begun
 with_run run p b = record {
-  seen = joined_run run p b.seen;
+  seen = joined_run run p (bare b.seen);
   needs = b.needs ++ moved (length b.seen.events) p.links.need_pairs.items;
   faulted = b.faulted || p.is_faulted;
 }
@@ -92,3 +94,63 @@ IsTooMuch n b old = (ways : List (List ℕ)) → AreWays b.seen.events b.needs w
 abbrev pub Tells : Bool → Type 0 → Type 0 → Type 0
 Tells true P Q = P
 Tells false P Q = Q
+
+-- each run of a thread with its place among them
+abbrev pub placed : ℕ → List Part → List (ℕ × Part)
+placed at [] = []
+placed at (p ∷ ps) = (at, p) ∷ placed (at + 1) ps
+
+-- the combinations that go on with a run of each of the threads, in lexicographic order
+abbrev pub combinations : Begun → List ThreadParts → List Begun
+combinations b [] = b ∷ []
+combinations b (t ∷ ts) = flat_map (λ r. combinations (with_run r.0 r.1 b) ts) (placed 0 t.parts.items)
+
+abbrev pub AllFit : ℕ → List Begun → Type 0
+AllFit n [] = Unit {0}
+AllFit n (b ∷ bs) = Fits n b × AllFit n bs
+
+-- the combinations, one after another
+pub data Searched (n : ℕ) : List Begun → Tally → Tally → Type 0 where
+  none : {t : Tally} → Searched n [] t t
+  more : {b : Begun} {bs : List Begun} {t u v : Tally} → Judged n b t u → Searched n bs u v → Searched n (b ∷ bs) t v
+
+-- with one of them there are too many candidates
+pub data AreTooMuch (n : ℕ) : List Begun → Tally → Type 0 where
+  now : {b : Begun} {bs : List Begun} {t : Tally} → IsTooMuch n b t → AreTooMuch n (b ∷ bs) t
+  later : {b : Begun} {bs : List Begun} {t u : Tally} → Judged n b t u → AreTooMuch n bs u → AreTooMuch n (b ∷ bs) t
+
+-- the second list has some of the first, in order
+pub data AreSome {X : Type 0} : List X → List X → Type 0 where
+  end : AreSome [] []
+  kept_one : {x : X} {xs ys : List X} → AreSome xs ys → AreSome (x ∷ xs) (x ∷ ys)
+  left_out : {x : X} {xs ys : List X} → AreSome xs ys → AreSome (x ∷ xs) ys
+
+-- some of the combinations, in their order, were searched
+pub record Finds (n : ℕ) (bs : List Begun) (old new : Tally) : Type 0 where
+  pub tried : List Begun
+  pub some : AreSome bs tried
+  pub searched : Searched n tried old new
+
+pub record FindsTooMuch (n : ℕ) (bs : List Begun) (old : Tally) : Type 0 where
+  pub tried : List Begun
+  pub some : AreSome bs tried
+  pub over : AreTooMuch n tried old
+
+-- the initial stores alone, and nothing found
+abbrev pub start : List Event → Begun
+start initial = record {
+  seen = record { events = initial; addr_pairs = []; data_pairs = []; ctrl_pairs = []; ctrlisync_pairs = []; runs = []; sources = []; orders = [] };
+  needs = [];
+  faulted = false;
+}
+
+abbrev pub nothing : Tally
+nothing = record { kept = []; count = 0; faulted = false }
+
+-- the combinations of a layout
+abbrev pub all_combinations : Layout → List Begun
+all_combinations l = combinations (start l.initial.items) l.threads.items
+
+-- how many of its locations have orders of stores
+abbrev pub location_count : Layout → ℕ
+location_count l = min (length l.locations.items) 128

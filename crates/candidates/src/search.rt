@@ -2,7 +2,7 @@
 ghost use Rattle.std.specs.Prelude.{◌≡◌, ◌≤◌, ◌++◌, map, min, length, IfOk, OnOk, MatchOption};
 ghost use Rattle.candidates.specs.Lists.{lists_of};
 ghost use Rattle.candidates.specs.Space.{seen};
-ghost use Rattle.candidates.specs.Search.{moved, bare, joined_run, with_run, kept, begun, tally, tallied, Fits, Judged, IsTooMuch, Tells};
+ghost use Rattle.candidates.specs.Search.{moved, bare, joined_run, with_run, kept, begun, tally, tallied, Fits, Judged, IsTooMuch, Tells, combinations, AllFit, Finds, FindsTooMuch, start, nothing, all_combinations, location_count};
 
 use crate::MAX_CANDIDATES;
 use crate::candidate::Combination;
@@ -102,7 +102,7 @@ fn add_run(made: &mut Combination, run: usize, part: &Part) -> Result<(), AllocE
 
 /// The front with one run more.
 fn extended(alloc: Global, front: &Front, run: usize, part: &Part) -> Result<Front, AllocError>
-    ensures { seen front.now.made ≡ bare (seen front.now.made) → IfOk result (λ f. begun f ≡ with_run run part.now (begun front.now)) }
+    ensures { IfOk result (λ f. begun f ≡ with_run run part.now (begun front.now)) }
 {
     let mut made = copied(alloc, &front.made)?;
     let mut needs = Vec::from_slice(alloc, &front.needs)?;
@@ -164,26 +164,31 @@ fn search_from(
     threads: &[ThreadParts],
     front: Front,
     found: &mut Found,
-) -> Result<bool, AllocError> {
-    match threads.split_first() {
-        None => found.judge(alloc, locations, front),
-        Some((thread, others)) => {
-            let later = writes_of(others);
-            for (run, part) in thread.parts.iter().enumerate() {
-                if fits(&front, part, &later) {
-                    let longer = extended(alloc, &front, run, part)?;
-                    if !search_from(alloc, locations, others, longer, found)? {
-                        return Ok(false);
-                    }
-                }
+) -> Result<bool, AllocError>
+    ensures { AllFit (min locations 128) (combinations (begun front) threads.now) → found.old.count ≤ 16384 → IfOk result (λ b. Tells b (Finds (min locations 128) (combinations (begun front) threads.now) (tally found.old) (tally found.new) × (found.new.count ≤ 16384)) (FindsTooMuch (min locations 128) (combinations (begun front) threads.now) (tally found.old))) }
+{
+    if threads.is_empty() {
+        let is_few = found.judge(alloc, locations, front)?;
+        return Ok(is_few);
+    }
+    let thread = &threads[0];
+    let others = &threads[1..];
+    let later = writes_of(others);
+    for (run, part) in thread.parts.iter().enumerate() {
+        if fits(&front, part, &later) {
+            let longer = extended(alloc, &front, run, part)?;
+            if !search_from(alloc, locations, others, longer, found)? {
+                return Ok(false);
             }
-            Ok(true)
         }
     }
+    Ok(true)
 }
 
 /// The initial stores alone.
-fn first_front(alloc: Global, layout: &Layout) -> Result<Front, AllocError> {
+fn first_front(alloc: Global, layout: &Layout) -> Result<Front, AllocError>
+    ensures { IfOk result (λ f. begun f ≡ start layout.now.initial.items) }
+{
     Ok(Front {
         made: Combination {
             events: Vec::from_slice(alloc, &layout.initial)?,
@@ -204,7 +209,9 @@ fn first_front(alloc: Global, layout: &Layout) -> Result<Front, AllocError> {
 
 /// The combinations that have candidates, in the order of their runs, without their orders; `None`
 /// where there are too many candidates.
-pub fn search(alloc: Global, layout: &Layout) -> Result<Option<Found>, AllocError> {
+pub fn search(alloc: Global, layout: &Layout) -> Result<Option<Found>, AllocError>
+    ensures { AllFit (location_count layout.now) (all_combinations layout.now) → IfOk result (λ o. MatchOption o (FindsTooMuch (location_count layout.now) (all_combinations layout.now) nothing) (λ f. Finds (location_count layout.now) (all_combinations layout.now) nothing (tally f))) }
+{
     let front = first_front(alloc, layout)?;
     let mut found = Found {
         combinations: Vec::new(alloc),
