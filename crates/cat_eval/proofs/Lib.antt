@@ -6,6 +6,7 @@ pub mod Evaluated
 pub mod Growing
 pub mod Grown
 pub mod Likeness
+pub mod Listed
 pub mod Monotone
 pub mod Packed
 pub mod Places

@@ -1,6 +1,6 @@
 -- Which predefined names change with what the loads read, and which with the order of the stores.
-use Rattle.std.specs.Prelude.{Bool, true, false, List}
-use Rattle.std.specs.List.{list_any}
+use Rattle.std.specs.Prelude.{Bool, true, false, List, [], ◌∷◌, Contains}
+use Rattle.std.specs.List.{list_any, flat_map}
 use Rattle.cat_values.specs.declared.predefined.Predefined.{Predefined}
 use Rattle.cat_values.specs.declared.predefined.Predefined.TheVariants as names
 use Rattle.binding_graph.specs.declared.resolved.Body.{Body}
@@ -75,3 +75,40 @@ abbrev pub role_orders : Role → Bool
 role_orders (roles.Group recursive bodies) = bodies_order bodies.items
 role_orders (roles.Check check) = steps_order check.code.steps.items
 role_orders roles.Silent = false
+
+-- the predefined name that a step pushes, where it is one
+abbrev pub source_names : Source → List Predefined
+source_names (sources.Predefined name) = name ∷ []
+source_names (sources.Input place) = []
+source_names (sources.Own position) = []
+
+abbrev pub step_names : Step → List Predefined
+step_names (steps.PushSet source) = source_names source
+step_names steps.PushAllEvents = []
+step_names steps.PushNoEvents = []
+step_names (steps.BlendSets how) = []
+step_names steps.TurnSet = []
+step_names (steps.PushRelation source) = source_names source
+step_names steps.PushNoPairs = []
+step_names (steps.BlendRelations how) = []
+step_names steps.Compose = []
+step_names steps.Multiply = []
+step_names steps.Restrict = []
+step_names (steps.Close how) = []
+step_names steps.TurnRelation = []
+
+-- the predefined names in the expressions of an item
+abbrev pub names_in : List Step → List Predefined
+names_in xs = flat_map step_names xs
+
+abbrev pub bodies_names : List Body → List Predefined
+bodies_names bodies = flat_map (λ body. names_in body.code.steps.items) bodies
+
+abbrev pub role_names : Role → List Predefined
+role_names (roles.Group recursive bodies) = bodies_names bodies.items
+role_names (roles.Check check) = names_in check.code.steps.items
+role_names roles.Silent = []
+
+-- all of these names are listed
+abbrev pub AreListed : List Predefined → List Predefined → Type 0
+AreListed list some = (name : Predefined) → Contains some name → Contains list name

@@ -1,7 +1,8 @@
 //! Which predefined names an item uses, and what they change with.
 
-ghost use Rattle.std.specs.Prelude.{◌≡◌, ◌||◌, IfOk, OnOk};
-ghost use Rattle.cat_eval.specs.Needed.{changes_with_reads, changes_with_orders, step_passes, steps_read, steps_order, bodies_read, bodies_order, role_reads, role_orders};
+ghost use Rattle.std.specs.Prelude.{◌≡◌, ◌++◌, ◌∷◌, ◌||◌, [], IfOk, OnOk, IsTrue, Contains, List};
+ghost use Rattle.cat_values.specs.declared.predefined.Predefined.{Predefined};
+ghost use Rattle.cat_eval.specs.Needed.{changes_with_reads, changes_with_orders, step_passes, steps_read, steps_order, bodies_read, bodies_order, role_reads, role_orders, step_names, names_in, bodies_names, role_names, AreListed};
 
 use binding_graph::{Body, ResolvedItem, Role, Source, Step};
 use cat_values::Predefined;
@@ -50,10 +51,18 @@ fn changes_with_orders(name: Predefined) -> bool
     )
 }
 
+/// Whether a name is in a list.
+fn is_listed(names: &[Predefined], name: Predefined) -> bool
+    ensures { IsTrue result → Contains names.now name }
+{
+    names.contains(&name)
+}
+
 impl Needs {
     /// What an item needs.
     pub(crate) fn of(alloc: Global, item: &ResolvedItem) -> Result<Needs, AllocError>
-        ensures { IfOk result (λ needs. (needs.reads ≡ role_reads item.now.role) × (needs.orders ≡ role_orders item.now.role)) }
+        ensures changes { IfOk result (λ needs. (needs.reads ≡ role_reads item.now.role) × (needs.orders ≡ role_orders item.now.role)) }
+        ensures names { IfOk result (λ needs. AreListed needs.names.items (role_names item.now.role)) }
     {
         let mut needs = Needs {
             names: Vec::new(alloc),
@@ -70,7 +79,8 @@ impl Needs {
 
     /// Adds what the bodies of a group need.
     fn add_bodies(&mut self, bodies: &[Body]) -> Result<(), AllocError>
-        ensures { OnOk result ((self.new.reads ≡ (self.old.reads || bodies_read bodies.now)) × (self.new.orders ≡ (self.old.orders || bodies_order bodies.now))) }
+        ensures changes { OnOk result ((self.new.reads ≡ (self.old.reads || bodies_read bodies.now)) × (self.new.orders ≡ (self.old.orders || bodies_order bodies.now))) }
+        ensures names { OnOk result (AreListed self.new.names.items (self.old.names.items ++ bodies_names bodies.now)) }
     {
         for body in bodies {
             self.add_all(&body.code.steps)?;
@@ -80,7 +90,8 @@ impl Needs {
 
     /// Adds what the steps need.
     fn add_all(&mut self, steps: &[Step]) -> Result<(), AllocError>
-        ensures { OnOk result ((self.new.reads ≡ (self.old.reads || steps_read steps.now)) × (self.new.orders ≡ (self.old.orders || steps_order steps.now))) }
+        ensures changes { OnOk result ((self.new.reads ≡ (self.old.reads || steps_read steps.now)) × (self.new.orders ≡ (self.old.orders || steps_order steps.now))) }
+        ensures names { OnOk result (AreListed self.new.names.items (self.old.names.items ++ names_in steps.now)) }
     {
         for step in steps {
             self.add_step(*step)?;
@@ -90,7 +101,8 @@ impl Needs {
 
     /// Adds what one step needs.
     fn add_step(&mut self, step: Step) -> Result<(), AllocError>
-        ensures { OnOk result ((self.new.reads ≡ (self.old.reads || step_passes changes_with_reads step)) × (self.new.orders ≡ (self.old.orders || step_passes changes_with_orders step))) }
+        ensures changes { OnOk result ((self.new.reads ≡ (self.old.reads || step_passes changes_with_reads step)) × (self.new.orders ≡ (self.old.orders || step_passes changes_with_orders step))) }
+        ensures names { OnOk result (AreListed self.new.names.items (self.old.names.items ++ step_names step)) }
     {
         match step {
             Step::PushSet(source) | Step::PushRelation(source) => match source {
@@ -103,11 +115,12 @@ impl Needs {
 
     /// Adds a name.
     fn add(&mut self, name: Predefined) -> Result<(), AllocError>
-        ensures { OnOk result ((self.new.reads ≡ (self.old.reads || changes_with_reads name)) × (self.new.orders ≡ (self.old.orders || changes_with_orders name))) }
+        ensures changes { OnOk result ((self.new.reads ≡ (self.old.reads || changes_with_reads name)) × (self.new.orders ≡ (self.old.orders || changes_with_orders name))) }
+        ensures names { OnOk result (AreListed self.new.names.items (self.old.names.items ++ (name ∷ []))) }
     {
         self.reads = self.reads || changes_with_reads(name);
         self.orders = self.orders || changes_with_orders(name);
-        if !self.names.as_slice().contains(&name) {
+        if !is_listed(&self.names, name) {
             self.names.push(name)?;
         }
         Ok(())

@@ -7,7 +7,7 @@ pub returns-in_ok-visit_all-in-Check : goal.returns-in_ok-visit_all-in-Check
 returns-in_ok-visit_all-in-Check c =
     let needs = c.in_ok-of-in-Check.field-0 in
     let steps = c.in-Check.check.code.steps.items in
-    let reads : needs.reads ≡ steps_read steps = c.in_ok-of-in-Check.ensures.0 ∙ ap role_reads c.in-Check.is in
-    let orders : needs.orders ≡ steps_order steps = c.in_ok-of-in-Check.ensures.1 ∙ ap role_orders c.in-Check.is in
+    let reads : needs.reads ≡ steps_read steps = c.in_ok-of-in-Check.ensures.changes.0 ∙ ap role_reads c.in-Check.is in
+    let orders : needs.orders ≡ steps_order steps = c.in_ok-of-in-Check.ensures.changes.1 ∙ ap role_orders c.in-Check.is in
     let (bases, worlds, taken) = c.in_ok-visit_all-in-Check.ensures (refl, refl, rw c.new-in-Check.ensures.items (no_answers c.in-Check.check c.args.inputs.now)) in
     rw c.in-Check.is (bases, rw (reads, orders) at worlds, taken.2)
