@@ -43,7 +43,7 @@ same_state : (a b : State) → ran a ≡ ran b → a ≡ b
 same_state a b e = cc
 
 -- the place that is found is where the definitions find one
-abbrev Matches : List Placed → Option Late → Option ℕ → Type 0
+abbrev pub Matches : List Placed → Option Late → Option ℕ → Type 0
 Matches all None None = Unit {0}
 Matches all (Some l) (Some n) = (l.rule ≡ rules.Init) × StandsAt all l.before n
 Matches all l n = ⊥
@@ -68,7 +68,7 @@ module _ (threads : ℕ) (few : threads < 18446744073709551616) where
   lacks_is (Location b n) = refl
   lacks_is (Register t r) = lacks_when (decimal t) (cases_lt (decimal t) threads)
 
-  late_matches : (all : List Placed) (before : List Token) (es : List EntryTree) (ss : List ℕ) → AreStarts all before es ss → Matches all (late_entries threads before es) (missing threads (map entry_kept es) ss)
+  pub late_matches : (all : List Placed) (before : List Token) (es : List EntryTree) (ss : List ℕ) → AreStarts all before es ss → Matches all (late_entries threads before es) (missing threads (map entry_kept es) ss)
   late_matches all before [] [] h = tt
   late_matches all before [] (s ∷ ss) h = absurd h
   late_matches all before (e ∷ es) [] h = absurd h
@@ -89,7 +89,7 @@ module _ (threads : ℕ) (few : threads < 18446744073709551616) where
       let le : decimal t ≤ 18446744073709551615 = omega arith in
       ap (λ (k : ℕ). whole_places.Register k (or_zero (register_of r))) (min-eq_left le)
 
-  kept_means : (before : List Token) (es : List EntryTree) → late_entries threads before es ≡ None → map entry_kept es ≡ map entry_meaning es
+  pub kept_means : (before : List Token) (es : List EntryTree) → late_entries threads before es ≡ None → map entry_kept es ≡ map entry_meaning es
   kept_means before [] h = refl
   kept_means before (e ∷ es) h = choose (texts.is_there threads e.place) refl h (kept_means (before ++ spelled_entry e (tokens.Mark marks.Semicolon ∷ [])) es)
     where

@@ -1,5 +1,5 @@
 -- No token before the end of a text is an end.
-use Rattle.std.proofs.Common.{◌≡◌, ℕ, zero, suc, ◌+◌, ◌-◌, Bool, true, false, List, [], ◌∷◌, ◌++◌, Option, Some, None, refl, sym, ap, ◌∙◌, subst}
+use Rattle.std.proofs.Common.{◌≡◌, ℕ, zero, suc, ◌+◌, ◌-◌, ◌≤◌, arith, Bool, true, false, List, [], ◌∷◌, ◌++◌, Option, Some, None, refl, sym, ap, ◌∙◌, subst}
 use Rattle.std.specs.Prelude.{◌&&◌, ◌||◌, ◌==◌, slice_index, take, drop, length, codes, if◌then◌else◌}
 use Rattle.std.specs.List.{position_or_len}
 use Rattle.std.specs.Str.{bytes_eq}
@@ -147,3 +147,16 @@ before_inner (q ∷ qs) e (b ∷ before) p behind same i =
     let first : b ≡ q = cc in
     let others : before ++ p ∷ behind ≡ qs ++ e ∷ [] = cc in
     (subst (λ (x : Placed). IsInner x.token) (sym first) i.0, before_inner qs e before p behind others i.1)
+
+from_length : (s : Stage) (fresh : Bool) (skip place : ℕ) (bytes : List ℕ) → length (tokens_from s fresh skip place bytes) ≤ length bytes + 1
+unfolding tokens_from
+from_length s fresh skip place [] = omega arith
+from_length s fresh (suc skip) place (b ∷ bs) = let h = from_length s fresh skip (place + 1) bs in omega (arith, h)
+from_length s fresh zero place (b ∷ bs) = by_front (front s fresh (b ∷ bs)) (λ g f skip. from_length g f skip (place + 1) bs)
+  where
+    by_front : (f : Front) → ((g : Stage) (f : Bool) (skip : ℕ) → length (tokens_from g f skip (place + 1) bs) ≤ length bs + 1) → length (after_front s fresh place b f (λ g f skip. tokens_from g f skip (place + 1) bs)) ≤ length (b ∷ bs) + 1
+    by_front (Layout k) r = let h = r _ _ (k - 1) in let m : length (after_front s fresh place b (Layout k) (λ g f skip. tokens_from g f skip (place + 1) bs)) ≤ length bs + 1 = h in omega (arith, m)
+    by_front (Lexeme t k) r = let h = r (after s t) (ends_line t) (k - 1) in omega (arith, h)
+
+pub lexed_length : (s : Stage) (bytes : List ℕ) → length (lexed s bytes) ≤ length bytes + 1
+lexed_length s bytes = from_length s false 0 0 bytes

@@ -1,7 +1,10 @@
+pub mod Blocks
+pub mod Bodies
 pub mod Bounds
 pub mod Conditions
 pub mod Ends
 pub mod Entries
+pub mod Heads
 pub mod InitKeys
 pub mod InitLeft
 pub mod InitReaders
@@ -13,11 +16,14 @@ pub mod ListReaders
 pub mod Listed
 pub mod Lists
 pub mod Outcomes
+pub mod Passing
 pub mod Readers
 pub mod Runs
 pub mod Separated
 pub mod Spelled
 pub mod Splits
+pub mod Tails
+pub mod TestReader
 pub mod TextReaders
 pub mod ThreadReader
 pub mod Threads

@@ -50,3 +50,45 @@ unsnoc (x ∷ xs) (y ∷ ys) t u e =
     let first : x ≡ y = cc in
     let others : xs ++ t ∷ [] ≡ ys ++ u ∷ [] = cc in
     ap (λ (z : Token). z ∷ xs) first ∙ ap (λ (zs : List Token). y ∷ zs) (unsnoc xs ys t u others)
+
+-- what is left of tokens that end so
+pub data Rest (xs rest us : List Token) (t : Token) : Type 0 where
+  Nothing : xs ≡ us ++ t ∷ [] → Rest xs rest us t
+  More : (more : List Token) → rest ≡ more ++ t ∷ [] → xs ++ more ≡ us → Rest xs rest us t
+
+pub rest_of : (xs rest us : List Token) (t : Token) → xs ++ rest ≡ us ++ t ∷ [] → Rest xs rest us t
+rest_of [] rest us t e = More us e refl
+rest_of (x ∷ xs) rest [] t e =
+    let first : x ≡ t = cc in
+    let none : xs ++ rest ≡ [] = cc in
+    Nothing (ap (λ (y : Token). y ∷ xs) first ∙ ap (λ (ys : List Token). t ∷ ys) (empty xs rest none))
+  where
+    empty : (ys zs : List Token) → ys ++ zs ≡ [] → ys ≡ []
+    empty [] zs k = refl
+    empty (y ∷ ys) zs k = absurd cc
+rest_of (x ∷ xs) rest (u ∷ us) t e =
+    let first : x ≡ u = cc in
+    let others : xs ++ rest ≡ us ++ t ∷ [] = cc in
+    by_rest first (rest_of xs rest us t others)
+  where
+    by_rest : x ≡ u → Rest xs rest us t → Rest (x ∷ xs) rest (u ∷ us) t
+    by_rest first (Nothing k) = Nothing (ap (λ (y : Token). y ∷ xs) first ∙ ap (λ (ys : List Token). u ∷ ys) k)
+    by_rest first (More more k m) = More more k (ap (λ (y : Token). y ∷ (xs ++ more)) first ∙ ap (λ (ys : List Token). u ∷ ys) m)
+
+-- the last token with its place
+pub unsnoc_placed : (xs ys : List Placed) (p q : Placed) → xs ++ p ∷ [] ≡ ys ++ q ∷ [] → xs ≡ ys
+unsnoc_placed [] [] p q e = refl
+unsnoc_placed [] (y ∷ ys) p q e = absurd (nothing ys q cc)
+  where
+    nothing : (zs : List Placed) (v : Placed) → [] ≡ zs ++ v ∷ [] → ⊥
+    nothing [] v k = absurd cc
+    nothing (z ∷ zs) v k = absurd cc
+unsnoc_placed (x ∷ xs) [] p q e = absurd (nothing xs p cc)
+  where
+    nothing : (zs : List Placed) (v : Placed) → zs ++ v ∷ [] ≡ [] → ⊥
+    nothing [] v k = absurd cc
+    nothing (z ∷ zs) v k = absurd cc
+unsnoc_placed (x ∷ xs) (y ∷ ys) p q e =
+    let first : x ≡ y = cc in
+    let others : xs ++ p ∷ [] ≡ ys ++ q ∷ [] = cc in
+    ap (λ (z : Placed). z ∷ xs) first ∙ ap (λ (zs : List Placed). y ∷ zs) (unsnoc_placed xs ys p q others)

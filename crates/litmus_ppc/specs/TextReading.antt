@@ -1,9 +1,10 @@
 -- What the reader holds of a text, as the machine sees it.
 use Rattle.std.specs.Prelude.{◌≡◌, ℕ, Option, Some, Result, Ok, Err}
 use Rattle.litmus_tokens.specs.declared.rule.LitmusRule.{LitmusRule}
-use Rattle.litmus_values.specs.Value.{formula_of}
+use Rattle.litmus_values.specs.Value.{Content, formula_of}
 use Rattle.litmus_conditions.specs.declared.step.StepError.{StepError}
 use Rattle.litmus_conditions.specs.Reading as condition
+use Rattle.litmus_table.specs.Laws.{steps_of}
 use Rattle.litmus_table.specs.Reading.{Refuses, table_of}
 use Rattle.litmus_ppc.specs.declared.fault.LitmusFault.{LitmusFault}
 use Rattle.litmus_ppc.specs.declared.fault.LitmusFault.TheVariants as faults
@@ -42,6 +43,10 @@ held_of h = record {
   quantifier = h.condition.quantifier;
   formula = formula_of h.condition.proposition;
 }
+
+-- the test that is held
+abbrev pub test_of : machine.Held → Content
+test_of h = record { name = h.name; init = h.init.entries; threads = steps_of h.table.threads; observed = h.observed; quantifier = h.quantifier; condition = h.formula }
 
 abbrev pub state_of : Reader → machine.State
 state_of r = record { kind = r.kind; threads = r.threads; stage = r.stage; part = part_of r.part; held = held_of r.held }

@@ -5,12 +5,13 @@ ghost use Rattle.litmus_conditions.specs.ConditionMachine.{feed};
 ghost use Rattle.litmus_conditions.specs.Grammar.{limits};
 ghost use Rattle.litmus_conditions.specs.PlaceMachine.{place_step};
 ghost use Rattle.litmus_conditions.specs.Reading.{stack_of, hole_of};
+ghost use Rattle.litmus_values.specs.Value.{content_of};
 ghost use Rattle.litmus_table.specs.Machine.{named};
 ghost use Rattle.litmus_table.specs.Reading.{table_of, first_steps};
 ghost use Rattle.litmus_ppc.specs.InitMachine.{step as init_step};
 ghost use Rattle.litmus_ppc.specs.InitReading.{block_of};
 ghost use Rattle.litmus_ppc.specs.TextMachine.{HasColumn, part_step, nothing, title_read, init_went, table_went, row_read, cell_read, item_begun, item_went, next_item, item_read, fed, threads_in};
-ghost use Rattle.litmus_ppc.specs.TextReading.{part_of, held_of, LeadsTo};
+ghost use Rattle.litmus_ppc.specs.TextReading.{part_of, held_of, test_of, LeadsTo};
 
 use crate::init::{InitBlock, InitHole};
 use crate::parts::{
@@ -247,7 +248,9 @@ impl Held {
     }
 
     /// The test that was read.
-    pub fn into_test(self) -> Result<Test, AllocError> {
+    pub fn into_test(self) -> Result<Test, AllocError>
+        ensures { IfOk result (λ t. content_of t ≡ test_of (held_of self)) }
+    {
         Ok(Test {
             name: self.name,
             init: self.init.into_entries(),

@@ -3,13 +3,13 @@
 ghost use Rattle.std.specs.Prelude.{◌≡◌, ◌<◌, ◌≤◌, List, length, IfOk, IfErr, MatchResult};
 ghost use Rattle.litmus_tokens.specs.Lexer.{front};
 ghost use Rattle.litmus_tokens.specs.Texts.{fresh_after, lexed};
-ghost use Rattle.litmus_values.specs.Value.{Formula, formula_of};
+ghost use Rattle.litmus_values.specs.Value.{Content, Formula, content_of, formula_of};
 ghost use Rattle.litmus_values.specs.declared.test.Quantifier.{Quantifier};
 ghost use Rattle.litmus_values.specs.declared.test.Step.{Step};
 ghost use Rattle.litmus_ppc.specs.Faults.{IsWithin, IsTooLong, IsMemory};
 ghost use Rattle.litmus_ppc.specs.TextMachine.{start, first_stage, run};
 ghost use Rattle.litmus_ppc.specs.TextReading.{state_of, Runs, StepsAt};
-ghost use Rattle.litmus_ppc.specs.Texts.{ReadsInit, IsInitFault, ReadsThread, IsThreadFault, ReadsCondition, IsConditionFault, ReadsLocations, IsLocationsFault, IsFaultOf};
+ghost use Rattle.litmus_ppc.specs.Texts.{ReadsTest, ReadsInit, IsInitFault, ReadsThread, IsThreadFault, ReadsCondition, IsConditionFault, ReadsLocations, IsLocationsFault, IsFaultOf};
 
 use crate::fault::LitmusFault;
 use crate::held::Held;
@@ -111,6 +111,10 @@ fn read_whole(
 /// without these is refused for an initial value of a thread that is not there, at its entry, or for a
 /// label, thread by thread.
 pub fn read_test(alloc: Global, bytes: &[u8]) -> Result<Test, LitmusFault>
+    // What is read is what the text means.
+    ensures found { IfOk result (λ t. ReadsTest bytes.now (content_of t)) }
+    // What means a test is read so, unless memory runs out.
+    ensures only { (v : Content) → ReadsTest bytes.now v → MatchResult result (λ t. content_of t ≡ v) IsMemory }
     // A refusal stands within the text, or at its end.
     ensures within { IfErr result (λ e. IsWithin (length bytes.now) e) }
     // The length is looked at first.

@@ -1,0 +1,153 @@
+-- What `read_test` answers is what the grammar and the later checks say.
+use Rattle.std.proofs.Common.{◌≡◌, ℕ, ◌+◌, ◌<◌, ◌≤◌, List, [], ◌∷◌, ◌++◌, map, length, Option, Some, None, Result, Ok, Err, refl, sym, ap, ◌∙◌, subst, arith}
+use Rattle.litmus_tokens.specs.declared.rule.LitmusRule.{LitmusRule}
+use Rattle.litmus_tokens.specs.declared.token.Token.{Token}
+use Rattle.litmus_tokens.specs.Texts.{Placed, tokens_of, lexed}
+use Rattle.litmus_values.specs.declared.test.InitEntry.{InitEntry}
+use Rattle.litmus_values.specs.declared.test.Step.{Step}
+use Rattle.litmus_values.specs.Value.{Content}
+use Rattle.litmus_conditions.specs.Grammar.{limits, place_meaning, meaning}
+use Rattle.litmus_table.specs.Grammar.{columns_meaning}
+use Rattle.litmus_table.specs.Checks.{IsFoundAt}
+use Rattle.litmus_table.specs.Late.{Late, Note, or_else, first_late, columns_notes, late_columns}
+use Rattle.litmus_table.specs.Laws.{steps_of, AreNoted}
+use Rattle.litmus_table.specs.Machine as table
+use Rattle.litmus_ppc.specs.declared.fault.LitmusFault.{LitmusFault}
+use Rattle.litmus_ppc.specs.declared.fault.LitmusFault.TheVariants as faults
+use Rattle.litmus_ppc.specs.declared.parts.TextKind.TheVariants as kinds
+use Rattle.litmus_ppc.specs.Grammar.{members, entry_meaning, TestTree, test_meaning, IsTest, IsTestText}
+use Rattle.litmus_ppc.specs.InitMachine as init
+use Rattle.litmus_ppc.specs.InitMachine.{missing}
+use Rattle.litmus_ppc.specs.TextMachine.{Held, State, Ran, threads_in, run, start, first_stage}
+use Rattle.litmus_ppc.specs.TextMachine as text
+use Rattle.litmus_ppc.specs.TextReading.{FailsAt, test_of}
+use Rattle.litmus_ppc.specs.Texts.{ReadsTest, late_entries, late_test, before_entries, before_rows}
+use Rattle.litmus_ppc.specs.Faults.{IsMemory, IsMissingFound, IsLateFound}
+use Rattle.litmus_ppc.proofs.Bodies.{length-meaning, length-steps}
+use Rattle.litmus_ppc.proofs.Bounds.{is_short}
+use Rattle.litmus_ppc.proofs.Ends.{ends_done}
+use Rattle.litmus_ppc.proofs.Heads.{TakesTest, IsFewTest, test_led, test_whole, few_of}
+use Rattle.litmus_ppc.proofs.InitReaders.{Matches, late_matches, kept_means}
+use Rattle.litmus_ppc.proofs.InitTaken.{entry_kept}
+use Rattle.litmus_ppc.proofs.Inner.{lexed_ends, lexed_length}
+use Rattle.litmus_ppc.proofs.Outcomes.{not_both}
+use Rattle.litmus_ppc.proofs.Passing.{test_at}
+use Rattle.litmus_ppc.proofs.Tails.{with_all}
+use Rattle.litmus_ppc.proofs.TextReaders.{same_state}
+
+abbrev pub missing_in : State → Option ℕ
+missing_in s = missing (threads_in s.kind s.threads s.held) s.held.init.entries s.held.init.starts
+
+-- what the check of labels answered
+abbrev pub Answered : State → Result (Unit {0}) LitmusFault → Type 0
+Answered s r = (placed : List Placed) (notes : List (List Note)) → AreNoted placed notes s.held.table.threads → IsLateFound placed r (first_late notes)
+
+abbrev late_init : TestTree → Option Late
+late_init t = late_entries (t.others + 1) (before_entries t) (members t.init)
+
+abbrev late_labels : TestTree → Option Late
+late_labels t = late_columns 0 (t.others + 1) (before_rows t) t.rows
+
+none_first : (a b : Option Late) → or_else a b ≡ None → a ≡ None
+none_first None b e = refl
+none_first (Some l) b e = absurd cc
+
+none_second : (a b : Option Late) → or_else a b ≡ None → b ≡ None
+none_second None b e = e
+none_second (Some l) b e = absurd cc
+
+none_both : (a b : Option Late) → a ≡ None → b ≡ None → or_else a b ≡ None
+none_both None b e f = f
+none_both (Some l) b e f = absurd cc
+
+no_late : (ps : List Placed) (l : Option Late) (n : Option ℕ) → Matches ps l n → n ≡ None → l ≡ None
+no_late ps None n m e = refl
+no_late ps (Some l) None m e = absurd m
+no_late ps (Some l) (Some n) m e = absurd cc
+
+not_there : (ps : List Placed) (l : Option Late) (n : Option ℕ) (k : ℕ) → Matches ps l n → n ≡ Some k → l ≡ None → ⊥
+not_there ps None None k m e f = absurd cc
+not_there ps None (Some n) k m e f = m
+not_there ps (Some l) n k m e f = absurd cc
+
+nothing_found : (ps : List Placed) (o : Option Late) → IsFoundAt ps None o → o ≡ None
+nothing_found ps None f = refl
+nothing_found ps (Some l) f = absurd f
+
+module _ (bytes : List ℕ) where
+  abbrev ps : List Placed
+  ps = lexed (first_stage kinds.Test) bytes
+
+  abbrev made : Ran
+  made = run (start kinds.Test 0) ps
+
+  few_tokens : length bytes ≤ 65536 → length ps < 18446744073709551616
+  few_tokens le = let h = lexed_length (first_stage kinds.Test) bytes in omega (arith, h, le)
+
+  text_of : (s : State) → length bytes ≤ 65536 → made ≡ Ok s → IsTestText limits (tokens_of ps)
+  text_of s le e =
+      let l = lexed_ends (first_stage kinds.Test) bytes in
+      let d = ends_done (start kinds.Test 0) s l.inner l.place (ap (run (start kinds.Test 0)) (sym l.split) ∙ e) in
+      let x = test_whole ps s (few_tokens le) e d in
+      record { tree = x.tree; fine = x.fine; whole = x.whole }
+
+  -- what the machine keeps of a test
+  record Keeps (s : State) (t : TestTree) : Type 0 where
+    matches : Matches ps (late_init t) (missing_in s)
+    labels : AreNoted ps (columns_notes 0 (t.others + 1) (before_rows t) t.rows) s.held.table.threads
+    content : late_init t ≡ None → test_of s.held ≡ test_meaning t
+
+  keeps_by : (t : TestTree) → t.others + 1 < 18446744073709551616 → (r : TakesTest ps t) → Keeps (test_at r.stage text.Done (with_all t.name r.block r.reached (map place_meaning (members t.observed)) t.quantifier (meaning t.condition))) t
+  keeps_by t few r =
+      let many : t.others + 1 ≡ length r.reached.threads = sym (sym (length-steps r.reached.threads) ∙ ap (λ (l : List (List Step)). length l) r.meant ∙ length-meaning 0 (t.others + 1) t.rows) in
+      let m = late_matches (t.others + 1) few ps (before_entries t) (members t.init) r.block.starts r.stand in
+      record {
+        matches =
+            subst (λ (n : ℕ). Matches ps (late_init t) (missing n r.block.entries r.block.starts)) many
+            (subst (λ (es : List InitEntry). Matches ps (late_init t) (missing (t.others + 1) es r.block.starts)) (sym r.entries) m);
+        labels = r.noted;
+        content = λ e.
+            ap (λ (es : List InitEntry). with_entries es (steps_of r.reached.threads)) (r.entries ∙ kept_means (t.others + 1) few (before_entries t) (members t.init) e)
+            ∙ ap (λ (l : List (List Step)). with_entries (map entry_meaning (members t.init)) l) r.meant;
+      }
+    where
+      with_entries : List InitEntry → List (List Step) → Content
+      with_entries es l = record { name = t.name; init = es; threads = l; observed = map place_meaning (members t.observed); quantifier = t.quantifier; condition = meaning t.condition }
+
+  keeps : (s : State) → length bytes ≤ 65536 → made ≡ Ok s → (x : IsTestText limits (tokens_of ps)) → Keeps s x.tree
+  keeps s le e x =
+      let few = few_of x.tree ps x.whole (few_tokens le) in
+      let r = test_led x.tree x.fine few ps x.whole in
+      let same = same_state _ s (sym r.by ∙ e) in
+      subst (λ (y : State). Keeps y x.tree) same (keeps_by x.tree few r)
+
+  pub test_found : (s : State) (u : Unit {0}) → (length bytes ≤ 65536 → made ≡ Ok s) → (65536 < length bytes → ⊥) → missing_in s ≡ None → Answered s (Ok u) → ReadsTest bytes (test_of s.held)
+  test_found s u h bounded none answered =
+      let le = is_short bytes bounded in
+      let x = text_of s le (h le) in
+      let k = keeps s le (h le) x in
+      let a = no_late ps (late_init x.tree) (missing_in s) k.matches none in
+      let b = nothing_found ps (late_labels x.tree) (answered ps (columns_notes 0 (x.tree.others + 1) (before_rows x.tree) x.tree.rows) k.labels) in
+      record { short = le; text = x; in_time = none_both (late_init x.tree) (late_labels x.tree) a b; meant = sym (k.content a) }
+
+  pub test_only : (s : State) → (length bytes ≤ 65536 → made ≡ Ok s) → (v : Content) → ReadsTest bytes v → test_of s.held ≡ v
+  test_only s h v r = (keeps s r.short (h r.short) r.text).content (none_first (late_init r.text.tree) (late_labels r.text.tree) r.in_time) ∙ r.meant
+
+  pub test_only_memory : (d : LitmusFault) → (length bytes ≤ 65536 → FailsAt d made) → (v : Content) → ReadsTest bytes v → IsMemory d
+  test_only_memory (faults.OutOfMemory e) h v r = tt
+  test_only_memory (faults.Refused rule place) h v r =
+      let x = r.text in
+      let t = test_led x.tree x.fine (few_of x.tree ps x.whole (few_tokens r.short)) ps x.whole in
+      absurd (not_both (rule, place) _ (sym (h r.short) ∙ t.by))
+
+  pub test_only_missing : (s : State) (d : LitmusFault) → (length bytes ≤ 65536 → made ≡ Ok s) → IsMissingFound (Err d) (missing_in s) → (v : Content) → ReadsTest bytes v → IsMemory d
+  test_only_missing s (faults.OutOfMemory e) h f v r = tt
+  test_only_missing s (faults.Refused rule place) h f v r =
+      not_there ps (late_init r.text.tree) (missing_in s) place (keeps s r.short (h r.short) r.text).matches f.1 (none_first (late_init r.text.tree) (late_labels r.text.tree) r.in_time)
+
+  pub test_only_labels : (s : State) (d : LitmusFault) → (length bytes ≤ 65536 → made ≡ Ok s) → Answered s (Err d) → (v : Content) → ReadsTest bytes v → IsMemory d
+  test_only_labels s (faults.OutOfMemory e) h answered v r = tt
+  test_only_labels s (faults.Refused rule place) h answered v r =
+      let t = r.text.tree in
+      let k = keeps s r.short (h r.short) r.text in
+      subst (IsFoundAt ps (Some (record { rule = rule; place = place }))) (none_second (late_init t) (late_labels t) r.in_time) (answered ps (columns_notes 0 (t.others + 1) (before_rows t) t.rows) k.labels)
