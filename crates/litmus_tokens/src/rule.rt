@@ -1,5 +1,8 @@
 //! The rules that a text may break.
 
+ghost use Rattle.std.specs.Prelude.{◌≡◌};
+ghost use Rattle.litmus_tokens.specs.Numbers.{number_of};
+
 /// The rule that a text breaks, with its number.
 #[derive(Clone, Copy, Debug, PartialEq, Eq)]
 pub enum LitmusRule {
@@ -24,7 +27,9 @@ pub enum LitmusRule {
 
 impl LitmusRule {
     /// The number that a refusal is printed with, from 1 to 17.
-    pub fn number(self) -> u8 {
+    pub fn number(self) -> u8
+        ensures { result ≡ number_of self }
+    {
         match self {
             LitmusRule::NotPpc => 1,
             LitmusRule::Name => 2,
