@@ -1,10 +1,10 @@
 ghost use Rattle.std.specs.Prelude.{◌<◌};
 
-use ppc_semantics::{Domain, Event, SpaceFault, Value, domain, runs};
 use litmus_ppc::{
     Condition, Fence, InitEntry, Instruction, Name, Place, Proposition, Quantifier, Register, Step,
     Test, Thread,
 };
+use ppc_semantics::{Domain, Event, SpaceFault, Value, domain, runs};
 use std::alloc::{AllocError, Global};
 use std::test::Fail;
 
