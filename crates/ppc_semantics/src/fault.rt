@@ -37,7 +37,7 @@ impl EvalRefusal {
 #[derive(Debug, Drop, Error)]
 pub enum SpaceFault {
     /// The test is refused.
-    #[error("the test is refused")]
+    #[error("refused")]
     Refused(EvalRefusal),
     /// A growth was refused.
     #[error("out of memory")]
