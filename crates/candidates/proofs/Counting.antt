@@ -1,13 +1,12 @@
 -- How many orders stores have.
-use Rattle.std.proofs.Common.{ℕ, zero, suc, ◌≡◌, ◌<◌, ◌≤◌, ◌+◌, ◌-◌, ◌*◌, min, inl, inr, List, [], ◌∷◌, ◌++◌, map, filter, length, get_or, take, replicate, Bool, true, false, not, ◌||◌, ◌&&◌, cond, nat_eq, refl, sym, subst, ap, ◌∙◌, arith}
+use Rattle.std.proofs.Common.{ℕ, zero, suc, ◌≡◌, ◌<◌, ◌≤◌, ◌+◌, ◌-◌, ◌*◌, min, inl, inr, List, [], ◌∷◌, ◌++◌, map, filter, length, get_or, take, replicate, Bool, true, false, not, ◌||◌, cond, nat_eq, refl, sym, subst, ap, ◌∙◌, arith}
 use Rattle.std.specs.List.{flat_map}
 use Rattle.std.proofs.lemmas.Bool.{cases_lt}
 use Rattle.std.proofs.lemmas.Bool.Decides.{nat_tests}
 use Rattle.std.proofs.lemmas.List.{length-append, length-map, length-take, append-nil}
-use Rattle.std.proofs.lemmas.Nat.{mul-le}
-use Rattle.std.proofs.Math.Nat.{one-le-mul, mul-zero, zero-mul, one-mul, suc-mul, mul_comm, mul_assoc, le-mul_of_pos_right}
+use Rattle.std.proofs.Math.Nat.{one-le-mul, mul-zero, zero-mul, suc-mul, mul_comm, le-mul_of_pos_right}
 use Rattle.candidates.specs.Lists.{tuples, IsFiltered, none, kept, joined_with}
-use Rattle.candidates.specs.Orders.{has_store, with_new, AreDistinct, AreOrders, orders_of, numbers, is_thread_store, stores_of, all_orders, rows_of, AreApart}
+use Rattle.candidates.specs.Orders.{has_store, with_new, AreDistinct, orders_of, numbers, is_thread_store, stores_of, all_orders, rows_of, AreApart}
 use Rattle.candidates.specs.declared.candidate.Event.{Event}
 use Rattle.candidates.proofs.OrderLaws.{orders_more, has_store-append}
 use Rattle.candidates.proofs.Stores.{orders_are, one_event_more, stores_are}
@@ -69,7 +68,7 @@ lacking_more (s ∷ ss) front x = step (has_store front s) (nat_eq x s) (has_sto
     step false true h e n ls ms same = rw (e, n) same
     step false false h e n ls ms same = rw (e, n) (ap (λ (l : List ℕ). s ∷ l) same)
 
-eq_true : (a b : ℕ) → nat_eq a b ≡ true → a ≡ b
+pub eq_true : (a b : ℕ) → nat_eq a b ≡ true → a ≡ b
 eq_true a b h = grind (arith, nat_tests)
 
 eq_self : (a : ℕ) → nat_eq a a ≡ true

@@ -1,5 +1,5 @@
 -- Candidates of a combination, counted and kept.
-use Rattle.std.proofs.Common.{Vec, ℕ, zero, suc, ◌≡◌, ◌<◌, ◌≤◌, ◌+◌, ◌-◌, ◌*◌, ◌/◌, ◌^◌, ◌||◌, min, max, List, [], ◌∷◌, ◌++◌, length, if◌then◌else◌, arith, refl, sym, ap, subst, ◌∙◌}
+use Rattle.std.proofs.Common.{Vec, ℕ, ◌≡◌, ◌<◌, ◌≤◌, ◌+◌, ◌-◌, ◌*◌, ◌/◌, ◌^◌, ◌||◌, min, max, List, [], ◌∷◌, ◌++◌, length, if◌then◌else◌, arith, sym, ap, subst, ◌∙◌}
 use Rattle.std.specs.declared.alloc.Global.{Global}
 use Rattle.std.proofs.lemmas.List.{length-map}
 use Rattle.std.proofs.Math.Nat.{div-lt_iff_lt-mul, div-mul-le_self, mul-le-mul_left, mul-le-mul_right, le-mul_of_pos_right, mul_comm}
@@ -7,7 +7,7 @@ use Rattle.candidates.specs.Lists.{lists_of}
 use Rattle.candidates.specs.Orders.{all_orders, AreApart}
 use Rattle.candidates.specs.Ways.{AreWays}
 use Rattle.candidates.specs.Rounds.{Shows, HasOver, HasWays}
-use Rattle.candidates.specs.Search.{Begun, Tally, kept, tallied, Fits, Judged, IsTooMuch}
+use Rattle.candidates.specs.Search.{Begun, Tally, kept, Fits, Judged, IsTooMuch}
 use Rattle.candidates.specs.declared.candidate.Event.{Event}
 use Rattle.candidates.specs.declared.reading.Reading.{Reading}
 use Rattle.candidates.proofs.Counting.{some_order}

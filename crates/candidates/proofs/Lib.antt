@@ -7,9 +7,11 @@ pub mod Filters
 pub mod Finding
 pub mod Gathering
 pub mod Judging
+pub mod Keying
 pub mod Members
 pub mod Numbers
 pub mod OrderLaws
+pub mod Pruning
 pub mod Searching
 pub mod Spaces
 pub mod Stores

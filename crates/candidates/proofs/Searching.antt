@@ -1,21 +1,18 @@
 -- Combinations that are searched one after another.
-use Rattle.std.proofs.Common.{ℕ, zero, suc, ◌≡◌, ◌<◌, ◌≤◌, ◌+◌, ◌-◌, Bool, true, false, List, [], ◌∷◌, ◌++◌, take, drop, length, get_or, arith, refl, sym, ap, subst, ◌∙◌}
+use Rattle.std.proofs.Common.{ℕ, zero, suc, ◌≡◌, ◌<◌, ◌≤◌, ◌+◌, ◌-◌, Bool, true, false, Option, List, [], ◌∷◌, ◌++◌, take, drop, length, get_or, arith, refl, sym, ap, subst, ◌∙◌}
 use Rattle.std.specs.List.{flat_map}
 use Rattle.std.proofs.lemmas.List.{take_more, length-take-le}
 use Rattle.std.proofs.lemmas.List.Concat.{flat_map-append}
 use Rattle.std.proofs.Math.Seq.{take-length}
-use Rattle.candidates.specs.Search.{Begun, Tally, Fits, AllFit, Judged, IsTooMuch, Tells, with_run, placed, combinations, Searched, none, more, AreTooMuch, now, later, AreSome, end, kept_one, left_out, Finds, FindsTooMuch}
+use Rattle.candidates.specs.Search.{Begun, Tally, Fits, AllFit, Judged, IsTooMuch, Tells, with_run, placed, combinations, HasJoined, Searched, none, more, AreTooMuch, now, later, begun, start, nothing, all_combinations, location_count}
+use Rattle.ppc_semantics.specs.declared.value.Value.{Value}
+use Rattle.candidates.specs.Keys.{HasKey, HasWrites, AreKeys, PartsAreKeyed, ThreadsAreKeyed, IsKeyed, IsRead, IsStored, TellsWithin}
+use Rattle.candidates.proofs.Pruning.{IsStuck, Stuck, PartsLack, ThreadsLack, no_ways, run_stuck, first_keys, longer_keys, part_keys, does_not_fit, told_false}
+use Rattle.candidates.specs.declared.keys.KeySet.{KeySet}
+use Rattle.candidates.specs.declared.layout.Layout.{Layout}
 use Rattle.candidates.specs.declared.part.Part.{Part}
+use Rattle.candidates.specs.declared.search.Front.{Front}
 use Rattle.candidates.specs.declared.layout.ThreadParts.{ThreadParts}
-
-no_one : {X : Type 0} (xs : List X) → AreSome xs []
-no_one [] = end
-no_one (x ∷ xs) = left_out (no_one xs)
-
-some_append : {X : Type 0} (xs us ys vs : List X) → AreSome xs us → AreSome ys vs → AreSome (xs ++ ys) (us ++ vs)
-some_append [] us ys vs end k = k
-some_append (x ∷ xs) us ys vs (kept_one {ys = zs} h) k = kept_one (some_append xs zs ys vs h k)
-some_append (x ∷ xs) us ys vs (left_out h) k = left_out (some_append xs us ys vs h k)
 
 searched_append : (n : ℕ) (us vs : List Begun) (t u v : Tally) → Searched n us t u → Searched n vs u v → Searched n (us ++ vs) t v
 searched_append n [] vs t u v none k = k
@@ -25,28 +22,17 @@ over_append : (n : ℕ) (us vs : List Begun) (t u : Tally) → Searched n us t u
 over_append n [] vs t u none k = k
 over_append n (b ∷ us) vs t u (more {u = w} j h) k = later j (over_append n us vs w u h k)
 
-pub finds_nothing : (n : ℕ) (bs : List Begun) (t : Tally) → Finds n bs t t
-finds_nothing n bs t = record { tried = []; some = no_one bs; searched = none }
-
-pub finds_append : (n : ℕ) (bs cs : List Begun) (t u v : Tally) → Finds n bs t u → Finds n cs u v → Finds n (bs ++ cs) t v
-finds_append n bs cs t u v f g = record { tried = f.tried ++ g.tried; some = some_append bs f.tried cs g.tried f.some g.some; searched = searched_append n f.tried g.tried t u v f.searched g.searched }
-
-finds_over : (n : ℕ) (bs cs : List Begun) (t u : Tally) → Finds n bs t u → FindsTooMuch n cs u → FindsTooMuch n (bs ++ cs) t
-finds_over n bs cs t u f g = record { tried = f.tried ++ g.tried; some = some_append bs f.tried cs g.tried f.some g.some; over = over_append n f.tried g.tried t u f.searched g.over }
-
-over_longer : (n : ℕ) (bs cs : List Begun) (t : Tally) → FindsTooMuch n bs t → FindsTooMuch n (bs ++ cs) t
-over_longer n bs cs t f = record { tried = f.tried; some = subst (λ (l : List Begun). AreSome (bs ++ cs) l) (append-none f.tried) (some_append bs f.tried cs [] f.some (no_one cs)); over = f.over }
-  where
-    append-none : (xs : List Begun) → xs ++ [] ≡ xs
-    append-none [] = refl
-    append-none (x ∷ xs) = ap (λ (l : List Begun). x ∷ l) (append-none xs)
+over_longer : (n : ℕ) (bs cs : List Begun) (t : Tally) → AreTooMuch n bs t → AreTooMuch n (bs ++ cs) t
+over_longer n [] cs t x = elim x [ ]
+over_longer n (b ∷ bs) cs t (now h) = now h
+over_longer n (b ∷ bs) cs t (later {u = u} j h) = later j (over_longer n bs cs u h)
 
 -- one combination
-pub judged_one : (n : ℕ) (b : Begun) (t u : Tally) → Judged n b t u → Finds n (b ∷ []) t u
-judged_one n b t u j = record { tried = b ∷ []; some = kept_one end; searched = more j none }
+judged_one : (n : ℕ) (b : Begun) (t u : Tally) → Judged n b t u → Searched n (b ∷ []) t u
+judged_one n b t u j = more j none
 
-pub over_one : (n : ℕ) (b : Begun) (t : Tally) → IsTooMuch n b t → FindsTooMuch n (b ∷ []) t
-over_one n b t h = record { tried = b ∷ []; some = kept_one end; over = now h }
+over_one : (n : ℕ) (b : Begun) (t : Tally) → IsTooMuch n b t → AreTooMuch n (b ∷ []) t
+over_one n b t h = now h
 
 -- the combinations that go on with some runs of the next thread
 abbrev pub going_on : Begun → List ThreadParts → ℕ → List Part → List Begun
@@ -103,13 +89,13 @@ fit_run n b ts ps i p lt is h =
     fit_rest n (going_on b ts 0 (take i ps)) (combinations (with_run i p b) ts)
     (fit_front n (going_on b ts 0 (take i ps) ++ combinations (with_run i p b) ts) (going_on b ts (0 + length (take (i + 1) ps)) (drop (i + 1) ps)) (subst (λ (l : List Begun). AllFit n l) (split_all b ts ps i p lt is) h))
 
-pub run_found : (n : ℕ) (b : Begun) (ts : List ThreadParts) (ps : List Part) (i : ℕ) (p : Part) (t u v : Tally) → i < length ps → p ≡ get_or ps i p → Finds n (going_on b ts 0 (take i ps)) t u → Finds n (combinations (with_run i p b) ts) u v → Finds n (going_on b ts 0 (take (i + 1) ps)) t v
-run_found n b ts ps i p t u v lt is f g = subst (λ (l : List Begun). Finds n l t v) (sym (one_run b ts ps i p lt is)) (finds_append n (going_on b ts 0 (take i ps)) (combinations (with_run i p b) ts) t u v f g)
+pub run_found : (n : ℕ) (b : Begun) (ts : List ThreadParts) (ps : List Part) (i : ℕ) (p : Part) (t u v : Tally) → i < length ps → p ≡ get_or ps i p → Searched n (going_on b ts 0 (take i ps)) t u → Searched n (combinations (with_run i p b) ts) u v → Searched n (going_on b ts 0 (take (i + 1) ps)) t v
+run_found n b ts ps i p t u v lt is f g = subst (λ (l : List Begun). Searched n l t v) (sym (one_run b ts ps i p lt is)) (searched_append n (going_on b ts 0 (take i ps)) (combinations (with_run i p b) ts) t u v f g)
 
-pub run_over : (n : ℕ) (b : Begun) (ts : List ThreadParts) (ps : List Part) (i : ℕ) (p : Part) (t u : Tally) → i < length ps → p ≡ get_or ps i p → Finds n (going_on b ts 0 (take i ps)) t u → FindsTooMuch n (combinations (with_run i p b) ts) u → FindsTooMuch n (going_on b ts 0 ps) t
+pub run_over : (n : ℕ) (b : Begun) (ts : List ThreadParts) (ps : List Part) (i : ℕ) (p : Part) (t u : Tally) → i < length ps → p ≡ get_or ps i p → Searched n (going_on b ts 0 (take i ps)) t u → AreTooMuch n (combinations (with_run i p b) ts) u → AreTooMuch n (going_on b ts 0 ps) t
 run_over n b ts ps i p t u lt is f g =
-    subst (λ (l : List Begun). FindsTooMuch n l t) (sym (split_all b ts ps i p lt is))
-    (over_longer n (going_on b ts 0 (take i ps) ++ combinations (with_run i p b) ts) (going_on b ts (0 + length (take (i + 1) ps)) (drop (i + 1) ps)) t (finds_over n (going_on b ts 0 (take i ps)) (combinations (with_run i p b) ts) t u f g))
+    subst (λ (l : List Begun). AreTooMuch n l t) (sym (split_all b ts ps i p lt is))
+    (over_longer n (going_on b ts 0 (take i ps) ++ combinations (with_run i p b) ts) (going_on b ts (0 + length (take (i + 1) ps)) (drop (i + 1) ps)) t (over_append n (going_on b ts 0 (take i ps)) (combinations (with_run i p b) ts) t u f g))
 
 -- the threads behind the first
 abbrev pub rest_of : List ThreadParts → List ThreadParts
@@ -126,7 +112,7 @@ whole_thread : (b : Begun) (ts : List ThreadParts) (t : ThreadParts) (ps : List 
 whole_thread b ts t ps lt is same = ap (λ (l : List ThreadParts). combinations b l) (first_and_rest ts t lt is) ∙ ap (λ (l : List Part). going_on b (rest_of ts) 0 l) (sym same)
 
 -- no thread is left
-pub no_thread : (n : ℕ) (b : Begun) (ts : List ThreadParts) (is : Bool) (old new : Tally) → length ts ≡ 0 → (Fits n b → old.count ≤ 16384 → Tells is (Judged n b old new × (new.count ≤ 16384)) (IsTooMuch n b old)) → AllFit n (combinations b ts) → old.count ≤ 16384 → Tells is (Finds n (combinations b ts) old new × (new.count ≤ 16384)) (FindsTooMuch n (combinations b ts) old)
+pub no_thread : (n : ℕ) (b : Begun) (ts : List ThreadParts) (is : Bool) (old new : Tally) → length ts ≡ 0 → (Fits n b → old.count ≤ 16384 → Tells is (Judged n b old new × (new.count ≤ 16384)) (IsTooMuch n b old)) → AllFit n (combinations b ts) → old.count ≤ 16384 → Tells is (Searched n (combinations b ts) old new × (new.count ≤ 16384)) (AreTooMuch n (combinations b ts) old)
 no_thread n b (t ∷ ts) is old new e h fit few = absurd (omega (arith, e))
 no_thread n b [] true old new e h fit few = let j : Judged n b old new × (new.count ≤ 16384) = h fit.0 few in (judged_one n b old new j.0, j.1)
 no_thread n b [] false old new e h fit few = over_one n b old (h fit.0 few)
@@ -144,7 +130,7 @@ pub record Going (n : ℕ) (b : Begun) (ts : List ThreadParts) (ps : List Part) 
 
 -- what is known of the search that goes on with it
 abbrev pub GoesOn : ℕ → Bool → Begun → List ThreadParts → Tally → Tally → Type 0
-GoesOn n is x ts u v = AllFit n (combinations x ts) → u.count ≤ 16384 → Tells is (Finds n (combinations x ts) u v × (v.count ≤ 16384)) (FindsTooMuch n (combinations x ts) u)
+GoesOn n is x ts u v = AllFit n (combinations x ts) → u.count ≤ 16384 → Tells is (Searched n (combinations x ts) u v × (v.count ≤ 16384)) (AreTooMuch n (combinations x ts) u)
 
 going_fit : (n : ℕ) (b : Begun) (ts : List ThreadParts) (ps : List Part) (i : ℕ) (p : Part) (x : Begun) → Going n b ts ps i p x → AllFit n (combinations x (rest_of ts))
 going_fit n b ts ps i p x g =
@@ -159,21 +145,75 @@ tells_false : (is : Bool) (P Q : Type 0) → is ≡ false → Tells is P Q → Q
 tells_false true P Q e h = absurd cc
 tells_false false P Q e h = h
 
-pub over_there : (n : ℕ) (b : Begun) (ts : List ThreadParts) (ps : List Part) (i : ℕ) (p : Part) (x : Begun) (is : Bool) (t u v : Tally) → Going n b ts ps i p x → is ≡ false → Finds n (going_on b (rest_of ts) 0 (take i ps)) t u × (u.count ≤ 16384) → GoesOn n is x (rest_of ts) u v → FindsTooMuch n (combinations b ts) t
+pub over_there : (n : ℕ) (b : Begun) (ts : List ThreadParts) (ps : List Part) (i : ℕ) (p : Part) (x : Begun) (is : Bool) (t u v : Tally) → Going n b ts ps i p x → is ≡ false → Searched n (going_on b (rest_of ts) 0 (take i ps)) t u × (u.count ≤ 16384) → GoesOn n is x (rest_of ts) u v → AreTooMuch n (combinations b ts) t
 over_there n b ts ps i p x is t u v g e f h =
-    let k : FindsTooMuch n (combinations x (rest_of ts)) u = tells_false is (Finds n (combinations x (rest_of ts)) u v × (v.count ≤ 16384)) (FindsTooMuch n (combinations x (rest_of ts)) u) e (h (going_fit n b ts ps i p x g) f.1) in
-    subst (λ (l : List Begun). FindsTooMuch n l t) (sym (whole_thread b ts g.thread ps g.some g.first g.runs))
-    (run_over n b (rest_of ts) ps i p t u g.within g.one f.0 (subst (λ (y : Begun). FindsTooMuch n (combinations y (rest_of ts)) u) g.longer k))
+    let k : AreTooMuch n (combinations x (rest_of ts)) u = tells_false is (Searched n (combinations x (rest_of ts)) u v × (v.count ≤ 16384)) (AreTooMuch n (combinations x (rest_of ts)) u) e (h (going_fit n b ts ps i p x g) f.1) in
+    subst (λ (l : List Begun). AreTooMuch n l t) (sym (whole_thread b ts g.thread ps g.some g.first g.runs))
+    (run_over n b (rest_of ts) ps i p t u g.within g.one f.0 (subst (λ (y : Begun). AreTooMuch n (combinations y (rest_of ts)) u) g.longer k))
 
-pub found_there : (n : ℕ) (b : Begun) (ts : List ThreadParts) (ps : List Part) (i : ℕ) (p : Part) (x : Begun) (is : Bool) (t u v : Tally) → Going n b ts ps i p x → is ≡ true → Finds n (going_on b (rest_of ts) 0 (take i ps)) t u × (u.count ≤ 16384) → GoesOn n is x (rest_of ts) u v → Finds n (going_on b (rest_of ts) 0 (take (i + 1) ps)) t v × (v.count ≤ 16384)
+pub found_there : (n : ℕ) (b : Begun) (ts : List ThreadParts) (ps : List Part) (i : ℕ) (p : Part) (x : Begun) (is : Bool) (t u v : Tally) → Going n b ts ps i p x → is ≡ true → Searched n (going_on b (rest_of ts) 0 (take i ps)) t u × (u.count ≤ 16384) → GoesOn n is x (rest_of ts) u v → Searched n (going_on b (rest_of ts) 0 (take (i + 1) ps)) t v × (v.count ≤ 16384)
 found_there n b ts ps i p x is t u v g e f h =
-    let k : Finds n (combinations x (rest_of ts)) u v × (v.count ≤ 16384) = tells_true is (Finds n (combinations x (rest_of ts)) u v × (v.count ≤ 16384)) (FindsTooMuch n (combinations x (rest_of ts)) u) e (h (going_fit n b ts ps i p x g) f.1) in
-    (run_found n b (rest_of ts) ps i p t u v g.within g.one f.0 (subst (λ (y : Begun). Finds n (combinations y (rest_of ts)) u v) g.longer k.0), k.1)
+    let k : Searched n (combinations x (rest_of ts)) u v × (v.count ≤ 16384) = tells_true is (Searched n (combinations x (rest_of ts)) u v × (v.count ≤ 16384)) (AreTooMuch n (combinations x (rest_of ts)) u) e (h (going_fit n b ts ps i p x g) f.1) in
+    (run_found n b (rest_of ts) ps i p t u v g.within g.one f.0 (subst (λ (y : Begun). Searched n (combinations y (rest_of ts)) u v) g.longer k.0), k.1)
 
-pub passed_over : (n : ℕ) (b : Begun) (ts : List ThreadParts) (ps : List Part) (i : ℕ) (p : Part) (t u : Tally) → i < length ps → p ≡ get_or ps i p → Finds n (going_on b ts 0 (take i ps)) t u × (u.count ≤ 16384) → Finds n (going_on b ts 0 (take (i + 1) ps)) t u × (u.count ≤ 16384)
-passed_over n b ts ps i p t u lt is f = (run_found n b ts ps i p t u u lt is f.0 (finds_nothing n (combinations (with_run i p b) ts) u), f.1)
+-- the combinations that go on with a run that does not fit
+judged_none : (n : ℕ) (l : ℕ) (v : Value) (b : Begun) (t : Tally) → IsStuck l v b → Judged n b t t
+judged_none n l v b t s = ([], no_ways l v b s, refl)
 
-pub all_found : (n : ℕ) (b : Begun) (ts : List ThreadParts) (thread : ThreadParts) (ps : List Part) (i : ℕ) (t u : Tally) → 0 < length ts → thread ≡ get_or ts 0 thread → ps ≡ thread.parts.items → i ≡ length ps → Finds n (going_on b (rest_of ts) 0 (take i ps)) t u × (u.count ≤ 16384) → Finds n (combinations b ts) t u × (u.count ≤ 16384)
+none_goes_on : (n l : ℕ) (v : Value) (b : Begun) (ts : List ThreadParts) (t : Tally) → ((x : Begun) → IsStuck l v x → Searched n (combinations x ts) t t) → IsStuck l v b → (at : ℕ) (ps : List Part) → PartsLack l v ps → Searched n (going_on b ts at ps) t t
+none_goes_on n l v b ts t each s at [] lack = none
+none_goes_on n l v b ts t each s at (p ∷ ps) lack = searched_append n (combinations (with_run at p b) ts) (going_on b ts (at + 1) ps) t t t (each (with_run at p b) (run_stuck l v at p b s lack.0)) (none_goes_on n l v b ts t each s (at + 1) ps lack.1)
+
+none_found : (n l : ℕ) (v : Value) (ts : List ThreadParts) (t : Tally) → ThreadsLack l v ts → (b : Begun) → IsStuck l v b → Searched n (combinations b ts) t t
+none_found n l v [] t lack b s = more (judged_none n l v b t s) none
+none_found n l v (th ∷ ts) t lack b s = none_goes_on n l v b ts t (λ x h. none_found n l v ts t lack.1 x h) s 0 th.parts.items lack.0
+
+passed_over : (n : ℕ) (b : Begun) (ts : List ThreadParts) (ps : List Part) (i : ℕ) (p : Part) (t u : Tally) → i < length ps → p ≡ get_or ps i p → Stuck (with_run i p b) ts → Searched n (going_on b ts 0 (take i ps)) t u × (u.count ≤ 16384) → Searched n (going_on b ts 0 (take (i + 1) ps)) t u × (u.count ≤ 16384)
+passed_over n b ts ps i p t u lt is k f = (run_found n b ts ps i p t u u lt is f.0 (none_found n k.location k.value ts u k.lack (with_run i p b) k.stuck), f.1)
+
+pub all_found : (n : ℕ) (b : Begun) (ts : List ThreadParts) (thread : ThreadParts) (ps : List Part) (i : ℕ) (t u : Tally) → 0 < length ts → thread ≡ get_or ts 0 thread → ps ≡ thread.parts.items → i ≡ length ps → Searched n (going_on b (rest_of ts) 0 (take i ps)) t u × (u.count ≤ 16384) → Searched n (combinations b ts) t u × (u.count ≤ 16384)
 all_found n b ts thread ps i t u lt is same whole f =
     let e : take i ps ≡ ps = ap (λ (k : ℕ). take k ps) whole ∙ take-length ps in
-    (subst (λ (l : List Begun). Finds n l t u) (sym (whole_thread b ts thread ps lt is same)) (subst (λ (l : List Part). Finds n (going_on b (rest_of ts) 0 l) t u) e f.0), f.1)
+    (subst (λ (l : List Begun). Searched n l t u) (sym (whole_thread b ts thread ps lt is same)) (subst (λ (l : List Part). Searched n (going_on b (rest_of ts) 0 l) t u) e f.0), f.1)
+
+-- the sets of the front and of the threads
+pub threads_keys : (key : ℕ → Value → Option (ℕ × ℕ)) (ts : List ThreadParts) (t : ThreadParts) (ps : List Part) → 0 < length ts → t ≡ get_or ts 0 t → ps ≡ t.parts.items → ThreadsAreKeyed key ts → PartsAreKeyed key t.writes ps × ThreadsAreKeyed key (rest_of ts)
+threads_keys key ts t ps lt is same k =
+    let h : ThreadsAreKeyed key (t ∷ rest_of ts) = subst (λ (l : List ThreadParts). ThreadsAreKeyed key l) (first_and_rest ts t lt is) k in
+    (subst (λ (l : List Part). PartsAreKeyed key t.writes l) (sym same) h.0, h.1)
+
+-- where the search goes on
+pub keyed : (key : ℕ → Value → Option (ℕ × ℕ)) (n : ℕ) (f g : Front) (ts : List ThreadParts) (ps : List Part) (i : ℕ) (p : Part) (is : Bool) (u v : Tally) → Going n (begun f) ts ps i p (begun g) → HasJoined f p g → AreKeys key f.made.events.items f.reads f.writes → ThreadsAreKeyed key ts → ((k : ℕ → Value → Option (ℕ × ℕ)) → AreKeys k g.made.events.items g.reads g.writes → ThreadsAreKeyed k (rest_of ts) → GoesOn n is (begun g) (rest_of ts) u v) → GoesOn n is (begun g) (rest_of ts) u v
+keyed key n f g ts ps i p is u v going j fk tk h =
+    let all : PartsAreKeyed key going.thread.writes ps × ThreadsAreKeyed key (rest_of ts) = threads_keys key ts going.thread ps going.some going.first going.runs tk in
+    h key (longer_keys key f p g i going.longer j fk (part_keys key going.thread.writes ps i p all.0 going.within going.one)) all.1
+
+-- where it leaves out a run
+pub left_out : (key : ℕ → Value → Option (ℕ × ℕ)) (n : ℕ) (f : Front) (ts : List ThreadParts) (thread : ThreadParts) (ps : List Part) (i : ℕ) (p : Part) (after : KeySet) (is : Bool) (t u : Tally) → 0 < length ts → thread ≡ get_or ts 0 thread → ps ≡ thread.parts.items → i < length ps → p ≡ get_or ps i p → AreKeys key f.made.events.items f.reads f.writes → ThreadsAreKeyed key ts → HasWrites after (rest_of ts) → is ≡ false → TellsWithin is (IsRead f p) (IsStored f p after) → Searched n (going_on (begun f) (rest_of ts) 0 (take i ps)) t u × (u.count ≤ 16384) → Searched n (going_on (begun f) (rest_of ts) 0 (take (i + 1) ps)) t u × (u.count ≤ 16384)
+left_out key n f ts thread ps i p after is t u some first runs lt one fk tk w e tells found =
+    let all : PartsAreKeyed key thread.writes ps × ThreadsAreKeyed key (rest_of ts) = threads_keys key ts thread ps some first runs tk in
+    passed_over n (begun f) (rest_of ts) ps i p t u lt one
+    (does_not_fit key f p after (rest_of ts) i fk (part_keys key thread.writes ps i p all.0 lt one) all.1 w (told_false is (IsRead f p) (IsStored f p after) e tells)) found
+
+-- the search through a layout
+pub searched_layout : (key : ℕ → Value → Option (ℕ × ℕ)) (l : Layout) (f : Front) (ts : List ThreadParts) (n : ℕ) (is : Bool) (old new : Tally) → begun f ≡ start l.initial.items → ((a b : ℕ) → HasKey f.reads a b → ⊥) × (f.writes ≡ l.initial_writes) → ts ≡ l.threads.items → n ≡ location_count l → old ≡ nothing → IsKeyed key l → AllFit (location_count l) (all_combinations l) → ((k : ℕ → Value → Option (ℕ × ℕ)) → AreKeys k f.made.events.items f.reads f.writes → ThreadsAreKeyed k ts → AllFit n (combinations (begun f) ts) → old.count ≤ 16384 → Tells is (Searched n (combinations (begun f) ts) old new × (new.count ≤ 16384)) (AreTooMuch n (combinations (begun f) ts) old)) → Tells is (Searched (location_count l) (all_combinations l) nothing new × (new.count ≤ 16384)) (AreTooMuch (location_count l) (all_combinations l) nothing)
+searched_layout key l f ts n is old new made keys same count empty k fit h =
+    subst (λ (t : Tally). Tells is (Searched (location_count l) (all_combinations l) t new × (new.count ≤ 16384)) (AreTooMuch (location_count l) (all_combinations l) t)) empty
+    (subst (λ (c : List Begun). Tells is (Searched (location_count l) c old new × (new.count ≤ 16384)) (AreTooMuch (location_count l) c old)) combined
+    (subst (λ (m : ℕ). Tells is (Searched m (combinations (begun f) ts) old new × (new.count ≤ 16384)) (AreTooMuch m (combinations (begun f) ts) old)) count
+    (h key (first_keys key l f made keys k) (subst (λ (t : List ThreadParts). ThreadsAreKeyed key t) (sym same) k.threads) fits few)))
+  where
+    combined : combinations (begun f) ts ≡ all_combinations l
+    combined = ap (λ (b : Begun). combinations b ts) made ∙ ap (λ (t : List ThreadParts). combinations (start l.initial.items) t) same
+
+    fits : AllFit n (combinations (begun f) ts)
+    fits = subst (λ (m : ℕ). AllFit m (combinations (begun f) ts)) (sym count) (subst (λ (c : List Begun). AllFit (location_count l) c) (sym combined) fit)
+
+    few : old.count ≤ 16384
+    few = let e : old.count ≡ 0 = ap (λ (t : Tally). t.count) empty in omega (arith, e)
+
+pub found_all : (n : ℕ) (cs : List Begun) (is : Bool) (new : Tally) → is ≡ true → Tells is (Searched n cs nothing new × (new.count ≤ 16384)) (AreTooMuch n cs nothing) → Searched n cs nothing new × (new.count ≤ 16384)
+found_all n cs is new e h = tells_true is (Searched n cs nothing new × (new.count ≤ 16384)) (AreTooMuch n cs nothing) e h
+
+pub found_over : (n : ℕ) (cs : List Begun) (is : Bool) (new : Tally) → is ≡ false → Tells is (Searched n cs nothing new × (new.count ≤ 16384)) (AreTooMuch n cs nothing) → AreTooMuch n cs nothing
+found_over n cs is new e h = tells_false is (Searched n cs nothing new × (new.count ≤ 16384)) (AreTooMuch n cs nothing) e h

@@ -1,6 +1,7 @@
 -- Combinations of runs, and what is found of them.
-use Rattle.std.specs.Prelude.{ℕ, ◌≡◌, ◌<◌, ◌≤◌, ◌+◌, ◌-◌, ◌*◌, ◌^◌, min, List, [], ◌∷◌, ◌++◌, map, length, Bool, true, false, ◌||◌, if◌then◌else◌}
+use Rattle.std.specs.Prelude.{ℕ, ◌≡◌, ◌<◌, ◌≤◌, ◌+◌, ◌-◌, ◌*◌, ◌^◌, ◌⊎◌, ◌↔◌, min, List, [], ◌∷◌, ◌++◌, map, length, Bool, true, false, ◌||◌, if◌then◌else◌}
 use Rattle.std.specs.List.{flat_map}
+use Rattle.candidates.specs.Keys.{HasKey}
 use Rattle.candidates.specs.Orders.{all_orders, AreApart}
 use Rattle.candidates.specs.Ways.{AreWays}
 use Rattle.candidates.specs.Space.{Seen, seen}
@@ -48,6 +49,10 @@ with_run run p b = record {
 -- the front as plain data
 abbrev pub begun : Front → Begun
 begun f = record { seen = seen f.made; needs = f.needs.items; faulted = f.is_faulted }
+
+-- the sets of the one front are those of the other with a run more
+abbrev pub HasJoined : Front → Part → Front → Type 0
+HasJoined f p g = ((a b : ℕ) → HasKey g.reads a b ↔ (HasKey f.reads a b ⊎ HasKey p.reads a b)) × ((a b : ℕ) → HasKey g.writes a b ↔ (HasKey f.writes a b ⊎ HasKey p.writes a b))
 
 -- what has been found: the combinations, with their ways to read and without their orders, how many candidates they
 -- have, and whether some candidate holds a run that stopped at a fault
@@ -118,23 +123,6 @@ pub data Searched (n : ℕ) : List Begun → Tally → Tally → Type 0 where
 pub data AreTooMuch (n : ℕ) : List Begun → Tally → Type 0 where
   now : {b : Begun} {bs : List Begun} {t : Tally} → IsTooMuch n b t → AreTooMuch n (b ∷ bs) t
   later : {b : Begun} {bs : List Begun} {t u : Tally} → Judged n b t u → AreTooMuch n bs u → AreTooMuch n (b ∷ bs) t
-
--- the second list has some of the first, in order
-pub data AreSome {X : Type 0} : List X → List X → Type 0 where
-  end : AreSome [] []
-  kept_one : {x : X} {xs ys : List X} → AreSome xs ys → AreSome (x ∷ xs) (x ∷ ys)
-  left_out : {x : X} {xs ys : List X} → AreSome xs ys → AreSome (x ∷ xs) ys
-
--- some of the combinations, in their order, were searched
-pub record Finds (n : ℕ) (bs : List Begun) (old new : Tally) : Type 0 where
-  pub tried : List Begun
-  pub some : AreSome bs tried
-  pub searched : Searched n tried old new
-
-pub record FindsTooMuch (n : ℕ) (bs : List Begun) (old : Tally) : Type 0 where
-  pub tried : List Begun
-  pub some : AreSome bs tried
-  pub over : AreTooMuch n tried old
 
 -- the initial stores alone, and nothing found
 abbrev pub start : List Event → Begun

@@ -1,8 +1,10 @@
 //! The combinations of runs that have candidates.
-ghost use Rattle.std.specs.Prelude.{◌≡◌, ◌≤◌, ◌++◌, map, min, length, IfOk, OnOk, MatchOption};
+ghost use Rattle.std.specs.Prelude.{ℕ, ◌≡◌, ◌≤◌, ◌++◌, Option, map, min, length, IfOk, OnOk, MatchOption};
+ghost use Rattle.ppc_semantics.specs.declared.value.Value.{Value};
+ghost use Rattle.candidates.specs.Keys.{HasKey, HasWrites, AreKeys, ThreadsAreKeyed, IsKeyed, IsRead, IsStored, TellsWithin};
 ghost use Rattle.candidates.specs.Lists.{lists_of};
 ghost use Rattle.candidates.specs.Space.{seen};
-ghost use Rattle.candidates.specs.Search.{moved, bare, joined_run, with_run, kept, begun, tally, tallied, Fits, Judged, IsTooMuch, Tells, combinations, AllFit, Finds, FindsTooMuch, start, nothing, all_combinations, location_count};
+ghost use Rattle.candidates.specs.Search.{moved, bare, joined_run, with_run, kept, begun, tally, tallied, Fits, Judged, IsTooMuch, Tells, combinations, AllFit, HasJoined, Searched, AreTooMuch, start, nothing, all_combinations, location_count};
 
 use crate::MAX_CANDIDATES;
 use crate::candidate::Combination;
@@ -40,15 +42,21 @@ struct Front {
 
 /// Whether the loads of the front and the part can all read what these, the initial stores or the
 /// later threads store.
-fn fits(front: &Front, part: &Part, later: &KeySet) -> bool {
+fn fits(front: &Front, part: &Part, later: &KeySet) -> bool
+    ensures { TellsWithin result (IsRead front.now part.now) (IsStored front.now part.now later.now) }
+{
     let mut stored = *later;
     stored.join(&front.writes);
     stored.join(&part.writes);
-    front.reads.is_within(&stored) && part.reads.is_within(&stored)
+    let mut read = front.reads;
+    read.join(&part.reads);
+    read.is_within(&stored)
 }
 
 /// What some run of these threads stores.
-fn writes_of(threads: &[ThreadParts]) -> KeySet {
+fn writes_of(threads: &[ThreadParts]) -> KeySet
+    ensures { HasWrites result threads.now }
+{
     let mut writes = KeySet::empty();
     for thread in threads {
         writes.join(&thread.writes);
@@ -102,7 +110,8 @@ fn add_run(made: &mut Combination, run: usize, part: &Part) -> Result<(), AllocE
 
 /// The front with one run more.
 fn extended(alloc: Global, front: &Front, run: usize, part: &Part) -> Result<Front, AllocError>
-    ensures { IfOk result (λ f. begun f ≡ with_run run part.now (begun front.now)) }
+    ensures made { IfOk result (λ f. begun f ≡ with_run run part.now (begun front.now)) }
+    ensures keys { IfOk result (λ f. HasJoined front.now part.now f) }
 {
     let mut made = copied(alloc, &front.made)?;
     let mut needs = Vec::from_slice(alloc, &front.needs)?;
@@ -165,7 +174,7 @@ fn search_from(
     front: Front,
     found: &mut Found,
 ) -> Result<bool, AllocError>
-    ensures { AllFit (min locations 128) (combinations (begun front) threads.now) → found.old.count ≤ 16384 → IfOk result (λ b. Tells b (Finds (min locations 128) (combinations (begun front) threads.now) (tally found.old) (tally found.new) × (found.new.count ≤ 16384)) (FindsTooMuch (min locations 128) (combinations (begun front) threads.now) (tally found.old))) }
+    ensures { (key : ℕ → Value → Option (ℕ × ℕ)) → AreKeys key front.made.events.items front.reads front.writes → ThreadsAreKeyed key threads.now → AllFit (min locations 128) (combinations (begun front) threads.now) → found.old.count ≤ 16384 → IfOk result (λ b. Tells b (Searched (min locations 128) (combinations (begun front) threads.now) (tally found.old) (tally found.new) × (found.new.count ≤ 16384)) (AreTooMuch (min locations 128) (combinations (begun front) threads.now) (tally found.old))) }
 {
     if threads.is_empty() {
         let is_few = found.judge(alloc, locations, front)?;
@@ -187,7 +196,8 @@ fn search_from(
 
 /// The initial stores alone.
 fn first_front(alloc: Global, layout: &Layout) -> Result<Front, AllocError>
-    ensures { IfOk result (λ f. begun f ≡ start layout.now.initial.items) }
+    ensures made { IfOk result (λ f. begun f ≡ start layout.now.initial.items) }
+    ensures keys { IfOk result (λ f. ((a b : ℕ) → HasKey f.reads a b → ⊥) × (f.writes ≡ layout.now.initial_writes)) }
 {
     Ok(Front {
         made: Combination {
@@ -210,7 +220,7 @@ fn first_front(alloc: Global, layout: &Layout) -> Result<Front, AllocError>
 /// The combinations that have candidates, in the order of their runs, without their orders; `None`
 /// where there are too many candidates.
 pub fn search(alloc: Global, layout: &Layout) -> Result<Option<Found>, AllocError>
-    ensures { AllFit (location_count layout.now) (all_combinations layout.now) → IfOk result (λ o. MatchOption o (FindsTooMuch (location_count layout.now) (all_combinations layout.now) nothing) (λ f. Finds (location_count layout.now) (all_combinations layout.now) nothing (tally f))) }
+    ensures { (key : ℕ → Value → Option (ℕ × ℕ)) → IsKeyed key layout.now → AllFit (location_count layout.now) (all_combinations layout.now) → IfOk result (λ o. MatchOption o (AreTooMuch (location_count layout.now) (all_combinations layout.now) nothing) (λ f. Searched (location_count layout.now) (all_combinations layout.now) nothing (tally f))) }
 {
     let front = first_front(alloc, layout)?;
     let mut found = Found {

@@ -1,4 +1,4 @@
-use Rattle.std.proofs.Common.{◌-◌, ◌^◌, arith}
+use Rattle.std.proofs.Common.{◌-◌, ◌^◌}
 use Rattle.candidates.proofs.Counting.{one_location_counted}
 use Rattle.candidates.proofs.orders.order_count.Goals as goal
 

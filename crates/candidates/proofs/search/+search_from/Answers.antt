@@ -1,31 +1,31 @@
-use Rattle.std.proofs.Common.{◌≡◌, ◌<◌, [], min, length, arith, rules, tests}
-use Rattle.candidates.specs.Search.{begun, tally}
-use Rattle.candidates.proofs.Searching.{finds_nothing, no_thread, over_there, found_there, passed_over, all_found, rest_of}
+use Rattle.std.proofs.Common.{◌<◌, min, length, arith, rules, tests}
+use Rattle.candidates.specs.Search.{begun, tally, none}
+use Rattle.candidates.proofs.Searching.{no_thread, over_there, found_there, keyed, left_out, all_found}
 use Rattle.candidates.proofs.search.+search_from.Goals as goal
 use Rattle.candidates.proofs.search.+search_from.Goals.{then-fits+in_ok-longer+in_ok-search_from+else-not-branch, else-fits}
 
 pub returns-then-is_empty : goal.returns-then-is_empty
-returns-then-is_empty t c = λ fit few. no_thread (min c.args.locations 128) (begun c.args.front) c.args.threads.now c.in_ok-is_few.is_few (tally c.args.found.now) (tally c.judge.new.self) (search (rules, tests)) c.in_ok-is_few.ensures fit few
+returns-then-is_empty t c = λ key fk tk fit few. no_thread (min c.args.locations 128) (begun c.args.front) c.args.threads.now c.in_ok-is_few.is_few (tally c.args.found.now) (tally c.judge.new.self) (search (rules, tests)) c.in_ok-is_few.ensures fit few
 
 pub loop-run-init : goal.loop-run-init
-loop-run-init t c = λ fit few. (finds_nothing (min c.args.locations 128) [] (tally c.args.found.now), few)
+loop-run-init t c = λ key fk tk fit few. (none, few)
 
 pub returns-then-not-branch : goal.returns-then-not-branch
-returns-then-not-branch t c = λ fit few.
+returns-then-not-branch t c = λ key fk tk fit few.
     over_there (min c.args.locations 128) (begun c.args.front) c.args.threads.now c.deref-part-items.result.now c.loop-run.run c.part-item.result (begun c.in_ok-longer.longer) c.in_ok-search_from.field-0 (tally c.args.found.now) (tally c.loop-run.found) (tally c.search_from.new.found)
-    (record { thread = c.index-threads-0.result; some = (let s : 0 < length c.args.threads.now = search (rules, tests) in s); first = c.index-threads-0.is; runs = c.deref-part-items.ensures.value; within = omega arith; one = c.part-item.is; longer = c.in_ok-longer.ensures; fit = fit })
-    c.if-not-branch.true (c.loop-run.invariant fit few) c.in_ok-search_from.ensures
+    (record { thread = c.index-threads-0.result; some = (let s : 0 < length c.args.threads.now = search (rules, tests) in s); first = c.index-threads-0.is; runs = c.deref-part-items.ensures.value; within = omega arith; one = c.part-item.is; longer = c.in_ok-longer.ensures.made; fit = fit })
+    c.if-not-branch.true (c.loop-run.invariant key fk tk fit few) (keyed key (min c.args.locations 128) c.args.front c.in_ok-longer.longer c.args.threads.now c.deref-part-items.result.now c.loop-run.run c.part-item.result c.in_ok-search_from.field-0 (tally c.loop-run.found) (tally c.search_from.new.found) (record { thread = c.index-threads-0.result; some = (let s : 0 < length c.args.threads.now = search (rules, tests) in s); first = c.index-threads-0.is; runs = c.deref-part-items.ensures.value; within = omega arith; one = c.part-item.is; longer = c.in_ok-longer.ensures.made; fit = fit }) c.in_ok-longer.ensures.keys fk tk c.in_ok-search_from.ensures)
 
 pub loop-run-preserved : goal.loop-run-preserved
-loop-run-preserved t c = λ fit few.
+loop-run-preserved t c = λ key fk tk fit few.
     elim c.if-fits.branch [
       | then-fits+in_ok-longer+in_ok-search_from+else-not-branch w ↦ rw w.found-is
           (found_there (min c.args.locations 128) (begun c.args.front) c.args.threads.now c.deref-part-items.result.now c.loop-run.run c.part-item.result (begun w.in_ok-longer.longer) w.in_ok-search_from.field-0 (tally c.args.found.now) (tally c.loop-run.found) (tally w.search_from.new.found)
-          (record { thread = c.index-threads-0.result; some = (let s : 0 < length c.args.threads.now = search (rules, tests) in s); first = c.index-threads-0.is; runs = c.deref-part-items.ensures.value; within = omega arith; one = c.part-item.is; longer = w.in_ok-longer.ensures; fit = fit })
-          w.if-not-branch.false (c.loop-run.invariant fit few) w.in_ok-search_from.ensures)
-      | else-fits w ↦ rw w.found-is (passed_over (min c.args.locations 128) (begun c.args.front) (rest_of c.args.threads.now) c.deref-part-items.result.now c.loop-run.run c.part-item.result (tally c.args.found.now) (tally c.loop-run.found) (omega arith) c.part-item.is (c.loop-run.invariant fit few))
+          (record { thread = c.index-threads-0.result; some = (let s : 0 < length c.args.threads.now = search (rules, tests) in s); first = c.index-threads-0.is; runs = c.deref-part-items.ensures.value; within = omega arith; one = c.part-item.is; longer = w.in_ok-longer.ensures.made; fit = fit })
+          w.if-not-branch.false (c.loop-run.invariant key fk tk fit few) (keyed key (min c.args.locations 128) c.args.front w.in_ok-longer.longer c.args.threads.now c.deref-part-items.result.now c.loop-run.run c.part-item.result w.in_ok-search_from.field-0 (tally c.loop-run.found) (tally w.search_from.new.found) (record { thread = c.index-threads-0.result; some = (let s : 0 < length c.args.threads.now = search (rules, tests) in s); first = c.index-threads-0.is; runs = c.deref-part-items.ensures.value; within = omega arith; one = c.part-item.is; longer = w.in_ok-longer.ensures.made; fit = fit }) w.in_ok-longer.ensures.keys fk tk w.in_ok-search_from.ensures))
+      | else-fits w ↦ rw w.found-is (left_out key (min c.args.locations 128) c.args.front c.args.threads.now c.index-threads-0.result c.deref-part-items.result.now c.loop-run.run c.part-item.result c.writes_of-later.result c.fits.result (tally c.args.found.now) (tally c.loop-run.found) (let s : 0 < length c.args.threads.now = search (rules, tests) in s) c.index-threads-0.is c.deref-part-items.ensures.value (omega arith) c.part-item.is fk tk c.writes_of-later.ensures w.if-fits.false c.fits.ensures (c.loop-run.invariant key fk tk fit few))
     ]
 
 pub returns : goal.returns
-returns t c = λ fit few.
-    all_found (min c.args.locations 128) (begun c.args.front) c.args.threads.now c.index-threads-0.result c.deref-part-items.result.now c.loop-run.run (tally c.args.found.now) (tally c.loop-run.found) (let s : 0 < length c.args.threads.now = search (rules, tests) in s) c.index-threads-0.is c.deref-part-items.ensures.value (omega arith) (c.loop-run.invariant fit few)
+returns t c = λ key fk tk fit few.
+    all_found (min c.args.locations 128) (begun c.args.front) c.args.threads.now c.index-threads-0.result c.deref-part-items.result.now c.loop-run.run (tally c.args.found.now) (tally c.loop-run.found) (let s : 0 < length c.args.threads.now = search (rules, tests) in s) c.index-threads-0.is c.deref-part-items.ensures.value (omega arith) (c.loop-run.invariant key fk tk fit few)

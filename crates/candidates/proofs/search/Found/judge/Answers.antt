@@ -1,4 +1,4 @@
-use Rattle.std.proofs.Common.{min, rules}
+use Rattle.std.proofs.Common.{min}
 use Rattle.candidates.specs.Search.{begun, tally}
 use Rattle.candidates.proofs.Judging.{known, too_much, judged}
 use Rattle.candidates.proofs.search.Found.judge.Goals as goal

@@ -1,0 +1,22 @@
+use Rattle.std.proofs.Common.{ℕ, ◌≡◌, List, [], false, min, map, length, ap, rules}
+use Rattle.candidates.specs.Space.{seen}
+use Rattle.candidates.specs.Search.{Tally, nothing, tally, all_combinations, location_count}
+use Rattle.candidates.specs.declared.candidate.Combination.{Combination}
+use Rattle.candidates.proofs.Searching.{searched_layout, found_all, found_over}
+use Rattle.candidates.proofs.search.search.Goals as goal
+
+abbrev tally_of : List Combination → Tally
+tally_of cs = record { kept = map seen cs; count = 0; faulted = false }
+
+empty_tally : (cs : List Combination) → cs ≡ [] → tally_of cs ≡ nothing
+empty_tally cs e = ap (λ (c : List Combination). tally_of c) e
+
+pub returns-then-branch : goal.returns-then-branch
+returns-then-branch c = λ key k fit.
+    (found_all (location_count c.args.layout.now) (all_combinations c.args.layout.now) c.in_ok-search_from.field-0 (tally c.search_from.new.found) c.if-branch.true
+    (searched_layout key c.args.layout.now c.in_ok-front.front c.deref.result.now (min c.len-locations.result 128) c.in_ok-search_from.field-0 (tally_of c.new.result.items) (tally c.search_from.new.found) c.in_ok-front.ensures.made c.in_ok-front.ensures.keys c.deref.ensures.value (let e : c.len-locations.result ≡ length c.args.layout.now.locations.items = search rules in ap (λ (n : ℕ). min n 128) e) (empty_tally c.new.result.items c.new.ensures.items) k fit c.in_ok-search_from.ensures)).0
+
+pub returns-else-branch : goal.returns-else-branch
+returns-else-branch c = λ key k fit.
+    found_over (location_count c.args.layout.now) (all_combinations c.args.layout.now) c.in_ok-search_from.field-0 (tally c.search_from.new.found) c.if-branch.false
+    (searched_layout key c.args.layout.now c.in_ok-front.front c.deref.result.now (min c.len-locations.result 128) c.in_ok-search_from.field-0 (tally_of c.new.result.items) (tally c.search_from.new.found) c.in_ok-front.ensures.made c.in_ok-front.ensures.keys c.deref.ensures.value (let e : c.len-locations.result ≡ length c.args.layout.now.locations.items = search rules in ap (λ (n : ℕ). min n 128) e) (empty_tally c.new.result.items c.new.ensures.items) k fit c.in_ok-search_from.ensures)

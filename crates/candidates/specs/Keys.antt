@@ -1,0 +1,70 @@
+-- Sets of pairs of a location and a value, each of which has one bit.
+use Rattle.std.specs.Prelude.{ℕ, ◌≡◌, ◌⊎◌, Bool, true, false, List, [], ◌∷◌, Option, Some}
+use Rattle.bit_relations.specs.Rows.{RowsHave}
+use Rattle.ppc_semantics.specs.declared.value.Value.{Value}
+use Rattle.candidates.specs.declared.candidate.Action.TheVariants.{Read, Write}
+use Rattle.candidates.specs.declared.candidate.Event.{Event}
+use Rattle.candidates.specs.declared.keys.KeySet.{KeySet}
+use Rattle.candidates.specs.declared.layout.Layout.{Layout}
+use Rattle.candidates.specs.declared.layout.ThreadParts.{ThreadParts}
+use Rattle.candidates.specs.declared.part.Part.{Part}
+use Rattle.candidates.specs.declared.search.Front.{Front}
+
+-- the set has the bit of a word
+abbrev pub HasKey : KeySet → ℕ → ℕ → Type 0
+HasKey s word bit = RowsHave s.words word bit
+
+-- whether the second set has all of the first: if not, one is missing
+abbrev pub TellsAll : Bool → (ℕ → Type 0) → (ℕ → Type 0) → Type 0
+TellsAll true S T = (b : ℕ) → S b → T b
+TellsAll false S T = (b : ℕ) × S b × (T b → ⊥)
+
+abbrev pub TellsWithin : Bool → (ℕ → ℕ → Type 0) → (ℕ → ℕ → Type 0) → Type 0
+TellsWithin true R S = (a b : ℕ) → R a b → S a b
+TellsWithin false R S = (a b : ℕ) × R a b × (S a b → ⊥)
+
+-- all pairs of the one set are in the other
+abbrev pub IsWithin : KeySet → KeySet → Type 0
+IsWithin s t = (a b : ℕ) → HasKey s a b → HasKey t a b
+
+-- the set has all that some run of the threads stores
+abbrev pub HasWrites : KeySet → List ThreadParts → Type 0
+HasWrites s [] = Unit {0}
+HasWrites s (t ∷ ts) = IsWithin t.writes s × HasWrites s ts
+
+-- there is a load, or a store, of the location and value
+abbrev pub HasLoad : ℕ → Value → List Event → Type 0
+HasLoad location value [] = ⊥
+HasLoad location value (e ∷ es) = (e.action ≡ Read location value) ⊎ HasLoad location value es
+
+abbrev pub HasStore : ℕ → Value → List Event → Type 0
+HasStore location value [] = ⊥
+HasStore location value (e ∷ es) = (e.action ≡ Write location value) ⊎ HasStore location value es
+
+-- each pair of the first set is one that a load reads, and the second has each that a store stores, where `key` says
+-- which bit a location and a value have, if any
+pub record AreKeys (key : ℕ → Value → Option (ℕ × ℕ)) (es : List Event) (reads writes : KeySet) : Type 0 where
+  pub loads : (a b : ℕ) → HasKey reads a b → (location : ℕ) × (value : Value) × (key location value ≡ Some (a, b)) × HasLoad location value es
+  pub stores : (location : ℕ) (value : Value) (a b : ℕ) → HasStore location value es → key location value ≡ Some (a, b) → HasKey writes a b
+
+-- so are the sets of each run of a thread, of which this one has all that they store
+abbrev pub PartsAreKeyed : (ℕ → Value → Option (ℕ × ℕ)) → KeySet → List Part → Type 0
+PartsAreKeyed key all [] = Unit {0}
+PartsAreKeyed key all (p ∷ ps) = AreKeys key p.events.items p.reads p.writes × IsWithin p.writes all × PartsAreKeyed key all ps
+
+abbrev pub ThreadsAreKeyed : (ℕ → Value → Option (ℕ × ℕ)) → List ThreadParts → Type 0
+ThreadsAreKeyed key [] = Unit {0}
+ThreadsAreKeyed key (t ∷ ts) = PartsAreKeyed key t.writes t.parts.items × ThreadsAreKeyed key ts
+
+-- the sets of a layout
+pub record IsKeyed (key : ℕ → Value → Option (ℕ × ℕ)) (l : Layout) : Type 0 where
+  pub initial : (location : ℕ) (value : Value) (a b : ℕ) → HasStore location value l.initial.items → key location value ≡ Some (a, b) → HasKey l.initial_writes a b
+  pub threads : ThreadsAreKeyed key l.threads.items
+
+-- a load of the front or of the run reads it
+abbrev pub IsRead : Front → Part → ℕ → ℕ → Type 0
+IsRead f p a b = HasKey f.reads a b ⊎ HasKey p.reads a b
+
+-- the front, the run or a later thread stores it
+abbrev pub IsStored : Front → Part → KeySet → ℕ → ℕ → Type 0
+IsStored f p after a b = (HasKey after a b ⊎ HasKey f.writes a b) ⊎ HasKey p.writes a b
