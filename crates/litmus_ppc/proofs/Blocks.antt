@@ -165,7 +165,7 @@ module _ (name : List ℕ) where
     IsOne : Begins IsBody (tokens_of (brace_at n ∷ ps)) → Opened ps n s
     IsBroken : in_block s.part ≡ true → (rest : List Token) → IsBrokenOff IsInitText (stages.Init true false) (tokens_of (brace_at n ∷ ps) ++ rest) → Opened ps n s
 
-  body_of : (ts us : List Token) (es : Option (Listed EntryTree)) → AreEntries [] (members es) → ts ≡ spelled_init es [] → IsName 0 us → IsBody (ts ++ us)
+  pub body_of : (ts us : List Token) (es : Option (Listed EntryTree)) → AreEntries [] (members es) → ts ≡ spelled_init es [] → IsName 0 us → IsBody (ts ++ us)
   body_of ts us es fine e x =
       let z : 0 + x.more ≡ x.more = omega arith in
       record {
@@ -238,14 +238,14 @@ module _ (name : List ℕ) where
     pub noted : AreNoted (pre ++ brace_at n ∷ ps) (columns_notes 0 (x.others + 1) (tokens_of pre ++ spelled_init x.entries (spelled_header x.others [])) x.rows.rows) reached.threads
 
   -- the entries, led to the header
-  record TakesEntries (es : Option (Listed EntryTree)) (q : List Placed) (n : ℕ) (g : Stage) : Type 0 where
-    stage : Stage
-    block : init.Block
-    by : run (block_at g) q ≡ Ok (header_at name block false stage 0)
-    entries : block.entries ≡ map entry_kept (members es)
-    stand : AreStarts ((brace_at n ∷ q) ++ last_at 0 ∷ []) (tokens.Mark marks.OpenBrace ∷ []) (members es) block.starts
+  pub record TakesEntries (es : Option (Listed EntryTree)) (q : List Placed) (n : ℕ) (g : Stage) : Type 0 where
+    pub stage : Stage
+    pub block : init.Block
+    pub by : run (block_at g) q ≡ Ok (header_at name block false stage 0)
+    pub entries : block.entries ≡ map entry_kept (members es)
+    pub stand : AreStarts ((brace_at n ∷ q) ++ last_at 0 ∷ []) (tokens.Mark marks.OpenBrace ∷ []) (members es) block.starts
 
-  entries_led : (es : Option (Listed EntryTree)) (q : List Placed) (n : ℕ) (g : Stage) → AreEntries [] (members es) → tokens_of (brace_at n ∷ q) ≡ spelled_init es [] → TakesEntries es q n g
+  pub entries_led : (es : Option (Listed EntryTree)) (q : List Placed) (n : ℕ) (g : Stage) → AreEntries [] (members es) → tokens_of (brace_at n ∷ q) ≡ spelled_init es [] → TakesEntries es q n g
   entries_led es q n g fine e =
       let all = brace_at n ∷ (q ++ last_at 0 ∷ []) in
       let whole : tokens_of all ≡ spelled_init es (tokens.End ∷ []) =

@@ -46,10 +46,10 @@ more t ts us e = ap (λ (xs : List Token). t ∷ xs) e
 
 module _ (X : List Token → Type 0) (Q : State → Type 0) (any : Begins X [])
     (from : (name : List ℕ) (ps : List Placed) (n : ℕ) (g : Stage) (s : State) → length ps + 1 < 18446744073709551616 → run (block_at name g) ps ≡ Ok s → Q s → Begins X (tokens_of (brace_at n ∷ ps))) where
-  abbrev Keys : List Token → Type 0
+  abbrev pub Keys : List Token → Type 0
   Keys ts = (k : ℕ) × (behind : List Token) × X behind × (ts ≡ spelled_keylines k behind)
 
-  abbrev Lines : List Token → Type 0
+  abbrev pub Lines : List Token → Type 0
   Lines ts = (t : Bool) × (k : ℕ) × (behind : List Token) × X behind × (ts ≡ spelled_text t (spelled_keylines k behind))
 
   abbrev HeadOf : Bool → List Token → Type 0
@@ -239,7 +239,7 @@ pub record TakesTest (ps : List Placed) (t : TestTree) : Type 0 where
   pub meant : steps_of reached.threads ≡ columns_meaning 0 (t.others + 1) t.rows
   pub noted : AreNoted ps (columns_notes 0 (t.others + 1) (before_rows t) t.rows) reached.threads
 
-keylines-append : (k : ℕ) (xs ys : List Token) → spelled_keylines k xs ++ ys ≡ spelled_keylines k (xs ++ ys)
+pub keylines-append : (k : ℕ) (xs ys : List Token) → spelled_keylines k xs ++ ys ≡ spelled_keylines k (xs ++ ys)
 keylines-append zero xs ys = refl
 keylines-append (suc k) xs ys = more tokens.Keyline _ _ (keylines-append k xs ys)
 
@@ -306,17 +306,17 @@ module _ (t : TestTree) (fine : IsTest limits t) (few : t.others + 1 < 184467440
 
 -- ---- what is taken to its end is a test
 
-abbrev IsEnded : State → Type 0
+abbrev pub IsEnded : State → Type 0
 IsEnded s = s.part ≡ text.Done
 
-body_from : (name : List ℕ) (ps : List Placed) (n : ℕ) (g : Stage) (s : State) → length ps + 1 < 18446744073709551616 → run (block_at name g) ps ≡ Ok s → IsEnded s → Begins IsBody (tokens_of (brace_at n ∷ ps))
+pub body_from : (name : List ℕ) (ps : List Placed) (n : ℕ) (g : Stage) (s : State) → length ps + 1 < 18446744073709551616 → run (block_at name g) ps ≡ Ok s → IsEnded s → Begins IsBody (tokens_of (brace_at n ∷ ps))
 body_from name ps n g s few e d = by_opened (block_begins name ps n g s few e)
   where
     by_opened : Opened name ps n s → Begins IsBody (tokens_of (brace_at n ∷ ps))
     by_opened (IsOne b) = b
     by_opened (IsBroken i rest x) = absurd (let no : false ≡ true = ap in_block (sym d) ∙ i in cc)
 
-any_body : Begins IsBody []
+pub any_body : Begins IsBody []
 any_body =
     let a = any_header [] init.start false 0 (omega arith) in
     let z : 0 + a.text.more ≡ a.text.more = omega arith in
@@ -332,7 +332,7 @@ pub record IsFewTest (ts : List Token) : Type 0 where
   pub few : tree.others + 1 < 18446744073709551616
   pub whole : ts ≡ spelled_test tree
 
-test_of : (ts : List Token) → IsHeaded IsBody IsEnded any_body body_from ts → IsFewTest ts
+pub test_of : (ts : List Token) → IsHeaded IsBody IsEnded any_body body_from ts → IsFewTest ts
 test_of ts x =
     let h = x.head in
     let b = h.3 in
@@ -365,11 +365,11 @@ test_whole ps s few e d =
 
 -- ---- no more columns than tokens
 
-length-tokens : (ps : List Placed) → length (tokens_of ps) ≡ length ps
+pub length-tokens : (ps : List Placed) → length (tokens_of ps) ≡ length ps
 length-tokens [] = refl
 length-tokens (p ∷ ps) = let e = length-tokens ps in omega arith
 
-names_count : (k n : ℕ) (ts : List Token) → n ≤ length (spelled_names k n ts)
+pub names_count : (k n : ℕ) (ts : List Token) → n ≤ length (spelled_names k n ts)
 names_count k zero ts = omega arith
 names_count k (suc n) ts = let h = names_count (k + 1) n ts in omega (arith, h)
 

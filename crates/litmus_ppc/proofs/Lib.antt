@@ -23,7 +23,10 @@ pub mod Separated
 pub mod Spelled
 pub mod Splits
 pub mod Tails
+pub mod TestFaults
+pub mod TestParts
 pub mod TestReader
+pub mod TestTaken
 pub mod TextReaders
 pub mod ThreadReader
 pub mod Threads

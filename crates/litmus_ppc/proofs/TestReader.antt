@@ -1,5 +1,6 @@
 -- What `read_test` answers is what the grammar and the later checks say.
-use Rattle.std.proofs.Common.{◌≡◌, ℕ, ◌+◌, ◌<◌, ◌≤◌, List, [], ◌∷◌, ◌++◌, map, length, Option, Some, None, Result, Ok, Err, refl, sym, ap, ◌∙◌, subst, arith}
+use Rattle.std.proofs.Common.{◌≡◌, ℕ, ◌+◌, ◌<◌, ◌≤◌, List, [], ◌∷◌, ◌++◌, map, length, Option, Some, None, Result, Ok, Err, refl, sym, ap, ◌∙◌, subst, arith, inl, inr, ◌⊎◌}
+use Rattle.std.proofs.lemmas.Bool.{cases_lt}
 use Rattle.litmus_tokens.specs.declared.rule.LitmusRule.{LitmusRule}
 use Rattle.litmus_tokens.specs.declared.token.Token.{Token}
 use Rattle.litmus_tokens.specs.Texts.{Placed, tokens_of, lexed}
@@ -21,8 +22,9 @@ use Rattle.litmus_ppc.specs.InitMachine.{missing}
 use Rattle.litmus_ppc.specs.TextMachine.{Held, State, Ran, threads_in, run, start, first_stage}
 use Rattle.litmus_ppc.specs.TextMachine as text
 use Rattle.litmus_ppc.specs.TextReading.{FailsAt, test_of}
-use Rattle.litmus_ppc.specs.Texts.{ReadsTest, late_entries, late_test, before_entries, before_rows}
-use Rattle.litmus_ppc.specs.Faults.{IsMemory, IsMissingFound, IsLateFound}
+use Rattle.litmus_ppc.specs.Texts as texts
+use Rattle.litmus_ppc.specs.Texts.{ReadsTest, IsTestFault, IsFaultOf, IsWhole, late_entries, late_test, before_entries, before_rows}
+use Rattle.litmus_ppc.specs.Faults.{IsTooLong, IsMemory, IsMissingFound, IsLateFound}
 use Rattle.litmus_ppc.proofs.Bodies.{length-meaning, length-steps}
 use Rattle.litmus_ppc.proofs.Bounds.{is_short}
 use Rattle.litmus_ppc.proofs.Ends.{ends_done}
@@ -33,6 +35,7 @@ use Rattle.litmus_ppc.proofs.Inner.{lexed_ends, lexed_length}
 use Rattle.litmus_ppc.proofs.Outcomes.{not_both}
 use Rattle.litmus_ppc.proofs.Passing.{test_at}
 use Rattle.litmus_ppc.proofs.Tails.{with_all}
+use Rattle.litmus_ppc.proofs.TestFaults.{test_fault_where}
 use Rattle.litmus_ppc.proofs.TextReaders.{same_state}
 
 abbrev pub missing_in : State → Option ℕ
@@ -151,3 +154,43 @@ module _ (bytes : List ℕ) where
       let t = r.text.tree in
       let k = keeps s r.short (h r.short) r.text in
       subst (IsFoundAt ps (Some (record { rule = rule; place = place }))) (none_second (late_init t) (late_labels t) r.in_time) (answered ps (columns_notes 0 (t.others + 1) (before_rows t) t.rows) k.labels)
+
+  -- ---- the fault
+
+  pub test_fault : (d : LitmusFault) → (length bytes ≤ 65536 → FailsAt d made) → (65536 < length bytes → IsTooLong d) → IsFaultOf (IsTestFault bytes) d
+  test_fault (faults.OutOfMemory e) h long = tt
+  test_fault (faults.Refused rule place) h long = choose (cases_lt 65536 (length bytes))
+    where
+      choose : (65536 < length bytes) ⊎ (length bytes ≤ 65536) → IsTestFault bytes rule place
+      choose (inl lt) = texts.IsTooLong lt (long lt).0 (long lt).1
+      choose (inr le) = texts.IsGrammar le (test_fault_where ps rule place (few_tokens le) (h le))
+
+  pub test_fault_missing : (s : State) (d : LitmusFault) → (length bytes ≤ 65536 → made ≡ Ok s) → (65536 < length bytes → ⊥) → IsMissingFound (Err d) (missing_in s) → IsFaultOf (IsTestFault bytes) d
+  test_fault_missing s (faults.OutOfMemory e) h bounded f = tt
+  test_fault_missing s (faults.Refused rule place) h bounded f = by_found (late_init x.tree) refl (subst (Matches ps (late_init x.tree)) f.1 (keeps s le (h le) x).matches)
+    where
+      le : length bytes ≤ 65536
+      le = is_short bytes bounded
+
+      x : IsTestText limits (tokens_of ps)
+      x = text_of s le (h le)
+
+      by_found : (o : Option Late) → late_init x.tree ≡ o → Matches ps o (Some place) → IsTestFault bytes rule place
+      by_found None e m = absurd m
+      by_found (Some l) e m = texts.IsLater le (record { text = IsWhole x; found = l; is_found = ap (λ (o : Option Late). or_else o (late_labels x.tree)) e; rule_is = m.0 ∙ sym f.0; stands = m.1 })
+
+  pub test_fault_labels : (s : State) (d : LitmusFault) → (length bytes ≤ 65536 → made ≡ Ok s) → (65536 < length bytes → ⊥) → missing_in s ≡ None → Answered s (Err d) → IsFaultOf (IsTestFault bytes) d
+  test_fault_labels s (faults.OutOfMemory e) h bounded none answered = tt
+  test_fault_labels s (faults.Refused rule place) h bounded none answered =
+      let k = keeps s le (h le) x in
+      by_found (no_late ps (late_init x.tree) (missing_in s) k.matches none) (late_labels x.tree) refl (answered ps (columns_notes 0 (x.tree.others + 1) (before_rows x.tree) x.tree.rows) k.labels)
+    where
+      le : length bytes ≤ 65536
+      le = is_short bytes bounded
+
+      x : IsTestText limits (tokens_of ps)
+      x = text_of s le (h le)
+
+      by_found : late_init x.tree ≡ None → (o : Option Late) → late_labels x.tree ≡ o → IsFoundAt ps (Some (record { rule = rule; place = place })) o → IsTestFault bytes rule place
+      by_found a None e f = absurd f
+      by_found a (Some l) e f = texts.IsLater le (record { text = IsWhole x; found = l; is_found = ap (λ (o : Option Late). or_else o (late_labels x.tree)) a ∙ e; rule_is = sym f.0; stands = f.1 })

@@ -9,7 +9,7 @@ ghost use Rattle.litmus_values.specs.declared.test.Step.{Step};
 ghost use Rattle.litmus_ppc.specs.Faults.{IsWithin, IsTooLong, IsMemory};
 ghost use Rattle.litmus_ppc.specs.TextMachine.{start, first_stage, run};
 ghost use Rattle.litmus_ppc.specs.TextReading.{state_of, Runs, StepsAt};
-ghost use Rattle.litmus_ppc.specs.Texts.{ReadsTest, ReadsInit, IsInitFault, ReadsThread, IsThreadFault, ReadsCondition, IsConditionFault, ReadsLocations, IsLocationsFault, IsFaultOf};
+ghost use Rattle.litmus_ppc.specs.Texts.{ReadsTest, IsTestFault, ReadsInit, IsInitFault, ReadsThread, IsThreadFault, ReadsCondition, IsConditionFault, ReadsLocations, IsLocationsFault, IsFaultOf};
 
 use crate::fault::LitmusFault;
 use crate::held::Held;
@@ -115,24 +115,28 @@ pub fn read_test(alloc: Global, bytes: &[u8]) -> Result<Test, LitmusFault>
     ensures found { IfOk result (λ t. ReadsTest bytes.now (content_of t)) }
     // What means a test is read so, unless memory runs out.
     ensures only { (v : Content) → ReadsTest bytes.now v → MatchResult result (λ t. content_of t ≡ v) IsMemory }
-    // A refusal stands within the text, or at its end.
+    // A refusal stands where the text stops to begin one, and has the number of the rule that is broken there; a text
+    // that is one is refused at the first entry of a thread that is not there, or else at the first label or branch
+    // that the checks of labels find.
+    ensures fault { IfErr result (IsFaultOf (IsTestFault bytes.now)) }
+    // It stands within the text, or at its end.
     ensures within { IfErr result (λ e. IsWithin (length bytes.now) e) }
     // The length is looked at first.
     ensures too_long { 65536 < length bytes.now → MatchResult result (λ _. ⊥) IsTooLong }
 {
-    let reader = match read_whole(alloc, bytes, TextKind::Test, 0) {
+    let whole = match read_whole(alloc, bytes, TextKind::Test, 0) {
         Ok(reader) => reader,
         Err(fault) => return Err(fault),
     };
-    match reader.check_init() {
+    match whole.check_init() {
         Ok(()) => {}
         Err(fault) => return Err(fault),
     }
-    match reader.check_labels() {
+    match whole.check_labels() {
         Ok(()) => {}
         Err(fault) => return Err(fault),
     }
-    let held = reader.into_held();
+    let held = whole.into_held();
     match held.into_test() {
         Ok(test) => Ok(test),
         Err(error) => Err(LitmusFault::OutOfMemory(error)),

@@ -3,15 +3,22 @@ use Rattle.litmus_ppc.specs.declared.parts.TextKind.TheVariants as kinds
 use Rattle.litmus_ppc.specs.Texts.{ReadsTest}
 use Rattle.litmus_ppc.specs.TextReading.{state_of, test_of}
 use Rattle.litmus_ppc.proofs.Bounds.{kept_short}
-use Rattle.litmus_ppc.proofs.TestReader.{test_found, test_only, test_only_memory, test_only_missing, test_only_labels}
+use Rattle.litmus_ppc.proofs.TestReader.{test_found, test_only, test_only_memory, test_only_missing, test_only_labels, test_fault, test_fault_missing, test_fault_labels}
 use Rattle.litmus_ppc.proofs.read.read_test.Goals as goal
 
 pub returns-in-Err-clause-only : goal.returns-in-Err-clause-only
 returns-in-Err-clause-only c = λ v r. test_only_memory c.args.bytes.now c.in-Err.fault c.in-Err.ensures.runs v r
 
+pub returns-in-Err-clause-fault : goal.returns-in-Err-clause-fault
+returns-in-Err-clause-fault c = test_fault c.args.bytes.now c.in-Err.fault c.in-Err.ensures.runs c.in-Err.ensures.too_long
+
 pub returns-in-Err-check_init-clause-only : goal.returns-in-Err-check_init-clause-only
 returns-in-Err-check_init-clause-only c = λ v r.
     test_only_missing c.args.bytes.now (state_of c.in-Ok.reader) c.in-Err-check_init.fault c.in-Ok.ensures.runs c.in-Err-check_init.ensures.found v r
+
+pub returns-in-Err-check_init-clause-fault : goal.returns-in-Err-check_init-clause-fault
+returns-in-Err-check_init-clause-fault c =
+    test_fault_missing c.args.bytes.now (state_of c.in-Ok.reader) c.in-Err-check_init.fault c.in-Ok.ensures.runs c.in-Ok.ensures.too_long c.in-Err-check_init.ensures.found
 
 pub returns-in-Err-check_init-clause-within : goal.returns-in-Err-check_init-clause-within
 returns-in-Err-check_init-clause-within c =
@@ -20,6 +27,10 @@ returns-in-Err-check_init-clause-within c =
 pub returns-in-Err-check_labels-clause-only : goal.returns-in-Err-check_labels-clause-only
 returns-in-Err-check_labels-clause-only c = λ v r.
     test_only_labels c.args.bytes.now (state_of c.in-Ok.reader) c.in-Err-check_labels.fault c.in-Ok.ensures.runs c.in-Err-check_labels.ensures.found v r
+
+pub returns-in-Err-check_labels-clause-fault : goal.returns-in-Err-check_labels-clause-fault
+returns-in-Err-check_labels-clause-fault c =
+    test_fault_labels c.args.bytes.now (state_of c.in-Ok.reader) c.in-Err-check_labels.fault c.in-Ok.ensures.runs c.in-Ok.ensures.too_long c.in-Ok-check_init.ensures.found c.in-Err-check_labels.ensures.found
 
 pub returns-in-Err-check_labels-clause-within : goal.returns-in-Err-check_labels-clause-within
 returns-in-Err-check_labels-clause-within c =
