@@ -93,3 +93,7 @@ pub record AreKnown (n : ℕ) (reads_from read_by coherence from_reads : Relatio
   pub order : coherence.count ≡ n
   pub order_regular : IsRegular coherence
   pub made : IsRelation from_reads n (Composed (Has read_by) (Has coherence))
+
+-- the four relations of what is known are so
+abbrev pub IsConsistent : Known → Type 0
+IsConsistent known = AreKnown known.count known.reads_from known.read_by known.coherence known.from_reads

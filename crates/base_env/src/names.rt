@@ -5,7 +5,7 @@ ghost use Rattle.cat_values.specs.PredefinedNames.{is_set};
 ghost use Rattle.bit_relations.specs.Relation.{Has, IsRelation, IsEvents};
 ghost use Rattle.bit_relations.specs.Pairs.{Inter};
 ghost use Rattle.cat_values.specs.declared.predefined.Predefined.TheVariants as names;
-ghost use Rattle.base_env.specs.Known.{AreKnown, EventsUnder, PairsUnder, EventsOf, PairsOf, SharedPairs, EventsFound, set_names, shared_names};
+ghost use Rattle.base_env.specs.Known.{AreKnown, IsConsistent, EventsUnder, PairsUnder, EventsOf, PairsOf, SharedPairs, EventsFound, set_names, shared_names};
 ghost use Rattle.base_env.specs.Candidate.{AreSets, AreShared, IsEntered, IsReading, IsOrdered, Gives, AreCovered, shared_for, SetIn, RelationIn};
 
 use crate::changing::{write_order, write_reads};
@@ -203,6 +203,7 @@ impl Base {
     /// Some of the predefined names, before the first `enter`. Only these may be asked for: sets
     /// and relations of other names may be empty.
     pub fn of_names(alloc: Global, names: &[Predefined]) -> Result<Base, AllocError>
+        ensures known { IfOk result (λ base. IsConsistent base) }
         ensures sets { IfOk result (λ base. set_names base.sets ≡ filter is_set names.now) }
         ensures relations { IfOk result (λ base. (name : _) → Contains names.now name → is_set name ≡ false → Gives base name) }
     {
@@ -219,6 +220,7 @@ impl Base {
 
     /// Goes over to the candidates of a combination, before their first `read_from` and `order`.
     pub fn enter(&mut self, combination: &Combination)
+        ensures known { IsConsistent self.new }
         ensures entered { IsEntered self.new combination.now }
         ensures sets { set_names self.new.sets ≡ set_names self.old.sets }
         ensures shared { shared_names self.new.shared ≡ shared_names self.old.shared }
@@ -235,7 +237,7 @@ impl Base {
 
     /// How many events the candidates have.
     pub fn count(&self) -> usize
-        ensures known { AreKnown self.now.count self.now.reads_from self.now.read_by self.now.coherence self.now.from_reads }
+        ensures known { IsConsistent self.now }
         ensures value { result ≡ self.now.count }
         ensures few { result ≤ 128 }
     {
@@ -245,6 +247,7 @@ impl Base {
     /// Goes over to the candidates of the combination in which the loads read so: for each load
     /// in event order the number of its store.
     pub fn read_from(&mut self, combination: &Combination, sources: &[u8])
+        ensures known { IsConsistent self.new }
         ensures reading { IsReading self.new combination.now sources.now }
         ensures count { self.new.count ≡ self.old.count }
         ensures sets { self.new.sets ≡ self.old.sets }
@@ -263,6 +266,7 @@ impl Base {
 
     /// Goes over to the candidates of the combination with this order of the stores.
     pub fn order(&mut self, combination: &Combination, order: &[u8])
+        ensures known { IsConsistent self.new }
         ensures ordered { IsOrdered self.new combination.now order.now }
         ensures count { self.new.count ≡ self.old.count }
         ensures sets { self.new.sets ≡ self.old.sets }
