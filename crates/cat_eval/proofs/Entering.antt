@@ -1,18 +1,22 @@
 -- What of a base stays as the candidates go on, and lists of bases for lists of candidates.
-use Rattle.std.proofs.Common.{ℕ, ◌≡◌, ◌∙◌, ◌++◌, ◌+◌, ◌<◌, List, [], ◌∷◌, length, take, get_or, refl, sym, ap, add-one, arith}
+use Rattle.std.proofs.Common.{ℕ, ◌≡◌, ◌∙◌, ◌++◌, ◌+◌, ◌<◌, List, [], ◌∷◌, length, take, get_or, refl, sym, ap, subst, cond, true, false, filter, IsTrue, Contains, zero, suc, add-one, arith}
 use Rattle.std.specs.Prelude.{Bool, Vec, map}
 use Rattle.std.specs.List.{flat_map}
 use Rattle.std.specs.declared.alloc.Global.{Global}
 use Rattle.std.proofs.lemmas.List.{map-append, append-nil}
 use Rattle.std.proofs.lemmas.Grind.{flat_map-append}
+use Rattle.std.proofs.lemmas.List.Elements.{Contains-append_right}
 use Rattle.std.proofs.Math.Seq.{take-suc}
 use Rattle.candidates.specs.declared.candidate.Combination.{Combination}
-use Rattle.base_env.specs.Known.{Known}
-use Rattle.base_env.specs.Candidate.{IsEntered, IsReading}
+use Rattle.base_env.specs.Known.{Known, IsConsistent, set_names, shared_names}
+use Rattle.base_env.specs.Candidate.{IsEntered, IsReading, IsThere, Gives, shared_for}
 use Rattle.candidates.specs.Lists.{lists_of}
 use Rattle.candidates.specs.Space.{pairs, candidates_of, candidates_in}
 use Rattle.cat_eval.specs.Candidates.{Candidate, reading_so, reading_in, of_combinations}
-use Rattle.cat_eval.specs.Worlds.{AreWorlds}
+use Rattle.cat_values.specs.declared.predefined.Predefined.{Predefined}
+use Rattle.cat_values.specs.PredefinedNames.{is_set}
+use Rattle.cat_eval.specs.Needed.{AreListed}
+use Rattle.cat_eval.specs.Worlds.{AreHeld, IsReady, IsWorld, AreWorlds}
 
 pub entered_same : (old new : Known) (c : Combination) → new.count ≡ old.count → new.sets ≡ old.sets → new.shared ≡ old.shared → IsEntered old c → IsEntered new c
 entered_same old new c count sets shared h = record {
@@ -21,20 +25,72 @@ entered_same old new c count sets shared h = record {
   shared = rw (shared, count) h.shared;
 }
 
+-- where the same names are held, the same names are held still
+pub held_same : (old new : Known) (names : List Predefined) → set_names new.sets ≡ set_names old.sets → shared_names new.shared ≡ shared_names old.shared → AreHeld names old → AreHeld names new
+held_same old new names sets shared h = record {
+  sets = rw sets h.sets;
+  relations = λ name inside relation. subst (λ (held : List Predefined). IsThere held (shared_for name)) (sym shared) (h.relations name inside relation);
+}
+
+pub ready_same : (old new : Known) (names : List Predefined) (c : Combination) → IsConsistent new → new.count ≡ old.count → new.sets ≡ old.sets → new.shared ≡ old.shared → IsReady names old c → IsReady names new c
+ready_same old new names c known count sets shared h = record {
+  known = known;
+  held = held_same old new names (ap set_names sets) (ap shared_names shared) h.held;
+  entered = entered_same old new c count sets shared h.entered;
+}
+
+-- what holds all sets among the names, and what the relations among them need, holds the names
+pub held_of : (base : Known) (names : List Predefined) → set_names base.sets ≡ filter is_set names → ((name : Predefined) → Contains names name → is_set name ≡ false → Gives base name) → AreHeld names base
+held_of base names sets relations = record {
+  sets = λ name inside set. rw sets (filter_keeps is_set names name inside set);
+  relations = relations;
+}
+  where
+    filter_keeps : (test : Predefined → Bool) (xs : List Predefined) (x : Predefined) → Contains xs x → IsTrue (test x) → Contains (filter test xs) x
+    filter_keeps test [] x inside set = absurd (omega (arith, inside.1))
+    filter_keeps test (y ∷ ys) x (zero, lt, is) set =
+        let passes : test y ≡ true = rw is set in
+        rw passes (0, omega arith, is)
+    filter_keeps test (y ∷ ys) x (suc k, lt, is) set = later (test y) (filter_keeps test ys x (k, omega (arith, lt), is) set)
+      where
+        later : (passes : Bool) → Contains (filter test ys) x → Contains (cond passes (y ∷ filter test ys) (filter test ys)) x
+        later true h = Contains-append_right (y ∷ []) (filter test ys) x h
+        later false h = h
+
+pub held_listed : (base : Known) (list some : List Predefined) → AreListed list some → AreHeld list base → AreHeld some base
+held_listed base list some listed h = record {
+  sets = λ name inside set. h.sets name (listed name inside) set;
+  relations = λ name inside relation. h.relations name (listed name inside) relation;
+}
+
 pub reading_same : (old new : Known) (c : Combination) (sources : List ℕ) → new.count ≡ old.count → new.reads_from ≡ old.reads_from → IsReading old c sources → IsReading new c sources
 reading_same old new c sources count reads h = rw (count, reads) h
 
-pub worlds_more : (reads orders : Bool) (bases more : List Known) (some others : List Candidate) → AreWorlds reads orders bases some → AreWorlds reads orders more others → AreWorlds reads orders (bases ++ more) (some ++ others)
-worlds_more reads orders [] more [] others h k = k
-worlds_more reads orders [] more (c ∷ cs) others h k = absurd h
-worlds_more reads orders (b ∷ bs) more [] others h k = absurd h
-worlds_more reads orders (b ∷ bs) more (c ∷ cs) others h k = (h.0, worlds_more reads orders bs more cs others h.1 k)
+pub worlds_more : (names : List Predefined) (reads orders : Bool) (bases more : List Known) (some others : List Candidate) → AreWorlds names reads orders bases some → AreWorlds names reads orders more others → AreWorlds names reads orders (bases ++ more) (some ++ others)
+worlds_more names reads orders [] more [] others h k = k
+worlds_more names reads orders [] more (c ∷ cs) others h k = absurd h
+worlds_more names reads orders (b ∷ bs) more [] others h k = absurd h
+worlds_more names reads orders (b ∷ bs) more (c ∷ cs) others h k = (h.0, worlds_more names reads orders bs more cs others h.1 k)
 
-pub worlds_long : (reads orders : Bool) (bases : List Known) (some : List Candidate) → AreWorlds reads orders bases some → length bases ≡ length some
-worlds_long reads orders [] [] h = refl
-worlds_long reads orders [] (c ∷ cs) h = absurd h
-worlds_long reads orders (b ∷ bs) [] h = absurd h
-worlds_long reads orders (b ∷ bs) (c ∷ cs) h = let e : length bs ≡ length cs = worlds_long reads orders bs cs h.1 in omega (arith, e)
+pub worlds_long : (names : List Predefined) (reads orders : Bool) (bases : List Known) (some : List Candidate) → AreWorlds names reads orders bases some → length bases ≡ length some
+worlds_long names reads orders [] [] h = refl
+worlds_long names reads orders [] (c ∷ cs) h = absurd h
+worlds_long names reads orders (b ∷ bs) [] h = absurd h
+worlds_long names reads orders (b ∷ bs) (c ∷ cs) h = let e : length bs ≡ length cs = worlds_long names reads orders bs cs h.1 in omega (arith, e)
+
+-- worlds that hold some names hold those that are listed among them
+pub worlds_listed : (list some : List Predefined) → AreListed list some → (reads orders : Bool) (bases : List Known) (cs : List Candidate) → AreWorlds list reads orders bases cs → AreWorlds some reads orders bases cs
+worlds_listed list some listed reads orders [] [] h = tt
+worlds_listed list some listed reads orders [] (c ∷ cs) h = absurd h
+worlds_listed list some listed reads orders (b ∷ bs) [] h = absurd h
+worlds_listed list some listed reads orders (b ∷ bs) (c ∷ cs) h = (
+  record {
+    ready = record { known = h.0.ready.known; held = held_listed b list some listed h.0.ready.held; entered = h.0.ready.entered };
+    reading = h.0.reading;
+    ordered = h.0.ordered;
+  },
+  worlds_listed list some listed reads orders bs cs h.1,
+)
 
 -- one item of a list further
 pub map_step : {X Y : Type 0} (f : X → Y) (xs : List X) (i : ℕ) (x : X) → i < length xs → x ≡ get_or xs i x → map f (take (i + 1) xs) ≡ map f (take i xs) ++ f x ∷ []

@@ -13,7 +13,7 @@ use Rattle.cat_eval.specs.declared.column.Column.{Column}
 use Rattle.cat_eval.specs.declared.column.Column.TheVariants as columns
 use Rattle.cat_eval.specs.Least.{IsLeast, AreMonotone}
 use Rattle.cat_eval.specs.Named.{EventsIn, PairsOutside}
-use Rattle.cat_eval.specs.Needed.{bodies_read, bodies_order}
+use Rattle.cat_eval.specs.Needed.{bodies_read, bodies_order, bodies_names}
 use Rattle.cat_eval.specs.Rising.{AreCodes}
 use Rattle.cat_eval.specs.Values.{IsFor, IsMeant, column_len}
 use Rattle.cat_eval.specs.Worlds.{AreWorlds}
@@ -43,7 +43,7 @@ pub record AreColumns (recursive : Bool) (bodies : List Body) (inputs : List (Bo
 -- the columns of an item that is a group: over the predefined names of each candidate; another item has none
 abbrev pub ColumnsOf : Role → List (Bor Column) → Space → List Column → Type 0
 ColumnsOf (roles.Group recursive bodies) inputs space cs =
-    (bases : List Known) × AreWorlds (bodies_read bodies.items) (bodies_order bodies.items) bases (candidates_in space.combinations.items) × AreColumns recursive bodies.items inputs bases cs
+    (bases : List Known) × AreWorlds (bodies_names bodies.items) (bodies_read bodies.items) (bodies_order bodies.items) bases (candidates_in space.combinations.items) × AreColumns recursive bodies.items inputs bases cs
 ColumnsOf (roles.Check check) inputs space cs = cs ≡ []
 ColumnsOf roles.Silent inputs space cs = cs ≡ []
 

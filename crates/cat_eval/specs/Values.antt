@@ -14,7 +14,7 @@ use Rattle.candidates.specs.Space.{candidates_in}
 use Rattle.cat_eval.specs.Checks.{Holds, IsEmptySet}
 use Rattle.cat_eval.specs.Meaning.{MeansSet, Means}
 use Rattle.cat_eval.specs.Named.{EventsIn, PairsOutside, WithOwn, Of}
-use Rattle.cat_eval.specs.Needed.{steps_read, steps_order}
+use Rattle.cat_eval.specs.Needed.{steps_read, steps_order, names_in}
 use Rattle.cat_eval.specs.Worlds.{AreWorlds}
 use Rattle.bit_relations.specs.Relation.{Relation, Events, IsRelation, IsEvents}
 use Rattle.binding_graph.specs.declared.resolved.Step.{Step}
@@ -40,7 +40,7 @@ AreAnswers check inputs bases answers =
 abbrev pub AnswersOf : Role → List (Bor Column) → Space → List Bool → Type 0
 AnswersOf (roles.Group recursive bodies) inputs space answers = answers ≡ []
 AnswersOf (roles.Check check) inputs space answers =
-    (bases : List Known) × AreWorlds (steps_read check.code.steps.items) (steps_order check.code.steps.items) bases (candidates_in space.combinations.items) × AreAnswers check inputs bases answers
+    (bases : List Known) × AreWorlds (names_in check.code.steps.items) (steps_read check.code.steps.items) (steps_order check.code.steps.items) bases (candidates_in space.combinations.items) × AreAnswers check inputs bases answers
 AnswersOf roles.Silent inputs space answers = answers ≡ []
 
 -- so many candidates it has a value for

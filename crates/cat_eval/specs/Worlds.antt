@@ -1,19 +1,33 @@
 -- The predefined names of each candidate.
-use Rattle.std.specs.Prelude.{Bool, IsTrue, List, [], ◌∷◌}
-use Rattle.base_env.specs.Known.{Known}
-use Rattle.base_env.specs.Candidate.{IsEntered, IsReading, IsOrdered}
+use Rattle.std.specs.Prelude.{◌≡◌, Bool, IsTrue, false, List, [], ◌∷◌, Contains}
+use Rattle.cat_values.specs.declared.predefined.Predefined.{Predefined}
+use Rattle.cat_values.specs.PredefinedNames.{is_set}
+use Rattle.candidates.specs.declared.candidate.Combination.{Combination}
+use Rattle.base_env.specs.Known.{Known, IsConsistent, set_names}
+use Rattle.base_env.specs.Candidate.{IsEntered, IsReading, IsOrdered, Gives}
 use Rattle.cat_eval.specs.Candidates.{Candidate}
 
--- what is held is that of the candidate: what its combination fixes, and where they are needed what its loads read
--- and how its stores are ordered
-pub record IsWorld (reads orders : Bool) (base : Known) (one : Candidate) : Type 0 where
-  pub entered : IsEntered base one.0
+-- what these names need is held: the sets among them, and what the relations among them are made of
+pub record AreHeld (names : List Predefined) (base : Known) : Type 0 where
+  pub sets : (name : Predefined) → Contains names name → IsTrue (is_set name) → Contains (set_names base.sets) name
+  pub relations : (name : Predefined) → Contains names name → is_set name ≡ false → Gives base name
+
+-- these names are held, and what is held is that of the combination where this fixes it
+pub record IsReady (names : List Predefined) (base : Known) (c : Combination) : Type 0 where
+  pub known : IsConsistent base
+  pub held : AreHeld names base
+  pub entered : IsEntered base c
+
+-- what is held is that of the candidate: these names, what its combination fixes, and where they are needed what its
+-- loads read and how its stores are ordered
+pub record IsWorld (names : List Predefined) (reads orders : Bool) (base : Known) (one : Candidate) : Type 0 where
+  pub ready : IsReady names base one.0
   pub reading : IsTrue reads → IsReading base one.0 one.1.0
   pub ordered : IsTrue orders → IsOrdered base one.0 one.1.1
 
 -- one for each candidate, in order
-abbrev pub AreWorlds : Bool → Bool → List Known → List Candidate → Type 0
-AreWorlds reads orders [] [] = Unit {0}
-AreWorlds reads orders [] (c ∷ cs) = ⊥
-AreWorlds reads orders (b ∷ bs) [] = ⊥
-AreWorlds reads orders (b ∷ bs) (c ∷ cs) = IsWorld reads orders b c × AreWorlds reads orders bs cs
+abbrev pub AreWorlds : List Predefined → Bool → Bool → List Known → List Candidate → Type 0
+AreWorlds names reads orders [] [] = Unit {0}
+AreWorlds names reads orders [] (c ∷ cs) = ⊥
+AreWorlds names reads orders (b ∷ bs) [] = ⊥
+AreWorlds names reads orders (b ∷ bs) (c ∷ cs) = IsWorld names reads orders b c × AreWorlds names reads orders bs cs

@@ -2,11 +2,11 @@
 
 ghost use Rattle.std.specs.Prelude.{◌≡◌, ℕ, ◌++◌, List, [], ◌∷◌, length, IsTrue, IfSome, OnOk, MatchOption};
 ghost use Rattle.candidates.specs.Space.{candidates_in};
-ghost use Rattle.base_env.specs.Known.{Known};
+ghost use Rattle.base_env.specs.Known.{Known, IsConsistent};
 ghost use Rattle.base_env.specs.Candidate.{IsEntered, IsReading, IsOrdered};
 ghost use Rattle.cat_eval.specs.Alike.{AreAlike};
 ghost use Rattle.cat_eval.specs.Candidates.{reading_so, reading_in};
-ghost use Rattle.cat_eval.specs.Worlds.{AreWorlds};
+ghost use Rattle.cat_eval.specs.Worlds.{AreHeld, IsReady, AreWorlds};
 
 use crate::needs::Needs;
 use crate::shape::is_same_shape;
@@ -27,7 +27,7 @@ pub(crate) trait Visit {
 
 /// Goes over to an order of the stores, where a name changes with it.
 fn go_to_order(needs: &Needs, base: &mut Base, combination: &Combination, order: &[u8])
-    ensures entered { IsEntered base.old combination.now → IsEntered base.new combination.now }
+    ensures ready { IsReady needs.now.names.items base.old combination.now → IsReady needs.now.names.items base.new combination.now }
     ensures reading { (sources : List ℕ) → IsReading base.old combination.now sources → IsReading base.new combination.now sources }
     ensures ordered { IsTrue needs.now.orders → IsOrdered base.new combination.now order.now }
 {
@@ -38,7 +38,7 @@ fn go_to_order(needs: &Needs, base: &mut Base, combination: &Combination, order:
 
 /// Goes over to a way to read, where a name changes with it.
 fn go_to_sources(needs: &Needs, base: &mut Base, combination: &Combination, sources: &[u8])
-    ensures entered { IsEntered base.old combination.now → IsEntered base.new combination.now }
+    ensures ready { IsReady needs.now.names.items base.old combination.now → IsReady needs.now.names.items base.new combination.now }
     ensures reading { IsTrue needs.now.reads → IsReading base.new combination.now sources.now }
 {
     if needs.reads {
@@ -48,7 +48,9 @@ fn go_to_sources(needs: &Needs, base: &mut Base, combination: &Combination, sour
 
 /// Goes over to a combination, after another one where it is given.
 fn go_to_combination(entered: Option<&Combination>, base: &mut Base, combination: &Combination)
-    ensures { IfSome entered.entry (λ earlier. IsEntered base.old earlier.now) → IsEntered base.new combination.now }
+    ensures known { IsConsistent base.old → IsConsistent base.new }
+    ensures held { (names : _) → AreHeld names base.old → AreHeld names base.new }
+    ensures entered { IfSome entered.entry (λ earlier. IsEntered base.old earlier.now) → IsEntered base.new combination.now }
 {
     match entered {
         Some(earlier) if is_same_shape(earlier, combination) => {}
@@ -63,9 +65,9 @@ fn visit_orders<V: Visit>(
     base: &mut Base,
     visitor: &mut V,
 ) -> Result<(), AllocError>
-    requires { IsEntered base.old combination.now }
-    ensures entered { IsEntered base.new combination.now }
-    ensures taken { (sources : List ℕ) → (IsTrue needs.now.reads → IsReading base.old combination.now sources) → (first : _) (bases : List Known) → V.has_taken first bases visitor.old → OnOk result ((more : List Known) × AreWorlds needs.now.reads needs.now.orders more (reading_so combination.now sources combination.now.orders.items) × V.has_taken first (bases ++ more) visitor.new) }
+    requires { IsReady needs.now.names.items base.old combination.now }
+    ensures ready { IsReady needs.now.names.items base.new combination.now }
+    ensures taken { (sources : List ℕ) → (IsTrue needs.now.reads → IsReading base.old combination.now sources) → (first : _) (bases : List Known) → V.has_taken first bases visitor.old → OnOk result ((more : List Known) × AreWorlds needs.now.names.items needs.now.reads needs.now.orders more (reading_so combination.now sources combination.now.orders.items) × V.has_taken first (bases ++ more) visitor.new) }
 {
     for order in &combination.orders {
         go_to_order(needs, base, combination, order);
@@ -81,9 +83,9 @@ fn visit_combination<V: Visit>(
     base: &mut Base,
     visitor: &mut V,
 ) -> Result<(), AllocError>
-    requires { IsEntered base.old combination.now }
-    ensures entered { IsEntered base.new combination.now }
-    ensures taken { (first : _) (bases : List Known) → V.has_taken first bases visitor.old → OnOk result ((more : List Known) × AreWorlds needs.now.reads needs.now.orders more (reading_in combination.now combination.now.sources.items) × V.has_taken first (bases ++ more) visitor.new) }
+    requires { IsReady needs.now.names.items base.old combination.now }
+    ensures ready { IsReady needs.now.names.items base.new combination.now }
+    ensures taken { (first : _) (bases : List Known) → V.has_taken first bases visitor.old → OnOk result ((more : List Known) × AreWorlds needs.now.names.items needs.now.reads needs.now.orders more (reading_in combination.now combination.now.sources.items) × V.has_taken first (bases ++ more) visitor.new) }
 {
     for sources in &combination.sources {
         go_to_sources(needs, base, combination, sources);
@@ -99,7 +101,7 @@ pub(crate) fn visit_all<V: Visit>(
     needs: &Needs,
     visitor: &mut V,
 ) -> Result<(), AllocError>
-    ensures { V.has_taken visitor.old [] visitor.old → OnOk result ((bases : List Known) × AreWorlds needs.now.reads needs.now.orders bases (candidates_in space.now.combinations.items) × V.has_taken visitor.old bases visitor.new) }
+    ensures { V.has_taken visitor.old [] visitor.old → OnOk result ((bases : List Known) × AreWorlds needs.now.names.items needs.now.reads needs.now.orders bases (candidates_in space.now.combinations.items) × V.has_taken visitor.old bases visitor.new) }
 {
     let mut base = Base::of_names(alloc, &needs.names)?;
     let mut entered = None;

@@ -9,13 +9,13 @@ loop-sources-preserved g c =
     let combination = c.args.combination.now in
     let needs = c.args.needs.now in
     let before = c.loop-sources.invariant in (
-      c.visit_orders.ensures.entered,
+      c.visit_orders.ensures.ready,
       (λ first bases taken.
           let (more, worlds, was) = before.1 first bases taken in
           let (new, here, now) = c.in_ok-visit_orders.ensures.taken c.sources-item.result.items (λ reads. rw c.deref.ensures.value at (c.go_to_sources.ensures.reading reads)) first (bases ++ more) was in (
             more ++ new,
             rw (flat_step (λ sources. reading_so combination sources.items combination.orders.items) combination.sources.items c.loop-sources.sources-index c.sources-item.result (rw c.deref-sources-items.ensures.value at c.loop-sources-test.true) (rw c.deref-sources-items.ensures.value at c.sources-item.is))
-                (worlds_more needs.reads needs.orders more new _ _ worlds here),
+                (worlds_more needs.names.items needs.reads needs.orders more new _ _ worlds here),
             rw (append_assoc bases more new) at now,
           )),
     )

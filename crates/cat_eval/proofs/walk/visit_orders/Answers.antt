@@ -11,18 +11,18 @@ loop-order-preserved g c =
     let needs = c.args.needs.now in
     let before = c.loop-order.invariant in
     let base = c.go_to_order.new.base in (
-      c.go_to_order.ensures.entered before.0,
+      c.go_to_order.ensures.ready before.0,
       (λ sources held. c.go_to_order.ensures.reading sources (before.1 sources held)),
       (λ sources reading first bases taken.
           let (more, worlds, was) = before.2 sources reading first bases taken in
-          let world : IsWorld needs.reads needs.orders base (combination, (sources, c.order-item.result.items)) = record {
-            entered = c.go_to_order.ensures.entered before.0;
+          let world : IsWorld needs.names.items needs.reads needs.orders base (combination, (sources, c.order-item.result.items)) = record {
+            ready = c.go_to_order.ensures.ready before.0;
             reading = λ reads. c.go_to_order.ensures.reading sources (before.1 sources (reading reads));
             ordered = λ orders. rw c.deref.ensures.value at (c.go_to_order.ensures.ordered orders);
           } in (
             more ++ base ∷ [],
             rw (map_step {Y = Candidate} (λ order. (combination, (sources, order.items))) combination.orders.items c.loop-order.order-index c.order-item.result (rw c.deref-order-items.ensures.value at c.loop-order-test.true) (rw c.deref-order-items.ensures.value at c.order-item.is))
-                (worlds_more needs.reads needs.orders more (base ∷ []) _ _ worlds (world, tt)),
+                (worlds_more needs.names.items needs.reads needs.orders more (base ∷ []) _ _ worlds (world, tt)),
             rw (append_assoc bases more (base ∷ [])) at (c.in_ok-visit.ensures first (bases ++ more) was),
           )),
     )
