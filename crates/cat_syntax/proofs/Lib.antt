@@ -1,3 +1,2 @@
 pub mod Readers
-pub mod Stack
 pub mod Texts

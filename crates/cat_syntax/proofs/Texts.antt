@@ -1,12 +1,15 @@
 -- The loop over a text.
-use Rattle.std.proofs.Common.{◌≡◌, ℕ, ◌+◌, ◌-◌, ◌<◌, ◌≤◌, List, length, take, drop, Ok, Err, refl, ap, ◌∙◌, arith, min}
+use Rattle.std.proofs.Common.{◌≡◌, ℕ, ◌+◌, ◌-◌, ◌<◌, ◌≤◌, List, length, take, drop, Result, Ok, Err, refl, ap, subst, ◌∙◌, arith, min}
 use Rattle.std.specs.Prelude.{max, nat_lt, Bool, true, false, if◌then◌else◌}
 use Rattle.std.proofs.lemmas.Bool.Decides.{nat_tests}
 use Rattle.std.proofs.lemmas.List.{length-drop}
 use Rattle.std.proofs.lemmas.List.{take_all}
 use Rattle.cat_syntax.specs.declared.fault.CatFault.{CatFault}
 use Rattle.cat_syntax.specs.declared.fault.CatFault.TheVariants as faults
+use Rattle.cat_tokens.specs.declared.rule.CatRule.{CatRule}
 use Rattle.cat_tokens.specs.declared.rule.CatRule.TheVariants.{TooLong}
+use Rattle.cat_terms.specs.declared.frames.StepError.{StepError}
+use Rattle.cat_terms.specs.declared.frames.StepError.TheVariants as errors
 use Rattle.cat_grammar.specs.declared.form.Form.{Form}
 use Rattle.cat_tokens.specs.declared.token.Token.{Token}
 use Rattle.cat_tokens.specs.declared.token.Token.TheVariants as tokens
@@ -14,10 +17,22 @@ use Rattle.cat_tokens.specs.declared.lexer.Front.{Front}
 use Rattle.cat_tokens.specs.declared.lexer.Front.TheVariants.{Layout, Lexeme}
 use Rattle.cat_tokens.specs.Lexer.{front, tokens_from, lexed}
 use Rattle.cat_grammar.specs.Grammar.{Limits, limits}
-use Rattle.cat_grammar.specs.ItemMachine.{State, step, start}
+use Rattle.cat_grammar.specs.ItemMachine.{State, Fault, step, start}
+use Rattle.cat_syntax.specs.ReadingItems.{Fails}
 use Rattle.cat_syntax.specs.ReadingTexts.{reading, FailsAt}
 use Rattle.cat_tokens.proofs.Lexed.{layout_turn, lexeme_turn, at_end}
 use Rattle.cat_grammar.specs.Running.{Ran, placed, and_then, run, items_of}
+
+-- one token, at its place or at the place before
+module _ (before place : ℕ) (made : Result State Fault) where
+  pub step_goes : (s : State) → made ≡ Ok s → placed before place made ≡ Ok s
+  step_goes s e = ap (placed before place) e
+
+  pub step_fails : (e : StepError) (rule : CatRule) → e ≡ errors.Refused rule → Fails e made → placed before place made ≡ Err (rule, place)
+  step_fails e rule is h = ap (placed before place) (subst (λ (x : StepError). Fails x made) is h)
+
+  pub step_fails_before : (e : StepError) (rule : CatRule) → e ≡ errors.RefusedBefore rule → Fails e made → placed before place made ≡ Err (rule, before)
+  step_fails_before e rule is h = ap (placed before place) (subst (λ (x : StepError). Fails x made) is h)
 
 -- the reader's turns
 module _ (most : Limits) (form : Form) (bytes : List ℕ) (before : ℕ) (s : State) (p n q : ℕ) (all : Ran) (so_far : all ≡ run most form before s (tokens_from 0 p (drop p bytes))) where

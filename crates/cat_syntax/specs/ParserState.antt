@@ -1,6 +1,6 @@
 -- A parser as a state of the machine.
 use Rattle.std.specs.Prelude.{◌≡◌, Result, Ok, Err}
-use Rattle.cat_syntax.specs.declared.frames.StepError.{StepError}
+use Rattle.cat_terms.specs.declared.frames.StepError.{StepError}
 use Rattle.cat_syntax.specs.declared.items.Parser.{Parser}
 use Rattle.cat_grammar.specs.ItemMachine.{State, Fault}
 use Rattle.cat_values.specs.Values.{clauses_of}

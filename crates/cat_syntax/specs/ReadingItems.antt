@@ -1,9 +1,9 @@
 -- What the reader holds of the items, as the machine sees it.
 use Rattle.std.specs.Prelude.{◌≡◌, List, map, Result, Ok, Err}
-use Rattle.cat_syntax.specs.declared.frames.StepError.{StepError}
-use Rattle.cat_syntax.specs.declared.frames.StepError.TheVariants as errors
-use Rattle.cat_syntax.specs.declared.frames.Fed.{Fed}
-use Rattle.cat_syntax.specs.declared.frames.Fed.TheVariants as feds
+use Rattle.cat_terms.specs.declared.frames.StepError.{StepError}
+use Rattle.cat_terms.specs.declared.frames.StepError.TheVariants as errors
+use Rattle.cat_terms.specs.declared.frames.Fed.{Fed}
+use Rattle.cat_terms.specs.declared.frames.Fed.TheVariants as feds
 use Rattle.cat_tokens.specs.declared.token.Token.{Token}
 use Rattle.cat_tokens.specs.declared.token.Token.TheVariants as tokens
 use Rattle.cat_values.specs.declared.model.Item.{Item}
@@ -18,7 +18,7 @@ use Rattle.cat_syntax.specs.declared.parts.Part.TheVariants as parts
 use Rattle.cat_grammar.specs.Machine as terms
 use Rattle.cat_grammar.specs.ItemMachine as machine
 use Rattle.cat_values.specs.Values.{term_of, binding_of, shown_of, clauses_of}
-use Rattle.cat_syntax.specs.Reading.{stack_of, hole_of}
+use Rattle.cat_terms.specs.Reading.{stack_of, hole_of}
 
 abbrev pub group_of : code_group.Group → machine.Group
 group_of g = record { recursive = g.recursive; bindings = map binding_of g.bindings.items }

@@ -6,11 +6,10 @@ ghost use Rattle.cat_values.specs.Values.{term_of, clause_of, clauses_of};
 ghost use Rattle.cat_grammar.specs.ItemMachine.{begin_item, excess, unless, item_or_end, after_title, after_tilde, after_flag, after_include, finished, item_ended, item_ended_by_tilde, after_body, and_read, label_begun, shown_on, after_as, after_show_as, after_show_label, goes_on, step_part, start, step};
 ghost use Rattle.cat_syntax.specs.ReadingItems.{show_of, head_of, part_of, Gives, Steps, fed_of, token_of};
 
-use crate::frames::{Fed, StepError};
 use crate::lets::{LetPart, after_let};
 use crate::parts::{Head, Part, ShowHead, body_begun, check_body, show_body};
-use crate::terms::feed;
 use cat_grammar::{CheckHead, Form};
+use cat_terms::{Fed, StepError, feed};
 use cat_tokens::{CatRule, Token};
 use cat_values::{CheckWord, Expression, Item};
 use std::alloc::Global;

@@ -6,8 +6,8 @@ ghost use Rattle.cat_values.specs.Values.{term_of, clause_of};
 ghost use Rattle.cat_grammar.specs.ItemMachine.{fresh, extended, group_clause, after_keyword, bound_name, parameter_read, after_parameter, after_let_name, after_bound, after_parameters, after_let};
 ghost use Rattle.cat_syntax.specs.ReadingItems.{group_of, let_of, part_of, Gives};
 
-use crate::frames::StepError;
 use crate::parts::{Head, Part, body_begun};
+use cat_terms::StepError;
 use cat_tokens::{CatRule, Token};
 use cat_values::{Binding, Expression, Item};
 use source_text::Name;

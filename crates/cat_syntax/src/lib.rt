@@ -2,12 +2,10 @@
 #![tactic(auto)]
 
 mod fault;
-mod frames;
 mod items;
 mod lets;
 mod parts;
 mod read;
-mod terms;
 
 pub use cat_printing::{print_item, print_model};
 pub use cat_tokens::CatRule;

@@ -5,9 +5,9 @@ ghost use Rattle.cat_values.specs.Values.{term_of, check_of, clause_of};
 ghost use Rattle.cat_grammar.specs.ItemMachine.{checked, shown_also, shown_clause, begin_body, begin_check, begin_show};
 ghost use Rattle.cat_syntax.specs.ReadingItems.{show_of, head_of, part_of};
 
-use crate::frames::{Frame, Hole};
 use crate::lets::{Group, LetPart};
 use cat_grammar::CheckHead;
+use cat_terms::{Frame, Hole};
 use cat_values::{CheckWord, Expression, Item, ShownExpression};
 use source_text::Name;
 use std::alloc::{AllocError, Global};

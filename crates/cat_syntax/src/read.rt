@@ -13,9 +13,9 @@ ghost use Rattle.cat_grammar.specs.Running.{placed};
 ghost use Rattle.cat_values.specs.Value.{Clause};
 
 use crate::fault::CatFault;
-use crate::frames::StepError;
 use crate::items::Parser;
 use cat_grammar::Form;
+use cat_terms::StepError;
 use cat_tokens::{CatRule, Front, Token, front_of};
 use cat_values::{Item, ModelText};
 use source_text::MAX_BYTES;

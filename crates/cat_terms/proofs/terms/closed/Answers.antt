@@ -1,0 +1,34 @@
+use Rattle.std.proofs.Common.{ap, ◌∙◌, ◌∷◌}
+use Rattle.cat_grammar.specs.Machine.{closed, Goes, Has}
+use Rattle.cat_values.specs.Value.{Term}
+use Rattle.cat_terms.specs.Reading.{frame_of, stack_of}
+use Rattle.cat_values.specs.Values.{term_of}
+use Rattle.cat_terms.specs.declared.frames.Frame as code_frame
+use Rattle.cat_terms.proofs.Stack.{popped_of, applied_pushed}
+use Rattle.cat_terms.proofs.terms.closed.Goals as goal
+
+pub returns-in-Some-Group : goal.returns-in-Some-Group
+returns-in-Some-Group c =
+    ap (closed c.args.operators) (popped_of _ _ _ _ _ c.in_ok-operand.ensures c.in-Some-Group.ensures.items)
+    ∙ ap (λ (f : code_frame.Frame). closed c.args.operators (frame_of f ∷ stack_of c.pop.new.self.items, term_of c.in_ok-operand.operand)) c.in-Some-Group.field-0-is
+
+pub returns-in-Some-Square : goal.returns-in-Some-Square
+returns-in-Some-Square c =
+    ap (closed c.args.operators) (popped_of _ _ _ _ _ c.in_ok-operand.ensures c.in-Some-Square.ensures.items)
+    ∙ ap (λ (f : code_frame.Frame). closed c.args.operators (frame_of f ∷ stack_of c.pop.new.self.items, term_of c.in_ok-operand.operand)) c.in-Some-Square.field-0-is
+
+pub returns-in-Some-Prefix : goal.returns-in-Some-Prefix
+returns-in-Some-Prefix c =
+    ap (closed c.args.operators) (popped_of _ _ _ _ _ c.in_ok-operand.ensures c.in-Some-Prefix.ensures.items)
+    ∙ ap (λ (f : code_frame.Frame). closed c.args.operators (frame_of f ∷ stack_of c.pop.new.self.items, term_of c.in_ok-operand.operand)) c.in-Some-Prefix.field-0-is
+
+pub returns-in-Some-Left : goal.returns-in-Some-Left
+returns-in-Some-Left c =
+    ap (closed c.args.operators) (popped_of _ _ _ _ _ c.in_ok-operand.ensures c.in-Some-Left.ensures.items)
+    ∙ ap (λ (f : code_frame.Frame). closed c.args.operators (frame_of f ∷ stack_of c.pop.new.self.items, term_of c.in_ok-operand.operand)) c.in-Some-Left.field-0-is
+
+pub returns-in_ok-push-in-Some-Applied : goal.returns-in_ok-push-in-Some-Applied
+returns-in_ok-push-in-Some-Applied c =
+    ap (closed c.args.operators) (popped_of _ _ _ _ _ c.in_ok-operand.ensures c.in-Some-Applied.ensures.items)
+    ∙ ap (λ (f : code_frame.Frame). closed c.args.operators (frame_of f ∷ stack_of c.pop.new.self.items, term_of c.in_ok-operand.operand)) c.in-Some-Applied.field-0-is
+    ∙ ap (λ (t : Term). Goes (stack_of c.pop.new.self.items) c.args.operators (Has t)) (applied_pushed c.in-Some-Applied.name c.in-Some-Applied.arguments c.push.new.self c.in_ok-operand.operand c.in_ok-push-in-Some-Applied.ensures.items)
