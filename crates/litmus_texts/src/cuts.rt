@@ -4,7 +4,6 @@
 use litmus_ppc::*;
 use std::alloc::Global;
 use std::process::Abort;
-use std::test::Fail;
 
 // What the first bytes of a text are read as: `.` for a test, and else the number of the refusal, `C` for 12.
 fn number_letter(rule: LitmusRule) -> u8 {
@@ -20,7 +19,7 @@ fn put_answer(
     text: &[u8],
     numbers: &mut Vec<u8>,
     places: &mut Vec<u8>,
-) -> Result<(), Fail> {
+) -> Result<(), LitmusFault> {
     match read_test(alloc, text) {
         Ok(_) => {
             numbers.push(b'.')?;
@@ -31,18 +30,19 @@ fn put_answer(
             let before = text.len().saturating_sub(place);
             places.push(b'0' + before.min(9) as u8)?;
         }
-        Err(LitmusFault::OutOfMemory(error)) => return Err(Fail::from(error)),
+        Err(LitmusFault::OutOfMemory(error)) => return Err(LitmusFault::OutOfMemory(error)),
     }
     Ok(())
 }
 
-fn expect_cuts(
+// Each cut of a text is read, or refused, as is wanted.
+fn check_cuts(
     rt: &impl Abort,
     alloc: Global,
     text: &[u8],
     wanted_numbers: &[u8],
     wanted_places: &[u8],
-) -> Result<(), Fail> {
+) -> Result<(), LitmusFault> {
     let mut numbers = Vec::new(alloc);
     let mut places = Vec::new(alloc);
     for count in 0..text.len() {
@@ -55,11 +55,24 @@ fn expect_cuts(
 }
 
 // A printed test reads as the test that was printed.
-fn expect_round_trip(rt: &impl Abort, alloc: Global, text: &[u8]) -> Result<(), Fail> {
+fn check_round_trip(rt: &impl Abort, alloc: Global, text: &[u8]) -> Result<(), LitmusFault> {
     let printed = print_test(alloc, &read_test(alloc, text)?)?;
     let again = print_test(alloc, &read_test(alloc, &printed)?)?;
     assert_eq!(rt; again.as_slice(), printed.as_slice());
     Ok(())
+}
+
+// The round trip of a text, and its cuts. An error fails the test, and is taken here, so that each test is proved as one
+// function.
+fn expect_cuts(
+    rt: &impl Abort,
+    alloc: Global,
+    text: &[u8],
+    wanted_numbers: &[u8],
+    wanted_places: &[u8],
+) {
+    check_round_trip(rt, alloc, text).expect(rt, "the text is read and printed");
+    check_cuts(rt, alloc, text, wanted_numbers, wanted_places).expect(rt, "each cut is read");
 }
 
 const MP: &[u8] =
@@ -68,12 +81,10 @@ const MP: &[u8] =
 ;\n stw r3,0(r4) |              ;\nexists (1:r1=1 /\\ 1:r3=0)\n";
 
 #[test]
-fn cuts_of_mp(rt: HostRuntime) -> Result<(), Fail> {
-    let a = rt.alloc();
-    expect_round_trip(&rt, a, MP)?;
+fn cuts_of_mp(rt: HostRuntime) {
     expect_cuts(
         &rt,
-        a,
+        rt.alloc(),
         MP,
         b"11122223333333333333333333333333333333333355555555555555555555555555555557777777777777\
     77777777777777777777777777777777777777777777777777777777777777777777777777777777777777\
@@ -81,7 +92,7 @@ fn cuts_of_mp(rt: HostRuntime) -> Result<(), Fail> {
         b"01200000000010000000100000001000000010000000010000000000000010000000000000001001000000\
     00000120010000100000012001000010000012001000010000001001000000000000000000000000000120\
     010000100000000000000000000123450000010000100001000..",
-    )
+    );
 }
 
 const MP_LWSYNC_ADDR: &[u8] =
@@ -91,12 +102,10 @@ wzx r4,r3,r5 ;\n li r3,1      |               ;\n stw r3,0(r4) |               ;
 ts (1:r1=1 /\\ 1:r4=0)\n";
 
 #[test]
-fn cuts_of_mp_lwsync_addr(rt: HostRuntime) -> Result<(), Fail> {
-    let a = rt.alloc();
-    expect_round_trip(&rt, a, MP_LWSYNC_ADDR)?;
+fn cuts_of_mp_lwsync_addr(rt: HostRuntime) {
     expect_cuts(
         &rt,
-        a,
+        rt.alloc(),
         MP_LWSYNC_ADDR,
         b"11122222222222222223333333333333333333333333333333333355555555555555555555555555555555\
     77777777777777777777777777777777777777777777777777777777777777777777777777777777777777\
@@ -106,7 +115,7 @@ fn cuts_of_mp_lwsync_addr(rt: HostRuntime) -> Result<(), Fail> {
     00010010000000000012001000010000000120010000100000120010010010000001234500000000001200\
     01001001000001001000000000000000000000000000012001000010000000000000000000001234500000\
     10000100001000..",
-    )
+    );
 }
 
 const MP_LWSYNC_CTRL: &[u8] =
@@ -116,12 +125,10 @@ const MP_LWSYNC_CTRL: &[u8] =
 ;\nexists (1:r1=1 /\\ 1:r3=0)\n";
 
 #[test]
-fn cuts_of_mp_lwsync_ctrl(rt: HostRuntime) -> Result<(), Fail> {
-    let a = rt.alloc();
-    expect_round_trip(&rt, a, MP_LWSYNC_CTRL)?;
+fn cuts_of_mp_lwsync_ctrl(rt: HostRuntime) {
     expect_cuts(
         &rt,
-        a,
+        rt.alloc(),
         MP_LWSYNC_CTRL,
         b"11122222222222222223333333333333333333333333333333333355555555555555555555555555555555\
     55555777777777777777777777777777777777777777777777777777777777777777777777777777777777\
@@ -131,7 +138,7 @@ fn cuts_of_mp_lwsync_ctrl(rt: HostRuntime) -> Result<(), Fail> {
     00000000100100000000000120010000100000000000012001000010000012300100100000000000001234\
     50000000000020000000000000000000010010000000000012340012001000010000001200100001000000\
     00000000000000000000123450000010000100001000..",
-    )
+    );
 }
 
 const MP_LWSYNC_CTRLISYNC: &[u8] =
@@ -141,12 +148,10 @@ LC00     ;\n li r3,1      | LC00: isync  ;\n stw r3,0(r4) | lwz r3,0(r4) ;\nexis
 r1=1 /\\ 1:r3=0)\n";
 
 #[test]
-fn cuts_of_mp_lwsync_ctrlisync(rt: HostRuntime) -> Result<(), Fail> {
-    let a = rt.alloc();
-    expect_round_trip(&rt, a, MP_LWSYNC_CTRLISYNC)?;
+fn cuts_of_mp_lwsync_ctrlisync(rt: HostRuntime) {
     expect_cuts(
         &rt,
-        a,
+        rt.alloc(),
         MP_LWSYNC_CTRLISYNC,
         b"11122222222222222222222233333333333333333333333333333333333555555555555555555555555555\
     55557777777777777777777777777777777777777777777777777777777777777777777777777777777777\
@@ -156,7 +161,7 @@ fn cuts_of_mp_lwsync_ctrlisync(rt: HostRuntime) -> Result<(), Fail> {
     00000001001000000000001200100001000000120010000100000123001001000000012345000000000002\
     00000000000000100100000000000123400123400000012001000010000012001000010000012345000001\
     0000100001000..",
-    )
+    );
 }
 
 const LB_DATAS: &[u8] =
@@ -165,12 +170,10 @@ lwz r1,0(r2) | lwz r1,0(r2) ;\n xor r3,r1,r1 | xor r3,r1,r1 ;\n addi r3,r3,1 | a
 ,r3,1 ;\n stw r3,0(r4) | stw r3,0(r4) ;\nexists (0:r1=1 /\\ 1:r1=1)\n";
 
 #[test]
-fn cuts_of_lb_datas(rt: HostRuntime) -> Result<(), Fail> {
-    let a = rt.alloc();
-    expect_round_trip(&rt, a, LB_DATAS)?;
+fn cuts_of_lb_datas(rt: HostRuntime) {
     expect_cuts(
         &rt,
-        a,
+        rt.alloc(),
         LB_DATAS,
         b"11122222222223333333333333333333333333333333333355555555555555555555555555555557777777\
     77777777777777777777777777777777777777777777777777777777777777777777777777777777777777\
@@ -178,7 +181,7 @@ fn cuts_of_lb_datas(rt: HostRuntime) -> Result<(), Fail> {
         b"01200000000000000010000000100000001000000010000000010000000000000010000000000000001200\
     10000100000120010000100000012001001001000012001001001000001200010010000001200010010000\
     000120010000100000120010000100000123450000010000100001000..",
-    )
+    );
 }
 
 const LB_COPIES: &[u8] =
@@ -187,18 +190,16 @@ const LB_COPIES: &[u8] =
 :r1=0)\n";
 
 #[test]
-fn cuts_of_lb_copies(rt: HostRuntime) -> Result<(), Fail> {
-    let a = rt.alloc();
-    expect_round_trip(&rt, a, LB_COPIES)?;
+fn cuts_of_lb_copies(rt: HostRuntime) {
     expect_cuts(
         &rt,
-        a,
+        rt.alloc(),
         LB_COPIES,
         b"11122222222222333333333333333333333333333333333335555555555555555555555555555555777777\
     777777777777777777777777777777777777777777777777777777777777777CCCCCCCCCCCCCCCCCCC..",
         b"01200000000000000001000000010000000100000001000000001000000000000001000000000000000120\
     0100001000001200100001000000120010000100000120010000100000123450000010000100001000..",
-    )
+    );
 }
 
 const LB_INCS: &[u8] =
@@ -207,12 +208,10 @@ lwz r1,0(r2) | lwz r1,0(r2) ;\n addi r3,r1,1 | addi r3,r1,1 ;\n stw r3,0(r4) | s
 0(r4) ;\nexists (0:r1=1 /\\ 1:r1=1)\n";
 
 #[test]
-fn cuts_of_lb_incs(rt: HostRuntime) -> Result<(), Fail> {
-    let a = rt.alloc();
-    expect_round_trip(&rt, a, LB_INCS)?;
+fn cuts_of_lb_incs(rt: HostRuntime) {
     expect_cuts(
         &rt,
-        a,
+        rt.alloc(),
         LB_INCS,
         b"11122222222233333333333333333333333333333333333555555555555555555555555555555577777777\
     77777777777777777777777777777777777777777777777777777777777777777777777777777777777777\
@@ -220,7 +219,7 @@ fn cuts_of_lb_incs(rt: HostRuntime) -> Result<(), Fail> {
         b"01200000000000000100000001000000010000000100000000100000000000000100000000000000012001\
     00001000001200100001000000120001001000000120001001000000012001000010000012001000010000\
     0123450000010000100001000..",
-    )
+    );
 }
 
 const R_LWSYNC_SYNC: &[u8] =
@@ -230,12 +229,10 @@ c         ;\n li r3,1      | lwz r3,0(r4) ;\n stw r3,0(r4) |              ;\nexi
 y]=2 /\\ 1:r3=0)\n";
 
 #[test]
-fn cuts_of_r_lwsync_sync(rt: HostRuntime) -> Result<(), Fail> {
-    let a = rt.alloc();
-    expect_round_trip(&rt, a, R_LWSYNC_SYNC)?;
+fn cuts_of_r_lwsync_sync(rt: HostRuntime) {
     expect_cuts(
         &rt,
-        a,
+        rt.alloc(),
         R_LWSYNC_SYNC,
         b"11122222222222222233333333333333333333333333333333333555555555555555555555555555555577\
     77777777777777777777777777777777777777777777777777777777777777777777777777777777777777\
@@ -245,7 +242,7 @@ fn cuts_of_r_lwsync_sync(rt: HostRuntime) -> Result<(), Fail> {
     01001000000000001001000000000000120010000100000120010000100000012345000000000012300000\
     00000000100100000000000120010000100000012001000010000000000000000000012345000000000100\
     001000..",
-    )
+    );
 }
 
 const IRIW: &[u8] =
@@ -255,12 +252,10 @@ const IRIW: &[u8] =
 /\\ 1:r3=0 /\\ 3:r1=1 /\\ 3:r3=0)\n";
 
 #[test]
-fn cuts_of_iriw(rt: HostRuntime) -> Result<(), Fail> {
-    let a = rt.alloc();
-    expect_round_trip(&rt, a, IRIW)?;
+fn cuts_of_iriw(rt: HostRuntime) {
     expect_cuts(
         &rt,
-        a,
+        rt.alloc(),
         IRIW,
         b"11122222233333333333333333333333333333333333333333333333333355555555555555555555555555\
     55555555555555555555555555555555555777777777777777777777777777777777777777777777777777\
@@ -270,7 +265,7 @@ fn cuts_of_iriw(rt: HostRuntime) -> Result<(), Fail> {
     00000001000000000000001000000000000000100100000000000120010000100000100100000000000120\
     01000010000001200100001000001200100001000001200100001000001200100001000001234500000100\
     0010000100001000010000100001000..",
-    )
+    );
 }
 
 const IRIW_LWSYNCS: &[u8] =
@@ -281,12 +276,10 @@ const IRIW_LWSYNCS: &[u8] =
 \\ 3:r3=0)\n";
 
 #[test]
-fn cuts_of_iriw_lwsyncs(rt: HostRuntime) -> Result<(), Fail> {
-    let a = rt.alloc();
-    expect_round_trip(&rt, a, IRIW_LWSYNCS)?;
+fn cuts_of_iriw_lwsyncs(rt: HostRuntime) {
     expect_cuts(
         &rt,
-        a,
+        rt.alloc(),
         IRIW_LWSYNCS,
         b"11122222222222222333333333333333333333333333333333333333333333333333555555555555555555\
     55555555555555555555555555555555555555555557777777777777777777777777777777777777777777\
@@ -298,7 +291,7 @@ fn cuts_of_iriw_lwsyncs(rt: HostRuntime) -> Result<(), Fail> {
     00000120010000100000012001000010000012345000000000012001000010000012345000000000000000\
     00000000000120010000100000000000000000000120010000100000123450000010000100001000010000\
     10000100001000..",
-    )
+    );
 }
 
 const IRIW_SYNCS: &[u8] =
@@ -309,12 +302,10 @@ const IRIW_SYNCS: &[u8] =
 \\ 3:r3=0)\n";
 
 #[test]
-fn cuts_of_iriw_syncs(rt: HostRuntime) -> Result<(), Fail> {
-    let a = rt.alloc();
-    expect_round_trip(&rt, a, IRIW_SYNCS)?;
+fn cuts_of_iriw_syncs(rt: HostRuntime) {
     expect_cuts(
         &rt,
-        a,
+        rt.alloc(),
         IRIW_SYNCS,
         b"11122222222222233333333333333333333333333333333333333333333333333355555555555555555555\
     55555555555555555555555555555555555555555777777777777777777777777777777777777777777777\
@@ -326,7 +317,7 @@ fn cuts_of_iriw_syncs(rt: HostRuntime) -> Result<(), Fail> {
     00012001000010000001200100001000001230000000000001200100001000001230000000000000000000\
     00000000012001000010000000000000000000012001000010000012345000001000010000100001000010\
     000100001000..",
-    )
+    );
 }
 
 const TWO_WRITES_LWSYNCS: &[u8] =
@@ -336,12 +327,10 @@ ync       ;\n li r3,1      | li r3,1      ;\n stw r3,0(r4) | stw r3,0(r4) ;\nexi
 x]=2 /\\ [y]=2)\n";
 
 #[test]
-fn cuts_of_two_writes_lwsyncs(rt: HostRuntime) -> Result<(), Fail> {
-    let a = rt.alloc();
-    expect_round_trip(&rt, a, TWO_WRITES_LWSYNCS)?;
+fn cuts_of_two_writes_lwsyncs(rt: HostRuntime) {
     expect_cuts(
         &rt,
-        a,
+        rt.alloc(),
         TWO_WRITES_LWSYNCS,
         b"11122222222222222333333333333333333333333333333333335555555555555555555555555555555777\
     77777777777777777777777777777777777777777777777777777777777777777777777777777777777777\
@@ -351,7 +340,7 @@ fn cuts_of_two_writes_lwsyncs(rt: HostRuntime) -> Result<(), Fail> {
     10010000000000010010000000000001200100001000001200100001000000123450000000000123450000\
     00000001001000000000001001000000000000120010000100000120010000100000123450000000001000\
     0000..",
-    )
+    );
 }
 
 const COWR: &[u8] =
@@ -359,18 +348,16 @@ const COWR: &[u8] =
 r2) ;\nexists (0:r3=0)\n";
 
 #[test]
-fn cuts_of_cowr(rt: HostRuntime) -> Result<(), Fail> {
-    let a = rt.alloc();
-    expect_round_trip(&rt, a, COWR)?;
+fn cuts_of_cowr(rt: HostRuntime) {
     expect_cuts(
         &rt,
-        a,
+        rt.alloc(),
         COWR,
         b"11122222233333333333555555555555555577777777777777777777777777777777777777777777777777\
     77777CCCCCCCCC..",
         b"01200000000000100000000100000000000000010010000000000001200100001000000120010000100000\
     12345000001000..",
-    )
+    );
 }
 
 const STORES_7: &[u8] =
@@ -381,12 +368,10 @@ const STORES_7: &[u8] =
 0(r2) | stw r1,0(r2) | stw r1,0(r2) ;\nexists ([x]=7)\n";
 
 #[test]
-fn cuts_of_stores_7(rt: HostRuntime) -> Result<(), Fail> {
-    let a = rt.alloc();
-    expect_round_trip(&rt, a, STORES_7)?;
+fn cuts_of_stores_7(rt: HostRuntime) {
     expect_cuts(
         &rt,
-        a,
+        rt.alloc(),
         STORES_7,
         b"11122222222333333333333333333333333333333333333333333333333333333333335555555555555555\
     55555555555555555555555555555555555555555555555555555555555555555555555555555555555555\
@@ -398,7 +383,7 @@ fn cuts_of_stores_7(rt: HostRuntime) -> Result<(), Fail> {
     00000001001000000000001001000000000001001000000000001001000000000001001000000000001001\
     00000000000100100000000000012001000010000012001000010000012001000010000012001000010000\
     01200100001000001200100001000001200100001000001234500000000..",
-    )
+    );
 }
 
 const STORES_8: &[u8] =
@@ -410,12 +395,10 @@ const STORES_8: &[u8] =
 r1,0(r2) ;\nexists ([x]=7)\n";
 
 #[test]
-fn cuts_of_stores_8(rt: HostRuntime) -> Result<(), Fail> {
-    let a = rt.alloc();
-    expect_round_trip(&rt, a, STORES_8)?;
+fn cuts_of_stores_8(rt: HostRuntime) {
     expect_cuts(
         &rt,
-        a,
+        rt.alloc(),
         STORES_8,
         b"11122222222333333333333333333333333333333333333333333333333333333333333333333355555555\
     55555555555555555555555555555555555555555555555555555555555555555555555555555555555555\
@@ -429,7 +412,7 @@ fn cuts_of_stores_8(rt: HostRuntime) -> Result<(), Fail> {
     00001001000000000001001000000000001001000000000001001000000000000120010000100000120010\
     00010000012001000010000012001000010000012001000010000012001000010000012001000010000012\
     00100001000001234500000000..",
-    )
+    );
 }
 
 const LOADS_12_0: &[u8] =
@@ -439,12 +422,10 @@ r1,0(r2) ;\n lwz r1,0(r2) ;\n lwz r1,0(r2) ;\n lwz r1,0(r2) ;\n lwz r1,0(r2) ;\n
 (0:r1=0)\n";
 
 #[test]
-fn cuts_of_loads_12_0(rt: HostRuntime) -> Result<(), Fail> {
-    let a = rt.alloc();
-    expect_round_trip(&rt, a, LOADS_12_0)?;
+fn cuts_of_loads_12_0(rt: HostRuntime) {
     expect_cuts(
         &rt,
-        a,
+        rt.alloc(),
         LOADS_12_0,
         b"11122222223333333333333333555555555555555577777777777777777777777777777777777777777777\
     77777777777777777777777777777777777777777777777777777777777777777777777777777777777777\
@@ -452,7 +433,7 @@ fn cuts_of_loads_12_0(rt: HostRuntime) -> Result<(), Fail> {
         b"01200000000000000000100000000100000000000000012001000010000001200100001000000120010000\
     10000001200100001000000120010000100000012001000010000001200100001000000120010000100000\
     012001000010000001200100001000000120010000100000012001000010000012345000001000..",
-    )
+    );
 }
 
 const LOADS_12_8: &[u8] =
@@ -464,12 +445,10 @@ r1,0(r2) | lwz r1,0(r2) ;\n lwz r1,0(r2) | lwz r1,0(r2) ;\n lwz r1,0(r2) | lwz r
 ;\nexists (0:r1=0)\n";
 
 #[test]
-fn cuts_of_loads_12_8(rt: HostRuntime) -> Result<(), Fail> {
-    let a = rt.alloc();
-    expect_round_trip(&rt, a, LOADS_12_8)?;
+fn cuts_of_loads_12_8(rt: HostRuntime) {
     expect_cuts(
         &rt,
-        a,
+        rt.alloc(),
         LOADS_12_8,
         b"11122222223333333333333333333333335555555555555555555555555555555777777777777777777777\
     77777777777777777777777777777777777777777777777777777777777777777777777777777777777777\
@@ -483,7 +462,7 @@ fn cuts_of_loads_12_8(rt: HostRuntime) -> Result<(), Fail> {
     10000100000120010000100000012001000010000012001000010000001200100001000000000000000000\
     00012001000010000000000000000000001200100001000000000000000000000120010000100000000000\
     00000000012345000001000..",
-    )
+    );
 }
 
 const LOADS_12_9: &[u8] =
@@ -495,12 +474,10 @@ wz r1,0(r2) ;\n lwz r1,0(r2) |              ;\n lwz r1,0(r2) |              ;\n 
 ,0(r2) |              ;\nexists (0:r1=0)\n";
 
 #[test]
-fn cuts_of_loads_12_9(rt: HostRuntime) -> Result<(), Fail> {
-    let a = rt.alloc();
-    expect_round_trip(&rt, a, LOADS_12_9)?;
+fn cuts_of_loads_12_9(rt: HostRuntime) {
     expect_cuts(
         &rt,
-        a,
+        rt.alloc(),
         LOADS_12_9,
         b"11122222223333333333333333333333335555555555555555555555555555555777777777777777777777\
     77777777777777777777777777777777777777777777777777777777777777777777777777777777777777\
@@ -514,7 +491,7 @@ fn cuts_of_loads_12_9(rt: HostRuntime) -> Result<(), Fail> {
     10000100000120010000100000012001000010000012001000010000001200100001000001200100001000\
     00012001000010000000000000000000001200100001000000000000000000000120010000100000000000\
     00000000012345000001000..",
-    )
+    );
 }
 
 const LOADS_13_0: &[u8] =
@@ -524,12 +501,10 @@ r1,0(r2) ;\n lwz r1,0(r2) ;\n lwz r1,0(r2) ;\n lwz r1,0(r2) ;\n lwz r1,0(r2) ;\n
 1,0(r2) ;\nexists (0:r1=0)\n";
 
 #[test]
-fn cuts_of_loads_13_0(rt: HostRuntime) -> Result<(), Fail> {
-    let a = rt.alloc();
-    expect_round_trip(&rt, a, LOADS_13_0)?;
+fn cuts_of_loads_13_0(rt: HostRuntime) {
     expect_cuts(
         &rt,
-        a,
+        rt.alloc(),
         LOADS_13_0,
         b"11122222223333333333333333555555555555555577777777777777777777777777777777777777777777\
     77777777777777777777777777777777777777777777777777777777777777777777777777777777777777\
@@ -539,7 +514,7 @@ fn cuts_of_loads_13_0(rt: HostRuntime) -> Result<(), Fail> {
     10000001200100001000000120010000100000012001000010000001200100001000000120010000100000\
     01200100001000000120010000100000012001000010000001200100001000000120010000100000123450\
     00001000..",
-    )
+    );
 }
 
 const PAIRS_14: &[u8] =
@@ -554,12 +529,10 @@ w r1,0(r11) ;\n stw r1,0(r11) ;\n stw r1,0(r12) ;\n stw r1,0(r12) ;\n stw r1,0(r
 5) ;\nexists ([x0]=1)\n";
 
 #[test]
-fn cuts_of_pairs_14(rt: HostRuntime) -> Result<(), Fail> {
-    let a = rt.alloc();
-    expect_round_trip(&rt, a, PAIRS_14)?;
+fn cuts_of_pairs_14(rt: HostRuntime) {
     expect_cuts(
         &rt,
-        a,
+        rt.alloc(),
         PAIRS_14,
         b"11122222223333333333333333333333333333333333333333333333333333333333333333333333333333\
     33333333333333333333333333333333333333333333333333333333333333355555555555555555777777\
@@ -577,7 +550,7 @@ fn cuts_of_pairs_14(rt: HostRuntime) -> Result<(), Fail> {
     00010000000120010000100000001200100001000000012001000010000000120010000100000001200100\
     00100000001200100001000000012001000010000000120010000100000001200100001000000012001000\
     0100000001200100001000000012001000010000000120010000100000012345000000000..",
-    )
+    );
 }
 
 const PAIRS_15: &[u8] =
@@ -592,12 +565,10 @@ w r1,0(r8)  ;\n stw r1,0(r9)  ;\n stw r1,0(r9)  ;\n stw r1,0(r10) ;\n stw r1,0(r
 0(r15) ;\n stw r1,0(r16) ;\n stw r1,0(r16) ;\nexists ([x0]=1)\n";
 
 #[test]
-fn cuts_of_pairs_15(rt: HostRuntime) -> Result<(), Fail> {
-    let a = rt.alloc();
-    expect_round_trip(&rt, a, PAIRS_15)?;
+fn cuts_of_pairs_15(rt: HostRuntime) {
     expect_cuts(
         &rt,
-        a,
+        rt.alloc(),
         PAIRS_15,
         b"11122222223333333333333333333333333333333333333333333333333333333333333333333333333333\
     33333333333333333333333333333333333333333333333333333333333333333333333333555555555555\
@@ -617,7 +588,7 @@ fn cuts_of_pairs_15(rt: HostRuntime) -> Result<(), Fail> {
     00001200100001000000012001000010000000120010000100000001200100001000000012001000010000\
     00012001000010000000120010000100000001200100001000000012001000010000000120010000100000\
     00120010000100000012345000000000..",
-    )
+    );
 }
 
 const VALUES_16: &[u8] =
@@ -626,18 +597,16 @@ const VALUES_16: &[u8] =
 (0:r1=1)\n";
 
 #[test]
-fn cuts_of_values_16(rt: HostRuntime) -> Result<(), Fail> {
-    let a = rt.alloc();
-    expect_round_trip(&rt, a, VALUES_16)?;
+fn cuts_of_values_16(rt: HostRuntime) {
     expect_cuts(
         &rt,
-        a,
+        rt.alloc(),
         VALUES_16,
         b"11122222222333333333333333333333333333333333333333333333333333333333333333333333333333\
     33333333333333333333333333333333333355555555555777777777777777777CCCCCCCCC..",
         b"01200000000000000000000000000000000000000000000000000000000000000000000000020000000200\
     00000200000002000000020000000200000000010000000000100100000012345000001000..",
-    )
+    );
 }
 
 const VALUES_17: &[u8] =
@@ -646,16 +615,14 @@ const VALUES_17: &[u8] =
 ;\nexists (0:r1=1)\n";
 
 #[test]
-fn cuts_of_values_17(rt: HostRuntime) -> Result<(), Fail> {
-    let a = rt.alloc();
-    expect_round_trip(&rt, a, VALUES_17)?;
+fn cuts_of_values_17(rt: HostRuntime) {
     expect_cuts(
         &rt,
-        a,
+        rt.alloc(),
         VALUES_17,
         b"11122222222333333333333333333333333333333333333333333333333333333333333333333333333333\
     3333333333333333333333333333333333333333333355555555555777777777777777777CCCCCCCCC..",
         b"01200000000000000000000000000000000000000000000000000000000000000000000000020000000200\
     0000020000000200000002000000020000000200000000010000000000100100000012345000001000..",
-    )
+    );
 }
