@@ -2,6 +2,9 @@ pub mod MapInPlace
 pub mod RunList
 pub mod RunsExact
 pub mod Sorted
+pub mod Sorting
+pub mod Starting
+pub mod OfTest
 pub mod Bounds
 pub mod Rising
 pub mod FreeLines

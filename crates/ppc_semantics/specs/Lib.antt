@@ -6,3 +6,4 @@ pub mod ValueSet
 pub mod FreeRuns
 pub mod FreeWalks
 pub mod Domain
+pub mod Lowering

@@ -4,6 +4,7 @@ ghost use Rattle.std.specs.List.{AllPairs};
 ghost use Rattle.ppc_semantics.specs.Runs.{IsLess};
 ghost use Rattle.std.specs.List.{flat_map};
 ghost use Rattle.ppc_semantics.specs.AllRuns as all;
+ghost use Rattle.ppc_semantics.specs.Lowering as low;
 
 use crate::instruction::{Event, Instruction, Line, Program};
 use crate::lowering::program;
@@ -289,12 +290,17 @@ pub fn runs_of(
     }
 }
 
-/// The runs of a thread of the test over the domain.
+/// The runs of a thread of the test over the domain, in lexicographic order of their value
+/// lists. A thread that is not there has none.
 pub fn runs(
     alloc: Global,
     test: &Test,
     thread: usize,
     domain: &Domain,
-) -> Result<Vec<Run>, AllocError> {
-    runs_of(alloc, &program(alloc, test)?, thread, domain)
+) -> Result<Vec<Run>, AllocError>
+    ensures runs { IfOk result (λ v. AllPairs IsLess domain.now.values.items → thread < vec_len test.now.threads → low.ShowsTestRuns test.now thread domain.now.values.items v.items) }
+    ensures no_thread { IfOk result (λ v. vec_len test.now.threads ≤ thread → v.items ≡ []) }
+{
+    let program = program(alloc, test)?;
+    runs_of(alloc, &program, thread, domain)
 }

@@ -1,57 +1,121 @@
 //! From the text of a test to numbers.
+ghost use Rattle.std.specs.Prelude.{◌≡◌, ◌++◌, ◌∷◌, [], IfOk, OnOk, length, replicate};
+ghost use Rattle.std.specs.List.{AllPairs, flat_map};
+ghost use Rattle.std.specs.List.Sorted.{IsBinarySearchResult, IsSearchInRange};
+ghost use Rattle.litmus_values.specs.Value.{formula_of};
+ghost use Rattle.ppc_semantics.specs.Domain.{AreProper};
+ghost use Rattle.ppc_semantics.specs.Lowering as low;
 
 use crate::instruction::{Instruction, Line, Program};
 use crate::value::Value;
-use litmus_ppc::{Condition, Place, Proposition, Step, Test, Thread};
+use litmus_ppc::{InitEntry, Place, Proposition, Step, Test, Thread};
 use source_text::Name;
 use std::alloc::{AllocError, Global};
+use std::cmp::Ordering;
 
-/// Names in the order of their bytes, each once.
-fn note(alloc: Global, names: &mut Vec<Name>, name: &Name) -> Result<(), AllocError> {
-    let found = names.binary_search_by(|other| other.as_bytes().cmp(name.as_bytes()));
-    if let Err(place) = found {
-        names.insert(place, name.copied(alloc)?)?;
+/// How two names stand in the order of their bytes.
+fn compare(left: &Name, right: &Name) -> Ordering
+    ensures { result ≡ low.name_cmp left.now right.now }
+{
+    left.as_bytes().cmp(right.as_bytes())
+}
+
+/// Where the name stands among names in the order of their bytes, or the place where it is missing.
+fn place_of(names: &[Name], name: &Name) -> Result<usize, usize>
+    ensures bound { IsSearchInRange result (length names.now) }
+    ensures position { IsBinarySearchResult (λ other. low.name_cmp other name.now) names.now result }
+{
+    names.binary_search_by(
+        |other: &Name| -> Ordering
+            ensures { result ≡ low.name_cmp other.now name.entry.now }
+        { compare(other, name) },
+    )
+}
+
+/// Adds the name at its place in the order, if it is not there.
+fn note(alloc: Global, names: &mut Vec<Name>, name: &Name) -> Result<(), AllocError>
+    requires { AllPairs low.IsBefore names.old.items }
+    ensures rising { AllPairs low.IsBefore names.new.items }
+    ensures noted { OnOk result (low.Adds (name.now ∷ []) names.old.items names.new.items) }
+{
+    match place_of(names, name) {
+        Ok(_) => Ok(()),
+        Err(place) => {
+            let copy = name.copied(alloc)?;
+            names.insert(place, copy)?;
+            Ok(())
+        }
     }
-    Ok(())
 }
 
 /// The number of a name: its place, or how many there are where it is not among them.
-fn number_of(names: &[Name], name: &Name) -> usize {
-    match names.binary_search_by(|other| other.as_bytes().cmp(name.as_bytes())) {
+fn number_of(names: &[Name], name: &Name) -> usize
+    requires { AllPairs low.IsBefore names.now }
+    ensures { result ≡ low.number_of names.now name.now }
+{
+    match place_of(names, name) {
         Ok(place) => place,
         Err(_) => names.len(),
     }
 }
 
-fn note_place(alloc: Global, names: &mut Vec<Name>, place: &Place) -> Result<(), AllocError> {
+/// Adds the location that the place is, if it is one.
+fn note_place(alloc: Global, names: &mut Vec<Name>, place: &Place) -> Result<(), AllocError>
+    requires { AllPairs low.IsBefore names.old.items }
+    ensures rising { AllPairs low.IsBefore names.new.items }
+    ensures noted { OnOk result (low.Adds (low.place_names place.now) names.old.items names.new.items) }
+{
     match place {
         Place::Location(name) => note(alloc, names, name),
         Place::Register(_, _) => Ok(()),
     }
 }
 
+/// Adds the location whose address the value is, if it is one.
 fn note_value(
     alloc: Global,
     names: &mut Vec<Name>,
     value: &litmus_ppc::Value,
-) -> Result<(), AllocError> {
+) -> Result<(), AllocError>
+    requires { AllPairs low.IsBefore names.old.items }
+    ensures rising { AllPairs low.IsBefore names.new.items }
+    ensures noted { OnOk result (low.Adds (low.value_names value.now) names.old.items names.new.items) }
+{
     match value {
         litmus_ppc::Value::Address(name) => note(alloc, names, name),
         litmus_ppc::Value::Number(_) => Ok(()),
     }
 }
 
+/// Adds the locations of a place and of the value that it holds.
+fn note_both(
+    alloc: Global,
+    names: &mut Vec<Name>,
+    place: &Place,
+    value: &litmus_ppc::Value,
+) -> Result<(), AllocError>
+    requires { AllPairs low.IsBefore names.old.items }
+    ensures rising { AllPairs low.IsBefore names.new.items }
+    ensures noted { OnOk result (low.Adds (low.place_names place.now ++ low.value_names value.now) names.old.items names.new.items) }
+{
+    note_place(alloc, names, place)?;
+    note_value(alloc, names, value)?;
+    Ok(())
+}
+
+/// Adds the locations that the proposition names.
 fn note_proposition(
     alloc: Global,
     names: &mut Vec<Name>,
     proposition: &Proposition,
-) -> Result<(), AllocError> {
+) -> Result<(), AllocError>
+    requires { AllPairs low.IsBefore names.old.items }
+    ensures rising { AllPairs low.IsBefore names.new.items }
+    ensures noted { OnOk result (low.Adds (low.formula_names (formula_of proposition.now)) names.old.items names.new.items) }
+{
     match proposition {
         Proposition::Constant(_) => Ok(()),
-        Proposition::Holds(place, value) => {
-            note_place(alloc, names, place)?;
-            note_value(alloc, names, value)
-        }
+        Proposition::Holds(place, value) => note_both(alloc, names, place, value),
         Proposition::Not(part) => note_proposition(alloc, names, part),
         Proposition::Joined(_, left, right) => {
             note_proposition(alloc, names, left)?;
@@ -60,49 +124,133 @@ fn note_proposition(
     }
 }
 
+/// Adds the locations that the entries name.
+fn note_init(alloc: Global, names: &mut Vec<Name>, init: &[InitEntry]) -> Result<(), AllocError>
+    requires { AllPairs low.IsBefore names.old.items }
+    ensures rising { AllPairs low.IsBefore names.new.items }
+    ensures noted { OnOk result (low.Adds (flat_map low.entry_names init.now) names.old.items names.new.items) }
+{
+    for entry in init {
+        note_both(alloc, names, &entry.place, &entry.value)?;
+    }
+    Ok(())
+}
+
+/// Adds those of the places that are locations.
+fn note_places(alloc: Global, names: &mut Vec<Name>, places: &[Place]) -> Result<(), AllocError>
+    requires { AllPairs low.IsBefore names.old.items }
+    ensures rising { AllPairs low.IsBefore names.new.items }
+    ensures noted { OnOk result (low.Adds (flat_map low.place_names places.now) names.old.items names.new.items) }
+{
+    for place in places {
+        note_place(alloc, names, place)?;
+    }
+    Ok(())
+}
+
 /// All locations of the test, as places and as values.
-fn locations_of(alloc: Global, test: &Test) -> Result<Vec<Name>, AllocError> {
+fn locations_of(alloc: Global, test: &Test) -> Result<Vec<Name>, AllocError>
+    ensures { IfOk result (λ v. low.AreNames (low.test_names test.now) v.items) }
+{
     let mut names = Vec::new(alloc);
-    for entry in &test.init {
-        note_place(alloc, &mut names, &entry.place)?;
-        note_value(alloc, &mut names, &entry.value)?;
-    }
-    let Condition { proposition, .. } = &test.condition;
-    note_proposition(alloc, &mut names, proposition)?;
-    for place in &test.observed {
-        note_place(alloc, &mut names, place)?;
-    }
+    note_init(alloc, &mut names, &test.init)?;
+    note_proposition(alloc, &mut names, &test.condition.proposition)?;
+    note_places(alloc, &mut names, &test.observed)?;
     Ok(names)
 }
 
-fn value_of(locations: &[Name], value: &litmus_ppc::Value) -> Value {
+/// The value, with an address by the number of its location.
+fn value_of(locations: &[Name], value: &litmus_ppc::Value) -> Value
+    requires { AllPairs low.IsBefore locations.now }
+    ensures { result ≡ low.value_of locations.now value.now }
+{
     match value {
         litmus_ppc::Value::Number(n) => Value::Number(n.cast_unsigned()),
         litmus_ppc::Value::Address(name) => Value::Address(number_of(locations, name)),
     }
 }
 
-/// What the locations and the registers hold at the start.
-fn initialise(test: &Test, program: &mut Program) {
-    for entry in &test.init {
-        let value = value_of(&program.locations, &entry.value);
-        match &entry.place {
-            Place::Location(name) => {
-                let place = number_of(&program.locations, name);
-                if let Some(held) = program.initial.get_mut(place) {
-                    *held = value;
-                }
+/// Writes the value of the entry at the number of its location, if it is for one.
+fn put_location(locations: &[Name], entry: &InitEntry, initial: &mut Vec<Value>)
+    requires { AllPairs low.IsBefore locations.now }
+    ensures { initial.new.items ≡ low.put_location locations.now entry.now.place (low.value_of locations.now entry.now.value) initial.old.items }
+{
+    match &entry.place {
+        Place::Location(name) => {
+            let number = number_of(locations, name);
+            if number < initial.len() {
+                initial[number] = value_of(locations, &entry.value);
             }
-            Place::Register(thread, register) => {
-                if let Some(file) = program.registers.get_mut(*thread) {
-                    file[usize::from(register.number())] = value;
-                }
+        }
+        Place::Register(_, _) => {}
+    }
+}
+
+/// What the locations hold at the start.
+fn initial_of(
+    alloc: Global,
+    init: &[InitEntry],
+    locations: &[Name],
+) -> Result<Vec<Value>, AllocError>
+    requires { AllPairs low.IsBefore locations.now }
+    ensures { IfOk result (λ v. low.AreInitial init.now locations.now v.items) }
+{
+    let mut initial = vec![in alloc; Value::Number(0); locations.len()]?;
+    for entry in init {
+        put_location(locations, entry, &mut initial);
+    }
+    Ok(initial)
+}
+
+/// Writes the value of the entry into its register, if it is for one of a thread that is there.
+fn put_register(locations: &[Name], entry: &InitEntry, registers: &mut Vec<[Value; 32]>)
+    requires { AllPairs low.IsBefore locations.now }
+    ensures { registers.new.items ≡ low.put_register entry.now.place (low.value_of locations.now entry.now.value) registers.old.items }
+{
+    match &entry.place {
+        Place::Location(_) => {}
+        Place::Register(thread, register) => {
+            if *thread < registers.len() {
+                let value = value_of(locations, &entry.value);
+                registers[*thread][usize::from(register.number())] = value;
             }
         }
     }
 }
 
-fn instruction_of(labels: &[Name], instruction: &litmus_ppc::Instruction) -> Instruction {
+/// The registers of so many threads, which all hold 0.
+fn blank_files(alloc: Global, threads: usize) -> Result<Vec<[Value; 32]>, AllocError>
+    ensures { IfOk result (λ v. v.items ≡ replicate threads low.blank) }
+{
+    let mut registers = Vec::new(alloc);
+    for _ in 0..threads {
+        registers.push([Value::Number(0); 32])?;
+    }
+    Ok(registers)
+}
+
+/// What the registers of so many threads hold at the start.
+fn registers_of(
+    alloc: Global,
+    init: &[InitEntry],
+    locations: &[Name],
+    threads: usize,
+) -> Result<Vec<[Value; 32]>, AllocError>
+    requires { AllPairs low.IsBefore locations.now }
+    ensures { IfOk result (λ v. low.AreFiles init.now locations.now threads v.items) }
+{
+    let mut registers = blank_files(alloc, threads)?;
+    for entry in init {
+        put_register(locations, entry, &mut registers);
+    }
+    Ok(registers)
+}
+
+/// The instruction, with its label by number.
+fn instruction_of(labels: &[Name], instruction: &litmus_ppc::Instruction) -> Instruction
+    requires { AllPairs low.IsBefore labels.now }
+    ensures { result ≡ low.instruction_of labels.now instruction.now }
+{
     match instruction {
         litmus_ppc::Instruction::LoadImmediate { target, value } => {
             Instruction::Immediate(target.number(), value.cast_unsigned())
@@ -151,49 +299,78 @@ fn instruction_of(labels: &[Name], instruction: &litmus_ppc::Instruction) -> Ins
     }
 }
 
-fn labels_of(alloc: Global, thread: &Thread) -> Result<Vec<Name>, AllocError> {
+/// Adds the label that the step is, if it is one.
+fn note_label(alloc: Global, labels: &mut Vec<Name>, step: &Step) -> Result<(), AllocError>
+    requires { AllPairs low.IsBefore labels.old.items }
+    ensures rising { AllPairs low.IsBefore labels.new.items }
+    ensures noted { OnOk result (low.Adds (low.labels_in step.now) labels.old.items labels.new.items) }
+{
+    match step {
+        Step::Label(name) => note(alloc, labels, name),
+        Step::Instruction(_) => Ok(()),
+    }
+}
+
+/// The labels of a thread in the order of their bytes.
+fn labels_of(alloc: Global, steps: &[Step]) -> Result<Vec<Name>, AllocError>
+    ensures { IfOk result (λ v. low.AreNames (flat_map low.labels_in steps.now) v.items) }
+{
     let mut labels = Vec::new(alloc);
-    for step in &thread.steps {
-        match step {
-            Step::Label(name) => note(alloc, &mut labels, name)?,
-            Step::Instruction(_) => {}
-        }
+    for step in steps {
+        note_label(alloc, &mut labels, step)?;
     }
     Ok(labels)
 }
 
-fn lines_of(alloc: Global, thread: &Thread) -> Result<Vec<Line>, AllocError> {
-    let labels = labels_of(alloc, thread)?;
+/// The line that the step is.
+fn line_of(labels: &[Name], step: &Step) -> Line
+    requires { AllPairs low.IsBefore labels.now }
+    ensures { result ≡ low.line_of labels.now step.now }
+{
+    match step {
+        Step::Label(name) => Line::Label(number_of(labels, name)),
+        Step::Instruction(instruction) => Line::Does(instruction_of(labels, instruction)),
+    }
+}
+
+/// The lines of a thread, with the numbers of its labels.
+fn lines_of(alloc: Global, steps: &[Step]) -> Result<Vec<Line>, AllocError>
+    ensures { IfOk result (λ v. low.AreLines steps.now v.items) }
+{
+    let labels = labels_of(alloc, steps)?;
     let mut lines = Vec::new(alloc);
-    for step in &thread.steps {
-        lines.push(match step {
-            Step::Label(name) => Line::Label(number_of(&labels, name)),
-            Step::Instruction(instruction) => Line::Does(instruction_of(&labels, instruction)),
-        })?;
+    for step in steps {
+        lines.push(line_of(&labels, step))?;
     }
     Ok(lines)
 }
 
+/// The lines of all threads.
+fn threads_of(alloc: Global, threads: &[Thread]) -> Result<Vec<Vec<Line>>, AllocError>
+    ensures { IfOk result (λ v. low.AreThreads threads.now v.items) }
+{
+    let mut made = Vec::new(alloc);
+    for thread in threads {
+        let lines = lines_of(alloc, &thread.steps)?;
+        made.push(lines)?;
+    }
+    Ok(made)
+}
+
 /// The test by numbers: its locations sorted by name bytes, and the labels of each thread
 /// likewise. What the test does not mention starts at 0.
-pub fn program(alloc: Global, test: &Test) -> Result<Program, AllocError> {
+pub fn program(alloc: Global, test: &Test) -> Result<Program, AllocError>
+    ensures program { IfOk result (λ p. low.IsProgram test.now p) }
+    ensures proper { IfOk result (λ p. AreProper p) }
+{
     let locations = locations_of(alloc, test)?;
-    let mut initial = Vec::new(alloc);
-    for _ in &locations {
-        initial.push(Value::Number(0))?;
-    }
-    let mut threads = Vec::new(alloc);
-    let mut registers = Vec::new(alloc);
-    for thread in &test.threads {
-        threads.push(lines_of(alloc, thread)?)?;
-        registers.push([Value::Number(0); 32])?;
-    }
-    let mut program = Program {
+    let initial = initial_of(alloc, &test.init, &locations)?;
+    let threads = threads_of(alloc, &test.threads)?;
+    let registers = registers_of(alloc, &test.init, &locations, test.threads.len())?;
+    Ok(Program {
         locations,
         initial,
         threads,
         registers,
-    };
-    initialise(test, &mut program);
-    Ok(program)
+    })
 }

@@ -9,6 +9,7 @@ ghost use Rattle.ppc_semantics.specs.AllRuns as all;
 ghost use Rattle.ppc_semantics.specs.FreeRuns.{HasFreeRuns};
 ghost use Rattle.ppc_semantics.specs.FreeWalks.{AreAdded};
 ghost use Rattle.ppc_semantics.specs.Domain as dom;
+ghost use Rattle.ppc_semantics.specs.Lowering as low;
 
 use crate::enumerate::run_count;
 use crate::fault::{EvalRefusal, SpaceFault};
@@ -288,8 +289,14 @@ pub fn domain_of(alloc: Global, program: &Program) -> Result<Domain, SpaceFault>
     Ok(Domain { values })
 }
 
-/// The domain of a test, or its refusal.
-pub fn domain(alloc: Global, test: &Test) -> Result<Domain, SpaceFault> {
-    let program = program(alloc, test)?;
-    domain_of(alloc, &program)
+/// The domain of a test, or its refusal: those of its program.
+pub fn domain(alloc: Global, test: &Test) -> Result<Domain, SpaceFault>
+    ensures set { IfOk result (λ d. IsSet d.values.items) }
+    ensures domain { IfOk result (λ d. low.IsTestDomain test.now d.values.items) }
+    ensures fault { IfErr result (λ e. low.IsTestFault test.now e) }
+{
+    match program(alloc, test) {
+        Ok(program) => domain_of(alloc, &program),
+        Err(fault) => Err(SpaceFault::OutOfMemory(fault)),
+    }
 }
