@@ -6,41 +6,75 @@ use candidates::{Combination, Execution};
 use cat_values::Predefined;
 use std::alloc::{AllocError, Global};
 
-/// The predefined names of one candidate, all over the number of its events.
+/// The predefined names of one candidate, all over the number of its events (the herd7 manual,
+/// chapter on cat, section on predefined names).
 #[derive(Drop)]
 pub struct BaseEnv {
+    /// `R`: the loads.
     pub r_set: EventSet,
+    /// `W`: the stores, with the initial ones.
     pub w_set: EventSet,
+    /// `M`: loads and stores.
     pub m_set: EventSet,
+    /// `F`: the fences.
     pub f_set: EventSet,
+    /// `IW`: the initial stores.
     pub iw_set: EventSet,
+    /// `SYNC`: the `sync` fences.
     pub sync_set: EventSet,
+    /// `LWSYNC`: the `lwsync` fences.
     pub lwsync_set: EventSet,
+    /// `EIEIO`: the `eieio` fences.
     pub eieio_set: EventSet,
+    /// `ISYNC`: the `isync` fences.
     pub isync_set: EventSet,
+    /// `id`: each event with itself.
     pub id_rel: Rel,
+    /// `po`: an event and a later one of its thread.
     pub po_rel: Rel,
+    /// `loc`: accesses of one location, each with itself too.
     pub loc_rel: Rel,
+    /// `po-loc`: `po & loc`.
     pub po_loc_rel: Rel,
+    /// `int`: events of one thread, each with itself too.
     pub int_rel: Rel,
+    /// `ext`: the complement of `int` over all events.
     pub ext_rel: Rel,
+    /// `rf`: a store and a load that reads it.
     pub rf_rel: Rel,
+    /// `co`: a store and a later one in the order of its location's stores.
     pub co_rel: Rel,
+    /// `fr`: a load and a store that is `co`-after the one that it reads.
     pub fr_rel: Rel,
+    /// `rfe`: `rf & ext`.
     pub rfe_rel: Rel,
+    /// `rfi`: `rf & int`.
     pub rfi_rel: Rel,
+    /// `coe`: `co & ext`.
     pub coe_rel: Rel,
+    /// `coi`: `co & int`.
     pub coi_rel: Rel,
+    /// `fre`: `fr & ext`.
     pub fre_rel: Rel,
+    /// `fri`: `fr & int`.
     pub fri_rel: Rel,
+    /// `com`: `rf | co | fr`.
     pub com_rel: Rel,
+    /// `addr`: a load and an access whose address depends on it.
     pub addr_rel: Rel,
+    /// `data`: a load and a store whose value depends on it.
     pub data_rel: Rel,
+    /// `ctrl`: a load and an event behind a branch that depends on it.
     pub ctrl_rel: Rel,
+    /// `ctrlisync`: a load and an event behind an `isync` that is `ctrl`-after it.
     pub ctrlisync_rel: Rel,
+    /// `sync`: accesses of a thread with a `sync` between them.
     pub sync_rel: Rel,
+    /// `lwsync`: accesses of a thread with an `lwsync` between them.
     pub lwsync_rel: Rel,
+    /// `eieio`: accesses of a thread with an `eieio` between them.
     pub eieio_rel: Rel,
+    /// `isync`: accesses of a thread with an `isync` between them.
     pub isync_rel: Rel,
 }
 
@@ -104,7 +138,7 @@ fn env_of(base: &Base) -> BaseEnv {
     }
 }
 
-/// All predefined names of a candidate.
+/// All predefined names of a candidate. Errors: want of memory.
 pub fn base(alloc: Global, execution: &Execution) -> Result<Box<BaseEnv>, AllocError> {
     let combination = combination(alloc, execution)?;
     let mut base = Base::new(alloc, &combination)?;

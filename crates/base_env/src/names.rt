@@ -189,7 +189,7 @@ fn find_shared(shared: &[Shared], name: Predefined) -> Option<&Rel>
 
 impl Base {
     /// The predefined names over the candidates of a combination, before the first `read_from`
-    /// and `order`.
+    /// and `order`. Errors: want of memory.
     pub fn new(alloc: Global, combination: &Combination) -> Result<Base, AllocError>
         ensures entered { IfOk result (λ base. IsEntered base combination.now) }
         ensures sets { IfOk result (λ base. (name : _) → IsTrue (is_set name) → Contains (set_names base.sets) name) }
@@ -201,7 +201,7 @@ impl Base {
     }
 
     /// Some of the predefined names, before the first `enter`. Only these may be asked for: sets
-    /// and relations of other names may be empty.
+    /// and relations of other names may be empty. Errors: want of memory.
     pub fn of_names(alloc: Global, names: &[Predefined]) -> Result<Base, AllocError>
         ensures known { IfOk result (λ base. IsConsistent base) }
         ensures sets { IfOk result (λ base. set_names base.sets ≡ filter is_set names.now) }

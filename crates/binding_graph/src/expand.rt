@@ -18,6 +18,7 @@ struct Operand {
 /// An expression in postfix order without applications.
 #[derive(Drop)]
 pub struct Expansion {
+    /// In postfix order.
     pub pieces: Vec<Piece>,
     operands: Vec<Operand>,
 }

@@ -26,7 +26,8 @@ use std::alloc::{AllocError, Global};
 /// Resolves a model.
 ///
 /// The fault that is answered is the first by item and then by place in the text; at one place
-/// the order is M1, M4, M6, M7, M3, M2, M5.
+/// the order is M1, M4, M6, M7, M3, M2, M5. Errors: the first fault of the model, by item and then
+/// by place, or want of memory.
 pub fn resolve(alloc: Global, text: &ModelText) -> Result<Resolved, ResolveFault>
     ensures whole { IfOk result (λ r. vec_len r.items ≡ vec_len text.now.items) }
     ensures fault { let names = reverse (map naming_of PREDEFINED) in let clauses = map clause_of text.now.items.items in ArePlainClauses clauses → MatchResult result (λ _. HasNoFault names 0 clauses) (λ e. IfRefused e (λ k. FirstFault names 0 clauses k)) }

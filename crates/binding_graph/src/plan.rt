@@ -16,6 +16,7 @@ use std::alloc::{AllocError, Global};
 /// A part of an expression, in postfix order.
 #[derive(Clone, Copy, Debug, PartialEq, Eq)]
 pub enum Node {
+    /// A part that is no application.
     Plain(Piece),
     /// A function of the scope, after its arguments.
     Applied(usize),
@@ -24,6 +25,7 @@ pub enum Node {
 /// An expression in postfix order.
 #[derive(Drop)]
 pub struct Plan {
+    /// The parts so far.
     pub nodes: Vec<Node>,
     /// Whether the parameter stands somewhere under a complement or right of a difference.
     pub under: [bool; MAX_PARAMETERS],
@@ -32,6 +34,7 @@ pub struct Plan {
 }
 
 impl Plan {
+    /// An empty plan.
     pub fn new(alloc: Global) -> Plan
         ensures { result.nodes.items ≡ [] }
     {

@@ -7,6 +7,7 @@ use source_text::Name;
 /// What a name stands for, where it is used.
 #[derive(Clone, Copy, Debug, PartialEq, Eq)]
 pub enum Source {
+    /// A predefined name.
     Predefined(Predefined),
     /// A name of another item, by its place among the item's inputs.
     Input(usize),
@@ -17,28 +18,42 @@ pub enum Source {
 /// An operator on two sets or on two relations.
 #[derive(Clone, Copy, Debug, PartialEq, Eq)]
 pub enum Blend {
+    /// `|`
     Union,
+    /// `&`
     Intersection,
+    /// `\`
     Difference,
 }
 
 /// What is done with a stack of sets and a stack of relations.
 #[derive(Clone, Copy, Debug, PartialEq, Eq)]
 pub enum Step {
+    /// The set that a name stands for.
     PushSet(Source),
+    /// `_`, all events of the execution.
     PushAllEvents,
+    /// `{}`, the empty set.
     PushNoEvents,
+    /// Two sets to one.
     BlendSets(Blend),
+    /// A set to its complement.
     TurnSet,
+    /// The relation that a name stands for.
     PushRelation(Source),
+    /// `0`, the empty relation.
     PushNoPairs,
+    /// Two relations to one.
     BlendRelations(Blend),
+    /// Two relations to their composition.
     Compose,
     /// Two sets to their product.
     Multiply,
     /// A set to the identity on it.
     Restrict,
+    /// A relation to a closure of it, or to its inverse.
     Close(Postfix),
+    /// A relation to its complement.
     TurnRelation,
 }
 
@@ -47,21 +62,27 @@ pub enum Step {
 pub struct Code {
     /// A set or a relation.
     pub kind: Kind,
+    /// They leave the value alone on the stack of its kind.
     pub steps: Vec<Step>,
 }
 
 /// One name of a group.
 #[derive(Drop)]
 pub struct Body {
+    /// The name that is bound.
     pub name: Name,
+    /// What it stands for.
     pub code: Code,
 }
 
 /// A check or a flag.
 #[derive(Drop)]
 pub struct CheckCode {
+    /// Whether it holds where what is asked does not.
     pub negated: bool,
+    /// What is asked.
     pub word: CheckWord,
+    /// Of what it is asked.
     pub code: Code,
     /// The name that is raised, where it is a flag.
     pub flag: Option<Name>,
@@ -70,7 +91,9 @@ pub struct CheckCode {
 /// What an item does.
 #[derive(Drop)]
 pub enum Role {
+    /// Binds the names of a group, whose bodies use them where it is recursive.
     Group { recursive: bool, bodies: Vec<Body> },
+    /// Checks an expression, or flags it.
     Check(CheckCode),
     /// A function, a `show`, an `unshow` or an `include`.
     Silent,
@@ -79,6 +102,7 @@ pub enum Role {
 /// An item whose names are resolved.
 #[derive(Drop)]
 pub struct ResolvedItem {
+    /// What it does.
     pub role: Role,
     /// The names of other items that it uses, each once, in the order of first use.
     pub inputs: Vec<Input>,
@@ -90,5 +114,6 @@ pub struct ResolvedItem {
 /// A model without fault: its items in the order of the text.
 #[derive(Drop)]
 pub struct Resolved {
+    /// As many as the text has.
     pub items: Vec<ResolvedItem>,
 }

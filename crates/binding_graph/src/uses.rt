@@ -10,7 +10,9 @@ use std::alloc::{AllocError, Global};
 /// too, each once, in the order of first use.
 #[derive(Drop)]
 pub struct Uses {
+    /// The names, each by its slot and its item.
     pub values: Vec<Used>,
+    /// The functions, by their places in the scope.
     pub functions: Vec<usize>,
     /// For each slot its place among those used.
     places: Vec<Option<usize>>,

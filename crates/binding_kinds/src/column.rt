@@ -200,7 +200,8 @@ fn column_of(
     }
 }
 
-/// What a function, whose parameters the body sees, makes of arguments of all kinds.
+/// What a function, whose parameters the body sees, makes of arguments of all kinds. Errors: want
+/// of memory.
 pub fn signatures(
     alloc: Global,
     sight: &Sight,

@@ -6,12 +6,20 @@ ghost use Rattle.binding_kinds.specs.Numbers.{number};
 /// What is wrong with a model whose text reads.
 #[derive(Clone, Copy, Debug, PartialEq, Eq)]
 pub enum ModelFault {
+    /// M1: a name that is not bound.
     Unbound,
+    /// M2: an operator or a check that does not take its operands.
     Kind,
+    /// M3: a name of a recursive group, in that group, under `~` or right of `\`.
     NotMonotone,
+    /// M4: the second binding of a name in one group, or a parameter that stands twice.
     Duplicate,
+    /// M5: a body of a recursive group that is a set.
     SetInRec,
+    /// M6: a function with another number of arguments or with none, or arguments of what is no
+    /// function.
     Arity,
+    /// M7: an application of size over 4,096.
     TooLarge,
 }
 

@@ -14,15 +14,23 @@ pub const MAX_SIZE: usize = 4_096;
 /// A part of an expression without applications, in postfix order.
 #[derive(Clone, Copy, Debug, PartialEq, Eq)]
 pub enum Piece {
+    /// A name that is no parameter.
     Value(Found),
     /// A parameter of the function whose body it is.
     Parameter(usize),
+    /// `_`, all events.
     Everything,
+    /// `0`, the empty relation.
     NoPairs,
+    /// `{}`, the empty set.
     NoEvents,
+    /// An infix operator, after its two operands.
     Joined(Infix),
+    /// A postfix operator, after its operand.
     Marked(Postfix),
+    /// `~`, after its operand.
     Complement,
+    /// `[ ]`, after its operand.
     Identity,
 }
 
@@ -31,6 +39,7 @@ pub enum Piece {
 pub struct Function {
     /// The place of its item in the model.
     pub item: usize,
+    /// How many parameters it has.
     pub arity: usize,
     /// Whether the parameter stands somewhere under a complement or right of a difference.
     pub under: [bool; MAX_PARAMETERS],

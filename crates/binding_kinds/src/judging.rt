@@ -17,8 +17,11 @@ use source_text::Name;
 /// The kind of an expression, its size and its first fault.
 #[derive(Clone, Copy, Debug, PartialEq, Eq)]
 pub struct Judged {
+    /// `OfAny` where it holds an unbound name, or an operator or an application at fault.
     pub kind: Kind,
+    /// How many names, signs and operators it has, with the bodies of functions put in.
     pub size: usize,
+    /// The first by place, if there is one.
     pub fault: Option<ModelFault>,
 }
 

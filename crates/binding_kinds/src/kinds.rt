@@ -5,11 +5,15 @@ ghost use Rattle.binding_kinds.specs.Kinds.{joined, takes, marked, narrowed, is_
 
 use cat_values::{CheckWord, Infix};
 
-/// Whether an expression is a set of events or a relation, or fits either.
+/// Whether an expression is a set of events or a relation (the herd7 manual, chapter on cat), or
+/// fits either.
 #[derive(Clone, Copy, Debug, PartialEq, Eq)]
 pub enum Kind {
+    /// A set of events.
     OfSet,
+    /// A relation between events.
     OfRelation,
+    /// What fits as either, since it holds a fault.
     OfAny,
 }
 

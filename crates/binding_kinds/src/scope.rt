@@ -14,13 +14,16 @@ use std::alloc::{AllocError, Global};
 /// A name of another item: the item's place in the model, and the name's position in its group.
 #[derive(Clone, Copy, Debug, PartialEq, Eq)]
 pub struct Input {
+    /// From 0, in the order of the text.
     pub item: usize,
+    /// From 0.
     pub position: usize,
 }
 
 /// What binds a name.
 #[derive(Clone, Copy, Debug, PartialEq, Eq)]
 pub enum Binder {
+    /// The language.
     Predefined(Predefined),
     /// A name of a group.
     Bound(Input),
@@ -31,23 +34,31 @@ pub enum Binder {
 /// A name that stands for something.
 #[derive(Drop)]
 pub struct Entry {
+    /// How it is written.
     pub name: Name,
+    /// The kind of its value.
     pub kind: Kind,
+    /// What binds it.
     pub binder: Binder,
 }
 
 /// Where a name is bound, as a place in the scope, and what it stands for there.
 #[derive(Clone, Copy, Debug, PartialEq, Eq)]
 pub struct Found {
+    /// From 0.
     pub slot: usize,
+    /// The kind of its value.
     pub kind: Kind,
+    /// What binds it.
     pub binder: Binder,
 }
 
 /// A name of another item that an item uses, by its slot and by its place in that item.
 #[derive(Clone, Copy, Debug, PartialEq, Eq)]
 pub struct Used {
+    /// Its place in the scope.
     pub slot: usize,
+    /// Its item and its position there.
     pub input: Input,
 }
 
@@ -55,7 +66,9 @@ pub struct Used {
 /// scope grows.
 #[derive(Drop)]
 pub struct Scope {
+    /// The predefined names, then those of the items in the order of the text.
     pub entries: Vec<Entry>,
+    /// In the order of the text.
     pub functions: Vec<Function>,
 }
 
@@ -113,7 +126,7 @@ fn predefined_entries(alloc: Global, names: &[Predefined]) -> Result<Vec<Entry>,
 }
 
 impl Scope {
-    /// The predefined names.
+    /// The predefined names. Errors: want of memory.
     pub fn new(alloc: Global) -> Result<Scope, AllocError>
         ensures { IfOk result (λ s. map entry_of s.entries.items ≡ map naming_of PREDEFINED) }
     {

@@ -13,7 +13,9 @@ use source_text::Name;
 /// The names that an expression sees.
 #[derive(Clone, Copy)]
 pub struct Sight<'a> {
+    /// The names in scope, the latest last.
     pub entries: &'a [Entry],
+    /// The functions of the scope.
     pub functions: &'a [Function],
     /// The parameters of the function whose body it is.
     pub parameters: &'a [Name],
@@ -26,6 +28,7 @@ pub struct Sight<'a> {
 pub enum Meaning {
     /// A parameter, by its place.
     Parameter(usize),
+    /// A name of the scope that is no function.
     Value(Found),
 }
 
@@ -44,7 +47,8 @@ fn parameter(parameters: &[Name], name: &Name) -> Option<usize>
 }
 
 impl Sight<'_> {
-    /// What a name without arguments stands for.
+    /// What a name without arguments stands for. Errors: `Unbound` where nothing binds the name,
+    /// `Arity` where it is a function.
     pub fn value(&self, name: &Name) -> Result<Meaning, ModelFault>
         ensures { result ≡ meaning_of (parameter_of (reverse self.now.parameters.now) name.now) (found (reverse (map entry_of self.now.entries.now)) name.now) }
     {
@@ -61,7 +65,8 @@ impl Sight<'_> {
         }
     }
 
-    /// The function that a name with so many arguments stands for.
+    /// The function that a name with so many arguments stands for. Errors: `Unbound` where nothing
+    /// binds the name, `Arity` where it is no function of so many.
     pub fn function(&self, name: &Name, count: usize) -> Result<usize, ModelFault> {
         if parameter(self.parameters, name).is_some() {
             return Err(ModelFault::Arity);

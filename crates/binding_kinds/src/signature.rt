@@ -7,6 +7,7 @@ use crate::kinds::Kind;
 /// What an application makes of arguments of some kinds.
 #[derive(Clone, Copy, Debug, PartialEq, Eq)]
 pub struct Signature {
+    /// The kind of the application's value.
     pub kind: Kind,
     /// Whether an operator of the body does not take its operands.
     pub clashes: bool,

@@ -368,6 +368,7 @@ pub struct Parser {
 impl Parser {
     ghost use Rattle.cat_syntax.specs.ParserState.{state_of, AreSteps};
 
+    /// A reader that has taken no token.
     pub fn new(alloc: Global, form: Form) -> Parser
         ensures start { state_of result ≡ start form }
         ensures form { result.form ≡ form }

@@ -22,7 +22,9 @@ pub const MAX_PARAMETERS: usize = 8;
 /// The bindings of a `let` so far.
 #[derive(Drop)]
 pub struct Group {
+    /// Whether `rec` was read.
     pub recursive: bool,
+    /// Those whose expressions are read, in the order of the text.
     pub bindings: Vec<Binding>,
 }
 

@@ -15,16 +15,22 @@ use std::alloc::{AllocError, Global};
 /// The expressions of a `show` or an `unshow` so far.
 #[derive(Drop)]
 pub struct ShowHead {
+    /// Whether it is an `unshow`.
     pub hidden: bool,
+    /// In the order of the text.
     pub shown: Vec<ShownExpression>,
 }
 
 /// The item whose expression is read.
 #[derive(Drop)]
 pub enum Head {
+    /// A name of a group, after the bindings before it.
     Bound(Group, Name),
+    /// A function, by its name and its parameters.
     Function(Name, Vec<Name>),
+    /// A check or a flag.
     Check(CheckHead),
+    /// A `show` or an `unshow`.
     Show(ShowHead),
 }
 
@@ -33,11 +39,16 @@ pub enum Head {
 pub enum Part {
     /// Where a title may stand.
     Title,
+    /// Where an item may begin.
     Start,
+    /// In the head of a `let`.
     Let(LetPart),
+    /// After `flag`.
     AfterFlag,
     /// After `~`, with whether the check is a flag's.
     AfterTilde(bool),
+    /// In an item's expression: what stands open, how many operators there are, and what was read
+    /// last.
     Body(Head, Vec<Frame>, usize, Hole),
     /// After a check's `as`.
     Label(CheckHead, Expression),
@@ -45,7 +56,9 @@ pub enum Part {
     ShowLabel(ShowHead, Expression),
     /// After that label.
     AfterShowLabel(ShowHead),
+    /// After `include`.
     AfterInclude,
+    /// After the end, or after a refusal.
     Done,
 }
 

@@ -96,6 +96,7 @@ fn read_text(alloc: Global, bytes: &[u8], form: Form) -> Result<Vec<Item>, CatFa
 
 /// The model that a text means: an optional title, and its items. A refusal names the rule that the text breaks and
 /// the place of the first token that cannot stand, which is the text's length where it ends too early.
+/// Errors: such a refusal, or want of memory.
 pub fn read_model(alloc: Global, bytes: &[u8]) -> Result<ModelText, CatFault>
     // What is read is what the text means.
     ensures found { IfOk result (λ m. Reads Form.Model bytes.now (clauses_of m.items.items)) }
@@ -114,7 +115,8 @@ pub fn read_model(alloc: Global, bytes: &[u8]) -> Result<ModelText, CatFault>
     }
 }
 
-/// The one item that a text means, which has no title.
+/// The one item that a text means, which has no title. Errors: the first rule that the text breaks,
+/// with its byte, or want of memory.
 pub fn read_item(alloc: Global, bytes: &[u8]) -> Result<Item, CatFault>
     // What is read is the item that the text means.
     ensures found { IfOk result (λ item. Reads Form.Item bytes.now (clause_of item ∷ [])) }

@@ -16,6 +16,7 @@ use std::alloc::{AllocError, AllocFailed, Global};
 /// Why a token was not taken.
 #[derive(Drop)]
 pub enum StepError {
+    /// A growth was refused.
     OutOfMemory,
     /// The token breaks a rule.
     Refused(CatRule),
@@ -63,6 +64,7 @@ pub enum Hole {
     Brace,
     /// A name, which is a function where `(` follows.
     Named(Name),
+    /// A whole operand.
     Has(Expression),
     /// An operand and `*`.
     HasStar(Expression),

@@ -243,6 +243,7 @@ fn after_star_tilde(
 }
 
 /// A token within an expression, of which these frames are open and this many operators were read.
+/// Errors: want of memory, or the rule that this token, or the one before it, breaks.
 pub fn feed(
     alloc: Global,
     frames: Vec<Frame>,

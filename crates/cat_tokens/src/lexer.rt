@@ -14,7 +14,9 @@ use std::alloc::{AllocError, Global};
 /// What a text begins with, and how many bytes it takes.
 #[derive(Debug, Drop)]
 pub enum Front {
+    /// Blanks, line ends or a comment, of so many bytes.
     Layout(usize),
+    /// A token, of so many bytes.
     Lexeme(Token, usize),
 }
 
@@ -121,7 +123,7 @@ fn mark_or_sign(text: &[u8]) -> Front
     Front::Lexeme(sign_token(byte), 1)
 }
 
-/// What the text begins with.
+/// What the text begins with. Errors: want of memory.
 #[tactic(auto, unfolding(crate::specs::Lexer::front))]
 pub fn front_of(alloc: Global, text: &[u8]) -> Result<Front, AllocError>
     requires { 0 < length text.now }

@@ -6,12 +6,22 @@ ghost use Rattle.cat_tokens.specs.Tokens.{number_of};
 /// The rule that a text breaks, with its number.
 #[derive(Clone, Copy, Debug, PartialEq, Eq)]
 pub enum CatRule {
+    /// C1: a byte that begins no token.
     Token,
+    /// C2: a token that cannot stand there, where no other rule says so; a comment or a string that
+    /// does not end; an early end.
     Syntax,
+    /// C3: an `include` of another file than `cos.cat` and `stdlib.cat`.
     Include,
+    /// C4: a keyword of what is not read here, the token `++`, or `(` after a name that follows
+    /// `let rec` or `and`.
     Unsupported,
+    /// C5: the 257th item, the 65th name of a group or the ninth parameter.
     TooMany,
+    /// C6: the 65th of `(`, `[` and `~` that are open at once, or the 1,025th operator of an
+    /// expression.
     TooDeep,
+    /// C7: a text of over 65,536 bytes.
     TooLong,
 }
 

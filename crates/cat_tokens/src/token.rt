@@ -10,49 +10,81 @@ use source_text::Name;
 /// An infix operator of one sign that is never postfix.
 #[derive(Clone, Copy, Debug, PartialEq, Eq)]
 pub enum Sign {
+    /// `|`
     Bar,
+    /// `;`
     Semicolon,
+    /// `\`
     Backslash,
+    /// `&`
     Ampersand,
 }
 
 /// A postfix operator that is never infix.
 #[derive(Clone, Copy, Debug, PartialEq, Eq)]
 pub enum Mark {
+    /// `+`
     Plus,
+    /// `?`
     Question,
+    /// `^-1`
     Inverse,
 }
 
 /// A token, the end of the text, or what stands where no token begins.
 #[derive(Debug, Drop)]
 pub enum Token {
+    /// A name, which is no keyword.
     Name(Name),
     /// A string, by the text between its quotes.
     Quoted(Name),
+    /// An infix sign.
     Sign(Sign),
+    /// A postfix sign.
     Mark(Mark),
+    /// `*`, infix or postfix.
     Star,
+    /// `~`
     Tilde,
+    /// `(`
     Open,
+    /// `)`
     Close,
+    /// `[`
     OpenSquare,
+    /// `]`
     CloseSquare,
+    /// `{`
     OpenBrace,
+    /// `}`
     CloseBrace,
+    /// `_`
     Underscore,
+    /// `0`
     Zero,
+    /// `,`
     Comma,
+    /// `=`
     Equals,
+    /// `let`
     Let,
+    /// `rec`
     Rec,
+    /// `and`
     And,
+    /// `as`
     As,
+    /// `acyclic`, `irreflexive` or `empty`
     Check(CheckWord),
+    /// `flag`
     Flag,
+    /// `show`
     Show,
+    /// `unshow`
     Unshow,
+    /// `include`
     Include,
+    /// The end of the text.
     End,
     /// What stands nowhere, with the rule that it breaks.
     Broken(CatRule),

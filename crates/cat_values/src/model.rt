@@ -30,9 +30,10 @@ pub enum Postfix {
     Closure,
 }
 
-/// An expression. Grouping brackets are not kept.
+/// An expression (the herd7 manual, chapter on cat). Grouping brackets are not kept.
 #[derive(Debug, Drop)]
 pub enum Expression {
+    /// A name.
     Named(Name),
     /// `_`, all events
     Everything,
@@ -40,7 +41,9 @@ pub enum Expression {
     NoPairs,
     /// `{}`, the empty set
     NoEvents,
+    /// An infix operator between two operands.
     Joined(Infix, Box<Expression>, Box<Expression>),
+    /// A postfix operator behind its operand.
     Marked(Postfix, Box<Expression>),
     /// `~`
     Complement(Box<Expression>),
@@ -53,34 +56,44 @@ pub enum Expression {
 /// What a check asks of its expression.
 #[derive(Clone, Copy, Debug, PartialEq, Eq)]
 pub enum CheckWord {
+    /// `acyclic`: the relation has no cycle.
     Acyclic,
+    /// `irreflexive`: the relation has no event with itself.
     Irreflexive,
+    /// `empty`: the set or the relation is empty.
     Empty,
 }
 
 /// `["~"] ("acyclic" | "irreflexive" | "empty") e`
 #[derive(Debug, Drop)]
 pub struct Check {
+    /// Whether `~` stands before the word.
     pub negated: bool,
+    /// What is asked.
     pub word: CheckWord,
+    /// Of what it is asked.
     pub body: Expression,
 }
 
 /// One name of a group, with its body.
 #[derive(Debug, Drop)]
 pub struct Binding {
+    /// What is bound.
     pub name: Name,
+    /// What it stands for.
     pub body: Expression,
 }
 
 /// One expression of a `show` or an `unshow`.
 #[derive(Debug, Drop)]
 pub struct ShownExpression {
+    /// What is shown.
     pub body: Expression,
+    /// The name after `as`, if there is one.
     pub label: Option<Name>,
 }
 
-/// An item of a model.
+/// An item of a model: an instruction of cat, in the words of the herd7 manual, chapter on cat.
 #[derive(Debug, Drop)]
 pub enum Item {
     /// `let` or `let rec`, with one binding or more.
@@ -116,5 +129,6 @@ pub enum Item {
 /// A model: its items in the order of the text. The title is not kept.
 #[derive(Debug, Drop)]
 pub struct ModelText {
+    /// At most 256 where a text was read.
     pub items: Vec<Item>,
 }

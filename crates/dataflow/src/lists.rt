@@ -1,6 +1,7 @@
 //! What is found of a run.
 
-/// Pairs of places in the run's list of events, from 0, each list rising.
+/// The dependencies of Alglave, Maranget and Tautschnig, Herding Cats, TOPLAS 36(2), 2014, as pairs
+/// of places in the run's list of events, from 0, each list rising.
 #[derive(Debug, Drop)]
 pub struct Links {
     /// A load and an access whose address it reaches.

@@ -146,7 +146,7 @@ fn no_links(alloc: Global) -> Links
 /// How the loads of the run reach its events: along chains of instructions that are no accesses,
 /// each of which reads a register, or CR0, that was last written by the one before. An exclusive
 /// or, or a difference, of a register with itself carries all but `need`. A run of over 128 events
-/// has no links.
+/// has no links. Errors: want of memory.
 pub fn links(alloc: Global, run: &Run) -> Result<Links, AllocError>
     ensures within { IfOk result (IsWithin (chains.event_place (runs.executed run.now.steps.items) (length run.now.steps.items))) }
     ensures exact { chains.event_place (runs.executed run.now.steps.items) (length run.now.steps.items) ≤ 128 → IfOk result (found.AreLinks (runs.executed run.now.steps.items)) }

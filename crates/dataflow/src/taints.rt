@@ -10,7 +10,9 @@ use ppc_semantics::{Instruction, RunStep, cancels, is_load};
 /// For each register, and for CR0, the loads that reach it: bits, by their places among the events.
 #[derive(Clone, Copy)]
 pub struct Taints {
+    /// By the register's number.
     pub registers: [u128; 256],
+    /// Those that reach CR0.
     pub compared: u128,
 }
 

@@ -19,7 +19,9 @@ use std::collections::BTreeMap;
 /// The rule that a text breaks which the grammar allows, and the byte place of the part that breaks it.
 #[derive(Clone, Copy, Debug)]
 pub struct LateFault {
+    /// L10 or L11.
     pub rule: LitmusRule,
+    /// The byte of the label, from the beginning of the text.
     pub place: usize,
 }
 
@@ -31,6 +33,7 @@ pub struct PlacedThread {
 }
 
 impl PlacedThread {
+    /// A thread without steps.
     pub fn new(alloc: Global) -> PlacedThread
         ensures { thread_of result ≡ fresh }
     {
@@ -40,6 +43,7 @@ impl PlacedThread {
         }
     }
 
+    /// Adds a step, with the byte of its label where it has one. Errors: want of memory.
     pub fn push(&mut self, step: Step, place: usize) -> Result<(), AllocError>
         ensures { IfOk result (λ _. thread_of self.new ≡ noted step place (thread_of self.old)) }
     {
@@ -48,6 +52,7 @@ impl PlacedThread {
         Ok(())
     }
 
+    /// The thread without the bytes.
     pub fn into_thread(self) -> Thread
         ensures { result.steps.items ≡ (thread_of self).steps }
     {

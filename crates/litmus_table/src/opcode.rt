@@ -8,37 +8,55 @@ use litmus_values::{BranchCondition, Fence, Operation};
 /// The word that begins an instruction.
 #[derive(Clone, Copy, Debug, PartialEq, Eq)]
 pub enum Opcode {
+    /// The word of an instruction with registers and numbers.
     Data(DataOpcode),
     /// A branch to a label, with its condition if it has one.
     Branch(Option<BranchCondition>),
+    /// A barrier, which has no operands.
     Fence(Fence),
 }
 
 /// The word of an instruction whose operands are registers and numbers.
 #[derive(Clone, Copy, Debug, PartialEq, Eq)]
 pub enum DataOpcode {
+    /// `li`
     LoadImmediate,
+    /// `mr`
     Move,
+    /// `addi`
     AddImmediate,
+    /// `add`, `subf`, `xor`, `or` or `and`
     Compute(Operation),
+    /// `lwz`
     Load,
+    /// `lwzx`
     LoadIndexed,
+    /// `stw`
     Store,
+    /// `stwx`
     StoreIndexed,
+    /// `cmpw`
     Compare,
+    /// `cmpwi`
     CompareImmediate,
 }
 
 /// A token that an instruction wants.
 #[derive(Clone, Copy, Debug, PartialEq, Eq)]
 pub enum Want {
+    /// A register.
     Register,
     /// A register other than `r0`, which would mean zero.
     Base,
+    /// A number of 32 bits.
     Immediate,
+    /// The offset 0.
     Zero,
+    /// `,`
     Comma,
+    /// `(`
     Open,
+    /// `)`
     Close,
 }
 

@@ -23,6 +23,7 @@ pub struct Pending {
 }
 
 impl Pending {
+    /// The instruction of this word, of which nothing more was read.
     pub fn new(alloc: Global, opcode: DataOpcode) -> Pending
         ensures { pending_of result ≡ begun opcode }
     {

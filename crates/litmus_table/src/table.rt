@@ -21,11 +21,15 @@ use std::mem;
 /// Where in a cell the reader stands.
 #[derive(Debug, Drop)]
 enum Cell {
+    /// At its beginning.
     Begins,
+    /// After a label.
     Labelled,
     /// Within an instruction.
     Within(Pending),
+    /// After the word of a branch, with its condition if it has one.
     WantsLabel(Option<BranchCondition>),
+    /// After a whole instruction.
     Whole,
 }
 
@@ -92,7 +96,7 @@ impl Table {
         self.threads.len()
     }
 
-    /// Adds a thread.
+    /// Adds a thread. Errors: want of memory.
     pub fn add_thread(&mut self) -> Result<(), AllocError>
         ensures { IfOk result (λ _. table_of self.new ≡ widened (table_of self.old)) }
     {
@@ -100,7 +104,8 @@ impl Table {
         Ok(())
     }
 
-    /// Takes the name of the next thread.
+    /// Takes the name of the next thread. Errors: want of memory, or that the word is not that
+    /// name.
     pub fn name_read(&mut self, token: Token) -> Result<(), StepError>
         ensures steps { Steps result self.new (named (table_of self.old) token) }
         ensures within { (n : ℕ) → AreWithin n (table_of self.old).threads → OnOk result (AreWithin n (table_of self.new).threads) }
@@ -314,7 +319,7 @@ impl Table {
         }
     }
 
-    /// Makes the later checks, thread by thread.
+    /// Makes the later checks, thread by thread. Errors: want of memory.
     pub fn check_labels(&self) -> Result<Option<LateFault>, AllocError>
         // The byte is one of those that were kept.
         ensures within { (n : ℕ) → AreWithin n (table_of self.now).threads → IfOk result (IsFoundWithin n) }
@@ -329,7 +334,7 @@ impl Table {
         Ok(None)
     }
 
-    /// The threads, without their places.
+    /// The threads, without their places. Errors: want of memory.
     pub fn into_threads(self) -> Result<Vec<Thread>, AllocError>
         ensures { IfOk result (λ ts. map (λ t. t.steps.items) ts.items ≡ steps_of (table_of self).threads) }
     {

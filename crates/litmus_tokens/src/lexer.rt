@@ -16,7 +16,9 @@ use std::alloc::{AllocError, Global};
 /// What a text begins with, and how many bytes it takes.
 #[derive(Debug, Drop)]
 pub enum Front {
+    /// Blanks, line ends or a comment, of so many bytes.
     Layout(usize),
+    /// A token, of so many bytes.
     Lexeme(Token, usize),
 }
 
@@ -316,7 +318,7 @@ fn head_front(alloc: Global, is_fresh: bool, text: &[u8]) -> Result<Front, Alloc
 }
 
 /// What the text begins with. What its bytes begin depends on the part that they stand in, and before the init
-/// block on whether the line holds nothing but blanks so far.
+/// block on whether the line holds nothing but blanks so far. Errors: want of memory.
 #[tactic(auto, unfolding(crate::specs::Lexer::front))]
 pub fn front_of(
     alloc: Global,

@@ -6,22 +6,41 @@ ghost use Rattle.litmus_tokens.specs.Numbers.{number_of};
 /// The rule that a text breaks, with its number.
 #[derive(Clone, Copy, Debug, PartialEq, Eq)]
 pub enum LitmusRule {
+    /// L1: the first word is not `PPC`.
     NotPpc,
+    /// L2: the name of the test, through the line end behind it.
     Name,
+    /// L3: what stands from there through the `}` of the init block; a second entry for one place;
+    /// an entry for a thread that is not there.
     Init,
+    /// L4: a word right after a word in the init block, as in `int x`.
     TypedDeclaration,
+    /// L5: the header, `P0 | P1 ..;`.
     Header,
+    /// L6: a `;` where a `|` could stand, or a `|` where a `;` could.
     Columns,
+    /// L7: the rows, and an end after the header or after whole rows.
     Instruction,
+    /// L8: `r0` as the first address register, where it would mean zero.
     ZeroBase,
+    /// L9: an offset that is not 0.
     Offset,
+    /// L10: a label that its thread defines twice, or a branch to none of its thread's.
     Label,
+    /// L11: a branch to a label that stands before it.
     BackwardBranch,
+    /// L12: what stands from `locations` or the condition on; a thread there that the test has not;
+    /// too deep or too many operators.
     Condition,
+    /// L13: `filter` or `final`, which are not read here.
     Filter,
+    /// L14: a comment that does not end.
     OpenComment,
+    /// L15: a byte that is not ASCII, outside comments and strings.
     NotAscii,
+    /// L16: a text of over 65,536 bytes.
     TooLong,
+    /// L17: a ninth thread.
     TooManyThreads,
 }
 

@@ -15,16 +15,23 @@ const MAX_THREADS: usize = 8;
 /// the number of a fault.
 #[derive(Clone, Copy, Debug, PartialEq, Eq)]
 pub enum Stage {
+    /// The first word, `PPC`.
     Magic,
+    /// The name of the test.
     Title,
+    /// The line end behind the name.
     TitleEnd,
+    /// The string and the keylines, up to `{`.
     Head,
     /// Whether the block is a text of its own, and whether a word was read last.
     Init(bool, bool),
     /// How many threads may still follow.
     Header(usize),
+    /// The table, where a cell begins.
     CellBegins,
+    /// The table, within a cell.
     InCell,
+    /// `locations` and the condition.
     Tail,
 }
 

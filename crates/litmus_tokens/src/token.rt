@@ -6,20 +6,35 @@ use source_text::Name;
 /// A token of signs alone.
 #[derive(Clone, Copy, Debug, PartialEq, Eq)]
 pub enum Mark {
+    /// `{`
     OpenBrace,
+    /// `}`
     CloseBrace,
+    /// `[`
     OpenBracket,
+    /// `]`
     CloseBracket,
+    /// `(`
     Open,
+    /// `)`
     Close,
+    /// `,`
     Comma,
+    /// `;`
     Semicolon,
+    /// `:`
     Colon,
+    /// `|`
     Bar,
+    /// `=`
     Equals,
+    /// `~`
     Tilde,
+    /// `/\`
     And,
+    /// `\/`
     Or,
+    /// `=>`
     Implies,
 }
 
@@ -34,9 +49,13 @@ pub enum Token {
     Label(Name),
     /// A text in quotes.
     Text,
+    /// A keyline, before `{`.
     Keyline,
+    /// The line end behind the name of the test.
     LineEnd,
+    /// A token of signs.
     Mark(Mark),
+    /// The end of the text.
     End,
     /// An ASCII byte that begins no token.
     Bad,

@@ -73,7 +73,7 @@ pub enum BranchCondition {
     GreaterOrEqual,
 }
 
-/// A barrier instruction.
+/// A barrier instruction (Power ISA, book II, storage control instructions).
 #[derive(Clone, Copy, Debug, PartialEq, Eq)]
 pub enum Fence {
     /// The full barrier (`sync`).
@@ -86,7 +86,8 @@ pub enum Fence {
     Isync,
 }
 
-/// An instruction of a thread.
+/// An instruction of a thread (Power ISA, book I, branch and fixed-point instructions; the herd7
+/// manual, chapter on litmus tests). Registers hold 32 bits here.
 #[derive(Debug, Drop)]
 pub enum Instruction {
     /// Sets a register to a number (`li`).

@@ -27,7 +27,9 @@ pub enum Value {
 /// What a place holds at the start. Places that no entry names hold 0.
 #[derive(Debug, Drop)]
 pub struct InitEntry {
+    /// A location or a register.
     pub place: Place,
+    /// What it holds.
     pub value: Value,
 }
 
@@ -36,12 +38,14 @@ pub struct InitEntry {
 pub enum Step {
     /// A label, to which branches of the same thread that stand before it can go.
     Label(Name),
+    /// An instruction.
     Instruction(Instruction),
 }
 
 /// A thread: its labels and instructions in program order.
 #[derive(Debug, Drop)]
 pub struct Thread {
+    /// Labels and instructions, in the order of the text.
     pub steps: Vec<Step>,
 }
 
@@ -94,14 +98,17 @@ pub enum Proposition {
     Joined(Connective, Box<Proposition>, Box<Proposition>),
 }
 
-/// What a test asks: a proposition on final states, and of which of them.
+/// What a test asks: a proposition on final states, and of which of them (the herd7 manual, chapter
+/// on litmus tests).
 #[derive(Debug, Drop)]
 pub struct Condition {
+    /// Of which final states it speaks.
     pub quantifier: Quantifier,
+    /// What it says of each.
     pub proposition: Proposition,
 }
 
-/// A litmus test.
+/// A litmus test (the herd7 manual, chapter on litmus tests).
 #[derive(Debug, Drop)]
 pub struct Test {
     /// The name that the log is printed under.
@@ -112,5 +119,6 @@ pub struct Test {
     pub threads: Vec<Thread>,
     /// The places of `locations`, in the order of the text, with repeats: they are shown beside those of the condition.
     pub observed: Vec<Place>,
+    /// What the test asks.
     pub condition: Condition,
 }

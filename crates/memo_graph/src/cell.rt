@@ -194,7 +194,7 @@ fn over_candidates(alloc: Global, test: &Test, resolved: &Resolved) -> Result<Ou
 }
 
 /// What the test says under the model: a fault of the model first, then a refusal of the test, and
-/// else the evaluation of all its candidates.
+/// else the evaluation of all its candidates. Errors: want of memory.
 pub fn eval_cell(alloc: Global, test: &Test, model: &ModelText) -> Result<Outcome, AllocError>
     ensures judged { IfOk result (λ o. IsAnswerOf test.now.condition.quantifier o) }
     ensures cell { IfOk result (λ o. IsCell test.now o) }

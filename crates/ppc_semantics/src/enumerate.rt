@@ -269,7 +269,7 @@ fn shown_runs(alloc: Global, beginnings: Vec<Beginning>) -> Result<Vec<Run>, All
 }
 
 /// The runs of the thread over the domain, in lexicographic order of their value lists. A
-/// thread that is not there has none.
+/// thread that is not there has none. Errors: want of memory.
 pub fn runs_of(
     alloc: Global,
     program: &Program,
@@ -291,7 +291,7 @@ pub fn runs_of(
 }
 
 /// The runs of a thread of the test over the domain, in lexicographic order of their value
-/// lists. A thread that is not there has none.
+/// lists. A thread that is not there has none. Errors: want of memory.
 pub fn runs(
     alloc: Global,
     test: &Test,

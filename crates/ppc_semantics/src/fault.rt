@@ -9,11 +9,17 @@ use thiserror::Error;
 /// A bound that a test passes, or an access to no location.
 #[derive(Clone, Copy, Debug, PartialEq, Eq)]
 pub enum EvalRefusal {
+    /// E1: over 128 locations, loads, stores and fences by text.
     TooManyEvents,
+    /// E2: over 16 values that loads may take.
     TooManyValues,
+    /// E3: over 4,096 free runs of a thread.
     TooManyRuns,
+    /// E4: over 16,384 candidates.
     TooManyCandidates,
+    /// E5: some candidate holds a run that stopped at a fault.
     AddressFault,
+    /// E6: over 1,048,576 combinations of a run of each thread.
     TooManyCombinations,
 }
 

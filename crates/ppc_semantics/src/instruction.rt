@@ -4,28 +4,44 @@ use crate::value::Value;
 use litmus_ppc::{BranchCondition, Fence, Operation};
 use source_text::Name;
 
-/// One instruction. The first register is the one that is written, or stored.
+/// One instruction (Power ISA, books I and II). The first register is the one that is written, or
+/// stored.
 #[derive(Clone, Copy)]
 pub enum Instruction {
+    /// `li`: the register is that number.
     Immediate(u8, u32),
+    /// `mr`: the first is what the second holds.
     Move(u8, u8),
+    /// `addi`: the first is the sum of the second and the number.
     AddImmediate(u8, u8, u32),
+    /// `add`, `subf`, `xor`, `or` or `and` of the second and the third.
     Operate(Operation, u8, u8, u8),
+    /// `lwz`: the first is loaded from the address in the second.
     Load(u8, u8),
+    /// `lwzx`: the first is loaded from the sum of the others.
     LoadIndexed(u8, u8, u8),
+    /// `stw`: the first is stored at the address in the second.
     Store(u8, u8),
+    /// `stwx`: the first is stored at the sum of the others.
     StoreIndexed(u8, u8, u8),
+    /// `cmpw`: CR0 is how the first compares with the second.
     Compare(u8, u8),
+    /// `cmpwi`: CR0 is how the register compares with the number.
     CompareImmediate(u8, u32),
+    /// A conditional branch to a label.
     Branch(BranchCondition, usize),
+    /// `b`: a branch to a label.
     Jump(usize),
+    /// A fence.
     Barrier(Fence),
 }
 
 /// A line of a thread: a label by its number, or an instruction.
 #[derive(Clone, Copy)]
 pub enum Line {
+    /// A label, by its place among those of its thread, sorted by name bytes.
     Label(usize),
+    /// An instruction.
     Does(Instruction),
 }
 
@@ -45,15 +61,20 @@ pub struct Program {
 /// What an access or a fence did: the address and the value, or the kind of fence.
 #[derive(Clone, Copy)]
 pub enum Event {
+    /// A load: its address and the value that it loads.
     Reads(Value, Value),
+    /// A store: its address and the value that it stores.
     Writes(Value, Value),
+    /// A fence.
     Orders(Fence),
 }
 
 /// An instruction that was executed, with the value that it loaded if it is a load.
 #[derive(Clone, Copy)]
 pub struct RunStep {
+    /// What was executed.
     pub instruction: Instruction,
+    /// No value where it is no load.
     pub loaded: Value,
 }
 

@@ -275,7 +275,7 @@ fn last_round(alloc: Global, program: &Program) -> Result<Vec<Value>, SpaceFault
 ///
 /// Refuses a test of over 128 locations, loads, stores and fences; then, before the first round
 /// and after each, over 16 values and then over 4,096 free runs of a thread; then over 1,048,576
-/// combinations of runs.
+/// combinations of runs. Errors: the first of these refusals, or want of memory.
 pub fn domain_of(alloc: Global, program: &Program) -> Result<Domain, SpaceFault>
     ensures set { IfOk result (λ d. IsSet d.values.items) }
     ensures domain { IfOk result (λ d. dom.AreProper program.now → dom.IsDomain program.now d.values.items) }
@@ -289,7 +289,8 @@ pub fn domain_of(alloc: Global, program: &Program) -> Result<Domain, SpaceFault>
     Ok(Domain { values })
 }
 
-/// The domain of a test, or its refusal: those of its program.
+/// The domain of a test, or its refusal: those of its program. Errors: the first refusal that
+/// applies, or want of memory.
 pub fn domain(alloc: Global, test: &Test) -> Result<Domain, SpaceFault>
     ensures set { IfOk result (λ d. IsSet d.values.items) }
     ensures domain { IfOk result (λ d. low.IsTestDomain test.now d.values.items) }

@@ -7,6 +7,7 @@ use arrayvec::ArrayVec;
 /// The values that some store may store, numbers first, rising, then addresses.
 #[derive(Drop)]
 pub struct Domain {
+    /// At most 16, each once.
     pub values: Vec<Value>,
 }
 

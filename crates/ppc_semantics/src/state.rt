@@ -12,7 +12,9 @@ use litmus_ppc::{BranchCondition, Operation};
 /// The registers and CR0.
 #[derive(Clone, Copy)]
 pub struct State {
+    /// What `r0` to `r31` hold.
     pub registers: [Value; 32],
+    /// What CR0 says.
     pub compared: Comparison,
 }
 
@@ -81,6 +83,7 @@ fn is_senseless(condition: BranchCondition, compared: Comparison) -> bool
     }
 }
 
+/// What the register of this number holds.
 pub fn register(state: &State, r: u8) -> Value
     ensures { result ≡ machine.register state.now r }
 {

@@ -6,20 +6,29 @@ ghost use Rattle.ppc_semantics.specs.Machine as machine;
 /// sorted by name bytes, or what an operation gives that has no value.
 #[derive(Clone, Copy, Debug, PartialEq, Eq)]
 pub enum Value {
+    /// A number.
     Number(u32),
+    /// The address of the location at this place.
     Address(usize),
+    /// No value.
     NoValue,
 }
 
-/// How the last comparison came out. `Unlike` is an address beside something else.
+/// How the last comparison came out, as CR0 keeps it (Power ISA, book I, compare instructions).
+/// `Unlike` is an address beside something else.
 #[derive(Clone, Copy, Debug, PartialEq, Eq)]
 pub enum Comparison {
+    /// The first is less, as a signed number.
     Less,
+    /// Both are the same number or the same address.
     Equal,
+    /// The first is greater, as a signed number.
     Greater,
+    /// An address, and what is not the same address.
     Unlike,
 }
 
+/// What `add` gives: numbers wrap, and an address takes 0 alone.
 pub fn sum(v: Value, w: Value) -> Value
     ensures { result ≡ machine.sum_of v w }
 {
@@ -43,6 +52,7 @@ pub fn sum(v: Value, w: Value) -> Value
     }
 }
 
+/// What `subf` gives: the second less the first, and 0 for equal addresses.
 pub fn difference(v: Value, w: Value) -> Value
     ensures { result ≡ machine.difference_of v w }
 {
@@ -59,6 +69,7 @@ pub fn difference(v: Value, w: Value) -> Value
     }
 }
 
+/// What `xor` gives: of numbers bit by bit, and 0 for equal addresses.
 pub fn exclusive(v: Value, w: Value) -> Value
     ensures { result ≡ machine.exclusive_of v w }
 {
@@ -75,6 +86,7 @@ pub fn exclusive(v: Value, w: Value) -> Value
     }
 }
 
+/// What `or` gives: of numbers bit by bit.
 pub fn disjunction(v: Value, w: Value) -> Value
     ensures { result ≡ machine.disjunction_of v w }
 {
@@ -84,6 +96,7 @@ pub fn disjunction(v: Value, w: Value) -> Value
     }
 }
 
+/// What `and` gives: of numbers bit by bit.
 pub fn conjunction(v: Value, w: Value) -> Value
     ensures { result ≡ machine.conjunction_of v w }
 {
@@ -105,6 +118,7 @@ fn compare_numbers(m: u32, n: u32) -> Comparison
     }
 }
 
+/// How the first compares with the second.
 pub fn compare(v: Value, w: Value) -> Comparison
     ensures { result ≡ machine.comparison_of v w }
 {
@@ -121,12 +135,14 @@ pub fn compare(v: Value, w: Value) -> Comparison
     }
 }
 
+/// Whether it is a value.
 pub fn is_value(v: Value) -> bool
     ensures { result ≡ machine.is_value v }
 {
     !matches!(v, Value::NoValue)
 }
 
+/// Whether it is an address.
 pub fn is_address(v: Value) -> bool
     ensures { result ≡ machine.is_address v }
 {

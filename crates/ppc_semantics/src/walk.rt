@@ -26,6 +26,7 @@ impl Model for Walk {
 }
 
 impl Walk {
+    /// A walk at the first line, where nothing is done.
     pub fn started(alloc: Global, state: State) -> Walk
         ensures { result ≡ runs.started state }
     {
@@ -80,30 +81,35 @@ impl Walk {
         };
     }
 
+    /// The label that is looked for, if a branch was taken.
     pub fn seeking(&self) -> Option<usize>
         ensures { result ≡ self.now.seeking }
     {
         self.seeking
     }
 
+    /// Whether the instruction would be a fault now.
     pub fn is_fault(&self, instruction: Instruction) -> bool
         ensures { result ≡ runs.is_fault instruction self.now.state }
     {
         is_fault(instruction, &self.state)
     }
 
+    /// Whether the instruction, if it is a branch, is taken now.
     pub fn goes(&self, instruction: Instruction) -> bool
         ensures { result ≡ runs.goes instruction self.now.state }
     {
         goes(instruction, &self.state)
     }
 
+    /// What the registers hold now.
     pub fn registers(&self) -> [Value; 32]
         ensures { result ≡ self.now.state.registers }
     {
         self.state.registers
     }
 
+    /// The events so far.
     pub fn events(&self) -> &[Event]
         ensures { result.now ≡ self.now.events }
     {

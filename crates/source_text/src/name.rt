@@ -20,7 +20,7 @@ impl Model for Name {
 impl Name {
     ghost use Rattle.std.specs.Prelude.{◌≡◌, ◌↔◌, IfOk, IsTrue};
 
-    /// The name that these bytes spell.
+    /// The name that these bytes spell. Errors: want of memory.
     pub fn new(alloc: Global, text: &[u8]) -> Result<Name, AllocError>
         ensures { IfOk result (λ n. n ≡ text.now) }
     {
@@ -36,7 +36,7 @@ impl Name {
         &self.bytes
     }
 
-    /// The name once more.
+    /// The name once more. Errors: want of memory.
     pub fn copied(&self, alloc: Global) -> Result<Name, AllocError>
         ensures { IfOk result (λ n. n ≡ self.now) }
     {

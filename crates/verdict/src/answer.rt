@@ -8,7 +8,9 @@ use ppc_semantics::EvalRefusal;
 /// the places of their locations among those of the test, sorted by name bytes.
 #[derive(Clone, Copy, Debug, PartialEq, Eq, PartialOrd, Ord)]
 pub enum FinalValue {
+    /// A number of 32 bits.
     Number(i32),
+    /// The address of a location, by its place.
     Address(usize),
     /// What an operation gives that has no value.
     NoValue,
@@ -21,6 +23,7 @@ pub struct CountedState {
     pub values: Vec<FinalValue>,
     /// The state as it is printed, as `1:r1=0; [x]=1;`.
     pub text: Vec<u8>,
+    /// At least 1.
     pub count: u64,
     /// Whether it satisfies the proposition of the test's condition.
     pub holds: bool,
@@ -46,6 +49,7 @@ pub struct Evaluation {
     pub positive: u64,
     /// How many kept candidates do not.
     pub negative: u64,
+    /// How often the proposition holds.
     pub observation: Observation,
     /// Whether the condition is met.
     pub ok: bool,
@@ -65,15 +69,20 @@ pub enum Refusal {
 /// An evaluation, or the reason that there is none.
 #[derive(Debug, Drop)]
 pub enum OutcomeResult {
+    /// The model has a fault, or the test is refused.
     Refused(Refusal),
+    /// What the kept candidates say.
     Evaluated(Evaluation),
 }
 
-/// What one test says under one model.
+/// What one test says under one model: what herd7 prints (the herd7 manual, chapter on litmus
+/// tests).
 #[derive(Debug, Drop)]
 pub struct Outcome {
+    /// The quantifier of the test's condition.
     pub kind: Quantifier,
     /// The condition as it is printed.
     pub condition: Vec<u8>,
+    /// What is said of it.
     pub result: OutcomeResult,
 }

@@ -16,10 +16,13 @@ use std::alloc::{AllocError, Global};
 /// A proposition whose places are places of a state.
 #[derive(Drop)]
 pub enum Formula {
+    /// It holds in each state, or in none.
     Constant(bool),
     /// What the state holds at this place.
     Holds(usize, FinalValue),
+    /// The formula does not hold.
     Not(Box<Formula>),
+    /// What the operator says of the two.
     Joined(Connective, Box<Formula>, Box<Formula>),
 }
 

@@ -22,7 +22,9 @@ use std::alloc::{AllocError, Global};
 /// A flag: its name, and whether its check holds on each candidate.
 #[derive(Clone, Copy)]
 pub struct Raised<'a> {
+    /// The name after `as`.
     pub name: &'a Name,
+    /// For each candidate of the space, whether the check holds there.
     pub holds: &'a [bool],
 }
 
@@ -179,7 +181,8 @@ fn evaluation(
 }
 
 /// What the candidates on which all checks hold say of the condition. `checks` and `flags` stand in
-/// the order of the text, each with one answer for each candidate of the space.
+/// the order of the text, each with one answer for each candidate of the space. Errors: want of
+/// memory.
 pub fn outcome(
     alloc: Global,
     space: &Space,

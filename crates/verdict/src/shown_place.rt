@@ -13,7 +13,9 @@ use std::collections::BTreeSet;
 /// A register, by its thread and number, or a location, by its place among those of the test.
 #[derive(Clone, Copy, PartialEq, Eq, PartialOrd, Ord)]
 pub enum ShownPlace {
+    /// A register, by its thread and its number.
     Register(usize, u8),
+    /// A location, by its place.
     Location(usize),
 }
 
