@@ -1,8 +1,10 @@
+pub mod Agreeing
 pub mod Among
 pub mod Codes
 pub mod Columns
 pub mod Entering
 pub mod Evaluated
+pub mod Exact
 pub mod Growing
 pub mod Grown
 pub mod Likeness
@@ -11,6 +13,7 @@ pub mod Monotone
 pub mod Packed
 pub mod Places
 pub mod Same
+pub mod Standing
 pub mod Stacks
 pub mod Steps
 pub mod Turns

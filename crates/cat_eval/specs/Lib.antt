@@ -2,6 +2,8 @@ pub mod Alike
 pub mod Candidates
 pub mod Checks
 pub mod Columns
+pub mod Executions
+pub mod Held
 pub mod Least
 pub mod Meaning
 pub mod Named

@@ -1,6 +1,7 @@
 use Rattle.std.proofs.Common.{◌≡◌, ◌∙◌, refl, ap}
 use Rattle.cat_eval.specs.Needed.{AreListed, steps_read, steps_order, names_in, role_reads, role_orders}
 use Rattle.cat_eval.proofs.Entering.{worlds_listed}
+use Rattle.cat_eval.proofs.Exact.{answers_exact}
 use Rattle.cat_eval.proofs.Visits.{no_answers}
 use Rattle.cat_eval.proofs.check.eval_check.Goals as goal
 
@@ -12,4 +13,5 @@ returns-in_ok-visit_all-in-Check c =
     let orders : needs.orders ≡ steps_order steps = c.in_ok-of-in-Check.ensures.changes.1 ∙ ap role_orders c.in-Check.is in
     let listed : AreListed needs.names.items (names_in steps) = rw c.in-Check.is at c.in_ok-of-in-Check.ensures.names in
     let (bases, worlds, taken) = c.in_ok-visit_all-in-Check.ensures (refl, refl, rw c.new-in-Check.ensures.items (no_answers c.in-Check.check c.args.inputs.now)) in
-    rw c.in-Check.is (bases, rw (reads, orders) at (worlds_listed needs.names.items (names_in steps) listed needs.reads needs.orders bases _ worlds), taken.2)
+    let exact = rw (reads, orders) at (worlds_listed needs.names.items (names_in steps) listed needs.reads needs.orders bases _ worlds) in
+    rw c.in-Check.is (answers_exact c.in-Check.check c.args.inputs.now bases _ _ exact taken.2)

@@ -3,7 +3,7 @@ use Rattle.std.proofs.lemmas.Bool.{cases_eq}
 use denote.Ref.{Bor}
 use Rattle.binding_graph.specs.declared.resolved.Body.{Body}
 use Rattle.cat_eval.specs.declared.column.Column.{Column}
-use Rattle.cat_eval.specs.Values.{IsMeant}
+use Rattle.cat_eval.specs.Held.{IsHeldMeaning}
 use Rattle.cat_eval.proofs.group.GroupRun.evaluate_each.Goals as goal
 
 pub loop-position-preserved : goal.loop-position-preserved
@@ -30,11 +30,14 @@ loop-position-preserved c =
               s,
               r,
               rw (before.5 at (omega arith) col) at adds,
-              subst (λ (x : Bor (List Body)). IsMeant (get_or x.now at b).code.kind (get_or x.now at b).code.steps.items c.args.self.now.inputs.now base k s r) before.0
-                  (subst (λ (y : Bor (List (Bor Column))). IsMeant (get_or run.bodies.now at b).code.kind (get_or run.bodies.now at b).code.steps.items y.now base k s r) before.1 meant),
+              subst (λ (x : Bor (List Body)). IsHeldMeaning (get_or x.now at b).code.kind (get_or x.now at b).code.steps.items c.args.self.now.inputs.now base k s r) before.0
+                  (subst (λ (y : Bor (List (Bor Column))). IsHeldMeaning (get_or run.bodies.now at b).code.kind (get_or run.bodies.now at b).code.steps.items y.now base k s r) before.1 meant),
             )
         | inr other ↦
             let (s, r, adds, meant) = before.6 none j (omega (arith, less, other)) inside col b in
             (s, r, rw (others j other col) adds, meant)
       ]),
     )
+
+pub returns-clause-added : goal.returns-clause-added
+returns-clause-added c = λ none j lt less col b. c.loop-position.invariant.6 none j (omega (arith, lt, c.loop-position-test.false)) less col b

@@ -1,0 +1,227 @@
+-- Where the names of an expression stand for the same events and pairs, the expression means the same.
+use Rattle.std.proofs.Common.{ℕ, ◌≡◌, ◌<◌, ◌↔◌, ◌||◌, List, [], ◌∷◌, length, get_or, Contains, zero, suc, inl, inr, Bool, true, false, IsTrue, arith, refl, subst}
+use Rattle.std.specs.List.{list_any}
+use Rattle.std.proofs.lemmas.List.Elements.{Contains-append_left, Contains-append_right, Contains-append_cases}
+use Rattle.bit_relations.specs.Relation.{Relation}
+use Rattle.cat_values.specs.declared.predefined.Predefined.{Predefined}
+use Rattle.binding_graph.specs.declared.resolved.Body.{Body}
+use Rattle.binding_graph.specs.declared.resolved.Source.{Source}
+use Rattle.binding_graph.specs.declared.resolved.Source.TheVariants as sources
+use Rattle.binding_graph.specs.declared.resolved.Step.{Step}
+use Rattle.binding_graph.specs.declared.resolved.Step.TheVariants as steps
+use Rattle.binding_graph.specs.Trees.{SetTree, SetName, AllEvents, NoEvent, SetBlend, SetNot, RelTree, RelName, NoPair, RelBlend, Then, Cross, OnSet, Close, RelNot, set_code, rel_code}
+use Rattle.cat_eval.specs.Least.{IsLeast, body}
+use Rattle.cat_eval.specs.Meaning.{MeansSet, Means}
+use Rattle.cat_eval.specs.Named.{WithOwn, Of}
+use Rattle.cat_eval.specs.Needed.{source_names, step_names, names_in, bodies_names, source_passes, step_passes, steps_read, bodies_read}
+use Rattle.cat_eval.specs.Rising.{AreCodes}
+use Rattle.cat_eval.proofs.Same.{Same, SameSet, same_sets, same_others, same_blend, same_then, same_cross, same_on, same_close, same_turn}
+
+-- ---- what holds of each name that a list of steps pushes holds of each name of its tree
+
+module _ (P : Source → Type 0) where
+  abbrev pub OfSet : SetTree → Type 0
+  OfSet (SetName source) = P source
+  OfSet AllEvents = Unit {0}
+  OfSet NoEvent = Unit {0}
+  OfSet (SetBlend how s t) = OfSet s × OfSet t
+  OfSet (SetNot s) = OfSet s
+
+  abbrev pub OfRelation : RelTree → Type 0
+  OfRelation (RelName source) = P source
+  OfRelation NoPair = Unit {0}
+  OfRelation (RelBlend how e f) = OfRelation e × OfRelation f
+  OfRelation (Then e f) = OfRelation e × OfRelation f
+  OfRelation (Cross s t) = OfSet s × OfSet t
+  OfRelation (OnSet s) = OfSet s
+  OfRelation (Close how e) = OfRelation e
+  OfRelation (RelNot e) = OfRelation e
+
+  abbrev pub OfStep : Step → Type 0
+  OfStep (steps.PushSet source) = P source
+  OfStep steps.PushAllEvents = Unit {0}
+  OfStep steps.PushNoEvents = Unit {0}
+  OfStep (steps.BlendSets how) = Unit {0}
+  OfStep steps.TurnSet = Unit {0}
+  OfStep (steps.PushRelation source) = P source
+  OfStep steps.PushNoPairs = Unit {0}
+  OfStep (steps.BlendRelations how) = Unit {0}
+  OfStep steps.Compose = Unit {0}
+  OfStep steps.Multiply = Unit {0}
+  OfStep steps.Restrict = Unit {0}
+  OfStep (steps.Close how) = Unit {0}
+  OfStep steps.TurnRelation = Unit {0}
+
+  abbrev pub OfSteps : List Step → Type 0
+  OfSteps [] = Unit {0}
+  OfSteps (x ∷ xs) = OfStep x × OfSteps xs
+
+  pub set_parts : (t : SetTree) (rest : List Step) → OfSteps (set_code t rest) → OfSet t × OfSteps rest
+  set_parts (SetName source) rest h = h
+  set_parts AllEvents rest h = h
+  set_parts NoEvent rest h = h
+  set_parts (SetBlend how s t) rest h =
+      let one = set_parts s (set_code t (steps.BlendSets how ∷ rest)) h in
+      let two = set_parts t (steps.BlendSets how ∷ rest) one.1 in
+      ((one.0, two.0), two.1.1)
+  set_parts (SetNot s) rest h =
+      let one = set_parts s (steps.TurnSet ∷ rest) h in
+      (one.0, one.1.1)
+
+  pub relation_parts : (e : RelTree) (rest : List Step) → OfSteps (rel_code e rest) → OfRelation e × OfSteps rest
+  relation_parts (RelName source) rest h = h
+  relation_parts NoPair rest h = h
+  relation_parts (RelBlend how e f) rest h =
+      let one = relation_parts e (rel_code f (steps.BlendRelations how ∷ rest)) h in
+      let two = relation_parts f (steps.BlendRelations how ∷ rest) one.1 in
+      ((one.0, two.0), two.1.1)
+  relation_parts (Then e f) rest h =
+      let one = relation_parts e (rel_code f (steps.Compose ∷ rest)) h in
+      let two = relation_parts f (steps.Compose ∷ rest) one.1 in
+      ((one.0, two.0), two.1.1)
+  relation_parts (Cross s t) rest h =
+      let one = set_parts s (set_code t (steps.Multiply ∷ rest)) h in
+      let two = set_parts t (steps.Multiply ∷ rest) one.1 in
+      ((one.0, two.0), two.1.1)
+  relation_parts (OnSet s) rest h =
+      let one = set_parts s (steps.Restrict ∷ rest) h in
+      (one.0, one.1.1)
+  relation_parts (Close how e) rest h =
+      let one = relation_parts e (steps.Close how ∷ rest) h in
+      (one.0, one.1.1)
+  relation_parts (RelNot e) rest h =
+      let one = relation_parts e (steps.TurnRelation ∷ rest) h in
+      (one.0, one.1.1)
+
+  module _ (input : (place : ℕ) → P (sources.Input place)) (own : (position : ℕ) → P (sources.Own position)) where
+    of_source : (source : Source) → ((name : Predefined) → Contains (source_names source) name → P (sources.Predefined name)) → P source
+    of_source (sources.Predefined name) named = named name (0, omega arith, refl)
+    of_source (sources.Input place) named = input place
+    of_source (sources.Own position) named = own position
+
+    of_step : (x : Step) → ((name : Predefined) → Contains (step_names x) name → P (sources.Predefined name)) → OfStep x
+    of_step (steps.PushSet source) named = of_source source named
+    of_step steps.PushAllEvents named = tt
+    of_step steps.PushNoEvents named = tt
+    of_step (steps.BlendSets how) named = tt
+    of_step steps.TurnSet named = tt
+    of_step (steps.PushRelation source) named = of_source source named
+    of_step steps.PushNoPairs named = tt
+    of_step (steps.BlendRelations how) named = tt
+    of_step steps.Compose named = tt
+    of_step steps.Multiply named = tt
+    of_step steps.Restrict named = tt
+    of_step (steps.Close how) named = tt
+    of_step steps.TurnRelation named = tt
+
+    pub of_steps : (xs : List Step) → ((name : Predefined) → Contains (names_in xs) name → P (sources.Predefined name)) → OfSteps xs
+    of_steps [] named = tt
+    of_steps (x ∷ xs) named = (
+      of_step x (λ name inside. named name (Contains-append_left (step_names x) (names_in xs) name inside)),
+      of_steps xs (λ name inside. named name (Contains-append_right (step_names x) (names_in xs) name inside)),
+    )
+
+-- the names of one body are among those of the group
+pub body_named : (bodies : List Body) (j : ℕ) → j < length bodies → (b : Body) (name : Predefined) → Contains (names_in (get_or bodies j b).code.steps.items) name → Contains (bodies_names bodies) name
+body_named [] j lt b name inside = absurd (omega (arith, lt))
+body_named (c ∷ cs) zero lt b name inside = Contains-append_left (names_in c.code.steps.items) (bodies_names cs) name inside
+body_named (c ∷ cs) (suc j) lt b name inside = Contains-append_right (names_in c.code.steps.items) (bodies_names cs) name (body_named cs j (omega (arith, lt)) b name inside)
+
+-- a tree of the group is that of a body, whose names are among those of the group
+pub code_at : (trees : List RelTree) (bodies : List Body) → AreCodes trees bodies → (x : ℕ) → x < length trees → (b : Body) × (b.code.steps.items ≡ rel_code (body trees x) []) × ((name : Predefined) → Contains (names_in b.code.steps.items) name → Contains (bodies_names bodies) name)
+code_at [] bodies codes x lt = absurd (omega (arith, lt))
+code_at (t ∷ ts) [] codes x lt = absurd codes
+code_at (t ∷ ts) (c ∷ cs) codes zero lt = (c, codes.0, (λ name inside. Contains-append_left (names_in c.code.steps.items) (bodies_names cs) name inside))
+code_at (t ∷ ts) (c ∷ cs) codes (suc x) lt =
+    let (b, is, within) = code_at ts cs codes.1 x (omega (arith, lt)) in
+    (b, is, (λ name inside. Contains-append_right (names_in c.code.steps.items) (bodies_names cs) name (within name inside)))
+
+-- ---- a name that passes a test makes the list pass
+
+pub passes_in : (test : Predefined → Bool) (xs : List Step) (name : Predefined) → Contains (names_in xs) name → IsTrue (test name) → IsTrue (list_any (step_passes test) xs)
+passes_in test [] name inside passes = absurd (omega (arith, inside.1))
+passes_in test (x ∷ xs) name inside passes = elim (Contains-append_cases (step_names x) (names_in xs) name inside) [
+  | inl here ↦ first (step_passes test x) (list_any (step_passes test) xs) (step x here)
+  | inr later ↦ second (step_passes test x) (list_any (step_passes test) xs) (passes_in test xs name later passes)
+]
+  where
+    first : (p q : Bool) → IsTrue p → IsTrue (p || q)
+    first true q h = refl
+    first false q h = absurd cc
+
+    second : (p q : Bool) → IsTrue q → IsTrue (p || q)
+    second true q h = refl
+    second false q h = h
+
+    source : (s : Source) → Contains (source_names s) name → IsTrue (source_passes test s)
+    source (sources.Predefined n) (zero, lt, is) = rw is passes
+    source (sources.Predefined n) (suc k, lt, is) = absurd (omega (arith, lt))
+    source (sources.Input place) h = absurd (omega (arith, h.1))
+    source (sources.Own position) h = absurd (omega (arith, h.1))
+
+    step : (x : Step) → Contains (step_names x) name → IsTrue (step_passes test x)
+    step (steps.PushSet s) h = source s h
+    step steps.PushAllEvents h = absurd (omega (arith, h.1))
+    step steps.PushNoEvents h = absurd (omega (arith, h.1))
+    step (steps.BlendSets how) h = absurd (omega (arith, h.1))
+    step steps.TurnSet h = absurd (omega (arith, h.1))
+    step (steps.PushRelation s) h = source s h
+    step steps.PushNoPairs h = absurd (omega (arith, h.1))
+    step (steps.BlendRelations how) h = absurd (omega (arith, h.1))
+    step steps.Compose h = absurd (omega (arith, h.1))
+    step steps.Multiply h = absurd (omega (arith, h.1))
+    step steps.Restrict h = absurd (omega (arith, h.1))
+    step (steps.Close how) h = absurd (omega (arith, h.1))
+    step steps.TurnRelation h = absurd (omega (arith, h.1))
+
+pub passes_among : (test : Predefined → Bool) (bodies : List Body) (name : Predefined) → Contains (bodies_names bodies) name → IsTrue (test name) → IsTrue (list_any (λ one. list_any (step_passes test) one.code.steps.items) bodies)
+passes_among test [] name inside passes = absurd (omega (arith, inside.1))
+passes_among test (c ∷ cs) name inside passes = elim (Contains-append_cases (names_in c.code.steps.items) (bodies_names cs) name inside) [
+  | inl here ↦ first (list_any (step_passes test) c.code.steps.items) (list_any (λ one. list_any (step_passes test) one.code.steps.items) cs) (passes_in test c.code.steps.items name here passes)
+  | inr later ↦ second (list_any (step_passes test) c.code.steps.items) (list_any (λ one. list_any (step_passes test) one.code.steps.items) cs) (passes_among test cs name later passes)
+]
+  where
+    first : (p q : Bool) → IsTrue p → IsTrue (p || q)
+    first true q h = refl
+    first false q h = absurd cc
+
+    second : (p q : Bool) → IsTrue q → IsTrue (p || q)
+    second true q h = refl
+    second false q h = h
+
+-- ---- two ways for names to stand for events and pairs
+
+module _ (n : ℕ) (sets others : Source → ℕ → Type 0) (rels further : Source → ℕ → ℕ → Type 0) where
+  abbrev pub Agree : Source → Type 0
+  Agree source = SameSet (sets source) (others source) × Same (rels source) (further source)
+
+  pub set_agrees : (t : SetTree) → OfSet Agree t → SameSet (MeansSet n sets t) (MeansSet n others t)
+  set_agrees (SetName source) h = h.0
+  set_agrees AllEvents h = λ a. ((λ x. x), (λ x. x))
+  set_agrees NoEvent h = λ a. ((λ x. x), (λ x. x))
+  set_agrees (SetBlend how s t) h = same_sets how _ _ _ _ (set_agrees s h.0) (set_agrees t h.1)
+  set_agrees (SetNot s) h = same_others n _ _ (set_agrees s h)
+
+  pub relation_agrees : (e : RelTree) → OfRelation Agree e → Same (Means n sets rels e) (Means n others further e)
+  relation_agrees (RelName source) h = h.1
+  relation_agrees NoPair h = λ a b. ((λ x. x), (λ x. x))
+  relation_agrees (RelBlend how e f) h = same_blend how _ _ _ _ (relation_agrees e h.0) (relation_agrees f h.1)
+  relation_agrees (Then e f) h = same_then _ _ _ _ (relation_agrees e h.0) (relation_agrees f h.1)
+  relation_agrees (Cross s t) h = same_cross _ _ _ _ (set_agrees s h.0) (set_agrees t h.1)
+  relation_agrees (OnSet s) h = same_on _ _ (set_agrees s h)
+  relation_agrees (Close how e) h = same_close how n _ _ (relation_agrees e h)
+  relation_agrees (RelNot e) h = same_turn n _ _ (relation_agrees e h)
+
+-- the least solution is the same
+pub least_agrees : (n : ℕ) (sets others : Source → ℕ → Type 0) (outer further : Source → ℕ → ℕ → Type 0) (trees : List RelTree) (values : List Relation)
+    → ((x : ℕ) → x < length trees → (own : ℕ → ℕ → ℕ → Type 0) → Same (Means n sets (WithOwn outer own) (body trees x)) (Means n others (WithOwn further own) (body trees x)))
+    → IsLeast n sets outer trees values → IsLeast n others further trees values
+least_agrees n sets others outer further trees values same h = record {
+  as_many = h.as_many;
+  on = h.on;
+  solves = λ x lt a b.
+      let meant = same x lt (Of n values) a b in
+      let solved = h.solves x lt a b in
+      ((λ p. meant.0 (solved.0 p)), (λ q. solved.1 (meant.1 q)));
+  inside = λ test closed x lt a b of. h.inside test (λ y less c d m. closed y less c d ((same y less (λ z e f. IsTrue (test z e f)) c d).0 m)) x lt a b of;
+}
