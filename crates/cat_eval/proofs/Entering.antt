@@ -16,7 +16,7 @@ use Rattle.cat_eval.specs.Candidates.{Candidate, reading_so, reading_in, of_comb
 use Rattle.cat_values.specs.declared.predefined.Predefined.{Predefined}
 use Rattle.cat_values.specs.PredefinedNames.{is_set}
 use Rattle.cat_eval.specs.Needed.{AreListed}
-use Rattle.cat_eval.specs.Worlds.{AreHeld, IsReady, IsWorld, AreWorlds}
+use Rattle.cat_eval.specs.Worlds.{AreHeld, IsReady, AreWorlds}
 
 pub entered_same : (old new : Known) (c : Combination) → new.count ≡ old.count → new.sets ≡ old.sets → new.shared ≡ old.shared → IsEntered old c → IsEntered new c
 entered_same old new c count sets shared h = record {

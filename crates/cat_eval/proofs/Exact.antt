@@ -1,5 +1,5 @@
 -- What was made over what is held for each candidate is what the definitions say of it.
-use Rattle.std.proofs.Common.{ℕ, ◌≡◌, ◌<◌, ◌↔◌, ◌∙◌, List, [], ◌∷◌, length, get_or, Contains, zero, suc, Bool, true, false, IsTrue, arith, refl, subst}
+use Rattle.std.proofs.Common.{ℕ, ◌≡◌, ◌↔◌, ◌∙◌, List, [], ◌∷◌, get_or, Contains, zero, suc, Bool, true, false, IsTrue, arith, refl, subst}
 use Rattle.std.specs.Prelude.{Some, slice_get}
 use denote.Ref.{Bor}
 use Rattle.bit_relations.specs.Relation.{Relation, Events}
