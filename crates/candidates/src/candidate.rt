@@ -10,15 +10,20 @@ use std::alloc::{AllocError, Global};
 /// What an event does.
 #[derive(Clone, Copy)]
 pub enum Action {
+    /// A load of the value from the location, by its place among the test's.
     Read { location: usize, value: Value },
+    /// A store of the value at the location, by its place among the test's.
     Write { location: usize, value: Value },
+    /// A fence.
     Fence(Fence),
 }
 
 /// An event: an initial store, which has no thread, or an access or fence of a thread.
 #[derive(Clone, Copy)]
 pub struct Event {
+    /// The thread's number, from 0; none for an initial store.
     pub thread: Option<usize>,
+    /// What it does.
     pub action: Action,
 }
 
@@ -28,10 +33,15 @@ pub struct Event {
 /// order. There are at most 128.
 #[derive(Drop)]
 pub struct Combination {
+    /// The events, by their numbers.
     pub events: Vec<Event>,
+    /// Address dependencies, by the numbers of their events, as are the next three.
     pub addr_pairs: Vec<(usize, usize)>,
+    /// Data dependencies.
     pub data_pairs: Vec<(usize, usize)>,
+    /// Control dependencies.
     pub ctrl_pairs: Vec<(usize, usize)>,
+    /// Control dependencies by an `isync`.
     pub ctrlisync_pairs: Vec<(usize, usize)>,
     /// For each thread, the place of its run in `Space::registers`.
     pub runs: Vec<usize>,
@@ -53,13 +63,19 @@ pub struct Space {
     pub combinations: Vec<Combination>,
 }
 
-/// One candidate as plain data.
+/// One candidate as plain data: a candidate execution in the sense of Alglave, Maranget and
+/// Tautschnig, Herding Cats, TOPLAS 36(2), 2014.
 #[derive(Drop)]
 pub struct Execution {
+    /// The events, numbered as those of a combination.
     pub events: Vec<Event>,
+    /// Address dependencies, by the numbers of their events, as are the next three.
     pub addr_pairs: Vec<(usize, usize)>,
+    /// Data dependencies.
     pub data_pairs: Vec<(usize, usize)>,
+    /// Control dependencies.
     pub ctrl_pairs: Vec<(usize, usize)>,
+    /// Control dependencies by an `isync`.
     pub ctrlisync_pairs: Vec<(usize, usize)>,
     /// For each load in event order, the number of the store that it reads.
     pub sources: Vec<u8>,
@@ -150,7 +166,8 @@ impl Space {
         self.len() == 0
     }
 
-    /// The candidate at a place, from 0; `None` where there are no more than `place`.
+    /// The candidate at a place, from 0; `None` where there are no more than `place`. Errors: want
+    /// of memory.
     pub fn execution(&self, alloc: Global, place: usize) -> Result<Option<Execution>, AllocError>
         ensures some { IfOk result (λ o. IfSome o (λ e. (place < length (candidates_in self.now.combinations.items)) × HoldsAt (λ x. IsExecution self.now.registers.items x.0 x.1 e) (candidates_in self.now.combinations.items) place)) }
         ensures none { IfOk result (λ o. IfNone o (length (candidates_in self.now.combinations.items) ≤ place)) }

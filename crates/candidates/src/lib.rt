@@ -25,7 +25,7 @@ pub const MAX_CANDIDATES: usize = 16_384;
 ///
 /// The test is refused, by the first that applies, as its domain is; with E4 where it has over
 /// `MAX_CANDIDATES` candidates; and with E5 where some candidate holds a run that stopped at a
-/// fault.
+/// fault. Errors: that refusal, or want of memory.
 pub fn space(alloc: Global, test: &Test) -> Result<Space, SpaceFault> {
     let layout = Layout::new(alloc, test)?;
     let Some(found) = search::search(alloc, &layout)? else {

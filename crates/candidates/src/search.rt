@@ -18,6 +18,7 @@ use std::alloc::{AllocError, Global};
 /// What the search has found: combinations without their orders.
 #[derive(Drop)]
 pub struct Found {
+    /// In lexicographic order of their runs.
     pub combinations: Vec<Combination>,
     /// How many candidates they have.
     count: usize,

@@ -44,7 +44,7 @@ impl Visit for CheckRun<'_> {
 }
 
 /// Whether a check or flag holds, for each candidate of a space. `inputs` are the values of the
-/// item's inputs, in their order. An item of another kind has no answers.
+/// item's inputs, in their order. An item of another kind has no answers. Errors: want of memory.
 pub fn eval_check(
     alloc: Global,
     item: &ResolvedItem,

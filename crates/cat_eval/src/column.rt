@@ -12,7 +12,9 @@ use std::alloc::{AllocError, Global};
 /// The value of a name in each candidate of a space, in order.
 #[derive(Drop)]
 pub enum Column {
+    /// A set for each candidate.
     Sets(Vec<EventSet>),
+    /// A relation for each candidate.
     Relations(PackedRelations),
 }
 

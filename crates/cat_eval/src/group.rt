@@ -172,7 +172,7 @@ fn solver_of(alloc: Global, recursive: bool, bodies: &[Body]) -> Result<Solver, 
 
 /// The value of each name of a group, for each candidate of a space. `inputs` are the values of
 /// the item's inputs, in their order. The names of a `let rec` have the least values that satisfy
-/// its equations. An item of another kind has no names.
+/// its equations. An item of another kind has no names. Errors: want of memory.
 pub fn eval_group(
     alloc: Global,
     item: &ResolvedItem,

@@ -172,7 +172,7 @@ fn put_head(text: &mut Vec<u8>, name: &[u8], kind: Quantifier) -> Result<(), All
     put_bytes(text, b"\n")
 }
 
-/// The log of a test of this name: each line ends with a line feed.
+/// The log of a test of this name: each line ends with a line feed. Errors: want of memory.
 pub fn outcome_log(alloc: Global, name: &[u8], outcome: &Outcome) -> Result<Vec<u8>, AllocError>
     ensures { IfOk result (λ log. log.items ≡ log_of name.now outcome.now) }
 {

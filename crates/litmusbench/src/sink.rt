@@ -15,6 +15,8 @@ pub trait ByteSink {
     // How many calls have failed.
     ghost failed_calls: { Self → ℕ };
 
+    /// Writes a front of the bytes, of at least one, and says how many. Errors: the call failed,
+    /// and nothing was written.
     fn write_some(&mut self, bytes: &[u8]) -> Result<usize, CallFailed>
         requires room { failed_calls self.old < 2 ^ 64 - 1 }
         requires some { 0 < length bytes.now }
@@ -32,6 +34,7 @@ pub struct OfWrite<W> {
 }
 
 impl<W: Write> OfWrite<W> {
+    /// The writer, of which no call has failed.
     pub fn new(writer: W) -> Self
         ensures { result ≡ record { writer = writer; failed = 0 } }
     {
@@ -64,7 +67,7 @@ pub struct MemorySink {
 }
 
 impl MemorySink {
-    /// An empty sink, where the call of this number, from 0, fails.
+    /// A sink that holds these bytes, where the call of this number, from 0, fails.
     pub fn failing_at(bytes: Vec<u8>, call: Option<u64>) -> Self
         ensures { result ≡ record { bytes = bytes; until_failure = call; failed = 0 } }
     {
@@ -75,6 +78,7 @@ impl MemorySink {
         }
     }
 
+    /// What it holds.
     pub fn as_bytes(&self) -> &[u8]
         ensures { result.now ≡ self.now.bytes.items }
     {

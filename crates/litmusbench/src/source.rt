@@ -20,6 +20,8 @@ pub trait ByteSource {
     // How many calls have failed.
     ghost failed_calls: { Self → ℕ };
 
+    /// Reads into the beginning of the buffer and says how many bytes: 0 at the end, or where the
+    /// buffer is empty. Errors: the call failed, and nothing was read.
     fn read_some(&mut self, buffer: &mut [u8]) -> Result<usize, CallFailed>
         requires { failed_calls self.old < 2 ^ 64 - 1 }
         ensures bound { ReadsAtMost result buffer.new }
@@ -36,6 +38,7 @@ pub struct OfRead<R> {
 }
 
 impl<R: Read> OfRead<R> {
+    /// The reader, of which no call has failed.
     pub fn new(reader: R) -> Self
         ensures { result ≡ record { reader = reader; failed = 0 } }
     {
@@ -114,6 +117,7 @@ pub enum ReadFault {
     Read,
     /// The source did not end.
     Endless,
+    /// A growth was refused.
     Memory,
 }
 
@@ -127,7 +131,8 @@ impl From<AllocError> for ReadFault {
 
 const MAX_TURNS: u32 = 16_777_216;
 
-/// All bytes of a source.
+/// All bytes of a source. Errors: a call that failed, a source that has not ended after 16,777,216
+/// calls, or want of memory.
 pub fn read_all<S: ByteSource>(alloc: Global, source: &mut S) -> Result<Vec<u8>, ReadFault>
     requires { S.failed_calls source.old < 2 ^ 64 - 1 }
     ensures bytes { IfOk result (λ v. IfSome (S.remaining source.old) (λ all. v.items ≡ all)) }
