@@ -8,9 +8,11 @@ pub mod Finding
 pub mod Gathering
 pub mod Judging
 pub mod Keying
+pub mod Laying
 pub mod Members
 pub mod Numbers
 pub mod OrderLaws
+pub mod Parting
 pub mod Pruning
 pub mod Searching
 pub mod Spaces

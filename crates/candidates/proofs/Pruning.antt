@@ -21,16 +21,16 @@ use Rattle.candidates.specs.declared.part.Part.{Part}
 use Rattle.candidates.specs.declared.search.Front.{Front}
 
 -- loads and stores of lists one after another
-load_front : (l : ℕ) (v : Value) (es fs : List Event) → HasLoad l v es → HasLoad l v (es ++ fs)
+pub load_front : (l : ℕ) (v : Value) (es fs : List Event) → HasLoad l v es → HasLoad l v (es ++ fs)
 load_front l v [] fs h = absurd h
 load_front l v (e ∷ es) fs (inl h) = inl h
 load_front l v (e ∷ es) fs (inr h) = inr (load_front l v es fs h)
 
-load_behind : (l : ℕ) (v : Value) (es fs : List Event) → HasLoad l v fs → HasLoad l v (es ++ fs)
+pub load_behind : (l : ℕ) (v : Value) (es fs : List Event) → HasLoad l v fs → HasLoad l v (es ++ fs)
 load_behind l v [] fs h = h
 load_behind l v (e ∷ es) fs h = inr (load_behind l v es fs h)
 
-store_split : (l : ℕ) (v : Value) (es fs : List Event) → HasStore l v (es ++ fs) → HasStore l v es ⊎ HasStore l v fs
+pub store_split : (l : ℕ) (v : Value) (es fs : List Event) → HasStore l v (es ++ fs) → HasStore l v es ⊎ HasStore l v fs
 store_split l v [] fs h = inr h
 store_split l v (e ∷ es) fs (inl h) = inl (inl h)
 store_split l v (e ∷ es) fs (inr h) = elim (store_split l v es fs h) [ inl s ↦ inl (inr s) | inr s ↦ inr s ]

@@ -1,7 +1,9 @@
 -- Sets of pairs of a location and a value, each of which has one bit.
-use Rattle.std.specs.Prelude.{ℕ, ◌≡◌, ◌⊎◌, Bool, true, false, List, [], ◌∷◌, Option, Some}
+use Rattle.std.specs.Prelude.{ℕ, ◌≡◌, ◌+◌, ◌*◌, ◌/◌, ◌%◌, ◌⊎◌, ◌&&◌, if◌then◌else◌, nat_lt, Bool, true, false, List, [], ◌∷◌, Option, Some, None}
+use Rattle.std.specs.List.{position_or_len}
 use Rattle.bit_relations.specs.Rows.{RowsHave}
 use Rattle.ppc_semantics.specs.declared.value.Value.{Value}
+use Rattle.candidates.specs.Ways.{same_value}
 use Rattle.candidates.specs.declared.candidate.Action.TheVariants.{Read, Write}
 use Rattle.candidates.specs.declared.candidate.Event.{Event}
 use Rattle.candidates.specs.declared.keys.KeySet.{KeySet}
@@ -13,6 +15,22 @@ use Rattle.candidates.specs.declared.search.Front.{Front}
 -- the set has the bit of a word
 abbrev pub HasKey : KeySet → ℕ → ℕ → Type 0
 HasKey s word bit = RowsHave s.words word bit
+
+-- the number of the pair of a location and a value, by the place of the value among these; none past 128 locations and
+-- 16 values
+abbrev pub number_at : ℕ → ℕ → Option ℕ
+number_at location place = if nat_lt location 128 && nat_lt place 16 then Some (location * 16 + place) else None
+
+abbrev pub key_in : List Value → ℕ → Value → Option ℕ
+key_in values location value = number_at location (position_or_len (λ v. same_value v value) values)
+
+-- the bit that the pair has in a set, as a word and the place in it
+abbrev pub bit_at : Option ℕ → Option (ℕ × ℕ)
+bit_at None = None
+bit_at (Some key) = Some (key / 64, key % 64)
+
+abbrev pub bit_of : List Value → ℕ → Value → Option (ℕ × ℕ)
+bit_of values location value = bit_at (key_in values location value)
 
 -- whether the second set has all of the first: if not, one is missing
 abbrev pub TellsAll : Bool → (ℕ → Type 0) → (ℕ → Type 0) → Type 0

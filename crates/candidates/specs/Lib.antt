@@ -1,6 +1,8 @@
 pub mod Keys
+pub mod Layouts
 pub mod Lists
 pub mod Orders
+pub mod Parts
 pub mod Rounds
 pub mod Search
 pub mod Space

@@ -1,11 +1,14 @@
 //! Sets of pairs of a location and a value.
 
-ghost use Rattle.std.specs.Prelude.{◌≡◌, ◌↔◌, ◌⊎◌, ◌<◌, ◌/◌, ◌%◌, ℕ, length};
+ghost use Rattle.std.specs.Prelude.{◌≡◌, ◌↔◌, ◌⊎◌, ◌<◌, ◌/◌, ◌%◌, ℕ, Some, IfSome};
+ghost use Rattle.std.specs.List.{position_or_len};
 ghost use Rattle.bit_relations.specs.Relation.{Bit};
 ghost use Rattle.bit_relations.specs.Rows.{RowsHave};
 ghost use Rattle.bit_relations.specs.Pairs.{Added, Union};
-ghost use Rattle.candidates.specs.Keys.{HasKey, TellsAll, TellsWithin};
+ghost use Rattle.candidates.specs.Keys.{HasKey, TellsAll, TellsWithin, key_in, bit_of};
+ghost use Rattle.candidates.specs.Ways.{same_value};
 
+use crate::reading::is_same;
 use ppc_semantics::Value;
 
 /// Words enough for 128 locations with 16 values each.
@@ -31,6 +34,24 @@ fn has_all(word: u64, other: u64) -> bool
     ensures { TellsAll result (Bit word) (Bit other) }
 {
     word & !other == 0
+}
+
+/// The word with one bit more.
+#[inline]
+fn with_bit(word: u64, k: usize) -> u64
+    requires { k < 64 }
+    ensures { (b : ℕ) → Bit result b ↔ (Bit word b ⊎ (k ≡ b)) }
+{
+    word | (1 << k)
+}
+
+/// Adds a bit to one word.
+fn set_bit(words: &mut [u64; WORDS], a: usize, k: usize)
+    requires word { a < 32 }
+    requires inside { k < 64 }
+    ensures { (x b : ℕ) → RowsHave words.new x b ↔ Added (RowsHave words.old) a k x b }
+{
+    words[a] = with_bit(words[a], k);
 }
 
 /// Adds the bits of the other words.
@@ -62,10 +83,21 @@ impl KeySet {
         KeySet { words: [0; WORDS] }
     }
 
-    /// Adds a pair.
-    pub fn insert(&mut self, key: usize) {
-        if let Some(word) = self.words.get_mut(key / 64) {
-            *word |= 1 << (key % 64);
+    /// Adds a pair by its number.
+    fn insert(&mut self, key: usize)
+        requires { key < 2048 }
+        ensures { (a b : ℕ) → HasKey self.new a b ↔ (HasKey self.old a b ⊎ ((key / 64 ≡ a) × (key % 64 ≡ b))) }
+    {
+        set_bit(&mut self.words, key / 64, key % 64);
+    }
+
+    /// Adds a pair, if it has a number.
+    pub fn insert_pair(&mut self, values: &[Value], location: usize, value: Value)
+        ensures { (a b : ℕ) → HasKey self.new a b ↔ (HasKey self.old a b ⊎ (bit_of values.now location value ≡ Some (a, b))) }
+    {
+        match key_of(values, location, value) {
+            Some(key) => self.insert(key),
+            None => {}
         }
     }
 
@@ -84,8 +116,28 @@ impl KeySet {
     }
 }
 
-/// The number of the pair of a location and a value, where the value is one of these.
-pub fn key_of(values: &[Value], location: usize, value: Value) -> Option<usize> {
-    let place = values.iter().position(|v| *v == value)?;
-    location.checked_mul(values.len())?.checked_add(place)
+/// The place of the value among these, or how many they are.
+fn place_of(values: &[Value], value: Value) -> usize
+    ensures { result ≡ position_or_len (λ v. same_value v value) values.now }
+{
+    for place in 0..values.len() {
+        if is_same(values[place], value) {
+            return place;
+        }
+    }
+    values.len()
+}
+
+/// The number of the pair of a location and a value, by the place of the value among these; none
+/// past 128 locations and 16 values.
+fn key_of(values: &[Value], location: usize, value: Value) -> Option<usize>
+    ensures number { result ≡ key_in values.now location value }
+    ensures within { IfSome result (λ key. key < 2048) }
+{
+    let place = place_of(values, value);
+    if location < 128 && place < 16 {
+        Some(location * 16 + place)
+    } else {
+        None
+    }
 }

@@ -1,10 +1,18 @@
 //! What a test's candidates are made of: initial stores, and runs of each thread.
 
+ghost use Rattle.std.specs.Prelude.{Vec, ℕ, ◌≡◌, ◌<◌, List, Some, length, IfOk};
+ghost use Rattle.std.specs.declared.alloc.Global.{Global};
+ghost use Rattle.ppc_semantics.specs.declared.value.Value.{Value};
+ghost use Rattle.ppc_semantics.specs.declared.run.Run.{Run};
+ghost use Rattle.ppc_semantics.specs.ValueSet.{IsSet};
+ghost use Rattle.candidates.specs.Keys.{HasKey, HasStore, IsKeyed, bit_of};
+ghost use Rattle.candidates.specs.Parts.{initial_from, AreSketches, HasWritesOf, AreBelow, IsMade, AreEach, NamesRuns, AreThreads};
+ghost use Rattle.candidates.specs.Layouts.{AreAllRuns, IsLaidOut};
+
 use crate::candidate::{Action, Event};
-use crate::keys::{KeySet, key_of};
-use crate::part::{Part, Sketch, parts, sift, sketches};
-use litmus_ppc::Test;
-use ppc_semantics::{Domain, Program, Run, SpaceFault, Value, domain_of, program, runs_of};
+use crate::keys::KeySet;
+use crate::part::{Part, Sketch, add_keys, join_writes, parts, sift, sketches};
+use ppc_semantics::{Domain, Program, Run, Value, runs_of};
 use source_text::Name;
 use std::alloc::{AllocError, Global};
 
@@ -29,37 +37,39 @@ pub struct Layout {
 }
 
 /// The initial stores, by location.
-fn initial_events(alloc: Global, initial: &[Value]) -> Result<Vec<Event>, AllocError> {
+fn initial_events(alloc: Global, initial: &[Value]) -> Result<Vec<Event>, AllocError>
+    ensures { IfOk result (λ v. v.items ≡ initial_from 0 initial.now) }
+{
     let mut events = Vec::with_capacity(alloc, initial.len())?;
-    for (location, value) in initial.iter().enumerate() {
+    for location in 0..initial.len() {
         events.push(Event {
             thread: None,
             action: Action::Write {
                 location,
-                value: *value,
+                value: initial[location],
             },
         })?;
     }
     Ok(events)
 }
 
-/// The locations with their initial values.
-fn initial_keys(values: &[Value], initial: &[Value]) -> KeySet {
-    let mut keys = KeySet::empty();
-    for (location, value) in initial.iter().enumerate() {
-        if let Some(key) = key_of(values, location, *value) {
-            keys.insert(key);
-        }
+/// What the initial stores store.
+fn initial_keys(values: &[Value], initial: &[Event]) -> KeySet
+    ensures { (location : ℕ) (value : Value) (a b : ℕ) → HasStore location value initial.now → bit_of values.now location value ≡ Some (a, b) → HasKey result a b }
+{
+    let mut reads = KeySet::empty();
+    let mut writes = KeySet::empty();
+    for event in initial {
+        add_keys(values, event.action, &mut reads, &mut writes);
     }
-    keys
+    writes
 }
 
 /// The runs of each thread.
-fn all_runs(
-    alloc: Global,
-    program: &Program,
-    domain: &Domain,
-) -> Result<Vec<Vec<Run>>, AllocError> {
+fn all_runs(alloc: Global, program: &Program, domain: &Domain) -> Result<Vec<Vec<Run>>, AllocError>
+    requires { IsSet domain.now.values.items }
+    ensures { IfOk result (λ v. AreAllRuns program.now domain.now.values.items v.items) }
+{
     let mut threads = Vec::with_capacity(alloc, program.threads.len())?;
     for thread in 0..program.threads.len() {
         threads.push(runs_of(alloc, program, thread, domain)?)?;
@@ -72,7 +82,9 @@ fn all_sketches(
     alloc: Global,
     domain: &Domain,
     runs: &[Vec<Run>],
-) -> Result<Vec<Vec<Sketch>>, AllocError> {
+) -> Result<Vec<Vec<Sketch>>, AllocError>
+    ensures { IfOk result (λ v. AreEach (λ r s. AreSketches domain.now.values.items r.items s.items) runs.now v.items) }
+{
     let mut threads = Vec::with_capacity(alloc, runs.len())?;
     for thread in runs {
         threads.push(sketches(alloc, &domain.values, thread)?)?;
@@ -86,11 +98,13 @@ fn thread_parts(
     thread: usize,
     runs: &[Run],
     sketches: &[Sketch],
-) -> Result<ThreadParts, AllocError> {
+) -> Result<ThreadParts, AllocError>
+    requires { AreBelow (length runs.now) sketches.now }
+    ensures writes { IfOk result (λ t. HasWritesOf t.writes sketches.now) }
+    ensures parts { IfOk result (λ t. AreEach (IsMade thread runs.now) sketches.now t.parts.items) }
+{
     let mut writes = KeySet::empty();
-    for sketch in sketches {
-        writes.join(&sketch.writes);
-    }
+    join_writes(&mut writes, sketches);
     Ok(ThreadParts {
         parts: parts(alloc, thread, runs, sketches)?,
         writes,
@@ -102,27 +116,29 @@ fn all_parts(
     alloc: Global,
     runs: &[Vec<Run>],
     sketches: &[Vec<Sketch>],
-) -> Result<Vec<ThreadParts>, AllocError> {
+) -> Result<Vec<ThreadParts>, AllocError>
+    requires { AreEach NamesRuns runs.now sketches.now }
+    ensures { IfOk result (λ v. AreThreads 0 runs.now sketches.now v.items) }
+{
     let mut threads = Vec::with_capacity(alloc, runs.len())?;
-    for (thread, runs) in runs.iter().enumerate() {
-        if let Some(sketches) = sketches.get(thread) {
-            threads.push(thread_parts(alloc, thread, runs, sketches)?)?;
-        }
+    for thread in 0..runs.len() {
+        threads.push(thread_parts(alloc, thread, &runs[thread], &sketches[thread])?)?;
     }
     Ok(threads)
 }
 
 impl Layout {
-    /// What the candidates of a test are made of, or a refusal of the test's domain.
-    pub fn new(alloc: Global, test: &Test) -> Result<Layout, SpaceFault> {
-        let program = program(alloc, test)?;
-        let domain = domain_of(alloc, &program)?;
-        let runs = all_runs(alloc, &program, &domain)?;
-        let initial_writes = initial_keys(&domain.values, &program.initial);
-        let mut sketches = all_sketches(alloc, &domain, &runs)?;
+    /// What the candidates of a program over a domain are made of.
+    pub fn new(alloc: Global, program: Program, domain: &Domain) -> Result<Layout, AllocError>
+        requires { IsSet domain.now.values.items }
+        ensures { IfOk result (λ l. (runs : List (Vec Run Global)) × AreAllRuns program domain.now.values.items runs × IsLaidOut program runs l × IsKeyed (bit_of domain.now.values.items) l) }
+    {
+        let runs = all_runs(alloc, &program, domain)?;
+        let initial = initial_events(alloc, &program.initial)?;
+        let initial_writes = initial_keys(&domain.values, &initial);
+        let mut sketches = all_sketches(alloc, domain, &runs)?;
         sift(&initial_writes, &mut sketches);
         let threads = all_parts(alloc, &runs, &sketches)?;
-        let initial = initial_events(alloc, &program.initial)?;
         Ok(Layout {
             locations: program.locations,
             initial,

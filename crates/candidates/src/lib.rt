@@ -14,7 +14,7 @@ mod search;
 pub use candidate::{Action, Combination, Event, Execution, Space};
 use layout::Layout;
 use litmus_ppc::Test;
-use ppc_semantics::{EvalRefusal, SpaceFault};
+use ppc_semantics::{EvalRefusal, SpaceFault, domain_of, program};
 use std::alloc::Global;
 
 /// The greatest number of candidates that a test may have.
@@ -27,7 +27,9 @@ pub const MAX_CANDIDATES: usize = 16_384;
 /// `MAX_CANDIDATES` candidates; and with E5 where some candidate holds a run that stopped at a
 /// fault. Errors: that refusal, or want of memory.
 pub fn space(alloc: Global, test: &Test) -> Result<Space, SpaceFault> {
-    let layout = Layout::new(alloc, test)?;
+    let program = program(alloc, test)?;
+    let domain = domain_of(alloc, &program)?;
+    let layout = Layout::new(alloc, program, &domain)?;
     let Some(found) = search::search(alloc, &layout)? else {
         return Err(SpaceFault::Refused(EvalRefusal::TooManyCandidates));
     };

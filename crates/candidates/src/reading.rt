@@ -147,7 +147,7 @@ fn is_source(load: &Event, store: &Event) -> bool
 }
 
 /// Whether both are one value.
-fn is_same(value: Value, other: Value) -> bool
+pub fn is_same(value: Value, other: Value) -> bool
     ensures { result ≡ same_value value other }
 {
     match (value, other) {
