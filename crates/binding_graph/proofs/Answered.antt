@@ -1,5 +1,5 @@
 -- What is answered for a whole model.
-use Rattle.std.proofs.Common.{ℕ, ◌≡◌, List, map, reverse, Result}
+use Rattle.std.proofs.Common.{◌≡◌, List, map, reverse, Result}
 use Rattle.std.specs.Prelude.{MatchResult, IfOk}
 use Rattle.binding_kinds.specs.declared.fault.ModelFault.{ModelFault}
 use Rattle.binding_kinds.specs.declared.scope.Entry.{Entry}

@@ -1,5 +1,5 @@
 -- The bodies of a group so far.
-use Rattle.std.proofs.Common.{ℕ, ◌≡◌, ◌≤◌, ◌<◌, ◌+◌, List, [], ◌∷◌, ◌++◌, length, map, reverse, drop, get_or, vec_len, refl, sym, ◌∙◌, add-one, append_assoc, ap}
+use Rattle.std.proofs.Common.{ℕ, ◌≡◌, ◌≤◌, ◌<◌, ◌+◌, List, [], ◌∷◌, ◌++◌, length, map, reverse, drop, get_or, vec_len, sym, ◌∙◌, add-one, append_assoc, ap}
 use Rattle.std.proofs.Math.Seq.{drop-cons}
 use Rattle.std.proofs.lemmas.List.{drop_all, append-nil, reverse-reverse}
 use Rattle.cat_values.specs.declared.model.Binding.{Binding}

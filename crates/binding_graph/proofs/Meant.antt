@@ -1,14 +1,12 @@
 -- What a name without arguments stands for, where there are no parameters.
-use Rattle.std.proofs.Common.{ℕ, ◌≡◌, ◌<◌, List, [], length, map, reverse, Option, Some, None, Result, Ok, Err, refl, sym}
+use Rattle.std.proofs.Common.{ℕ, ◌≡◌, ◌<◌, List, [], length, map, reverse, Option, Some, None, Result, Ok, Err}
 use Rattle.std.proofs.lemmas.List.{length-map, length-reverse}
 use Rattle.std.specs.Prelude.{OnOk, IfOk}
-use Rattle.binding_kinds.specs.declared.fault.ModelFault.{ModelFault}
 use Rattle.binding_kinds.specs.declared.fault.ModelFault.TheVariants as faults
 use Rattle.binding_kinds.specs.declared.scope.Entry.{Entry}
 use Rattle.binding_kinds.specs.declared.scope.Found.{Found}
 use Rattle.binding_kinds.specs.declared.scope.Binder.{Binder}
 use Rattle.binding_kinds.specs.declared.scope.Binder.TheVariants as binders
-use Rattle.binding_kinds.specs.declared.sight.Meaning.{Meaning}
 use Rattle.binding_kinds.specs.declared.sight.Meaning.TheVariants as meanings
 use Rattle.binding_kinds.specs.Value.{entry_of}
 use Rattle.binding_kinds.specs.Kinds.{found}

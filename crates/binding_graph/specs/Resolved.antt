@@ -3,7 +3,7 @@ use Rattle.std.specs.Prelude.{◌≡◌, ℕ, ◌+◌, List, [], ◌∷◌, leng
 use Rattle.cat_values.specs.declared.model.CheckWord.{CheckWord}
 use Rattle.binding_kinds.specs.declared.scope.Used.{Used}
 use Rattle.binding_kinds.specs.Value.{Term, Naming, Bound, Clause, Group, Check, Mute, Defined}
-use Rattle.binding_kinds.specs.Faults.{with_own, extended}
+use Rattle.binding_kinds.specs.Faults.{extended}
 use Rattle.binding_graph.specs.declared.resolved.Body.{Body}
 use Rattle.binding_graph.specs.declared.resolved.Role.{Role}
 use Rattle.binding_graph.specs.declared.resolved.Role.TheVariants as roles

@@ -1,7 +1,6 @@
-use Rattle.std.proofs.Common.{◌≡◌, ◌<◌, ◌≤◌, length, reverse, map, vec_len, arith, refl}
+use Rattle.std.proofs.Common.{◌<◌, ◌≤◌, length, reverse, map, vec_len, arith, refl}
 use Rattle.binding_kinds.specs.Value.{entry_of, term_of, IsPlain}
 use Rattle.binding_kinds.specs.Fits.{IsFit}
-use Rattle.binding_graph.specs.declared.resolved.Body.{Body}
 use Rattle.binding_graph.proofs.Bodies.{next_plain, next_fit, made_more, all_made}
 use Rattle.binding_graph.proofs.items.lower_bodies.Goals as goal
 

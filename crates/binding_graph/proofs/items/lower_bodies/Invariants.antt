@@ -1,9 +1,7 @@
-use Rattle.std.proofs.Common.{◌≡◌, ◌≤◌, ◌++◌, [], List, reverse, map, drop, length, vec_len}
+use Rattle.std.proofs.Common.{◌≡◌, ◌≤◌, [], reverse, map, length, vec_len}
 use Rattle.binding_kinds.specs.Value.{entry_of, bound_of, ArePlain}
 use Rattle.binding_kinds.specs.Fits.{AreFit}
-use Rattle.binding_graph.specs.declared.resolved.Body.{Body}
-use Rattle.binding_graph.specs.Inputs.{IsIndexed, with_all_uses}
-use Rattle.binding_graph.specs.Resolved.{AreBodies}
+use Rattle.binding_graph.specs.Inputs.{IsIndexed}
 use Rattle.binding_graph.proofs.Bodies.{AreMade}
 use Rattle.binding_graph.proofs.items.lower_bodies.Given as goal
 

@@ -1,4 +1,4 @@
-use Rattle.std.proofs.Common.{◌≡◌, ◌≤◌, length, reverse, map, take, vec_len, arith, refl}
+use Rattle.std.proofs.Common.{◌≤◌, length, reverse, map, vec_len, arith}
 use Rattle.std.proofs.lemmas.List.{length-take}
 use Rattle.binding_kinds.specs.Value.{entry_of, bound_of}
 use Rattle.binding_kinds.specs.Fits.{AreFit}

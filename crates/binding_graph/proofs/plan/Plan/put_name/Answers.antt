@@ -1,6 +1,4 @@
-use Rattle.std.proofs.Common.{◌≡◌, ◌<◌, ◌≤◌, length, reverse, map, vec_len, Some, sym, arith}
-use Rattle.binding_kinds.specs.Value.{entry_of}
-use Rattle.binding_kinds.specs.Kinds.{found}
+use Rattle.std.proofs.Common.{arith}
 use Rattle.binding_graph.proofs.Meant.{named_uses, on_ok, value_is, slot_below}
 use Rattle.binding_graph.proofs.plan.Plan.put_name.Goals as goal
 
