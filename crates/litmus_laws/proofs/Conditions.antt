@@ -23,8 +23,8 @@ use Rattle.litmus_values.specs.declared.test.Connective.TheVariants as connectiv
 use Rattle.litmus_values.specs.Value.{Formula, Constant, Holds, Not, Join, level}
 use Rattle.litmus_conditions.specs.Grammar as grammar
 use Rattle.litmus_conditions.specs.Grammar.{FormulaTree, Word, Atom, Prefix, Pair, Group, connective_token, spelled, spelled_quantifier, place_meaning, meaning, tightness, IsGrouped, HasAtoms, depth, operators, Limits, limits}
-use Rattle.litmus_ppc.specs.Printing.{place_text, value_text, connective_text, bracketed, is_loose, formula_text, condition_text}
-use Rattle.litmus_ppc.specs.Texts.{ReadsCondition}
+use Rattle.litmus_printing.specs.Printing.{place_text, value_text, connective_text, bracketed, is_loose, formula_text, condition_text}
+use Rattle.litmus_grammar.specs.Texts.{ReadsCondition}
 use Rattle.litmus_laws.specs.Written.{begins_word, IsWord, IsPlace, IsFormula, IsTextOfCondition, one_where, nesting, joins, IsWithinLimits}
 use Rattle.litmus_laws.proofs.Read.{Within, Entries, Operands, Condition, part, core, free, inner, inner_turn, not_it}
 use Rattle.litmus_laws.proofs.Numbers.{digits_first, word, are_back}

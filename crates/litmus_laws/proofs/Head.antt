@@ -17,7 +17,8 @@ use Rattle.litmus_tokens.specs.Lexer.{is_space, is_not_ascii, begins_comment, co
 use Rattle.litmus_tokens.specs.Stage.{after}
 use Rattle.litmus_tokens.specs.Texts.{Placed, tokens_of, ends_line, after_front, tokens_from}
 use Rattle.litmus_laws.specs.Written.{holds_comment}
-use Rattle.litmus_laws.proofs.Read.{three_tests, Entries, tokens_skip, free, inner}
+use Rattle.litmus_grammar.proofs.Lexed.{tokens_skip}
+use Rattle.litmus_laws.proofs.Read.{three_tests, Entries, free, inner}
 
 printable : (b : ℕ) → is_printable b ≡ true → (is_space b ≡ false) × (is_not_ascii b ≡ false)
 printable b h = (grind (arith, nat_tests), grind (arith, nat_tests))

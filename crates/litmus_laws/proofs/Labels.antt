@@ -13,7 +13,7 @@ use Rattle.litmus_values.specs.declared.test.Step.TheVariants as steps
 use Rattle.litmus_table.specs.declared.opcode.Opcode.{Opcode}
 use Rattle.litmus_table.specs.Grammar.{spelled_cell, spelled_rows}
 use Rattle.litmus_table.specs.Late.{Late, or_else, Note, Defines, Branches, branch_notes, cell_notes, nth_notes, column_notes, columns_notes, is_in, defined, late_notes, first_late, late_columns}
-use Rattle.litmus_ppc.specs.Printing.{longest}
+use Rattle.litmus_printing.specs.Printing.{longest}
 use Rattle.litmus_laws.specs.Written.{IsStep, AreSteps, target, labels, IsBelow, AreLabelled}
 use Rattle.litmus_laws.proofs.Instructions.{tree_of, opcode, instruction_read}
 use Rattle.litmus_laws.proofs.Rows.{step_tree, cell_tree, AreAllSteps, row_tree, rows_of, AreShort, all_short}

@@ -15,7 +15,7 @@ use Rattle.litmus_tokens.specs.declared.lexer.Front.TheVariants.{Layout, Lexeme}
 use Rattle.litmus_tokens.specs.Words as words
 use Rattle.litmus_tokens.specs.Words.{is_letter, is_digit, are_digits, is_plain, is_empty, decimal_from, signed, is_int, register_of, is_register, or_zero}
 use Rattle.litmus_tokens.specs.Lexer.{is_word_byte, ends_word, ends_digits, significant, front, word_front, number_front, minus_front, sign_front}
-use Rattle.litmus_ppc.specs.Printing.{register_text}
+use Rattle.litmus_printing.specs.Printing.{register_text}
 use Rattle.litmus_laws.specs.Written.{IsWord, IsNumber}
 use Rattle.litmus_laws.proofs.Read.{Within, inner, inner_turn, word_stays, number_stays, first_of, digit_of, not_it, word_byte}
 

@@ -19,7 +19,7 @@ use Rattle.litmus_values.specs.declared.test.Value as declared_value
 use Rattle.litmus_values.specs.declared.test.Value.TheVariants as values
 use Rattle.litmus_conditions.specs.Grammar as grammar
 use Rattle.litmus_conditions.specs.Grammar.{PlaceTree, Location, Register, ValueTree, Number, Address, spelled_place, spelled_value, place_meaning, value_meaning, HasThread}
-use Rattle.litmus_ppc.specs.Printing.{register_text, value_text, bare_text, place_text}
+use Rattle.litmus_printing.specs.Printing.{register_text, value_text, bare_text, place_text}
 use Rattle.litmus_laws.specs.Written.{begins_word, IsWord, IsValue, IsPlace}
 use Rattle.litmus_laws.proofs.Read.{Within, Entries, Operands, Condition, part, core, free, inner, inner_turn, not_it}
 use Rattle.litmus_laws.proofs.Numbers.{digits_first, word, number, are_back, signed_number, number_back, is_negative, digits_of, signed_back, is_int_back, register_back, register_word}

@@ -16,6 +16,7 @@ use Rattle.litmus_tokens.specs.Words.{ends_table, is_letter, is_digit}
 use Rattle.litmus_tokens.specs.Lexer.{front, begins_comment, stage_front}
 use Rattle.litmus_tokens.specs.Stage.{after, after_brace}
 use Rattle.litmus_tokens.specs.Texts.{Placed, tokens_of, ends_line, fresh_after, after_front, tokens_from}
+use Rattle.litmus_grammar.proofs.Lexed.{tokens_skip}
 use Rattle.litmus_laws.specs.Written.{begins_word}
 
 -- the parts from the init block on: how a line began does not bear on them
@@ -253,14 +254,6 @@ free s f zero p (b ∷ bs) h =
     (λ t v k. free (after s t) v k (p + 1) bs (past_after s t h)
     ∙ ap (λ (u : Stage). tokens_of (tokens_from u false k 0 bs)) (core_after s t)
     ∙ sym (free (after (core s) t) v k 1 bs (past_after (core s) t (past_core s h))))
-
--- passing over bytes
-pub tokens_skip : (s : Stage) (f : Bool) (k p : ℕ) (bs : List ℕ) → k ≤ length bs → tokens_from s f k p bs ≡ tokens_from s f 0 (p + k) (drop k bs)
-unfolding tokens_from
-tokens_skip s f zero p bs h = ap (λ n. tokens_from s f 0 n bs) (omega arith)
-tokens_skip s f (suc k) p [] h = absurd (omega arith)
-tokens_skip s f (suc k) p (b ∷ bs) h =
-    tokens_skip s f k (p + 1) bs (omega arith) ∙ ap (λ n. tokens_from s f 0 n (drop k bs)) (omega arith)
 
 -- a token, in a part from the init block on
 pub turn : (s : Stage) (b : ℕ) (word rest : List ℕ) (t : Token) → is_past s ≡ true → front s false (b ∷ (word ++ rest)) ≡ Lexeme t (length (b ∷ word))

@@ -17,9 +17,9 @@ use Rattle.litmus_values.specs.declared.instruction.Instruction.TheVariants as i
 use Rattle.litmus_values.specs.Value.{Formula, Constant, Holds, Not, Join, Content, level}
 use Rattle.litmus_conditions.specs.Grammar.{Limits, limits, IsConditionText, meaning}
 use Rattle.litmus_table.specs.Late.{is_in}
-use Rattle.litmus_ppc.specs.Grammar.{IsTestText, test_meaning}
-use Rattle.litmus_ppc.specs.Texts.{most_bytes, late_test}
-use Rattle.litmus_ppc.specs.Printing.{is_loose}
+use Rattle.litmus_grammar.specs.Grammar.{IsTestText, test_meaning}
+use Rattle.litmus_grammar.specs.Texts.{most_bytes, late_test}
+use Rattle.litmus_printing.specs.Printing.{is_loose}
 
 abbrev pub begins_word : ℕ → Bool
 begins_word b = is_letter b || b == 95

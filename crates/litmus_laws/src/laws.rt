@@ -3,8 +3,8 @@
 ghost use Rattle.std.specs.Prelude.{◌<◌, ℕ, List};
 ghost use Rattle.litmus_values.specs.declared.test.Quantifier.{Quantifier};
 ghost use Rattle.litmus_values.specs.Value.{Formula, Content};
-ghost use Rattle.litmus_ppc.specs.Printing.{condition_text, printed};
-ghost use Rattle.litmus_ppc.specs.Texts.{ReadsCondition, ReadsTest};
+ghost use Rattle.litmus_printing.specs.Printing.{condition_text, printed};
+ghost use Rattle.litmus_grammar.specs.Texts.{ReadsCondition, ReadsTest};
 ghost use Rattle.litmus_laws.specs.Written.{IsFormula, IsTest, IsTextOfCondition, IsTextOfTest, IsWithinLimits};
 
 /// What is printed for a condition, in a test of so many threads, reads as that condition.

@@ -19,28 +19,24 @@ use Rattle.litmus_conditions.specs.PlaceMachine.{place_of}
 use Rattle.litmus_table.specs.Late.{Late}
 use Rattle.litmus_ppc.specs.declared.fault.LitmusFault.{LitmusFault}
 use Rattle.litmus_ppc.specs.declared.fault.LitmusFault.TheVariants as faults
-use Rattle.litmus_ppc.specs.declared.parts.TextKind.{TextKind}
-use Rattle.litmus_ppc.specs.declared.parts.TextKind.TheVariants as kinds
-use Rattle.litmus_ppc.specs.Grammar.{EntryTree, spelled_entry, members, entry_meaning, written_place, IsInitText}
-use Rattle.litmus_ppc.specs.InitMachine.{lacks_thread, missing}
-use Rattle.litmus_ppc.specs.TextMachine.{State, Ran, run, start, threads_in}
+use Rattle.litmus_grammar.specs.declared.parts.TextKind.{TextKind}
+use Rattle.litmus_grammar.specs.declared.parts.TextKind.TheVariants as kinds
+use Rattle.litmus_grammar.specs.Grammar.{EntryTree, spelled_entry, members, entry_meaning, written_place, IsInitText}
+use Rattle.litmus_grammar.specs.InitMachine.{lacks_thread, missing}
+use Rattle.litmus_grammar.specs.TextMachine.{State, Ran, run, start, threads_in}
 use Rattle.litmus_ppc.specs.TextReading.{FailsAt}
-use Rattle.litmus_ppc.specs.Texts as texts
-use Rattle.litmus_ppc.specs.Texts.{late_entries, late_of_init, ReadsInit, IsInitFault, IsFaultOf}
+use Rattle.litmus_grammar.specs.Texts as texts
+use Rattle.litmus_grammar.specs.Texts.{late_entries, late_of_init, ReadsInit, IsInitFault}
 use Rattle.litmus_ppc.specs.Faults as faults_of
-use Rattle.litmus_ppc.proofs.Bounds.{is_short}
-use Rattle.litmus_ppc.proofs.Ends.{ends_done}
-use Rattle.litmus_ppc.proofs.InitLeft.{init_whole}
-use Rattle.litmus_ppc.proofs.InitStarts.{init_reading}
-use Rattle.litmus_ppc.proofs.InitTaken.{entry_kept, AreStarts, init_taken}
-use Rattle.litmus_ppc.proofs.Outcomes.{fault_found, no_fault}
-use Rattle.litmus_ppc.proofs.Runs.{ends_last, follows}
-
-abbrev ran : State → Ran
-ran s = Ok s
-
-same_state : (a b : State) → ran a ≡ ran b → a ≡ b
-same_state a b e = cc
+use Rattle.litmus_ppc.specs.Faults.{IsFaultOf}
+use Rattle.litmus_grammar.proofs.Bounds.{is_short}
+use Rattle.litmus_grammar.proofs.Ends.{ends_done}
+use Rattle.litmus_grammar.proofs.InitLeft.{init_whole}
+use Rattle.litmus_grammar.proofs.InitStarts.{init_reading}
+use Rattle.litmus_grammar.specs.Laws.{entry_kept, AreStarts}
+use Rattle.litmus_grammar.proofs.InitTaken.{init_taken}
+use Rattle.litmus_grammar.proofs.Outcomes.{fault_found, no_fault}
+use Rattle.litmus_grammar.proofs.Runs.{same_state, ends_last, follows}
 
 -- the place that is found is where the definitions find one
 abbrev pub Matches : List Placed → Option Late → Option ℕ → Type 0

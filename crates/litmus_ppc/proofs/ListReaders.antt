@@ -7,25 +7,20 @@ use Rattle.litmus_values.specs.declared.test.Place.{Place}
 use Rattle.litmus_conditions.specs.Grammar.{place_meaning}
 use Rattle.litmus_ppc.specs.declared.fault.LitmusFault.{LitmusFault}
 use Rattle.litmus_ppc.specs.declared.fault.LitmusFault.TheVariants as faults
-use Rattle.litmus_ppc.specs.declared.parts.TextKind.TheVariants as kinds
-use Rattle.litmus_ppc.specs.Grammar.{members, IsLocationsText}
-use Rattle.litmus_ppc.specs.TextMachine.{State, Ran, run, start, nothing}
+use Rattle.litmus_grammar.specs.declared.parts.TextKind.TheVariants as kinds
+use Rattle.litmus_grammar.specs.Grammar.{members, IsLocationsText}
+use Rattle.litmus_grammar.specs.TextMachine.{State, Ran, run, start, nothing}
 use Rattle.litmus_ppc.specs.TextReading.{FailsAt}
-use Rattle.litmus_ppc.specs.Texts as texts
-use Rattle.litmus_ppc.specs.Texts.{ReadsLocations, IsLocationsFault, IsFaultOf}
+use Rattle.litmus_grammar.specs.Texts as texts
+use Rattle.litmus_grammar.specs.Texts.{ReadsLocations, IsLocationsFault}
 use Rattle.litmus_ppc.specs.Faults as faults_of
-use Rattle.litmus_ppc.proofs.Bounds.{is_short}
-use Rattle.litmus_ppc.proofs.Ends.{ends_done}
-use Rattle.litmus_ppc.proofs.Listed.{list_taken, list_reading}
-use Rattle.litmus_ppc.proofs.Lists.{list_whole}
-use Rattle.litmus_ppc.proofs.Outcomes.{fault_found, no_fault}
-use Rattle.litmus_ppc.proofs.Runs.{ends_last}
-
-abbrev ran : State → Ran
-ran s = Ok s
-
-same_state : (a b : State) → ran a ≡ ran b → a ≡ b
-same_state a b e = cc
+use Rattle.litmus_ppc.specs.Faults.{IsFaultOf}
+use Rattle.litmus_grammar.proofs.Bounds.{is_short}
+use Rattle.litmus_grammar.proofs.Ends.{ends_done}
+use Rattle.litmus_grammar.proofs.Listed.{list_taken, list_reading}
+use Rattle.litmus_grammar.proofs.Lists.{list_whole}
+use Rattle.litmus_grammar.proofs.Outcomes.{fault_found, no_fault}
+use Rattle.litmus_grammar.proofs.Runs.{same_state, ends_last}
 
 module _ (threads : ℕ) (few : threads < 18446744073709551616) (bytes : List ℕ) where
   abbrev made : Ran

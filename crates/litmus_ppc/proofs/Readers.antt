@@ -8,23 +8,18 @@ use Rattle.litmus_values.specs.Value.{Formula}
 use Rattle.litmus_conditions.specs.Grammar.{limits, meaning, IsConditionText}
 use Rattle.litmus_ppc.specs.declared.fault.LitmusFault.{LitmusFault}
 use Rattle.litmus_ppc.specs.declared.fault.LitmusFault.TheVariants as faults
-use Rattle.litmus_ppc.specs.declared.parts.TextKind.TheVariants as kinds
-use Rattle.litmus_ppc.specs.TextMachine.{State, Ran, run, start}
+use Rattle.litmus_grammar.specs.declared.parts.TextKind.TheVariants as kinds
+use Rattle.litmus_grammar.specs.TextMachine.{State, Ran, run, start}
 use Rattle.litmus_ppc.specs.TextReading.{FailsAt}
-use Rattle.litmus_ppc.specs.Texts as texts
-use Rattle.litmus_ppc.specs.Texts.{ReadsCondition, IsConditionFault, IsFaultOf}
+use Rattle.litmus_grammar.specs.Texts as texts
+use Rattle.litmus_grammar.specs.Texts.{ReadsCondition, IsConditionFault}
 use Rattle.litmus_ppc.specs.Faults as faults_of
-use Rattle.litmus_ppc.proofs.Bounds.{is_short}
-use Rattle.litmus_ppc.proofs.Ends.{ends_done}
-use Rattle.litmus_ppc.proofs.Runs.{ends_last}
-use Rattle.litmus_ppc.proofs.Outcomes.{fault_found, no_fault}
-use Rattle.litmus_ppc.proofs.Conditions.{condition_whole, condition_taken, condition_reading}
-
-abbrev ran : State → Ran
-ran s = Ok s
-
-same_state : (a b : State) → ran a ≡ ran b → a ≡ b
-same_state a b e = cc
+use Rattle.litmus_ppc.specs.Faults.{IsFaultOf}
+use Rattle.litmus_grammar.proofs.Bounds.{is_short}
+use Rattle.litmus_grammar.proofs.Ends.{ends_done}
+use Rattle.litmus_grammar.proofs.Runs.{same_state, ends_last}
+use Rattle.litmus_grammar.proofs.Outcomes.{fault_found, no_fault}
+use Rattle.litmus_grammar.proofs.Conditions.{condition_whole, condition_taken, condition_reading}
 
 abbrev pair : Quantifier → Formula → Quantifier × Formula
 pair q a = (q, a)

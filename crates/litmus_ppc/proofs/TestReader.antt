@@ -15,28 +15,28 @@ use Rattle.litmus_table.specs.Laws.{steps_of, AreNoted}
 use Rattle.litmus_table.specs.Machine as table
 use Rattle.litmus_ppc.specs.declared.fault.LitmusFault.{LitmusFault}
 use Rattle.litmus_ppc.specs.declared.fault.LitmusFault.TheVariants as faults
-use Rattle.litmus_ppc.specs.declared.parts.TextKind.TheVariants as kinds
-use Rattle.litmus_ppc.specs.Grammar.{members, entry_meaning, TestTree, test_meaning, IsTest, IsTestText}
-use Rattle.litmus_ppc.specs.InitMachine as init
-use Rattle.litmus_ppc.specs.InitMachine.{missing}
-use Rattle.litmus_ppc.specs.TextMachine.{Held, State, Ran, threads_in, run, start, first_stage}
-use Rattle.litmus_ppc.specs.TextMachine as text
+use Rattle.litmus_grammar.specs.declared.parts.TextKind.TheVariants as kinds
+use Rattle.litmus_grammar.specs.Grammar.{members, entry_meaning, TestTree, test_meaning, IsTest, IsTestText}
+use Rattle.litmus_grammar.specs.InitMachine as init
+use Rattle.litmus_grammar.specs.InitMachine.{missing}
+use Rattle.litmus_grammar.specs.TextMachine.{Held, State, Ran, threads_in, run, start, first_stage}
+use Rattle.litmus_grammar.specs.TextMachine as text
 use Rattle.litmus_ppc.specs.TextReading.{FailsAt, test_of}
-use Rattle.litmus_ppc.specs.Texts as texts
-use Rattle.litmus_ppc.specs.Texts.{ReadsTest, IsTestFault, IsFaultOf, IsWhole, late_entries, late_test, before_entries, before_rows}
-use Rattle.litmus_ppc.specs.Faults.{IsTooLong, IsMemory, IsMissingFound, IsLateFound}
-use Rattle.litmus_ppc.proofs.Bodies.{length-meaning, length-steps}
-use Rattle.litmus_ppc.proofs.Bounds.{is_short}
-use Rattle.litmus_ppc.proofs.Ends.{ends_done}
-use Rattle.litmus_ppc.proofs.Heads.{TakesTest, IsFewTest, test_led, test_whole, few_of}
+use Rattle.litmus_grammar.specs.Texts as texts
+use Rattle.litmus_grammar.specs.Texts.{ReadsTest, IsTestFault, IsWhole, late_entries, late_test, before_entries, before_rows}
+use Rattle.litmus_ppc.specs.Faults.{IsTooLong, IsMemory, IsMissingFound, IsLateFound, IsFaultOf}
+use Rattle.litmus_grammar.proofs.Bodies.{length-meaning, length-steps}
+use Rattle.litmus_grammar.proofs.Bounds.{is_short}
+use Rattle.litmus_grammar.proofs.Ends.{ends_done}
+use Rattle.litmus_grammar.proofs.Heads.{TakesTest, IsFewTest, test_led, test_whole, few_of}
 use Rattle.litmus_ppc.proofs.InitReaders.{Matches, late_matches, kept_means}
-use Rattle.litmus_ppc.proofs.InitTaken.{entry_kept}
-use Rattle.litmus_ppc.proofs.Inner.{lexed_ends, lexed_length}
-use Rattle.litmus_ppc.proofs.Outcomes.{not_both}
-use Rattle.litmus_ppc.proofs.Passing.{test_at}
-use Rattle.litmus_ppc.proofs.Tails.{with_all}
-use Rattle.litmus_ppc.proofs.TestFaults.{test_fault_where}
-use Rattle.litmus_ppc.proofs.TextReaders.{same_state}
+use Rattle.litmus_grammar.specs.Laws.{entry_kept}
+use Rattle.litmus_grammar.proofs.Inner.{lexed_ends, lexed_length}
+use Rattle.litmus_grammar.proofs.Outcomes.{not_both}
+use Rattle.litmus_grammar.proofs.Passing.{test_at}
+use Rattle.litmus_grammar.proofs.Tails.{with_all}
+use Rattle.litmus_grammar.proofs.TestFaults.{test_fault_where}
+use Rattle.litmus_grammar.proofs.Runs.{same_state}
 
 abbrev pub missing_in : State → Option ℕ
 missing_in s = missing (threads_in s.kind s.threads s.held) s.held.init.entries s.held.init.starts

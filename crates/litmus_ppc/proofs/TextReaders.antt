@@ -9,23 +9,17 @@ use Rattle.litmus_table.specs.Checks.{IsFoundAt}
 use Rattle.litmus_table.specs.Late.{Late}
 use Rattle.litmus_ppc.specs.declared.fault.LitmusFault.{LitmusFault}
 use Rattle.litmus_ppc.specs.declared.fault.LitmusFault.TheVariants as faults
-use Rattle.litmus_ppc.specs.declared.parts.TextKind.{TextKind}
-use Rattle.litmus_ppc.specs.TextMachine.{State, Ran, run, start, first_stage}
-use Rattle.litmus_ppc.specs.TextMachine as text
+use Rattle.litmus_grammar.specs.declared.parts.TextKind.{TextKind}
+use Rattle.litmus_grammar.specs.TextMachine.{State, Ran, run, start, first_stage}
+use Rattle.litmus_grammar.specs.TextMachine as text
 use Rattle.litmus_ppc.specs.TextReading.{FailsAt}
-use Rattle.litmus_ppc.specs.Texts as texts
-use Rattle.litmus_ppc.specs.Texts.{Reads, IsFaultAt, IsFaultOf}
-use Rattle.litmus_ppc.specs.Faults.{IsTooLong, IsMemory, IsLateFound}
-use Rattle.litmus_ppc.proofs.Bounds.{is_short}
-use Rattle.litmus_ppc.proofs.Ends.{ends_done}
-use Rattle.litmus_ppc.proofs.Inner.{AreInner, lexed_ends, before_inner}
-use Rattle.litmus_ppc.proofs.Outcomes.{ReadingWhere, fault_where, no_fault_where}
-
-abbrev ran : State → Ran
-ran s = Ok s
-
-pub same_state : (a b : State) → ran a ≡ ran b → a ≡ b
-same_state a b e = cc
+use Rattle.litmus_grammar.specs.Texts as texts
+use Rattle.litmus_grammar.specs.Texts.{Reads, IsFaultAt}
+use Rattle.litmus_ppc.specs.Faults.{IsTooLong, IsMemory, IsLateFound, IsFaultOf}
+use Rattle.litmus_grammar.proofs.Bounds.{is_short}
+use Rattle.litmus_grammar.proofs.Ends.{ends_done}
+use Rattle.litmus_grammar.proofs.Inner.{AreInner, lexed_ends, lexed_inner}
+use Rattle.litmus_grammar.proofs.Outcomes.{ReadingWhere, fault_where, no_fault_where}
 
 -- what the later checks answered
 abbrev refusal : LitmusFault → Result (Unit {0}) LitmusFault
@@ -43,9 +37,7 @@ module _ (IsText : List Token → Type 0) (kind : TextKind) (threads : ℕ) (V :
   made = run (start kind threads) ps
 
   fine : (before : List Placed) (p : Placed) (behind : List Placed) → ps ≡ before ++ p ∷ behind → AreInner (tokens_of before)
-  fine before p behind e =
-      let l = lexed_ends (first_stage kind) bytes in
-      before_inner l.inner (record { token = tokens.End; place = l.place }) before p behind (sym e ∙ l.split) l.are_inner
+  fine = lexed_inner (first_stage kind) bytes
 
   text_of : (s : State) → made ≡ Ok s → IsText (tokens_of ps)
   text_of s e =

@@ -9,15 +9,16 @@ use Rattle.litmus_table.specs.Laws.{steps_of, AreNoted}
 use Rattle.litmus_table.specs.Machine as table
 use Rattle.litmus_table.specs.Reading.{first_steps}
 use Rattle.litmus_ppc.specs.declared.fault.LitmusFault.{LitmusFault}
-use Rattle.litmus_ppc.specs.declared.parts.TextKind.TheVariants as kinds
-use Rattle.litmus_ppc.specs.Grammar.{IsThreadText}
-use Rattle.litmus_ppc.specs.TextMachine.{State, Ran, with_table, nothing, run, start, first_stage}
-use Rattle.litmus_ppc.specs.TextMachine as text
+use Rattle.litmus_grammar.specs.declared.parts.TextKind.TheVariants as kinds
+use Rattle.litmus_grammar.specs.Grammar.{IsThreadText}
+use Rattle.litmus_grammar.specs.TextMachine.{State, Ran, with_table, nothing, run, start, first_stage}
+use Rattle.litmus_grammar.specs.TextMachine as text
 use Rattle.litmus_ppc.specs.TextReading.{FailsAt}
-use Rattle.litmus_ppc.specs.Texts.{ReadsThread, IsThreadFault, IsFaultOf, late_of_thread}
-use Rattle.litmus_ppc.specs.Faults.{IsTooLong, IsMemory, IsLateFound}
-use Rattle.litmus_ppc.proofs.TextReaders.{same_state, text_found, text_only, text_only_memory, text_only_late, text_fault, text_fault_late}
-use Rattle.litmus_ppc.proofs.Threads.{thread_taken, thread_whole, thread_reading}
+use Rattle.litmus_grammar.specs.Texts.{ReadsThread, IsThreadFault, late_of_thread}
+use Rattle.litmus_ppc.specs.Faults.{IsTooLong, IsMemory, IsLateFound, IsFaultOf}
+use Rattle.litmus_grammar.proofs.Runs.{same_state}
+use Rattle.litmus_ppc.proofs.TextReaders.{text_found, text_only, text_only_memory, text_only_late, text_fault, text_fault_late}
+use Rattle.litmus_grammar.proofs.Threads.{thread_taken, thread_whole, thread_reading}
 
 abbrev kept_steps : State → List Step
 kept_steps s = first_steps s.held.table.threads

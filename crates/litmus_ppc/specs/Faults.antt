@@ -1,13 +1,12 @@
--- What a refusal says, and where that stands which the later checks may blame.
-use Rattle.std.specs.Prelude.{◌≡◌, ℕ, ◌≤◌, List, [], ◌∷◌, Option, Some, None, Result, Ok, Err}
+-- What a refusal says.
+use Rattle.std.specs.Prelude.{◌≡◌, ℕ, ◌≤◌, List, Option, Some, None, Result, Ok, Err}
 use Rattle.litmus_tokens.specs.Texts.{Placed}
+use Rattle.litmus_tokens.specs.declared.rule.LitmusRule.{LitmusRule}
 use Rattle.litmus_tokens.specs.declared.rule.LitmusRule.TheVariants.{TooLong, Init}
 use Rattle.litmus_table.specs.Checks.{IsFoundAt}
 use Rattle.litmus_table.specs.Late.{Late}
-use Rattle.litmus_table.specs.Within.{AreWithin}
 use Rattle.litmus_ppc.specs.declared.fault.LitmusFault.{LitmusFault}
 use Rattle.litmus_ppc.specs.declared.fault.LitmusFault.TheVariants.{Refused, OutOfMemory}
-use Rattle.litmus_ppc.specs.TextMachine.{Held}
 
 -- the place is at most this
 abbrev pub IsWithin : ℕ → LitmusFault → Type 0
@@ -24,13 +23,10 @@ abbrev pub IsMemory : LitmusFault → Type 0
 IsMemory (Refused rule place) = ⊥
 IsMemory (OutOfMemory e) = Unit {0}
 
-abbrev pub AreAtMost : ℕ → List ℕ → Type 0
-AreAtMost n [] = Unit {0}
-AreAtMost n (p ∷ ps) = (p ≤ n) × AreAtMost n ps
-
--- each entry, label and branch stands at most there
-abbrev pub AreKept : ℕ → Held → Type 0
-AreKept n h = AreAtMost n h.init.starts × AreWithin n h.table.threads
+-- what a refusal says is so, unless memory ran out
+abbrev pub IsFaultOf : (LitmusRule → ℕ → Type 0) → LitmusFault → Type 0
+IsFaultOf IsAt (Refused rule place) = IsAt rule place
+IsFaultOf IsAt (OutOfMemory e) = Unit {0}
 
 -- What a later check answers is what is found, unless memory ran out: the entry that begins there,
 abbrev pub IsMissingFound : Result (Unit {0}) LitmusFault → Option ℕ → Type 0

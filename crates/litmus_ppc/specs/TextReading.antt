@@ -3,36 +3,16 @@ use Rattle.std.specs.Prelude.{◌≡◌, ℕ, Option, Some, Result, Ok, Err}
 use Rattle.litmus_tokens.specs.declared.rule.LitmusRule.{LitmusRule}
 use Rattle.litmus_values.specs.Value.{Content, formula_of}
 use Rattle.litmus_conditions.specs.declared.step.StepError.{StepError}
-use Rattle.litmus_conditions.specs.Reading as condition
 use Rattle.litmus_table.specs.Laws.{steps_of}
 use Rattle.litmus_table.specs.Reading.{Refuses, table_of}
 use Rattle.litmus_ppc.specs.declared.fault.LitmusFault.{LitmusFault}
 use Rattle.litmus_ppc.specs.declared.fault.LitmusFault.TheVariants as faults
-use Rattle.litmus_ppc.specs.declared.parts.Part as code_part
-use Rattle.litmus_ppc.specs.declared.parts.Part.TheVariants as parts
+use Rattle.litmus_parts.specs.declared.parts.Part as code_part
 use Rattle.litmus_ppc.specs.declared.held.Held as code_held
 use Rattle.litmus_ppc.specs.declared.reader.Reader.{Reader}
-use Rattle.litmus_ppc.specs.InitReading.{block_of}
-use Rattle.litmus_ppc.specs.TextMachine as machine
-
-abbrev pub part_of : code_part.Part → machine.Part
-part_of parts.Magic = machine.Magic
-part_of parts.Title = machine.Title
-part_of parts.TitleEnd = machine.TitleEnd
-part_of (parts.Head may_have_text) = machine.Head may_have_text
-part_of (parts.Init hole) = machine.Init hole
-part_of parts.WantsColumn = machine.WantsColumn
-part_of parts.HasColumn = machine.HasColumn
-part_of parts.Rows = machine.Rows
-part_of parts.Cells = machine.Cells
-part_of parts.WantsList = machine.WantsList
-part_of (parts.Item hole) = machine.Item hole
-part_of parts.WantsQuantifier = machine.WantsQuantifier
-part_of parts.AfterTilde = machine.AfterTilde
-part_of (parts.Proposition q frames used hole) = machine.Proposition q (condition.stack_of frames.items) used (condition.hole_of hole)
-part_of parts.ListOrEnd = machine.ListOrEnd
-part_of parts.WantsEnd = machine.WantsEnd
-part_of parts.Done = machine.Done
+use Rattle.litmus_parts.specs.InitReading.{block_of}
+use Rattle.litmus_parts.specs.PartReading.{part_of}
+use Rattle.litmus_grammar.specs.TextMachine as machine
 
 abbrev pub held_of : code_held.Held → machine.Held
 held_of h = record {
@@ -51,12 +31,8 @@ test_of h = record { name = h.name; init = h.init.entries; threads = steps_of h.
 abbrev pub state_of : Reader → machine.State
 state_of r = record { kind = r.kind; threads = r.threads; stage = r.stage; part = part_of r.part; held = held_of r.held }
 
--- What a function returned is what the machine does, unless memory ran out: the part that a token leads to,
-abbrev pub Leads : Result code_part.Part StepError → Option machine.Part → Type 0
-Leads (Ok p) made = made ≡ Some (part_of p)
-Leads (Err e) made = Refuses e made
-
--- that part and what is held there,
+-- What a function returned is what the machine does, unless memory ran out: the part that a token leads to and what is
+-- held there,
 abbrev pub LeadsTo : Result code_part.Part StepError → code_held.Held → Option machine.Next → Type 0
 LeadsTo (Ok p) h made = made ≡ Some (record { part = part_of p; held = held_of h })
 LeadsTo (Err e) h made = Refuses e made

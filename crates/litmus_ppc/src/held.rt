@@ -8,18 +8,19 @@ ghost use Rattle.litmus_conditions.specs.Reading.{stack_of, hole_of};
 ghost use Rattle.litmus_values.specs.Value.{content_of};
 ghost use Rattle.litmus_table.specs.Machine.{named};
 ghost use Rattle.litmus_table.specs.Reading.{table_of, first_steps};
-ghost use Rattle.litmus_ppc.specs.InitMachine.{step as init_step};
-ghost use Rattle.litmus_ppc.specs.InitReading.{block_of};
-ghost use Rattle.litmus_ppc.specs.TextMachine.{HasColumn, part_step, nothing, title_read, init_went, table_went, row_read, cell_read, item_begun, item_went, next_item, item_read, fed, threads_in};
-ghost use Rattle.litmus_ppc.specs.TextReading.{part_of, held_of, test_of, LeadsTo};
+ghost use Rattle.litmus_grammar.specs.InitMachine.{step as init_step};
+ghost use Rattle.litmus_parts.specs.InitReading.{block_of};
+ghost use Rattle.litmus_grammar.specs.TextMachine.{HasColumn, part_step, nothing, title_read, init_went, table_went, row_read, cell_read, item_begun, item_went, next_item, item_read, fed, threads_in};
+ghost use Rattle.litmus_parts.specs.PartReading.{part_of};
+ghost use Rattle.litmus_ppc.specs.TextReading.{held_of, test_of, LeadsTo};
 
-use crate::init::{InitBlock, InitHole};
-use crate::parts::{
-    ItemHole, Part, TextKind, begins_tail, column_ended, end_read, exists_read, head_read, is_end,
-    item_ended, list_begun, list_opened, magic_read, quantifier_read, tail_begun, title_ended,
-};
 use litmus_conditions::{
     Fed, Frame, Hole, PlaceHole, PlaceStep, StepError, feed, is_there, place_step,
+};
+use litmus_grammar::{InitHole, ItemHole, TextKind};
+use litmus_parts::{
+    InitBlock, Part, begins_tail, column_ended, end_read, exists_read, head_read, is_end,
+    item_ended, list_begun, list_opened, magic_read, quantifier_read, tail_begun, title_ended,
 };
 use litmus_table::Table;
 use litmus_tokens::{Mark, Token, is_test_name};
@@ -136,7 +137,7 @@ impl Held {
         ensures { LeadsTo result self.new (init_went kind (held_of self.old) (init_step (block_of self.old.init) hole token place)) }
     {
         let step = self.init.step(hole, token, place)?;
-        Ok(kind.init_part(step))
+        Ok(Part::after_init_step(kind, step))
     }
 
     // The name of a column.
@@ -192,7 +193,7 @@ impl Held {
         ensures { LeadsTo result self.new (next_item kind threads (held_of self.old) token) }
     {
         match token {
-            Token::Mark(Mark::CloseBracket) => Ok(kind.after_list()),
+            Token::Mark(Mark::CloseBracket) => Ok(Part::after_list(kind)),
             other => self.item_begun(threads, other),
         }
     }

@@ -5,15 +5,17 @@ ghost use Rattle.litmus_tokens.specs.Texts.{Placed};
 ghost use Rattle.litmus_table.specs.Late.{Note, first_late};
 ghost use Rattle.litmus_table.specs.Laws.{AreNoted};
 ghost use Rattle.litmus_table.specs.Reading.{table_of};
-ghost use Rattle.litmus_ppc.specs.Faults.{IsWithin, AreKept, IsMissingFound, IsLateFound};
-ghost use Rattle.litmus_ppc.specs.InitMachine.{missing};
-ghost use Rattle.litmus_ppc.specs.TextMachine.{start, placed, step, rule_at, stage_rule, threads_in};
+ghost use Rattle.litmus_grammar.specs.Kept.{AreKept};
+ghost use Rattle.litmus_ppc.specs.Faults.{IsWithin, IsMissingFound, IsLateFound};
+ghost use Rattle.litmus_grammar.specs.InitMachine.{missing};
+ghost use Rattle.litmus_grammar.specs.TextMachine.{start, placed, step, rule_at, stage_rule, threads_in};
 ghost use Rattle.litmus_ppc.specs.TextReading.{held_of, state_of, StepsAt};
 
 use crate::fault::LitmusFault;
 use crate::held::Held;
-use crate::parts::{Part, TextKind, is_filter_word, is_word};
 use litmus_conditions::StepError;
+use litmus_grammar::TextKind;
+use litmus_parts::{Part, is_filter_word, is_word};
 use litmus_table::LateFault;
 use litmus_tokens::{LitmusRule, Stage, Token};
 use std::alloc::{AllocError, Global};
@@ -40,7 +42,7 @@ impl Reader {
             kind,
             threads,
             stage: kind.first_stage(),
-            part: kind.first_part(),
+            part: Part::first(kind),
             held: Held::new(alloc, kind)?,
         })
     }

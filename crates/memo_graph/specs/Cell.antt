@@ -3,7 +3,7 @@ use Rattle.std.specs.Prelude.{◌≡◌, Bool, List, Vec}
 use Rattle.std.specs.declared.alloc.Global.{Global}
 use Rattle.litmus_values.specs.declared.test.Test.{Test}
 use Rattle.litmus_values.specs.Value.{formula_of}
-use Rattle.litmus_ppc.specs.Printing.{condition_text}
+use Rattle.litmus_printing.specs.Printing.{condition_text}
 use Rattle.candidates.specs.declared.candidate.Space.{Space}
 use Rattle.binding_kinds.specs.declared.fault.ModelFault.{ModelFault}
 use Rattle.verdict.specs.Evaluated.{IsEvaluation, IsOutcome}

@@ -2,7 +2,7 @@
 
 ghost use Rattle.std.specs.Prelude.{◌≡◌, IfOk, map, reverse};
 ghost use Rattle.litmus_values.specs.Value.{formula_of};
-ghost use Rattle.litmus_ppc.specs.Printing.{condition_text};
+ghost use Rattle.litmus_printing.specs.Printing.{condition_text};
 ghost use Rattle.binding_kinds.specs.Faults.{HasNoFault, FirstFault};
 ghost use Rattle.binding_kinds.specs.Outermost.{naming_of};
 ghost use Rattle.binding_kinds.specs.Value.{clause_of, ArePlainClauses};

@@ -6,7 +6,7 @@ use Rattle.std.specs.declared.alloc.Global.{Global}
 use Rattle.litmus_values.specs.declared.test.Condition.{Condition}
 use Rattle.litmus_values.specs.declared.test.Place.{Place}
 use Rattle.litmus_values.specs.Value.{Formula, formula_of}
-use Rattle.litmus_ppc.specs.Printing.{condition_text}
+use Rattle.litmus_printing.specs.Printing.{condition_text}
 use Rattle.candidates.specs.Space.{candidates_in}
 use Rattle.candidates.specs.declared.candidate.Combination.{Combination}
 use Rattle.candidates.specs.declared.candidate.Space.{Space}

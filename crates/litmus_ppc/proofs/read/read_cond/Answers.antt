@@ -1,7 +1,7 @@
 use Rattle.std.proofs.Common.{ap, subst, sym, ◌∙◌}
 use Rattle.litmus_ppc.specs.TextReading.{state_of}
-use Rattle.litmus_ppc.specs.TextMachine.{Held}
-use Rattle.litmus_ppc.specs.Texts.{ReadsCondition}
+use Rattle.litmus_grammar.specs.TextMachine.{Held}
+use Rattle.litmus_grammar.specs.Texts.{ReadsCondition}
 use Rattle.litmus_ppc.proofs.Readers.{condition_found, condition_only, condition_only_memory, condition_fault}
 use Rattle.litmus_ppc.proofs.read.read_cond.Goals as goal
 

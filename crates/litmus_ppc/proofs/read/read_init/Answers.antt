@@ -1,9 +1,9 @@
 use Rattle.std.proofs.Common.{length, ap, subst, sym, ◌∙◌}
-use Rattle.litmus_ppc.specs.declared.parts.TextKind.TheVariants as kinds
+use Rattle.litmus_grammar.specs.declared.parts.TextKind.TheVariants as kinds
 use Rattle.litmus_ppc.specs.TextReading.{state_of}
-use Rattle.litmus_ppc.specs.TextMachine.{Held}
-use Rattle.litmus_ppc.specs.Texts.{ReadsInit}
-use Rattle.litmus_ppc.proofs.Bounds.{kept_short}
+use Rattle.litmus_grammar.specs.TextMachine.{Held}
+use Rattle.litmus_grammar.specs.Texts.{ReadsInit}
+use Rattle.litmus_grammar.proofs.Bounds.{kept_short}
 use Rattle.litmus_ppc.proofs.InitReaders.{init_found, init_only, init_only_memory, init_only_there, init_fault, init_missing}
 use Rattle.litmus_ppc.proofs.read.read_init.Goals as goal
 

@@ -1,7 +1,7 @@
 use Rattle.std.proofs.Common.{ap, subst, sym, ◌∙◌}
 use Rattle.litmus_ppc.specs.TextReading.{state_of}
-use Rattle.litmus_ppc.specs.TextMachine.{Held}
-use Rattle.litmus_ppc.specs.Texts.{ReadsLocations}
+use Rattle.litmus_grammar.specs.TextMachine.{Held}
+use Rattle.litmus_grammar.specs.Texts.{ReadsLocations}
 use Rattle.litmus_ppc.proofs.ListReaders.{locations_found, locations_only, locations_only_memory, locations_fault}
 use Rattle.litmus_ppc.proofs.read.read_locations.Goals as goal
 

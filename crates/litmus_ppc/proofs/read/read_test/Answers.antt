@@ -1,8 +1,8 @@
 use Rattle.std.proofs.Common.{length, ap, sym, subst, ◌∙◌}
-use Rattle.litmus_ppc.specs.declared.parts.TextKind.TheVariants as kinds
-use Rattle.litmus_ppc.specs.Texts.{ReadsTest}
+use Rattle.litmus_grammar.specs.declared.parts.TextKind.TheVariants as kinds
+use Rattle.litmus_grammar.specs.Texts.{ReadsTest}
 use Rattle.litmus_ppc.specs.TextReading.{state_of, test_of}
-use Rattle.litmus_ppc.proofs.Bounds.{kept_short}
+use Rattle.litmus_grammar.proofs.Bounds.{kept_short}
 use Rattle.litmus_ppc.proofs.TestReader.{test_found, test_only, test_only_memory, test_only_missing, test_only_labels, test_fault, test_fault_missing, test_fault_labels}
 use Rattle.litmus_ppc.proofs.read.read_test.Goals as goal
 

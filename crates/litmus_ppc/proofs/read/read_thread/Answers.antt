@@ -1,11 +1,11 @@
 use Rattle.std.proofs.Common.{List, length, ap, sym, subst, ◌∙◌}
 use Rattle.litmus_values.specs.declared.test.Step.{Step}
 use Rattle.litmus_table.specs.Reading.{first_steps}
-use Rattle.litmus_ppc.specs.declared.parts.TextKind.TheVariants as kinds
-use Rattle.litmus_ppc.specs.Texts.{ReadsThread}
-use Rattle.litmus_ppc.specs.TextMachine.{Held}
+use Rattle.litmus_grammar.specs.declared.parts.TextKind.TheVariants as kinds
+use Rattle.litmus_grammar.specs.Texts.{ReadsThread}
+use Rattle.litmus_grammar.specs.TextMachine.{Held}
 use Rattle.litmus_ppc.specs.TextReading.{state_of}
-use Rattle.litmus_ppc.proofs.Bounds.{kept_short}
+use Rattle.litmus_grammar.proofs.Bounds.{kept_short}
 use Rattle.litmus_ppc.proofs.ThreadReader.{thread_found, thread_only, thread_only_memory, thread_only_late, thread_fault, thread_fault_late}
 use Rattle.litmus_ppc.proofs.read.read_thread.Goals as goal
 

@@ -1,6 +1,6 @@
 use Rattle.std.proofs.Common.{◌≡◌, ◌-◌, ◌≤◌, length, drop}
 use Rattle.litmus_tokens.specs.Texts.{lexed, tokens_from}
-use Rattle.litmus_ppc.specs.TextMachine.{run}
+use Rattle.litmus_grammar.specs.TextMachine.{run}
 use Rattle.litmus_ppc.specs.TextReading.{state_of}
 use Rattle.litmus_ppc.proofs.read.read_tokens.Given as goal
 

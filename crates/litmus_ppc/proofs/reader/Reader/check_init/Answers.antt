@@ -1,6 +1,6 @@
 use Rattle.std.proofs.Common.{sym}
 use Rattle.litmus_ppc.specs.TextReading.{held_of}
-use Rattle.litmus_ppc.proofs.Bounds.{missing_kept}
+use Rattle.litmus_grammar.proofs.Bounds.{missing_kept}
 use Rattle.litmus_ppc.proofs.reader.Reader.check_init.Goals as goal
 
 pub returns-in-Some-clause-within : goal.returns-in-Some-clause-within

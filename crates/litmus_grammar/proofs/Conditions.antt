@@ -1,0 +1,234 @@
+-- The machine takes the texts of conditions and nothing else.
+use Rattle.std.proofs.Common.{◌≡◌, ℕ, ◌<◌, Bool, true, false, List, [], ◌∷◌, ◌++◌, Some, None, Ok, Err, refl, sym, ap, ◌∙◌, subst}
+use Rattle.std.specs.Prelude.{codes, if◌then◌else◌}
+use Rattle.std.specs.Str.{bytes_eq}
+use Rattle.std.proofs.lemmas.Slice.Eq.{bytes_eq-Decides}
+use Rattle.litmus_tokens.specs.declared.rule.LitmusRule.TheVariants as rules
+use Rattle.litmus_tokens.specs.declared.stage.Stage.{Stage}
+use Rattle.litmus_tokens.specs.declared.stage.Stage.TheVariants.{Tail}
+use Rattle.litmus_tokens.specs.declared.token.Token.{Token}
+use Rattle.litmus_tokens.specs.declared.token.Token.TheVariants as tokens
+use Rattle.litmus_tokens.specs.declared.token.Mark.TheVariants as marks
+use Rattle.litmus_tokens.specs.Stage.{after}
+use Rattle.litmus_tokens.specs.Texts.{Placed, tokens_of, stage_after}
+use Rattle.litmus_tokens.specs.Words.{is_filter}
+use Rattle.litmus_tokens.specs.Faults.{Begins, CanFollow, Always, ruling, Says}
+use Rattle.litmus_values.specs.declared.test.Quantifier.{Quantifier}
+use Rattle.litmus_values.specs.declared.test.Quantifier.TheVariants.{Exists, NotExists, Forall}
+use Rattle.litmus_values.specs.Value.{Formula}
+use Rattle.litmus_conditions.specs.Grammar.{limits, meaning, spelled, spelled_quantifier, IsConditionText}
+use Rattle.litmus_conditions.specs.ConditionMachine.{Frame, Hole, Wants, Fed, Goes, Ends, Refuses, feed, whole_at, go_on, proposition}
+use Rattle.litmus_conditions.specs.Laws.{are_none, takes_on, takes, IsPropositionText}
+use Rattle.litmus_conditions.proofs.Sound.{sound}
+use Rattle.litmus_conditions.proofs.Complete.{complete}
+use Rattle.litmus_conditions.proofs.Beginnings.{takes_beginnings}
+use Rattle.litmus_table.specs.Machine as table
+use Rattle.litmus_grammar.specs.declared.parts.TextKind.{TextKind}
+use Rattle.litmus_grammar.specs.declared.parts.TextKind.TheVariants as kinds
+use Rattle.litmus_grammar.specs.TextMachine as text
+use Rattle.litmus_grammar.specs.TextMachine.{Part, Held, State, Ran, placed, and_then, stepped, fed, with_condition, nothing, start, run, rule_at, first_stage}
+use Rattle.litmus_grammar.proofs.Runs.{follows}
+use Rattle.litmus_grammar.proofs.Outcomes.{Reading}
+
+-- ---- the part behind the table is one to its end
+
+pub tail_stays : (ts : List Token) → stage_after Tail ts ≡ Tail
+tail_stays [] = refl
+tail_stays (t ∷ ts) = tail_stays ts
+
+pub tail_says : (C : Token → Type 0) (kind : TextKind) (rows : table.State) (t : Token) → Says C Tail (ruling Tail t) (rule_at kind rows Tail t)
+tail_says C kind rows (tokens.Broken rule) = refl
+tail_says C kind rows (tokens.Word w) = choose (is_filter w)
+  where
+    choose : (b : Bool) → Says C Tail (if b then Always rules.Filter else Always rules.Condition) (if b then rules.Filter else rules.Condition)
+    choose true = refl
+    choose false = refl
+tail_says C kind rows t = refl
+
+module _ (threads : ℕ) (few : threads < 18446744073709551616) where
+  abbrev standing : Stage → Part → Held → State
+  standing g p h = record { kind = kinds.Condition; threads = threads; stage = g; part = p; held = h }
+
+  abbrev went_on : Stage → Quantifier → Held → Token → ℕ → Fed → Ran
+  went_on g q h t n f = placed n (stepped (standing g text.Done h) t (fed h q f))
+
+  -- ---- the proposition
+
+  done_takes : (g : Stage) (h : Held) (ps : List Placed) (s : State) → run (standing g text.Done h) ps ≡ Ok s → are_none (tokens_of ps) ≡ true
+  done_takes g h [] s e = refl
+  done_takes g h (p ∷ ps) s e = absurd cc
+
+  prop_takes : (ps : List Placed) (g : Stage) (q : Quantifier) (fs : List Frame) (used : ℕ) (hole : Hole) (h : Held) (s : State) → run (standing g (text.Proposition q fs used hole) h) ps ≡ Ok s → takes limits threads fs used hole (tokens_of ps) ≡ true
+  prop_takes [] g q fs used hole h s e = refl
+  prop_takes (p ∷ ps) g q fs used hole h s e = by_fed (feed limits threads fs used hole p.token) e (λ gs u o k. prop_takes ps (after g p.token) q gs u o h s k)
+    where
+      by_fed : (f : Fed) → and_then (went_on g q h p.token p.place f) (λ x. run x ps) ≡ Ok s → ((gs : List Frame) (u : ℕ) (o : Hole) → run (standing (after g p.token) (text.Proposition q gs u o) h) ps ≡ Ok s → takes limits threads gs u o (tokens_of ps) ≡ true) → takes_on (λ gs u o. takes limits threads gs u o (tokens_of ps)) (tokens_of ps) f ≡ true
+      by_fed (Goes gs u o) k later = later gs u o k
+      by_fed (Ends v) k later = done_takes (after g p.token) (with_condition h q v) ps s k
+      by_fed Refuses k later = absurd cc
+
+  done_ends : (g : Stage) (h : Held) (ps : List Placed) (s : State) (v : Formula) → run (standing g text.Done h) ps ≡ Ok s → whole_at v (tokens_of ps) ≡ Some v
+  done_ends g h [] s v e = refl
+  done_ends g h (p ∷ ps) s v e = absurd cc
+
+  abbrev is_done : Part → Bool
+  is_done text.Done = true
+  is_done p = false
+
+  abbrev done_in : Ran → Bool
+  done_in (Ok s) = is_done s.part
+  done_in (Err e) = false
+
+  prop_ends : (ps : List Placed) (g : Stage) (q : Quantifier) (fs : List Frame) (used : ℕ) (hole : Hole) (h : Held) (s : State) → run (standing g (text.Proposition q fs used hole) h) ps ≡ Ok s → s.part ≡ text.Done → (v : Formula) × (proposition limits threads fs used hole (tokens_of ps) ≡ Some v)
+  prop_ends [] g q fs used hole h s e d =
+      let no : false ≡ true = ap done_in e ∙ ap is_done d in
+      absurd cc
+  prop_ends (p ∷ ps) g q fs used hole h s e d = by_fed (feed limits threads fs used hole p.token) e (λ gs u o k. prop_ends ps (after g p.token) q gs u o h s k d)
+    where
+      by_fed : (f : Fed) → and_then (went_on g q h p.token p.place f) (λ x. run x ps) ≡ Ok s → ((gs : List Frame) (u : ℕ) (o : Hole) → run (standing (after g p.token) (text.Proposition q gs u o) h) ps ≡ Ok s → (v : Formula) × (proposition limits threads gs u o (tokens_of ps) ≡ Some v)) → (v : Formula) × (go_on (λ gs u o. proposition limits threads gs u o (tokens_of ps)) (tokens_of ps) f ≡ Some v)
+      by_fed (Goes gs u o) k later = later gs u o k
+      by_fed (Ends v) k later = (v, done_ends (after g p.token) (with_condition h q v) ps s v k)
+      by_fed Refuses k later = absurd cc
+
+  record Taken (from : State) (ps : List Placed) (q : Quantifier) (v : Formula) : Type 0 where
+    state : State
+    by : run from ps ≡ Ok state
+    quantifier : state.held.quantifier ≡ q
+    formula : state.held.formula ≡ v
+
+  prop_runs : (ps : List Placed) (g : Stage) (q : Quantifier) (fs : List Frame) (used : ℕ) (hole : Hole) (h : Held) (v : Formula) → proposition limits threads fs used hole (tokens_of ps) ≡ Some v → Taken (standing g (text.Proposition q fs used hole) h) ps q v
+  prop_runs [] g q fs used hole h v e = absurd cc
+  prop_runs (p ∷ ps) g q fs used hole h v e =
+      let r = by_fed (feed limits threads fs used hole p.token) e (λ gs u o k. let t = prop_runs ps (after g p.token) q gs u o h v k in (t.state, t.by, t.quantifier, t.formula)) in
+      record { state = r.0; by = r.1; quantifier = r.2; formula = r.3 }
+    where
+      by_end : (w : Formula) (qs : List Placed) → whole_at w (tokens_of qs) ≡ Some v → (s : State) × (run (standing (after g p.token) text.Done (with_condition h q w)) qs ≡ Ok s) × (s.held.quantifier ≡ q) × (s.held.formula ≡ v)
+      by_end w [] k = (standing (after g p.token) text.Done (with_condition h q w), refl, refl, cc)
+      by_end w (x ∷ qs) k = absurd cc
+
+      by_fed : (f : Fed) → go_on (λ gs u o. proposition limits threads gs u o (tokens_of ps)) (tokens_of ps) f ≡ Some v → ((gs : List Frame) (u : ℕ) (o : Hole) → proposition limits threads gs u o (tokens_of ps) ≡ Some v → (s : State) × (run (standing (after g p.token) (text.Proposition q gs u o) h) ps ≡ Ok s) × (s.held.quantifier ≡ q) × (s.held.formula ≡ v)) → (s : State) × (and_then (went_on g q h p.token p.place f) (λ x. run x ps) ≡ Ok s) × (s.held.quantifier ≡ q) × (s.held.formula ≡ v)
+      by_fed (Goes gs u o) k later = later gs u o k
+      by_fed (Ends w) k later = by_end w ps k
+      by_fed Refuses k later = absurd cc
+
+  -- ---- the quantifier
+
+  abbrev IsText : List Token → Type 0
+  IsText = IsConditionText limits threads
+
+  to_text : (q : Quantifier) (ts : List Token) → IsPropositionText limits threads ts → IsText (spelled_quantifier q ts)
+  to_text q ts p = record { quantifier = q; condition = p.text.tree; fine = p.text.fine; whole = ap (spelled_quantifier q) p.text.whole }
+
+  abbrev nothing_yet : Held
+  nothing_yet = nothing kinds.Condition
+
+  -- where a text that is taken so far stands
+  data Standing (ps : List Placed) (s : State) : Type 0 where
+    Before : tokens_of ps ≡ [] → s.part ≡ text.WantsQuantifier → Standing ps s
+    AfterTilde : tokens_of ps ≡ tokens.Mark marks.Tilde ∷ [] → s.part ≡ text.AfterTilde → Standing ps s
+    Behind : (q : Quantifier) (g : Stage) (qs : List Placed) → tokens_of ps ≡ spelled_quantifier q (tokens_of qs) → run (standing g (text.proposition q) nothing_yet) qs ≡ Ok s → Standing ps s
+
+  same_word : (w v : List ℕ) → bytes_eq w v ≡ true → w ≡ v
+  same_word w v e = (bytes_eq-Decides w v).0 e
+
+  abbrev part_in : Ran → Part
+  part_in (Ok s) = s.part
+  part_in (Err e) = text.Magic
+
+  word_stands : (g : Stage) (w : List ℕ) (n : ℕ) (ps : List Placed) (s : State) (a b : Bool) → bytes_eq w (codes "exists") ≡ a → bytes_eq w (codes "forall") ≡ b
+      → and_then (placed n (stepped (standing g text.WantsQuantifier nothing_yet) (tokens.Word w) (text.leads nothing_yet (if a then Some (text.proposition Exists) else (if b then Some (text.proposition Forall) else None))))) (λ x. run x ps) ≡ Ok s
+      → Standing (record { token = tokens.Word w; place = n } ∷ ps) s
+  word_stands g w n ps s true b ea eb e = Behind Exists (after g (tokens.Word w)) ps (ap (λ (x : List ℕ). tokens.Word x ∷ tokens_of ps) (same_word w (codes "exists") ea)) e
+  word_stands g w n ps s false true ea eb e = Behind Forall (after g (tokens.Word w)) ps (ap (λ (x : List ℕ). tokens.Word x ∷ tokens_of ps) (same_word w (codes "forall") eb)) e
+  word_stands g w n ps s false false ea eb e = absurd cc
+
+  exists_stands : (g : Stage) (m n : ℕ) (w : List ℕ) (ps : List Placed) (s : State) (a : Bool) → bytes_eq w (codes "exists") ≡ a
+      → and_then (placed n (stepped (standing g text.AfterTilde nothing_yet) (tokens.Word w) (text.leads nothing_yet (if a then Some (text.proposition NotExists) else None)))) (λ x. run x ps) ≡ Ok s
+      → Standing (record { token = tokens.Mark marks.Tilde; place = m } ∷ record { token = tokens.Word w; place = n } ∷ ps) s
+  exists_stands g m n w ps s true ea e = Behind NotExists (after g (tokens.Word w)) ps (ap (λ (x : List ℕ). tokens.Mark marks.Tilde ∷ tokens.Word x ∷ tokens_of ps) (same_word w (codes "exists") ea)) e
+  exists_stands g m n w ps s false ea e = absurd cc
+
+  tilde_stands : (g : Stage) (m : ℕ) (ps : List Placed) (s : State) → run (standing g text.AfterTilde nothing_yet) ps ≡ Ok s → Standing (record { token = tokens.Mark marks.Tilde; place = m } ∷ ps) s
+  tilde_stands g m [] s e = AfterTilde refl (sym (ap part_in e))
+  tilde_stands g m (p ∷ ps) s e = by_token p.token p.place e
+    where
+      by_token : (t : Token) (n : ℕ) → run (standing g text.AfterTilde nothing_yet) (record { token = t; place = n } ∷ ps) ≡ Ok s → Standing (record { token = tokens.Mark marks.Tilde; place = m } ∷ record { token = t; place = n } ∷ ps) s
+      by_token (tokens.Word w) n k = exists_stands g m n w ps s (bytes_eq w (codes "exists")) refl k
+      by_token t n k = absurd cc
+
+  stands : (g : Stage) (ps : List Placed) (s : State) → run (standing g text.WantsQuantifier nothing_yet) ps ≡ Ok s → Standing ps s
+  stands g [] s e = Before refl (sym (ap part_in e))
+  stands g (p ∷ ps) s e = by_token p.token p.place e
+    where
+      by_token : (t : Token) (n : ℕ) → run (standing g text.WantsQuantifier nothing_yet) (record { token = t; place = n } ∷ ps) ≡ Ok s → Standing (record { token = t; place = n } ∷ ps) s
+      by_token (tokens.Mark marks.Tilde) n k = tilde_stands (after g (tokens.Mark marks.Tilde)) n ps s k
+      by_token (tokens.Word w) n k = word_stands g w n ps s (bytes_eq w (codes "exists")) (bytes_eq w (codes "forall")) refl refl k
+      by_token t n k = absurd cc
+
+  -- ---- what is taken begins a text
+
+  spelled_more : (q : Quantifier) (ts us : List Token) → spelled_quantifier q ts ++ us ≡ spelled_quantifier q (ts ++ us)
+  spelled_more Exists ts us = refl
+  spelled_more NotExists ts us = refl
+  spelled_more Forall ts us = refl
+
+  begins_by : (ps : List Placed) (s : State) → Standing ps s → Begins IsText (tokens_of ps)
+  begins_by ps s (Before e at_part) =
+      let b = (takes_beginnings limits threads few []).0 refl in
+      record { rest = tokens.Word (codes "exists") ∷ b.rest; text = subst (λ ts. IsText (ts ++ tokens.Word (codes "exists") ∷ b.rest)) (sym e) (to_text Exists b.rest b.text) }
+  begins_by ps s (AfterTilde e at_part) =
+      let b = (takes_beginnings limits threads few []).0 refl in
+      record { rest = tokens.Word (codes "exists") ∷ b.rest; text = subst (λ ts. IsText (ts ++ tokens.Word (codes "exists") ∷ b.rest)) (sym e) (to_text NotExists b.rest b.text) }
+  begins_by ps s (Behind q g qs e r) =
+      let b = (takes_beginnings limits threads few (tokens_of qs)).0 (prop_takes qs g q [] 0 Wants nothing_yet s r) in
+      record { rest = b.rest; text = subst IsText (sym (ap (λ ts. ts ++ b.rest) e ∙ spelled_more q (tokens_of qs) b.rest)) (to_text q (tokens_of qs ++ b.rest) b.text) }
+
+  -- and with its end it is one
+  whole_by : (ps : List Placed) (s : State) → Standing ps s → s.part ≡ text.Done → IsText (tokens_of ps)
+  whole_by ps s (Before e at_part) d = absurd (let no : false ≡ true = ap is_done (sym at_part ∙ d) in cc)
+  whole_by ps s (AfterTilde e at_part) d = absurd (let no : false ≡ true = ap is_done (sym at_part ∙ d) in cc)
+  whole_by ps s (Behind q g qs e r) d =
+      let w = prop_ends qs g q [] 0 Wants nothing_yet s r d in
+      subst IsText (sym e) (to_text q (tokens_of qs) (record { value = w.0; text = sound limits threads few (tokens_of qs) w.0 w.1 }))
+
+  pub condition_whole : (ps : List Placed) (s : State) → run (start kinds.Condition threads) ps ≡ Ok s → s.part ≡ text.Done → IsText (tokens_of ps)
+  condition_whole ps s e d = whole_by ps s (stands Tail ps s e) d
+
+  -- ---- each text is taken
+
+  abbrev begun : Quantifier → Stage → State
+  begun q g = standing g (text.proposition q) nothing_yet
+
+  quantifier_runs : (q : Quantifier) (ps : List Placed) (ts : List Token) → tokens_of ps ≡ spelled_quantifier q ts → (g : Stage) × (qs : List Placed) × (tokens_of qs ≡ ts) × (run (start kinds.Condition threads) ps ≡ run (begun q g) qs)
+  quantifier_runs Exists [] ts e = absurd cc
+  quantifier_runs Exists (p ∷ ps) ts e =
+      let t : p.token ≡ tokens.Word (codes "exists") = cc in
+      (after Tail (tokens.Word (codes "exists")), ps, cc, ap (λ (x : Token). run (standing Tail text.WantsQuantifier nothing_yet) (record { token = x; place = p.place } ∷ ps)) t)
+  quantifier_runs Forall [] ts e = absurd cc
+  quantifier_runs Forall (p ∷ ps) ts e =
+      let t : p.token ≡ tokens.Word (codes "forall") = cc in
+      (after Tail (tokens.Word (codes "forall")), ps, cc, ap (λ (x : Token). run (standing Tail text.WantsQuantifier nothing_yet) (record { token = x; place = p.place } ∷ ps)) t)
+  quantifier_runs NotExists [] ts e = absurd cc
+  quantifier_runs NotExists (p ∷ []) ts e = absurd cc
+  quantifier_runs NotExists (p ∷ r ∷ ps) ts e =
+      let t : p.token ≡ tokens.Mark marks.Tilde = cc in
+      let u : r.token ≡ tokens.Word (codes "exists") = cc in
+      (Tail, ps, cc, ap (λ (x : Token). run (standing Tail text.WantsQuantifier nothing_yet) (record { token = x; place = p.place } ∷ r ∷ ps)) t ∙ ap (λ (x : Token). run (standing Tail text.AfterTilde nothing_yet) (record { token = x; place = r.place } ∷ ps)) u)
+
+  pub condition_taken : (ps : List Placed) (x : IsText (tokens_of ps)) → (s : State) × (run (start kinds.Condition threads) ps ≡ Ok s) × (s.held.quantifier ≡ x.quantifier) × (s.held.formula ≡ meaning x.condition)
+  condition_taken ps x =
+      let b = quantifier_runs x.quantifier ps (spelled x.condition (tokens.End ∷ [])) x.whole in
+      let m = complete limits threads few (tokens_of b.1) (meaning x.condition) (record { tree = x.condition; fine = x.fine; whole = b.2; meant = refl }) in
+      let r = prop_runs b.1 b.0 x.quantifier [] 0 Wants nothing_yet (meaning x.condition) m in
+      (r.state, b.3 ∙ r.by, r.quantifier, r.formula)
+
+  pub condition_reading : Reading IsText kinds.Condition threads
+  condition_reading = record {
+    begins = λ ps s e. begins_by ps s (stands Tail ps s e);
+    takes = λ ps x. let r = condition_taken ps x in (r.0, r.1);
+    says = λ ps s t place e none.
+        let f = follows (start kinds.Condition threads) s ps e in
+        let stage : s.stage ≡ Tail = f.stage ∙ tail_stays (tokens_of ps) in
+        let C = CanFollow IsText (tokens_of ps) in
+        subst (λ (g : Stage). Says C g (ruling g t) (rule_at s.kind s.held.table s.stage t)) (sym (tail_stays (tokens_of ps))) (subst (λ (g : Stage). Says C Tail (ruling Tail t) (rule_at s.kind s.held.table g t)) (sym stage) (tail_says C s.kind s.held.table t));
+  }

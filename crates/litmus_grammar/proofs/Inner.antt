@@ -1,0 +1,167 @@
+-- No token before the end of a text is an end.
+use Rattle.std.proofs.Common.{◌≡◌, ℕ, zero, suc, ◌+◌, ◌-◌, ◌≤◌, arith, Bool, true, false, List, [], ◌∷◌, ◌++◌, Option, Some, None, refl, sym, ap, ◌∙◌, subst}
+use Rattle.std.specs.Prelude.{◌&&◌, ◌||◌, ◌==◌, slice_index, take, drop, length, codes, if◌then◌else◌}
+use Rattle.std.specs.List.{position_or_len}
+use Rattle.std.specs.Str.{bytes_eq}
+use Rattle.source_text.specs.Layout.{is_blank, is_line_end, quoted_from, comment_of}
+use Rattle.litmus_tokens.specs.declared.rule.LitmusRule.TheVariants as rules
+use Rattle.litmus_tokens.specs.declared.stage.Stage.{Stage}
+use Rattle.litmus_tokens.specs.declared.stage.Stage.TheVariants as stages
+use Rattle.litmus_tokens.specs.declared.token.Token.{Token}
+use Rattle.litmus_tokens.specs.declared.token.Token.TheVariants as tokens
+use Rattle.litmus_tokens.specs.declared.token.Mark as declared_mark
+use Rattle.litmus_tokens.specs.declared.token.Mark.TheVariants as marks
+use Rattle.litmus_tokens.specs.declared.lexer.Front.{Front}
+use Rattle.litmus_tokens.specs.declared.lexer.Front.TheVariants.{Layout, Lexeme}
+use Rattle.litmus_tokens.specs.Lexer.{front, is_not_ascii, begins_comment, is_equals, ends_word, ends_digits, gap_from, raw_from, raw_front, comment_front, quoted_front, line_front, word_front, label_front, number_front, minus_front, mark_of, mark_front, sign_front, plain_front, head_front, stage_front}
+use Rattle.litmus_tokens.specs.Stage.{after}
+use Rattle.litmus_tokens.specs.Texts.{Placed, tokens_of, ends_line, after_front, tokens_from, lexed}
+use Rattle.litmus_tokens.specs.Words.{is_letter, is_digit}
+
+abbrev pub IsInner : Token → Type 0
+IsInner tokens.End = ⊥
+IsInner t = Unit {0}
+
+abbrev pub AreInner : List Token → Type 0
+AreInner [] = Unit {0}
+AreInner (t ∷ ts) = IsInner t × AreInner ts
+
+-- ---- what a text begins with
+
+abbrev FrontInner : Front → Type 0
+FrontInner (Layout n) = Unit {0}
+FrontInner (Lexeme t n) = IsInner t
+
+either : (b : Bool) (f g : Front) → FrontInner f → FrontInner g → FrontInner (if b then f else g)
+either true f g x y = x
+either false f g x y = y
+
+comment_inner : (n : ℕ) (o : Option ℕ) → FrontInner (comment_front n o)
+comment_inner n (Some k) = tt
+comment_inner n None = tt
+
+quoted_inner : (o : Option ℕ) → FrontInner (quoted_front o)
+quoted_inner (Some k) = tt
+quoted_inner None = tt
+
+mark_inner : (o : Option declared_mark.Mark) → FrontInner (mark_front o)
+mark_inner (Some m) = tt
+mark_inner None = tt
+
+raw_inner : (bs : List ℕ) (n : ℕ) → FrontInner (raw_front bs n)
+raw_inner bs n = either (is_line_end (slice_index bs 0)) _ _ tt tt
+
+too_many : (b : Bool) (w : List ℕ) (n : ℕ) → FrontInner (Lexeme (if b then tokens.Broken rules.TooManyThreads else tokens.Word w) n)
+too_many true w n = tt
+too_many false w n = tt
+
+word_inner : (s : Stage) (bs : List ℕ) (n : ℕ) → FrontInner (word_front s bs n)
+word_inner stages.CellBegins bs n = either (slice_index bs (n + gap_from 0 0 (drop n bs)) == 58) _ _ tt tt
+word_inner (stages.Header zero) bs n = too_many (bytes_eq (take n bs) (codes "P8")) (take n bs) n
+word_inner (stages.Header (suc k)) bs n = tt
+word_inner stages.Magic bs n = tt
+word_inner stages.Title bs n = tt
+word_inner stages.TitleEnd bs n = tt
+word_inner stages.Head bs n = tt
+word_inner (stages.Init a b) bs n = tt
+word_inner stages.InCell bs n = tt
+word_inner stages.Tail bs n = tt
+
+sign_inner : (b next : ℕ) → FrontInner (sign_front b next)
+sign_inner b next =
+    either (b == 47 && next == 92) _ _ tt (
+    either (b == 92 && next == 47) _ _ tt (
+    either (b == 61 && next == 62) _ _ tt (mark_inner (mark_of b))))
+
+plain_inner : (s : Stage) (bs : List ℕ) → FrontInner (plain_front s bs)
+plain_inner s bs =
+    either (is_line_end (slice_index bs 0)) _ _ tt (
+    either (is_letter (slice_index bs 0) || slice_index bs 0 == 95) _ _ (word_inner s bs (position_or_len ends_word bs)) (
+    either (is_digit (slice_index bs 0)) _ _ tt (
+    either (slice_index bs 0 == 45 && is_digit (slice_index bs 1)) _ _ tt (sign_inner (slice_index bs 0) (slice_index bs 1)))))
+
+line_inner : (line : List ℕ) → FrontInner (line_front line)
+line_inner line = either (position_or_len is_equals line == length line) _ _ tt tt
+
+head_inner : (fresh : Bool) (bs : List ℕ) → FrontInner (head_front fresh bs)
+head_inner fresh bs =
+    either (fresh && is_letter (slice_index bs 0)) _ _ (line_inner (take (position_or_len is_line_end bs) bs)) (
+    either (slice_index bs 0 == 34) _ _ (quoted_inner (quoted_from bs)) (plain_inner stages.Head bs))
+
+stage_inner : (s : Stage) (fresh : Bool) (bs : List ℕ) → FrontInner (stage_front s fresh bs)
+stage_inner stages.Magic fresh bs = raw_inner bs (raw_from 0 bs)
+stage_inner stages.Title fresh bs = raw_inner bs (raw_from 0 bs)
+stage_inner stages.TitleEnd fresh bs = either (is_line_end (slice_index bs 0)) _ _ tt tt
+stage_inner stages.Head fresh bs = head_inner fresh bs
+stage_inner (stages.Init a b) fresh bs = plain_inner (stages.Init a b) bs
+stage_inner (stages.Header k) fresh bs = plain_inner (stages.Header k) bs
+stage_inner stages.CellBegins fresh bs = plain_inner stages.CellBegins bs
+stage_inner stages.InCell fresh bs = plain_inner stages.InCell bs
+stage_inner stages.Tail fresh bs = plain_inner stages.Tail bs
+
+front_inner : (s : Stage) (fresh : Bool) (bs : List ℕ) → FrontInner (front s fresh bs)
+unfolding front
+front_inner s fresh bs =
+    either (is_not_ascii (slice_index bs 0)) _ _ tt (
+    either (is_blank (slice_index bs 0)) _ _ tt (
+    either (begins_comment bs) _ _ (comment_inner (length bs) (comment_of bs)) (stage_inner s fresh bs)))
+
+-- ---- a whole text
+
+-- tokens of which just the last is an end
+pub record EndsOnce (ps : List Placed) : Type 0 where
+  pub inner : List Placed
+  pub place : ℕ
+  pub split : ps ≡ inner ++ record { token = tokens.End; place = place } ∷ []
+  pub are_inner : AreInner (tokens_of inner)
+
+from_ends : (s : Stage) (fresh : Bool) (skip place : ℕ) (bytes : List ℕ) → EndsOnce (tokens_from s fresh skip place bytes)
+unfolding tokens_from
+from_ends s fresh skip place [] = record { inner = []; place = place; split = refl; are_inner = tt }
+from_ends s fresh (suc skip) place (b ∷ bs) = from_ends s fresh skip (place + 1) bs
+from_ends s fresh zero place (b ∷ bs) = by_front (front s fresh (b ∷ bs)) (front_inner s fresh (b ∷ bs)) (λ g f skip. from_ends g f skip (place + 1) bs)
+  where
+    by_front : (f : Front) → FrontInner f → ((g : Stage) (f : Bool) (skip : ℕ) → EndsOnce (tokens_from g f skip (place + 1) bs)) → EndsOnce (after_front s fresh place b f (λ g f skip. tokens_from g f skip (place + 1) bs))
+    by_front (Layout k) i r = r _ _ _
+    by_front (Lexeme t k) i r =
+        let q = r (after s t) (ends_line t) (k - 1) in
+        record {
+          inner = record { token = t; place = place } ∷ q.inner;
+          place = q.place;
+          split = ap (λ (ps : List Placed). record { token = t; place = place } ∷ ps) q.split;
+          are_inner = (i, q.are_inner);
+        }
+
+pub lexed_ends : (s : Stage) (bytes : List ℕ) → EndsOnce (lexed s bytes)
+lexed_ends s bytes = from_ends s false 0 0 bytes
+
+nothing_behind : (bs : List Placed) (p : Placed) (cs : List Placed) → bs ++ p ∷ cs ≡ [] → ⊥
+nothing_behind [] p cs e = absurd cc
+nothing_behind (b ∷ bs) p cs e = absurd cc
+
+-- what stands before a token of a text is no end
+pub before_inner : (qs : List Placed) (e : Placed) (before : List Placed) (p : Placed) (behind : List Placed) → before ++ p ∷ behind ≡ qs ++ e ∷ [] → AreInner (tokens_of qs) → AreInner (tokens_of before)
+before_inner qs e [] p behind same i = tt
+before_inner [] e (b ∷ before) p behind same i = absurd (nothing_behind before p behind cc)
+before_inner (q ∷ qs) e (b ∷ before) p behind same i =
+    let first : b ≡ q = cc in
+    let others : before ++ p ∷ behind ≡ qs ++ e ∷ [] = cc in
+    (subst (λ (x : Placed). IsInner x.token) (sym first) i.0, before_inner qs e before p behind others i.1)
+
+pub lexed_inner : (s : Stage) (bytes : List ℕ) (before : List Placed) (p : Placed) (behind : List Placed) → lexed s bytes ≡ before ++ p ∷ behind → AreInner (tokens_of before)
+lexed_inner s bytes before p behind e =
+    let l = lexed_ends s bytes in
+    before_inner l.inner (record { token = tokens.End; place = l.place }) before p behind (sym e ∙ l.split) l.are_inner
+
+from_length : (s : Stage) (fresh : Bool) (skip place : ℕ) (bytes : List ℕ) → length (tokens_from s fresh skip place bytes) ≤ length bytes + 1
+unfolding tokens_from
+from_length s fresh skip place [] = omega arith
+from_length s fresh (suc skip) place (b ∷ bs) = let h = from_length s fresh skip (place + 1) bs in omega (arith, h)
+from_length s fresh zero place (b ∷ bs) = by_front (front s fresh (b ∷ bs)) (λ g f skip. from_length g f skip (place + 1) bs)
+  where
+    by_front : (f : Front) → ((g : Stage) (f : Bool) (skip : ℕ) → length (tokens_from g f skip (place + 1) bs) ≤ length bs + 1) → length (after_front s fresh place b f (λ g f skip. tokens_from g f skip (place + 1) bs)) ≤ length (b ∷ bs) + 1
+    by_front (Layout k) r = let h = r _ _ (k - 1) in let m : length (after_front s fresh place b (Layout k) (λ g f skip. tokens_from g f skip (place + 1) bs)) ≤ length bs + 1 = h in omega (arith, m)
+    by_front (Lexeme t k) r = let h = r (after s t) (ends_line t) (k - 1) in omega (arith, h)
+
+pub lexed_length : (s : Stage) (bytes : List ℕ) → length (lexed s bytes) ≤ length bytes + 1
+lexed_length s bytes = from_length s false 0 0 bytes

@@ -1,0 +1,422 @@
+-- What stands behind the table of a test.
+use Rattle.std.proofs.Common.{◌≡◌, ℕ, ◌+◌, ◌<◌, ◌⊎◌, inl, inr, Bool, true, false, List, [], ◌∷◌, ◌++◌, map, length, append_assoc, append-nil, Option, Some, None, Ok, refl, sym, ap, ◌∙◌, subst}
+use Rattle.std.specs.Prelude.{codes, ◌&&◌, nat_lt, if◌then◌else◌}
+use Rattle.std.specs.Str.{bytes_eq}
+use Rattle.std.proofs.lemmas.Slice.Eq.{bytes_eq-Decides}
+use Rattle.litmus_tokens.specs.declared.stage.Stage.{Stage}
+use Rattle.litmus_tokens.specs.declared.stage.Stage.TheVariants as stages
+use Rattle.litmus_tokens.specs.declared.token.Token.{Token}
+use Rattle.litmus_tokens.specs.declared.token.Token.TheVariants as tokens
+use Rattle.litmus_tokens.specs.declared.token.Mark.TheVariants as marks
+use Rattle.litmus_tokens.specs.Stage.{after}
+use Rattle.litmus_tokens.specs.Texts.{Placed, tokens_of, stage_after}
+use Rattle.litmus_tokens.specs.Faults.{Begins}
+use Rattle.litmus_values.specs.declared.test.Place.{Place}
+use Rattle.litmus_values.specs.declared.test.Quantifier.{Quantifier}
+use Rattle.litmus_values.specs.declared.test.Quantifier.TheVariants.{Exists, NotExists, Forall}
+use Rattle.litmus_values.specs.Value.{Formula, Constant}
+use Rattle.litmus_conditions.specs.declared.place.PlaceHole.TheVariants as places
+use Rattle.litmus_conditions.specs.declared.place.PlaceStep.{PlaceStep}
+use Rattle.litmus_conditions.specs.declared.place.PlaceStep.TheVariants as place_steps
+use Rattle.litmus_conditions.specs.PlaceMachine.{place_step, is_there}
+use Rattle.litmus_conditions.specs.ConditionMachine as condition
+use Rattle.litmus_conditions.specs.Grammar.{limits, PlaceTree, FormulaTree, place_meaning, meaning, spelled, spelled_quantifier, IsFormula, IsConditionText}
+use Rattle.litmus_table.specs.Machine as table
+use Rattle.litmus_grammar.specs.declared.parts.ItemHole.{ItemHole}
+use Rattle.litmus_grammar.specs.declared.parts.ItemHole.TheVariants as items
+use Rattle.litmus_grammar.specs.declared.parts.TextKind.{TextKind}
+use Rattle.litmus_grammar.specs.declared.parts.TextKind.TheVariants as kinds
+use Rattle.litmus_grammar.specs.Grammar.{Listed, members, spelled_items, spelled_observed, spelled_condition, AreItems, IsLocationsText}
+use Rattle.litmus_grammar.specs.InitMachine as init
+use Rattle.litmus_grammar.specs.TextMachine as text
+use Rattle.litmus_grammar.specs.TextMachine.{Part, Held, Next, State, Ran, placed, and_then, stepped, part_step, nothing, start, run}
+use Rattle.litmus_grammar.proofs.Conditions.{condition_whole, condition_taken, condition_reading}
+use Rattle.litmus_grammar.proofs.Ends.{ends_done}
+use Rattle.litmus_grammar.proofs.Lists.{list_whole}
+use Rattle.litmus_grammar.proofs.Listed.{list_taken, list_reading}
+use Rattle.litmus_grammar.proofs.Passing.{test_at, text_at, Alike, Stays, Leaves, Ends, passes, ends}
+use Rattle.litmus_grammar.proofs.Runs.{same_state, tokens_of-append, run-append, anywhere, tokens_of-anywhere}
+use Rattle.litmus_grammar.proofs.Spelled.{items-append, condition-append}
+use Rattle.litmus_grammar.proofs.Splits.{Split, split, single, unsnoc, Rest, Nothing, More, rest_of, unsnoc_placed}
+
+abbrev pub last_at : ℕ → Placed
+last_at n = record { token = tokens.End; place = n }
+
+-- what is held of a test before its condition
+abbrev pub early : List ℕ → init.Block → table.State → List Place → Held
+early name block t o = record { name = name; init = block; table = t; observed = o; quantifier = Exists; formula = Constant true }
+
+abbrev pub with_all : List ℕ → init.Block → table.State → List Place → Quantifier → Formula → Held
+with_all name block t o q a = record { name = name; init = block; table = t; observed = o; quantifier = q; formula = a }
+
+-- the texts that stand behind the table of a test of so many threads
+pub record IsTail (threads : ℕ) (ts : List Token) : Type 0 where
+  pub observed : Option (Listed PlaceTree)
+  pub quantifier : Quantifier
+  pub condition : FormulaTree
+  pub are_items : AreItems threads (members observed)
+  pub fine : IsFormula limits threads condition
+  pub whole : ts ≡ spelled_observed observed (spelled_condition quantifier condition)
+
+pub done_behind : (kind : TextKind) (n : ℕ) (g : Stage) (h : Held) (ps : List Placed) (s : State) → run (text_at kind n g text.Done h) ps ≡ Ok s → (ps ≡ []) × (s ≡ text_at kind n g text.Done h)
+done_behind kind n g h [] s e =
+    let same : text_at kind n g text.Done h ≡ s = cc in
+    (refl, sym same)
+done_behind kind n g h (p ∷ ps) s e = absurd cc
+
+-- behind the part of a text alone stands the end
+pub end_behind : (kind : TextKind) (n : ℕ) (g : Stage) (h : Held) (ps : List Placed) (s : State) → run (text_at kind n g text.WantsEnd h) ps ≡ Ok s → s.part ≡ text.Done → (m : ℕ) × (ps ≡ last_at m ∷ []) × (s.held ≡ h)
+end_behind kind n g h [] s e d =
+    let same : text_at kind n g text.WantsEnd h ≡ s = cc in
+    absurd (let no : text.WantsEnd ≡ text.Done = ap (λ (x : State). x.part) same ∙ d in cc)
+end_behind kind n g h (p ∷ ps) s e d = by_token p.token p.place e
+  where
+    by_token : (t : Token) (m : ℕ) → run (text_at kind n g text.WantsEnd h) (record { token = t; place = m } ∷ ps) ≡ Ok s → (k : ℕ) × (record { token = t; place = m } ∷ ps ≡ last_at k ∷ []) × (s.held ≡ h)
+    by_token tokens.End m k =
+        let r = done_behind kind n (after g tokens.End) h ps s k in
+        (m, ap (λ (l : List Placed). last_at m ∷ l) r.0, ap (λ (x : State). x.held) r.1)
+    by_token t m k = absurd cc
+
+abbrev pub is_done : Part → Bool
+is_done text.Done = true
+is_done p = false
+
+module _ (name : List ℕ) (block : init.Block) (t : table.State) (few : length t.threads < 18446744073709551616) where
+  abbrev threads : ℕ
+  threads = length t.threads
+
+  -- ---- the condition
+
+  abbrev with_condition : List Place → Held → Held
+  with_condition o h = with_all name block t o h.quantifier h.formula
+
+  abbrev in_condition : Part → Bool
+  in_condition text.WantsQuantifier = true
+  in_condition text.AfterTilde = true
+  in_condition (text.Proposition q fs used hole) = true
+  in_condition p = false
+
+  abbrev IsInCondition : Option Part → Type 0
+  IsInCondition None = Unit {0}
+  IsInCondition (Some p) = in_condition p ≡ true
+
+  abbrev AlikeCondition : List Place → Option Next → Option Next → Type 0
+  AlikeCondition o a b = Alike (with_condition o) text.Done text.Done in_condition a b
+
+  leads_alike : (o : List Place) (h : Held) (p : Option Part) → IsInCondition p → AlikeCondition o (text.leads h p) (text.leads (with_condition o h) p)
+  leads_alike o h None i = tt
+  leads_alike o h (Some p) i = (refl, inl (i, refl))
+
+  word_in : (w : List ℕ) → IsInCondition (text.word_quantifier w)
+  word_in w = choose (bytes_eq w (codes "exists")) (bytes_eq w (codes "forall"))
+    where
+      choose : (a b : Bool) → IsInCondition (if a then Some (text.proposition Exists) else (if b then Some (text.proposition Forall) else None))
+      choose true b = refl
+      choose false true = refl
+      choose false false = tt
+
+  quantifier_in : (x : Token) → IsInCondition (text.quantifier_read x)
+  quantifier_in (tokens.Mark marks.Tilde) = refl
+  quantifier_in (tokens.Word w) = word_in w
+  quantifier_in x = tt
+
+  exists_in : (x : Token) → IsInCondition (text.exists_read x)
+  exists_in (tokens.Word w) = choose (bytes_eq w (codes "exists"))
+    where
+      choose : (a : Bool) → IsInCondition (if a then Some (text.proposition NotExists) else None)
+      choose true = refl
+      choose false = tt
+  exists_in x = tt
+
+  fed_alike : (o : List Place) (h : Held) (q : Quantifier) (f : condition.Fed) → AlikeCondition o (text.fed h q f) (text.fed (with_condition o h) q f)
+  fed_alike o h q (condition.Goes fs used hole) = (refl, inl (refl, refl))
+  fed_alike o h q (condition.Ends a) = (refl, inr (refl, refl))
+  fed_alike o h q condition.Refuses = tt
+
+  condition_alike : (o : List Place) (p : Part) (h : Held) (x : Token) (place : ℕ) → in_condition p ≡ true → AlikeCondition o (part_step kinds.Condition threads h p x place) (part_step kinds.Test 0 (with_condition o h) p x place)
+  condition_alike o text.WantsQuantifier h x place i = leads_alike o h (text.quantifier_read x) (quantifier_in x)
+  condition_alike o text.AfterTilde h x place i = leads_alike o h (text.exists_read x) (exists_in x)
+  condition_alike o (text.Proposition q fs used hole) h x place i = fed_alike o h q (condition.feed limits threads fs used hole x)
+  condition_alike o p h x place i = absurd cc
+
+  abbrev IsCondition : List Token → Type 0
+  IsCondition = IsConditionText limits threads
+
+  pub condition_begins : (o : List Place) (ps : List Placed) (g : Stage) (s : State) → run (test_at g text.WantsQuantifier (early name block t o)) ps ≡ Ok s → Begins IsCondition (tokens_of ps)
+  condition_begins o ps g s e = by_pass (passes kinds.Condition threads (with_condition o) text.Done text.Done in_condition (condition_alike o) ps stages.Tail g text.WantsQuantifier (nothing kinds.Condition) s refl e)
+    where
+      by_pass : Stays kinds.Condition threads (with_condition o) text.Done text.Done in_condition (condition_alike o) stages.Tail g text.WantsQuantifier (nothing kinds.Condition) ps s
+          ⊎ Leaves kinds.Condition threads (with_condition o) text.Done text.Done in_condition (condition_alike o) stages.Tail g text.WantsQuantifier (nothing kinds.Condition) ps s → Begins IsCondition (tokens_of ps)
+      by_pass (inl r) = (condition_reading threads few).begins ps _ r.by
+      by_pass (inr r) =
+          let d = done_behind kinds.Test 0 (stage_after g (tokens_of r.before)) (with_condition o r.held) r.behind s r.on in
+          let same : ps ≡ r.before = r.whole ∙ ap (λ (l : List Placed). r.before ++ l) d.0 ∙ append-nil r.before in
+          subst (λ (l : List Placed). Begins IsCondition (tokens_of l)) (sym same) ((condition_reading threads few).begins r.before _ r.by)
+
+  -- a whole condition is taken
+  pub record TakesCondition (o : List Place) (ps : List Placed) (q : Quantifier) (a : Formula) (g : Stage) : Type 0 where
+    pub stage : Stage
+    pub by : run (test_at g text.WantsQuantifier (early name block t o)) ps ≡ Ok (test_at stage text.Done (with_all name block t o q a))
+
+  pub condition_led : (o : List Place) (ps : List Placed) (g : Stage) (x : IsCondition (tokens_of ps)) → TakesCondition o ps x.quantifier (meaning x.condition) g
+  condition_led o ps g x =
+      let r = condition_taken threads few ps x in
+      let cut = split ps (spelled_quantifier x.quantifier (spelled x.condition [])) (tokens.End ∷ []) (x.whole ∙ sym (condition-append x.quantifier x.condition)) in
+      let end = single cut.behind tokens.End cut.are_behind in
+      let split_so : ps ≡ cut.before ++ last_at end.0 ∷ [] = cut.whole ∙ ap (λ (l : List Placed). cut.before ++ l) end.1 in
+      let d = ends_done (start kinds.Condition threads) r.0 cut.before end.0 (ap (run (start kinds.Condition threads)) (sym split_so) ∙ r.1) in
+      let out : in_condition r.0.part ≡ false = ap in_condition d in
+      let m = ends kinds.Condition threads (with_condition o) text.Done text.Done in_condition (condition_alike o) ps stages.Tail text.WantsQuantifier (nothing kinds.Condition) r.0 refl r.1 out in
+      let b = done_behind kinds.Condition threads (stage_after stages.Tail (tokens_of m.before)) m.held m.behind r.0 m.by in
+      let same : ps ≡ m.before = m.whole ∙ ap (λ (l : List Placed). m.before ++ l) b.0 ∙ append-nil m.before in
+      let held : r.0.held ≡ m.held = ap (λ (y : State). y.held) b.1 in
+      let q : m.held.quantifier ≡ x.quantifier = ap (λ (y : Held). y.quantifier) (sym held) ∙ r.2 in
+      let a : m.held.formula ≡ meaning x.condition = ap (λ (y : Held). y.formula) (sym held) ∙ r.3 in
+      record {
+        stage = stage_after g (tokens_of m.before);
+        by =
+            ap (run (test_at g text.WantsQuantifier (early name block t o))) same ∙ m.led g
+            ∙ ap (λ (y : Quantifier). Ok (test_at (stage_after g (tokens_of m.before)) text.Done (with_all name block t o y m.held.formula))) q
+            ∙ ap (λ (y : Formula). Ok (test_at (stage_after g (tokens_of m.before)) text.Done (with_all name block t o x.quantifier y))) a;
+      }
+
+  -- ---- `locations`
+
+  abbrev with_places : Held → Held
+  with_places h = early name block t h.observed
+
+  abbrev in_list : Part → Bool
+  in_list text.WantsList = true
+  in_list (text.Item hole) = true
+  in_list p = false
+
+  abbrev AlikeList : Option Next → Option Next → Type 0
+  AlikeList a b = Alike with_places text.WantsEnd text.WantsQuantifier in_list a b
+
+  opened_alike : (h : Held) (x : Token) → AlikeList (text.leads h (text.list_opened x)) (text.leads (with_places h) (text.list_opened x))
+  opened_alike h (tokens.Mark marks.OpenBracket) = (refl, inl (refl, refl))
+  opened_alike h x = tt
+
+  went_alike : (h : Held) (p : Option PlaceStep) → AlikeList (text.item_went h p) (text.item_went (with_places h) p)
+  went_alike h (Some (place_steps.Goes hole)) = (refl, inl (refl, refl))
+  went_alike h (Some (place_steps.Ends w)) = (refl, inl (refl, refl))
+  went_alike h None = tt
+
+  begun_alike : (h : Held) (x : Token) → AlikeList (text.item_begun threads h x) (text.item_begun threads (with_places h) x)
+  begun_alike h x = choose (is_there threads x)
+    where
+      choose : (b : Bool) → AlikeList (if b then text.item_went h (place_step places.Begins x) else None) (if b then text.item_went (with_places h) (place_step places.Begins x) else None)
+      choose true = went_alike h (place_step places.Begins x)
+      choose false = tt
+
+  next_alike : (h : Held) (x : Token) → AlikeList (text.next_item kinds.Locations threads h x) (text.next_item kinds.Test threads (with_places h) x)
+  next_alike h (tokens.Mark marks.CloseBracket) = (refl, inr (refl, refl))
+  next_alike h x = begun_alike h x
+
+  ended_alike : (h : Held) (x : Token) → AlikeList (text.leads h (text.item_ended kinds.Locations x)) (text.leads (with_places h) (text.item_ended kinds.Test x))
+  ended_alike h (tokens.Mark marks.Semicolon) = (refl, inl (refl, refl))
+  ended_alike h (tokens.Mark marks.CloseBracket) = (refl, inr (refl, refl))
+  ended_alike h x = tt
+
+  list_alike : (p : Part) (h : Held) (x : Token) (place : ℕ) → in_list p ≡ true → AlikeList (part_step kinds.Locations threads h p x place) (part_step kinds.Test 0 (with_places h) p x place)
+  list_alike text.WantsList h x place i = opened_alike h x
+  list_alike (text.Item items.WantsFirst) h x place i = begun_alike h x
+  list_alike (text.Item items.WantsNext) h x place i = next_alike h x
+  list_alike (text.Item (items.Within hole)) h x place i = went_alike h (place_step hole x)
+  list_alike (text.Item items.HasItem) h x place i = ended_alike h x
+  list_alike p h x place i = absurd cc
+
+  abbrev IsList : List Token → Type 0
+  IsList = IsLocationsText threads
+
+  abbrev begun : Held
+  begun = nothing kinds.Locations
+
+  abbrev word_at : ℕ → Placed
+  word_at n = record { token = tokens.Word (codes "locations"); place = n }
+
+  -- some condition
+  any_condition : Begins IsCondition []
+  any_condition = (condition_reading threads few).begins [] _ refl
+
+  tail_of : (ts : List Token) (l : Listed PlaceTree) (c : List Token) → AreItems threads (members (Some l)) → ts ≡ spelled_items l [] → IsCondition c → IsTail threads (ts ++ c)
+  tail_of ts l c fine e x =
+      record {
+        observed = Some l;
+        quantifier = x.quantifier;
+        condition = x.condition;
+        are_items = fine;
+        fine = x.fine;
+        whole = ap (λ (y : List Token). y ++ c) e ∙ items-append l [] c ∙ ap (spelled_items l) x.whole;
+      }
+
+  -- a list that is read to its end
+  list_text : (ps : List Placed) (n : ℕ) (f : Stage) (h : Held) → run (text_at kinds.Locations threads (after stages.Tail (tokens.Word (codes "locations"))) text.WantsList begun) ps ≡ Ok (text_at kinds.Locations threads f text.WantsEnd h) → (l : Listed PlaceTree) × AreItems threads (members (Some l)) × (tokens_of (word_at n ∷ ps) ≡ spelled_items l [])
+  list_text ps n f h e =
+      let all = word_at n ∷ (ps ++ last_at 0 ∷ []) in
+      let done : run (start kinds.Locations threads) all ≡ Ok (text_at kinds.Locations threads (after f tokens.End) text.Done h) = run-append (text_at kinds.Locations threads (after stages.Tail (tokens.Word (codes "locations"))) text.WantsList begun) (text_at kinds.Locations threads f text.WantsEnd h) ps (last_at 0 ∷ []) e in
+      let x = list_whole threads all stages.Tail begun _ done refl in
+      by_items x.items x.fine (sym (ap (λ (l : List Token). tokens.Word (codes "locations") ∷ l) (tokens_of-append ps (last_at 0 ∷ []))) ∙ x.whole)
+    where
+      by_items : (o : Option (Listed PlaceTree)) → AreItems threads (members o) → tokens_of (word_at n ∷ ps) ++ tokens.End ∷ [] ≡ spelled_observed o (tokens.End ∷ []) → (l : Listed PlaceTree) × AreItems threads (members (Some l)) × (tokens_of (word_at n ∷ ps) ≡ spelled_items l [])
+      by_items None fine k = absurd cc
+      by_items (Some l) fine k = (l, fine, unsnoc (tokens_of (word_at n ∷ ps)) (spelled_items l []) tokens.End tokens.End (k ∙ sym (items-append l [] (tokens.End ∷ []))))
+
+  list_begins : (ps : List Placed) (n : ℕ) (g : Stage) (s : State) → run (test_at g text.WantsList (early name block t [])) ps ≡ Ok s → Begins (IsTail threads) (tokens_of (word_at n ∷ ps))
+  list_begins ps n g s e = by_pass (passes kinds.Locations threads with_places text.WantsEnd text.WantsQuantifier in_list list_alike ps (after stages.Tail (tokens.Word (codes "locations"))) g text.WantsList begun s refl e)
+    where
+      ts : List Token
+      ts = tokens_of (word_at n ∷ ps)
+
+      c : List Token
+      c = any_condition.rest
+
+      by_rest : (h : Held) (p : Part) (f : Stage) → in_list p ≡ true → run (start kinds.Locations threads) (word_at n ∷ ps) ≡ Ok (text_at kinds.Locations threads f p h) → (l : Listed PlaceTree) → AreItems threads (members (Some l)) → (rest : List Token) → Rest ts rest (spelled_items l []) tokens.End → Begins (IsTail threads) ts
+      by_rest h p f i r l fine rest (Nothing k) =
+          let cut = split (word_at n ∷ ps) (spelled_items l []) (tokens.End ∷ []) k in
+          let end = single cut.behind tokens.End cut.are_behind in
+          let d = ends_done (start kinds.Locations threads) (text_at kinds.Locations threads f p h) cut.before end.0 (ap (run (start kinds.Locations threads)) (sym (cut.whole ∙ ap (λ (l : List Placed). cut.before ++ l) end.1)) ∙ r) in
+          absurd (let no : true ≡ false = sym i ∙ ap in_list d in cc)
+      by_rest h p f i r l fine rest (More more k m) = record { rest = more ++ c; text = subst (IsTail threads) (append_assoc ts more c) (tail_of (ts ++ more) l c fine m any_condition.text) }
+
+      by_items : (h : Held) (p : Part) (f : Stage) → in_list p ≡ true → run (start kinds.Locations threads) (word_at n ∷ ps) ≡ Ok (text_at kinds.Locations threads f p h) → (o : Option (Listed PlaceTree)) → AreItems threads (members o) → (rest : List Token) → ts ++ rest ≡ spelled_observed o (tokens.End ∷ []) → Begins (IsTail threads) ts
+      by_items h p f i r None fine rest k = absurd cc
+      by_items h p f i r (Some l) fine rest k = by_rest h p f i r l fine rest (rest_of ts rest (spelled_items l []) tokens.End (k ∙ sym (items-append l [] (tokens.End ∷ []))))
+
+      by_pass : Stays kinds.Locations threads with_places text.WantsEnd text.WantsQuantifier in_list list_alike (after stages.Tail (tokens.Word (codes "locations"))) g text.WantsList begun ps s
+          ⊎ Leaves kinds.Locations threads with_places text.WantsEnd text.WantsQuantifier in_list list_alike (after stages.Tail (tokens.Word (codes "locations"))) g text.WantsList begun ps s → Begins (IsTail threads) (tokens_of (word_at n ∷ ps))
+      by_pass (inl r) =
+          let b = (list_reading threads few).begins (word_at n ∷ ps) _ r.by in
+          by_items r.held r.part _ r.inside r.by b.text.items b.text.fine b.rest b.text.whole
+      by_pass (inr r) =
+          let l = list_text r.before n _ r.held r.by in
+          let b = condition_begins r.held.observed r.behind _ s r.on in
+          let us = tokens_of (word_at n ∷ r.before) in
+          let same : ts ≡ us ++ tokens_of r.behind = ap (λ (y : List Placed). tokens_of (word_at n ∷ y)) r.whole ∙ ap (λ (y : List Token). tokens.Word (codes "locations") ∷ y) (tokens_of-append r.before r.behind) in
+          record {
+            rest = b.rest;
+            text = subst (IsTail threads) (sym (append_assoc us (tokens_of r.behind) b.rest) ∙ ap (λ (y : List Token). y ++ b.rest) (sym same)) (tail_of us l.0 (tokens_of r.behind ++ b.rest) l.1 l.2 b.text);
+          }
+
+  -- ---- all that stands there
+
+  abbrev there : Held
+  there = early name block t []
+
+  abbrev first_step : Stage → Part → Placed → List Placed → Option Next → Ran
+  first_step g p q ps o = and_then (placed q.place (stepped (test_at g p there) q.token o)) (λ x. run x ps)
+
+  same_step : (g : Stage) (a b : Part) (q : Placed) (ps : List Placed) (o : Option Next) (s : State) → first_step g a q ps o ≡ Ok s → first_step g b q ps o ≡ Ok s
+  same_step g a b q ps None s e = absurd cc
+  same_step g a b q ps (Some n) s e = e
+
+  same_step_back : (g : Stage) (a b : Part) (q : Placed) (ps : List Placed) (n : Next) → first_step g a q ps (Some n) ≡ first_step g b q ps (Some n)
+  same_step_back g a b q ps n = refl
+
+  of_condition : (ts : List Token) → Begins IsCondition ts → Begins (IsTail threads) ts
+  of_condition ts b = record { rest = b.rest; text = record { observed = None; quantifier = b.text.quantifier; condition = b.text.condition; are_items = tt; fine = b.text.fine; whole = b.text.whole } }
+
+  pub any_tail : Begins (IsTail threads) []
+  any_tail = of_condition [] any_condition
+
+  pub tail_begins : (q : Placed) (ps : List Placed) (g : Stage) (s : State) → first_step g text.Rows q ps (text.leads there (text.tail_begun q.token)) ≡ Ok s → Begins (IsTail threads) (tokens_of (q ∷ ps))
+  tail_begins q ps g s e = by_token q.token q.place e
+    where
+      by_word : (w : List ℕ) (n : ℕ) (b : Bool) → bytes_eq w (codes "locations") ≡ b → first_step g text.Rows (record { token = tokens.Word w; place = n }) ps (text.leads there (if b then Some text.WantsList else text.quantifier_read (tokens.Word w))) ≡ Ok s → Begins (IsTail threads) (tokens.Word w ∷ tokens_of ps)
+      by_word w n true c k =
+          let same : codes "locations" ≡ w = sym ((bytes_eq-Decides w (codes "locations")).0 c) in
+          subst (λ (x : List ℕ). Begins (IsTail threads) (tokens.Word x ∷ tokens_of ps)) same (list_begins ps n (after g (tokens.Word w)) s k)
+      by_word w n false c k =
+          let p : Placed = record { token = tokens.Word w; place = n } in
+          of_condition (tokens_of (p ∷ ps)) (condition_begins [] (p ∷ ps) g s (same_step g text.Rows text.WantsQuantifier p ps (text.leads there (text.quantifier_read (tokens.Word w))) s k))
+
+      by_token : (x : Token) (n : ℕ) → first_step g text.Rows (record { token = x; place = n }) ps (text.leads there (text.tail_begun x)) ≡ Ok s → Begins (IsTail threads) (x ∷ tokens_of ps)
+      by_token (tokens.Word w) n k = by_word w n (bytes_eq w (codes "locations")) refl k
+      by_token (tokens.Mark marks.Tilde) n k =
+          let p : Placed = record { token = tokens.Mark marks.Tilde; place = n } in
+          of_condition (tokens_of (p ∷ ps)) (condition_begins [] (p ∷ ps) g s k)
+      by_token x n k = absurd cc
+
+  -- ---- each tail is taken
+
+  -- the list led to its condition
+  pub record TakesList (ps : List Placed) (o : List Place) (g : Stage) : Type 0 where
+    pub stage : Stage
+    pub by : run (test_at g text.WantsList there) ps ≡ Ok (test_at stage text.WantsQuantifier (early name block t o))
+
+  list_led : (l : Listed PlaceTree) (n : ℕ) (ps : List Placed) (g : Stage) → AreItems threads (members (Some l)) → tokens_of (word_at n ∷ ps) ≡ spelled_items l [] → TakesList ps (map place_meaning (members (Some l))) g
+  list_led l n ps g fine e =
+      let all = word_at n ∷ (ps ++ last_at 0 ∷ []) in
+      let whole : tokens_of all ≡ spelled_observed (Some l) (tokens.End ∷ []) =
+      ap (λ (y : List Token). tokens.Word (codes "locations") ∷ y) (tokens_of-append ps (last_at 0 ∷ [])) ∙ ap (λ (y : List Token). y ++ tokens.End ∷ []) e ∙ items-append l [] (tokens.End ∷ []) in
+      let r = list_taken threads few all (record { items = Some l; fine = fine; whole = whole }) in
+      let d = ends_done (start kinds.Locations threads) r.0 (word_at n ∷ ps) 0 r.1 in
+      let m = ends kinds.Locations threads with_places text.WantsEnd text.WantsQuantifier in_list list_alike (ps ++ last_at 0 ∷ []) (after stages.Tail (tokens.Word (codes "locations"))) text.WantsList begun r.0 refl r.1 (ap in_list d) in
+      let b = end_behind kinds.Locations threads (stage_after (after stages.Tail (tokens.Word (codes "locations"))) (tokens_of m.before)) m.held m.behind r.0 m.by d in
+      let same : ps ≡ m.before = unsnoc_placed ps m.before (last_at 0) (last_at b.0) (m.whole ∙ ap (λ (y : List Placed). m.before ++ y) b.1) in
+      let o : m.held.observed ≡ map place_meaning (members (Some l)) = ap (λ (y : Held). y.observed) (sym b.2) ∙ r.2 in
+      record {
+        stage = stage_after g (tokens_of m.before);
+        by =
+            ap (run (test_at g text.WantsList there)) same ∙ m.led g
+            ∙ ap (λ (y : List Place). Ok (test_at (stage_after g (tokens_of m.before)) text.WantsQuantifier (early name block t y))) o;
+      }
+
+  module _ (row : table.is_row_start t ≡ true) where
+    row_first : (q : Placed) (ps : List Placed) (g : Stage) → text.begins_tail q.token ≡ true → run (test_at g text.Rows there) (q ∷ ps) ≡ first_step g text.Rows q ps (text.leads there (text.tail_begun q.token))
+    row_first q ps g e =
+        ap (λ (b : Bool). first_step g text.Rows q ps (if b && text.begins_tail q.token then text.leads there (text.tail_begun q.token) else text.table_went there text.Rows (table.step t q.token q.place))) row
+        ∙ ap (λ (b : Bool). first_step g text.Rows q ps (if b then text.leads there (text.tail_begun q.token) else text.table_went there text.Rows (table.step t q.token q.place))) e
+
+    first_token : (x : Token) (n : ℕ) (ps : List Placed) (g : Stage) (p : Part) → text.begins_tail x ≡ true → text.tail_begun x ≡ Some p → text.quantifier_read x ≡ Some p → run (test_at g text.Rows there) (record { token = x; place = n } ∷ ps) ≡ run (test_at g text.WantsQuantifier there) (record { token = x; place = n } ∷ ps)
+    first_token x n ps g p e k m =
+        let q : Placed = record { token = x; place = n } in
+        row_first q ps g e ∙ ap (λ (o : Option Part). first_step g text.Rows q ps (text.leads there o)) k ∙ same_step_back g text.Rows text.WantsQuantifier q ps (record { part = p; held = there })
+        ∙ ap (λ (o : Option Part). first_step g text.WantsQuantifier q ps (text.leads there o)) (sym m)
+
+    quantifier_first : (q : Quantifier) (ps : List Placed) (ts : List Token) (g : Stage) → tokens_of ps ≡ spelled_quantifier q ts → run (test_at g text.Rows there) ps ≡ run (test_at g text.WantsQuantifier there) ps
+    quantifier_first Exists [] ts g e = absurd cc
+    quantifier_first NotExists [] ts g e = absurd cc
+    quantifier_first Forall [] ts g e = absurd cc
+    quantifier_first Exists (p ∷ ps) ts g e =
+        let x : tokens.Word (codes "exists") ≡ p.token = cc in
+        subst (λ (y : Token). run (test_at g text.Rows there) (record { token = y; place = p.place } ∷ ps) ≡ run (test_at g text.WantsQuantifier there) (record { token = y; place = p.place } ∷ ps)) x
+        (first_token (tokens.Word (codes "exists")) p.place ps g (text.proposition Exists) refl refl refl)
+    quantifier_first Forall (p ∷ ps) ts g e =
+        let x : tokens.Word (codes "forall") ≡ p.token = cc in
+        subst (λ (y : Token). run (test_at g text.Rows there) (record { token = y; place = p.place } ∷ ps) ≡ run (test_at g text.WantsQuantifier there) (record { token = y; place = p.place } ∷ ps)) x
+        (first_token (tokens.Word (codes "forall")) p.place ps g (text.proposition Forall) refl refl refl)
+    quantifier_first NotExists (p ∷ ps) ts g e =
+        let x : tokens.Mark marks.Tilde ≡ p.token = cc in
+        subst (λ (y : Token). run (test_at g text.Rows there) (record { token = y; place = p.place } ∷ ps) ≡ run (test_at g text.WantsQuantifier there) (record { token = y; place = p.place } ∷ ps)) x
+        (first_token (tokens.Mark marks.Tilde) p.place ps g text.AfterTilde refl refl refl)
+
+    pub record TakesTail (ps : List Placed) (o : Option (Listed PlaceTree)) (q : Quantifier) (a : Formula) (g : Stage) : Type 0 where
+      pub stage : Stage
+      pub by : run (test_at g text.Rows there) ps ≡ Ok (test_at stage text.Done (with_all name block t (map place_meaning (members o)) q a))
+
+    list_first : (l : Listed PlaceTree) (before behind : List Placed) (g : Stage) (q : Quantifier) (a : FormulaTree) → AreItems threads (members (Some l)) → IsFormula limits threads a → tokens_of before ≡ spelled_items l [] → tokens_of behind ≡ spelled_condition q a → TakesTail (before ++ behind) (Some l) q (meaning a) g
+    list_first l [] behind g q a fine f e k = absurd cc
+    list_first l (p ∷ before) behind g q a fine f e k =
+        let x : tokens.Word (codes "locations") ≡ p.token = cc in
+        let same : word_at p.place ≡ p = ap (λ (y : Token). record { token = y; place = p.place }) x in
+        let g' = after g (tokens.Word (codes "locations")) in
+        let r = list_led l p.place before g' fine (ap (λ (y : Placed). tokens_of (y ∷ before)) same ∙ e) in
+        let c = condition_led (map place_meaning (members (Some l))) behind r.stage (record { quantifier = q; condition = a; fine = f; whole = k }) in
+        record {
+          stage = c.stage;
+          by =
+              ap (λ (y : Placed). run (test_at g text.Rows there) (y ∷ (before ++ behind))) (sym same)
+              ∙ row_first (word_at p.place) (before ++ behind) g refl
+              ∙ run-append (test_at g' text.WantsList there) (test_at r.stage text.WantsQuantifier (early name block t (map place_meaning (members (Some l))))) before behind r.by
+              ∙ c.by;
+        }
+
+    pub tail_led : (ps : List Placed) (g : Stage) (o : Option (Listed PlaceTree)) (q : Quantifier) (a : FormulaTree) → AreItems threads (members o) → IsFormula limits threads a → tokens_of ps ≡ spelled_observed o (spelled_condition q a) → TakesTail ps o q (meaning a) g
+    tail_led ps g None q a fine f e =
+        let c = condition_led [] ps g (record { quantifier = q; condition = a; fine = f; whole = e }) in
+        record { stage = c.stage; by = quantifier_first q ps (spelled a (tokens.End ∷ [])) g e ∙ c.by }
+    tail_led ps g (Some l) q a fine f e =
+        let cut = split ps (spelled_items l []) (spelled_condition q a) (e ∙ sym (items-append l [] (spelled_condition q a))) in
+        let r = list_first l cut.before cut.behind g q a fine f cut.are_before cut.are_behind in
+        record { stage = r.stage; by = ap (run (test_at g text.Rows there)) cut.whole ∙ r.by }

@@ -1,0 +1,341 @@
+-- How the reader goes from token to token through a text. The grammar does not rest on it.
+use Rattle.std.specs.Prelude.{ℕ, List, [], ◌∷◌, ◌++◌, Bool, true, false, ◌&&◌, Option, Some, None, Result, Ok, Err, length, codes, if◌then◌else◌}
+use Rattle.std.specs.Str.{bytes_eq}
+use Rattle.litmus_tokens.specs.declared.rule.LitmusRule.{LitmusRule}
+use Rattle.litmus_tokens.specs.declared.rule.LitmusRule.TheVariants as rules
+use Rattle.litmus_tokens.specs.declared.stage.Stage.{Stage}
+use Rattle.litmus_tokens.specs.declared.stage.Stage.TheVariants as stages
+use Rattle.litmus_tokens.specs.declared.token.Token.{Token}
+use Rattle.litmus_tokens.specs.declared.token.Token.TheVariants as tokens
+use Rattle.litmus_tokens.specs.declared.token.Mark.TheVariants as marks
+use Rattle.litmus_tokens.specs.Stage.{after, rule_of}
+use Rattle.litmus_tokens.specs.Texts.{Placed}
+use Rattle.litmus_tokens.specs.Words.{is_test_name, is_filter, ends_table}
+use Rattle.litmus_values.specs.declared.test.Place.{Place}
+use Rattle.litmus_values.specs.declared.test.Quantifier.{Quantifier}
+use Rattle.litmus_values.specs.declared.test.Quantifier.TheVariants.{Exists, NotExists, Forall}
+use Rattle.litmus_values.specs.Value.{Formula, Constant}
+use Rattle.litmus_conditions.specs.declared.place.PlaceHole.TheVariants as place_holes
+use Rattle.litmus_conditions.specs.declared.place.PlaceStep.{PlaceStep}
+use Rattle.litmus_conditions.specs.declared.place.PlaceStep.TheVariants as place_steps
+use Rattle.litmus_conditions.specs.Grammar.{limits}
+use Rattle.litmus_conditions.specs.PlaceMachine.{place_step, place_of, is_there}
+use Rattle.litmus_conditions.specs.ConditionMachine as condition
+use Rattle.litmus_table.specs.Machine as table
+use Rattle.litmus_grammar.specs.declared.parts.TextKind.{TextKind}
+use Rattle.litmus_grammar.specs.declared.parts.TextKind.TheVariants as kinds
+use Rattle.litmus_grammar.specs.declared.parts.ItemHole.{ItemHole}
+use Rattle.litmus_grammar.specs.declared.parts.ItemHole.TheVariants as items
+use Rattle.litmus_grammar.specs.declared.parts.InitHole.{InitHole}
+use Rattle.litmus_grammar.specs.declared.parts.InitHole.TheVariants as init_holes
+use Rattle.litmus_grammar.specs.declared.parts.InitStep.{InitStep}
+use Rattle.litmus_grammar.specs.declared.parts.InitStep.TheVariants as init_steps
+use Rattle.litmus_grammar.specs.InitMachine as init
+
+-- where in a text the reader stands
+pub data Part : Type 0 where
+  Magic : Part
+  Title : Part
+  TitleEnd : Part
+  Head : (may_have_text : Bool) → Part
+  Init : (hole : InitHole) → Part
+  WantsColumn : Part
+  HasColumn : Part
+  Rows : Part
+  Cells : Part
+  WantsList : Part
+  Item : (hole : ItemHole) → Part
+  WantsQuantifier : Part
+  AfterTilde : Part
+  Proposition : (quantifier : Quantifier) (frames : List condition.Frame) (used : ℕ) (hole : condition.Hole) → Part
+  ListOrEnd : Part
+  WantsEnd : Part
+  Done : Part
+
+-- what was read so far
+pub record Held : Type 0 where
+  pub name : List ℕ
+  pub init : init.Block
+  pub table : table.State
+  pub observed : List Place
+  pub quantifier : Quantifier
+  pub formula : Formula
+
+pub record Next : Type 0 where
+  pub part : Part
+  pub held : Held
+
+-- ---- what was read, and more
+
+abbrev pub with_name : Held → List ℕ → Held
+with_name h n = record { name = n; init = h.init; table = h.table; observed = h.observed; quantifier = h.quantifier; formula = h.formula }
+
+abbrev pub with_init : Held → init.Block → Held
+with_init h b = record { name = h.name; init = b; table = h.table; observed = h.observed; quantifier = h.quantifier; formula = h.formula }
+
+abbrev pub with_table : Held → table.State → Held
+with_table h t = record { name = h.name; init = h.init; table = t; observed = h.observed; quantifier = h.quantifier; formula = h.formula }
+
+abbrev pub with_place : Held → Place → Held
+with_place h p = record { name = h.name; init = h.init; table = h.table; observed = h.observed ++ p ∷ []; quantifier = h.quantifier; formula = h.formula }
+
+abbrev pub with_condition : Held → Quantifier → Formula → Held
+with_condition h q a = record { name = h.name; init = h.init; table = h.table; observed = h.observed; quantifier = q; formula = a }
+
+abbrev pub at : Held → Part → Option Next
+at h p = Some (record { part = p; held = h })
+
+abbrev pub leads : Held → Option Part → Option Next
+leads h (Some p) = at h p
+leads h None = None
+
+-- ---- tokens that are looked at alone
+
+abbrev pub is_end : Token → Bool
+is_end tokens.End = true
+is_end t = false
+
+abbrev pub is_word : Token → Bool
+is_word (tokens.Word w) = true
+is_word t = false
+
+abbrev pub is_filter_word : Token → Bool
+is_filter_word (tokens.Word w) = is_filter w
+is_filter_word t = false
+
+abbrev pub is_list_word : Token → Bool
+is_list_word (tokens.Word w) = bytes_eq w (codes "locations")
+is_list_word t = false
+
+-- whether the token begins what stands behind the table
+abbrev pub begins_tail : Token → Bool
+begins_tail (tokens.Word w) = ends_table w
+begins_tail (tokens.Mark marks.Tilde) = true
+begins_tail t = false
+
+-- ---- before the init block
+
+abbrev pub magic_read : Token → Option Part
+magic_read (tokens.Word w) = if bytes_eq w (codes "PPC") then Some Title else None
+magic_read t = None
+
+abbrev pub title_read : Held → Token → Option Next
+title_read h (tokens.Word w) = if is_test_name w then at (with_name h w) TitleEnd else None
+title_read h t = None
+
+abbrev pub title_ended : Token → Option Part
+title_ended tokens.LineEnd = Some (Head true)
+title_ended t = None
+
+abbrev pub head_read : Bool → Token → Option Part
+head_read may_have_text tokens.Text = if may_have_text then Some (Head false) else None
+head_read may_have_text tokens.Keyline = Some (Head false)
+head_read may_have_text (tokens.Mark marks.OpenBrace) = Some (Init init_holes.WantsEntry)
+head_read may_have_text t = None
+
+-- ---- the init block
+
+abbrev pub after_init : TextKind → Part
+after_init kinds.Init = WantsEnd
+after_init kind = WantsColumn
+
+abbrev pub init_part : TextKind → InitStep → Part
+init_part kind (init_steps.Goes hole) = Init hole
+init_part kind init_steps.Ends = after_init kind
+
+abbrev pub init_went : TextKind → Held → Option init.Did → Option Next
+init_went kind h (Some d) = at (with_init h d.block) (init_part kind d.step)
+init_went kind h None = None
+
+-- ---- the table
+
+abbrev pub table_went : Held → Part → Option table.State → Option Next
+table_went h p (Some t) = at (with_table h t) p
+table_went h p None = None
+
+abbrev pub column_ended : Token → Option Part
+column_ended (tokens.Mark marks.Bar) = Some WantsColumn
+column_ended (tokens.Mark marks.Semicolon) = Some Rows
+column_ended t = None
+
+-- ---- the condition
+
+abbrev pub proposition : Quantifier → Part
+proposition q = Proposition q [] 0 condition.Wants
+
+abbrev pub word_quantifier : List ℕ → Option Part
+word_quantifier w =
+    if bytes_eq w (codes "exists") then Some (proposition Exists) else (
+    if bytes_eq w (codes "forall") then Some (proposition Forall) else None)
+
+abbrev pub quantifier_read : Token → Option Part
+quantifier_read (tokens.Mark marks.Tilde) = Some AfterTilde
+quantifier_read (tokens.Word w) = word_quantifier w
+quantifier_read t = None
+
+-- behind the tilde of `~exists`
+abbrev pub exists_read : Token → Option Part
+exists_read (tokens.Word w) = if bytes_eq w (codes "exists") then Some (proposition NotExists) else None
+exists_read t = None
+
+abbrev pub fed : Held → Quantifier → condition.Fed → Option Next
+fed h q (condition.Goes fs used hole) = at h (Proposition q fs used hole)
+fed h q (condition.Ends a) = at (with_condition h q a) Done
+fed h q condition.Refuses = None
+
+-- ---- the list of places
+
+abbrev pub list_opened : Token → Option Part
+list_opened (tokens.Mark marks.OpenBracket) = Some (Item items.WantsFirst)
+list_opened t = None
+
+abbrev pub after_list : TextKind → Part
+after_list kinds.Locations = WantsEnd
+after_list kind = WantsQuantifier
+
+abbrev pub item_went : Held → Option PlaceStep → Option Next
+item_went h (Some (place_steps.Goes hole)) = at h (Item (items.Within hole))
+item_went h (Some (place_steps.Ends written)) = at (with_place h (place_of written)) (Item items.HasItem)
+item_went h None = None
+
+abbrev pub item_begun : ℕ → Held → Token → Option Next
+item_begun threads h t = if is_there threads t then item_went h (place_step place_holes.Begins t) else None
+
+abbrev pub next_item : TextKind → ℕ → Held → Token → Option Next
+next_item kind threads h (tokens.Mark marks.CloseBracket) = at h (after_list kind)
+next_item kind threads h t = item_begun threads h t
+
+abbrev pub item_ended : TextKind → Token → Option Part
+item_ended kind (tokens.Mark marks.Semicolon) = Some (Item items.WantsNext)
+item_ended kind (tokens.Mark marks.CloseBracket) = Some (after_list kind)
+item_ended kind t = None
+
+abbrev pub item_read : TextKind → ℕ → Held → ItemHole → Token → Option Next
+item_read kind threads h items.WantsFirst t = item_begun threads h t
+item_read kind threads h items.WantsNext t = next_item kind threads h t
+item_read kind threads h (items.Within hole) t = item_went h (place_step hole t)
+item_read kind threads h items.HasItem t = leads h (item_ended kind t)
+
+-- behind the table
+abbrev pub tail_begun : Token → Option Part
+tail_begun t = if is_list_word t then Some WantsList else quantifier_read t
+
+abbrev pub end_read : Token → Option Part
+end_read tokens.End = Some Done
+end_read t = None
+
+-- where the text of a list of places begins, or ends
+abbrev pub list_begun : Token → Option Part
+list_begun t = if is_list_word t then Some WantsList else end_read t
+
+-- ---- all parts
+
+-- a token in a row, or behind the rows
+abbrev pub row_read : Held → Token → ℕ → Option Next
+row_read h t place =
+    if table.is_row_start h.table && begins_tail t then leads h (tail_begun t) else table_went h Rows (table.step h.table t place)
+
+-- a token in the text of a thread, which ends where a cell may
+abbrev pub cell_read : Held → Token → ℕ → Option Next
+cell_read h t place =
+    if table.can_end h.table.hole && is_end t then at h Done else table_went h Cells (table.step h.table t place)
+
+-- how many threads there are: behind the table of a test those of the table
+abbrev pub threads_in : TextKind → ℕ → Held → ℕ
+threads_in kinds.Test given h = length h.table.threads
+threads_in kind given h = given
+
+-- a token that stands at this byte
+abbrev pub part_step : TextKind → ℕ → Held → Part → Token → ℕ → Option Next
+part_step kind given h Magic t place = leads h (magic_read t)
+part_step kind given h Title t place = title_read h t
+part_step kind given h TitleEnd t place = leads h (title_ended t)
+part_step kind given h (Head may_have_text) t place = leads h (head_read may_have_text t)
+part_step kind given h (Init hole) t place = init_went kind h (init.step h.init hole t place)
+part_step kind given h WantsColumn t place = table_went h HasColumn (table.named h.table t)
+part_step kind given h HasColumn t place = leads h (column_ended t)
+part_step kind given h Rows t place = row_read h t place
+part_step kind given h Cells t place = cell_read h t place
+part_step kind given h WantsList t place = leads h (list_opened t)
+part_step kind given h (Item hole) t place = item_read kind (threads_in kind given h) h hole t
+part_step kind given h WantsQuantifier t place = leads h (quantifier_read t)
+part_step kind given h AfterTilde t place = leads h (exists_read t)
+part_step kind given h (Proposition q fs used hole) t place =
+    fed h q (condition.feed limits (threads_in kind given h) fs used hole t)
+part_step kind given h ListOrEnd t place = leads h (list_begun t)
+part_step kind given h WantsEnd t place = leads h (end_read t)
+part_step kind given h Done t place = None
+
+-- ---- the rule that a refused token breaks
+
+abbrev pub is_thread : TextKind → Bool
+is_thread kinds.Thread = true
+is_thread kind = false
+
+abbrev pub stage_rule : TextKind → table.State → Stage → Token → LitmusRule
+stage_rule kind rows stages.CellBegins t = table.rule_at (is_thread kind) rows t
+stage_rule kind rows stages.InCell t = table.rule_at (is_thread kind) rows t
+stage_rule kind rows (stages.Init alone true) t = if is_word t then rules.TypedDeclaration else rules.Init
+stage_rule kind rows stages.Tail t = if is_filter_word t then rules.Filter else rules.Condition
+stage_rule kind rows s t = rule_of s
+
+abbrev pub rule_at : TextKind → table.State → Stage → Token → LitmusRule
+rule_at kind rows s (tokens.Broken rule) = rule
+rule_at kind rows s t = stage_rule kind rows s t
+
+-- ---- a whole text
+
+pub record State : Type 0 where
+  pub kind : TextKind
+  pub threads : ℕ
+  pub stage : Stage
+  pub part : Part
+  pub held : Held
+
+abbrev pub stepped : State → Token → Option Next → Result State LitmusRule
+stepped s t (Some n) = Ok (record { kind = s.kind; threads = s.threads; stage = after s.stage t; part = n.part; held = n.held })
+stepped s t None = Err (rule_at s.kind s.held.table s.stage t)
+
+abbrev pub step : State → Token → ℕ → Result State LitmusRule
+step s t place = stepped s t (part_step s.kind s.threads s.held s.part t place)
+
+abbrev pub first_stage : TextKind → Stage
+first_stage kinds.Test = stages.Magic
+first_stage kinds.Thread = stages.CellBegins
+first_stage kinds.Init = stages.Init true false
+first_stage kinds.Condition = stages.Tail
+first_stage kinds.Locations = stages.Tail
+
+abbrev pub first_part : TextKind → Part
+first_part kinds.Test = Magic
+first_part kinds.Thread = Cells
+first_part kinds.Init = Init init_holes.WantsOpen
+first_part kinds.Condition = WantsQuantifier
+first_part kinds.Locations = ListOrEnd
+
+-- the text of a thread alone is a table of one column without a header
+abbrev pub first_table : TextKind → table.State
+first_table kinds.Thread = table.widened table.start
+first_table kind = table.start
+
+abbrev pub nothing : TextKind → Held
+nothing kind = record { name = []; init = init.start; table = first_table kind; observed = []; quantifier = Exists; formula = Constant true }
+
+abbrev pub start : TextKind → ℕ → State
+start kind threads = record { kind = kind; threads = threads; stage = first_stage kind; part = first_part kind; held = nothing kind }
+
+abbrev pub Ran : Type 0
+Ran = Result State (LitmusRule × ℕ)
+
+abbrev pub placed : ℕ → Result State LitmusRule → Ran
+placed place (Ok s) = Ok s
+placed place (Err r) = Err (r, place)
+
+abbrev pub and_then : Ran → (State → Ran) → Ran
+and_then (Ok s) f = f s
+and_then (Err e) f = Err e
+
+-- the tokens one after another, with the place of the first that is refused
+abbrev pub run : State → List Placed → Ran
+run s [] = Ok s
+run s (p ∷ ps) = and_then (placed p.place (step s p.token p.place)) (λ s'. run s' ps)

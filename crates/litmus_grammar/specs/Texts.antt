@@ -1,0 +1,139 @@
+-- What bytes mean: the text of a test, or of a part of one.
+use Rattle.std.specs.Prelude.{◌≡◌, ℕ, ◌+◌, ◌<◌, ◌≤◌, List, [], ◌∷◌, ◌++◌, map, length, Bool, true, false, nat_lt, Option, Some, None, if◌then◌else◌}
+use Rattle.litmus_tokens.specs.declared.rule.LitmusRule.{LitmusRule}
+use Rattle.litmus_tokens.specs.declared.rule.LitmusRule.TheVariants as rules
+use Rattle.litmus_tokens.specs.declared.stage.Stage.{Stage}
+use Rattle.litmus_tokens.specs.declared.stage.Stage.TheVariants.{Magic, Init, CellBegins, Tail}
+use Rattle.litmus_tokens.specs.declared.token.Token.{Token}
+use Rattle.litmus_tokens.specs.declared.token.Token.TheVariants as tokens
+use Rattle.litmus_tokens.specs.declared.token.Mark.TheVariants.{OpenBrace, OpenBracket, Colon, Semicolon}
+use Rattle.litmus_tokens.specs.Words.{decimal}
+use Rattle.litmus_tokens.specs.Texts.{tokens_of, stage_after, lexed, StandsAt}
+use Rattle.litmus_tokens.specs.Faults.{CanFollow, IsFault}
+use Rattle.litmus_values.specs.declared.test.Place.{Place}
+use Rattle.litmus_values.specs.declared.test.InitEntry.{InitEntry}
+use Rattle.litmus_values.specs.declared.test.Step.{Step}
+use Rattle.litmus_values.specs.declared.test.Quantifier.{Quantifier}
+use Rattle.litmus_values.specs.Value.{Content, Formula}
+use Rattle.litmus_conditions.specs.Grammar.{PlaceTree, Location, Register, limits, place_meaning, meaning, IsConditionText}
+use Rattle.litmus_table.specs.Grammar.{spelled_header, thread_meaning}
+use Rattle.litmus_table.specs.Late.{Late, or_else, late_notes, late_columns, thread_notes}
+use Rattle.litmus_grammar.specs.Grammar.{EntryTree, spelled_entry, spelled_init, spelled_head, members, entry_meaning, TestTree, test_meaning, IsTestText, IsInitText, IsThreadText, IsLocationsText}
+
+abbrev pub most_bytes : ℕ
+most_bytes = 65536
+
+-- ---- what the later checks find in a text that is one
+
+-- an entry for a thread that is not there
+abbrev pub is_there : ℕ → PlaceTree → Bool
+is_there threads (Location b n) = true
+is_there threads (Register t r) = nat_lt (decimal t) threads
+
+abbrev pub late_entries : ℕ → List Token → List EntryTree → Option Late
+late_entries threads before [] = None
+late_entries threads before (e ∷ es) =
+    if is_there threads e.place
+    then late_entries threads (before ++ spelled_entry e (tokens.Mark Semicolon ∷ [])) es
+    else Some (record { rule = rules.Init; before = before })
+
+abbrev pub before_entries : TestTree → List Token
+before_entries t = spelled_head t (tokens.Mark OpenBrace ∷ [])
+
+abbrev pub before_rows : TestTree → List Token
+before_rows t = spelled_head t (spelled_init t.init (spelled_header t.others []))
+
+-- a missing thread, then thread by thread
+abbrev pub late_test : TestTree → Option Late
+late_test t =
+    or_else (late_entries (t.others + 1) (before_entries t) (members t.init)) (late_columns 0 (t.others + 1) (before_rows t) t.rows)
+
+abbrev pub late_of_test : (ts : List Token) → IsTestText limits ts → Option Late
+late_of_test ts t = late_test t.tree
+
+abbrev pub late_of_init : ℕ → (ts : List Token) → IsInitText ts → Option Late
+late_of_init threads ts t = late_entries threads (tokens.Mark OpenBrace ∷ []) (members t.entries)
+
+-- Where the fault of an init block is looked for, its text may break off behind the number of a thread, or its colon, which
+-- stand where an entry may begin: so a register that repeats is at fault itself, also where each register of its thread
+-- was named.
+abbrev pub spelled_colon : Bool → List Token
+spelled_colon true = tokens.Mark Colon ∷ []
+spelled_colon false = []
+
+abbrev pub is_init : Stage → Bool
+is_init (Init alone after_word) = true
+is_init s = false
+
+pub record IsBrokenOff (IsText : List Token → Type 0) (start : Stage) (ts : List Token) : Type 0 where
+  pub before : List Token
+  pub in_init : is_init (stage_after start before) ≡ true
+  pub entry : CanFollow IsText before (tokens.Mark OpenBracket)
+  pub thread : List ℕ
+  pub colon : Bool
+  pub whole : ts ≡ before ++ tokens.Number false thread ∷ spelled_colon colon
+
+pub data IsStart (IsText : List Token → Type 0) (start : Stage) (ts : List Token) : Type 0 where
+  IsWhole : IsText ts → IsStart IsText start ts
+  BreaksOff : IsBrokenOff IsText start ts → IsStart IsText start ts
+
+abbrev pub late_of_start : {IsText : List Token → Type 0} {start : Stage} → ((ts : List Token) → IsText ts → Option Late) → (ts : List Token) → IsStart IsText start ts → Option Late
+late_of_start late ts (IsWhole t) = late ts t
+late_of_start late ts (BreaksOff b) = None
+
+abbrev pub late_of_thread : (ts : List Token) → IsThreadText ts → Option Late
+late_of_thread ts t = late_notes [] (thread_notes [] (t.tree.first ∷ t.tree.others))
+
+-- ---- reading
+
+-- these bytes are a text, read from this part on, that the later checks pass and that has this value
+pub record Reads {V : Type 0} (IsText : List Token → Type 0) (start : Stage) (late : (ts : List Token) → IsText ts → Option Late) (value : (ts : List Token) → IsText ts → V) (bytes : List ℕ) (v : V) : Type 0 where
+  pub short : length bytes ≤ most_bytes
+  pub text : IsText (tokens_of (lexed start bytes))
+  pub in_time : late (tokens_of (lexed start bytes)) text ≡ None
+  pub meant : value (tokens_of (lexed start bytes)) text ≡ v
+
+pub record IsLateFault (IsText : List Token → Type 0) (start : Stage) (late : (ts : List Token) → IsText ts → Option Late) (bytes : List ℕ) (rule : LitmusRule) (place : ℕ) : Type 0 where
+  pub text : IsText (tokens_of (lexed start bytes))
+  pub found : Late
+  pub is_found : late (tokens_of (lexed start bytes)) text ≡ Some found
+  pub rule_is : found.rule ≡ rule
+  pub stands : StandsAt (lexed start bytes) found.before place
+
+-- the fault of bytes: too long, else where they stop to begin a text, else the first of the later checks
+pub data IsFaultAt (IsText : List Token → Type 0) (start : Stage) (late : (ts : List Token) → IsText ts → Option Late) (bytes : List ℕ) (rule : LitmusRule) (place : ℕ) : Type 0 where
+  IsTooLong : most_bytes < length bytes → rule ≡ rules.TooLong → place ≡ most_bytes → IsFaultAt IsText start late bytes rule place
+  IsGrammar : length bytes ≤ most_bytes → IsFault IsText start (lexed start bytes) rule place → IsFaultAt IsText start late bytes rule place
+  IsLater : length bytes ≤ most_bytes → IsLateFault IsText start late bytes rule place → IsFaultAt IsText start late bytes rule place
+
+-- ---- the five readers
+
+abbrev pub ReadsTest : List ℕ → Content → Type 0
+ReadsTest bytes v = Reads (IsTestText limits) Magic late_of_test (λ ts t. test_meaning t.tree) bytes v
+
+abbrev pub IsTestFault : List ℕ → LitmusRule → ℕ → Type 0
+IsTestFault bytes rule place = IsFaultAt (IsStart (IsTestText limits) Magic) Magic (late_of_start late_of_test) bytes rule place
+
+abbrev pub ReadsInit : ℕ → List ℕ → List InitEntry → Type 0
+ReadsInit threads bytes v = Reads IsInitText (Init true false) (late_of_init threads) (λ ts t. map entry_meaning (members t.entries)) bytes v
+
+abbrev pub IsInitFault : ℕ → List ℕ → LitmusRule → ℕ → Type 0
+IsInitFault threads bytes rule place = IsFaultAt (IsStart IsInitText (Init true false)) (Init true false) (late_of_start (late_of_init threads)) bytes rule place
+
+abbrev pub ReadsThread : List ℕ → List Step → Type 0
+ReadsThread bytes v = Reads IsThreadText CellBegins late_of_thread (λ ts t. thread_meaning t.tree) bytes v
+
+abbrev pub IsThreadFault : List ℕ → LitmusRule → ℕ → Type 0
+IsThreadFault bytes rule place = IsFaultAt IsThreadText CellBegins late_of_thread bytes rule place
+
+abbrev pub ReadsCondition : ℕ → List ℕ → Quantifier × Formula → Type 0
+ReadsCondition threads bytes v = Reads (IsConditionText limits threads) Tail (λ ts t. None) (λ ts t. (t.quantifier, meaning t.condition)) bytes v
+
+abbrev pub IsConditionFault : ℕ → List ℕ → LitmusRule → ℕ → Type 0
+IsConditionFault threads bytes rule place = IsFaultAt (IsConditionText limits threads) Tail (λ ts t. None) bytes rule place
+
+abbrev pub ReadsLocations : ℕ → List ℕ → List Place → Type 0
+ReadsLocations threads bytes v = Reads (IsLocationsText threads) Tail (λ ts t. None) (λ ts t. map place_meaning (members t.items)) bytes v
+
+abbrev pub IsLocationsFault : ℕ → List ℕ → LitmusRule → ℕ → Type 0
+IsLocationsFault threads bytes rule place = IsFaultAt (IsLocationsText threads) Tail (λ ts t. None) bytes rule place

@@ -1,0 +1,26 @@
+-- What the reader holds of the init block, as the machine sees it.
+use Rattle.std.specs.Prelude.{◌≡◌, ℕ, List, map, Option, Some, Result, Ok, Err}
+use Rattle.std.specs.declared.vec.Vec.{Vec}
+use Rattle.std.specs.declared.alloc.Global.{Global}
+use Rattle.std.specs.BTreeSet.{keys}
+use Rattle.litmus_conditions.specs.declared.step.StepError.{StepError}
+use Rattle.litmus_table.specs.Reading.{Refuses}
+use Rattle.litmus_parts.specs.declared.init.InitBlock.{InitBlock}
+use Rattle.litmus_grammar.specs.declared.parts.InitStep.{InitStep}
+use Rattle.litmus_grammar.specs.InitMachine as machine
+
+abbrev pub bytes_of : Vec ℕ Global → List ℕ
+bytes_of v = v.items
+
+abbrev pub block_of : InitBlock → machine.Block
+block_of b = record { entries = b.entries.items; starts = b.starts.items; named = map bytes_of (keys b.named) }
+
+-- What a function returned is what the machine does, unless memory ran out: the block with a place more,
+abbrev pub Adds : Result (Unit {0}) StepError → InitBlock → Option machine.Block → Type 0
+Adds (Ok u) b made = made ≡ Some (block_of b)
+Adds (Err e) b made = Refuses e made
+
+-- and what a token did.
+abbrev pub Steps : Result InitStep StepError → InitBlock → Option machine.Did → Type 0
+Steps (Ok s) b made = made ≡ Some (record { step = s; block = block_of b })
+Steps (Err e) b made = Refuses e made

@@ -1,0 +1,2 @@
+pub mod InitReading
+pub mod PartReading

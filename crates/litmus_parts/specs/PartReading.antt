@@ -1,0 +1,32 @@
+-- Where in a text the reader stands, as the machine sees it.
+use Rattle.std.specs.Prelude.{◌≡◌, Option, Some, Result, Ok, Err}
+use Rattle.litmus_conditions.specs.declared.step.StepError.{StepError}
+use Rattle.litmus_conditions.specs.Reading as condition
+use Rattle.litmus_table.specs.Reading.{Refuses}
+use Rattle.litmus_grammar.specs.TextMachine as machine
+use Rattle.litmus_parts.specs.declared.parts.Part as code_part
+use Rattle.litmus_parts.specs.declared.parts.Part.TheVariants as parts
+
+abbrev pub part_of : code_part.Part → machine.Part
+part_of parts.Magic = machine.Magic
+part_of parts.Title = machine.Title
+part_of parts.TitleEnd = machine.TitleEnd
+part_of (parts.Head may_have_text) = machine.Head may_have_text
+part_of (parts.Init hole) = machine.Init hole
+part_of parts.WantsColumn = machine.WantsColumn
+part_of parts.HasColumn = machine.HasColumn
+part_of parts.Rows = machine.Rows
+part_of parts.Cells = machine.Cells
+part_of parts.WantsList = machine.WantsList
+part_of (parts.Item hole) = machine.Item hole
+part_of parts.WantsQuantifier = machine.WantsQuantifier
+part_of parts.AfterTilde = machine.AfterTilde
+part_of (parts.Proposition q frames used hole) = machine.Proposition q (condition.stack_of frames.items) used (condition.hole_of hole)
+part_of parts.ListOrEnd = machine.ListOrEnd
+part_of parts.WantsEnd = machine.WantsEnd
+part_of parts.Done = machine.Done
+
+-- What a function returned is what the machine does, unless memory ran out.
+abbrev pub Leads : Result code_part.Part StepError → Option machine.Part → Type 0
+Leads (Ok p) made = made ≡ Some (part_of p)
+Leads (Err e) made = Refuses e made

@@ -1,0 +1,194 @@
+//! Reads the block of initial values.
+
+ghost use Rattle.std.specs.Prelude.{◌≡◌, IfOk};
+ghost use Rattle.litmus_conditions.specs.PlaceMachine.{value_read};
+ghost use Rattle.litmus_grammar.specs.InitMachine.{start, location_key, register_key, added, added_if, token_key, word_key, open_read, entry_read, place_read, place_went, equals_read, with_entry, valued, behind, step, lacks_thread, missing};
+ghost use Rattle.litmus_parts.specs.InitReading.{block_of, Adds, Steps};
+
+use litmus_conditions::{PlaceHole, PlaceStep, StepError, place_step, register_of, value_read};
+use litmus_grammar::{InitHole, InitStep};
+use litmus_tokens::{Mark, Token};
+use litmus_values::{InitEntry, Place, Register};
+use source_text::Name;
+use std::alloc::{AllocError, Global};
+use std::collections::BTreeSet;
+
+/// The entries read so far.
+#[derive(Drop)]
+pub struct InitBlock {
+    alloc: Global,
+    entries: Vec<InitEntry>,
+    // The byte that each entry begins at.
+    starts: Vec<usize>,
+    // The key of each place that was named.
+    named: BTreeSet<Vec<u8>>,
+}
+
+// The key of a location.
+fn location_key(alloc: Global, name: &Name) -> Result<Vec<u8>, AllocError>
+    ensures { IfOk result (λ v. v.items ≡ location_key name.now) }
+{
+    let mut key = Vec::new(alloc);
+    key.push(0)?;
+    key.extend_from_slice(name.as_bytes())?;
+    Ok(key)
+}
+
+// The key of a register of the thread of these digits, whose number may be of any size.
+fn register_key(alloc: Global, thread: &Name, register: Register) -> Result<Vec<u8>, AllocError>
+    ensures { IfOk result (λ v. v.items ≡ register_key thread.now register) }
+{
+    let mut key = Vec::new(alloc);
+    key.push(1)?;
+    key.push(register.number())?;
+    key.extend_from_slice(thread.as_bytes())?;
+    Ok(key)
+}
+
+// Whether the place is a register of a thread that is not one of so many.
+fn lacks_thread(threads: usize, place: &Place) -> bool
+    ensures { result ≡ lacks_thread threads place.now }
+{
+    match place {
+        Place::Location(_) => false,
+        Place::Register(thread, _) => threads <= *thread,
+    }
+}
+
+impl InitBlock {
+    /// Nothing yet of a block.
+    pub fn new(alloc: Global) -> InitBlock
+        ensures { block_of result ≡ start }
+    {
+        InitBlock {
+            alloc,
+            entries: Vec::new(alloc),
+            starts: Vec::new(alloc),
+            named: BTreeSet::new(alloc),
+        }
+    }
+
+    /// Takes a token that stands at this byte. After an `Err` the block takes no more.
+    pub fn step(
+        &mut self,
+        hole: InitHole,
+        token: Token,
+        place: usize,
+    ) -> Result<InitStep, StepError>
+        // It does what the machine does.
+        ensures { Steps result self.new (step (block_of self.old) hole token place) }
+    {
+        match hole {
+            InitHole::WantsOpen => match token {
+                Token::Mark(Mark::OpenBrace) => Ok(InitStep::Goes(InitHole::WantsEntry)),
+                _ => Err(StepError::Refused),
+            },
+            InitHole::WantsEntry => self.entry_read(token, place),
+            InitHole::InPlace(within) => self.place_read(within, token),
+            InitHole::WantsEquals(target) => match token {
+                Token::Mark(Mark::Equals) => Ok(InitStep::Goes(InitHole::WantsValue(target))),
+                _ => Err(StepError::Refused),
+            },
+            InitHole::WantsValue(target) => self.value_read(target, token),
+            InitHole::HasEntry => match token {
+                Token::Mark(Mark::Semicolon) => Ok(InitStep::Goes(InitHole::WantsEntry)),
+                Token::Mark(Mark::CloseBrace) => Ok(InitStep::Ends),
+                _ => Err(StepError::Refused),
+            },
+        }
+    }
+
+    // A token where an entry may begin.
+    fn entry_read(&mut self, token: Token, place: usize) -> Result<InitStep, StepError>
+        ensures { Steps result self.new (entry_read (block_of self.old) token place) }
+    {
+        match token {
+            Token::Mark(Mark::CloseBrace) => Ok(InitStep::Ends),
+            other => {
+                self.starts.push(place)?;
+                self.place_read(PlaceHole::Begins, other)
+            }
+        }
+    }
+
+    // A token of a place that no entry before has.
+    fn place_read(&mut self, within: PlaceHole, token: Token) -> Result<InitStep, StepError>
+        ensures { Steps result self.new (place_read (block_of self.old) within token) }
+    {
+        self.note(&within, &token)?;
+        match place_step(within, token)? {
+            PlaceStep::Goes(hole) => Ok(InitStep::Goes(InitHole::InPlace(hole))),
+            PlaceStep::Ends(written) => {
+                Ok(InitStep::Goes(InitHole::WantsEquals(written.into_place())))
+            }
+        }
+    }
+
+    // A value of this place.
+    fn value_read(&mut self, place: Place, token: Token) -> Result<InitStep, StepError>
+        ensures { Steps result self.new (valued (block_of self.old) place (value_read token)) }
+    {
+        let value = value_read(token)?;
+        self.entries.push(InitEntry { place, value })?;
+        Ok(InitStep::Goes(InitHole::HasEntry))
+    }
+
+    // Notes the place that a token names, if it names one, and refuses one that repeats.
+    fn note(&mut self, within: &PlaceHole, token: &Token) -> Result<(), StepError>
+        ensures { Adds result self.new (added_if (block_of self.old) (token_key within.now token.now)) }
+    {
+        match token {
+            Token::Word(word) => self.note_word(within, word),
+            _ => Ok(()),
+        }
+    }
+
+    // Notes the place that a word names, if it names one.
+    fn note_word(&mut self, within: &PlaceHole, word: &Name) -> Result<(), StepError>
+        ensures { Adds result self.new (added_if (block_of self.old) (word_key within.now word.now)) }
+    {
+        match within {
+            PlaceHole::Begins => self.add(location_key(self.alloc, word)?),
+            PlaceHole::WantsName => self.add(location_key(self.alloc, word)?),
+            PlaceHole::WantsBracket(_) => Ok(()),
+            PlaceHole::WantsColon(_) => Ok(()),
+            PlaceHole::WantsRegister(thread) => match register_of(word.as_bytes()) {
+                Some(register) => self.add(register_key(self.alloc, thread, register)?),
+                None => Ok(()),
+            },
+        }
+    }
+
+    // Adds the key of a place, and refuses one that is there.
+    fn add(&mut self, key: Vec<u8>) -> Result<(), StepError>
+        ensures { Adds result self.new (added (block_of self.old) key.items) }
+    {
+        if self.named.insert(key)? {
+            Ok(())
+        } else {
+            Err(StepError::Refused)
+        }
+    }
+
+    /// The byte that the first entry begins at whose thread is not one of so many.
+    pub fn missing(&self, threads: usize) -> Option<usize>
+        ensures { result ≡ missing threads (block_of self.now).entries (block_of self.now).starts }
+    {
+        for (i, entry) in self.entries.iter().enumerate() {
+            if lacks_thread(threads, &entry.place) {
+                if i < self.starts.len() {
+                    return Some(self.starts[i]);
+                }
+                return None;
+            }
+        }
+        None
+    }
+
+    /// The entries, in the order of the text.
+    pub fn into_entries(self) -> Vec<InitEntry>
+        ensures { result.items ≡ (block_of self).entries }
+    {
+        self.entries
+    }
+}

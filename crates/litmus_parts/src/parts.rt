@@ -1,0 +1,295 @@
+//! The parts of a text, and the tokens that lead from one to the next.
+
+ghost use Rattle.std.specs.Prelude.{◌≡◌};
+ghost use Rattle.litmus_tokens.specs.Texts.{ends_line};
+ghost use Rattle.litmus_grammar.specs.TextMachine.{is_end, is_word, is_filter_word, is_list_word, begins_tail, magic_read, title_ended, head_read, column_ended, word_quantifier, quantifier_read, exists_read, proposition, list_opened, item_ended, tail_begun, end_read, list_begun, init_part, after_init, after_list, first_part};
+ghost use Rattle.litmus_parts.specs.PartReading.{part_of, Leads};
+
+use litmus_conditions::{Frame, Hole, StepError};
+use litmus_grammar::{InitHole, InitStep, ItemHole, TextKind};
+use litmus_tokens::{Mark, Stage, Token, ends_table, is_filter};
+use litmus_values::Quantifier;
+use source_text::Name;
+use std::alloc::Global;
+
+/// Where in a text the reader stands.
+#[derive(Debug, Drop)]
+pub enum Part {
+    Magic,
+    Title,
+    TitleEnd,
+    /// Before the init block, and whether a text in quotes may still stand.
+    Head(bool),
+    Init(InitHole),
+    WantsColumn,
+    HasColumn,
+    Rows,
+    /// The cells of a thread that is a text of its own.
+    Cells,
+    /// Behind the word `locations`.
+    WantsList,
+    Item(ItemHole),
+    WantsQuantifier,
+    /// Behind the tilde of `~exists`.
+    AfterTilde,
+    /// What is open, how many operators were read, and what was read last.
+    Proposition(Quantifier, Vec<Frame>, usize, Hole),
+    /// The text of a list of places, which may be empty.
+    ListOrEnd,
+    WantsEnd,
+    Done,
+}
+
+impl Part {
+    /// Where the reader stands before a text of this kind.
+    pub fn first(kind: TextKind) -> Part
+        ensures { part_of result ≡ first_part kind }
+    {
+        match kind {
+            TextKind::Test => Part::Magic,
+            TextKind::Thread => Part::Cells,
+            TextKind::Init => Part::Init(InitHole::WantsOpen),
+            TextKind::Condition => Part::WantsQuantifier,
+            TextKind::Locations => Part::ListOrEnd,
+        }
+    }
+
+    /// Where a token in the init block of a text of this kind leads to.
+    pub fn after_init_step(kind: TextKind, step: InitStep) -> Part
+        ensures { part_of result ≡ init_part kind step }
+    {
+        match step {
+            InitStep::Goes(hole) => Part::Init(hole),
+            InitStep::Ends => Part::after_init(kind),
+        }
+    }
+
+    fn after_init(kind: TextKind) -> Part
+        ensures { part_of result ≡ after_init kind }
+    {
+        match kind {
+            TextKind::Init => Part::WantsEnd,
+            _ => Part::WantsColumn,
+        }
+    }
+
+    /// What follows the list of places in a text of this kind.
+    pub fn after_list(kind: TextKind) -> Part
+        ensures { part_of result ≡ after_list kind }
+    {
+        match kind {
+            TextKind::Locations => Part::WantsEnd,
+            _ => Part::WantsQuantifier,
+        }
+    }
+}
+
+/// Whether the token is a word.
+pub fn is_word(token: &Token) -> bool
+    ensures { result ≡ is_word token.now }
+{
+    match token {
+        Token::Word(_) => true,
+        _ => false,
+    }
+}
+
+/// Whether the token is `filter` or `final`.
+pub fn is_filter_word(token: &Token) -> bool
+    ensures { result ≡ is_filter_word token.now }
+{
+    match token {
+        Token::Word(word) => is_filter(word.as_bytes()),
+        _ => false,
+    }
+}
+
+/// Whether the token is the end of the text.
+pub fn is_end(token: &Token) -> bool
+    ensures { result ≡ is_end token.now }
+{
+    match token {
+        Token::End => true,
+        _ => false,
+    }
+}
+
+/// Whether the token is the end of the line that the test's name stands in.
+pub fn is_line_end(token: &Token) -> bool
+    ensures { result ≡ ends_line token.now }
+{
+    match token {
+        Token::LineEnd => true,
+        _ => false,
+    }
+}
+
+fn is_list_word(token: &Token) -> bool
+    ensures { result ≡ is_list_word token.now }
+{
+    match token {
+        Token::Word(word) => word.as_bytes() == b"locations".as_slice(),
+        _ => false,
+    }
+}
+
+/// Whether the token begins what stands behind the table.
+pub fn begins_tail(token: &Token) -> bool
+    ensures { result ≡ begins_tail token.now }
+{
+    match token {
+        Token::Word(word) => ends_table(word.as_bytes()),
+        Token::Mark(Mark::Tilde) => true,
+        _ => false,
+    }
+}
+
+/// The first word of a test.
+pub fn magic_read(token: &Token) -> Result<Part, StepError>
+    ensures { Leads result (magic_read token.now) }
+{
+    match token {
+        Token::Word(word) => {
+            if word.as_bytes() == b"PPC".as_slice() {
+                Ok(Part::Title)
+            } else {
+                Err(StepError::Refused)
+            }
+        }
+        _ => Err(StepError::Refused),
+    }
+}
+
+/// The end of the line that the test's name stands in.
+pub fn title_ended(token: &Token) -> Result<Part, StepError>
+    ensures { Leads result (title_ended token.now) }
+{
+    match token {
+        Token::LineEnd => Ok(Part::Head(true)),
+        _ => Err(StepError::Refused),
+    }
+}
+
+/// A token before the init block.
+pub fn head_read(may_have_text: bool, token: &Token) -> Result<Part, StepError>
+    ensures { Leads result (head_read may_have_text token.now) }
+{
+    match token {
+        Token::Text => {
+            if may_have_text {
+                Ok(Part::Head(false))
+            } else {
+                Err(StepError::Refused)
+            }
+        }
+        Token::Keyline => Ok(Part::Head(false)),
+        Token::Mark(Mark::OpenBrace) => Ok(Part::Init(InitHole::WantsEntry)),
+        _ => Err(StepError::Refused),
+    }
+}
+
+/// A token behind the name of a column.
+pub fn column_ended(token: &Token) -> Result<Part, StepError>
+    ensures { Leads result (column_ended token.now) }
+{
+    match token {
+        Token::Mark(Mark::Bar) => Ok(Part::WantsColumn),
+        Token::Mark(Mark::Semicolon) => Ok(Part::Rows),
+        _ => Err(StepError::Refused),
+    }
+}
+
+/// A token behind the word `locations`.
+pub fn list_opened(token: &Token) -> Result<Part, StepError>
+    ensures { Leads result (list_opened token.now) }
+{
+    match token {
+        Token::Mark(Mark::OpenBracket) => Ok(Part::Item(ItemHole::WantsFirst)),
+        _ => Err(StepError::Refused),
+    }
+}
+
+/// A token behind a place of the list.
+pub fn item_ended(kind: TextKind, token: &Token) -> Result<Part, StepError>
+    ensures { Leads result (item_ended kind token.now) }
+{
+    match token {
+        Token::Mark(Mark::Semicolon) => Ok(Part::Item(ItemHole::WantsNext)),
+        Token::Mark(Mark::CloseBracket) => Ok(Part::after_list(kind)),
+        _ => Err(StepError::Refused),
+    }
+}
+
+/// A token behind the table.
+pub fn tail_begun(alloc: Global, token: &Token) -> Result<Part, StepError>
+    ensures { Leads result (tail_begun token.now) }
+{
+    if is_list_word(token) {
+        return Ok(Part::WantsList);
+    }
+    quantifier_read(alloc, token)
+}
+
+/// A token where the text of a list of places begins, or ends.
+pub fn list_begun(token: &Token) -> Result<Part, StepError>
+    ensures { Leads result (list_begun token.now) }
+{
+    if is_list_word(token) {
+        return Ok(Part::WantsList);
+    }
+    end_read(token)
+}
+
+/// A token where the condition begins.
+pub fn quantifier_read(alloc: Global, token: &Token) -> Result<Part, StepError>
+    ensures { Leads result (quantifier_read token.now) }
+{
+    match token {
+        Token::Mark(Mark::Tilde) => Ok(Part::AfterTilde),
+        Token::Word(word) => word_quantifier(alloc, word),
+        _ => Err(StepError::Refused),
+    }
+}
+
+fn word_quantifier(alloc: Global, word: &Name) -> Result<Part, StepError>
+    ensures { Leads result (word_quantifier word.now) }
+{
+    if word.as_bytes() == b"exists".as_slice() {
+        return Ok(proposition(alloc, Quantifier::Exists));
+    }
+    if word.as_bytes() == b"forall".as_slice() {
+        return Ok(proposition(alloc, Quantifier::Forall));
+    }
+    Err(StepError::Refused)
+}
+
+/// A token behind the tilde of `~exists`.
+pub fn exists_read(alloc: Global, token: &Token) -> Result<Part, StepError>
+    ensures { Leads result (exists_read token.now) }
+{
+    match token {
+        Token::Word(word) => {
+            if word.as_bytes() == b"exists".as_slice() {
+                return Ok(proposition(alloc, Quantifier::NotExists));
+            }
+            Err(StepError::Refused)
+        }
+        _ => Err(StepError::Refused),
+    }
+}
+
+fn proposition(alloc: Global, quantifier: Quantifier) -> Part
+    ensures { part_of result ≡ proposition quantifier }
+{
+    Part::Proposition(quantifier, Vec::new(alloc), 0, Hole::Wants)
+}
+
+/// The end of the text.
+pub fn end_read(token: &Token) -> Result<Part, StepError>
+    ensures { Leads result (end_read token.now) }
+{
+    match token {
+        Token::End => Ok(Part::Done),
+        _ => Err(StepError::Refused),
+    }
+}

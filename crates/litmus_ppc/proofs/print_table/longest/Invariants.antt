@@ -1,8 +1,0 @@
-use Rattle.std.proofs.Common.{◌≡◌, drop}
-use Rattle.std.specs.Prelude.{map, max}
-use Rattle.litmus_values.specs.Value.{steps_of}
-use Rattle.litmus_ppc.specs.Printing.{longest}
-use Rattle.litmus_ppc.proofs.print_table.longest.Given as goal
-
-abbrev pub invariant-loop-thread : goal.invariant-loop-thread
-invariant-loop-thread l = max l.most (longest (map steps_of (drop l.thread-index l.threads))) ≡ longest (map steps_of l.threads)
