@@ -1,5 +1,5 @@
 -- The init block of a test, and what stands behind it.
-use Rattle.std.proofs.Common.{◌≡◌, ℕ, zero, suc, ◌+◌, ◌<◌, ◌≤◌, ◌⊎◌, inl, inr, Bool, true, false, List, [], ◌∷◌, ◌++◌, map, length, append_assoc, append-nil, Option, Some, None, Ok, refl, sym, ap, ◌∙◌, subst, arith}
+use Rattle.std.proofs.Common.{◌≡◌, ℕ, ◌+◌, ◌<◌, ◌⊎◌, inl, inr, Bool, true, false, List, [], ◌∷◌, ◌++◌, map, length, append_assoc, Option, Some, None, Ok, refl, sym, ap, ◌∙◌, subst, arith}
 use Rattle.std.proofs.lemmas.List.{length-append}
 use Rattle.litmus_tokens.specs.declared.stage.Stage.{Stage}
 use Rattle.litmus_tokens.specs.declared.stage.Stage.TheVariants as stages
@@ -10,14 +10,11 @@ use Rattle.litmus_tokens.specs.Stage.{after}
 use Rattle.litmus_tokens.specs.Texts.{Placed, tokens_of, stage_after, StandsAt}
 use Rattle.litmus_tokens.specs.Words.{column_name}
 use Rattle.litmus_tokens.specs.Faults.{Begins}
-use Rattle.litmus_values.specs.declared.test.InitEntry.{InitEntry}
-use Rattle.litmus_values.specs.declared.test.Place.{Place}
-use Rattle.litmus_conditions.specs.Grammar.{PlaceTree, Location, Register, place_meaning, meaning, spelled_place}
+use Rattle.litmus_conditions.specs.Grammar.{PlaceTree, Location, Register, place_meaning, meaning}
 use Rattle.litmus_table.specs.Grammar.{spelled_header, spelled_names, columns_meaning}
 use Rattle.litmus_table.specs.Late.{columns_notes}
 use Rattle.litmus_table.specs.Machine as table
 use Rattle.litmus_table.specs.Laws.{columns, steps_of, AreNoted}
-use Rattle.litmus_grammar.specs.declared.parts.InitHole.{InitHole}
 use Rattle.litmus_grammar.specs.declared.parts.InitHole.TheVariants as holes
 use Rattle.litmus_grammar.specs.declared.parts.InitStep.{InitStep}
 use Rattle.litmus_grammar.specs.declared.parts.InitStep.TheVariants as init_steps
@@ -27,15 +24,15 @@ use Rattle.litmus_grammar.specs.InitMachine as init
 use Rattle.litmus_grammar.specs.TextMachine as text
 use Rattle.litmus_grammar.specs.TextMachine.{Part, Held, Next, State, Ran, placed, and_then, stepped, part_step, nothing, start, run}
 use Rattle.litmus_grammar.specs.Texts.{IsStart, IsWhole, BreaksOff, IsBrokenOff}
-use Rattle.litmus_grammar.proofs.Bodies.{IsRows, IsName, IsHeader, header_at, header_begins, any_header, rows_at, name_step, names_led, rows_led}
+use Rattle.litmus_grammar.proofs.Bodies.{IsRows, IsName, header_at, header_begins, any_header, rows_at, name_step, names_led, rows_led}
 use Rattle.litmus_grammar.proofs.Ends.{ends_done}
 use Rattle.litmus_grammar.proofs.InitLeft.{init_whole}
 use Rattle.litmus_grammar.proofs.InitStarts.{init_reading}
 use Rattle.litmus_grammar.specs.Laws.{AreStarts, entry_kept}
 use Rattle.litmus_grammar.proofs.InitTaken.{init_taken}
-use Rattle.litmus_grammar.proofs.Passing.{test_at, text_at, Alike, Stays, Leaves, Ends, passes, ends}
+use Rattle.litmus_grammar.proofs.Passing.{test_at, text_at, Alike, Stays, Leaves, passes, ends}
 use Rattle.litmus_grammar.proofs.Runs.{tokens_of-append, run-append}
-use Rattle.litmus_grammar.proofs.Spelled.{init-append, entry-append, names-append}
+use Rattle.litmus_grammar.proofs.Spelled.{init-append, entry-append}
 use Rattle.litmus_grammar.proofs.Splits.{split, single, unsnoc, Rest, Nothing, More, rest_of, unsnoc_placed}
 use Rattle.litmus_grammar.proofs.Tails.{last_at, early, with_all, end_behind}
 

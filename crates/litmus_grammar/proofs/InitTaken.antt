@@ -7,10 +7,9 @@ use Rattle.litmus_tokens.specs.declared.token.Token.{Token}
 use Rattle.litmus_tokens.specs.declared.token.Token.TheVariants as tokens
 use Rattle.litmus_tokens.specs.declared.token.Mark.TheVariants as marks
 use Rattle.litmus_tokens.specs.Stage.{after}
-use Rattle.litmus_tokens.specs.Texts.{Placed, tokens_of, StandsAt}
+use Rattle.litmus_tokens.specs.Texts.{Placed, tokens_of}
 use Rattle.litmus_tokens.specs.Words.{signed, decimal, register_of, is_known, or_zero}
 use Rattle.litmus_values.specs.declared.test.Place.{Place}
-use Rattle.litmus_values.specs.declared.test.InitEntry.{InitEntry}
 use Rattle.litmus_conditions.specs.declared.place.PlaceHole.TheVariants as places
 use Rattle.litmus_conditions.specs.declared.place.WrittenPlace.{WrittenPlace}
 use Rattle.litmus_conditions.specs.declared.place.WrittenPlace.TheVariants as written

@@ -10,10 +10,9 @@ use Rattle.litmus_tokens.specs.declared.stage.Stage.TheVariants as stages
 use Rattle.litmus_tokens.specs.declared.token.Token.{Token}
 use Rattle.litmus_tokens.specs.declared.token.Token.TheVariants as tokens
 use Rattle.litmus_tokens.specs.declared.token.Mark as declared_mark
-use Rattle.litmus_tokens.specs.declared.token.Mark.TheVariants as marks
 use Rattle.litmus_tokens.specs.declared.lexer.Front.{Front}
 use Rattle.litmus_tokens.specs.declared.lexer.Front.TheVariants.{Layout, Lexeme}
-use Rattle.litmus_tokens.specs.Lexer.{front, is_not_ascii, begins_comment, is_equals, ends_word, ends_digits, gap_from, raw_from, raw_front, comment_front, quoted_front, line_front, word_front, label_front, number_front, minus_front, mark_of, mark_front, sign_front, plain_front, head_front, stage_front}
+use Rattle.litmus_tokens.specs.Lexer.{front, is_not_ascii, begins_comment, is_equals, ends_word, gap_from, raw_from, raw_front, comment_front, quoted_front, line_front, word_front, mark_of, mark_front, sign_front, plain_front, head_front, stage_front}
 use Rattle.litmus_tokens.specs.Stage.{after}
 use Rattle.litmus_tokens.specs.Texts.{Placed, tokens_of, ends_line, after_front, tokens_from, lexed}
 use Rattle.litmus_tokens.specs.Words.{is_letter, is_digit}

@@ -1,6 +1,6 @@
 -- What stands behind the table of a test.
-use Rattle.std.proofs.Common.{◌≡◌, ℕ, ◌+◌, ◌<◌, ◌⊎◌, inl, inr, Bool, true, false, List, [], ◌∷◌, ◌++◌, map, length, append_assoc, append-nil, Option, Some, None, Ok, refl, sym, ap, ◌∙◌, subst}
-use Rattle.std.specs.Prelude.{codes, ◌&&◌, nat_lt, if◌then◌else◌}
+use Rattle.std.proofs.Common.{◌≡◌, ℕ, ◌<◌, ◌⊎◌, inl, inr, Bool, true, false, List, [], ◌∷◌, ◌++◌, map, length, append_assoc, append-nil, Option, Some, None, Ok, refl, sym, ap, ◌∙◌, subst}
+use Rattle.std.specs.Prelude.{codes, ◌&&◌, if◌then◌else◌}
 use Rattle.std.specs.Str.{bytes_eq}
 use Rattle.std.proofs.lemmas.Slice.Eq.{bytes_eq-Decides}
 use Rattle.litmus_tokens.specs.declared.stage.Stage.{Stage}
@@ -22,7 +22,6 @@ use Rattle.litmus_conditions.specs.PlaceMachine.{place_step, is_there}
 use Rattle.litmus_conditions.specs.ConditionMachine as condition
 use Rattle.litmus_conditions.specs.Grammar.{limits, PlaceTree, FormulaTree, place_meaning, meaning, spelled, spelled_quantifier, IsFormula, IsConditionText}
 use Rattle.litmus_table.specs.Machine as table
-use Rattle.litmus_grammar.specs.declared.parts.ItemHole.{ItemHole}
 use Rattle.litmus_grammar.specs.declared.parts.ItemHole.TheVariants as items
 use Rattle.litmus_grammar.specs.declared.parts.TextKind.{TextKind}
 use Rattle.litmus_grammar.specs.declared.parts.TextKind.TheVariants as kinds
@@ -30,14 +29,14 @@ use Rattle.litmus_grammar.specs.Grammar.{Listed, members, spelled_items, spelled
 use Rattle.litmus_grammar.specs.InitMachine as init
 use Rattle.litmus_grammar.specs.TextMachine as text
 use Rattle.litmus_grammar.specs.TextMachine.{Part, Held, Next, State, Ran, placed, and_then, stepped, part_step, nothing, start, run}
-use Rattle.litmus_grammar.proofs.Conditions.{condition_whole, condition_taken, condition_reading}
+use Rattle.litmus_grammar.proofs.Conditions.{condition_taken, condition_reading}
 use Rattle.litmus_grammar.proofs.Ends.{ends_done}
 use Rattle.litmus_grammar.proofs.Lists.{list_whole}
 use Rattle.litmus_grammar.proofs.Listed.{list_taken, list_reading}
-use Rattle.litmus_grammar.proofs.Passing.{test_at, text_at, Alike, Stays, Leaves, Ends, passes, ends}
-use Rattle.litmus_grammar.proofs.Runs.{same_state, tokens_of-append, run-append, anywhere, tokens_of-anywhere}
+use Rattle.litmus_grammar.proofs.Passing.{test_at, text_at, Alike, Stays, Leaves, passes, ends}
+use Rattle.litmus_grammar.proofs.Runs.{tokens_of-append, run-append}
 use Rattle.litmus_grammar.proofs.Spelled.{items-append, condition-append}
-use Rattle.litmus_grammar.proofs.Splits.{Split, split, single, unsnoc, Rest, Nothing, More, rest_of, unsnoc_placed}
+use Rattle.litmus_grammar.proofs.Splits.{split, single, unsnoc, Rest, Nothing, More, rest_of, unsnoc_placed}
 
 abbrev pub last_at : ℕ → Placed
 last_at n = record { token = tokens.End; place = n }

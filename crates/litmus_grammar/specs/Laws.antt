@@ -2,7 +2,7 @@
 use Rattle.std.specs.Prelude.{◌≡◌, ℕ, ◌+◌, List, [], ◌∷◌, ◌++◌, map, Ok}
 use Rattle.litmus_tokens.specs.declared.token.Token.{Token}
 use Rattle.litmus_tokens.specs.declared.token.Token.TheVariants as tokens
-use Rattle.litmus_tokens.specs.declared.token.Mark.TheVariants.{OpenBrace, Semicolon}
+use Rattle.litmus_tokens.specs.declared.token.Mark.TheVariants.{Semicolon}
 use Rattle.litmus_tokens.specs.Texts.{Placed, StandsAt}
 use Rattle.litmus_values.specs.declared.test.InitEntry.{InitEntry}
 use Rattle.litmus_values.specs.declared.test.Place.{Place}

@@ -1,23 +1,18 @@
 -- What `read_test` answers is what the grammar and the later checks say.
-use Rattle.std.proofs.Common.{◌≡◌, ℕ, ◌+◌, ◌<◌, ◌≤◌, List, [], ◌∷◌, ◌++◌, map, length, Option, Some, None, Result, Ok, Err, refl, sym, ap, ◌∙◌, subst, arith, inl, inr, ◌⊎◌}
+use Rattle.std.proofs.Common.{◌≡◌, ℕ, ◌+◌, ◌<◌, ◌≤◌, List, map, length, Option, Some, None, Result, Ok, Err, refl, sym, ap, ◌∙◌, subst, arith, inl, inr, ◌⊎◌}
 use Rattle.std.proofs.lemmas.Bool.{cases_lt}
-use Rattle.litmus_tokens.specs.declared.rule.LitmusRule.{LitmusRule}
-use Rattle.litmus_tokens.specs.declared.token.Token.{Token}
 use Rattle.litmus_tokens.specs.Texts.{Placed, tokens_of, lexed}
 use Rattle.litmus_values.specs.declared.test.InitEntry.{InitEntry}
 use Rattle.litmus_values.specs.declared.test.Step.{Step}
 use Rattle.litmus_values.specs.Value.{Content}
 use Rattle.litmus_conditions.specs.Grammar.{limits, place_meaning, meaning}
-use Rattle.litmus_table.specs.Grammar.{columns_meaning}
 use Rattle.litmus_table.specs.Checks.{IsFoundAt}
 use Rattle.litmus_table.specs.Late.{Late, Note, or_else, first_late, columns_notes, late_columns}
 use Rattle.litmus_table.specs.Laws.{steps_of, AreNoted}
-use Rattle.litmus_table.specs.Machine as table
 use Rattle.litmus_ppc.specs.declared.fault.LitmusFault.{LitmusFault}
 use Rattle.litmus_ppc.specs.declared.fault.LitmusFault.TheVariants as faults
 use Rattle.litmus_grammar.specs.declared.parts.TextKind.TheVariants as kinds
-use Rattle.litmus_grammar.specs.Grammar.{members, entry_meaning, TestTree, test_meaning, IsTest, IsTestText}
-use Rattle.litmus_grammar.specs.InitMachine as init
+use Rattle.litmus_grammar.specs.Grammar.{members, entry_meaning, TestTree, test_meaning, IsTestText}
 use Rattle.litmus_grammar.specs.InitMachine.{missing}
 use Rattle.litmus_grammar.specs.TextMachine.{Held, State, Ran, threads_in, run, start, first_stage}
 use Rattle.litmus_grammar.specs.TextMachine as text
@@ -28,9 +23,8 @@ use Rattle.litmus_ppc.specs.Faults.{IsTooLong, IsMemory, IsMissingFound, IsLateF
 use Rattle.litmus_grammar.proofs.Bodies.{length-meaning, length-steps}
 use Rattle.litmus_grammar.proofs.Bounds.{is_short}
 use Rattle.litmus_grammar.proofs.Ends.{ends_done}
-use Rattle.litmus_grammar.proofs.Heads.{TakesTest, IsFewTest, test_led, test_whole, few_of}
+use Rattle.litmus_grammar.proofs.Heads.{TakesTest, test_led, test_whole, few_of}
 use Rattle.litmus_ppc.proofs.InitReaders.{Matches, late_matches, kept_means}
-use Rattle.litmus_grammar.specs.Laws.{entry_kept}
 use Rattle.litmus_grammar.proofs.Inner.{lexed_ends, lexed_length}
 use Rattle.litmus_grammar.proofs.Outcomes.{not_both}
 use Rattle.litmus_grammar.proofs.Passing.{test_at}

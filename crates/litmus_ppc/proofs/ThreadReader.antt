@@ -1,6 +1,5 @@
 -- What `read_thread` answers is what the grammar and the checks of labels say.
 use Rattle.std.proofs.Common.{◌≡◌, ℕ, ◌<◌, ◌≤◌, List, [], ◌∷◌, length, Option, Some, None, Result, Ok, Err, refl, sym, ap, ◌∙◌, subst}
-use Rattle.litmus_tokens.specs.declared.token.Token.{Token}
 use Rattle.litmus_tokens.specs.Texts.{Placed, tokens_of, lexed}
 use Rattle.litmus_values.specs.declared.test.Step.{Step}
 use Rattle.litmus_table.specs.Grammar.{thread_meaning}
@@ -11,8 +10,7 @@ use Rattle.litmus_table.specs.Reading.{first_steps}
 use Rattle.litmus_ppc.specs.declared.fault.LitmusFault.{LitmusFault}
 use Rattle.litmus_grammar.specs.declared.parts.TextKind.TheVariants as kinds
 use Rattle.litmus_grammar.specs.Grammar.{IsThreadText}
-use Rattle.litmus_grammar.specs.TextMachine.{State, Ran, with_table, nothing, run, start, first_stage}
-use Rattle.litmus_grammar.specs.TextMachine as text
+use Rattle.litmus_grammar.specs.TextMachine.{State, Ran, run, start, first_stage}
 use Rattle.litmus_ppc.specs.TextReading.{FailsAt}
 use Rattle.litmus_grammar.specs.Texts.{ReadsThread, IsThreadFault, late_of_thread}
 use Rattle.litmus_ppc.specs.Faults.{IsTooLong, IsMemory, IsLateFound, IsFaultOf}

@@ -1,7 +1,5 @@
-use Rattle.std.proofs.Common.{◌≡◌, List, ℕ, ◌∷◌, ◌++◌, sym, ◌∙◌}
 use Rattle.litmus_tokens.specs.declared.stage.Stage.TheVariants.{CellBegins}
-use Rattle.litmus_tokens.specs.declared.token.Token.TheVariants as tokens
-use Rattle.litmus_tokens.specs.Texts.{Placed, tokens_of, lexed}
+use Rattle.litmus_tokens.specs.Texts.{lexed}
 use Rattle.litmus_grammar.specs.declared.parts.TextKind.TheVariants as kinds
 use Rattle.litmus_grammar.specs.Grammar.{IsThreadText}
 use Rattle.litmus_grammar.proofs.Inner.{AreInner, lexed_inner}

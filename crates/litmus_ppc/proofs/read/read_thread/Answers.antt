@@ -1,5 +1,4 @@
-use Rattle.std.proofs.Common.{List, length, ap, sym, subst, ◌∙◌}
-use Rattle.litmus_values.specs.declared.test.Step.{Step}
+use Rattle.std.proofs.Common.{length, ap, sym, subst, ◌∙◌}
 use Rattle.litmus_table.specs.Reading.{first_steps}
 use Rattle.litmus_grammar.specs.declared.parts.TextKind.TheVariants as kinds
 use Rattle.litmus_grammar.specs.Texts.{ReadsThread}
