@@ -1,16 +1,14 @@
 -- Tokens that are taken within a place are spelled by the tree of a place.
-use Rattle.std.proofs.Common.{◌≡◌, ℕ, ◌<◌, ◌≤◌, Bool, true, false, List, [], ◌∷◌, Option, Some, None, refl, sym, ap, ◌∙◌, arith}
-use Rattle.std.specs.Prelude.{nat_lt, IsTrue, min, if◌then◌else◌}
+use Rattle.std.proofs.Common.{◌≡◌, ℕ, ◌<◌, ◌≤◌, Bool, true, false, List, ◌∷◌, Option, Some, None, refl, ap, arith}
+use Rattle.std.specs.Prelude.{nat_lt, if◌then◌else◌}
 use Rattle.std.proofs.Math.Nat.{min-eq_left}
 use Rattle.std.proofs.lemmas.Bool.Decides.{nat_tests}
-use Rattle.litmus_values.specs.declared.test.Place.{Place}
 use Rattle.litmus_values.specs.declared.test.Place.TheVariants as places
 use Rattle.litmus_values.specs.declared.test.Value as declared_value
-use Rattle.litmus_values.specs.declared.test.Value.TheVariants as values
 use Rattle.litmus_tokens.specs.declared.token.Token.{Token}
 use Rattle.litmus_tokens.specs.declared.token.Token.TheVariants as tokens
 use Rattle.litmus_tokens.specs.declared.token.Mark.TheVariants.{OpenBracket, CloseBracket, Colon}
-use Rattle.litmus_tokens.specs.Words.{decimal, signed, is_int, int_of, register_of, is_register, is_known, or_zero}
+use Rattle.litmus_tokens.specs.Words.{decimal, signed, is_int, register_of, is_known, or_zero}
 use Rattle.litmus_conditions.specs.declared.place.PlaceHole.{PlaceHole}
 use Rattle.litmus_conditions.specs.declared.place.PlaceHole.TheVariants.{Begins, WantsName, WantsBracket, WantsColon, WantsRegister}
 use Rattle.litmus_conditions.specs.declared.place.WrittenPlace.{WrittenPlace}
@@ -18,7 +16,7 @@ use Rattle.litmus_conditions.specs.declared.place.WrittenPlace.TheVariants as wr
 use Rattle.litmus_conditions.specs.declared.place.PlaceStep.{PlaceStep}
 use Rattle.litmus_conditions.specs.declared.place.PlaceStep.TheVariants as steps
 use Rattle.litmus_conditions.specs.Grammar.{PlaceTree, Location, Register, ValueTree, Number, Address, spelled_place, spelled_value, place_meaning, value_meaning, IsPlace, HasThread, IsValue}
-use Rattle.litmus_conditions.specs.PlaceMachine.{place_begun, register_ends, place_step, place_of, number_read, value_read, is_there}
+use Rattle.litmus_conditions.specs.PlaceMachine.{place_begun, register_ends, place_step, place_of, number_read, value_read}
 
 -- the tokens that were read within a place, and then rest
 abbrev pub within : PlaceHole → List Token → List Token
@@ -88,12 +86,6 @@ StepThread threads None = Unit {0}
 lt_true : (l n : ℕ) → nat_lt l n ≡ true → l < n
 lt_true l n h = grind (arith, nat_tests)
 
-pub begun_thread : (threads : ℕ) (t : Token) → is_there threads t ≡ true → StepThread threads (place_begun t)
-begun_thread threads (tokens.Word n) h = tt
-begun_thread threads (tokens.Mark OpenBracket) h = tt
-begun_thread threads (tokens.Number false t) h = lt_true _ _ h
-begun_thread threads _ h = tt
-
 register_thread : (threads : ℕ) (t : List ℕ) (r : Option ℕ) → decimal t < threads → StepThread threads (register_ends t r)
 register_thread threads t (Some r) h = h
 register_thread threads t None h = tt
@@ -151,7 +143,3 @@ pub value_taken : (v : ValueTree) → IsValue v → value_read (value_token v) �
 value_taken (Number negative ds) h =
     ap (λ (b : Bool). number_read (if b then Some (signed negative (decimal ds)) else None)) h
 value_taken (Address n) h = refl
-
-pub spelled_value-token : (v : ValueTree) (rest : List Token) → spelled_value v rest ≡ value_token v ∷ rest
-spelled_value-token (Number negative ds) rest = refl
-spelled_value-token (Address n) rest = refl
