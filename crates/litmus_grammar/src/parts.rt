@@ -10,27 +10,39 @@ use litmus_values::Place;
 /// What a text is to be.
 #[derive(Clone, Copy, Debug)]
 pub enum TextKind {
+    /// A whole test.
     Test,
+    /// A thread.
     Thread,
+    /// An init block.
     Init,
+    /// A condition.
     Condition,
+    /// A list of locations, or nothing.
     Locations,
 }
 
 /// Where in the init block the reader stands.
 #[derive(Debug, Drop)]
 pub enum InitHole {
+    /// `{` is wanted.
     WantsOpen,
+    /// An entry or `}` is wanted.
     WantsEntry,
+    /// Within the place of an entry.
     InPlace(PlaceHole),
+    /// After a place, where `=` is wanted.
     WantsEquals(Place),
+    /// After `=`, where a value is wanted.
     WantsValue(Place),
+    /// After an entry, where `;` or `}` is wanted.
     HasEntry,
 }
 
 /// What a token of the init block did.
 #[derive(Debug, Drop)]
 pub enum InitStep {
+    /// The block goes on.
     Goes(InitHole),
     /// The block has ended.
     Ends,
@@ -39,9 +51,13 @@ pub enum InitStep {
 /// Where in the list of `locations` the reader stands.
 #[derive(Debug, Drop)]
 pub enum ItemHole {
+    /// After `[`, where a place is wanted.
     WantsFirst,
+    /// After `;`, where a place or `]` is wanted.
     WantsNext,
+    /// Within a place.
     Within(PlaceHole),
+    /// After a place, where `;` or `]` is wanted.
     HasItem,
 }
 

@@ -68,7 +68,8 @@ impl InitBlock {
         }
     }
 
-    /// Takes a token that stands at this byte. After an `Err` the block takes no more.
+    /// Takes a token that stands at this byte. After an `Err` the block takes no more. Errors: want
+    /// of memory, or the token cannot stand there.
     pub fn step(
         &mut self,
         hole: InitHole,

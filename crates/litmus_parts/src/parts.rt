@@ -15,20 +15,29 @@ use std::alloc::Global;
 /// Where in a text the reader stands.
 #[derive(Debug, Drop)]
 pub enum Part {
+    /// The first word, `PPC`, is wanted.
     Magic,
+    /// The name of the test is wanted.
     Title,
+    /// The line end behind the name is wanted.
     TitleEnd,
     /// Before the init block, and whether a text in quotes may still stand.
     Head(bool),
+    /// In the init block.
     Init(InitHole),
+    /// The name of a column of the header is wanted.
     WantsColumn,
+    /// After a column of the header.
     HasColumn,
+    /// In the table.
     Rows,
     /// The cells of a thread that is a text of its own.
     Cells,
     /// Behind the word `locations`.
     WantsList,
+    /// In a list of locations.
     Item(ItemHole),
+    /// The condition's quantifier is wanted.
     WantsQuantifier,
     /// Behind the tilde of `~exists`.
     AfterTilde,
@@ -36,7 +45,9 @@ pub enum Part {
     Proposition(Quantifier, Vec<Frame>, usize, Hole),
     /// The text of a list of places, which may be empty.
     ListOrEnd,
+    /// The end of the text is wanted.
     WantsEnd,
+    /// After the end, or after a refusal.
     Done,
 }
 
@@ -144,7 +155,7 @@ pub fn begins_tail(token: &Token) -> bool
     }
 }
 
-/// The first word of a test.
+/// The first word of a test. Errors: the token cannot stand there.
 pub fn magic_read(token: &Token) -> Result<Part, StepError>
     ensures { Leads result (magic_read token.now) }
 {
@@ -160,7 +171,7 @@ pub fn magic_read(token: &Token) -> Result<Part, StepError>
     }
 }
 
-/// The end of the line that the test's name stands in.
+/// The end of the line that the test's name stands in. Errors: the token cannot stand there.
 pub fn title_ended(token: &Token) -> Result<Part, StepError>
     ensures { Leads result (title_ended token.now) }
 {
@@ -170,7 +181,7 @@ pub fn title_ended(token: &Token) -> Result<Part, StepError>
     }
 }
 
-/// A token before the init block.
+/// A token before the init block. Errors: the token cannot stand there.
 pub fn head_read(may_have_text: bool, token: &Token) -> Result<Part, StepError>
     ensures { Leads result (head_read may_have_text token.now) }
 {
@@ -188,7 +199,7 @@ pub fn head_read(may_have_text: bool, token: &Token) -> Result<Part, StepError>
     }
 }
 
-/// A token behind the name of a column.
+/// A token behind the name of a column. Errors: the token cannot stand there.
 pub fn column_ended(token: &Token) -> Result<Part, StepError>
     ensures { Leads result (column_ended token.now) }
 {
@@ -199,7 +210,7 @@ pub fn column_ended(token: &Token) -> Result<Part, StepError>
     }
 }
 
-/// A token behind the word `locations`.
+/// A token behind the word `locations`. Errors: the token cannot stand there.
 pub fn list_opened(token: &Token) -> Result<Part, StepError>
     ensures { Leads result (list_opened token.now) }
 {
@@ -209,7 +220,7 @@ pub fn list_opened(token: &Token) -> Result<Part, StepError>
     }
 }
 
-/// A token behind a place of the list.
+/// A token behind a place of the list. Errors: the token cannot stand there.
 pub fn item_ended(kind: TextKind, token: &Token) -> Result<Part, StepError>
     ensures { Leads result (item_ended kind token.now) }
 {
@@ -220,7 +231,7 @@ pub fn item_ended(kind: TextKind, token: &Token) -> Result<Part, StepError>
     }
 }
 
-/// A token behind the table.
+/// A token behind the table. Errors: the token cannot stand there.
 pub fn tail_begun(alloc: Global, token: &Token) -> Result<Part, StepError>
     ensures { Leads result (tail_begun token.now) }
 {
@@ -230,7 +241,8 @@ pub fn tail_begun(alloc: Global, token: &Token) -> Result<Part, StepError>
     quantifier_read(alloc, token)
 }
 
-/// A token where the text of a list of places begins, or ends.
+/// A token where the text of a list of places begins, or ends. Errors: the token cannot stand
+/// there.
 pub fn list_begun(token: &Token) -> Result<Part, StepError>
     ensures { Leads result (list_begun token.now) }
 {
@@ -240,7 +252,7 @@ pub fn list_begun(token: &Token) -> Result<Part, StepError>
     end_read(token)
 }
 
-/// A token where the condition begins.
+/// A token where the condition begins. Errors: the token cannot stand there.
 pub fn quantifier_read(alloc: Global, token: &Token) -> Result<Part, StepError>
     ensures { Leads result (quantifier_read token.now) }
 {
@@ -263,7 +275,7 @@ fn word_quantifier(alloc: Global, word: &Name) -> Result<Part, StepError>
     Err(StepError::Refused)
 }
 
-/// A token behind the tilde of `~exists`.
+/// A token behind the tilde of `~exists`. Errors: the token cannot stand there.
 pub fn exists_read(alloc: Global, token: &Token) -> Result<Part, StepError>
     ensures { Leads result (exists_read token.now) }
 {
@@ -284,7 +296,7 @@ fn proposition(alloc: Global, quantifier: Quantifier) -> Part
     Part::Proposition(quantifier, Vec::new(alloc), 0, Hole::Wants)
 }
 
-/// The end of the text.
+/// The end of the text. Errors: the token cannot stand there.
 pub fn end_read(token: &Token) -> Result<Part, StepError>
     ensures { Leads result (end_read token.now) }
 {

@@ -31,10 +31,15 @@ use std::alloc::{AllocError, Global};
 /// What was read of a text so far.
 #[derive(Drop)]
 pub struct Held {
+    /// The name of the test.
     pub name: Name,
+    /// The init block.
     pub init: InitBlock,
+    /// The threads.
     pub table: Table,
+    /// The places of `locations`.
     pub observed: Vec<Place>,
+    /// The condition, once it is read.
     pub condition: Condition,
 }
 

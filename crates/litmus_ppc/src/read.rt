@@ -110,7 +110,8 @@ fn read_whole(
 /// A text of over 65,536 bytes is refused before all else. Otherwise the fault is at the first token
 /// that cannot stand where it stands, or at the text's length where it ends too early; and only a text
 /// without these is refused for an initial value of a thread that is not there, at its entry, or for a
-/// label, thread by thread.
+/// label, thread by thread. Errors: the first rule that the text breaks, with its byte, or want of
+/// memory.
 pub fn read_test(alloc: Global, bytes: &[u8]) -> Result<Test, LitmusFault>
     // What is read is what the text means.
     ensures found { IfOk result (λ t. ReadsTest bytes.now (content_of t)) }
@@ -144,7 +145,8 @@ pub fn read_test(alloc: Global, bytes: &[u8]) -> Result<Test, LitmusFault>
     }
 }
 
-/// Reads a thread: cells with semicolons between.
+/// Reads a thread: cells with semicolons between. Errors: the first rule that the text breaks, with
+/// its byte, or want of memory.
 pub fn read_thread(alloc: Global, bytes: &[u8]) -> Result<Thread, LitmusFault>
     // What is read is what the text means.
     ensures found { IfOk result (λ t. ReadsThread bytes.now t.steps.items) }
@@ -171,7 +173,8 @@ pub fn read_thread(alloc: Global, bytes: &[u8]) -> Result<Thread, LitmusFault>
     }
 }
 
-/// Reads the block of initial values, in braces, of a test of so many threads.
+/// Reads the block of initial values, in braces, of a test of so many threads. Errors: the first
+/// rule that the text breaks, with its byte, or want of memory.
 pub fn read_init(alloc: Global, bytes: &[u8], threads: usize) -> Result<Vec<InitEntry>, LitmusFault>
     // What is read is what the text means.
     ensures found { IfOk result (λ v. ReadsInit threads bytes.now v.items) }
@@ -198,7 +201,8 @@ pub fn read_init(alloc: Global, bytes: &[u8], threads: usize) -> Result<Vec<Init
     }
 }
 
-/// Reads a quantifier and its proposition, of a test of so many threads.
+/// Reads a quantifier and its proposition, of a test of so many threads. Errors: the first rule
+/// that the text breaks, with its byte, or want of memory.
 pub fn read_cond(alloc: Global, bytes: &[u8], threads: usize) -> Result<Condition, LitmusFault>
     // What is read is what the text means.
     ensures found { IfOk result (λ c. ReadsCondition threads bytes.now (c.quantifier, formula_of c.proposition)) }
@@ -221,6 +225,7 @@ pub fn read_cond(alloc: Global, bytes: &[u8], threads: usize) -> Result<Conditio
 }
 
 /// Reads the word `locations` and its list, of a test of so many threads. A text without tokens is an empty list.
+/// Errors: the first rule that the text breaks, with its byte, or want of memory.
 pub fn read_locations(
     alloc: Global,
     bytes: &[u8],

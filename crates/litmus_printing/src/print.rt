@@ -12,7 +12,7 @@ use litmus_values::{
 use source_text::{put_bytes, put_decimal};
 use std::alloc::{AllocError, Global};
 
-/// Appends a place: `[x]` or `1:r1`.
+/// Appends a place: `[x]` or `1:r1`. Errors: want of memory.
 pub fn put_place(text: &mut Vec<u8>, place: &Place) -> Result<(), AllocError>
     ensures { OnOk result (text.new.items ≡ text.old.items ++ place_text place.now) }
 {
@@ -26,7 +26,7 @@ pub fn put_place(text: &mut Vec<u8>, place: &Place) -> Result<(), AllocError>
     }
 }
 
-/// Appends a value: a number with its sign, or a location's name.
+/// Appends a value: a number with its sign, or a location's name. Errors: want of memory.
 pub fn put_value(text: &mut Vec<u8>, value: &Value) -> Result<(), AllocError>
     ensures { OnOk result (text.new.items ≡ text.old.items ++ value_text value.now) }
 {
@@ -322,7 +322,8 @@ pub fn put_condition(text: &mut Vec<u8>, condition: &Condition) -> Result<(), Al
     put_bytes(text, b")")
 }
 
-/// The text of a condition: its quantifier, and its proposition in parentheses.
+/// The text of a condition: its quantifier, and its proposition in parentheses. Errors: want of
+/// memory.
 pub fn print_condition(alloc: Global, condition: &Condition) -> Result<Vec<u8>, AllocError>
     ensures { IfOk result (λ v. v.items ≡ condition_text condition.now.quantifier (formula_of condition.now.proposition)) }
 {

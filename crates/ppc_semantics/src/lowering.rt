@@ -358,7 +358,7 @@ fn threads_of(alloc: Global, threads: &[Thread]) -> Result<Vec<Vec<Line>>, Alloc
 }
 
 /// The test by numbers: its locations sorted by name bytes, and the labels of each thread
-/// likewise. What the test does not mention starts at 0.
+/// likewise. What the test does not mention starts at 0. Errors: want of memory.
 pub fn program(alloc: Global, test: &Test) -> Result<Program, AllocError>
     ensures program { IfOk result (λ p. low.IsProgram test.now p) }
     ensures proper { IfOk result (λ p. AreProper p) }
