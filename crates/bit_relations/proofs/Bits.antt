@@ -173,11 +173,6 @@ Bit-spread acc s k row b fits =
     )
     go (suc (suc m)) lt = absurd (omega arith)
 
--- the greatest word has each bit
-pub Bit-ones : (k : ℕ) → k < 64 → Bit (2 ^ 64 - 1) k
-unfolding Bit
-Bit-ones k lt = bit_at_ones 64 k lt
-
 -- a number whose bits are all below n fits
 pub fits_below : (n w : ℕ) → ((k : ℕ) → Bit w k → k < n) → w < 2 ^ n
 unfolding Bit
