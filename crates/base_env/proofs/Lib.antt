@@ -8,3 +8,4 @@ pub mod Held
 pub mod Meant
 pub mod Covering
 pub mod Every
+pub mod Facts

@@ -1,4 +1,5 @@
 pub mod Candidate
+pub mod Environment
 pub mod Events
 pub mod Known
 pub mod Names

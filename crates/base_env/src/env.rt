@@ -1,5 +1,13 @@
 //! The predefined names of one candidate.
 
+ghost use Rattle.std.specs.Prelude.{◌≡◌, List, ℕ, min, length, IfOk, IsTrue, Contains, false};
+ghost use Rattle.bit_relations.specs.Relation.{IsRelation};
+ghost use Rattle.cat_values.specs.PredefinedNames.{is_set};
+ghost use Rattle.candidates.specs.Space.{IsExecution};
+ghost use Rattle.base_env.specs.Known.{set_names};
+ghost use Rattle.base_env.specs.Candidate.{IsEntered, IsReading, IsOrdered, Gives, RelationIn};
+ghost use Rattle.base_env.specs.Environment.{HasFacts, IsEnvironment};
+
 use crate::names::Base;
 use bit_relations::{EventSet, Rel};
 use candidates::{Combination, Execution};
@@ -79,14 +87,18 @@ pub struct BaseEnv {
 }
 
 /// The relation of a name in the present candidate.
-fn relation(base: &Base, name: Predefined) -> Rel {
+fn relation(base: &Base, name: Predefined) -> Rel
+    ensures { (c : _) (sources order : _) → IsEntered base.now c → IsReading base.now c sources → IsOrdered base.now c order → Gives base.now name → IsRelation result base.now.count (RelationIn name base.now.count c sources order) }
+{
     let mut made = Rel::empty(base.count());
     base.write_relation(name, &mut made);
     made
 }
 
 /// The candidate as the only one of a combination.
-fn combination(alloc: Global, execution: &Execution) -> Result<Combination, AllocError> {
+fn combination(alloc: Global, execution: &Execution) -> Result<Combination, AllocError>
+    ensures { IfOk result (λ c. HasFacts c execution.now) }
+{
     Ok(Combination {
         events: Vec::from_slice(alloc, &execution.events)?,
         addr_pairs: Vec::from_slice(alloc, &execution.addr_pairs)?,
@@ -100,7 +112,9 @@ fn combination(alloc: Global, execution: &Execution) -> Result<Combination, Allo
 }
 
 /// All predefined names of the present candidate.
-fn env_of(base: &Base) -> BaseEnv {
+fn env_of(base: &Base) -> BaseEnv
+    ensures { (c : _) (sources order : List ℕ) → IsEntered base.now c → IsReading base.now c sources → IsOrdered base.now c order → ((name : _) → IsTrue (is_set name) → Contains (set_names base.now.sets) name) → ((name : _) → is_set name ≡ false → Gives base.now name) → IsEnvironment result base.now.count c sources order }
+{
     BaseEnv {
         r_set: base.set(Predefined::Loads),
         w_set: base.set(Predefined::Stores),
@@ -138,8 +152,10 @@ fn env_of(base: &Base) -> BaseEnv {
     }
 }
 
-/// All predefined names of a candidate. Errors: want of memory.
-pub fn base(alloc: Global, execution: &Execution) -> Result<Box<BaseEnv>, AllocError> {
+/// All predefined names of a candidate, over its first 128 events. Errors: want of memory.
+pub fn base(alloc: Global, execution: &Execution) -> Result<Box<BaseEnv>, AllocError>
+    ensures { IfOk result (λ env. (threads : _) (c : _) (t : _) → IsExecution threads c t execution.now → IsEnvironment env.value (min (length c.events.items) 128) c t.0 t.1) }
+{
     let combination = combination(alloc, execution)?;
     let mut base = Base::new(alloc, &combination)?;
     base.read_from(&combination, &execution.sources);
