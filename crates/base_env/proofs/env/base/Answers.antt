@@ -1,6 +1,4 @@
-use Rattle.std.proofs.Common.{◌≡◌, ◌∙◌, ℕ, List, sym, subst}
-use Rattle.cat_values.specs.declared.predefined.Predefined.{Predefined}
-use Rattle.candidates.specs.declared.candidate.Event.{Event}
+use Rattle.std.proofs.Common.{◌≡◌, ◌∙◌, List, sym, subst}
 use Rattle.base_env.specs.declared.names.Shared.{Shared}
 use Rattle.base_env.specs.Candidate.{IsEntered, IsReading, IsOrdered, IsThere, shared_for}
 use Rattle.base_env.specs.Known.{shared_names}

@@ -1,6 +1,5 @@
 use Rattle.std.proofs.Common.{rules, ◌≡◌, Contains, get_or}
 use Rattle.base_env.specs.Known.{shared_names}
-use Rattle.base_env.specs.declared.names.Shared.{Shared}
 use Rattle.base_env.proofs.Covering.{named_at}
 use Rattle.base_env.proofs.names.is_there.Goals as goal
 

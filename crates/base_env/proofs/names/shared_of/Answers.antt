@@ -1,11 +1,8 @@
-use Rattle.std.proofs.Common.{◌≡◌, false, Contains, length, take, get_or, List, [], ◌∷◌, ◌++◌, ◌+◌, sym, subst, ◌∙◌}
+use Rattle.std.proofs.Common.{◌≡◌, take, get_or, List, [], ◌∷◌, ◌++◌, ◌+◌, sym, ◌∙◌}
 use Rattle.std.proofs.lemmas.Bool.{true≢false}
 use Rattle.std.proofs.lemmas.List.{take_more, take_all}
 use Rattle.cat_values.specs.declared.predefined.Predefined.{Predefined}
 use Rattle.cat_values.specs.declared.predefined.Predefined.TheVariants.{Loads}
-use Rattle.cat_values.specs.PredefinedNames.{is_set}
-use Rattle.base_env.specs.Known.{shared_names}
-use Rattle.base_env.specs.Candidate.{AreCovered, IsThere, shared_for}
 use Rattle.base_env.proofs.Covering.{covered_more}
 use Rattle.base_env.proofs.names.shared_of.Goals as goal
 use Rattle.base_env.proofs.names.shared_of.Goals.{then-not-is_set+in-Some+in_ok-make_room-in-Some, then-not-is_set+in-None, else-not-is_set}

@@ -1,7 +1,5 @@
-use Rattle.std.proofs.Common.{◌≡◌, Contains, List}
-use Rattle.cat_values.specs.declared.predefined.Predefined.{Predefined}
-use Rattle.base_env.specs.Known.{set_names, shared_names}
-use Rattle.base_env.specs.Candidate.{IsThere, shared_for}
+use Rattle.std.proofs.Common.{◌≡◌}
+use Rattle.base_env.specs.Known.{set_names}
 use Rattle.base_env.proofs.Every.{all_sets, every_set, every_name}
 use Rattle.base_env.proofs.names.Base.new.Goals as goal
 
