@@ -8,8 +8,6 @@ mod env;
 mod fixed;
 mod names;
 mod sets;
-#[cfg(test)]
-mod tests;
 
 pub use env::{BaseEnv, base};
 pub use names::Base;

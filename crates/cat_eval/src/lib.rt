@@ -19,6 +19,3 @@ mod walk;
 pub use check::eval_check;
 pub use column::Column;
 pub use group::eval_group;
-
-#[cfg(test)]
-mod tests;

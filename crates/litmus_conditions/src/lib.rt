@@ -11,6 +11,3 @@ pub use place::{
     PlaceHole, PlaceStep, WrittenPlace, is_there, place_step, register_of, value_read,
 };
 pub use step::StepError;
-
-#[cfg(test)]
-mod tests;

@@ -1,4 +1,6 @@
-use crate::{BaseEnv, base};
+//! The predefined names of candidates that are known.
+
+use base_env::{BaseEnv, base};
 use bit_relations::Rel;
 use candidates::space;
 use litmus_ppc::read_test;

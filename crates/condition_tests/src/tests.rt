@@ -1,6 +1,6 @@
 //! Propositions whose meaning, or whose first token that cannot stand, is known.
 
-use crate::*;
+use litmus_conditions::{Fed, Hole, StepError, feed};
 use litmus_tokens::{Front, Stage, Token, front_of};
 use litmus_values::{Connective, Place, Proposition, Value};
 use source_text::{put_bytes, put_decimal};

@@ -1,8 +1,9 @@
 //! Each operator, a recursion and each check word, over the candidates of a small test.
-use crate::{Column, eval_check, eval_group};
+
 use binding_graph::{Resolved, ResolvedItem, resolve};
 use bit_relations::{EventSet, PackedRelations, Rel};
 use candidates::{Space, space};
+use cat_eval::{Column, eval_check, eval_group};
 use cat_syntax::read_model;
 use litmus_ppc::read_test;
 use std::alloc::{AllocError, Global};

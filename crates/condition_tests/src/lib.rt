@@ -1,0 +1,5 @@
+//! Tests of the reader of propositions.
+#![tactic(auto)]
+
+#[cfg(test)]
+mod tests;

@@ -1,0 +1,5 @@
+//! Tests of the predefined names of candidates.
+#![tactic(auto)]
+
+#[cfg(test)]
+mod tests;
