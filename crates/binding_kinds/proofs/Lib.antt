@@ -3,3 +3,4 @@ pub mod First
 pub mod FirstGroup
 pub mod FirstItem
 pub mod Fitting
+pub mod Combinations

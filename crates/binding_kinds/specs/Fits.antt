@@ -1,5 +1,5 @@
 -- Expressions without fault, whose kinds are known.
-use Rattle.std.specs.Prelude.{List, [], ◌∷◌, Bool, true, false, IsTrue, Option, Some, None}
+use Rattle.std.specs.Prelude.{List, [], ◌∷◌, true, false, IsTrue, Option, Some, None}
 use Rattle.binding_kinds.specs.declared.kinds.Kind.{Kind}
 use Rattle.binding_kinds.specs.declared.kinds.Kind.TheVariants.{OfSet, OfRelation, OfAny}
 use Rattle.binding_kinds.specs.declared.scope.Found.{Found}

@@ -7,3 +7,5 @@ pub mod Numbers
 pub mod Meanings
 pub mod Fits
 pub mod Outermost
+pub mod Combinations
+pub mod Applicable

@@ -50,6 +50,11 @@ abbrev pub is_seen : List (List ℕ) → List ℕ → Bool
 is_seen [] x = false
 is_seen (n ∷ ns) x = bytes_eq n x || is_seen ns x
 
+-- the fault of parameters after those that are seen, the latest first: one that stands twice
+abbrev pub of_parameters : List (List ℕ) → List (List ℕ) → Option ModelFault
+of_parameters seen [] = None
+of_parameters seen (p ∷ ps) = if is_seen seen p then Some faults.Duplicate else of_parameters (p ∷ seen) ps
+
 abbrev pub is_of_set : Kind → Bool
 is_of_set OfSet = true
 is_of_set OfRelation = false

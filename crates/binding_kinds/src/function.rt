@@ -1,5 +1,10 @@
 //! Functions of the model: what is kept of one, so that its body is never gone through again.
 
+ghost use Rattle.std.specs.Prelude.{◌≡◌, ℕ, ◌<◌, get_or, false};
+ghost use Rattle.std.specs.List.{count_by};
+ghost use Rattle.binding_kinds.specs.Combinations.{unknown};
+ghost use Rattle.binding_kinds.specs.Applicable.{is_no_parameter, is_parameter_at};
+
 use crate::kinds::Kind;
 use crate::scope::{Found, Used};
 use crate::signature::Signature;
@@ -62,7 +67,9 @@ pub struct Function {
 
 impl Function {
     /// What an application makes of arguments of these kinds.
-    pub fn signature(&self, combination: usize) -> Signature {
+    pub fn signature(&self, combination: usize) -> Signature
+        ensures { result ≡ get_or self.now.signatures.items combination unknown }
+    {
         match self.signatures.get(combination) {
             Some(signature) => *signature,
             None => Signature {
@@ -73,7 +80,9 @@ impl Function {
     }
 
     /// Whether the parameter stands under a complement or right of a difference.
-    pub fn is_under(&self, place: usize) -> bool {
+    pub fn is_under(&self, place: usize) -> bool
+        ensures { result ≡ get_or self.now.under place false }
+    {
         match self.under.get(place) {
             Some(under) => *under,
             None => false,
@@ -81,7 +90,9 @@ impl Function {
     }
 
     /// How often the parameter counts in the size of an application.
-    pub fn factor(&self, place: usize) -> usize {
+    pub fn factor(&self, place: usize) -> usize
+        ensures { result ≡ get_or self.now.factors place 0 }
+    {
         match self.factors.get(place) {
             Some(factor) => *factor,
             None => 0,
@@ -89,19 +100,76 @@ impl Function {
     }
 }
 
-/// Counts the parts of a template.
-pub fn count_parts(template: &[Piece]) -> (usize, [usize; MAX_PARAMETERS]) {
-    let mut constant = 0usize;
-    let mut factors = [0usize; MAX_PARAMETERS];
-    for piece in template {
-        match piece {
-            Piece::Parameter(place) => {
-                if let Some(factor) = factors.get_mut(*place) {
-                    *factor = factor.saturating_add(1);
-                }
-            }
-            _ => constant = constant.saturating_add(1),
+impl Piece {
+    /// Whether it is the parameter at that place.
+    fn is_parameter_at(self, place: usize) -> bool
+        ensures { result ≡ is_parameter_at place self }
+    {
+        match self {
+            Piece::Parameter(other) => other == place,
+            Piece::Value(_) => false,
+            Piece::Everything => false,
+            Piece::NoPairs => false,
+            Piece::NoEvents => false,
+            Piece::Joined(_) => false,
+            Piece::Marked(_) => false,
+            Piece::Complement => false,
+            Piece::Identity => false,
         }
     }
-    (constant, factors)
+
+    /// Whether it is no parameter.
+    fn is_no_parameter(self) -> bool
+        ensures { result ≡ is_no_parameter self }
+    {
+        match self {
+            Piece::Parameter(_) => false,
+            Piece::Value(_) => true,
+            Piece::Everything => true,
+            Piece::NoPairs => true,
+            Piece::NoEvents => true,
+            Piece::Joined(_) => true,
+            Piece::Marked(_) => true,
+            Piece::Complement => true,
+            Piece::Identity => true,
+        }
+    }
+}
+
+/// How often the parameter stands in a template.
+fn count_parameter(template: &[Piece], place: usize) -> usize
+    ensures { result ≡ count_by (is_parameter_at place) template.now }
+{
+    let mut count = 0usize;
+    for piece in template {
+        if piece.is_parameter_at(place) {
+            count += 1;
+        }
+    }
+    count
+}
+
+/// How much of a template is no parameter.
+fn count_others(template: &[Piece]) -> usize
+    ensures { result ≡ count_by is_no_parameter template.now }
+{
+    let mut count = 0usize;
+    for piece in template {
+        if piece.is_no_parameter() {
+            count += 1;
+        }
+    }
+    count
+}
+
+/// Counts the parts of a template: those that are no parameter, and each parameter.
+pub fn count_parts(template: &[Piece]) -> (usize, [usize; MAX_PARAMETERS])
+    ensures constant { result.0 ≡ count_by is_no_parameter template.now }
+    ensures factors { (place : ℕ) → place < 8 → get_or result.1 place 0 ≡ count_by (is_parameter_at place) template.now }
+{
+    let mut factors = [0usize; MAX_PARAMETERS];
+    for place in 0..MAX_PARAMETERS {
+        factors[place] = count_parameter(template, place);
+    }
+    (count_others(template), factors)
 }

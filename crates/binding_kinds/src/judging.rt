@@ -3,7 +3,7 @@
 ghost use Rattle.std.specs.Prelude.{◌≡◌, [], List, reverse, map};
 ghost use Rattle.binding_kinds.specs.Value.{Naming, entry_of, term_of, bound_of, IsPlain, ArePlain};
 ghost use Rattle.binding_kinds.specs.Kinds.{kind, kind_found, found, joined, takes, marked, narrowed, is_set, is_relation};
-ghost use Rattle.binding_kinds.specs.Verdict.{first_of, first_in, of_binding, is_seen, or_else, unless, of_name, of_slot};
+ghost use Rattle.binding_kinds.specs.Verdict.{first_of, first_in, of_binding, is_seen, or_else, unless, of_name, of_slot, of_parameters};
 ghost use Rattle.binding_kinds.specs.Seen.{names_of};
 
 use crate::fault::ModelFault;
@@ -320,13 +320,27 @@ pub fn group_fault(
     None
 }
 
-/// The first fault of the parameters of a function.
-pub fn parameter_fault(parameters: &[Name]) -> Option<ModelFault> {
+/// Whether one of the parameters has the name.
+#[tactic(auto, using(crate::proofs::Scopes::rev_next))]
+fn is_among(before: &[Name], name: &Name) -> bool
+    ensures { result ≡ is_seen (reverse before.now) name.now }
+{
+    let mut seen = false;
+    for parameter in before {
+        if parameter.as_bytes() == name.as_bytes() {
+            seen = true;
+        }
+    }
+    seen
+}
+
+/// The first fault of the parameters of a function: one that stands twice.
+pub fn parameter_fault(parameters: &[Name]) -> Option<ModelFault>
+    ensures { result ≡ of_parameters [] parameters.now }
+{
     for (place, parameter) in parameters.iter().enumerate() {
-        for earlier in &parameters[..place] {
-            if earlier.is_same(parameter) {
-                return Some(ModelFault::Duplicate);
-            }
+        if is_among(&parameters[..place], parameter) {
+            return Some(ModelFault::Duplicate);
         }
     }
     None

@@ -2,6 +2,7 @@
 
 ghost use Rattle.std.specs.Prelude.{◌≡◌};
 ghost use Rattle.binding_kinds.specs.Kinds.{joined, takes, marked, narrowed, is_set, is_relation, takes_body, is_turned};
+ghost use Rattle.binding_kinds.specs.Combinations.{is_any};
 
 use cat_values::{CheckWord, Infix};
 
@@ -36,6 +37,17 @@ impl Kind {
         match self {
             Kind::OfSet => false,
             Kind::OfRelation => true,
+            Kind::OfAny => true,
+        }
+    }
+
+    /// Whether it fits every kind.
+    pub(crate) fn is_any(self) -> bool
+        ensures { result ≡ is_any self }
+    {
+        match self {
+            Kind::OfSet => false,
+            Kind::OfRelation => false,
             Kind::OfAny => true,
         }
     }

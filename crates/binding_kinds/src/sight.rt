@@ -1,8 +1,9 @@
 //! The names that an expression sees.
 
-ghost use Rattle.std.specs.Prelude.{◌≡◌, reverse, map};
+ghost use Rattle.std.specs.Prelude.{◌≡◌, reverse, map, false, get_or, slice_get, Some, None};
 ghost use Rattle.binding_kinds.specs.Value.{entry_of};
 ghost use Rattle.binding_kinds.specs.Kinds.{found};
+ghost use Rattle.binding_kinds.specs.Applicable.{applied_of};
 ghost use Rattle.binding_kinds.specs.Meanings.{parameter_of, meaning_of};
 
 use crate::fault::ModelFault;
@@ -67,7 +68,9 @@ impl Sight<'_> {
 
     /// The function that a name with so many arguments stands for. Errors: `Unbound` where nothing
     /// binds the name, `Arity` where it is no function of so many.
-    pub fn function(&self, name: &Name, count: usize) -> Result<usize, ModelFault> {
+    pub fn function(&self, name: &Name, count: usize) -> Result<usize, ModelFault>
+        ensures { result ≡ applied_of (λ f. slice_get (map (λ one. one.arity) self.now.functions.now) f) count (parameter_of (reverse self.now.parameters.now) name.now) (found (reverse (map entry_of self.now.entries.now)) name.now) }
+    {
         if parameter(self.parameters, name).is_some() {
             return Err(ModelFault::Arity);
         }
@@ -84,7 +87,10 @@ impl Sight<'_> {
     }
 
     /// Whether the function has that parameter under a complement or right of a difference.
-    pub fn is_under(&self, function: usize, place: usize) -> bool {
+    pub fn is_under(&self, function: usize, place: usize) -> bool
+        ensures there { (one : Function) → slice_get self.now.functions.now function ≡ Some one → result ≡ get_or one.under place false }
+        ensures none { slice_get self.now.functions.now function ≡ None → result ≡ false }
+    {
         match self.functions.get(function) {
             Some(one) => one.is_under(place),
             None => false,

@@ -1,6 +1,7 @@
 //! The kinds that an application makes of arguments of given kinds.
 
-ghost use Rattle.std.specs.Prelude.{◌≤◌, ◌<◌};
+ghost use Rattle.std.specs.Prelude.{◌≡◌, ◌≤◌, ◌<◌, ◌*◌, ◌^◌, List, length, get_or};
+ghost use Rattle.binding_kinds.specs.Combinations.{digit, number_of, has_any};
 
 use crate::kinds::Kind;
 
@@ -15,6 +16,7 @@ pub struct Signature {
 
 /// Three to the power of a place, up to the eighth.
 pub fn weight(place: usize) -> usize
+    ensures power { place ≤ 8 → result ≡ 3 ^ place }
     ensures low { 0 < result }
     ensures high { result ≤ 6561 }
 {
@@ -32,17 +34,23 @@ pub fn weight(place: usize) -> usize
 }
 
 /// The kind at that place of a combination of kinds.
-pub fn kind_at(combination: usize, place: usize) -> Kind {
-    match combination / weight(place) % 3 {
-        0 => Kind::OfSet,
-        1 => Kind::OfRelation,
-        _ => Kind::OfAny,
+pub fn kind_at(combination: usize, place: usize) -> Kind
+    ensures { (kinds : List Kind) → (other : Kind) → combination ≡ number_of kinds → place < length kinds → length kinds ≤ 8 → result ≡ get_or kinds place other }
+{
+    let digit = combination / weight(place) % 3;
+    if digit == 0 {
+        Kind::OfSet
+    } else if digit == 1 {
+        Kind::OfRelation
+    } else {
+        Kind::OfAny
     }
 }
 
 /// What a kind at that place adds to a combination.
 pub fn weighed(kind: Kind, place: usize) -> usize
-    ensures { result ≤ 13122 }
+    ensures small { result ≤ 13122 }
+    ensures power { place ≤ 8 → result ≡ digit kind * 3 ^ place }
 {
     match kind {
         Kind::OfSet => 0,
@@ -52,10 +60,12 @@ pub fn weighed(kind: Kind, place: usize) -> usize
 }
 
 /// Whether one of the kinds of a combination fits every kind.
-pub fn has_any(combination: usize, arity: usize) -> bool {
+pub fn has_any(combination: usize, arity: usize) -> bool
+    ensures { (kinds : List Kind) → combination ≡ number_of kinds → arity ≡ length kinds → length kinds ≤ 8 → result ≡ has_any kinds }
+{
     let mut any = false;
     for place in 0..arity {
-        if kind_at(combination, place) == Kind::OfAny {
+        if kind_at(combination, place).is_any() {
             any = true;
         }
     }
