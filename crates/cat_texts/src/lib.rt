@@ -4,4 +4,6 @@
 #[cfg(test)]
 mod print_tests;
 #[cfg(test)]
+mod rulings;
+#[cfg(test)]
 mod tests;
