@@ -53,6 +53,57 @@ fn refusals_at_applications(rt: HostRuntime) -> Result<(), Fail> {
 }
 
 #[test]
+fn first_faults(rt: HostRuntime) {
+    let alloc = rt.alloc();
+    let models: [(&[u8], u8); 36] = [
+        (b"let rec r = [(~r | R)]", 3),
+        (b"let rec r = ~~r", 3),
+        (b"let rec r = po \\ r", 3),
+        (b"let rec r = r \\ po", 0),
+        (b"let rec r = po | r let a = ~r acyclic a", 0),
+        (b"let f(a) = po let rec r = f(~r)", 3),
+        (b"let f(a) = po acyclic f(po | R)", 2),
+        (b"acyclic R | [zzz]", 1),
+        (b"acyclic (po | R) ; zzz", 2),
+        (b"acyclic zzz ; (po | R)", 1),
+        (b"let a = zzz acyclic po", 1),
+        (b"show zzz acyclic po unshow zzz", 0),
+        (b"let a = b and b = po", 1),
+        (b"let a = po and b = a", 1),
+        (b"let rec a = b and b = po", 0),
+        (b"let rec a = po and a = R", 4),
+        (b"let f(a, a) = a", 4),
+        (b"let f(a) = a acyclic f", 6),
+        (b"acyclic po(rf)", 6),
+        (b"let f(a) = a acyclic f(f)", 6),
+        (b"let po(a) = a acyclic po", 6),
+        (b"let po = R acyclic po", 2),
+        (b"let f(a) = x let x = po acyclic f(po)", 1),
+        (b"let x = po let f(a) = x;a let x = R acyclic f(po)", 0),
+        (b"let f(po) = [po] acyclic f(R)", 0),
+        (b"acyclic R", 2),
+        (b"irreflexive R", 2),
+        (b"empty R", 0),
+        (b"empty R+", 2),
+        (b"empty [po]", 2),
+        (b"empty po * rf", 2),
+        (b"empty R;po", 2),
+        (b"empty R & po", 2),
+        (b"empty ~R \\ W", 0),
+        (b"let a = po let rec b = c and c = R", 5),
+        (
+            b"let d(a)=a|a let e(a)=d(d(d(d(d(d(d(d(d(d(d(d(a)))))))))))) acyclic po",
+            0,
+        ),
+    ];
+    for (text, wanted) in models {
+        assert_eq!(rt; number(&rt, alloc, text), wanted, "{text:?}");
+    }
+    let large = b"let d(a)=a|a let e(a)=d(d(d(d(d(d(d(d(d(d(d(d(a)))))))))))) acyclic e(po)";
+    assert_eq!(rt; number(&rt, alloc, large), 7);
+}
+
+#[test]
 fn what_is_used(rt: HostRuntime) -> Result<(), Fail> {
     let alloc = rt.alloc();
     let text = b"let x = po let y = rf let f(a, b) = x;a let z = f(y, x) show y acyclic z";
