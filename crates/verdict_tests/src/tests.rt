@@ -11,9 +11,18 @@ use verdict::{Evaluation, Observation, Outcome, OutcomeResult, Raised, outcome};
 const STORES: &[u8] =
     b"PPC 2W\n{ 0:r2=x; 1:r2=x; }\nP0|P1;\nli r1,1|li r1,2;\nstw r1,0(r2)|stw r1,0(r2);\nexists ([x]=2)";
 
-/// What the test says under these checks and flags.
-fn said(alloc: Global, checks: &[Vec<bool>], flags: &[Raised]) -> Result<Evaluation, Fail> {
-    let test = read_test(alloc, STORES)?;
+/// Seven threads that store 1 to 7 to one location.
+const SEVEN_STORES: &[u8] =
+    b"PPC STORES\n{ 0:r2=x; 1:r2=x; 2:r2=x; 3:r2=x; 4:r2=x; 5:r2=x; 6:r2=x; }\nP0|P1|P2|P3|P4|P5|P6;\nli r1,1|li r1,2|li r1,3|li r1,4|li r1,5|li r1,6|li r1,7;\nstw r1,0(r2)|stw r1,0(r2)|stw r1,0(r2)|stw r1,0(r2)|stw r1,0(r2)|stw r1,0(r2)|stw r1,0(r2);\nexists ([x]=7)";
+
+/// What a test says under these checks and flags.
+fn said_of(
+    alloc: Global,
+    text: &[u8],
+    checks: &[Vec<bool>],
+    flags: &[Raised],
+) -> Result<Evaluation, Fail> {
+    let test = read_test(alloc, text)?;
     let space = space(alloc, &test)?;
     let Outcome { result, .. } = outcome(
         alloc,
@@ -27,6 +36,22 @@ fn said(alloc: Global, checks: &[Vec<bool>], flags: &[Raised]) -> Result<Evaluat
         OutcomeResult::Evaluated(evaluation) => Ok(evaluation),
         OutcomeResult::Refused(_) => Err(Fail::from("refused")),
     }
+}
+
+/// What the test of two stores says under these checks and flags.
+fn said(alloc: Global, checks: &[Vec<bool>], flags: &[Raised]) -> Result<Evaluation, Fail> {
+    said_of(alloc, STORES, checks, flags)
+}
+
+#[test]
+fn each_state_is_counted(rt: HostRuntime) -> Result<(), Fail> {
+    let found = said_of(rt.alloc(), SEVEN_STORES, &[], &[])?;
+    assert_eq!(rt; found.states.len(), 7);
+    for (place, state) in found.states.iter().enumerate() {
+        assert_eq!(rt; (state.count, state.holds), (720, place == 6));
+    }
+    assert_eq!(rt; (found.positive, found.negative), (720, 4320));
+    Ok(())
 }
 
 #[test]
