@@ -1,8 +1,10 @@
 //! Evaluates each test of `examples.txt` under its model, and prints the whole log or the line
-//! that tells the outcome.
+//! that tells the outcome. Then compares the models that the bench's library holds as constants with
+//! their files.
 #![tactic(auto)]
 
 use litmusbench::eval;
+use memo_graph::fixtures;
 use std::alloc::{AllocError, Global};
 use std::rt::Files;
 use std::{fs, io};
@@ -65,6 +67,21 @@ fn show<R: Files + Print + AllocGlobal>(rt: &R, example: &Example<'_>) -> io::Re
     rt.print(text)
 }
 
+fn show_constant<R: Files + Print + AllocGlobal>(
+    rt: &R,
+    model_name: &str,
+    text: &[u8],
+) -> io::Result<()> {
+    let path = format!(in rt.alloc(); "{model_name}.cat")?;
+    let file = fs::read(rt, path.as_str())?;
+    let word = if file.as_slice() == text {
+        "the same as"
+    } else {
+        "another text than"
+    };
+    println!(rt; "== {path}: {word} the constant")
+}
+
 fn run<R: Files + Print + AllocGlobal>(rt: &R) -> io::Result<()> {
     let list = fs::read_to_string(rt, "examples.txt")?;
     for line in list.lines() {
@@ -72,7 +89,9 @@ fn run<R: Files + Print + AllocGlobal>(rt: &R) -> io::Result<()> {
             show(rt, &example)?;
         }
     }
-    Ok(())
+    show_constant(rt, "sc", fixtures::SC)?;
+    show_constant(rt, "coherence", fixtures::COHERENCE)?;
+    show_constant(rt, "power", fixtures::POWER)
 }
 
 fn main(rt: HostRuntime) -> io::Result<()> {
