@@ -17,7 +17,8 @@ use Rattle.cat_grammar.specs.declared.form.Form.{Form}
 use Rattle.cat_grammar.specs.declared.form.Form.TheVariants as forms
 use Rattle.cat_values.specs.Value.{Terms, NoTerm, OneMore, Clause}
 use Rattle.cat_tokens.specs.Words.{item_word, part_word, is_definition_word, is_other_word, name_or_broken, word_or, word_token}
-use Rattle.cat_tokens.specs.Lexer.{is_layout, is_letter, is_name_byte, ends_name, comment_front, quoted_front, word_front, sign_token, front, after_front, tokens_from, lexed}
+use Rattle.cat_tokens.specs.Lexer.{is_layout, is_name_byte, ends_name, comment_front, quoted_front, word_front, sign_token, front, after_front, tokens_from, lexed}
+use Rattle.source_text.specs.Letters.{is_letter}
 use Rattle.cat_grammar.specs.Grammar as grammar
 use Rattle.cat_tokens.specs.Tokens.{Placed, tokens_of}
 use Rattle.cat_grammar.specs.Grammar.{Tree, Trees, Word, Underscore, Zero, Braces, Pair, Post, Prefix, Group, Square, Application, Last, More, infix_token, postfix_token, spelled, spelled_arguments, meaning, meanings, Limits, Bound, CheckTree, ItemTree, Let, Check, Flag, Show, Include, show_token, spelled_rec, spelled_tilde, spelled_label, spelled_bound, spelled_group, spelled_parameters, spelled_check, spelled_one, spelled_shown, spelled_item, spelled_items, group_meaning, shown_meaning, item_meaning, items_meaning, IsItem, AreItems, Title, NoTitle, NameTitle, StringTitle, spelled_title, Means}

@@ -24,7 +24,8 @@ use Rattle.cat_values.specs.declared.model.Postfix.TheVariants as postfix
 use Rattle.cat_values.specs.Value as value
 use Rattle.cat_values.specs.Value.{Term, Terms, Atom, AllEvents, EmptyRelation, EmptySet, Join, Mark, Not, On, Apply, NoTerm, OneMore, Checked, Clause, Binding, Checking, Flagging, Showing, Including}
 use Rattle.cat_tokens.specs.Words.{item_word, part_word, word_token}
-use Rattle.cat_tokens.specs.Lexer.{is_layout, is_letter, ends_name, sign_token, word_front, comment_front, quoted_front, front, after_front, tokens_from}
+use Rattle.cat_tokens.specs.Lexer.{is_layout, ends_name, sign_token, word_front, comment_front, quoted_front, front, after_front, tokens_from}
+use Rattle.source_text.specs.Letters.{is_letter}
 use Rattle.cat_tokens.specs.Tokens.{Placed, tokens_of}
 use Rattle.cat_grammar.specs.Grammar.{Tree, infix_token, postfix_token, spelled, spelled_arguments, show_token, spelled_rec, spelled_tilde, spelled_label, spelled_bound, spelled_group, spelled_parameters, spelled_check, spelled_one, spelled_shown, spelled_item, spelled_items, Limits, NoTitle, has_no_effect}
 use Rattle.cat_printing.specs.Printing.{joined, is_binary, is_compound, infix_text, postfix_text, bracketed, printed_term, printed_terms, label_text, optional_label, tilde_text, word_text, check_text, recursion_text, binding_text, show_text, shown_text, quote, printed_item, printed_model}

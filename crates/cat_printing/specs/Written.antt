@@ -2,7 +2,8 @@
 use Rattle.std.specs.Prelude.{◌≡◌, ℕ, ◌<◌, List, [], ◌∷◌, true, Option, Some, None, length, slice_index}
 use Rattle.cat_tokens.specs.declared.token.Token.TheVariants as tokens
 use Rattle.cat_values.specs.Value.{Term, Terms, Atom, AllEvents, EmptyRelation, EmptySet, Join, Mark, Not, On, Apply, NoTerm, OneMore, Clause, Binding, Function, Checking, Flagging, Showing, Including}
-use Rattle.cat_tokens.specs.Lexer.{is_letter, is_name_byte, lexed}
+use Rattle.cat_tokens.specs.Lexer.{is_name_byte, lexed}
+use Rattle.source_text.specs.Letters.{is_letter}
 use Rattle.cat_tokens.specs.Words.{word_token}
 use Rattle.cat_grammar.specs.declared.form.Form.TheVariants as forms
 use Rattle.cat_grammar.specs.Grammar.{Limits, Means, has_no_effect}

@@ -3,6 +3,7 @@ use Rattle.std.specs.Prelude.{ℕ, zero, suc, ◌+◌, ◌-◌, List, [], ◌∷
 use Rattle.std.specs.List.{position_or_len}
 use Rattle.cat_tokens.specs.Words.{word_token}
 use Rattle.cat_tokens.specs.Tokens.{Placed}
+use Rattle.source_text.specs.Letters.{is_letter, is_digit}
 use Rattle.source_text.specs.Layout.{is_blank, is_line_end, quoted_from, comment_of}
 use Rattle.cat_tokens.specs.declared.rule.CatRule.TheVariants as rules
 use Rattle.cat_tokens.specs.declared.token.Sign.TheVariants.{Bar, Semicolon, Backslash, Ampersand}
@@ -15,11 +16,8 @@ use Rattle.cat_tokens.specs.declared.lexer.Front.TheVariants.{Layout, Lexeme}
 abbrev pub is_layout : ℕ → Bool
 is_layout b = is_blank b || b == 10
 
-abbrev pub is_letter : ℕ → Bool
-is_letter b = (nat_le 65 b && nat_le b 90) || (nat_le 97 b && nat_le b 122)
-
 abbrev pub is_name_byte : ℕ → Bool
-is_name_byte b = is_letter b || (nat_le 48 b && nat_le b 57) || b == 95 || b == 46 || b == 45
+is_name_byte b = is_letter b || is_digit b || b == 95 || b == 46 || b == 45
 
 abbrev pub ends_name : ℕ → Bool
 ends_name b = not (is_name_byte b)

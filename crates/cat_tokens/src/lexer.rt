@@ -3,12 +3,14 @@
 ghost use Rattle.std.specs.Prelude.{◌≡◌, ◌<◌, ◌≤◌, length, slice_index, IfOk};
 ghost use Rattle.std.specs.List.{position_or_len};
 ghost use Rattle.source_text.specs.Layout.{quoted_from, comment_of};
-ghost use Rattle.cat_tokens.specs.Lexer.{is_letter, is_name_byte, ends_name, is_layout, comment_front, quoted_front, sign_token, sign_front, front};
+ghost use Rattle.cat_tokens.specs.Lexer.{is_name_byte, ends_name, is_layout, comment_front, quoted_front, sign_token, sign_front, front};
 
 use crate::rule::CatRule;
 use crate::token::{Mark, Sign, Token};
 use crate::words::word_token;
-use source_text::{Name, comment_length, is_blank, line_length, quoted_length};
+use source_text::{
+    Name, byte_at, comment_length, is_blank, is_digit, is_letter, line_length, quoted_length,
+};
 use std::alloc::{AllocError, Global};
 
 /// What a text begins with, and how many bytes it takes.
@@ -26,20 +28,10 @@ fn is_layout(byte: u8) -> bool
     is_blank(byte) || byte == b'\n'
 }
 
-fn is_letter(byte: u8) -> bool
-    ensures { result ≡ is_letter byte }
-{
-    (b'A' <= byte && byte <= b'Z') || (b'a' <= byte && byte <= b'z')
-}
-
 fn is_name_byte(byte: u8) -> bool
     ensures { result ≡ is_name_byte byte }
 {
-    is_letter(byte)
-        || (b'0' <= byte && byte <= b'9')
-        || byte == b'_'
-        || byte == b'.'
-        || byte == b'-'
+    is_letter(byte) || is_digit(byte) || byte == b'_' || byte == b'.' || byte == b'-'
 }
 
 fn name_length(text: &[u8]) -> usize
@@ -52,13 +44,6 @@ fn name_length(text: &[u8]) -> usize
         }
     }
     text.len()
-}
-
-// The byte at an index, or 0 past the end.
-fn byte_at(text: &[u8], i: usize) -> u8
-    ensures { result ≡ slice_index text.now i }
-{
-    if i < text.len() { text[i] } else { 0 }
 }
 
 fn comment(text: &[u8]) -> Front

@@ -15,7 +15,7 @@ use Rattle.litmus_tokens.specs.declared.lexer.Front.TheVariants.{Layout, Lexeme}
 use Rattle.litmus_tokens.specs.Lexer.{front, is_not_ascii, begins_comment, is_equals, ends_word, gap_from, raw_from, raw_front, comment_front, quoted_front, line_front, word_front, mark_of, mark_front, sign_front, plain_front, head_front, stage_front}
 use Rattle.litmus_tokens.specs.Stage.{after}
 use Rattle.litmus_tokens.specs.Texts.{Placed, tokens_of, ends_line, after_front, tokens_from, lexed}
-use Rattle.litmus_tokens.specs.Words.{is_letter, is_digit}
+use Rattle.source_text.specs.Letters.{is_letter, is_digit}
 
 abbrev pub IsInner : Token → Type 0
 IsInner tokens.End = ⊥

@@ -15,7 +15,8 @@ use Rattle.litmus_tokens.specs.declared.token.Token.TheVariants as tokens
 use Rattle.litmus_tokens.specs.declared.token.Mark.TheVariants as marks
 use Rattle.litmus_tokens.specs.declared.lexer.Front.{Front}
 use Rattle.litmus_tokens.specs.declared.lexer.Front.TheVariants.{Layout, Lexeme}
-use Rattle.litmus_tokens.specs.Words.{is_letter, ends_table, is_register, is_known, register_of, or_zero}
+use Rattle.litmus_tokens.specs.Words.{ends_table, is_register, is_known, register_of, or_zero}
+use Rattle.source_text.specs.Letters.{is_letter}
 use Rattle.litmus_tokens.specs.Lexer.{is_space, ends_word, significant, begins_comment, gap_from, label_front, front}
 use Rattle.litmus_tokens.specs.Stage.{after}
 use Rattle.litmus_tokens.specs.Texts.{tokens_from}

@@ -12,7 +12,8 @@ use Rattle.litmus_tokens.specs.declared.token.Token.TheVariants as tokens
 use Rattle.litmus_tokens.specs.declared.token.Mark.TheVariants as marks
 use Rattle.litmus_tokens.specs.declared.lexer.Front.{Front}
 use Rattle.litmus_tokens.specs.declared.lexer.Front.TheVariants.{Layout, Lexeme}
-use Rattle.litmus_tokens.specs.Words.{ends_table, is_letter, is_digit}
+use Rattle.litmus_tokens.specs.Words.{ends_table}
+use Rattle.source_text.specs.Letters.{is_letter, is_digit}
 use Rattle.litmus_tokens.specs.Lexer.{front, begins_comment, stage_front}
 use Rattle.litmus_tokens.specs.Stage.{after, after_brace}
 use Rattle.litmus_tokens.specs.Texts.{Placed, tokens_of, ends_line, fresh_after, after_front, tokens_from}

@@ -14,7 +14,8 @@ use Rattle.litmus_tokens.specs.declared.token.Token.TheVariants as tokens
 use Rattle.litmus_tokens.specs.declared.token.Mark as mark
 use Rattle.litmus_tokens.specs.declared.lexer.Front.{Front}
 use Rattle.litmus_tokens.specs.declared.lexer.Front.TheVariants.{Layout, Lexeme}
-use Rattle.litmus_tokens.specs.Words.{is_digit, are_digits, is_letter}
+use Rattle.litmus_tokens.specs.Words.{are_digits}
+use Rattle.source_text.specs.Letters.{is_digit, is_letter}
 use Rattle.litmus_tokens.specs.Lexer.{is_word_byte, is_space, is_not_ascii, ends_word, ends_digits, is_equals, begins_comment, gap_from, comment_front, ends_raw, raw_from, raw_front, quoted_front, line_front, word_token, word_front, significant, number_front, minus_front, mark_of, mark_front, sign_front, plain_front, stage_front, front}
 use Rattle.litmus_tokens.specs.Stage.{after}
 use Rattle.litmus_tokens.specs.Texts.{Placed, tokens_of, ends_line, fresh_after, after_front, tokens_from}

@@ -2,7 +2,8 @@
 use Rattle.std.specs.Prelude.{◌≡◌, ℕ, ◌+◌, ◌<◌, ◌≤◌, max, List, [], ◌∷◌, length, slice_index, Bool, true, false, ◌||◌, ◌==◌, Option, Some, None, ℤ, pos, negsuc}
 use Rattle.litmus_tokens.specs.declared.stage.Stage.TheVariants.{Magic, Tail}
 use Rattle.litmus_tokens.specs.Lexer.{is_word_byte, begins_comment}
-use Rattle.litmus_tokens.specs.Words.{is_letter, is_test_name}
+use Rattle.litmus_tokens.specs.Words.{is_test_name}
+use Rattle.source_text.specs.Letters.{is_letter}
 use Rattle.litmus_tokens.specs.Texts.{tokens_of, lexed}
 use Rattle.litmus_values.specs.declared.test.Place.{Place}
 use Rattle.litmus_values.specs.declared.test.Place.TheVariants as places

@@ -12,7 +12,7 @@ use Rattle.litmus_tokens.specs.declared.token.Mark as mark
 use Rattle.litmus_tokens.specs.declared.token.Mark.TheVariants.{OpenBrace, CloseBrace, OpenBracket, CloseBracket, Open, Close, Comma, Semicolon, Colon, Bar, Equals, Tilde, And, Or, Implies}
 use Rattle.litmus_tokens.specs.declared.lexer.Front.{Front}
 use Rattle.litmus_tokens.specs.declared.lexer.Front.TheVariants.{Layout, Lexeme}
-use Rattle.litmus_tokens.specs.Words.{is_letter, is_digit}
+use Rattle.source_text.specs.Letters.{is_letter, is_digit}
 
 -- ---- bytes
 

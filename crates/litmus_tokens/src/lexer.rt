@@ -2,7 +2,6 @@
 
 ghost use Rattle.std.specs.Prelude.{◌≡◌, ◌<◌, ◌≤◌, length, take, drop, slice_index, IfOk};
 ghost use Rattle.std.specs.List.{position_or_len};
-ghost use Rattle.litmus_tokens.specs.Words.{is_letter, is_digit};
 ghost use Rattle.litmus_tokens.specs.Lexer.{is_not_ascii, is_space, ends_raw, is_word_byte, ends_word, ends_digits, begins_comment, gap_from, raw_from, comment_front, raw_front, quoted_front, line_front, word_front, number_front, minus_front, significant, mark_of, sign_front, plain_front, head_front, front};
 ghost use Rattle.source_text.specs.Layout.{is_line_end, quoted_from, comment_of};
 
@@ -10,7 +9,9 @@ use crate::rule::LitmusRule;
 use crate::stage::Stage;
 use crate::token::{Mark, Token};
 use memchr::memchr;
-use source_text::{Name, comment_length, is_blank, line_length, quoted_length};
+use source_text::{
+    Name, byte_at, comment_length, is_blank, is_digit, is_letter, line_length, quoted_length,
+};
 use std::alloc::{AllocError, Global};
 
 /// What a text begins with, and how many bytes it takes.
@@ -20,18 +21,6 @@ pub enum Front {
     Layout(usize),
     /// A token, of so many bytes.
     Lexeme(Token, usize),
-}
-
-fn is_letter(byte: u8) -> bool
-    ensures { result ≡ is_letter byte }
-{
-    (b'A' <= byte && byte <= b'Z') || (b'a' <= byte && byte <= b'z')
-}
-
-fn is_digit(byte: u8) -> bool
-    ensures { result ≡ is_digit byte }
-{
-    b'0' <= byte && byte <= b'9'
 }
 
 fn is_word_byte(byte: u8) -> bool
@@ -58,14 +47,6 @@ fn ends_raw(byte: u8, next: u8) -> bool
     ensures { result ≡ ends_raw byte next }
 {
     is_space(byte) || is_not_ascii(byte) || (byte == b'(' && next == b'*')
-}
-
-// The byte at an index, or 0 past the end.
-fn byte_at(text: &[u8], index: usize) -> u8
-    ensures value { result ≡ slice_index text.now index }
-    ensures within { 0 < result → index < length text.now }
-{
-    if index < text.len() { text[index] } else { 0 }
 }
 
 fn begins_comment(text: &[u8]) -> bool

@@ -1,7 +1,9 @@
 //! What words and digits stand for.
 
 ghost use Rattle.std.specs.Prelude.{◌≡◌, ◌<◌, min, IfSome};
-ghost use Rattle.litmus_tokens.specs.Words.{is_digit, decimal, int_of, are_digits, is_plain, register_of, is_filter, ends_table, names_column, is_printable, are_printable, is_test_name};
+ghost use Rattle.litmus_tokens.specs.Words.{decimal, int_of, are_digits, is_plain, register_of, is_filter, ends_table, names_column, is_printable, are_printable, is_test_name};
+
+use source_text::is_digit;
 
 /// The number that decimal digits make, or the greatest that fits.
 pub fn decimal(digits: &[u8]) -> usize
@@ -60,12 +62,6 @@ fn is_plain(digits: &[u8]) -> bool
         [] => false,
         [first, others @ ..] => are_digits(digits) && (others.is_empty() || *first != b'0'),
     }
-}
-
-fn is_digit(byte: u8) -> bool
-    ensures { result ≡ is_digit byte }
-{
-    b'0' <= byte && byte <= b'9'
 }
 
 fn are_digits(bytes: &[u8]) -> bool

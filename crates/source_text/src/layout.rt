@@ -4,6 +4,7 @@ ghost use Rattle.std.specs.Prelude.{◌≡◌, ◌<◌, ◌≤◌, length, slice
 ghost use Rattle.std.specs.List.{position_or_len};
 ghost use Rattle.source_text.specs.Layout.{is_blank, is_line_end, quoted_from, comment_from, comment_of};
 
+use crate::letters::byte_at;
 use memchr::memchr;
 
 /// Whether a byte is a space, a tab or a carriage return. A line feed is none of them.
@@ -37,14 +38,6 @@ pub fn quoted_length(bytes: &[u8]) -> Option<usize>
         Some(at) => Some(at + 2),
         None => None,
     }
-}
-
-// The byte at an index, or 0 past the end.
-fn byte_at(bytes: &[u8], i: usize) -> u8
-    ensures value { result ≡ slice_index bytes.now i }
-    ensures within { 0 < result → i < length bytes.now }
-{
-    if i < bytes.len() { bytes[i] } else { 0 }
 }
 
 // How many bytes an open comment goes on for.

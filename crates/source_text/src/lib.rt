@@ -2,10 +2,12 @@
 #![tactic(auto)]
 
 mod layout;
+mod letters;
 mod name;
 mod put;
 
 pub use layout::{comment_length, is_blank, line_length, quoted_length};
+pub use letters::{byte_at, is_digit, is_letter};
 pub use name::Name;
 pub use put::{put_bytes, put_decimal};
 
