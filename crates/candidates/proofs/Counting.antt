@@ -84,7 +84,7 @@ or_second : (a b : Bool) → a ≡ false → (a || b) ≡ true → b ≡ true
 or_second true b k l = absurd cc
 or_second false b k l = l
 
-or_parts : (a b : Bool) → (a || b) ≡ false → (a ≡ false) × (b ≡ false)
+pub or_parts : (a b : Bool) → (a || b) ≡ false → (a ≡ false) × (b ≡ false)
 or_parts true b h = absurd cc
 or_parts false b h = (refl, h)
 
@@ -222,7 +222,7 @@ orders_count first others d no_one =
     ∙ rounds_length first others d no_one (length others) 0 (omega arith)
 
 -- the numbers of events are there once each
-numbers_above : (test : Event → Bool) (at : ℕ) (es : List Event) (y : ℕ) → y < at → has_store (numbers test at es) y ≡ false
+pub numbers_above : (test : Event → Bool) (at : ℕ) (es : List Event) (y : ℕ) → y < at → has_store (numbers test at es) y ≡ false
 numbers_above test at [] y lt = refl
 numbers_above test at (e ∷ es) y lt = go (test e) (numbers test (at + 1) es) (numbers_above test (at + 1) es y (omega (arith, lt)))
   where

@@ -17,4 +17,5 @@ pub mod Pruning
 pub mod Searching
 pub mod Spaces
 pub mod Stores
+pub mod Totals
 pub mod WayLists

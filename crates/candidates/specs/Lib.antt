@@ -1,3 +1,4 @@
+pub mod Candidates
 pub mod Keys
 pub mod Layouts
 pub mod Lists

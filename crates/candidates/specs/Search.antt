@@ -139,6 +139,6 @@ nothing = record { kept = []; count = 0; faulted = false }
 abbrev pub all_combinations : Layout → List Begun
 all_combinations l = combinations (start l.initial.items) l.threads.items
 
--- how many of its locations have orders of stores
+-- how many locations have orders of stores
 abbrev pub location_count : Layout → ℕ
-location_count l = min (length l.locations.items) 128
+location_count l = min (length l.initial.items) 128

@@ -1,6 +1,6 @@
 //! What a test's candidates are made of: initial stores, and runs of each thread.
 
-ghost use Rattle.std.specs.Prelude.{Vec, ℕ, ◌≡◌, ◌<◌, List, Some, length, IfOk};
+ghost use Rattle.std.specs.Prelude.{Vec, ℕ, ◌≡◌, ◌<◌, List, Some, length, map, IfOk};
 ghost use Rattle.std.specs.declared.alloc.Global.{Global};
 ghost use Rattle.ppc_semantics.specs.declared.value.Value.{Value};
 ghost use Rattle.ppc_semantics.specs.declared.run.Run.{Run};
@@ -148,18 +148,27 @@ impl Layout {
     }
 }
 
+/// What the registers hold at the end of each run.
+fn ends_of(alloc: Global, parts: &[Part]) -> Result<Vec<[Value; 32]>, AllocError>
+    ensures { IfOk result (λ v. v.items ≡ map (λ p. p.registers) parts.now) }
+{
+    let mut ends = Vec::with_capacity(alloc, parts.len())?;
+    for part in parts {
+        ends.push(part.registers)?;
+    }
+    Ok(ends)
+}
+
 /// For each thread and each of its runs, what the registers hold at the end.
 pub fn registers(
     alloc: Global,
     threads: &[ThreadParts],
-) -> Result<Vec<Vec<[Value; 32]>>, AllocError> {
+) -> Result<Vec<Vec<[Value; 32]>>, AllocError>
+    ensures { IfOk result (λ v. map (λ w. w.items) v.items ≡ map (λ t. map (λ p. p.registers) t.parts.items) threads.now) }
+{
     let mut all = Vec::with_capacity(alloc, threads.len())?;
     for thread in threads {
-        let mut runs = Vec::with_capacity(alloc, thread.parts.len())?;
-        for part in &thread.parts {
-            runs.push(part.registers)?;
-        }
-        all.push(runs)?;
+        all.push(ends_of(alloc, &thread.parts)?)?;
     }
     Ok(all)
 }

@@ -3,6 +3,14 @@
 //! 36(2), 2014).
 #![tactic(auto)]
 
+ghost use Rattle.std.specs.Prelude.{ℕ, ◌≡◌, List, Option, map, IfOk};
+ghost use Rattle.ppc_semantics.specs.declared.value.Value.{Value};
+ghost use Rattle.candidates.specs.Keys.{IsKeyed};
+ghost use Rattle.candidates.specs.Parts.{initial_from};
+ghost use Rattle.candidates.specs.Search.{all_combinations, location_count};
+ghost use Rattle.candidates.specs.Space.{seen, ordered};
+ghost use Rattle.candidates.specs.Candidates.{AreSmall, HasEnds, IsAnswer};
+
 mod candidate;
 mod keys;
 mod layout;
@@ -12,13 +20,47 @@ mod reading;
 mod search;
 
 pub use candidate::{Action, Combination, Event, Execution, Space};
-use layout::Layout;
+use layout::{Layout, registers};
 use litmus_ppc::Test;
+use orders::with_orders;
 use ppc_semantics::{EvalRefusal, SpaceFault, domain_of, program};
-use std::alloc::Global;
+use search::search;
+use std::alloc::{AllocError, Global};
 
 /// The greatest number of candidates that a test may have.
 pub const MAX_CANDIDATES: usize = 16_384;
+
+/// The space with these combinations.
+fn space_with(
+    alloc: Global,
+    layout: Layout,
+    combinations: Vec<Combination>,
+) -> Result<Space, AllocError>
+    ensures { IfOk result (λ s. (map seen s.combinations.items ≡ map (λ c. ordered (location_count layout) (seen c)) combinations.items) × HasEnds layout s) }
+{
+    let combinations = with_orders(alloc, combinations, layout.initial.len())?;
+    let registers = registers(alloc, &layout.threads)?;
+    Ok(Space {
+        locations: layout.locations,
+        registers,
+        combinations,
+    })
+}
+
+/// The space of a layout, or why it has none.
+fn space_of(alloc: Global, layout: Layout) -> Result<Result<Space, EvalRefusal>, AllocError>
+    ensures { (key : ℕ → Value → Option (ℕ × ℕ)) (initial : List Value) → IsKeyed key layout → layout.initial.items ≡ initial_from 0 initial → AreSmall (all_combinations layout) → IfOk result (λ r. IsAnswer layout r) }
+{
+    match search(alloc, &layout)? {
+        None => Ok(Err(EvalRefusal::TooManyCandidates)),
+        Some(found) => {
+            if found.is_faulted {
+                return Ok(Err(EvalRefusal::AddressFault));
+            }
+            Ok(Ok(space_with(alloc, layout, found.combinations)?))
+        }
+    }
+}
 
 /// All candidates of a test, ordered by runs, then by the stores that the loads read, then by the
 /// orders of the stores.
@@ -29,18 +71,8 @@ pub const MAX_CANDIDATES: usize = 16_384;
 pub fn space(alloc: Global, test: &Test) -> Result<Space, SpaceFault> {
     let program = program(alloc, test)?;
     let domain = domain_of(alloc, &program)?;
-    let layout = Layout::new(alloc, program, &domain)?;
-    let Some(found) = search::search(alloc, &layout)? else {
-        return Err(SpaceFault::Refused(EvalRefusal::TooManyCandidates));
-    };
-    if found.is_faulted {
-        return Err(SpaceFault::Refused(EvalRefusal::AddressFault));
+    match space_of(alloc, Layout::new(alloc, program, &domain)?)? {
+        Ok(space) => Ok(space),
+        Err(refusal) => Err(SpaceFault::Refused(refusal)),
     }
-    let combinations = orders::with_orders(alloc, found.combinations, layout.locations.len())?;
-    let registers = layout::registers(alloc, &layout.threads)?;
-    Ok(Space {
-        locations: layout.locations,
-        registers,
-        combinations,
-    })
 }

@@ -221,7 +221,7 @@ fn first_front(alloc: Global, layout: &Layout) -> Result<Front, AllocError>
 /// The combinations that have candidates, in the order of their runs, without their orders; `None`
 /// where there are too many candidates.
 pub fn search(alloc: Global, layout: &Layout) -> Result<Option<Found>, AllocError>
-    ensures { (key : ℕ → Value → Option (ℕ × ℕ)) → IsKeyed key layout.now → AllFit (location_count layout.now) (all_combinations layout.now) → IfOk result (λ o. MatchOption o (AreTooMuch (location_count layout.now) (all_combinations layout.now) nothing) (λ f. Searched (location_count layout.now) (all_combinations layout.now) nothing (tally f))) }
+    ensures { (key : ℕ → Value → Option (ℕ × ℕ)) → IsKeyed key layout.now → AllFit (location_count layout.now) (all_combinations layout.now) → IfOk result (λ o. MatchOption o (AreTooMuch (location_count layout.now) (all_combinations layout.now) nothing) (λ f. Searched (location_count layout.now) (all_combinations layout.now) nothing (tally f) × (f.count ≤ 16384))) }
 {
     let front = first_front(alloc, layout)?;
     let mut found = Found {
@@ -229,7 +229,7 @@ pub fn search(alloc: Global, layout: &Layout) -> Result<Option<Found>, AllocErro
         count: 0,
         is_faulted: false,
     };
-    let locations = layout.locations.len();
+    let locations = layout.initial.len();
     if search_from(alloc, locations, &layout.threads, front, &mut found)? {
         Ok(Some(found))
     } else {
