@@ -53,7 +53,7 @@ fn mark_used(marks: &mut Vec<bool>, item: &ResolvedItem)
 }
 
 /// The places of the items that checks and flags reach, themselves and the functions that are
-/// applied among them, rising.
+/// applied among them, rising. Errors: want of memory.
 pub fn used(alloc: Global, resolved: &Resolved) -> Result<Vec<usize>, AllocError>
     ensures { IfOk result (λ v. All (λ i. i < vec_len resolved.now.items) v.items) }
 {

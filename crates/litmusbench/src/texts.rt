@@ -32,7 +32,8 @@ fn log_of(alloc: Global, test: &Test, model: &ModelText) -> Result<Vec<u8>, Allo
     outcome_log(alloc, test.name.as_bytes(), &outcome)
 }
 
-/// The log of the test under the model. The model is read first.
+/// The log of the test under the model. The model is read first. Errors: the first rule that the
+/// model breaks, with its byte, then that of the test, or want of memory.
 pub fn eval(alloc: Global, model: &[u8], test: &[u8]) -> Result<Vec<u8>, EvalFault> {
     let model = model_of(alloc, model)?;
     let test = test_of(alloc, test)?;
