@@ -4,4 +4,6 @@
 #[cfg(test)]
 mod cuts;
 #[cfg(test)]
+mod rulings;
+#[cfg(test)]
 mod tests;
