@@ -1,6 +1,6 @@
 //! Where bytes come from.
 
-ghost use Rattle.std.specs.Prelude.{◌≡◌, ◌+◌, ◌-◌, ◌<◌, ◌^◌, List, ℕ, Option, Some, OnOk, OnErr, IfOk, IfSome, length};
+ghost use Rattle.std.specs.Prelude.{◌≡◌, ◌≢◌, ◌+◌, ◌-◌, ◌<◌, ◌^◌, List, ℕ, Option, Some, OnOk, OnErr, IfOk, IfSome, length};
 ghost use Rattle.std.specs.Io.{ReadsAtMost};
 ghost use Rattle.std.specs.Io.KnownBytes.{ReadConsumes};
 ghost use Rattle.litmusbench.specs.declared.source.ReadFault.TheVariants.{Memory};
@@ -136,7 +136,9 @@ const MAX_TURNS: u32 = 16_777_216;
 pub fn read_all<S: ByteSource>(alloc: Global, source: &mut S) -> Result<Vec<u8>, ReadFault>
     requires { S.failed_calls source.old < 2 ^ 64 - 1 }
     ensures bytes { IfOk result (λ v. IfSome (S.remaining source.old) (λ all. v.items ≡ all)) }
+    // `Read` comes after one failed call, and all else after none.
     ensures read { result ≡ Err ReadFault.Read → S.failed_calls source.new ≡ S.failed_calls source.old + 1 }
+    ensures same { result ≢ Err ReadFault.Read → S.failed_calls source.new ≡ S.failed_calls source.old }
 {
     let mut bytes = Vec::new(alloc);
     let mut buffer = [0u8; 4096];

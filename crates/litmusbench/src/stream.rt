@@ -1,6 +1,7 @@
 //! A model and a test from a source, and what is said of them to a sink.
 
-ghost use Rattle.std.specs.Prelude.{◌≡◌, ◌≢◌, ◌+◌, ◌-◌, ◌<◌, ◌^◌, IfOk, IfSome};
+ghost use Rattle.std.specs.Prelude.{◌≡◌, ◌≢◌, ◌+◌, ◌-◌, ◌<◌, ◌^◌, ◌++◌, true, OnOk, IfOk, IfSome};
+ghost use Rattle.litmusbench.specs.Answer.{IsAnswer, IsWritten, IsStreamed, refused_line};
 
 use crate::cut::cut_at_dot;
 use crate::fault::{EvalFault, SessionFault};
@@ -19,31 +20,42 @@ struct Answer {
     is_refused: bool,
 }
 
-fn refusal_line(alloc: Global, letter: u8, number: u8, place: usize) -> Result<Answer, AllocError> {
-    let mut text = Vec::new(alloc);
-    put_bytes(&mut text, b"refused ")?;
+#[tactic(auto, unfolding(crate::specs::Answer::refused_line))]
+fn put_refusal(text: &mut Vec<u8>, letter: u8, number: u8, place: usize) -> Result<(), AllocError>
+    ensures { OnOk result (text.new.items ≡ text.old.items ++ refused_line letter number place) }
+{
+    put_bytes(text, b"refused ")?;
     text.push(letter)?;
-    put_decimal(&mut text, u64::from(number))?;
-    put_bytes(&mut text, b" ")?;
-    put_decimal(&mut text, place as u64)?;
-    put_bytes(&mut text, b"\n")?;
+    put_decimal(text, u64::from(number))?;
+    put_bytes(text, b" ")?;
+    put_decimal(text, place as u64)?;
+    put_bytes(text, b"\n")
+}
+
+fn refusal(alloc: Global, letter: u8, number: u8, place: usize) -> Result<Answer, AllocError>
+    ensures { IfOk result (λ a. (a.text.items ≡ refused_line letter number place) × (a.is_refused ≡ true)) }
+{
+    let mut text = Vec::new(alloc);
+    put_refusal(&mut text, letter, number, place)?;
     Ok(Answer {
         text,
         is_refused: true,
     })
 }
 
-fn answer_to(alloc: Global, model: &[u8], test: &[u8]) -> Result<Answer, AllocError> {
+fn answer_to(alloc: Global, model: &[u8], test: &[u8]) -> Result<Answer, AllocError>
+    ensures { IfOk result (λ a. IsAnswer model.now test.now a.text.items a.is_refused) }
+{
     match eval(alloc, model, test) {
         Ok(text) => Ok(Answer {
             text,
             is_refused: false,
         }),
         Err(EvalFault::Model(CatFault::Refused { rule, place })) => {
-            refusal_line(alloc, b'C', rule.number(), place)
+            refusal(alloc, b'C', rule.number(), place)
         }
         Err(EvalFault::Test(LitmusFault::Refused { rule, place })) => {
-            refusal_line(alloc, b'L', rule.number(), place)
+            refusal(alloc, b'L', rule.number(), place)
         }
         Err(EvalFault::Model(CatFault::OutOfMemory(e))) => Err(e),
         Err(EvalFault::Test(LitmusFault::OutOfMemory(e))) => Err(e),
@@ -52,8 +64,11 @@ fn answer_to(alloc: Global, model: &[u8], test: &[u8]) -> Result<Answer, AllocEr
 }
 
 /// Writes the log of the test under the model, or a line `refused`, number and place. Whether a text
-/// was refused. After a fault, what was written is a front of that text. Errors: `Write` where a
-/// call failed, or `Memory`.
+/// was refused. After a fault, what was written is a front of that text.
+///
+/// # Errors
+///
+/// `Write` where a write failed, and `Memory`, before the first write.
 pub fn write_answer<W: ByteSink>(
     alloc: Global,
     model: &[u8],
@@ -61,10 +76,17 @@ pub fn write_answer<W: ByteSink>(
     sink: &mut W,
 ) -> Result<bool, SessionFault>
     requires { W.failed_calls sink.old < 2 ^ 64 - 1 }
-    ensures { result ≡ Err SessionFault.Write → W.failed_calls sink.new ≡ W.failed_calls sink.old + 1 }
+    // The answer is written, or a front of it where a write failed, and else nothing.
+    ensures written { IsWritten model.now test.now (W.contents sink.old) (W.contents sink.new) result }
+    // `Write` comes after one failed call, and all else after none.
+    ensures failed { result ≡ Err SessionFault.Write → W.failed_calls sink.new ≡ W.failed_calls sink.old + 1 }
+    ensures same { result ≢ Err SessionFault.Write → W.failed_calls sink.new ≡ W.failed_calls sink.old }
+    // Nothing is read.
+    ensures fault { (result ≢ Err SessionFault.Read) × (result ≢ Err SessionFault.Endless) }
 {
-    let Ok(answer) = answer_to(alloc, model, test) else {
-        return Err(SessionFault::Memory);
+    let answer = match answer_to(alloc, model, test) {
+        Ok(answer) => answer,
+        Err(_) => return Err(SessionFault::Memory),
     };
     match write_whole(sink, &answer.text) {
         Ok(()) => Ok(answer.is_refused),
@@ -72,24 +94,34 @@ pub fn write_answer<W: ByteSink>(
     }
 }
 
-/// All bytes of a source. Errors: `Read` where a call failed or the source did not end, or
-/// `Memory`.
+/// All bytes of a source.
+///
+/// # Errors
+///
+/// `Read` where a read failed, `Endless` where the bytes did not end within 16,777,216 reads, and `Memory`.
 pub fn read_text<S: ByteSource>(alloc: Global, source: &mut S) -> Result<Vec<u8>, SessionFault>
     requires { S.failed_calls source.old < 2 ^ 64 - 1 }
     ensures bytes { IfOk result (λ v. IfSome (S.remaining source.old) (λ all. v.items ≡ all)) }
+    // `Read` comes after one failed call, and all else after none.
+    ensures failed { result ≡ Err SessionFault.Read → S.failed_calls source.new ≡ S.failed_calls source.old + 1 }
+    ensures same { result ≢ Err SessionFault.Read → S.failed_calls source.new ≡ S.failed_calls source.old }
+    // Nothing is written.
     ensures fault { result ≢ Err SessionFault.Write }
 {
     match read_all(alloc, source) {
         Ok(bytes) => Ok(bytes),
         Err(ReadFault::Memory) => Err(SessionFault::Memory),
         Err(ReadFault::Read) => Err(SessionFault::Read),
-        Err(ReadFault::Endless) => Err(SessionFault::Read),
+        Err(ReadFault::Endless) => Err(SessionFault::Endless),
     }
 }
 
 /// Reads all input, which holds a model, a line that is exactly `.` and a test, and writes what
-/// `write_answer` does. With no such line the test's text is empty. Errors: `Read` where a read
-/// failed or the input did not end, `Write` where a write failed, or `Memory`.
+/// `write_answer` does. With no such line the test's text is empty.
+///
+/// # Errors
+///
+/// Those of `read_text`, before the first write, and those of `write_answer`.
 pub fn eval_stream<R: AllocGlobal, S: ByteSource, W: ByteSink>(
     rt: &R,
     source: &mut S,
@@ -97,7 +129,13 @@ pub fn eval_stream<R: AllocGlobal, S: ByteSource, W: ByteSink>(
 ) -> Result<bool, SessionFault>
     requires source { S.failed_calls source.old < 2 ^ 64 - 1 }
     requires sink { W.failed_calls sink.old < 2 ^ 64 - 1 }
-    ensures { result ≡ Err SessionFault.Write → W.failed_calls sink.new ≡ W.failed_calls sink.old + 1 }
+    // The answer to the texts into which the input is cut is written, or a front of it, or nothing.
+    ensures written { IsStreamed (S.remaining source.old) (W.contents sink.old) (W.contents sink.new) result }
+    // `Read` comes after one failed read, `Write` after one failed write, and all else after none.
+    ensures read { result ≡ Err SessionFault.Read → S.failed_calls source.new ≡ S.failed_calls source.old + 1 }
+    ensures no_read { result ≢ Err SessionFault.Read → S.failed_calls source.new ≡ S.failed_calls source.old }
+    ensures write { result ≡ Err SessionFault.Write → W.failed_calls sink.new ≡ W.failed_calls sink.old + 1 }
+    ensures no_write { result ≢ Err SessionFault.Write → W.failed_calls sink.new ≡ W.failed_calls sink.old }
 {
     let bytes = match read_text(rt.alloc(), source) {
         Ok(bytes) => bytes,

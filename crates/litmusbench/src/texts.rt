@@ -1,5 +1,13 @@
 //! One test under one model, from bytes to a log.
 
+ghost use Rattle.std.specs.Prelude.{IfOk, IfErr};
+ghost use Rattle.cat_grammar.specs.declared.form.Form.{Form};
+ghost use Rattle.cat_syntax.specs.Reads.{Reads};
+ghost use Rattle.cat_values.specs.Values.{clauses_of};
+ghost use Rattle.litmus_ppc.specs.Texts.{ReadsTest};
+ghost use Rattle.litmus_values.specs.Value.{content_of};
+ghost use Rattle.litmusbench.specs.Answer.{IsLogOf, IsLog, IsRefusal, IsOfModel, IsOfTest};
+
 use crate::fault::EvalFault;
 use crate::log::outcome_log;
 use cat_syntax::{CatFault, ModelText, read_model};
@@ -7,7 +15,10 @@ use litmus_ppc::{LitmusFault, Test, read_test};
 use memo_graph::eval_cell;
 use std::alloc::{AllocError, Global};
 
-fn model_of(alloc: Global, text: &[u8]) -> Result<ModelText, EvalFault> {
+fn model_of(alloc: Global, text: &[u8]) -> Result<ModelText, EvalFault>
+    ensures found { IfOk result (λ m. Reads Form.Model text.now (clauses_of m.items.items)) }
+    ensures fault { IfErr result (IsOfModel text.now) }
+{
     match read_model(alloc, text) {
         Ok(model) => Ok(model),
         Err(CatFault::OutOfMemory(e)) => Err(EvalFault::Memory(e)),
@@ -17,7 +28,10 @@ fn model_of(alloc: Global, text: &[u8]) -> Result<ModelText, EvalFault> {
     }
 }
 
-fn test_of(alloc: Global, text: &[u8]) -> Result<Test, EvalFault> {
+fn test_of(alloc: Global, text: &[u8]) -> Result<Test, EvalFault>
+    ensures found { IfOk result (λ t. ReadsTest text.now (content_of t)) }
+    ensures fault { IfErr result (IsOfTest text.now) }
+{
     match read_test(alloc, text) {
         Ok(test) => Ok(test),
         Err(LitmusFault::OutOfMemory(e)) => Err(EvalFault::Memory(e)),
@@ -27,17 +41,34 @@ fn test_of(alloc: Global, text: &[u8]) -> Result<Test, EvalFault> {
     }
 }
 
-fn log_of(alloc: Global, test: &Test, model: &ModelText) -> Result<Vec<u8>, AllocError> {
+fn outcome_text(alloc: Global, test: &Test, model: &ModelText) -> Result<Vec<u8>, AllocError>
+    ensures { IfOk result (λ log. IsLogOf test.now model.now log.items) }
+{
     let outcome = eval_cell(alloc, test, model)?;
     outcome_log(alloc, test.name.as_bytes(), &outcome)
 }
 
-/// The log of the test under the model. The model is read first. Errors: the first rule that the
-/// model breaks, with its byte, then that of the test, or want of memory.
-pub fn eval(alloc: Global, model: &[u8], test: &[u8]) -> Result<Vec<u8>, EvalFault> {
-    let model = model_of(alloc, model)?;
-    let test = test_of(alloc, test)?;
-    match log_of(alloc, &test, &model) {
+/// The log of the test under the model. The model is read first.
+///
+/// # Errors
+///
+/// `Model` where the model's text is refused, else `Test` where the test's text is, both with rule and place, and
+/// `Memory`.
+pub fn eval(alloc: Global, model: &[u8], test: &[u8]) -> Result<Vec<u8>, EvalFault>
+    // A log is that of an outcome of the test and the model that the texts mean.
+    ensures log { IfOk result (λ log. IsLog model.now test.now log.items) }
+    // A refusal is that of the first text that means nothing.
+    ensures refusal { IfErr result (IsRefusal model.now test.now) }
+{
+    let known_model = match model_of(alloc, model) {
+        Ok(known) => known,
+        Err(fault) => return Err(fault),
+    };
+    let known_test = match test_of(alloc, test) {
+        Ok(known) => known,
+        Err(fault) => return Err(fault),
+    };
+    match outcome_text(alloc, &known_test, &known_model) {
         Ok(log) => Ok(log),
         Err(e) => Err(EvalFault::Memory(e)),
     }

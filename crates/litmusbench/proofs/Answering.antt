@@ -1,0 +1,94 @@
+-- What is said of two texts.
+use Rattle.std.proofs.Common.{◌≡◌, ◌≢◌, ℕ, List, Bool, true, Option, Some, None, Result, Ok, Err, IfOk, IfSome, length, sym, ap, ◌∙◌, subst, refl}
+use Rattle.std.specs.Io.KnownBytes.{Keeps}
+use Rattle.std.specs.declared.alloc.Global.{Global}
+use Rattle.std.specs.declared.alloc.AllocError.{AllocError}
+use Rattle.std.specs.declared.vec.Vec.{Vec}
+use Rattle.litmus_tokens.specs.declared.rule.LitmusRule.{LitmusRule}
+use Rattle.litmus_tokens.specs.Numbers.{number_of as test_rule_number}
+use Rattle.litmus_values.specs.declared.test.Test.{Test}
+use Rattle.cat_tokens.specs.declared.rule.CatRule.{CatRule}
+use Rattle.cat_tokens.specs.Tokens.{number_of as model_rule_number}
+use Rattle.litmus_ppc.specs.Faults as tests
+use Rattle.litmus_ppc.specs.Texts.{ReadsTest}
+use Rattle.litmus_ppc.specs.declared.fault.LitmusFault.{LitmusFault}
+use Rattle.litmus_ppc.specs.declared.fault.LitmusFault.TheVariants as test_faults
+use Rattle.litmus_values.specs.Value.{Content}
+use Rattle.cat_values.specs.Value.{Clause}
+use Rattle.cat_grammar.specs.declared.form.Form.TheVariants.{Model}
+use Rattle.cat_syntax.specs.Faults as models
+use Rattle.cat_syntax.specs.Reads.{Reads, IsFaultOf}
+use Rattle.cat_syntax.specs.declared.fault.CatFault.{CatFault}
+use Rattle.cat_syntax.specs.declared.fault.CatFault.TheVariants as model_faults
+use Rattle.litmusbench.specs.declared.fault.EvalFault.{EvalFault}
+use Rattle.litmusbench.specs.declared.fault.EvalFault.TheVariants as eval_faults
+use Rattle.cat_values.specs.declared.model.ModelText.{ModelText}
+use Rattle.verdict.specs.declared.answer.Outcome.{Outcome}
+use Rattle.litmusbench.specs.declared.fault.SessionFault.{SessionFault}
+use Rattle.litmusbench.specs.declared.fault.SessionFault.TheVariants as faults
+use Rattle.litmusbench.specs.declared.stream.Answer.{Answer}
+use Rattle.litmusbench.specs.Answer.{IsSaid, IsLogOf, IsModel, IsModelRefused, IsTestRefused, IsAnswer, RefusesModel, RefusesTest, IsRefusal, IsWritten, IsStreamed, refused_line}
+use Rattle.litmusbench.specs.Cut.{IsCut}
+use Rattle.litmusbench.specs.Log.{log_of}
+
+-- the log of an outcome, by the test's name
+pub log_said : (r : Result (Vec ℕ Global) AllocError) (test : Test) (model : ModelText) (o : Outcome) (name : List ℕ) → IsSaid test model o → name ≡ test.name → IfOk r (λ log. log.items ≡ log_of name o) → IfOk r (λ log. IsLogOf test model log.items)
+log_said (Ok v) test model o name said e h = (o, said, h ∙ ap (λ (n : List ℕ). log_of n o) e)
+log_said (Err f) test model o name said e h = tt
+
+-- a refusal of `read_model`, and one of `read_test`
+pub model_refused : (bytes : List ℕ) (e : CatFault) (rule : CatRule) (place : ℕ) → e ≡ model_faults.Refused rule place → ((v : List Clause) → Reads Model bytes v → models.IsMemory e) → IsFaultOf Model bytes e → IsModelRefused bytes rule place
+model_refused bytes e rule place is only fault =
+    record {
+      unread = λ v h. subst (λ (f : CatFault). models.IsMemory f) is (only v h);
+      fault = subst (λ (f : CatFault). IsFaultOf Model bytes f) is fault;
+    }
+
+pub test_refused : (bytes : List ℕ) (e : LitmusFault) (rule : LitmusRule) (place : ℕ) → e ≡ test_faults.Refused rule place → ((v : Content) → ReadsTest bytes v → tests.IsMemory e) → tests.IsWithin (length bytes) e → IsTestRefused bytes rule place
+test_refused bytes e rule place is only within =
+    record {
+      unread = λ v h. subst (λ (f : LitmusFault). tests.IsMemory f) is (only v h);
+      within = subst (λ (f : LitmusFault). tests.IsWithin (length bytes) f) is within;
+    }
+
+-- a refusal of `eval`
+pub of_model : (model test : List ℕ) (e : EvalFault) (f : CatFault) (rule : CatRule) (place : ℕ) → e ≡ eval_faults.Model f → f ≡ model_faults.Refused rule place → IsRefusal model test e → IsModelRefused model rule place
+of_model model test e f rule place p q h =
+    subst (λ (x : EvalFault). IsRefusal model test x) (p ∙ ap (λ (x : CatFault). eval_faults.Model x) q) h
+
+pub of_test : (model test : List ℕ) (e : EvalFault) (f : LitmusFault) (rule : LitmusRule) (place : ℕ) → e ≡ eval_faults.Test f → f ≡ test_faults.Refused rule place → IsRefusal model test e → IsModel model × IsTestRefused test rule place
+of_test model test e f rule place p q h =
+    subst (λ (x : EvalFault). IsRefusal model test x) (p ∙ ap (λ (x : LitmusFault). eval_faults.Test x) q) h
+
+pub refuses_model : (r : Result Answer AllocError) (model test : List ℕ) (rule : CatRule) (number place : ℕ) → IsModelRefused model rule place → number ≡ model_rule_number rule → IfOk r (λ a. (a.text.items ≡ refused_line 67 number place) × (a.is_refused ≡ true)) → IfOk r (λ a. IsAnswer model test a.text.items a.is_refused)
+refuses_model (Ok a) model test rule number place refused e h =
+    RefusesModel h.1 rule place refused (h.0 ∙ ap (λ (n : ℕ). refused_line 67 n place) e)
+refuses_model (Err f) model test rule number place refused e h = tt
+
+pub refuses_test : (r : Result Answer AllocError) (model test : List ℕ) (rule : LitmusRule) (number place : ℕ) → IsModel model → IsTestRefused test rule place → number ≡ test_rule_number rule → IfOk r (λ a. (a.text.items ≡ refused_line 76 number place) × (a.is_refused ≡ true)) → IfOk r (λ a. IsAnswer model test a.text.items a.is_refused)
+refuses_test (Ok a) model test rule number place is_model refused e h =
+    RefusesTest h.1 rule place is_model refused (h.0 ∙ ap (λ (n : ℕ). refused_line 76 n place) e)
+refuses_test (Err f) model test rule number place is_model refused e h = tt
+
+kept : (known : Option (List ℕ)) → Keeps known known
+kept None = tt
+kept (Some bytes) = refl
+
+-- nothing was written where the input was not read
+pub unread : (left known : Option (List ℕ)) (fault : SessionFault) → fault ≢ faults.Write → IsStreamed left known known (Err fault)
+unread left known faults.Write h = absurd (h refl)
+unread left known faults.Read h = kept known
+unread left known faults.Endless h = kept known
+unread left known faults.Memory h = kept known
+
+pub streamed : (left old new : Option (List ℕ)) (r : Result Bool SessionFault) (model test : List ℕ) → IfSome left (λ bytes. IsCut bytes model test) → IsWritten model test old new r → IsStreamed left old new r
+streamed left old new (Ok refused) model test cut h = record { model = model; test = test; cut = cut; written = h }
+streamed left old new (Err faults.Write) model test cut h = record { model = model; test = test; cut = cut; written = h }
+streamed left old new (Err faults.Read) model test cut h = h
+streamed left old new (Err faults.Endless) model test cut h = h
+streamed left old new (Err faults.Memory) model test cut h = h
+
+-- the bytes that were left are those that were read
+pub cut_of : (left : Option (List ℕ)) (bytes model test : List ℕ) → IfSome left (λ all. bytes ≡ all) → IsCut bytes model test → IfSome left (λ all. IsCut all model test)
+cut_of None bytes model test e h = tt
+cut_of (Some all) bytes model test e h = subst (λ (l : List ℕ). IsCut l model test) e h

@@ -1,0 +1,130 @@
+-- What is said of a model's text and a test's text.
+use Rattle.std.specs.Prelude.{◌≡◌, ℕ, ◌≤◌, List, ◌∷◌, ◌++◌, Bool, true, false, map, reverse, length, codes, decimal, Option, Some, Result, Ok, Err, IfSome}
+use Rattle.std.specs.Io.KnownBytes.{Keeps, Appends}
+use Rattle.source_text.specs.declared.name.Name.{Name}
+use Rattle.litmus_tokens.specs.declared.rule.LitmusRule.{LitmusRule}
+use Rattle.litmus_tokens.specs.Numbers.{number_of as test_rule_number}
+use Rattle.litmus_values.specs.declared.test.Test.{Test}
+use Rattle.litmus_values.specs.Value.{Content, content_of}
+use Rattle.litmus_ppc.specs.Texts.{ReadsTest}
+use Rattle.litmus_ppc.specs.Faults.{IsWithin}
+use Rattle.litmus_ppc.specs.declared.fault.LitmusFault.{LitmusFault}
+use Rattle.litmus_ppc.specs.declared.fault.LitmusFault.TheVariants as test_faults
+use Rattle.cat_tokens.specs.declared.rule.CatRule.{CatRule}
+use Rattle.cat_tokens.specs.Tokens.{number_of as model_rule_number}
+use Rattle.cat_values.specs.declared.model.ModelText.{ModelText}
+use Rattle.cat_values.specs.declared.predefined.TheConstants.{PREDEFINED}
+use Rattle.cat_values.specs.Value as cat_value
+use Rattle.cat_values.specs.Values.{clauses_of}
+use Rattle.cat_grammar.specs.declared.form.Form.TheVariants.{Model}
+use Rattle.cat_syntax.specs.Reads.{Reads, FaultAt}
+use Rattle.cat_syntax.specs.declared.fault.CatFault.{CatFault}
+use Rattle.cat_syntax.specs.declared.fault.CatFault.TheVariants as model_faults
+use Rattle.binding_kinds.specs.Faults.{HasNoFault, FirstFault}
+use Rattle.binding_kinds.specs.Outermost.{naming_of}
+use Rattle.binding_kinds.specs.Value.{clause_of, ArePlainClauses}
+use Rattle.verdict.specs.declared.answer.Outcome.{Outcome}
+use Rattle.verdict.specs.Judgement.{IsAnswerOf}
+use Rattle.memo_graph.specs.Cell.{IsCell, OfModel}
+use Rattle.litmusbench.specs.declared.fault.EvalFault.{EvalFault}
+use Rattle.litmusbench.specs.declared.fault.EvalFault.TheVariants as eval_faults
+use Rattle.litmusbench.specs.declared.fault.SessionFault.{SessionFault}
+use Rattle.litmusbench.specs.declared.fault.SessionFault.TheVariants as session_faults
+use Rattle.litmusbench.specs.Cut.{IsCut}
+use Rattle.litmusbench.specs.Log.{line_end, log_of}
+use Rattle.litmusbench.specs.Written.{WritesFront}
+
+-- ---- what a test that was read says under a model that was read
+
+-- this outcome is of the test's kind, with its condition, and says the model's first fault where it has one
+pub record IsSaid (test : Test) (model : ModelText) (o : Outcome) : Type 0 where
+  pub judged : IsAnswerOf test.condition.quantifier o
+  pub cell : IsCell test o
+  pub of_model : ArePlainClauses (map clause_of model.items.items) → OfModel (FirstFault (reverse (map naming_of PREDEFINED)) 0 (map clause_of model.items.items)) (HasNoFault (reverse (map naming_of PREDEFINED)) 0 (map clause_of model.items.items)) o.result
+
+-- the log of such an outcome
+abbrev pub IsLogOf : Test → ModelText → List ℕ → Type 0
+IsLogOf test model log = (o : Outcome) × IsSaid test model o × (log ≡ log_of test.name o)
+
+-- the log of the test and the model that the two texts mean
+pub record IsLog (model test log : List ℕ) : Type 0 where
+  pub items : ModelText
+  pub model_read : Reads Model model (clauses_of items.items.items)
+  pub known : Test
+  pub test_read : ReadsTest test (content_of known)
+  pub said : IsLogOf known items log
+
+-- ---- refusals
+
+-- the text means no model, and stops to begin one at this place, by this rule
+pub record IsModelRefused (model : List ℕ) (rule : CatRule) (place : ℕ) : Type 0 where
+  pub unread : (v : List cat_value.Clause) → Reads Model model v → ⊥
+  pub fault : FaultAt Model model rule place
+
+-- the text means no test that the later checks pass, and its fault is here
+pub record IsTestRefused (test : List ℕ) (rule : LitmusRule) (place : ℕ) : Type 0 where
+  pub unread : (v : Content) → ReadsTest test v → ⊥
+  pub within : place ≤ length test
+
+-- the text means some model
+abbrev pub IsModel : List ℕ → Type 0
+IsModel model = (v : List cat_value.Clause) × Reads Model model v
+
+-- what stands in the way of a log: the fault of the model's text,
+abbrev pub IsOfModel : List ℕ → EvalFault → Type 0
+IsOfModel model (eval_faults.Model (model_faults.Refused rule place)) = IsModelRefused model rule place
+IsOfModel model (eval_faults.Model (model_faults.OutOfMemory e)) = ⊥
+IsOfModel model (eval_faults.Test fault) = ⊥
+IsOfModel model (eval_faults.Memory e) = Unit {0}
+
+-- that of the test's text,
+abbrev pub IsOfTest : List ℕ → EvalFault → Type 0
+IsOfTest test (eval_faults.Model fault) = ⊥
+IsOfTest test (eval_faults.Test (test_faults.Refused rule place)) = IsTestRefused test rule place
+IsOfTest test (eval_faults.Test (test_faults.OutOfMemory e)) = ⊥
+IsOfTest test (eval_faults.Memory e) = Unit {0}
+
+-- the first of the two, or want of memory
+abbrev pub IsRefusal : List ℕ → List ℕ → EvalFault → Type 0
+IsRefusal model test (eval_faults.Model (model_faults.Refused rule place)) = IsModelRefused model rule place
+IsRefusal model test (eval_faults.Model (model_faults.OutOfMemory e)) = ⊥
+IsRefusal model test (eval_faults.Test (test_faults.Refused rule place)) = IsModel model × IsTestRefused test rule place
+IsRefusal model test (eval_faults.Test (test_faults.OutOfMemory e)) = ⊥
+IsRefusal model test (eval_faults.Memory e) = Unit {0}
+
+-- the line of a refusal: the letter of its rules, the rule's number, and the place
+unfoldable pub refused_line : ℕ → ℕ → ℕ → List ℕ
+refused_line letter number place =
+    codes "refused " ++ letter ∷ decimal number ++ codes " " ++ decimal place ++ line_end
+
+-- ---- answers
+
+-- this is said of the two texts, where `refused` is whether one is refused: the log, or the line of the first text that is refused
+pub data IsAnswer (model test text : List ℕ) (refused : Bool) : Type 0 where
+  IsEvaluated : refused ≡ false → IsLog model test text → IsAnswer model test text refused
+  RefusesModel : refused ≡ true → (rule : CatRule) → (place : ℕ) → IsModelRefused model rule place → text ≡ refused_line 67 (model_rule_number rule) place → IsAnswer model test text refused
+  RefusesTest : refused ≡ true → (rule : LitmusRule) → (place : ℕ) → IsModel model → IsTestRefused test rule place → text ≡ refused_line 76 (test_rule_number rule) place → IsAnswer model test text refused
+
+-- the bytes of a sink, before and after an answer was written: all of it, or a front of it where a write failed, and else nothing
+abbrev pub IsWritten : List ℕ → List ℕ → Option (List ℕ) → Option (List ℕ) → Result Bool SessionFault → Type 0
+IsWritten model test old new (Ok refused) = (text : List ℕ) × IsAnswer model test text refused × Appends old new text
+IsWritten model test old new (Err session_faults.Write) =
+    (text : List ℕ) × (refused : Bool) × IsAnswer model test text refused × WritesFront old new text
+IsWritten model test old new (Err session_faults.Read) = Keeps old new
+IsWritten model test old new (Err session_faults.Endless) = Keeps old new
+IsWritten model test old new (Err session_faults.Memory) = Keeps old new
+
+-- the same for the two texts into which an input is cut, of which these bytes are left, where they are known
+pub record IsWrittenOf (left old new : Option (List ℕ)) (result : Result Bool SessionFault) : Type 0 where
+  pub model : List ℕ
+  pub test : List ℕ
+  pub cut : IfSome left (λ bytes. IsCut bytes model test)
+  pub written : IsWritten model test old new result
+
+-- a stream's answer: nothing is written unless the whole input was read
+abbrev pub IsStreamed : Option (List ℕ) → Option (List ℕ) → Option (List ℕ) → Result Bool SessionFault → Type 0
+IsStreamed left old new (Ok refused) = IsWrittenOf left old new (Ok refused)
+IsStreamed left old new (Err session_faults.Write) = IsWrittenOf left old new (Err session_faults.Write)
+IsStreamed left old new (Err session_faults.Read) = Keeps old new
+IsStreamed left old new (Err session_faults.Endless) = Keeps old new
+IsStreamed left old new (Err session_faults.Memory) = Keeps old new
