@@ -6,8 +6,7 @@ use Rattle.litmus_tokens.specs.declared.rule.LitmusRule.{LitmusRule}
 use Rattle.litmus_tokens.specs.Numbers.{number_of as test_rule_number}
 use Rattle.litmus_values.specs.declared.test.Test.{Test}
 use Rattle.litmus_values.specs.Value.{Content, content_of}
-use Rattle.litmus_ppc.specs.Texts.{ReadsTest}
-use Rattle.litmus_ppc.specs.Faults.{IsWithin}
+use Rattle.litmus_ppc.specs.Texts.{ReadsTest, IsTestFault}
 use Rattle.litmus_ppc.specs.declared.fault.LitmusFault.{LitmusFault}
 use Rattle.litmus_ppc.specs.declared.fault.LitmusFault.TheVariants as test_faults
 use Rattle.cat_tokens.specs.declared.rule.CatRule.{CatRule}
@@ -64,7 +63,7 @@ pub record IsModelRefused (model : List ℕ) (rule : CatRule) (place : ℕ) : Ty
 -- the text means no test that the later checks pass, and its fault is here
 pub record IsTestRefused (test : List ℕ) (rule : LitmusRule) (place : ℕ) : Type 0 where
   pub unread : (v : Content) → ReadsTest test v → ⊥
-  pub within : place ≤ length test
+  pub fault : IsTestFault test rule place
 
 -- the text means some model
 abbrev pub IsModel : List ℕ → Type 0
