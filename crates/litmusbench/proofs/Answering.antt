@@ -10,8 +10,7 @@ use Rattle.litmus_values.specs.declared.test.Test.{Test}
 use Rattle.cat_tokens.specs.declared.rule.CatRule.{CatRule}
 use Rattle.cat_tokens.specs.Tokens.{number_of as model_rule_number}
 use Rattle.litmus_ppc.specs.Faults as tests
-use Rattle.litmus_ppc.specs.Texts.{ReadsTest, IsTestFault}
-use Rattle.litmus_ppc.specs.Texts as texts
+use Rattle.litmus_grammar.specs.Texts.{ReadsTest, IsTestFault}
 use Rattle.litmus_ppc.specs.declared.fault.LitmusFault.{LitmusFault}
 use Rattle.litmus_ppc.specs.declared.fault.LitmusFault.TheVariants as test_faults
 use Rattle.litmus_values.specs.Value.{Content}
@@ -45,11 +44,11 @@ model_refused bytes e rule place is only fault =
       fault = subst (λ (f : CatFault). IsFaultOf Model bytes f) is fault;
     }
 
-pub test_refused : (bytes : List ℕ) (e : LitmusFault) (rule : LitmusRule) (place : ℕ) → e ≡ test_faults.Refused rule place → ((v : Content) → ReadsTest bytes v → tests.IsMemory e) → texts.IsFaultOf (IsTestFault bytes) e → IsTestRefused bytes rule place
+pub test_refused : (bytes : List ℕ) (e : LitmusFault) (rule : LitmusRule) (place : ℕ) → e ≡ test_faults.Refused rule place → ((v : Content) → ReadsTest bytes v → tests.IsMemory e) → tests.IsFaultOf (IsTestFault bytes) e → IsTestRefused bytes rule place
 test_refused bytes e rule place is only fault =
     record {
       unread = λ v h. subst (λ (f : LitmusFault). tests.IsMemory f) is (only v h);
-      fault = subst (λ (f : LitmusFault). texts.IsFaultOf (IsTestFault bytes) f) is fault;
+      fault = subst (λ (f : LitmusFault). tests.IsFaultOf (IsTestFault bytes) f) is fault;
     }
 
 -- a refusal of `eval`

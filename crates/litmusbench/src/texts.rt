@@ -4,7 +4,7 @@ ghost use Rattle.std.specs.Prelude.{IfOk, IfErr};
 ghost use Rattle.cat_grammar.specs.declared.form.Form.{Form};
 ghost use Rattle.cat_syntax.specs.Reads.{Reads};
 ghost use Rattle.cat_values.specs.Values.{clauses_of};
-ghost use Rattle.litmus_ppc.specs.Texts.{ReadsTest};
+ghost use Rattle.litmus_grammar.specs.Texts.{ReadsTest};
 ghost use Rattle.litmus_values.specs.Value.{content_of};
 ghost use Rattle.litmusbench.specs.Answer.{IsLogOf, IsLog, IsRefusal, IsOfModel, IsOfTest};
 
