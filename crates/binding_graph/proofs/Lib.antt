@@ -5,3 +5,4 @@ pub mod Lowered
 pub mod Bodies
 pub mod Done
 pub mod Answered
+pub mod Reaching

@@ -4,4 +4,5 @@ pub mod Meaning
 pub mod Lowering
 pub mod Resolved
 pub mod Stacks
+pub mod Reach
 pub mod Refusals

@@ -1,6 +1,7 @@
 //! What an item uses, and which items are used.
 
-ghost use Rattle.std.specs.Prelude.{◌≡◌, ◌<◌, ◌≤◌, [], get_or, length, vec_len, All, IfOk};
+ghost use Rattle.std.specs.Prelude.{◌≡◌, ℕ, ◌<◌, ◌≤◌, ◌↔◌, [], get_or, map, vec_len, All, AllPairs, Contains, IfOk, OnOk};
+ghost use Rattle.binding_graph.specs.Reach.{is_check, UsesAt, IsCheckAt, AreReached, IsMarked, Marks, AreSpread};
 
 use crate::resolved::{Resolved, ResolvedItem, Role};
 use binding_kinds::Input;
@@ -18,7 +19,9 @@ pub fn inputs_of(resolved: &Resolved, item: usize) -> &[Input]
     resolved.items[item].inputs.as_slice()
 }
 
-fn is_check(item: &ResolvedItem) -> bool {
+fn is_check(item: &ResolvedItem) -> bool
+    ensures { result ≡ is_check item.now.role }
+{
     match item.role {
         Role::Check(_) => true,
         Role::Group { .. } => false,
@@ -26,51 +29,112 @@ fn is_check(item: &ResolvedItem) -> bool {
     }
 }
 
-fn mark(marks: &mut Vec<bool>, item: usize)
-    ensures { vec_len marks.new ≡ vec_len marks.old }
+// Marks an item, which then waits, unless it is marked.
+fn mark(marks: &mut Vec<bool>, waiting: &mut Vec<usize>, item: usize) -> Result<(), AllocError>
+    ensures { OnOk result (Marks (λ k. item ≡ k) marks.old.items marks.new.items waiting.old.items waiting.new.items) }
 {
-    if let Some(place) = marks.get_mut(item) {
-        *place = true;
+    if item < marks.len() && !marks[item] {
+        marks[item] = true;
+        waiting.push(item)?;
     }
+    Ok(())
 }
 
-fn is_marked(marks: &[bool], item: usize) -> bool {
-    match marks.get(item) {
-        Some(place) => *place,
-        None => false,
+fn mark_inputs(
+    marks: &mut Vec<bool>,
+    waiting: &mut Vec<usize>,
+    inputs: &[Input],
+) -> Result<(), AllocError>
+    ensures { OnOk result (Marks (Contains (map (λ i. i.item) inputs.now)) marks.old.items marks.new.items waiting.old.items waiting.new.items) }
+{
+    for input in inputs {
+        mark(marks, waiting, input.item)?;
     }
+    Ok(())
 }
 
-fn mark_used(marks: &mut Vec<bool>, item: &ResolvedItem)
-    ensures { vec_len marks.new ≡ vec_len marks.old }
+fn mark_functions(
+    marks: &mut Vec<bool>,
+    waiting: &mut Vec<usize>,
+    functions: &[usize],
+) -> Result<(), AllocError>
+    ensures { OnOk result (Marks (Contains functions.now) marks.old.items marks.new.items waiting.old.items waiting.new.items) }
 {
-    for input in &item.inputs {
-        mark(marks, input.item);
+    for function in functions {
+        mark(marks, waiting, *function)?;
     }
-    for function in &item.functions {
-        mark(marks, *function);
-    }
+    Ok(())
 }
 
-/// The places of the items that checks and flags reach, themselves and the functions that are
-/// applied among them, rising. Errors: want of memory.
-pub fn used(alloc: Global, resolved: &Resolved) -> Result<Vec<usize>, AllocError>
-    ensures { IfOk result (λ v. All (λ i. i < vec_len resolved.now.items) v.items) }
+// Marks what an item uses.
+fn mark_used(
+    marks: &mut Vec<bool>,
+    waiting: &mut Vec<usize>,
+    items: &[ResolvedItem],
+    place: usize,
+) -> Result<(), AllocError>
+    ensures { OnOk result (Marks (UsesAt items.now place) marks.old.items marks.new.items waiting.old.items waiting.new.items) }
 {
-    let mut marks = Vec::new(alloc);
-    'count: for item in &resolved.items {
-        marks.push(is_check(item))?;
+    if let Some(item) = items.get(place) {
+        mark_inputs(marks, waiting, &item.inputs)?;
+        mark_functions(marks, waiting, &item.functions)?;
     }
-    'spread: for (place, item) in resolved.items.iter().enumerate().rev() {
-        if is_marked(&marks, place) {
-            mark_used(&mut marks, item);
+    Ok(())
+}
+
+// Marks the checks and flags.
+fn mark_checks(
+    marks: &mut Vec<bool>,
+    waiting: &mut Vec<usize>,
+    items: &[ResolvedItem],
+) -> Result<(), AllocError>
+    ensures { OnOk result (Marks (IsCheckAt items.now) marks.old.items marks.new.items waiting.old.items waiting.new.items) }
+{
+    for (place, item) in items.iter().enumerate() {
+        if is_check(item) {
+            mark(marks, waiting, place)?;
         }
     }
+    Ok(())
+}
+
+// Marks what the waiting items use, and what these use, until none waits.
+fn spread(
+    marks: &mut Vec<bool>,
+    waiting: &mut Vec<usize>,
+    items: &[ResolvedItem],
+) -> Result<(), AllocError>
+    ensures { OnOk result (AreSpread items.now marks.old.items waiting.old.items → AreSpread items.now marks.new.items []) }
+{
+    while let Some(place) = waiting.pop() {
+        mark_used(marks, waiting, items, place)?;
+    }
+    Ok(())
+}
+
+// The places that are marked.
+fn marked_places(alloc: Global, marks: &[bool]) -> Result<Vec<usize>, AllocError>
+    ensures rising { IfOk result (λ v. AllPairs (λ a b. a < b) v.items) }
+    ensures exact { IfOk result (λ v. (k : ℕ) → Contains v.items k ↔ IsMarked marks.now k) }
+{
     let mut places = Vec::new(alloc);
-    'list: for (place, marked) in marks.iter().enumerate() {
+    for (place, marked) in marks.iter().enumerate() {
         if *marked {
             places.push(place)?;
         }
     }
     Ok(places)
+}
+
+/// The places of the items that checks and flags reach, themselves and the functions that are
+/// applied among them, rising. Errors: want of memory.
+pub fn used(alloc: Global, resolved: &Resolved) -> Result<Vec<usize>, AllocError>
+    ensures within { IfOk result (λ v. All (λ i. i < vec_len resolved.now.items) v.items) }
+    ensures reached { IfOk result (λ v. AreReached resolved.now.items.items v.items) }
+{
+    let mut marks = vec![in alloc; false; resolved.items.len()]?;
+    let mut waiting = Vec::new(alloc);
+    mark_checks(&mut marks, &mut waiting, &resolved.items)?;
+    spread(&mut marks, &mut waiting, &resolved.items)?;
+    marked_places(alloc, &marks)
 }

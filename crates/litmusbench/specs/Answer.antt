@@ -1,13 +1,11 @@
 -- What is said of a model's text and a test's text.
-use Rattle.std.specs.Prelude.{◌≡◌, ℕ, ◌≤◌, List, ◌∷◌, ◌++◌, Bool, true, false, map, reverse, length, codes, decimal, Option, Some, Result, Ok, Err, IfSome}
+use Rattle.std.specs.Prelude.{◌≡◌, ℕ, List, ◌∷◌, ◌++◌, Bool, true, false, map, reverse, codes, decimal, Option, Result, Ok, Err, IfSome}
 use Rattle.std.specs.Io.KnownBytes.{Keeps, Appends}
-use Rattle.source_text.specs.declared.name.Name.{Name}
 use Rattle.litmus_tokens.specs.declared.rule.LitmusRule.{LitmusRule}
 use Rattle.litmus_tokens.specs.Numbers.{number_of as test_rule_number}
 use Rattle.litmus_values.specs.declared.test.Test.{Test}
 use Rattle.litmus_values.specs.Value.{Content, content_of}
 use Rattle.litmus_grammar.specs.Texts.{ReadsTest, IsTestFault}
-use Rattle.litmus_ppc.specs.declared.fault.LitmusFault.{LitmusFault}
 use Rattle.litmus_ppc.specs.declared.fault.LitmusFault.TheVariants as test_faults
 use Rattle.cat_tokens.specs.declared.rule.CatRule.{CatRule}
 use Rattle.cat_tokens.specs.Tokens.{number_of as model_rule_number}
@@ -17,7 +15,6 @@ use Rattle.cat_values.specs.Value as cat_value
 use Rattle.cat_values.specs.Values.{clauses_of}
 use Rattle.cat_grammar.specs.declared.form.Form.TheVariants.{Model}
 use Rattle.cat_syntax.specs.Reads.{Reads, FaultAt}
-use Rattle.cat_syntax.specs.declared.fault.CatFault.{CatFault}
 use Rattle.cat_syntax.specs.declared.fault.CatFault.TheVariants as model_faults
 use Rattle.binding_kinds.specs.Faults.{HasNoFault, FirstFault}
 use Rattle.binding_kinds.specs.Outermost.{naming_of}

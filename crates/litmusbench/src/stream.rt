@@ -64,11 +64,8 @@ fn answer_to(alloc: Global, model: &[u8], test: &[u8]) -> Result<Answer, AllocEr
 }
 
 /// Writes the log of the test under the model, or a line `refused`, number and place. Whether a text
-/// was refused. After a fault, what was written is a front of that text.
-///
-/// # Errors
-///
-/// `Write` where a write failed, and `Memory`, before the first write.
+/// was refused. After a fault, what was written is a front of that text. Errors: `Write` where a
+/// call failed, or, before the first call, `Memory`.
 pub fn write_answer<W: ByteSink>(
     alloc: Global,
     model: &[u8],
@@ -94,11 +91,8 @@ pub fn write_answer<W: ByteSink>(
     }
 }
 
-/// All bytes of a source.
-///
-/// # Errors
-///
-/// `Read` where a read failed, `Endless` where the bytes did not end within 16,777,216 reads, and `Memory`.
+/// All bytes of a source. Errors: `Read` where a call failed, `Endless` where the bytes did not
+/// end within 16,777,216 calls, or `Memory`.
 pub fn read_text<S: ByteSource>(alloc: Global, source: &mut S) -> Result<Vec<u8>, SessionFault>
     requires { S.failed_calls source.old < 2 ^ 64 - 1 }
     ensures bytes { IfOk result (λ v. IfSome (S.remaining source.old) (λ all. v.items ≡ all)) }
@@ -117,11 +111,8 @@ pub fn read_text<S: ByteSource>(alloc: Global, source: &mut S) -> Result<Vec<u8>
 }
 
 /// Reads all input, which holds a model, a line that is exactly `.` and a test, and writes what
-/// `write_answer` does. With no such line the test's text is empty.
-///
-/// # Errors
-///
-/// Those of `read_text`, before the first write, and those of `write_answer`.
+/// `write_answer` does. With no such line the test's text is empty. Errors: those of `read_text`,
+/// before the first write, and those of `write_answer`.
 pub fn eval_stream<R: AllocGlobal, S: ByteSource, W: ByteSink>(
     rt: &R,
     source: &mut S,

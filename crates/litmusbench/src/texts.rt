@@ -48,12 +48,8 @@ fn outcome_text(alloc: Global, test: &Test, model: &ModelText) -> Result<Vec<u8>
     outcome_log(alloc, test.name.as_bytes(), &outcome)
 }
 
-/// The log of the test under the model. The model is read first.
-///
-/// # Errors
-///
-/// `Model` where the model's text is refused, else `Test` where the test's text is, both with rule and place, and
-/// `Memory`.
+/// The log of the test under the model. The model is read first. Errors: the first rule that the
+/// model breaks, with its byte, then that of the test, or want of memory.
 pub fn eval(alloc: Global, model: &[u8], test: &[u8]) -> Result<Vec<u8>, EvalFault>
     // A log is that of an outcome of the test and the model that the texts mean.
     ensures log { IfOk result (λ log. IsLog model.now test.now log.items) }

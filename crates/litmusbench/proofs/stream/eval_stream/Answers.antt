@@ -1,4 +1,4 @@
-use Rattle.std.proofs.Common.{rules, ◌≡◌, ◌≢◌, sym, ap, ◌∙◌}
+use Rattle.std.proofs.Common.{rules}
 use Rattle.litmusbench.proofs.Answering.{unread, streamed, cut_of}
 use Rattle.litmusbench.proofs.stream.eval_stream.Goals as goal
 
