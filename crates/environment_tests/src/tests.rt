@@ -34,6 +34,19 @@ fn has_pairs(rt: &impl Abort, relation: &Rel, pairs: &[(usize, usize)]) {
     assert!(rt; relation.is_same(&wanted), "{pairs:?}");
 }
 
+/// Asserts what both candidates of the store and the load have: one location, and one thread of two events.
+fn has_one_thread(rt: &impl Abort, env: &BaseEnv) {
+    has_pairs(rt, &env.int_rel, &[(1, 1), (1, 2), (2, 1), (2, 2)]);
+    has_pairs(
+        rt,
+        &env.ext_rel,
+        &[(0, 0), (0, 1), (0, 2), (1, 0), (2, 0)],
+    );
+    assert!(rt; env.loc_rel.count() == 3);
+    has_pairs(rt, &env.loc_rel.complement(), &[]);
+    has_pairs(rt, &Rel::on(&env.iw_set), &[(0, 0)]);
+}
+
 #[test]
 fn coherence_of_one_location(rt: HostRuntime) -> Result<(), Fail> {
     let first = env_at(rt.alloc(), SAME, 0)?;
@@ -47,15 +60,8 @@ fn coherence_of_one_location(rt: HostRuntime) -> Result<(), Fail> {
     has_pairs(&rt, &second.rfi_rel, &[(1, 2)]);
     has_pairs(&rt, &second.rfe_rel, &[]);
     has_pairs(&rt, &second.fr_rel, &[]);
-    has_pairs(&rt, &second.int_rel, &[(1, 1), (1, 2), (2, 1), (2, 2)]);
-    has_pairs(
-        &rt,
-        &second.ext_rel,
-        &[(0, 0), (0, 1), (0, 2), (1, 0), (2, 0)],
-    );
-    has_pairs(&rt, &second.loc_rel.complement(), &[]);
-    assert!(rt; second.loc_rel.count() == 3 && second.iw_set.count() == 3);
-    assert!(rt; second.iw_set.contains(0) && !second.iw_set.contains(1));
+    has_one_thread(&rt, &first);
+    has_one_thread(&rt, &second);
     Ok(())
 }
 
