@@ -37,11 +37,7 @@ fn has_pairs(rt: &impl Abort, relation: &Rel, pairs: &[(usize, usize)]) {
 /// Asserts what both candidates of the store and the load have: one location, and one thread of two events.
 fn has_one_thread(rt: &impl Abort, env: &BaseEnv) {
     has_pairs(rt, &env.int_rel, &[(1, 1), (1, 2), (2, 1), (2, 2)]);
-    has_pairs(
-        rt,
-        &env.ext_rel,
-        &[(0, 0), (0, 1), (0, 2), (1, 0), (2, 0)],
-    );
+    has_pairs(rt, &env.ext_rel, &[(0, 0), (0, 1), (0, 2), (1, 0), (2, 0)]);
     assert!(rt; env.loc_rel.count() == 3);
     has_pairs(rt, &env.loc_rel.complement(), &[]);
     has_pairs(rt, &Rel::on(&env.iw_set), &[(0, 0)]);

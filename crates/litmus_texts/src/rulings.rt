@@ -3,6 +3,7 @@
 
 use litmus_ppc::*;
 use std::alloc::{AllocError, Global};
+use std::process::Abort;
 use std::test::Fail;
 
 // Which part of a test a text is.
@@ -292,10 +293,28 @@ fn put_cut(
     Ok(())
 }
 
+// Each cut of a text is read, or refused, as is wanted.
+fn expect_cuts(
+    rt: &impl Abort,
+    alloc: Global,
+    text: &[u8],
+    wanted_numbers: &[u8],
+    wanted_places: &[u8],
+) -> Result<(), AllocError> {
+    let (mut numbers, mut places) = (Vec::new(alloc), Vec::new(alloc));
+    for count in 0..text.len() {
+        put_cut(alloc, &text[..count], &mut numbers, &mut places)?;
+    }
+    put_cut(alloc, text, &mut numbers, &mut places)?;
+    assert_eq!(rt; numbers.as_slice(), wanted_numbers);
+    assert_eq!(rt; places.as_slice(), wanted_places);
+    Ok(())
+}
+
 #[test]
 fn cuts_of_fences(rt: HostRuntime) -> Result<(), Fail> {
     let alloc = rt.alloc();
-    for fences in [62, 63] {
+    for fences in [62, 63, 126, 127] {
         let text = repeated(
             alloc,
             FENCES_HEAD,
@@ -317,13 +336,35 @@ fn cuts_of_fences(rt: HostRuntime) -> Result<(), Fail> {
             fences,
             b"01234500000000..",
         )?;
-        let (mut numbers, mut places) = (Vec::new(alloc), Vec::new(alloc));
-        for count in 0..text.len() {
-            put_cut(alloc, &text[..count], &mut numbers, &mut places)?;
-        }
-        put_cut(alloc, &text, &mut numbers, &mut places)?;
-        assert_eq!(rt; numbers.as_slice(), wanted_numbers.as_slice());
-        assert_eq!(rt; places.as_slice(), wanted_places.as_slice());
+        expect_cuts(&rt, alloc, &text, &wanted_numbers, &wanted_places)?;
     }
+    Ok(())
+}
+
+#[test]
+fn cuts_of_seventy_fences(rt: HostRuntime) -> Result<(), Fail> {
+    let alloc = rt.alloc();
+    let text = repeated(
+        alloc,
+        PASSING_HEAD,
+        b" sync         |               ;\n",
+        69,
+        PASSING_TAIL,
+    )?;
+    let wanted_numbers = repeated(
+        alloc,
+        b"111222222222222222233333333333333333333333333333333333555555555555555555555555555555557777777777777777777777777777777777777777777777777777777777777777777777777777777777777777777777777",
+        b"77777777777777777777777777777777",
+        69,
+        b"7777777777777777777777777777777777777777777777777777777777777777777777CCCCCCCCCCCCCCCCCCC..",
+    )?;
+    let wanted_places = repeated(
+        alloc,
+        b"012000000000000000000000100000001000000010000000100000000100000000000000100000000000000001001000000000001200100001000000012001000010000012001001001000000123000000000000120001001001000",
+        b"00123000000000000000000000000000",
+        69,
+        b"00100100000000000000000000000000001200100001000000000000000000000123450000010000100001000..",
+    )?;
+    expect_cuts(&rt, alloc, &text, &wanted_numbers, &wanted_places)?;
     Ok(())
 }
