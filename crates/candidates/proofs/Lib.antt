@@ -15,6 +15,7 @@ pub mod OrderLaws
 pub mod Parting
 pub mod Pruning
 pub mod Searching
+pub mod Small
 pub mod Spaces
 pub mod Stores
 pub mod Totals

@@ -1,14 +1,27 @@
 -- What a search through all combinations has found.
-use Rattle.std.proofs.Common.{ℕ, zero, suc, ◌≡◌, ◌<◌, ◌≤◌, ◌+◌, ◌-◌, ◌*◌, ◌⊎◌, ◌||◌, ◌&&◌, cond, min, Bool, true, false, List, [], ◌∷◌, ◌++◌, map, take, length, Option, Some, None, MatchOption, is_some, append_assoc, if◌then◌else◌, inl, inr, arith, refl, sym, ap, subst, ◌∙◌}
+use Rattle.std.proofs.Common.{Vec, Result, Ok, Err, IfOk, ℕ, zero, suc, ◌≡◌, ◌<◌, ◌≤◌, ◌+◌, ◌-◌, ◌*◌, ◌⊎◌, ◌||◌, ◌&&◌, cond, min, Bool, true, false, List, [], ◌∷◌, ◌++◌, map, take, length, Option, Some, None, MatchOption, is_some, append_assoc, if◌then◌else◌, inl, inr, arith, refl, sym, ap, subst, ◌∙◌}
 use Rattle.std.specs.List.{flat_map}
 use Rattle.ppc_semantics.specs.declared.value.Value.{Value}
 use Rattle.candidates.specs.Orders.{all_orders, stores_of, numbers, has_store, is_thread_store, writes_to, AreApart}
+use Rattle.std.specs.declared.alloc.AllocError.{AllocError}
+use Rattle.std.specs.declared.alloc.Global.{Global}
+use Rattle.litmus_values.specs.declared.test.Test.{Test}
+use Rattle.ppc_semantics.specs.declared.fault.EvalRefusal.{EvalRefusal}
+use Rattle.ppc_semantics.specs.declared.fault.SpaceFault.{SpaceFault}
+use Rattle.ppc_semantics.specs.declared.fault.SpaceFault.TheVariants.{Refused, OutOfMemory}
+use Rattle.ppc_semantics.specs.declared.instruction.Program.{Program}
+use Rattle.ppc_semantics.specs.declared.run.Run.{Run}
+use Rattle.ppc_semantics.specs.Domain.{IsDomain, IsFault}
+use Rattle.ppc_semantics.specs.Lowering.{IsProgram, IsTestFault}
+use Rattle.candidates.specs.Keys.{IsKeyed, bit_of}
+use Rattle.candidates.specs.Layouts.{AreAllRuns, IsLaidOut}
+use Rattle.candidates.specs.declared.candidate.Space.{Space}
 use Rattle.candidates.specs.Parts.{initial_from}
 use Rattle.candidates.specs.Ways.{AreWays, IsWay, accesses_in}
 use Rattle.candidates.specs.Lists.{tuples}
 use Rattle.candidates.specs.Search.{Begun, Tally, Fits, AllFit, Judged, IsTooMuch, tallied, with_run, placed, combinations, Searched, none, more, AreTooMuch, now, later, nothing, tally, start, all_combinations, location_count}
 use Rattle.candidates.specs.Space.{Seen, seen, ordered}
-use Rattle.candidates.specs.Candidates.{AreCombinations, nothing_left, with_ways, without, candidate_total, HasFault, AreCandidates, AreTooMany, AreFaulted, AreSmall}
+use Rattle.candidates.specs.Candidates.{AreCombinations, nothing_left, with_ways, without, candidate_total, HasFault, AreCandidates, AreTooMany, AreFaulted, AreSmall, IsAnswer, IsReady, IsTestSpace, IsTestRefusal}
 use Rattle.candidates.specs.declared.candidate.Combination.{Combination}
 use Rattle.candidates.specs.declared.candidate.Event.{Event}
 use Rattle.candidates.specs.declared.layout.Layout.{Layout}
@@ -18,6 +31,7 @@ use Rattle.candidates.specs.declared.search.Found.{Found}
 use Rattle.candidates.proofs.Counting.{or_parts, numbers_above}
 use Rattle.candidates.proofs.Filters.{IsFiltered-unique}
 use Rattle.candidates.proofs.Searching.{going_on}
+use Rattle.candidates.proofs.Small.{layout_small}
 
 -- what was found of combinations, one after another
 pub record Sum (n : ℕ) (bs : List Begun) (t u : Tally) : Type 0 where
@@ -201,3 +215,28 @@ pub all_searched : (l : Layout) (o : Option Found) (f : Found) (cs : List Combin
 all_searched l o f cs e b h m =
     let s : Searched (location_count l) (all_combinations l) nothing (tally f) × (f.count ≤ 16384) = some_searched l o f e h in
     all_candidates (location_count l) (all_combinations l) (tally f) (map seen cs) s.0 s.1 b (m ∙ seen_ordered (location_count l) f.combinations.items)
+
+-- what the test says
+pub test_fault : (t : Test) (p : Program) (e : SpaceFault) → IsProgram t p → IsFault p e → IsTestFault t e
+test_fault t p (Refused r) h k = (p, h, k)
+test_fault t p (OutOfMemory x) h k = tt
+
+pub fault_told : (t : Test) (e : SpaceFault) → IsTestFault t e → IsTestRefusal t e
+fault_told t (Refused r) h = inl h
+fault_told t (OutOfMemory x) h = tt
+
+pub ready : (t : Test) (p : Program) (values : List Value) (l : Layout) → IsProgram t p → IsDomain p values → (runs : List (Vec Run Global)) × AreAllRuns p values runs × IsLaidOut p runs l × IsKeyed (bit_of values) l → IsReady t l
+ready t p values l h d r = ((p, values, r.0, h, d, r.1, r.2), bit_of values, p.initial.items, r.3, r.2.initial)
+
+-- what the space of a layout says of the test
+abbrev pub Answers : Layout → Result (Result Space EvalRefusal) AllocError → Type 0
+Answers l r = (key : ℕ → Value → Option (ℕ × ℕ)) (initial : List Value) → IsKeyed key l → l.initial.items ≡ initial_from 0 initial → AreSmall (all_combinations l) → IfOk r (λ a. IsAnswer l a)
+
+told : (t : Test) (l : Layout) (r : Result (Result Space EvalRefusal) AllocError) (a : Result Space EvalRefusal) → r ≡ Ok a → IsReady t l → Answers l r → IsAnswer l a
+told t l r a e h f = subst (λ (x : Result (Result Space EvalRefusal) AllocError). IfOk x (λ b. IsAnswer l b)) e (f h.1 h.2 h.3 h.4 (layout_small t l h.0))
+
+pub space_told : (t : Test) (l : Layout) (r : Result (Result Space EvalRefusal) AllocError) (s : Space) → r ≡ Ok (Ok s) → IsReady t l → Answers l r → IsTestSpace t s
+space_told t l r s e h f = (l, h.0, told t l r (Ok s) e h f)
+
+pub refusal_told : (t : Test) (l : Layout) (r : Result (Result Space EvalRefusal) AllocError) (x : EvalRefusal) → r ≡ Ok (Err x) → IsReady t l → Answers l r → IsTestRefusal t (Refused x)
+refusal_told t l r x e h f = inr (l, h.0, told t l r (Err x) e h f)

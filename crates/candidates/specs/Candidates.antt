@@ -1,7 +1,19 @@
 -- The candidates of all combinations of runs, and when there are too many or one holds a fault.
-use Rattle.std.specs.Prelude.{ℕ, ◌≡◌, ◌<◌, ◌≤◌, ◌+◌, ◌*◌, ◌⊎◌, List, [], ◌∷◌, length, map, true, Result, Ok, Err}
+use Rattle.std.specs.Prelude.{Vec, ℕ, ◌≡◌, ◌<◌, ◌≤◌, ◌+◌, ◌*◌, ◌⊎◌, List, [], ◌∷◌, length, map, true, Option, Result, Ok, Err}
 use Rattle.ppc_semantics.specs.declared.fault.EvalRefusal.{EvalRefusal}
 use Rattle.ppc_semantics.specs.declared.fault.EvalRefusal.TheVariants.{TooManyCandidates, AddressFault}
+use Rattle.std.specs.declared.alloc.Global.{Global}
+use Rattle.ppc_semantics.specs.declared.value.Value.{Value}
+use Rattle.ppc_semantics.specs.declared.fault.SpaceFault.{SpaceFault}
+use Rattle.ppc_semantics.specs.declared.fault.SpaceFault.TheVariants.{Refused, OutOfMemory}
+use Rattle.ppc_semantics.specs.declared.instruction.Program.{Program}
+use Rattle.ppc_semantics.specs.declared.run.Run.{Run}
+use Rattle.ppc_semantics.specs.Domain.{IsDomain}
+use Rattle.ppc_semantics.specs.Lowering.{IsProgram, IsTestFault}
+use Rattle.litmus_values.specs.declared.test.Test.{Test}
+use Rattle.candidates.specs.Keys.{IsKeyed}
+use Rattle.candidates.specs.Parts.{initial_from}
+use Rattle.candidates.specs.Layouts.{AreAllRuns, IsLaidOut}
 use Rattle.candidates.specs.Ways.{AreWays}
 use Rattle.candidates.specs.Search.{Begun, all_combinations, location_count}
 use Rattle.candidates.specs.Space.{Seen, seen, ordered}
@@ -62,3 +74,20 @@ IsRefusedAs l _ = ⊥
 abbrev pub IsAnswer : Layout → Result Space EvalRefusal → Type 0
 IsAnswer l (Ok s) = IsSpaceOf l s
 IsAnswer l (Err r) = IsRefusedAs l r
+
+-- what the candidates of the test are made of: the initial stores of its program, and runs of each of its threads over
+-- its domain
+abbrev pub HasLayout : Test → Layout → Type 0
+HasLayout t l = (p : Program) × (values : List Value) × (runs : List (Vec Run Global)) × IsProgram t p × IsDomain p values × AreAllRuns p values runs × IsLaidOut p runs l
+
+-- with the sets of what its runs read and store
+abbrev pub IsReady : Test → Layout → Type 0
+IsReady t l = HasLayout t l × (key : ℕ → Value → Option (ℕ × ℕ)) × (initial : List Value) × IsKeyed key l × (l.initial.items ≡ initial_from 0 initial)
+
+-- the space of the test, or why it has none: a refusal of its domain, or one that its candidates call for
+abbrev pub IsTestSpace : Test → Space → Type 0
+IsTestSpace t s = (l : Layout) × HasLayout t l × IsSpaceOf l s
+
+abbrev pub IsTestRefusal : Test → SpaceFault → Type 0
+IsTestRefusal t (Refused r) = IsTestFault t (Refused r) ⊎ ((l : Layout) × HasLayout t l × IsRefusedAs l r)
+IsTestRefusal t (OutOfMemory e) = Unit {0}

@@ -3,13 +3,14 @@
 //! 36(2), 2014).
 #![tactic(auto)]
 
-ghost use Rattle.std.specs.Prelude.{ℕ, ◌≡◌, List, Option, map, IfOk};
+ghost use Rattle.std.specs.Prelude.{ℕ, ◌≡◌, List, Option, map, IfOk, IfErr};
 ghost use Rattle.ppc_semantics.specs.declared.value.Value.{Value};
+ghost use Rattle.ppc_semantics.specs.Lowering.{IsTestFault};
 ghost use Rattle.candidates.specs.Keys.{IsKeyed};
 ghost use Rattle.candidates.specs.Parts.{initial_from};
 ghost use Rattle.candidates.specs.Search.{all_combinations, location_count};
 ghost use Rattle.candidates.specs.Space.{seen, ordered};
-ghost use Rattle.candidates.specs.Candidates.{AreSmall, HasEnds, IsAnswer};
+ghost use Rattle.candidates.specs.Candidates.{AreSmall, HasEnds, IsAnswer, IsReady, IsTestSpace, IsTestRefusal};
 
 mod candidate;
 mod keys;
@@ -62,17 +63,39 @@ fn space_of(alloc: Global, layout: Layout) -> Result<Result<Space, EvalRefusal>,
     }
 }
 
+/// What the candidates of a test are made of, or a refusal of its domain.
+fn layout_of(alloc: Global, test: &Test) -> Result<Layout, SpaceFault>
+    ensures layout { IfOk result (IsReady test.now) }
+    ensures fault { IfErr result (IsTestFault test.now) }
+{
+    match program(alloc, test) {
+        Err(fault) => Err(SpaceFault::OutOfMemory(fault)),
+        Ok(program) => match domain_of(alloc, &program) {
+            Err(fault) => Err(fault),
+            Ok(domain) => match Layout::new(alloc, program, &domain) {
+                Err(fault) => Err(SpaceFault::OutOfMemory(fault)),
+                Ok(layout) => Ok(layout),
+            },
+        },
+    }
+}
+
 /// All candidates of a test, ordered by runs, then by the stores that the loads read, then by the
 /// orders of the stores.
 ///
 /// The test is refused, by the first that applies, as its domain is; with E4 where it has over
 /// `MAX_CANDIDATES` candidates; and with E5 where some candidate holds a run that stopped at a
 /// fault. Errors: that refusal, or want of memory.
-pub fn space(alloc: Global, test: &Test) -> Result<Space, SpaceFault> {
-    let program = program(alloc, test)?;
-    let domain = domain_of(alloc, &program)?;
-    match space_of(alloc, Layout::new(alloc, program, &domain)?)? {
-        Ok(space) => Ok(space),
-        Err(refusal) => Err(SpaceFault::Refused(refusal)),
+pub fn space(alloc: Global, test: &Test) -> Result<Space, SpaceFault>
+    ensures space { IfOk result (IsTestSpace test.now) }
+    ensures refusal { IfErr result (IsTestRefusal test.now) }
+{
+    match layout_of(alloc, test) {
+        Err(fault) => Err(fault),
+        Ok(layout) => match space_of(alloc, layout) {
+            Err(fault) => Err(SpaceFault::OutOfMemory(fault)),
+            Ok(Err(refusal)) => Err(SpaceFault::Refused(refusal)),
+            Ok(Ok(space)) => Ok(space),
+        },
     }
 }
