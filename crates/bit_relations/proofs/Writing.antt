@@ -2,7 +2,6 @@
 use Rattle.std.proofs.Common.{ℕ, ◌≡◌, ◌<◌, ◌≤◌, ◌↔◌, ◌+◌, ◌-◌, ◌^◌, ◌⊎◌, List, length, get_or, set, replicate, inl, inr, arith, refl, sym, ◌∙◌, subst, get_or-set_other, get_or-set_same}
 use Rattle.std.proofs.lemmas.Bool.{cases_eq, cases_lt}
 use Rattle.std.proofs.lemmas.List.{length-set, length-replicate, get_or-replicate, get_or_past}
-use Rattle.bit_relations.specs.Pairs.{Added}
 use Rattle.bit_relations.specs.Relation.{Bit, wide}
 use Rattle.bit_relations.specs.Rows.{RowsHave, AllFit, AreWritten, JoinedBelow, JoinedFrom}
 use Rattle.bit_relations.proofs.Bits.{Bit-zero}
@@ -49,21 +48,6 @@ zeros n a =
     elim (cases_lt a n) [
       | inl lt ↦ get_or-replicate {A = ℕ} n a 0 0 lt
       | inr ge ↦ let past : length (replicate {A = ℕ} n 0) ≤ a = rw (length-replicate {A = ℕ} n 0) ge in get_or_past {X = ℕ} (replicate n 0) a 0 past
-    ]
-
--- one bit more in one word
-pub added : (rows : List ℕ) (from to w : ℕ) → from < length rows → ((b : ℕ) → Bit w b ↔ (Bit (get_or rows from 0) b ⊎ (to ≡ b))) → (a b : ℕ) → RowsHave (set rows from w) a b ↔ Added (RowsHave rows) from to a b
-added rows from to w inside row a b =
-    elim (cases_eq a from) [
-      | inl same ↦
-          let here : get_or (set rows from w) a 0 ≡ w = rw same (get_or-set_same rows from w 0 inside) in
-          rw (here, same) (
-            (λ h. elim ((row b).0 h) [ inl old ↦ inl old | inr e ↦ inr (refl, sym e) ]),
-            (λ h. (row b).1 (elim h [ inl old ↦ inl old | inr t ↦ inr (sym t.1) ])),
-          )
-      | inr other ↦
-          let there : get_or (set rows from w) a 0 ≡ get_or rows a 0 = get_or-set_other rows from a w 0 other in
-          rw there ((λ h. inl h), (λ h. elim h [ inl old ↦ old | inr t ↦ absurd (other t.0) ]))
     ]
 
 -- the same bits, said in another way

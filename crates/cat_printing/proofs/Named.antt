@@ -11,8 +11,6 @@ use Rattle.cat_tokens.specs.declared.token.Token.{Token}
 use Rattle.cat_tokens.specs.declared.token.Token.TheVariants as tokens
 use Rattle.cat_tokens.specs.declared.lexer.Front.{Front}
 use Rattle.cat_tokens.specs.declared.lexer.Front.TheVariants.{Layout, Lexeme}
-use Rattle.cat_values.specs.declared.model.Infix.{Infix}
-use Rattle.cat_values.specs.declared.model.Infix.TheVariants.{Union, Sequence, Difference, Intersection, Product}
 use Rattle.cat_grammar.specs.declared.form.Form.{Form}
 use Rattle.cat_grammar.specs.declared.form.Form.TheVariants as forms
 use Rattle.cat_values.specs.Value.{Terms, NoTerm, OneMore, Clause}
@@ -153,13 +151,6 @@ tokens_named (suc k) place (b ∷ bs) = tokens_named k (place + 1) bs
 tokens_named zero place (b ∷ bs) = after_named place (front (b ∷ bs)) (λ k. tokens_from k (place + 1) bs) (front_named b bs) (λ k. tokens_named k (place + 1) bs)
 
 -- ---- trees
-
-infix_named : (op : Infix) (ts : List Token) → AreNamed (infix_token op ∷ ts) → AreNamed ts
-infix_named Union ts h = h.1
-infix_named Sequence ts h = h.1
-infix_named Difference ts h = h.1
-infix_named Intersection ts h = h.1
-infix_named Product ts h = h.1
 
 others : (vs : Terms) → AreTerms vs → AreOthers vs
 others NoTerm h = tt

@@ -1,8 +1,7 @@
 -- Tokens that are taken within a place are spelled by the tree of a place.
 use Rattle.std.proofs.Common.{◌≡◌, ℕ, ◌<◌, ◌≤◌, Bool, true, false, List, ◌∷◌, Option, Some, None, refl, ap, arith}
-use Rattle.std.specs.Prelude.{nat_lt, if◌then◌else◌}
+use Rattle.std.specs.Prelude.{if◌then◌else◌}
 use Rattle.std.proofs.Math.Nat.{min-eq_left}
-use Rattle.std.proofs.lemmas.Bool.Decides.{nat_tests}
 use Rattle.litmus_values.specs.declared.test.Place.TheVariants as places
 use Rattle.litmus_values.specs.declared.test.Value as declared_value
 use Rattle.litmus_tokens.specs.declared.token.Token.{Token}
@@ -82,9 +81,6 @@ abbrev pub StepThread : ℕ → Option PlaceStep → Type 0
 StepThread threads (Some (steps.Goes hole)) = HoleThread threads hole
 StepThread threads (Some (steps.Ends w)) = WrittenThread threads w
 StepThread threads None = Unit {0}
-
-lt_true : (l n : ℕ) → nat_lt l n ≡ true → l < n
-lt_true l n h = grind (arith, nat_tests)
 
 register_thread : (threads : ℕ) (t : List ℕ) (r : Option ℕ) → decimal t < threads → StepThread threads (register_ends t r)
 register_thread threads t (Some r) h = h
