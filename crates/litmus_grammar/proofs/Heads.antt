@@ -33,9 +33,6 @@ use Rattle.litmus_grammar.proofs.Spelled.{init-append}
 use Rattle.litmus_grammar.proofs.Splits.{split}
 use Rattle.litmus_grammar.proofs.Tails.{early, with_all, done_behind}
 
-abbrev most : ℕ
-most = 18446744073709551616
-
 abbrev pub in_head : List ℕ → Stage → Part → State
 in_head name g p = test_at g p (early name init.start table.start [])
 

@@ -76,10 +76,6 @@ end_behind kind n g h (p ∷ ps) s e d = by_token p.token p.place e
         (m, ap (λ (l : List Placed). last_at m ∷ l) r.0, ap (λ (x : State). x.held) r.1)
     by_token t m k = absurd cc
 
-abbrev pub is_done : Part → Bool
-is_done text.Done = true
-is_done p = false
-
 module _ (name : List ℕ) (block : init.Block) (t : table.State) (few : length t.threads < 18446744073709551616) where
   abbrev threads : ℕ
   threads = length t.threads

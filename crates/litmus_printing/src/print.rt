@@ -151,10 +151,31 @@ fn put_three(
     put_register(text, third)
 }
 
-// Appends a comma and a number.
-fn put_immediate(text: &mut Vec<u8>, value: i32) -> Result<(), AllocError>
-    ensures { OnOk result (text.new.items ≡ text.old.items ++ (codes "," ++ signed_decimal value)) }
+// Appends a word, a register and a number.
+fn put_one_with(
+    text: &mut Vec<u8>,
+    word: &[u8],
+    first: Register,
+    value: i32,
+) -> Result<(), AllocError>
+    ensures { OnOk result (text.new.items ≡ text.old.items ++ (word.now ++ (codes " " ++ (register_text first ++ (codes "," ++ signed_decimal value))))) }
 {
+    put_one(text, word, first)?;
+    put_bytes(text, b",")?;
+    put_number(text, value)
+}
+
+// Appends a word, two registers and a number.
+fn put_two_with(
+    text: &mut Vec<u8>,
+    word: &[u8],
+    first: Register,
+    second: Register,
+    value: i32,
+) -> Result<(), AllocError>
+    ensures { OnOk result (text.new.items ≡ text.old.items ++ (word.now ++ (codes " " ++ (register_text first ++ (codes "," ++ (register_text second ++ (codes "," ++ signed_decimal value))))))) }
+{
+    put_two(text, word, first, second)?;
     put_bytes(text, b",")?;
     put_number(text, value)
 }
@@ -187,19 +208,13 @@ fn put_instruction(text: &mut Vec<u8>, instruction: &Instruction) -> Result<(), 
     ensures { OnOk result (text.new.items ≡ text.old.items ++ instruction_text instruction.now) }
 {
     match instruction {
-        Instruction::LoadImmediate { target, value } => {
-            put_one(text, b"li", *target)?;
-            put_immediate(text, *value)
-        }
+        Instruction::LoadImmediate { target, value } => put_one_with(text, b"li", *target, *value),
         Instruction::Move { target, source } => put_two(text, b"mr", *target, *source),
         Instruction::AddImmediate {
             target,
             left,
             value,
-        } => {
-            put_two(text, b"addi", *target, *left)?;
-            put_immediate(text, *value)
-        }
+        } => put_two_with(text, b"addi", *target, *left, *value),
         Instruction::Compute {
             operation,
             target,
@@ -220,8 +235,7 @@ fn put_instruction(text: &mut Vec<u8>, instruction: &Instruction) -> Result<(), 
         } => put_three(text, b"stwx", *source, *base, *index),
         Instruction::Compare { left, right } => put_two(text, b"cmpw", *left, *right),
         Instruction::CompareImmediate { left, value } => {
-            put_one(text, b"cmpwi", *left)?;
-            put_immediate(text, *value)
+            put_one_with(text, b"cmpwi", *left, *value)
         }
         Instruction::BranchIf { condition, label } => {
             put_branch(text, branch_name(*condition), label.as_bytes())
