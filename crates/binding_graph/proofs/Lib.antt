@@ -6,3 +6,4 @@ pub mod Bodies
 pub mod Done
 pub mod Answered
 pub mod Reaching
+pub mod Labels

@@ -1,6 +1,9 @@
 -- What the items of a model are resolved to.
-use Rattle.std.specs.Prelude.{◌≡◌, ℕ, ◌+◌, List, [], ◌∷◌, length, Bool, true, false}
+use Rattle.std.specs.Prelude.{◌≡◌, ℕ, ◌+◌, List, [], ◌∷◌, length, Bool, true, false, Option, Some, None}
+use Rattle.std.specs.List.{AllZip}
 use Rattle.cat_values.specs.declared.model.CheckWord.{CheckWord}
+use Rattle.cat_values.specs.declared.model.Item as code_item
+use Rattle.cat_values.specs.declared.model.Item.TheVariants as items
 use Rattle.binding_kinds.specs.declared.scope.Used.{Used}
 use Rattle.binding_kinds.specs.Value.{Term, Naming, Bound, Clause, Group, Check, Mute, Defined}
 use Rattle.binding_kinds.specs.Faults.{extended}
@@ -51,3 +54,21 @@ AreResolved names at [] [] = Unit {0}
 AreResolved names at [] (r ∷ rs) = ⊥
 AreResolved names at (c ∷ cs) [] = ⊥
 AreResolved names at (c ∷ cs) (r ∷ rs) = IsResolvedIn names (extended names at c) (length names) c r × AreResolved (extended names at c) (at + 1) cs rs
+
+-- this is a check or a flag: negated or not, and with that name where it is a flag
+abbrev pub IsLabelled : Bool → Option (List ℕ) → Role → Type 0
+IsLabelled negated flag (roles.Group r bodies) = ⊥
+IsLabelled negated flag (roles.Check c) = (c.negated ≡ negated) × (c.flag ≡ flag)
+IsLabelled negated flag roles.Silent = ⊥
+
+-- what an item is resolved to is negated where a check or a flag is, and has the name of a flag
+abbrev pub IsLabelledAs : code_item.Item → ResolvedItem → Type 0
+IsLabelledAs (items.Let r g) x = Unit {0}
+IsLabelledAs (items.Function n ps b) x = Unit {0}
+IsLabelledAs (items.Check c l) x = IsLabelled c.negated None x.role
+IsLabelledAs (items.Flag c l) x = IsLabelled c.negated (Some l) x.role
+IsLabelledAs (items.Show h s) x = Unit {0}
+IsLabelledAs (items.Include n) x = Unit {0}
+
+abbrev pub AreLabelled : List code_item.Item → List ResolvedItem → Type 0
+AreLabelled xs rs = AllZip IsLabelledAs xs rs

@@ -1,6 +1,6 @@
 //! The items of a model, one after another.
 
-ghost use Rattle.std.specs.Prelude.{◌≡◌, ◌+◌, ◌≤◌, [], ◌∷◌, ◌++◌, true, false, vec_len, IfOk, OnOk, MatchResult, reverse, map, length, take};
+ghost use Rattle.std.specs.Prelude.{◌≡◌, ◌+◌, ◌≤◌, [], ◌∷◌, ◌++◌, None, Some, true, false, vec_len, IfOk, OnOk, MatchResult, reverse, map, length, take};
 ghost use Rattle.binding_kinds.specs.Value.{entry_of, clause_of, term_of, bound_of, IsPlain, ArePlain, IsPlainClause, ArePlainClauses};
 ghost use Rattle.binding_kinds.specs.Faults.{HasNoFault, FirstFault};
 ghost use Rattle.binding_kinds.specs.Verdict.{first};
@@ -9,7 +9,7 @@ ghost use Rattle.binding_kinds.specs.Outermost.{naming_of};
 ghost use Rattle.binding_graph.specs.Refusals.{IfRefused};
 ghost use Rattle.binding_graph.specs.Inputs.{IsIndexed, with_uses, with_all_uses, inputs_of};
 ghost use Rattle.binding_graph.specs.Meaning.{IsCode};
-ghost use Rattle.binding_graph.specs.Resolved.{AreBodies, IsGroup, IsCheck, IsResolvedIn, AreResolved};
+ghost use Rattle.binding_graph.specs.Resolved.{AreBodies, IsGroup, IsCheck, IsResolvedIn, AreResolved, IsLabelled, IsLabelledAs, AreLabelled};
 
 use crate::declare::item_fault;
 use crate::expand::expand;
@@ -32,6 +32,7 @@ pub fn resolve(alloc: Global, text: &ModelText) -> Result<Resolved, ResolveFault
     ensures whole { IfOk result (λ r. vec_len r.items ≡ vec_len text.now.items) }
     ensures fault { let names = reverse (map naming_of PREDEFINED) in let clauses = map clause_of text.now.items.items in ArePlainClauses clauses → MatchResult result (λ _. HasNoFault names 0 clauses) (λ e. IfRefused e (λ k. FirstFault names 0 clauses k)) }
     ensures items { let names = reverse (map naming_of PREDEFINED) in let clauses = map clause_of text.now.items.items in ArePlainClauses clauses → IfOk result (λ r. AreResolved names 0 clauses r.items.items) }
+    ensures labels { IfOk result (λ r. AreLabelled text.now.items.items r.items.items) }
 {
     match resolve_all(alloc, &text.items) {
         Ok(Ok(items)) => Ok(Resolved { items }),
@@ -48,6 +49,7 @@ fn resolve_all(
     ensures fault { let names = reverse (map naming_of PREDEFINED) in ArePlainClauses (map clause_of items.now) → IfOk result (λ r. MatchResult r (λ _. HasNoFault names 0 (map clause_of items.now)) (λ k. FirstFault names 0 (map clause_of items.now) k)) }
     ensures whole { IfOk result (λ r. IfOk r (λ v. vec_len v ≡ length items.now)) }
     ensures items { let names = reverse (map naming_of PREDEFINED) in ArePlainClauses (map clause_of items.now) → IfOk result (λ r. IfOk r (λ v. AreResolved names 0 (map clause_of items.now) v.items)) }
+    ensures labels { IfOk result (λ r. IfOk r (λ v. AreLabelled items.now v.items)) }
 {
     let mut scope = Scope::new(alloc)?;
     resolve_items(alloc, &mut scope, items)
@@ -62,6 +64,7 @@ fn find_items(
     ensures fault { ArePlainClauses (map clause_of items.now) → IfOk result (λ r. r.1 ≡ first (reverse (map entry_of scope.old.entries.items)) 0 (map clause_of items.now)) }
     ensures whole { IfOk result (λ r. r.1 ≡ None → vec_len r.0 ≡ length items.now) }
     ensures items { let names = reverse (map entry_of scope.old.entries.items) in AreKnown names → ArePlainClauses (map clause_of items.now) → IfOk result (λ r. r.1 ≡ None → AreResolved names 0 (map clause_of items.now) r.0.items) }
+    ensures labels { IfOk result (λ r. r.1 ≡ None → AreLabelled items.now r.0.items) }
 {
     let mut resolved = Vec::new(alloc);
     for (place, item) in items.iter().enumerate() {
@@ -85,6 +88,7 @@ pub fn resolve_items(
     ensures fault { ArePlainClauses (map clause_of items.now) → IfOk result (λ r. MatchResult r (λ _. HasNoFault (reverse (map entry_of scope.old.entries.items)) 0 (map clause_of items.now)) (λ k. FirstFault (reverse (map entry_of scope.old.entries.items)) 0 (map clause_of items.now) k)) }
     ensures whole { IfOk result (λ r. IfOk r (λ v. vec_len v ≡ length items.now)) }
     ensures items { let names = reverse (map entry_of scope.old.entries.items) in AreKnown names → ArePlainClauses (map clause_of items.now) → IfOk result (λ r. IfOk r (λ v. AreResolved names 0 (map clause_of items.now) v.items)) }
+    ensures labels { IfOk result (λ r. IfOk r (λ v. AreLabelled items.now v.items)) }
 {
     let (resolved, fault) = find_items(alloc, scope, items)?;
     match fault {
@@ -112,7 +116,9 @@ fn silent(alloc: Global) -> ResolvedItem
     }
 }
 
-fn copied_label(alloc: Global, label: &Name) -> Result<Option<Name>, AllocError> {
+fn copied_label(alloc: Global, label: &Name) -> Result<Option<Name>, AllocError>
+    ensures { IfOk result (λ o. o ≡ Some label.now) }
+{
     Ok(Some(label.copied(alloc)?))
 }
 
@@ -123,7 +129,8 @@ fn lower_item(
     from: usize,
     item: &Item,
 ) -> Result<ResolvedItem, AllocError>
-    ensures { let names = reverse (map entry_of (take from scope.now.entries.items)) in let own = reverse (map entry_of scope.now.entries.items) in from ≤ vec_len scope.now.entries → IsPlainClause (clause_of item.now) → IsFitClause names own (clause_of item.now) → IfOk result (λ r. IsResolvedIn names own from (clause_of item.now) r) }
+    ensures resolved { let names = reverse (map entry_of (take from scope.now.entries.items)) in let own = reverse (map entry_of scope.now.entries.items) in from ≤ vec_len scope.now.entries → IsPlainClause (clause_of item.now) → IsFitClause names own (clause_of item.now) → IfOk result (λ r. IsResolvedIn names own from (clause_of item.now) r) }
+    ensures label { IfOk result (λ r. IsLabelledAs item.now r) }
 {
     match item {
         Item::Let { recursive, group } => lower_group(alloc, scope, from, *recursive, group),
@@ -237,7 +244,8 @@ fn lower_check(
     check: &Check,
     flag: Option<Name>,
 ) -> Result<ResolvedItem, AllocError>
-    ensures { let names = reverse (map entry_of (take from scope.now.entries.items)) in from ≤ vec_len scope.now.entries → IsPlain (term_of check.now.body) → IsFit names (term_of check.now.body) → IfOk result (λ r. IsCheck names from check.now.word (term_of check.now.body) r) }
+    ensures code { let names = reverse (map entry_of (take from scope.now.entries.items)) in from ≤ vec_len scope.now.entries → IsPlain (term_of check.now.body) → IsFit names (term_of check.now.body) → IfOk result (λ r. IsCheck names from check.now.word (term_of check.now.body) r) }
+    ensures label { IfOk result (λ r. IsLabelled check.now.negated flag r.role) }
 {
     let sight = sight_of(scope, from, false);
     let mut uses = Uses::new(alloc, scope)?;

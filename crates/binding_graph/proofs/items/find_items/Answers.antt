@@ -1,6 +1,7 @@
 use Rattle.std.proofs.Common.{ℕ, ◌≡◌, ◌<◌, ◌≤◌, ◌+◌, ◌∙◌, ap, sym, length, None, arith, vec_len}
 use Rattle.binding_kinds.specs.Value.{clause_of, IsPlainClause}
 use Rattle.binding_graph.proofs.Done.{next_clause, fit_next, done_more, all_done, rest_more, from_fits, none_of}
+use Rattle.binding_graph.proofs.Labels.{labels_more, labels_all}
 use Rattle.binding_graph.proofs.items.find_items.Goals as goal
 
 pub loop-place-preserved : goal.loop-place-preserved
@@ -26,9 +27,13 @@ loop-place-preserved c =
           let from : c.len-from.result ≡ length before = omega arith in
           let room : length before ≤ vec_len c.item_fault.new.scope.entries = omega (arith, from_fits before after kept) in
           let fit = fit_next before after c.loop-place.place (clause_of d) c.in_ok-fault.fault m.known p none first names kept in
-          let resolved = (rw from at c.in_ok-one.ensures) room p fit in
+          let resolved = (rw from at c.in_ok-one.ensures.resolved) room p fit in
           done_more _ before after c.args.items.now c.loop-place.place d _ _ c.in_ok-one.one c.in_ok-fault.fault lt m none (rw (← is) first) (rw (← is) names) kept (rw (← is) resolved) c.in_ok-push_item.ensures.items;
+      labels = labels_more c.args.items.now c.loop-place.place d c.loop-place.resolved.items _ c.in_ok-one.one lt c.loop-place.invariant.labels (rw (← is) c.in_ok-one.ensures.label) c.in_ok-push_item.ensures.items;
     }
 
 pub returns-clause-items : goal.returns-clause-items
 returns-clause-items c = λ known plain none. all_done _ _ c.args.items.now c.loop-place.place c.loop-place.resolved.items (c.loop-place.invariant.items known plain) (omega arith)
+
+pub returns-clause-labels : goal.returns-clause-labels
+returns-clause-labels c = λ none. labels_all c.args.items.now c.loop-place.place c.loop-place.resolved.items (omega arith) c.loop-place.invariant.labels

@@ -1,7 +1,8 @@
-use Rattle.std.proofs.Common.{◌≡◌, reverse, map, drop, vec_len}
+use Rattle.std.proofs.Common.{◌≡◌, reverse, map, take, drop, vec_len}
 use Rattle.binding_kinds.specs.Value.{entry_of, clause_of, ArePlainClauses}
 use Rattle.binding_kinds.specs.Verdict.{first}
 use Rattle.binding_kinds.specs.Fits.{AreKnown}
+use Rattle.binding_graph.specs.Resolved.{AreLabelled}
 use Rattle.binding_graph.proofs.Done.{AreDone}
 use Rattle.binding_graph.proofs.items.find_items.Given as goal
 
@@ -14,4 +15,5 @@ invariant-loop-place l = record {
       ≡ first (reverse (map entry_of l.scope.entries.items)) l.place (map clause_of (drop l.place l.items)));
   items : AreKnown (reverse (map entry_of l.fn.scope.entries.items)) → ArePlainClauses (map clause_of l.items) →
       AreDone (reverse (map entry_of l.fn.scope.entries.items)) (reverse (map entry_of l.scope.entries.items)) l.items l.place l.resolved.items;
+  labels : AreLabelled (take l.place l.items) l.resolved.items;
 }

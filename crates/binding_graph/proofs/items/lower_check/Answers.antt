@@ -5,8 +5,8 @@ use Rattle.binding_kinds.specs.Fits.{IsFit}
 use Rattle.binding_graph.proofs.Bodies.{checked}
 use Rattle.binding_graph.proofs.items.lower_check.Goals as goal
 
-pub returns : goal.returns
-returns c = λ le plain fit.
+pub returns-clause-code : goal.returns-clause-code
+returns-clause-code c = λ le plain fit.
     let s = c.sight_of-sight.ensures in
     let t = term_of c.args.check.now.body in
     let before : c.sight_of-sight.result.entries.now ≡ take c.args.from c.args.scope.now.entries.items = s.before refl le in
