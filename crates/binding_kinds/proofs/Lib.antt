@@ -4,3 +4,4 @@ pub mod FirstGroup
 pub mod FirstItem
 pub mod Fitting
 pub mod Combinations
+pub mod Applications

@@ -9,3 +9,4 @@ pub mod Fits
 pub mod Outermost
 pub mod Combinations
 pub mod Applicable
+pub mod Senses

@@ -1,10 +1,13 @@
 //! The kinds and the first fault of expressions and groups.
 
-ghost use Rattle.std.specs.Prelude.{◌≡◌, [], List, reverse, map};
+ghost use Rattle.std.specs.Prelude.{◌≡◌, ◌+◌, ◌*◌, ◌^◌, ◌<◌, ◌≤◌, [], List, reverse, map, get_or, Ok, Err, Some, None, true, false, not, ◌||◌, MatchResult};
 ghost use Rattle.binding_kinds.specs.Value.{Naming, entry_of, term_of, bound_of, IsPlain, ArePlain};
 ghost use Rattle.binding_kinds.specs.Kinds.{kind, kind_found, found, joined, takes, marked, narrowed, is_set, is_relation};
 ghost use Rattle.binding_kinds.specs.Verdict.{first_of, first_in, of_binding, is_seen, or_else, unless, of_name, of_slot, of_parameters};
 ghost use Rattle.binding_kinds.specs.Seen.{names_of};
+ghost use Rattle.binding_kinds.specs.Combinations.{digit, unknown};
+ghost use Rattle.binding_kinds.specs.Senses.{Sense, IsKept, AreKept, sense_of, size_in, kind_in, first_within, IsAlike};
+ghost use Rattle.cat_values.specs.Values as values;
 
 use crate::fault::ModelFault;
 use crate::function::{Function, MAX_SIZE};
@@ -53,8 +56,18 @@ pub fn unless(holds: bool, fault: ModelFault) -> Option<ModelFault>
     if holds { None } else { Some(fault) }
 }
 
+fn either(one: bool, other: bool) -> bool
+    ensures { result ≡ (one || other) }
+{
+    one || other
+}
+
 /// A name, a sign or an application at fault: it fits every kind.
-fn faulty(fault: ModelFault) -> Judged {
+fn faulty(fault: ModelFault) -> Judged
+    ensures kind { result.kind ≡ Kind.OfAny }
+    ensures size { result.size ≡ 1 }
+    ensures fault { result.fault ≡ Some fault }
+{
     Judged {
         kind: Kind::OfAny,
         size: 1,
@@ -65,6 +78,7 @@ fn faulty(fault: ModelFault) -> Judged {
 /// `_`, `0` or `{}`.
 fn sign(of: Kind) -> Judged
     ensures kind { result.kind ≡ of }
+    ensures size { result.size ≡ 1 }
     ensures fault { result.fault ≡ None }
 {
     Judged {
@@ -100,6 +114,7 @@ fn recursive_fault(from: usize, under: bool, slot: usize) -> Option<ModelFault>
 }
 
 fn judge_name(entries: &[Entry], from: usize, under: bool, name: &Name) -> Judged
+    ensures size { result.size ≡ 1 }
     ensures kind { result.kind ≡ kind_found (found (reverse (map entry_of entries.now)) name.now) }
     ensures fault { result.fault ≡ of_name from under (found (reverse (map entry_of entries.now)) name.now) }
 {
@@ -117,14 +132,22 @@ fn function_of<'a>(
     functions: &'a [Function],
     name: &Name,
     count: usize,
-) -> Result<&'a Function, ModelFault> {
+) -> Result<&'a Function, ModelFault>
+    ensures { let looked_for = found (reverse (map entry_of entries.now)) name.now in (senses : List Sense) → AreKept functions.now senses → MatchResult result (λ f. (s : Sense) × (sense_of senses count looked_for ≡ Ok s) × IsKept f.now s) (λ k. sense_of senses count looked_for ≡ Err k) }
+{
     let Some(found) = find(entries, name) else {
         return Err(ModelFault::Unbound);
     };
     match found.binder {
         Binder::Applicable(function) => match functions.get(function) {
-            Some(one) if one.arity == count => Ok(one),
-            _ => Err(ModelFault::Arity),
+            None => Err(ModelFault::Arity),
+            Some(one) => {
+                if one.arity == count {
+                    Ok(one)
+                } else {
+                    Err(ModelFault::Arity)
+                }
+            }
         },
         Binder::Predefined(_) => Err(ModelFault::Arity),
         Binder::Bound(_) => Err(ModelFault::Arity),
@@ -133,7 +156,11 @@ fn function_of<'a>(
 
 impl Arguments {
     /// No argument yet.
-    fn of(function: &Function) -> Arguments {
+    fn of(function: &Function) -> Arguments
+        ensures combination { result.combination ≡ 0 }
+        ensures size { result.size ≡ function.now.constant }
+        ensures fault { result.fault ≡ None }
+    {
         Arguments {
             combination: 0,
             size: function.constant,
@@ -142,7 +169,11 @@ impl Arguments {
     }
 
     /// With the argument at that place.
-    fn with(self, function: &Function, place: usize, one: Judged) -> Arguments {
+    fn with(self, function: &Function, place: usize, one: Judged) -> Arguments
+        ensures combination { place < 8 → self.combination < 6561 → result.combination ≡ self.combination + digit one.kind * 3 ^ place }
+        ensures size { IsAlike result.size (self.size + get_or function.now.factors place 0 * one.size) }
+        ensures fault { result.fault ≡ or_else self.fault one.fault }
+    {
         let more = function.factor(place).saturating_mul(one.size);
         Arguments {
             combination: self.combination.saturating_add(weighed(one.kind, place)),
@@ -152,7 +183,11 @@ impl Arguments {
     }
 
     /// The application.
-    fn applied(self, function: &Function) -> Judged {
+    fn applied(self, function: &Function) -> Judged
+        ensures oversized { function.now.is_oversized ≡ true → (result.kind ≡ Kind.OfAny) × (result.fault ≡ Some ModelFault.TooLarge) × (4096 < result.size) }
+        ensures large { 4096 < self.size → (result.kind ≡ Kind.OfAny) × (result.fault ≡ Some ModelFault.TooLarge) × (4096 < result.size) }
+        ensures small { let made = get_or function.now.signatures.items self.combination unknown in function.now.is_oversized ≡ false → self.size ≤ 4096 → (result.kind ≡ made.kind) × (result.fault ≡ or_else (unless (not made.clashes) ModelFault.Kind) self.fault) × (result.size ≡ self.size) }
+    {
         if function.is_oversized || self.size > MAX_SIZE {
             return Judged {
                 kind: Kind::OfAny,
@@ -171,6 +206,7 @@ impl Arguments {
 
 /// What an infix operator makes.
 fn judged_infix(op: Infix, first: Judged, second: Judged) -> Judged
+    ensures size { IsAlike result.size (first.size + second.size + 1) }
     ensures kind { result.kind ≡ joined op first.kind second.kind }
     ensures fault { result.fault ≡ or_else first.fault (or_else (unless (takes op first.kind second.kind) ModelFault.Kind) second.fault) }
 {
@@ -184,6 +220,7 @@ fn judged_infix(op: Infix, first: Judged, second: Judged) -> Judged
 
 /// What a postfix operator makes.
 fn judged_postfix(inner: Judged) -> Judged
+    ensures size { IsAlike result.size (inner.size + 1) }
     ensures kind { result.kind ≡ marked inner.kind }
     ensures fault { result.fault ≡ or_else inner.fault (unless (is_relation inner.kind) ModelFault.Kind) }
 {
@@ -197,6 +234,7 @@ fn judged_postfix(inner: Judged) -> Judged
 
 /// A complement.
 fn judged_complement(inner: Judged) -> Judged
+    ensures size { IsAlike result.size (inner.size + 1) }
     ensures kind { result.kind ≡ inner.kind }
     ensures fault { result.fault ≡ inner.fault }
 {
@@ -209,6 +247,7 @@ fn judged_complement(inner: Judged) -> Judged
 
 /// An identity.
 fn judged_identity(inner: Judged) -> Judged
+    ensures size { IsAlike result.size (inner.size + 1) }
     ensures kind { result.kind ≡ narrowed inner.kind }
     ensures fault { result.fault ≡ or_else (unless (is_set inner.kind) ModelFault.Kind) inner.fault }
 {
@@ -229,6 +268,9 @@ pub fn judge(
     under: bool,
     term: &Expression,
 ) -> Judged
+    ensures kind_in { (senses : List Sense) → AreKept functions.now senses → result.kind ≡ kind_in senses (reverse (map entry_of entries.now)) (values.term_of term.now) }
+    ensures size_in { (senses : List Sense) → AreKept functions.now senses → IsAlike result.size (size_in senses (reverse (map entry_of entries.now)) (values.term_of term.now)) }
+    ensures first_within { (senses : List Sense) → AreKept functions.now senses → result.fault ≡ first_within senses (reverse (map entry_of entries.now)) from under (values.term_of term.now) }
     ensures kind { IsPlain (term_of term.now) → result.kind ≡ kind (reverse (map entry_of entries.now)) (term_of term.now) }
     ensures fault { IsPlain (term_of term.now) → result.fault ≡ first_of (reverse (map entry_of entries.now)) from under (term_of term.now) }
 {
@@ -257,7 +299,7 @@ pub fn judge(
                 Ok(function) => {
                     let mut all = Arguments::of(function);
                     for (place, argument) in arguments.iter().enumerate() {
-                        let inner = under || function.is_under(place);
+                        let inner = either(under, function.is_under(place));
                         let one = judge(entries, functions, from, inner, argument);
                         all = all.with(function, place, one);
                     }
