@@ -1,5 +1,5 @@
 -- Bits of words, and sets of them.
-use Rattle.std.proofs.Common.{ℕ, zero, suc, ◌≡◌, ◌<◌, ◌≤◌, ◌+◌, ◌^◌, ◌↔◌, ◌⊎◌, Bool, true, false, nat_eq, List, length, replicate, get_or, inl, inr, arith, refl, sym, subst, w64}
+use Rattle.std.proofs.Common.{ℕ, zero, suc, ◌≡◌, ◌<◌, ◌≤◌, ◌^◌, ◌↔◌, ◌⊎◌, Bool, true, false, nat_eq, List, length, replicate, get_or, inl, inr, arith, refl, sym, subst, w64}
 use Rattle.std.specs.Int.{bit_not}
 use Rattle.std.specs.Int.RustNames.{bit_and}
 use Rattle.std.proofs.lemmas.Bool.{cases_lt, cases_eq}
@@ -10,7 +10,7 @@ use Rattle.bit_relations.specs.Rows.{RowsHave, AreWritten}
 use Rattle.bit_relations.proofs.Bits.{Bit-zero, Bit-and_not, Bit_cases, Bit-width, same_word}
 use Rattle.bit_relations.proofs.Writing.{zeros}
 use Rattle.candidates.proofs.Counting.{eq_true}
-use Rattle.candidates.specs.Keys.{TellsAll, TellsWithin}
+use Rattle.candidates.specs.Keys.{TellsAll}
 
 -- a word has a bit, or none of the first bits
 first_bits : (x n : ℕ) → ((b : ℕ) × Bit x b) ⊎ ((b : ℕ) → b < n → Bit x b → ⊥)
@@ -51,30 +51,9 @@ left_bits x y z xs left false e =
 pub tells_all : (x y : ℕ) → x < 2 ^ 64 → y < 2 ^ 64 → TellsAll (nat_eq (bit_and x (bit_not w64 y)) 0) (Bit x) (Bit y)
 tells_all x y xs ys = left_bits x y (bit_and x (bit_not w64 y)) xs (λ b. Bit-and_not x y b xs ys) (nat_eq (bit_and x (bit_not w64 y)) 0) refl
 
-tells_true : (is : Bool) (S T : ℕ → Type 0) → is ≡ true → TellsAll is S T → (b : ℕ) → S b → T b
-tells_true true S T e h = h
-tells_true false S T e h = absurd cc
-
-tells_false : (is : Bool) (S T : ℕ → Type 0) → is ≡ false → TellsAll is S T → (b : ℕ) × S b × (T b → ⊥)
-tells_false true S T e h = absurd cc
-tells_false false S T e h = h
-
 -- the first words have nothing but what the others have
 abbrev pub HasFirst : List ℕ → List ℕ → ℕ → Type 0
 HasFirst xs ys n = (a b : ℕ) → a < n → RowsHave xs a b → RowsHave ys a b
-
-pub one_word : (xs ys : List ℕ) (n : ℕ) (is : Bool) → is ≡ true → TellsAll is (RowsHave xs n) (RowsHave ys n) → HasFirst xs ys n → HasFirst xs ys (n + 1)
-one_word xs ys n is e tells before a b lt h =
-    elim (cases_eq a n) [
-      | inl same ↦ subst (λ (k : ℕ). RowsHave ys k b) (sym same) (tells_true is (RowsHave xs n) (RowsHave ys n) e tells b (subst (λ (k : ℕ). RowsHave xs k b) same h))
-      | inr other ↦ before a b (below other lt) h
-    ]
-  where
-    below : (a ≡ n → ⊥) → a < n + 1 → a < n
-    below ne few = omega (arith, ne, few)
-
-pub missing : (xs ys : List ℕ) (n : ℕ) (is : Bool) → is ≡ false → TellsAll is (RowsHave xs n) (RowsHave ys n) → TellsWithin false (RowsHave xs) (RowsHave ys)
-missing xs ys n is e tells = let m : (b : ℕ) × RowsHave xs n b × (RowsHave ys n b → ⊥) = tells_false is (RowsHave xs n) (RowsHave ys n) e tells in (n, m.0, m.1, m.2)
 
 -- there is nothing behind the words
 none_past : (xs : List ℕ) (a b : ℕ) → length xs ≤ a → RowsHave xs a b → ⊥

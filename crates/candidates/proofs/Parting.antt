@@ -1,17 +1,14 @@
 -- Runs as parts of candidates, and those that are left out.
-use Rattle.std.proofs.Common.{Vec, ℕ, zero, suc, ◌≡◌, ◌<◌, ◌≤◌, ◌+◌, ◌⊎◌, ◌↔◌, Bool, true, false, List, [], ◌∷◌, ◌++◌, take, length, get_or, Option, Some, None, length-append, slice_get, slice_set, inl, inr, arith, refl, sym, ap, subst, ◌∙◌}
+use Rattle.std.proofs.Common.{Vec, ℕ, zero, suc, ◌≡◌, ◌<◌, ◌≤◌, ◌+◌, ◌⊎◌, ◌↔◌, Bool, true, false, List, [], ◌∷◌, ◌++◌, take, length, get_or, Option, Some, length-append, slice_get, slice_set, inl, inr, arith, refl, sym, ap, subst, ◌∙◌}
 use Rattle.std.specs.List.{items_where_true}
 use Rattle.std.specs.List.Retain.{ReturnsInTurn, IsFiltered}
 use Rattle.std.specs.declared.alloc.Global.{Global}
 use Rattle.std.proofs.lemmas.List.{take_more, length-take-le}
-use Rattle.std.proofs.lemmas.List.Concat.{flat_map-append}
 use Rattle.ppc_semantics.specs.declared.value.Value.{Value}
-use Rattle.ppc_semantics.specs.declared.instruction.Event as run
 use Rattle.ppc_semantics.specs.declared.run.Run.{Run}
 use Rattle.candidates.proofs.Pruning.{load_front, load_behind, store_split}
 use Rattle.candidates.specs.Keys.{HasKey, IsWithin, HasLoad, AreKeys, TellsWithin, bit_of}
-use Rattle.candidates.specs.Parts.{action_in, with_action, part_events, IsSketch, HasWritesOf, HasWritesOfAll, AreKept, none, kept, left, AreSome, end, kept_one, left_out, Among, IsChoice, HasRead, HasWrite, AreEach, IsSifted, IsMade, AreBelow, NamesRuns, AreThreads}
-use Rattle.candidates.specs.declared.candidate.Action.{Action}
+use Rattle.candidates.specs.Parts.{part_events, IsSketch, HasWritesOf, HasWritesOfAll, AreKept, none, kept, left, AreSome, end, kept_one, left_out, Among, IsChoice, HasRead, HasWrite, AreEach, IsSifted, IsMade, AreBelow, NamesRuns, AreThreads}
 use Rattle.candidates.specs.declared.candidate.Action.TheVariants.{Read, Write}
 use Rattle.candidates.specs.declared.candidate.Event.{Event}
 use Rattle.candidates.specs.declared.keys.KeySet.{KeySet}
@@ -52,23 +49,6 @@ fence_more key es e r w never k = record {
   loads = λ a b h. let x : (location : ℕ) × (value : Value) × (key location value ≡ Some (a, b)) × HasLoad location value es = k.loads a b h in (x.0, x.1, x.2, load_front x.0 x.1 es (e ∷ []) x.3);
   stores = λ place value a b h q. elim (store_split place value es (e ∷ []) h) [ inl s ↦ k.stores place value a b s q | inr s ↦ elim s [ inl p ↦ absurd (never place value p) | inr n ↦ absurd n ] ];
 }
-
--- the events of a run, one after another
-append-nothing : (xs : List Event) → xs ++ [] ≡ xs
-append-nothing [] = refl
-append-nothing (x ∷ xs) = ap (λ (l : List Event). x ∷ l) (append-nothing xs)
-
-pub events_more : (t : ℕ) (es : List run.Event) (i : ℕ) (e : run.Event) → i < length es → e ≡ get_or es i e → part_events t (take (i + 1) es) ≡ part_events t (take i es) ++ with_action t (action_in e)
-events_more t es i e lt is =
-    ap (λ (l : List run.Event). part_events t l) (take_more es i e lt ∙ ap (λ (q : run.Event). take i es ++ q ∷ []) (sym is))
-    ∙ flat_map-append (λ x. with_action t (action_in x)) (take i es) (e ∷ [])
-    ∙ ap (λ (l : List Event). part_events t (take i es) ++ l) (append-nothing (with_action t (action_in e)))
-
-pub events_same : (t : ℕ) (es : List run.Event) (i : ℕ) (e : run.Event) → i < length es → e ≡ get_or es i e → action_in e ≡ None → part_events t (take i es) ≡ part_events t (take (i + 1) es)
-events_same t es i e lt is lacks = sym (events_more t es i e lt is ∙ ap (λ (o : Option Action). part_events t (take i es) ++ with_action t o) lacks ∙ append-nothing (part_events t (take i es)))
-
-pub events_with : (t : ℕ) (es : List run.Event) (i : ℕ) (e : run.Event) (a : Action) → i < length es → e ≡ get_or es i e → action_in e ≡ Some a → part_events t (take i es) ++ record { thread = Some t; action = a } ∷ [] ≡ part_events t (take (i + 1) es)
-events_with t es i e a lt is some = sym (events_more t es i e lt is ∙ ap (λ (o : Option Action). part_events t (take i es) ++ with_action t o) some)
 
 -- one sketch more
 get_pushed : (xs : List Sketch) (x y : Sketch) (k : ℕ) → slice_get (xs ++ x ∷ []) k ≡ Some y → (slice_get xs k ≡ Some y) ⊎ ((k ≡ length xs) × (x ≡ y))

@@ -2,7 +2,6 @@
 use Rattle.std.proofs.Common.{ℕ, zero, suc, ◌≡◌, ◌<◌, ◌+◌, ◌⊎◌, ◌↔◌, ◌&&◌, Bool, true, false, cond, nat_eq, List, [], ◌∷◌, ◌++◌, map, filter, take, length, get_or, Option, Some, inl, inr, arith, refl, sym, ap, subst, ◌∙◌}
 use Rattle.std.specs.List.{flat_map}
 use Rattle.std.proofs.lemmas.List.{take_more}
-use Rattle.std.proofs.Math.Seq.{take-length}
 use Rattle.ppc_semantics.specs.declared.value.Value.{Value}
 use Rattle.ppc_semantics.specs.declared.value.Value.TheVariants.{Number, Address, NoValue}
 use Rattle.candidates.proofs.Counting.{eq_true}
@@ -173,9 +172,6 @@ pub writes_more : (ts : List ThreadParts) (i : ℕ) (t : ThreadParts) (s u : Key
 writes_more ts i t s u lt is h j =
     subst (λ (l : List ThreadParts). HasWrites u l) (sym (take_more ts i t lt ∙ ap (λ (q : ThreadParts). take i ts ++ q ∷ []) (sym is)))
     (writes_append (take i ts) t s u (λ a b k. (j a b).1 (inl k)) (λ a b k. (j a b).1 (inr k)) h)
-
-pub writes_all : (ts : List ThreadParts) (i : ℕ) (s : KeySet) → i ≡ length ts → HasWrites s (take i ts) → HasWrites s ts
-writes_all ts i s whole h = subst (λ (l : List ThreadParts). HasWrites s l) (ap (λ (k : ℕ). take k ts) whole ∙ take-length ts) h
 
 -- the sets of the front
 pub first_keys : (key : ℕ → Value → Option (ℕ × ℕ)) (l : Layout) (f : Front) → begun f ≡ start l.initial.items → ((a b : ℕ) → HasKey f.reads a b → ⊥) × (f.writes ≡ l.initial_writes) → IsKeyed key l → AreKeys key f.made.events.items f.reads f.writes

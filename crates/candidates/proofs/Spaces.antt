@@ -6,9 +6,8 @@ use Rattle.std.proofs.lemmas.Bool.{cases_lt}
 use Rattle.std.proofs.lemmas.Option.{slice_get_read, slice_get_past}
 use Rattle.std.specs.declared.alloc.Global.{Global}
 use Rattle.std.proofs.Math.Nat.{suc-mul, zero-mul, mul-zero, mul_comm, mod-lt, div-add-mod, div-lt_iff_lt-mul}
-use Rattle.std.proofs.Math.Seq.{take-length}
-use Rattle.std.proofs.lemmas.List.{length-append, length-map, get_or-map, length-take-le, take_more, append-nil, drop_all}
-use Rattle.std.proofs.lemmas.List.Concat.{get_or-flat_map, flat_map-append}
+use Rattle.std.proofs.lemmas.List.{length-append, length-map, get_or-map, length-take-le, append-nil, drop_all}
+use Rattle.std.proofs.lemmas.List.Concat.{get_or-flat_map}
 use Rattle.std.proofs.lemmas.List.Folds.{length-flat_map-take}
 use Rattle.std.specs.Prelude.{HoldsAt}
 use Rattle.ppc_semantics.specs.declared.value.Value.{Value}
@@ -87,17 +86,6 @@ pub candidate_in : (cs : List Combination) (i p : ℕ) (e : Combination) (t : Li
 candidate_in cs i p e t d lt inside =
     get_or-flat_map (λ c. map (λ t. (c, t)) (candidates_of c)) cs i p e d lt (subst (λ (n : ℕ). p < n) (sym (length-one (get_or cs i e))) inside)
     ∙ get_or-map (λ (u : List ℕ × List ℕ). (get_or cs i e, u)) (candidates_of (get_or cs i e)) p t d inside
-
-pub one_combination_more : (cs : List Combination) (i : ℕ) (e : Combination) → i < length cs → e ≡ get_or cs i e → length (candidates_in (take (i + 1) cs)) ≡ length (candidates_in (take i cs)) + length (candidates_of e)
-one_combination_more cs i e lt is =
-    ap (λ (l : List Combination). length (candidates_in l)) (take_more cs i e lt ∙ ap (λ (x : Combination). take i cs ++ x ∷ []) (sym is))
-    ∙ ap (λ (l : List (Combination × (List ℕ × List ℕ))). length l) (flat_map-append (λ c. map (λ t. (c, t)) (candidates_of c)) (take i cs) (e ∷ []))
-    ∙ length-append (candidates_in (take i cs)) (map (λ t. (e, t)) (candidates_of e) ++ [])
-    ∙ ap (λ (l : List (Combination × (List ℕ × List ℕ))). length (candidates_in (take i cs)) + length l) (append-nil (map (λ t. (e, t)) (candidates_of e)))
-    ∙ ap (λ (n : ℕ). length (candidates_in (take i cs)) + n) (length-one e)
-
-pub all_before : (cs : List Combination) (i : ℕ) → i ≡ length cs → take i cs ≡ cs
-all_before cs i e = rw e (take-length cs)
 
 abbrev own : Combination → List (Combination × (List ℕ × List ℕ))
 own c = map (λ (t : List ℕ × List ℕ). beside c t) (candidates_of c)

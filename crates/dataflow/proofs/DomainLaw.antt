@@ -1,9 +1,8 @@
 -- The domain loses no execution.
-use Rattle.std.proofs.Common.{ℕ, zero, suc, zero-add, ◌≡◌, ◌<◌, ◌≤◌, ◌+◌, inl, inr, true, false, eqb, List, [], ◌∷◌, length, refl, sym, ap, subst, ◌∙◌, arith, Some, IsTrue}
+use Rattle.std.proofs.Common.{ℕ, zero, suc, ◌≡◌, ◌<◌, ◌≤◌, ◌+◌, inl, inr, true, false, eqb, List, [], ◌∷◌, length, refl, sym, ap, subst, ◌∙◌, arith, Some, IsTrue}
 use Rattle.std.specs.List.{Contains, IsDistinct, AllByRecursion, list_any}
 use Rattle.std.proofs.lemmas.Bool.{cases_eq, cases_lt, false≢true}
 use Rattle.std.proofs.lemmas.Bool.Decides.{eqb_tells}
-use Rattle.std.proofs.Math.Nat.{suc-add}
 use Rattle.std.proofs.lemmas.Map.Steps.{length-le_from_distinct_below}
 use Rattle.std.proofs.lemmas.List.{get_or_past}
 use Rattle.std.proofs.lemmas.List.Elements.{Contains-push, Contains-append_left, Contains-append_right}
@@ -208,8 +207,3 @@ module _ (initial : List Value) (threads : List Thread) (e : Execution) (x : IsE
   nothing_lost = all_there e.count (Precedes e) (λ k l. InDomain initial threads k (value_read e l))
       (λ l through w. let (nodes, way) = longer_way e l through l w in x.acyclic (LoadNode l) nodes way)
       (λ k l lt before. from_source (e.load l).source k l lt refl (x.reads l lt) before)
-
--- the domain grows
-pub later : (initial : List Value) (threads : List Thread) (v : Value) (k more : ℕ) → InDomain initial threads k v → InDomain initial threads (more + k) v
-later initial threads v k zero x = rw zero-add x
-later initial threads v k (suc more) x = rw suc-add (inl (later initial threads v k more x))

@@ -19,12 +19,6 @@ pub record UpTo (words : List ℕ) (count from to : ℕ) (ps : List (ℕ × ℕ)
   pub rising : IsRising ps
   pub exact : (p : ℕ × ℕ) → Contains ps p ↔ (IsEarlier from to p × (p.1 < count) × Bit (get_or words p.1 0) p.0)
 
-pub none_yet : (words : List ℕ) (count : ℕ) → UpTo words count 0 0 []
-none_yet words count = record {
-  rising = λ i j lt inside. absurd (omega (arith, inside));
-  exact = λ p. ((λ here. let (k, lt, same) = here in absurd (omega (arith, lt))), (λ x. absurd (elim x.0 [ inl lt ↦ omega (arith, lt) | inr y ↦ omega (arith, y.1) ])));
-}
-
 rising_more : (ps : List (ℕ × ℕ)) (q : ℕ × ℕ) → ((p : ℕ × ℕ) → Contains ps p → IsPairBefore p q) → IsRising ps → IsRising (ps ++ q ∷ [])
 rising_more ps q before old i j lt inside = elim (cases_eq j (length ps)) [
   | inl same ↦

@@ -14,7 +14,7 @@ use Rattle.ppc_semantics.specs.declared.instruction.Line.TheVariants.{Label, Doe
 use Rattle.ppc_semantics.specs.declared.instruction.RunStep.{RunStep}
 use Rattle.ppc_semantics.specs.declared.instruction.Event.{Event}
 use Rattle.ppc_semantics.specs.declared.state.State.{State}
-use Rattle.ppc_semantics.specs.Machine.{after, event_of, is_load, is_branch, is_fault, goes, target}
+use Rattle.ppc_semantics.specs.Machine.{after, event_of, is_load, is_branch, is_fault, goes}
 use Rattle.ppc_semantics.specs.Runs.{Walk, Outcome, started, ended, advanced, passed, supplied, obeyed, one, ends, run_from, free_from, free_obeyed, free_one, nothing, executed, loaded_at}
 use Rattle.dataflow.specs.Chains.{Executed}
 use Rattle.dataflow.specs.Law.{state_at, events_before, IsWalk, IsPicked}
@@ -78,22 +78,6 @@ IsWalk-passed s x l w y = record { state = y.state; events = y.events }
 
 pub IsWalk-started : (s : State) → IsWalk s (started s)
 IsWalk-started s = record { state = refl; events = refl }
-
--- an instruction that is no branch goes on the same way
-same_target : (i : Instruction) (b c : Bool) → is_branch i ≡ false → target i b ≡ target i c
-same_target (Immediate d n) b c e = refl
-same_target (Move d a) b c e = refl
-same_target (AddImmediate d a n) b c e = refl
-same_target (Operate o d x y) b c e = refl
-same_target (Load d a) b c e = refl
-same_target (LoadIndexed d x y) b c e = refl
-same_target (Store d a) b c e = refl
-same_target (StoreIndexed d x y) b c e = refl
-same_target (Compare x y) b c e = refl
-same_target (CompareImmediate a n) b c e = refl
-same_target (Branch k l) b c e = absurd cc
-same_target (Jump l) b c e = refl
-same_target (Barrier f) b c e = refl
 
 abbrev step_of : Instruction → Value → RunStep
 step_of i v = record { instruction = i; loaded = v }

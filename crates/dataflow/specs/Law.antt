@@ -1,9 +1,7 @@
 -- What a store needs: the first step of the law of the domain.
-use Rattle.std.specs.Prelude.{ℕ, zero, suc, ◌≡◌, ◌<◌, ◌≤◌, List, [], ◌∷◌, ◌++◌, ◌+◌, if◌then◌else◌, length, IsTrue}
+use Rattle.std.specs.Prelude.{ℕ, zero, suc, ◌≡◌, ◌<◌, ◌≤◌, List, [], ◌++◌, ◌+◌, length, IsTrue}
 use Rattle.ppc_semantics.specs.declared.value.Value.{Value}
 use Rattle.ppc_semantics.specs.declared.instruction.Event.{Event}
-use Rattle.ppc_semantics.specs.declared.instruction.Line.{Line}
-use Rattle.ppc_semantics.specs.declared.instruction.Line.TheVariants.{Label, Does}
 use Rattle.ppc_semantics.specs.declared.state.State.{State}
 use Rattle.ppc_semantics.specs.Machine.{after, event_of, register, is_load}
 use Rattle.ppc_semantics.specs.Runs.{Walk, executed, loaded_at}
@@ -36,9 +34,3 @@ pub record IsPicked (pick : ℕ → Value) (w u : Walk) : Type 0 where
   pub long : length w.steps ≤ length u.steps
   pub same : (n : ℕ) → n < length w.steps → executed u.steps n ≡ executed w.steps n
   pub picked : (n : ℕ) → n < length w.steps → IsTrue (is_load (executed w.steps n)) → loaded_at u.steps n ≡ pick n
-
--- how many load instructions there are in the text of a thread
-abbrev pub loads_in : List Line → ℕ
-loads_in [] = 0
-loads_in (Label m ∷ xs) = loads_in xs
-loads_in (Does i ∷ xs) = if is_load i then loads_in xs + 1 else loads_in xs

@@ -9,18 +9,18 @@ use Rattle.litmus_values.specs.declared.test.Place.TheVariants as places
 use Rattle.litmus_values.specs.declared.test.Value as declared_value
 use Rattle.litmus_values.specs.declared.test.Connective.{Connective}
 use Rattle.litmus_values.specs.declared.test.Connective.TheVariants as connectives
-use Rattle.litmus_values.specs.Value.{Formula, Constant, Holds, Not, Join, level}
+use Rattle.litmus_values.specs.Value.{Formula, Constant, Holds, Join, level}
 use Rattle.litmus_tokens.specs.declared.token.Token.{Token}
 use Rattle.litmus_tokens.specs.declared.token.Token.TheVariants as tokens
 use Rattle.litmus_tokens.specs.declared.token.Mark.TheVariants as marks
-use Rattle.litmus_tokens.specs.Words.{decimal, register_of, is_known, or_zero}
+use Rattle.litmus_tokens.specs.Words.{register_of, is_known, or_zero}
 use Rattle.litmus_conditions.specs.declared.place.PlaceHole.TheVariants.{WantsColon}
 use Rattle.litmus_conditions.specs.declared.place.WrittenPlace.TheVariants as written
-use Rattle.litmus_conditions.specs.Grammar.{PlaceTree, Location, Register, ValueTree, Number, Address, spelled_place, spelled_value, place_meaning, value_meaning, IsPlace, HasThread, IsValue, FormulaTree, Word, Atom, Prefix, Pair, Group, constant_word, prefix_token, connective_token, spelled, meaning, tightness, IsGrouped, HasAtoms, depth, operators, Limits, IsProposition}
-use Rattle.litmus_conditions.specs.PlaceMachine.{register_ends, place_of, value_read}
+use Rattle.litmus_conditions.specs.Grammar.{PlaceTree, Location, Register, ValueTree, Number, Address, spelled_place, spelled_value, place_meaning, value_meaning, IsPlace, HasThread, IsValue, FormulaTree, Word, Atom, Prefix, Pair, Group, constant_word, connective_token, spelled, meaning, tightness, IsGrouped, HasAtoms, depth, operators, Limits, IsProposition}
+use Rattle.litmus_conditions.specs.PlaceMachine.{register_ends, place_of}
 use Rattle.litmus_conditions.specs.ConditionMachine.{Frame, InGroup, InPrefix, LeftOf, Hole, Wants, HasConstant, HasNot, InPlace, WantsEquals, WantsValue, Has, Fed, Goes, Refuses, open_count, fold_to, word_hole, place_hole, in_place, operand, left_frames, closed, ended, atom_read, go_on, proposition}
 use Rattle.litmus_conditions.proofs.Branches.{level-le}
-use Rattle.litmus_conditions.proofs.Places.{written_of, place_of_written, value_token, value_taken}
+use Rattle.litmus_conditions.proofs.Places.{place_of_written, value_taken}
 
 -- what stands open, and the operand, once a tree is read
 abbrev pub pending : FormulaTree → List Frame → List Frame × Formula

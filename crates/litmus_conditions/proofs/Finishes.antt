@@ -1,5 +1,5 @@
 -- Each state of the machine can be finished.
-use Rattle.std.proofs.Common.{◌≡◌, ℕ, ◌+◌, ◌≤◌, Bool, true, List, [], ◌∷◌, Option, Some, refl, ap, ◌∙◌, arith}
+use Rattle.std.proofs.Common.{◌≡◌, ℕ, Bool, true, List, [], ◌∷◌, Some, refl, ap, ◌∙◌, arith}
 use Rattle.std.specs.Prelude.{nat_le, codes, if◌then◌else◌}
 use Rattle.std.proofs.lemmas.Bool.Decides.{nat_tests}
 use Rattle.litmus_values.specs.declared.test.Place.{Place}
@@ -14,7 +14,7 @@ use Rattle.litmus_conditions.specs.declared.place.PlaceHole.TheVariants.{Begins,
 use Rattle.litmus_conditions.specs.declared.place.WrittenPlace.TheVariants as written
 use Rattle.litmus_conditions.specs.Grammar.{constant_word, Limits}
 use Rattle.litmus_conditions.specs.PlaceMachine.{place_of}
-use Rattle.litmus_conditions.specs.ConditionMachine.{Frame, InGroup, InPrefix, LeftOf, Hole, Wants, HasConstant, HasNot, InPlace, WantsEquals, WantsValue, Has, fold_to, closed, ended, proposition}
+use Rattle.litmus_conditions.specs.ConditionMachine.{Frame, InGroup, InPrefix, LeftOf, Hole, Wants, HasConstant, HasNot, InPlace, WantsEquals, WantsValue, Has, fold_to, closed, ended}
 use Rattle.litmus_conditions.specs.Laws.{Finishes}
 use Rattle.litmus_conditions.proofs.Complete.{run, from}
 

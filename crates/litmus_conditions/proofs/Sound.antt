@@ -1,6 +1,6 @@
 -- Tokens that the machine takes are spelled by a tree.
 use Rattle.std.proofs.Common.{◌≡◌, ℕ, ◌+◌, ◌<◌, ◌≤◌, Bool, true, false, List, [], ◌∷◌, Option, Some, None, refl, sym, ap, ◌∙◌, subst, arith}
-use Rattle.std.specs.Prelude.{nat_le, nat_lt, codes, if◌then◌else◌}
+use Rattle.std.specs.Prelude.{nat_lt, codes, if◌then◌else◌}
 use Rattle.std.specs.Str.{bytes_eq}
 use Rattle.std.proofs.lemmas.Slice.Eq.{bytes_eq-Decides}
 use Rattle.std.proofs.lemmas.Bool.Decides.{nat_tests}
@@ -16,13 +16,12 @@ use Rattle.litmus_tokens.specs.declared.token.Mark.TheVariants as marks
 use Rattle.litmus_tokens.specs.Words.{decimal}
 use Rattle.litmus_conditions.specs.declared.place.PlaceHole.{PlaceHole}
 use Rattle.litmus_conditions.specs.declared.place.PlaceHole.TheVariants.{WantsColon}
-use Rattle.litmus_conditions.specs.declared.place.WrittenPlace.{WrittenPlace}
 use Rattle.litmus_conditions.specs.declared.place.PlaceStep.{PlaceStep}
 use Rattle.litmus_conditions.specs.declared.place.PlaceStep.TheVariants as steps
-use Rattle.litmus_conditions.specs.Grammar.{PlaceTree, Location, ValueTree, spelled_place, spelled_value, place_meaning, value_meaning, IsPlace, HasThread, FormulaTree, Word, Atom, Group, constant_word, connective_token, spelled, meaning, tightness, IsGrouped, HasAtoms, depth, operators, Limits, IsFormula, IsProposition}
+use Rattle.litmus_conditions.specs.Grammar.{PlaceTree, Location, spelled_place, place_meaning, value_meaning, IsPlace, HasThread, FormulaTree, Word, Atom, Group, constant_word, connective_token, spelled, meaning, tightness, IsGrouped, HasAtoms, depth, operators, Limits, IsFormula, IsProposition}
 use Rattle.litmus_conditions.specs.PlaceMachine.{place_step, place_of, value_read}
-use Rattle.litmus_conditions.specs.ConditionMachine.{Frame, InGroup, InPrefix, LeftOf, Hole, Wants, HasConstant, HasNot, InPlace, WantsEquals, WantsValue, Has, Fed, Goes, Ends, Refuses, open_count, fold_to, opened, word_hole, place_hole, in_place, place_fed, operand, left_frames, joins, closed, ended, behind, after_constant, after_not, after_place, atom_read, feed, whole_at, go_on, proposition}
-use Rattle.litmus_conditions.proofs.Places.{within, written_of, PlaceRead, StepStands, place_stands, HoleThread, WrittenThread, StepThread, place_thread, has_thread, place_of_written, ValueRead, ValueStands, value_stands}
+use Rattle.litmus_conditions.specs.ConditionMachine.{Frame, InGroup, InPrefix, Hole, Wants, HasConstant, HasNot, InPlace, WantsEquals, WantsValue, Has, Fed, Goes, Ends, Refuses, open_count, fold_to, opened, word_hole, place_hole, in_place, place_fed, operand, left_frames, joins, closed, ended, behind, after_constant, after_not, after_place, atom_read, feed, whole_at, go_on, proposition}
+use Rattle.litmus_conditions.proofs.Places.{within, StepStands, place_stands, HoleThread, WrittenThread, StepThread, place_thread, has_thread, place_of_written, ValueStands, value_stands}
 use Rattle.litmus_conditions.proofs.Branches.{Branch, BGroup, BPrefix, BLeft, frame, frames, before, need, opens, count, Fine, Stops, open_count-frames, level-le, need-le, opens-le, Folded, folded}
 
 -- an operand is wanted here

@@ -1,5 +1,5 @@
 -- The loop over the entries of the init block.
-use Rattle.std.proofs.Common.{◌≡◌, ℕ, zero, suc, ◌+◌, ◌<◌, ◌≤◌, true, false, List, [], ◌∷◌, length, get_or, drop, Some, None, refl, sym, ap, ◌∙◌, arith}
+use Rattle.std.proofs.Common.{◌≡◌, ℕ, zero, suc, ◌+◌, ◌<◌, false, List, [], ◌∷◌, length, get_or, drop, Some, None, refl, sym, ap, ◌∙◌, arith}
 use Rattle.std.specs.Prelude.{if◌then◌else◌}
 use Rattle.std.proofs.lemmas.List.{drop_all}
 use Rattle.litmus_values.specs.declared.test.InitEntry.{InitEntry}
@@ -12,9 +12,6 @@ none_left threads (e ∷ es) = refl
 no_starts : (threads : ℕ) (es : List InitEntry) (i : ℕ) → missing threads es (drop i []) ≡ None
 no_starts threads es i = ap (missing threads es) (drop_all i [] (omega arith)) ∙ none_left threads es
 
-no_entries : (threads : ℕ) (ss : List ℕ) (i : ℕ) → missing threads (drop i []) ss ≡ None
-no_entries threads ss i = ap (λ (l : List InitEntry). missing threads l ss) (drop_all i [] (omega arith))
-
 pub missing_more : (threads : ℕ) (es : List InitEntry) (ss : List ℕ) (i : ℕ) (e : InitEntry) → i < length es → e ≡ get_or es i e → lacks_thread threads e.place ≡ false → missing threads (drop i es) (drop i ss) ≡ missing threads (drop (i + 1) es) (drop (i + 1) ss)
 missing_more threads [] ss i e lt is h = absurd (omega arith)
 missing_more threads (x ∷ es) [] i e lt is h = no_starts threads (drop i (x ∷ es)) i ∙ sym (no_starts threads (drop (i + 1) (x ∷ es)) (i + 1))
@@ -23,24 +20,3 @@ missing_more threads (x ∷ es) (s ∷ ss) (suc i) e lt is h =
     let less : i < length es = omega arith in
     let next : suc i + 1 ≡ suc (i + 1) = omega arith in
     missing_more threads es ss i e less is h ∙ ap (λ k. missing threads (drop k (x ∷ es)) (drop k (s ∷ ss))) (sym next)
-
-pub missing_here : (threads : ℕ) (es : List InitEntry) (ss : List ℕ) (i : ℕ) (e : InitEntry) → i < length es → i < length ss → e ≡ get_or es i e → lacks_thread threads e.place ≡ true → missing threads (drop i es) (drop i ss) ≡ Some (get_or ss i 0)
-missing_here threads [] ss i e lt in_ss is h = absurd (omega arith)
-missing_here threads (x ∷ es) [] i e lt in_ss is h = absurd (omega arith)
-missing_here threads (x ∷ es) (s ∷ ss) zero e lt in_ss is h = ap (λ b. if b then Some s else missing threads es ss) (ap (λ (y : InitEntry). lacks_thread threads y.place) (sym is) ∙ h)
-missing_here threads (x ∷ es) (s ∷ ss) (suc i) e lt in_ss is h =
-    let less : i < length es = omega arith in
-    let fewer : i < length ss = omega arith in
-    missing_here threads es ss i e less fewer is h
-
-pub missing_past : (threads : ℕ) (es : List InitEntry) (ss : List ℕ) (i : ℕ) → length ss ≤ i → missing threads (drop i es) (drop i ss) ≡ None
-missing_past threads es [] i le = no_starts threads (drop i es) i
-missing_past threads es (s ∷ ss) zero le = absurd (omega arith)
-missing_past threads [] (s ∷ ss) (suc i) le = no_entries threads (drop (suc i) (s ∷ ss)) (suc i)
-missing_past threads (e ∷ es) (s ∷ ss) (suc i) le = missing_past threads es ss i (omega arith)
-
-pub missing_end : (threads : ℕ) (es : List InitEntry) (ss : List ℕ) (i : ℕ) → length es ≤ i → missing threads (drop i es) (drop i ss) ≡ None
-missing_end threads [] ss i le = no_entries threads (drop i ss) i
-missing_end threads (e ∷ es) ss zero le = absurd (omega arith)
-missing_end threads (e ∷ es) [] (suc i) le = no_starts threads (drop (suc i) (e ∷ es)) (suc i)
-missing_end threads (e ∷ es) (s ∷ ss) (suc i) le = missing_end threads es ss i (omega arith)

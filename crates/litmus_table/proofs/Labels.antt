@@ -1,5 +1,5 @@
 -- The checks of a thread's steps find what the definitions find in its notes.
-use Rattle.std.proofs.Common.{◌≡◌, ℕ, zero, suc, ◌+◌, ◌<◌, ◌≤◌, Bool, true, false, List, [], ◌∷◌, ◌++◌, length, Option, Some, None, refl, sym, ap, ◌∙◌, subst, append_assoc, arith}
+use Rattle.std.proofs.Common.{◌≡◌, ℕ, ◌+◌, ◌<◌, ◌≤◌, Bool, true, false, List, [], ◌∷◌, ◌++◌, length, Option, Some, None, refl, sym, ap, ◌∙◌, subst, append_assoc, arith}
 use Rattle.std.specs.Prelude.{◌||◌, nat_lt, if◌then◌else◌}
 use Rattle.std.specs.Str.{bytes_eq}
 use Rattle.std.proofs.lemmas.Bool.Decides.{nat_tests}
@@ -15,7 +15,7 @@ use Rattle.litmus_values.specs.declared.instruction.Instruction.TheVariants as i
 use Rattle.litmus_values.specs.declared.test.Step.{Step}
 use Rattle.litmus_values.specs.declared.test.Step.TheVariants as steps
 use Rattle.litmus_table.specs.declared.late.LateFault.{LateFault}
-use Rattle.litmus_table.specs.Checks.{first_from, label_rule, target_rule, instruction_rule, step_rule, or_later, checked, IsFoundAt}
+use Rattle.litmus_table.specs.Checks.{first_from, label_rule, target_rule, instruction_rule, or_later, checked, IsFoundAt}
 use Rattle.litmus_table.specs.Late.{Late, Note, Defines, Branches, is_in, defined, late_notes}
 use Rattle.litmus_table.specs.Laws.{Mark, Defined, Branched, instruction_marks, marks, AreMarks}
 

@@ -1,7 +1,6 @@
 -- What a step notes stands at the byte of its token.
-use Rattle.std.proofs.Common.{◌≡◌, ℕ, zero, suc, ◌+◌, ◌<◌, ◌≤◌, Bool, true, false, List, [], ◌∷◌, ◌++◌, length, get_or, map, Option, Some, None, refl, sym, ap, ◌∙◌, subst, arith, inl, inr, ◌⊎◌}
-use Rattle.std.specs.Prelude.{slice_index, if◌then◌else◌}
-use Rattle.std.proofs.lemmas.Grind.{common_steps}
+use Rattle.std.proofs.Common.{◌≡◌, ℕ, zero, suc, ◌+◌, ◌<◌, ◌≤◌, Bool, true, false, List, [], ◌∷◌, ◌++◌, length, get_or, Option, Some, None, subst, arith}
+use Rattle.std.specs.Prelude.{if◌then◌else◌}
 use Rattle.litmus_tokens.specs.declared.token.Token.{Token}
 use Rattle.litmus_tokens.specs.declared.token.Token.TheVariants as tokens
 use Rattle.litmus_tokens.specs.declared.token.Mark.TheVariants as marks
@@ -15,7 +14,7 @@ use Rattle.litmus_table.specs.declared.opcode.Opcode.TheVariants as opcodes
 use Rattle.litmus_table.specs.declared.opcode.Want.{Want}
 use Rattle.litmus_table.specs.declared.late.PlacedThread.{PlacedThread}
 use Rattle.litmus_table.specs.Words.{opcode_of, branch_meaning}
-use Rattle.litmus_table.specs.Machine.{Placed, fresh, Pending, Hole, Begins, Labelled, Within, WantsLabel, Whole, State, noted, put_at, at, finished, is_last, ended, operation, begins, cell, first_of, goes_on, operand, taken, target_read, hole_step, instruction_of}
+use Rattle.litmus_table.specs.Machine.{Placed, fresh, Pending, Hole, Begins, Labelled, Within, WantsLabel, Whole, State, put_at, at, finished, is_last, ended, operation, begins, cell, first_of, goes_on, operand, taken, target_read, hole_step, instruction_of}
 use Rattle.litmus_table.specs.Reading.{thread_of, threads_of}
 use Rattle.litmus_table.specs.Within.{AllAtMost, AreWithin}
 

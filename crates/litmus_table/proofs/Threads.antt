@@ -1,9 +1,8 @@
 -- The threads of a table as a list.
-use Rattle.std.proofs.Common.{◌≡◌, ℕ, zero, suc, ◌+◌, ◌<◌, ◌≤◌, List, [], ◌∷◌, length, get_or, set, map, drop, min, refl, sym, ap, ◌∙◌, arith}
+use Rattle.std.proofs.Common.{◌≡◌, ℕ, zero, suc, ◌<◌, ◌≤◌, List, [], ◌∷◌, length, get_or, set, refl, ap, arith}
 use Rattle.litmus_values.specs.declared.test.Step.{Step}
 use Rattle.litmus_table.specs.declared.late.PlacedThread.{PlacedThread}
-use Rattle.litmus_table.specs.declared.opcode.Want.{Want}
-use Rattle.litmus_table.specs.Machine.{Placed, noted, put_at, rest_of}
+use Rattle.litmus_table.specs.Machine.{Placed, noted, put_at}
 use Rattle.litmus_table.specs.Reading.{thread_of, threads_of}
 
 pub put_is : (ts : List PlacedThread) (k : ℕ) (s : Step) (p : ℕ) (t d : PlacedThread) → k < length ts → thread_of t ≡ noted s p (thread_of (get_or ts k d)) → threads_of (set ts k t) ≡ put_at k s p (threads_of ts)

@@ -1,5 +1,5 @@
 -- What the reader holds of a table, as the machine sees it.
-use Rattle.std.specs.Prelude.{◌≡◌, ℕ, List, [], ◌∷◌, map, drop, Option, Some, None, Result, Ok, Err}
+use Rattle.std.specs.Prelude.{◌≡◌, List, [], ◌∷◌, map, drop, Option, Some, None, Result, Ok, Err}
 use Rattle.litmus_conditions.specs.declared.step.StepError.{StepError}
 use Rattle.litmus_conditions.specs.declared.step.StepError.TheVariants as errors
 use Rattle.litmus_values.specs.declared.test.Step.{Step}

@@ -1,5 +1,5 @@
 -- The turns of the lexer's loops.
-use Rattle.std.proofs.Common.{◌≡◌, ℕ, zero, suc, ◌+◌, ◌-◌, ◌<◌, ◌≤◌, Bool, true, false, List, [], ◌∷◌, length, get_or, take, drop, length-drop, Some, None, refl, sym, ap, ◌∙◌, arith}
+use Rattle.std.proofs.Common.{◌≡◌, ℕ, zero, suc, ◌+◌, ◌-◌, ◌<◌, ◌≤◌, Bool, true, false, List, [], ◌∷◌, length, take, drop, length-drop, Some, None, sym, ap, ◌∙◌, arith}
 use Rattle.std.specs.Prelude.{slice_index, ◌==◌, if◌then◌else◌, Option}
 use Rattle.std.proofs.lemmas.List.{at_drop_more, at_drop_all, take_all, get_or-drop, drop-drop}
 use Rattle.std.specs.List.{position_or_len}
@@ -7,7 +7,6 @@ use Rattle.std.proofs.lemmas.Bool.Decides.{nat_tests}
 use Rattle.memchr.specs.Find.{IsFirstByte, is_byte}
 use Rattle.source_text.specs.Layout.{comment_of}
 use Rattle.source_text.proofs.Bytes.{first_found, none_found}
-use Rattle.litmus_tokens.specs.declared.lexer.Front.{Front}
 use Rattle.litmus_tokens.specs.declared.lexer.Front.TheVariants.{Lexeme}
 use Rattle.litmus_tokens.specs.declared.token.Token.TheVariants.{Bad, Keyline}
 use Rattle.litmus_tokens.specs.Lexer.{ends_raw, raw_from, is_space, begins_comment, over, gap_from, is_not_ascii, is_equals, line_front}

@@ -1,4 +1,4 @@
-use Rattle.std.proofs.Common.{◌≡◌, ℕ, List, Bor, nat_cmp, sym, ap, ◌∙◌}
+use Rattle.std.proofs.Common.{ℕ, List, Bor, nat_cmp, sym, ap, ◌∙◌}
 use Rattle.std.specs.BTreeMap.{get_by}
 use Rattle.std.specs.Cmp.Lexicographic.{slice_cmp}
 use Rattle.litmus_values.specs.declared.instruction.Instruction.{Instruction}

@@ -1,5 +1,4 @@
-use Rattle.std.proofs.Common.{sym, ap, ◌∙◌, arith, length}
-use Rattle.std.specs.Prelude.{not}
+use Rattle.std.proofs.Common.{sym, ◌∙◌, arith, length}
 use Rattle.std.proofs.lemmas.List.Sums.{position_or_len_is}
 use Rattle.litmus_tokens.specs.Lexer.{is_not_ascii}
 use Rattle.litmus_tokens.proofs.lexer.ascii_length.Goals as goal

@@ -1,4 +1,4 @@
-use Rattle.std.proofs.Common.{◌≡◌, ap, sym, ◌∙◌, w32, to_z, of_z, to_z-of_z, FitsSigned, rules, arith}
+use Rattle.std.proofs.Common.{ap, sym, ◌∙◌, w32, to_z, of_z, to_z-of_z, FitsSigned, rules}
 use Rattle.litmus_table.specs.Machine.{value_with}
 use Rattle.litmus_table.proofs.Operands.{takes}
 use Rattle.litmus_table.proofs.operand.Pending.take.Goals as goal

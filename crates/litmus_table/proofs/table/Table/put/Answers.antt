@@ -1,4 +1,4 @@
-use Rattle.std.proofs.Common.{◌≡◌, ℕ, arith, rules, get_or, ap, ◌∙◌}
+use Rattle.std.proofs.Common.{◌≡◌, arith, get_or, ap, ◌∙◌}
 use Rattle.litmus_table.specs.declared.late.PlacedThread.{PlacedThread}
 use Rattle.litmus_table.specs.Machine.{noted}
 use Rattle.litmus_table.specs.Reading.{thread_of}
