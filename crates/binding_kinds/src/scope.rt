@@ -1,6 +1,6 @@
 //! What names stand for.
 
-ghost use Rattle.std.specs.Prelude.{◌≡◌, reverse, map, IfOk};
+ghost use Rattle.std.specs.Prelude.{◌≡◌, reverse, map, bytes_eq, IfOk};
 ghost use Rattle.binding_kinds.specs.Value.{entry_of};
 ghost use Rattle.binding_kinds.specs.Kinds.{found, kind_found};
 ghost use Rattle.binding_kinds.specs.Outermost.{kind_of_predefined, naming_of};
@@ -72,6 +72,18 @@ pub struct Scope {
     pub functions: Vec<Function>,
 }
 
+/// Whether a name is spelled so: most are told apart by their lengths.
+fn is_spelled(name: &Name, bytes: &[u8]) -> bool
+    ensures { result ≡ bytes_eq name.now bytes.now }
+{
+    let own = name.as_bytes();
+    if own.len() == bytes.len() {
+        own == bytes
+    } else {
+        false
+    }
+}
+
 /// The last entry of that name.
 #[tactic(auto, using(crate::proofs::Scopes::rev_more))]
 pub fn find(entries: &[Entry], name: &Name) -> Option<Found>
@@ -79,7 +91,7 @@ pub fn find(entries: &[Entry], name: &Name) -> Option<Found>
 {
     let mut last = None;
     for (slot, entry) in entries.iter().enumerate() {
-        if entry.name.as_bytes() == name.as_bytes() {
+        if is_spelled(&entry.name, name.as_bytes()) {
             last = Some(Found {
                 slot,
                 kind: entry.kind,
