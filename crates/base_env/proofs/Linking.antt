@@ -96,15 +96,6 @@ rows_done {n = n} O R end last before = same_added O (Below n R) before (λ a b.
   (λ r. (omega (arith, last, r.0), r.1.0, r.1.1)),
 ))
 
-pub rows_less : {now : Relation} {n : ℕ} (O R : ℕ → ℕ → Type 0) (from : ℕ) → IsRelation now n (Union O (RowsTo (Before n R) from)) → ((b : ℕ) → R from b → ⊥) → IsRelation now n (Union O (RowsTo (Before n R) (from + 1)))
-rows_less {n = n} O R from before none = same_added O (RowsTo (Before n R) (from + 1)) before (λ a b. (
-  (λ h. elim (cases_eq a from) [ inl same ↦ absurd (none b (rw (← same) h.1.1)) | inr other ↦ (below other h.0, h.1) ]),
-  (λ r. (omega (arith, r.0), r.1)),
-))
-  where
-    below : {a i : ℕ} → (a ≡ i → ⊥) → a < i + 1 → a < i
-    below ne lt = omega arith
-
 -- ---- the pairs of a list
 
 pub listed_more : (pairs : List (ℕ × ℕ)) (i : ℕ) (d : ℕ × ℕ) (a b : ℕ) → i < length pairs → Listed (take (i + 1) pairs) a b ↔ (Listed (take i pairs) a b ⊎ ((a, b) ≡ get_or pairs i d))

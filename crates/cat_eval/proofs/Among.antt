@@ -1,8 +1,8 @@
 -- The laws of the names of a group as a number.
-use Rattle.std.proofs.Common.{ℕ, ◌≡◌, ◌<◌, ◌≤◌, ◌↔◌, ◌⊎◌, ◌*◌, ◌-◌, ◌%◌, ◌^◌, ◌+◌, ◌∙◌, w64, max, inl, inr, arith, sym, List, length, get_or}
+use Rattle.std.proofs.Common.{ℕ, ◌≡◌, ◌<◌, ◌≤◌, ◌↔◌, ◌⊎◌, ◌*◌, ◌-◌, ◌%◌, ◌^◌, ◌+◌, ◌∙◌, w64, inl, inr, arith, sym, List, length, get_or}
 use Rattle.std.specs.Int.{bit_at}
 use Rattle.std.specs.Int.RustNames.{bit_or}
-use Rattle.std.proofs.lemmas.Nat.Bits.{bit_at_or, bit_at-zero, bit_at-lt, bit_at_above, bit_at_set_same, bit_at_set_other, bit_at_ones}
+use Rattle.std.proofs.lemmas.Nat.Bits.{bit_at-zero, bit_at_above, bit_at_set_same, bit_at_set_other, bit_at_ones}
 use Rattle.std.proofs.lemmas.Bool.{cases_eq}
 use Rattle.std.proofs.lemmas.List.{get_or_read}
 use Rattle.binding_graph.specs.declared.resolved.Body.{Body}
@@ -22,18 +22,6 @@ among_above x k fits ge h = let z : bit_at x k ≡ 0 = bit_at_above x 64 k fits 
 pub among_all : (k : ℕ) → k < 64 → IsAmong (2 ^ 64 - 1) k
 unfolding IsAmong
 among_all k lt = bit_at_ones 64 k lt
-
--- `x | y`
-pub among_or : (x y k : ℕ) → IsAmong (bit_or x y) k ↔ (IsAmong x k ⊎ IsAmong y k)
-unfolding IsAmong
-among_or x y k =
-    let e : bit_at (bit_or x y) k ≡ max (bit_at x k) (bit_at y k) = bit_at_or x y k in
-    let p : bit_at x k < 2 = bit_at-lt x k in
-    let q : bit_at y k < 2 = bit_at-lt y k in
-    rw e (max_one _ _ p q)
-  where
-    max_one : (m n : ℕ) → m < 2 → n < 2 → max m n ≡ 1 ↔ ((m ≡ 1) ⊎ (n ≡ 1))
-    max_one m n p q = ((λ h. grind arith), (λ h. grind arith))
 
 -- `x | 1 << a`
 pub among_set : (x a k : ℕ) → a < 64 → IsAmong (bit_or x (1 * 2 ^ a % 2 ^ 64)) k ↔ (IsAmong x k ⊎ (a ≡ k))

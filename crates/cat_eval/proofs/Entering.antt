@@ -1,5 +1,5 @@
 -- What of a base stays as the candidates go on, and lists of bases for lists of candidates.
-use Rattle.std.proofs.Common.{ℕ, ◌≡◌, ◌∙◌, ◌++◌, ◌+◌, ◌<◌, List, [], ◌∷◌, length, take, get_or, refl, sym, ap, subst, cond, true, false, filter, IsTrue, Contains, zero, suc, add-one, arith}
+use Rattle.std.proofs.Common.{ℕ, ◌≡◌, ◌∙◌, ◌++◌, ◌+◌, ◌<◌, List, [], ◌∷◌, length, take, get_or, refl, sym, ap, cond, true, false, filter, IsTrue, Contains, zero, suc, add-one, arith}
 use Rattle.std.specs.Prelude.{Bool, Vec, map}
 use Rattle.std.specs.List.{flat_map}
 use Rattle.std.specs.declared.alloc.Global.{Global}
@@ -8,36 +8,15 @@ use Rattle.std.proofs.lemmas.Grind.{flat_map-append}
 use Rattle.std.proofs.lemmas.List.Elements.{Contains-append_right}
 use Rattle.std.proofs.Math.Seq.{take-suc}
 use Rattle.candidates.specs.declared.candidate.Combination.{Combination}
-use Rattle.base_env.specs.Known.{Known, IsConsistent, set_names, shared_names}
-use Rattle.base_env.specs.Candidate.{IsEntered, IsReading, IsThere, Gives, shared_for}
+use Rattle.base_env.specs.Known.{Known, set_names}
+use Rattle.base_env.specs.Candidate.{Gives}
 use Rattle.candidates.specs.Lists.{lists_of}
 use Rattle.candidates.specs.Space.{pairs, candidates_of, candidates_in}
 use Rattle.cat_eval.specs.Candidates.{Candidate, reading_so, reading_in, of_combinations}
 use Rattle.cat_values.specs.declared.predefined.Predefined.{Predefined}
 use Rattle.cat_values.specs.PredefinedNames.{is_set}
 use Rattle.cat_eval.specs.Needed.{AreListed}
-use Rattle.cat_eval.specs.Worlds.{AreHeld, IsReady, AreWorlds}
-
-pub entered_same : (old new : Known) (c : Combination) → new.count ≡ old.count → new.sets ≡ old.sets → new.shared ≡ old.shared → IsEntered old c → IsEntered new c
-entered_same old new c count sets shared h = record {
-  count = count ∙ h.count;
-  sets = rw (sets, count) h.sets;
-  shared = rw (shared, count) h.shared;
-}
-
--- where the same names are held, the same names are held still
-pub held_same : (old new : Known) (names : List Predefined) → set_names new.sets ≡ set_names old.sets → shared_names new.shared ≡ shared_names old.shared → AreHeld names old → AreHeld names new
-held_same old new names sets shared h = record {
-  sets = rw sets h.sets;
-  relations = λ name inside relation. subst (λ (held : List Predefined). IsThere held (shared_for name)) (sym shared) (h.relations name inside relation);
-}
-
-pub ready_same : (old new : Known) (names : List Predefined) (c : Combination) → IsConsistent new → new.count ≡ old.count → new.sets ≡ old.sets → new.shared ≡ old.shared → IsReady names old c → IsReady names new c
-ready_same old new names c known count sets shared h = record {
-  known = known;
-  held = held_same old new names (ap set_names sets) (ap shared_names shared) h.held;
-  entered = entered_same old new c count sets shared h.entered;
-}
+use Rattle.cat_eval.specs.Worlds.{AreHeld, AreWorlds}
 
 -- what holds all sets among the names, and what the relations among them need, holds the names
 pub held_of : (base : Known) (names : List Predefined) → set_names base.sets ≡ filter is_set names → ((name : Predefined) → Contains names name → is_set name ≡ false → Gives base name) → AreHeld names base
@@ -62,9 +41,6 @@ held_listed base list some listed h = record {
   sets = λ name inside set. h.sets name (listed name inside) set;
   relations = λ name inside relation. h.relations name (listed name inside) relation;
 }
-
-pub reading_same : (old new : Known) (c : Combination) (sources : List ℕ) → new.count ≡ old.count → new.reads_from ≡ old.reads_from → IsReading old c sources → IsReading new c sources
-reading_same old new c sources count reads h = rw (count, reads) h
 
 pub worlds_more : (names : List Predefined) (reads orders : Bool) (bases more : List Known) (some others : List Candidate) → AreWorlds names reads orders bases some → AreWorlds names reads orders more others → AreWorlds names reads orders (bases ++ more) (some ++ others)
 worlds_more names reads orders [] more [] others h k = k

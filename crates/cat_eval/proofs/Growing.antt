@@ -319,16 +319,6 @@ round_skips n sets outer bodies values todo x grew round not_todo = record {
     further : (y : ℕ) → x ≤ y → (y ≡ x → ⊥) → x + 1 ≤ y
     further y le unlike = omega arith
 
--- one more value is empty
-pub empty_more : (n m : ℕ) (values : List Relation) (r : Relation) → m < length values → AreEmpty n m values → IsRelation r n (λ a b. ⊥) → AreEmpty n (m + 1) (set values m r)
-empty_more n m values r lt before is x x_lt = elim (cases_eq x m) [
-  | inl same ↦ rw (same, get_or-set_same values m r no_slot lt) is
-  | inr other ↦ rw (get_or-set_other values m x r no_slot other) (before x (less x x_lt other))
-]
-  where
-    less : (x : ℕ) → x < m + 1 → (x ≡ m → ⊥) → x < m
-    less x x_lt other = omega arith
-
 pub empty_sound : (n : ℕ) (sets : Source → ℕ → Type 0) (outer : Source → ℕ → ℕ → Type 0) (bodies : List RelTree) (values : List Relation) → AreEmpty n (length values) values → length values ≡ length bodies → IsSound n sets outer bodies values
 empty_sound n sets outer bodies values empty many = record {
   as_many = many;

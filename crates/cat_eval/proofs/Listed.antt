@@ -1,13 +1,10 @@
 -- Names that are listed.
-use Rattle.std.proofs.Common.{ℕ, ◌≡◌, ◌<◌, ◌+◌, ◌∙◌, ◌||◌, Bool, true, false, List, [], ◌++◌, length, take, get_or, inl, inr, ap, sym, refl, arith}
+use Rattle.std.proofs.Common.{ℕ, ◌≡◌, ◌<◌, ◌+◌, ◌∙◌, ◌||◌, Bool, true, false, List, ◌++◌, length, take, get_or, inl, inr, ap, sym, refl}
 use Rattle.std.specs.List.{list_any}
 use Rattle.std.proofs.lemmas.List.Folds.{list_any_more}
 use Rattle.std.proofs.lemmas.List.Elements.{Contains-append_left, Contains-append_right, Contains-append_cases}
 use Rattle.cat_values.specs.declared.predefined.Predefined.{Predefined}
 use Rattle.cat_eval.specs.Needed.{AreListed}
-
-pub listed_still : (xs : List Predefined) → AreListed xs (xs ++ [])
-listed_still xs name inside = elim (Contains-append_cases xs [] name inside) [ inl h ↦ h | inr h ↦ absurd (omega (arith, h.1)) ]
 
 -- what was listed stays so, and more is
 pub listed_more : (old now new front back : List Predefined) → AreListed now (old ++ front) → AreListed new (now ++ back) → AreListed new (old ++ (front ++ back))

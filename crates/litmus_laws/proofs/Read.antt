@@ -13,7 +13,7 @@ use Rattle.litmus_tokens.specs.declared.token.Mark.TheVariants as marks
 use Rattle.litmus_tokens.specs.declared.lexer.Front.{Front}
 use Rattle.litmus_tokens.specs.declared.lexer.Front.TheVariants.{Layout, Lexeme}
 use Rattle.litmus_tokens.specs.Words.{ends_table}
-use Rattle.source_text.specs.Letters.{is_letter, is_digit}
+use Rattle.source_text.specs.Letters.{is_digit}
 use Rattle.litmus_tokens.specs.Lexer.{front, begins_comment, stage_front}
 use Rattle.litmus_tokens.specs.Stage.{after, after_brace}
 use Rattle.litmus_tokens.specs.Texts.{Placed, tokens_of, ends_line, fresh_after, after_front, tokens_from}
@@ -317,9 +317,6 @@ number_stays Condition b n = refl
 pub record IsOfWord (b : ℕ) : Type 0 where
   pub low : 48 ≤ b
   pub high : b < 128
-
-letter_of : (b : ℕ) → is_letter b ≡ true → IsOfWord b
-letter_of b h = record { low = grind (arith, nat_tests); high = grind (arith, nat_tests) }
 
 pub first_of : (b : ℕ) → begins_word b ≡ true → IsOfWord b
 first_of b h = record { low = grind (arith, nat_tests); high = grind (arith, nat_tests) }

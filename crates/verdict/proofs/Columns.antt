@@ -21,10 +21,6 @@ column_none ways i width column rest past =
     let e : ways - i ≡ 0 = omega arith in
     ap (λ (n : ℕ). count_column n width column rest) e
 
-pub column_zero : (width column : ℕ) (rest : List Bool) → count_column 0 width column rest ≡ 0
-unfolding count_column
-column_zero width column rest = refl
-
 abbrev Order : Type 0
 Order = Vec ℕ Global
 

@@ -1,7 +1,7 @@
 -- The texts of the places of a state.
 use Rattle.std.proofs.Common.{◌≡◌, ℕ, ◌+◌, ◌<◌, ◌≤◌, List, [], ◌∷◌, ◌++◌, length, get_or, map, drop, refl, sym, ap, ◌∙◌, arith, append_assoc}
 use Rattle.std.specs.List.{zip}
-use Rattle.std.proofs.lemmas.List.{at_drop_more, at_drop_all, append-nil}
+use Rattle.std.proofs.lemmas.List.{at_drop_more, at_drop_all}
 use Rattle.litmus_printing.specs.Printing.{between}
 use Rattle.litmus_printing.proofs.Separated.{from}
 use Rattle.verdict.specs.Text.{held_text}
@@ -43,8 +43,3 @@ none_printed locations sign ps vs i old new whole past same e =
 
     after : from sign (i + 1) (texts locations (drop (i + 1) ps) (drop (i + 1) vs)) ≡ []
     after = at_drop_all (λ (l : List FinalValue). from sign (i + 1) (texts locations (drop (i + 1) ps) l)) vs (i + 1) (omega arith) ∙ ap (from sign (i + 1)) (none_left locations (drop (i + 1) ps))
-
--- all places are printed
-pub all_printed : (locations : List (List ℕ)) (sign : List ℕ) (ps : List ShownPlace) (vs : List FinalValue) (i : ℕ) (old whole : List ℕ) → length ps ≤ i → old ++ from sign i (texts locations (drop i ps) (drop i vs)) ≡ whole → old ≡ whole
-all_printed locations sign ps vs i old whole past e =
-    sym (append-nil old) ∙ ap (λ (l : List ℕ). old ++ l) (sym (at_drop_all (λ (l : List ShownPlace). from sign i (texts locations l (drop i vs))) ps i past)) ∙ e

@@ -10,9 +10,7 @@ use Rattle.std.specs.Ordering.{is_eq, ordering_then, nat_cmp}
 use Rattle.std.specs.declared.cmp.Ordering.TheVariants.{Less, Equal, Greater}
 use Rattle.std.proofs.lemmas.Map.Lookups.{exact_signed, exact_unsigned}
 use Rattle.verdict.specs.Order.{place_cmp, value_cmp, state_cmp, is_place, is_state}
-use Rattle.verdict.specs.Meaning.{is_value}
 use Rattle.verdict.specs.contracts.shown_place.ShownPlacePartialEq.TheImpl as place_eq
-use Rattle.verdict.specs.contracts.answer.FinalValuePartialEq.TheImpl as value_eq
 use Rattle.verdict.specs.declared.answer.FinalValue.{FinalValue}
 use Rattle.verdict.specs.declared.answer.FinalValue.TheVariants.{Number, Address, NoValue}
 use Rattle.verdict.specs.declared.shown_place.ShownPlace.{ShownPlace}
@@ -110,14 +108,3 @@ is_place_same (Location k) (Location l) h = ap Location ((Decides-eqb k l).0 (eq
 
 pub is_place_itself : (p : ShownPlace) → is_place p p ≡ true
 is_place_itself p = ap is_eq (tied_itself place_total p)
-
-pub value_eq_is : (v w : FinalValue) → (value_eq.ghosts).eq v w ≡ is_value v w
-value_eq_is (Number m) (Number n) = refl
-value_eq_is (Number m) (Address l) = refl
-value_eq_is (Number m) NoValue = refl
-value_eq_is (Address k) (Number n) = refl
-value_eq_is (Address k) (Address l) = refl
-value_eq_is (Address k) NoValue = refl
-value_eq_is NoValue (Number n) = refl
-value_eq_is NoValue (Address l) = refl
-value_eq_is NoValue NoValue = refl

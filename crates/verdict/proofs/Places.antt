@@ -43,16 +43,9 @@ one_added old new k h p =
     ∙ ap (λ (b : Bool). cond b true (is_among old p)) ((eq_by_cmp_equiv place_total).symm k p)
     ∙ either_way (is_among old p) (is_place p k)
 
-or_false : (b : Bool) → (b || false) ≡ b
-or_false true = refl
-or_false false = refl
-
 or_assoc : (a b d : Bool) → ((a || b) || d) ≡ (a || (b || d))
 or_assoc true b d = refl
 or_assoc false b d = refl
-
-pub none_added : (old : List ShownPlace) → Adds old old []
-none_added old p = sym (or_false (is_among old p))
 
 pub added_twice : (ls : List (List ℕ)) (old mid new : List ShownPlace) (ps qs : List Place) → Adds old mid (known_places ls ps) → Adds mid new (known_places ls qs) → Adds old new (known_places ls (ps ++ qs))
 added_twice ls old mid new ps qs h k p =
