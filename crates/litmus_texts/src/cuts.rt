@@ -64,7 +64,7 @@ fn check_round_trip(rt: &impl Abort, alloc: Global, text: &[u8]) -> Result<(), L
 
 // The round trip of a text, and its cuts. An error fails the test, and is taken here, so that each test is proved as one
 // function.
-fn expect_cuts(
+pub(crate) fn expect_cuts(
     rt: &impl Abort,
     alloc: Global,
     text: &[u8],

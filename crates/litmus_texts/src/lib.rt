@@ -4,6 +4,8 @@
 #[cfg(test)]
 mod cuts;
 #[cfg(test)]
+mod long_tests;
+#[cfg(test)]
 mod rulings;
 #[cfg(test)]
 mod tests;

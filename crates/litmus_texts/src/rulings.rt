@@ -3,7 +3,6 @@
 
 use litmus_ppc::*;
 use std::alloc::{AllocError, Global};
-use std::process::Abort;
 use std::test::Fail;
 
 // Which part of a test a text is.
@@ -144,7 +143,7 @@ fn conditions_and_locations(rt: HostRuntime) {
 }
 
 // A text, another so many times, and a third.
-fn repeated(
+pub(crate) fn repeated(
     alloc: Global,
     head: &[u8],
     unit: &[u8],
@@ -234,137 +233,5 @@ fn empty_cells_are_not_kept(rt: HostRuntime) -> Result<(), Fail> {
         let thread = read_thread(alloc, text)?;
         assert_eq!(rt; thread.steps.len(), count, "{text:?}");
     }
-    Ok(())
-}
-
-const FENCES_HEAD: &[u8] =
-    b"PPC SYNCS\n{\n0:r2=x;\n}\n P0           ;\n li r1,1      ;\n stw r1,0(r2) ;\n";
-
-const PASSING_HEAD: &[u8] =
-    b"PPC MP+lwsync+addr\n{\n0:r2=x; 0:r4=y;\n1:r2=y; 1:r5=x;\n}\n P0           | P1            ;\n li r1,1      | lwz r1,0(r2)  ;\n stw r1,0(r2) | xor r3,r1,r1  ;\n sync         | lwzx r4,r3,r5 ;\n";
-
-const PASSING_TAIL: &[u8] =
-    b" li r3,1      |               ;\n stw r3,0(r4) |               ;\nexists (1:r1=1 /\\ 1:r4=0)\n";
-
-// Long tests: a printed test reads as the test that was printed.
-#[test]
-fn round_trips_of_long_tests(rt: HostRuntime) -> Result<(), Fail> {
-    let alloc = rt.alloc();
-    let texts: [(&[u8], &[u8], usize, &[u8]); 5] = [
-        (FENCES_HEAD, b" sync         ;\n", 62, b"exists ([x]=1)\n"),
-        (FENCES_HEAD, b" sync         ;\n", 63, b"exists ([x]=1)\n"),
-        (FENCES_HEAD, b" sync         ;\n", 126, b"exists ([x]=1)\n"),
-        (FENCES_HEAD, b" sync         ;\n", 127, b"exists ([x]=1)\n"),
-        (
-            PASSING_HEAD,
-            b" sync         |               ;\n",
-            69,
-            PASSING_TAIL,
-        ),
-    ];
-    for (head, unit, count, tail) in texts {
-        let text = repeated(alloc, head, unit, count, tail)?;
-        let printed = print_test(alloc, &read_test(alloc, &text)?)?;
-        let again = print_test(alloc, &read_test(alloc, &printed)?)?;
-        assert_eq!(rt; again.as_slice(), printed.as_slice());
-    }
-    Ok(())
-}
-
-// What the first bytes of a text are read as: `.` for a test, and else the number of the refusal, `C` for 12, and
-// a digit for how far before the cut it stands.
-fn put_cut(
-    alloc: Global,
-    text: &[u8],
-    numbers: &mut Vec<u8>,
-    places: &mut Vec<u8>,
-) -> Result<(), AllocError> {
-    let (number, place) = refusal_of(alloc, Part::Whole, text);
-    let (number, place) = match number {
-        0 => (b'.', b'.'),
-        12 => (b'C', b'0' + text.len().saturating_sub(place).min(9) as u8),
-        _ => (
-            b'0' + number.min(9),
-            b'0' + text.len().saturating_sub(place).min(9) as u8,
-        ),
-    };
-    numbers.push(number)?;
-    places.push(place)?;
-    Ok(())
-}
-
-// Each cut of a text is read, or refused, as is wanted.
-fn expect_cuts(
-    rt: &impl Abort,
-    alloc: Global,
-    text: &[u8],
-    wanted_numbers: &[u8],
-    wanted_places: &[u8],
-) -> Result<(), AllocError> {
-    let (mut numbers, mut places) = (Vec::new(alloc), Vec::new(alloc));
-    for count in 0..text.len() {
-        put_cut(alloc, &text[..count], &mut numbers, &mut places)?;
-    }
-    put_cut(alloc, text, &mut numbers, &mut places)?;
-    assert_eq!(rt; numbers.as_slice(), wanted_numbers);
-    assert_eq!(rt; places.as_slice(), wanted_places);
-    Ok(())
-}
-
-#[test]
-fn cuts_of_fences(rt: HostRuntime) -> Result<(), Fail> {
-    let alloc = rt.alloc();
-    for fences in [62, 63, 126, 127] {
-        let text = repeated(
-            alloc,
-            FENCES_HEAD,
-            b" sync         ;\n",
-            fences,
-            b"exists ([x]=1)\n",
-        )?;
-        let wanted_numbers = repeated(
-            alloc,
-            b"1112222222333333333335555555555555555777777777777777777777777777777777",
-            b"7777777777777777",
-            fences,
-            b"777777CCCCCCCC..",
-        )?;
-        let wanted_places = repeated(
-            alloc,
-            b"0120000000000001000000001000000000000000100100000000000012001000010000",
-            b"0012300000000000",
-            fences,
-            b"01234500000000..",
-        )?;
-        expect_cuts(&rt, alloc, &text, &wanted_numbers, &wanted_places)?;
-    }
-    Ok(())
-}
-
-#[test]
-fn cuts_of_seventy_fences(rt: HostRuntime) -> Result<(), Fail> {
-    let alloc = rt.alloc();
-    let text = repeated(
-        alloc,
-        PASSING_HEAD,
-        b" sync         |               ;\n",
-        69,
-        PASSING_TAIL,
-    )?;
-    let wanted_numbers = repeated(
-        alloc,
-        b"111222222222222222233333333333333333333333333333333333555555555555555555555555555555557777777777777777777777777777777777777777777777777777777777777777777777777777777777777777777777777",
-        b"77777777777777777777777777777777",
-        69,
-        b"7777777777777777777777777777777777777777777777777777777777777777777777CCCCCCCCCCCCCCCCCCC..",
-    )?;
-    let wanted_places = repeated(
-        alloc,
-        b"012000000000000000000000100000001000000010000000100000000100000000000000100000000000000001001000000000001200100001000000012001000010000012001001001000000123000000000000120001001001000",
-        b"00123000000000000000000000000000",
-        69,
-        b"00100100000000000000000000000000001200100001000000000000000000000123450000010000100001000..",
-    )?;
-    expect_cuts(&rt, alloc, &text, &wanted_numbers, &wanted_places)?;
     Ok(())
 }

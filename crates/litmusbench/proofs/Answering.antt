@@ -78,14 +78,12 @@ kept (Some bytes) = refl
 pub unread : (left known : Option (List ℕ)) (fault : SessionFault) → fault ≢ faults.Write → IsStreamed left known known (Err fault)
 unread left known faults.Write h = absurd (h refl)
 unread left known faults.Read h = kept known
-unread left known faults.Endless h = kept known
 unread left known faults.Memory h = kept known
 
 pub streamed : (left old new : Option (List ℕ)) (r : Result Bool SessionFault) (model test : List ℕ) → IfSome left (λ bytes. IsCut bytes model test) → IsWritten model test old new r → IsStreamed left old new r
 streamed left old new (Ok refused) model test cut h = record { model = model; test = test; cut = cut; written = h }
 streamed left old new (Err faults.Write) model test cut h = record { model = model; test = test; cut = cut; written = h }
 streamed left old new (Err faults.Read) model test cut h = h
-streamed left old new (Err faults.Endless) model test cut h = h
 streamed left old new (Err faults.Memory) model test cut h = h
 
 -- the bytes that were left are those that were read

@@ -1,5 +1,5 @@
 -- What is said of a model's text and a test's text.
-use Rattle.std.specs.Prelude.{◌≡◌, ℕ, List, ◌∷◌, ◌++◌, Bool, true, false, map, reverse, codes, decimal, Option, Result, Ok, Err, IfSome}
+use Rattle.std.specs.Prelude.{◌≡◌, ◌+◌, ◌≤◌, ◌⊎◌, ℕ, List, ◌∷◌, ◌++◌, length, Bool, true, false, map, reverse, codes, decimal, Option, Result, Ok, Err, IfSome}
 use Rattle.std.specs.Io.KnownBytes.{Keeps, Appends}
 use Rattle.litmus_tokens.specs.declared.rule.LitmusRule.{LitmusRule}
 use Rattle.litmus_tokens.specs.Numbers.{number_of as test_rule_number}
@@ -107,7 +107,6 @@ IsWritten model test old new (Ok refused) = (text : List ℕ) × IsAnswer model 
 IsWritten model test old new (Err session_faults.Write) =
     (text : List ℕ) × (refused : Bool) × IsAnswer model test text refused × WritesFront old new text
 IsWritten model test old new (Err session_faults.Read) = Keeps old new
-IsWritten model test old new (Err session_faults.Endless) = Keeps old new
 IsWritten model test old new (Err session_faults.Memory) = Keeps old new
 
 -- the same for the two texts into which an input is cut, of which these bytes are left, where they are known
@@ -122,5 +121,8 @@ abbrev pub IsStreamed : Option (List ℕ) → Option (List ℕ) → Option (List
 IsStreamed left old new (Ok refused) = IsWrittenOf left old new (Ok refused)
 IsStreamed left old new (Err session_faults.Write) = IsWrittenOf left old new (Err session_faults.Write)
 IsStreamed left old new (Err session_faults.Read) = Keeps old new
-IsStreamed left old new (Err session_faults.Endless) = Keeps old new
 IsStreamed left old new (Err session_faults.Memory) = Keeps old new
+
+-- a read is refused: one call failed, or, where none did, the input has so many bytes that it is taken for one that does not end
+abbrev pub IsReadFault : ℕ → ℕ → Option (List ℕ) → Type 0
+IsReadFault old new left = (new ≡ old + 1) ⊎ ((new ≡ old) × IfSome left (λ all. 16777216 ≤ length all))

@@ -22,12 +22,9 @@ pub enum EvalFault {
 /// Why a run stopped before its end.
 #[derive(Clone, Copy, Debug, PartialEq, Eq, Error)]
 pub enum SessionFault {
-    /// A read failed.
+    /// A read failed, or the input did not end within 16,777,216 reads.
     #[error("read")]
     Read,
-    /// The input did not end within 16,777,216 reads.
-    #[error("read")]
-    Endless,
     /// A write failed.
     #[error("write")]
     Write,

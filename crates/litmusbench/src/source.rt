@@ -1,6 +1,6 @@
 //! Where bytes come from.
 
-ghost use Rattle.std.specs.Prelude.{◌≡◌, ◌≢◌, ◌+◌, ◌-◌, ◌<◌, ◌^◌, List, ℕ, Option, Some, OnOk, OnErr, IfOk, IfSome, length};
+ghost use Rattle.std.specs.Prelude.{◌≡◌, ◌≢◌, ◌+◌, ◌-◌, ◌<◌, ◌≤◌, ◌^◌, List, ℕ, Option, Some, OnOk, OnErr, IfOk, IfSome, length};
 ghost use Rattle.std.specs.Io.{ReadsAtMost};
 ghost use Rattle.std.specs.Io.KnownBytes.{ReadConsumes};
 ghost use Rattle.litmusbench.specs.declared.source.ReadFault.TheVariants.{Memory};
@@ -139,6 +139,8 @@ pub fn read_all<S: ByteSource>(alloc: Global, source: &mut S) -> Result<Vec<u8>,
     // `Read` comes after one failed call, and all else after none.
     ensures read { result ≡ Err ReadFault.Read → S.failed_calls source.new ≡ S.failed_calls source.old + 1 }
     ensures same { result ≢ Err ReadFault.Read → S.failed_calls source.new ≡ S.failed_calls source.old }
+    // `Endless` comes only where each of so many calls gave a byte at least.
+    ensures endless { result ≡ Err ReadFault.Endless → IfSome (S.remaining source.old) (λ all. 16777216 ≤ length all) }
 {
     let mut bytes = Vec::new(alloc);
     let mut buffer = [0u8; 4096];

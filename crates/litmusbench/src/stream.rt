@@ -1,7 +1,7 @@
 //! A model and a test from a source, and what is said of them to a sink.
 
 ghost use Rattle.std.specs.Prelude.{◌≡◌, ◌≢◌, ◌+◌, ◌-◌, ◌<◌, ◌^◌, ◌++◌, true, OnOk, IfOk, IfSome};
-ghost use Rattle.litmusbench.specs.Answer.{IsAnswer, IsWritten, IsStreamed, refused_line};
+ghost use Rattle.litmusbench.specs.Answer.{IsAnswer, IsReadFault, IsWritten, IsStreamed, refused_line};
 
 use crate::cut::cut_at_dot;
 use crate::fault::{EvalFault, SessionFault};
@@ -79,7 +79,7 @@ pub fn write_answer<W: ByteSink>(
     ensures failed { result ≡ Err SessionFault.Write → W.failed_calls sink.new ≡ W.failed_calls sink.old + 1 }
     ensures same { result ≢ Err SessionFault.Write → W.failed_calls sink.new ≡ W.failed_calls sink.old }
     // Nothing is read.
-    ensures fault { (result ≢ Err SessionFault.Read) × (result ≢ Err SessionFault.Endless) }
+    ensures fault { result ≢ Err SessionFault.Read }
 {
     let answer = match answer_to(alloc, model, test) {
         Ok(answer) => answer,
@@ -91,13 +91,13 @@ pub fn write_answer<W: ByteSink>(
     }
 }
 
-/// All bytes of a source. Errors: `Read` where a call failed, `Endless` where the bytes did not
-/// end within 16,777,216 calls, or `Memory`.
+/// All bytes of a source. Errors: `Read` where a call failed or the bytes did not end within
+/// 16,777,216 calls, or `Memory`.
 pub fn read_text<S: ByteSource>(alloc: Global, source: &mut S) -> Result<Vec<u8>, SessionFault>
     requires { S.failed_calls source.old < 2 ^ 64 - 1 }
     ensures bytes { IfOk result (λ v. IfSome (S.remaining source.old) (λ all. v.items ≡ all)) }
-    // `Read` comes after one failed call, and all else after none.
-    ensures failed { result ≡ Err SessionFault.Read → S.failed_calls source.new ≡ S.failed_calls source.old + 1 }
+    // `Read` comes after one failed call or at the bound, and all else after none.
+    ensures failed { result ≡ Err SessionFault.Read → IsReadFault (S.failed_calls source.old) (S.failed_calls source.new) (S.remaining source.old) }
     ensures same { result ≢ Err SessionFault.Read → S.failed_calls source.new ≡ S.failed_calls source.old }
     // Nothing is written.
     ensures fault { result ≢ Err SessionFault.Write }
@@ -106,7 +106,7 @@ pub fn read_text<S: ByteSource>(alloc: Global, source: &mut S) -> Result<Vec<u8>
         Ok(bytes) => Ok(bytes),
         Err(ReadFault::Memory) => Err(SessionFault::Memory),
         Err(ReadFault::Read) => Err(SessionFault::Read),
-        Err(ReadFault::Endless) => Err(SessionFault::Endless),
+        Err(ReadFault::Endless) => Err(SessionFault::Read),
     }
 }
 
@@ -122,8 +122,8 @@ pub fn eval_stream<R: AllocGlobal, S: ByteSource, W: ByteSink>(
     requires sink { W.failed_calls sink.old < 2 ^ 64 - 1 }
     // The answer to the texts into which the input is cut is written, or a front of it, or nothing.
     ensures written { IsStreamed (S.remaining source.old) (W.contents sink.old) (W.contents sink.new) result }
-    // `Read` comes after one failed read, `Write` after one failed write, and all else after none.
-    ensures read { result ≡ Err SessionFault.Read → S.failed_calls source.new ≡ S.failed_calls source.old + 1 }
+    // `Read` comes after one failed read or at the bound, `Write` after one failed write, and all else after none.
+    ensures read { result ≡ Err SessionFault.Read → IsReadFault (S.failed_calls source.old) (S.failed_calls source.new) (S.remaining source.old) }
     ensures no_read { result ≢ Err SessionFault.Read → S.failed_calls source.new ≡ S.failed_calls source.old }
     ensures write { result ≡ Err SessionFault.Write → W.failed_calls sink.new ≡ W.failed_calls sink.old + 1 }
     ensures no_write { result ≢ Err SessionFault.Write → W.failed_calls sink.new ≡ W.failed_calls sink.old }

@@ -123,5 +123,9 @@ fn sources_of_the_library(rt: HostRuntime) -> Result<(), Fail> {
         Ok(_) => return Err(Fail::from("it ended")),
         Err(fault) => assert_eq!(rt; fault, ReadFault::Endless),
     }
+    let mut sink = MemorySink::failing_at(Vec::new(alloc), None);
+    let answer = eval_stream(&rt, &mut Endless, &mut sink);
+    assert_eq!(rt; answer, Err(SessionFault::Read));
+    assert!(rt; sink.as_bytes().is_empty());
     Ok(())
 }
