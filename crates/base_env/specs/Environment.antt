@@ -1,5 +1,5 @@
 -- All predefined names of one candidate.
-use Rattle.std.specs.Prelude.{ℕ, ◌≡◌, List}
+use Rattle.std.specs.Prelude.{ℕ, ◌≡◌, ◌<◌, List}
 use Rattle.bit_relations.specs.Relation.{IsRelation, IsEvents}
 use Rattle.cat_values.specs.declared.predefined.Predefined.TheVariants as names
 use Rattle.candidates.specs.declared.candidate.Combination.{Combination}
@@ -17,6 +17,7 @@ pub record HasFacts (c : Combination) (e : Execution) : Type 0 where
 
 -- each set and each relation is that of its name among the first n events of the candidate
 pub record IsEnvironment (env : BaseEnv) (n : ℕ) (c : Combination) (sources order : List ℕ) : Type 0 where
+  pub all_set : IsEvents env.all_set n (λ a. a < n)
   pub r_set : IsEvents env.r_set n (SetIn c n names.Loads)
   pub w_set : IsEvents env.w_set n (SetIn c n names.Stores)
   pub m_set : IsEvents env.m_set n (SetIn c n names.Accesses)

@@ -18,6 +18,8 @@ use std::alloc::{AllocError, Global};
 /// chapter on cat, section on predefined names).
 #[derive(Drop)]
 pub struct BaseEnv {
+    /// `_`: all events.
+    pub all_set: EventSet,
     /// `R`: the loads.
     pub r_set: EventSet,
     /// `W`: the stores, with the initial ones.
@@ -116,6 +118,7 @@ fn env_of(base: &Base) -> BaseEnv
     ensures { (c : _) (sources order : List ℕ) → IsEntered base.now c → IsReading base.now c sources → IsOrdered base.now c order → ((name : _) → IsTrue (is_set name) → Contains (set_names base.now.sets) name) → ((name : _) → is_set name ≡ false → Gives base.now name) → IsEnvironment result base.now.count c sources order }
 {
     BaseEnv {
+        all_set: EventSet::all(base.count()),
         r_set: base.set(Predefined::Loads),
         w_set: base.set(Predefined::Stores),
         m_set: base.set(Predefined::Accesses),

@@ -21,6 +21,7 @@ mod reading;
 mod search;
 
 pub use candidate::{Action, Combination, Event, Execution, Space};
+pub use dataflow::laws;
 use layout::{Layout, registers};
 use litmus_ppc::Test;
 use orders::with_orders;

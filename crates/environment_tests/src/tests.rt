@@ -83,6 +83,11 @@ fn fences_and_initial_stores(rt: HostRuntime) -> Result<(), Fail> {
         ],
     );
     has_pairs(&rt, &env.id_rel, &[(0, 0), (1, 1), (2, 2), (3, 3), (4, 4)]);
+    has_pairs(
+        &rt,
+        &Rel::on(&env.all_set),
+        &[(0, 0), (1, 1), (2, 2), (3, 3), (4, 4)],
+    );
     has_pairs(&rt, &Rel::on(&env.w_set), &[(0, 0), (1, 1), (2, 2), (4, 4)]);
     has_pairs(&rt, &Rel::on(&env.lwsync_set), &[(3, 3)]);
     has_pairs(&rt, &Rel::on(&env.f_set), &[(3, 3)]);

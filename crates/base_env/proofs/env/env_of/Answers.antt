@@ -1,9 +1,11 @@
-use Rattle.std.proofs.Common.{refl}
+use Rattle.std.proofs.Common.{ℕ, ◌<◌, refl, subst}
+use Rattle.bit_relations.specs.Relation.{IsEvents}
 use Rattle.cat_values.specs.declared.predefined.Predefined.TheVariants as names
 use Rattle.base_env.proofs.env.env_of.Goals as goal
 
 pub returns : goal.returns
 returns c = λ k sources order entered reading ordered sets relations. record {
+  all_set = subst (λ (m : ℕ). IsEvents c.all.result m (λ a. a < m)) c.count.ensures.value c.all.ensures;
   r_set = c.set.ensures.meant k entered (sets names.Loads refl);
   w_set = c.set-2.ensures.meant k entered (sets names.Stores refl);
   m_set = c.set-3.ensures.meant k entered (sets names.Accesses refl);
