@@ -3,8 +3,8 @@ use Rattle.std.proofs.Common.{Vec, ℕ, zero, suc, ◌≡◌, ◌<◌, ◌≤◌
 use Rattle.std.specs.declared.alloc.Global.{Global}
 use Rattle.std.proofs.lemmas.List.{take_more, length-take-le}
 use Rattle.std.proofs.lemmas.Option.{slice_get_within}
-use Rattle.ppc_semantics.specs.declared.value.Value.{Value}
-use Rattle.ppc_semantics.specs.declared.run.Run.{Run}
+use Rattle.thread_runs.specs.declared.value.Value.{Value}
+use Rattle.thread_runs.specs.declared.run.Run.{Run}
 use Rattle.candidates.proofs.Parting.{each_append}
 use Rattle.candidates.proofs.Pruning.{load_front, load_behind, store_split}
 use Rattle.candidates.specs.Keys.{HasKey, IsWithin, HasLoad, HasStore, AreKeys, PartsAreKeyed, ThreadsAreKeyed, bit_of}

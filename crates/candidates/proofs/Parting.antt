@@ -4,8 +4,8 @@ use Rattle.std.specs.List.{items_where_true}
 use Rattle.std.specs.List.Retain.{ReturnsInTurn, IsFiltered}
 use Rattle.std.specs.declared.alloc.Global.{Global}
 use Rattle.std.proofs.lemmas.List.{take_more, length-take-le}
-use Rattle.ppc_semantics.specs.declared.value.Value.{Value}
-use Rattle.ppc_semantics.specs.declared.run.Run.{Run}
+use Rattle.thread_runs.specs.declared.value.Value.{Value}
+use Rattle.thread_runs.specs.declared.run.Run.{Run}
 use Rattle.candidates.proofs.Pruning.{load_front, load_behind, store_split}
 use Rattle.candidates.specs.Keys.{HasKey, IsWithin, HasLoad, AreKeys, TellsWithin, bit_of}
 use Rattle.candidates.specs.Parts.{part_events, IsSketch, HasWritesOf, HasWritesOfAll, AreKept, none, kept, left, AreSome, end, kept_one, left_out, Among, IsChoice, HasRead, HasWrite, AreEach, IsSifted, IsMade, AreBelow, NamesRuns, AreThreads}

@@ -5,7 +5,7 @@ use Rattle.std.proofs.lemmas.List.{take_more, length-take-le}
 use Rattle.std.proofs.lemmas.List.Concat.{flat_map-append}
 use Rattle.std.proofs.Math.Seq.{take-length}
 use Rattle.candidates.specs.Search.{Begun, Tally, Fits, AllFit, Judged, IsTooMuch, Tells, with_run, placed, combinations, HasJoined, Searched, none, more, AreTooMuch, now, later, begun, start, nothing, all_combinations, location_count}
-use Rattle.ppc_semantics.specs.declared.value.Value.{Value}
+use Rattle.thread_runs.specs.declared.value.Value.{Value}
 use Rattle.candidates.specs.Keys.{HasKey, HasWrites, AreKeys, PartsAreKeyed, ThreadsAreKeyed, IsKeyed, IsRead, IsStored, TellsWithin}
 use Rattle.candidates.proofs.Pruning.{IsStuck, Stuck, PartsLack, ThreadsLack, no_ways, run_stuck, first_keys, longer_keys, part_keys, does_not_fit, told_false}
 use Rattle.candidates.specs.declared.keys.KeySet.{KeySet}

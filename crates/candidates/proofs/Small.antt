@@ -6,19 +6,19 @@ use Rattle.std.proofs.lemmas.List.{length-append}
 use Rattle.std.proofs.lemmas.List.Sums.{sum_by-cons}
 use Rattle.std.proofs.lemmas.List.Elements.{Contains-push, Contains-append_left, Contains-append_right}
 use Rattle.litmus_values.specs.declared.test.Test.{Test}
-use Rattle.ppc_semantics.specs.declared.value.Value.{Value}
-use Rattle.ppc_semantics.specs.declared.value.Value.TheVariants.{NoValue}
-use Rattle.ppc_semantics.specs.declared.instruction.Event as run
-use Rattle.ppc_semantics.specs.declared.instruction.Instruction.{Instruction}
-use Rattle.ppc_semantics.specs.declared.instruction.Instruction.TheVariants.{Immediate, Move, AddImmediate, Operate, Load, LoadIndexed, Store, StoreIndexed, Compare, CompareImmediate, Branch, Jump, Barrier}
-use Rattle.ppc_semantics.specs.declared.instruction.Line.{Line}
-use Rattle.ppc_semantics.specs.declared.instruction.Line.TheVariants.{Label, Does}
-use Rattle.ppc_semantics.specs.declared.instruction.Program.{Program}
-use Rattle.ppc_semantics.specs.declared.run.Run as made
-use Rattle.ppc_semantics.specs.declared.state.State.{State}
-use Rattle.ppc_semantics.specs.Machine.{is_load, is_fault, goes, event_of}
-use Rattle.ppc_semantics.specs.Runs.{Walk, Outcome, Thread, Run, started, advanced, passed, ends, supplied, obeyed, one, run_from}
-use Rattle.ppc_semantics.specs.AllRuns.{Shown, shown, shown_of, ShowsRuns, lines_at, thread_of}
+use Rattle.thread_runs.specs.declared.value.Value.{Value}
+use Rattle.thread_runs.specs.declared.value.Value.TheVariants.{NoValue}
+use Rattle.thread_runs.specs.declared.instruction.Event as run
+use Rattle.thread_runs.specs.declared.instruction.Instruction.{Instruction}
+use Rattle.thread_runs.specs.declared.instruction.Instruction.TheVariants.{Immediate, Move, AddImmediate, Operate, Load, LoadIndexed, Store, StoreIndexed, Compare, CompareImmediate, Branch, Jump, Barrier}
+use Rattle.thread_runs.specs.declared.instruction.Line.{Line}
+use Rattle.thread_runs.specs.declared.instruction.Line.TheVariants.{Label, Does}
+use Rattle.thread_runs.specs.declared.instruction.Program.{Program}
+use Rattle.thread_runs.specs.declared.run.Run as made
+use Rattle.thread_runs.specs.declared.state.State.{State}
+use Rattle.thread_runs.specs.Machine.{is_load, is_fault, goes, event_of}
+use Rattle.thread_runs.specs.Runs.{Walk, Outcome, Thread, Run, started, advanced, passed, ends, supplied, obeyed, one, run_from}
+use Rattle.thread_runs.specs.AllRuns.{Shown, shown, shown_of, ShowsRuns, lines_at, thread_of}
 use Rattle.ppc_semantics.specs.Domain.{makes_event, has_event, IsDomain}
 use Rattle.candidates.specs.Parts.{action_in, with_action, part_events, initial_from}
 use Rattle.candidates.specs.Layouts.{AreAllRuns, ArePartsOf, AreThreadsOf, IsLaidOut}

@@ -10,7 +10,7 @@ use Rattle.std.proofs.lemmas.List.{length-append, length-map, get_or-map, length
 use Rattle.std.proofs.lemmas.List.Concat.{get_or-flat_map}
 use Rattle.std.proofs.lemmas.List.Folds.{length-flat_map-take}
 use Rattle.std.specs.Prelude.{HoldsAt}
-use Rattle.ppc_semantics.specs.declared.value.Value.{Value}
+use Rattle.thread_runs.specs.declared.value.Value.{Value}
 use Rattle.candidates.specs.Lists.{lists_of}
 use Rattle.candidates.specs.Space.{pairs, candidates_of, candidates_in, registers_at, IsExecution}
 use Rattle.candidates.specs.declared.candidate.Combination.{Combination}

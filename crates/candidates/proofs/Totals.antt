@@ -1,7 +1,7 @@
 -- What a search through all combinations has found.
 use Rattle.std.proofs.Common.{Vec, Result, Ok, Err, IfOk, ℕ, zero, suc, ◌≡◌, ◌<◌, ◌≤◌, ◌+◌, ◌-◌, ◌*◌, ◌⊎◌, ◌||◌, ◌&&◌, cond, min, Bool, true, false, List, [], ◌∷◌, ◌++◌, map, take, length, Option, Some, None, MatchOption, is_some, append_assoc, if◌then◌else◌, inl, inr, arith, refl, sym, ap, subst, ◌∙◌}
 use Rattle.std.specs.List.{flat_map}
-use Rattle.ppc_semantics.specs.declared.value.Value.{Value}
+use Rattle.thread_runs.specs.declared.value.Value.{Value}
 use Rattle.candidates.specs.Orders.{all_orders, stores_of, numbers, has_store, is_thread_store, writes_to, AreApart}
 use Rattle.std.specs.declared.alloc.AllocError.{AllocError}
 use Rattle.std.specs.declared.alloc.Global.{Global}
@@ -9,8 +9,8 @@ use Rattle.litmus_values.specs.declared.test.Test.{Test}
 use Rattle.ppc_semantics.specs.declared.fault.EvalRefusal.{EvalRefusal}
 use Rattle.ppc_semantics.specs.declared.fault.SpaceFault.{SpaceFault}
 use Rattle.ppc_semantics.specs.declared.fault.SpaceFault.TheVariants.{Refused, OutOfMemory}
-use Rattle.ppc_semantics.specs.declared.instruction.Program.{Program}
-use Rattle.ppc_semantics.specs.declared.run.Run.{Run}
+use Rattle.thread_runs.specs.declared.instruction.Program.{Program}
+use Rattle.thread_runs.specs.declared.run.Run.{Run}
 use Rattle.ppc_semantics.specs.Domain.{IsDomain, IsFault}
 use Rattle.ppc_semantics.specs.Lowering.{IsProgram, IsTestFault}
 use Rattle.candidates.specs.Keys.{IsKeyed, bit_of}

@@ -3,11 +3,11 @@ use Rattle.std.specs.Prelude.{Vec, ℕ, ◌≡◌, ◌<◌, ◌≤◌, ◌+◌, 
 use Rattle.ppc_semantics.specs.declared.fault.EvalRefusal.{EvalRefusal}
 use Rattle.ppc_semantics.specs.declared.fault.EvalRefusal.TheVariants.{TooManyCandidates, AddressFault}
 use Rattle.std.specs.declared.alloc.Global.{Global}
-use Rattle.ppc_semantics.specs.declared.value.Value.{Value}
+use Rattle.thread_runs.specs.declared.value.Value.{Value}
 use Rattle.ppc_semantics.specs.declared.fault.SpaceFault.{SpaceFault}
 use Rattle.ppc_semantics.specs.declared.fault.SpaceFault.TheVariants.{Refused, OutOfMemory}
-use Rattle.ppc_semantics.specs.declared.instruction.Program.{Program}
-use Rattle.ppc_semantics.specs.declared.run.Run.{Run}
+use Rattle.thread_runs.specs.declared.instruction.Program.{Program}
+use Rattle.thread_runs.specs.declared.run.Run.{Run}
 use Rattle.ppc_semantics.specs.Domain.{IsDomain}
 use Rattle.ppc_semantics.specs.Lowering.{IsProgram, IsTestFault}
 use Rattle.litmus_values.specs.declared.test.Test.{Test}

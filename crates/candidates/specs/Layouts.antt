@@ -1,10 +1,10 @@
 -- What the candidates of a program are made of: its initial stores, and the runs of each thread that may be in one.
 use Rattle.std.specs.Prelude.{Vec, vec_len, ℕ, ◌≡◌, ◌≤◌, ◌+◌, ◌⊎◌, List, [], ◌∷◌, ◌++◌, length, Some, slice_get}
 use Rattle.std.specs.declared.alloc.Global.{Global}
-use Rattle.ppc_semantics.specs.declared.value.Value.{Value}
-use Rattle.ppc_semantics.specs.declared.run.Run.{Run}
-use Rattle.ppc_semantics.specs.declared.instruction.Program.{Program}
-use Rattle.ppc_semantics.specs.AllRuns.{ShowsRuns, thread_of}
+use Rattle.thread_runs.specs.declared.value.Value.{Value}
+use Rattle.thread_runs.specs.declared.run.Run.{Run}
+use Rattle.thread_runs.specs.declared.instruction.Program.{Program}
+use Rattle.thread_runs.specs.AllRuns.{ShowsRuns, thread_of}
 use Rattle.candidates.specs.Keys.{HasLoad, HasStore}
 use Rattle.candidates.specs.Parts.{part_events, initial_from, IsPartOf}
 use Rattle.candidates.specs.declared.candidate.Event.{Event}

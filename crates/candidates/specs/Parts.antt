@@ -2,12 +2,12 @@
 use Rattle.std.specs.Prelude.{Vec, ℕ, ◌≡◌, ◌<◌, ◌≤◌, ◌+◌, ◌⊎◌, List, [], ◌∷◌, length, Option, Some, None, slice_get}
 use Rattle.std.specs.List.{flat_map}
 use Rattle.std.specs.declared.alloc.Global.{Global}
-use Rattle.ppc_semantics.specs.declared.value.Value.{Value}
-use Rattle.ppc_semantics.specs.declared.value.Value.TheVariants.{Address}
-use Rattle.ppc_semantics.specs.declared.instruction.Event as run
-use Rattle.ppc_semantics.specs.declared.instruction.Event.TheVariants.{Reads, Writes, Orders}
-use Rattle.ppc_semantics.specs.declared.run.Run.{Run}
-use Rattle.ppc_semantics.specs.Runs.{executed}
+use Rattle.thread_runs.specs.declared.value.Value.{Value}
+use Rattle.thread_runs.specs.declared.value.Value.TheVariants.{Address}
+use Rattle.thread_runs.specs.declared.instruction.Event as run
+use Rattle.thread_runs.specs.declared.instruction.Event.TheVariants.{Reads, Writes, Orders}
+use Rattle.thread_runs.specs.declared.run.Run.{Run}
+use Rattle.thread_runs.specs.Runs.{executed}
 use Rattle.dataflow.specs.Chains.{event_place}
 use Rattle.dataflow.specs.Dependencies.{AreLinks}
 use Rattle.candidates.specs.Keys.{HasKey, IsWithin, AreKeys, bit_of}

@@ -2,7 +2,7 @@
 use Rattle.std.specs.Prelude.{Vec, ℕ, ◌≡◌, List, map, slice_get}
 use Rattle.std.specs.List.{flat_map, filter_map, zip}
 use Rattle.std.specs.declared.alloc.Global.{Global}
-use Rattle.ppc_semantics.specs.declared.value.Value.{Value}
+use Rattle.thread_runs.specs.declared.value.Value.{Value}
 use Rattle.candidates.specs.Lists.{lists_of}
 use Rattle.candidates.specs.Orders.{all_orders}
 use Rattle.candidates.specs.declared.candidate.Event.{Event}

@@ -1,8 +1,8 @@
 -- The ways in which the loads of a combination of runs read its stores.
 use Rattle.std.specs.Prelude.{Bool, true, false, ◌&&◌, nat_eq, filter, ℕ, ◌≡◌, ◌<◌, ◌≤◌, List, [], ◌∷◌, ◌++◌, map, length, slice_index, slice_index_or, Option, None, Some, Contains}
 use Rattle.bit_relations.specs.Pairs.{Union, IsAcyclic}
-use Rattle.ppc_semantics.specs.declared.value.Value.{Value}
-use Rattle.ppc_semantics.specs.declared.value.Value.TheVariants.{Number, Address, NoValue}
+use Rattle.thread_runs.specs.declared.value.Value.{Value}
+use Rattle.thread_runs.specs.declared.value.Value.TheVariants.{Number, Address, NoValue}
 use Rattle.candidates.specs.Lists.{tuples, IsFiltered}
 use Rattle.candidates.specs.Orders.{numbers}
 use Rattle.candidates.specs.declared.candidate.Action.{Action}

@@ -2,9 +2,9 @@
 
 ghost use Rattle.std.specs.Prelude.{Vec, ℕ, ◌≡◌, ◌<◌, List, Some, length, map, IfOk};
 ghost use Rattle.std.specs.declared.alloc.Global.{Global};
-ghost use Rattle.ppc_semantics.specs.declared.value.Value.{Value};
-ghost use Rattle.ppc_semantics.specs.declared.run.Run.{Run};
-ghost use Rattle.ppc_semantics.specs.ValueSet.{IsSet};
+ghost use Rattle.thread_runs.specs.declared.value.Value.{Value};
+ghost use Rattle.thread_runs.specs.declared.run.Run.{Run};
+ghost use Rattle.thread_runs.specs.ValueSet.{IsSet};
 ghost use Rattle.candidates.specs.Keys.{HasKey, HasStore, IsKeyed, bit_of};
 ghost use Rattle.candidates.specs.Parts.{initial_from, AreSketches, HasWritesOf, AreBelow, IsMade, AreEach, NamesRuns, AreThreads};
 ghost use Rattle.candidates.specs.Layouts.{AreAllRuns, IsLaidOut};

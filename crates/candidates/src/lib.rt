@@ -4,7 +4,7 @@
 #![tactic(auto)]
 
 ghost use Rattle.std.specs.Prelude.{ℕ, ◌≡◌, List, Option, map, IfOk, IfErr};
-ghost use Rattle.ppc_semantics.specs.declared.value.Value.{Value};
+ghost use Rattle.thread_runs.specs.declared.value.Value.{Value};
 ghost use Rattle.ppc_semantics.specs.Lowering.{IsTestFault};
 ghost use Rattle.candidates.specs.Keys.{IsKeyed};
 ghost use Rattle.candidates.specs.Parts.{initial_from};

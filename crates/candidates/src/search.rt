@@ -1,6 +1,6 @@
 //! The combinations of runs that have candidates.
 ghost use Rattle.std.specs.Prelude.{ℕ, ◌≡◌, ◌≤◌, ◌++◌, Option, map, min, length, IfOk, OnOk, MatchOption};
-ghost use Rattle.ppc_semantics.specs.declared.value.Value.{Value};
+ghost use Rattle.thread_runs.specs.declared.value.Value.{Value};
 ghost use Rattle.candidates.specs.Keys.{HasKey, HasWrites, AreKeys, ThreadsAreKeyed, IsKeyed, IsRead, IsStored, TellsWithin};
 ghost use Rattle.candidates.specs.Lists.{lists_of};
 ghost use Rattle.candidates.specs.Space.{seen};

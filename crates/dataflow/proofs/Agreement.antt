@@ -2,12 +2,12 @@
 use Rattle.std.proofs.Common.{ℕ, zero, suc, ◌≡◌, ◌<◌, inl, inr, Bool, true, false, not, List, [], ◌∷◌, ◌++◌, length, get_or, set, refl, sym, ap, subst, ◌∙◌, arith, if◌then◌else◌, IsTrue, get_or-set_same, get_or-set_other}
 use Rattle.std.proofs.lemmas.Bool.{cases_eq, cases_lt}
 use Rattle.std.proofs.lemmas.List.{length-set, get_or_past}
-use Rattle.ppc_semantics.specs.declared.value.Value.{Value}
-use Rattle.ppc_semantics.specs.declared.value.Value.TheVariants.{Number}
-use Rattle.ppc_semantics.specs.declared.instruction.Instruction.{Instruction}
-use Rattle.ppc_semantics.specs.declared.instruction.Instruction.TheVariants.{Immediate, Move, AddImmediate, Operate, Load, LoadIndexed, Store, StoreIndexed, Compare, CompareImmediate, Branch, Jump, Barrier}
-use Rattle.ppc_semantics.specs.declared.state.State.{State}
-use Rattle.ppc_semantics.specs.Machine.{after, register, with_register, is_load, cancels, outcome_of, sum_of}
+use Rattle.thread_runs.specs.declared.value.Value.{Value}
+use Rattle.thread_runs.specs.declared.value.Value.TheVariants.{Number}
+use Rattle.thread_runs.specs.declared.instruction.Instruction.{Instruction}
+use Rattle.thread_runs.specs.declared.instruction.Instruction.TheVariants.{Immediate, Move, AddImmediate, Operate, Load, LoadIndexed, Store, StoreIndexed, Compare, CompareImmediate, Branch, Jump, Barrier}
+use Rattle.thread_runs.specs.declared.state.State.{State}
+use Rattle.thread_runs.specs.Machine.{after, register, with_register, is_load, cancels, outcome_of, sum_of}
 use Rattle.dataflow.specs.Chains.{Executed, Place, Register, Chain, FeedsOnward, Reaches, IsLastWriter, IsWritten, IsOperand, is_narrow}
 use Rattle.dataflow.specs.Law.{state_at, StoresTheSame}
 

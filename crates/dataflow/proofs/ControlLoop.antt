@@ -3,11 +3,11 @@ use Rattle.std.proofs.Common.{ℕ, suc, ◌≡◌, ◌<◌, ◌+◌, ◌↔◌, 
 use Rattle.std.specs.Int.RustNames.{bit_or}
 use Rattle.std.proofs.lemmas.List.{length-set, length-replicate}
 use Rattle.std.proofs.lemmas.Bool.{false≢true, cases_eq}
-use Rattle.ppc_semantics.specs.declared.instruction.Instruction.{Instruction}
-use Rattle.ppc_semantics.specs.declared.instruction.Instruction.TheVariants.{Immediate, Move, AddImmediate, Operate, Load, LoadIndexed, Store, StoreIndexed, Compare, CompareImmediate, Branch, Jump, Barrier}
+use Rattle.thread_runs.specs.declared.instruction.Instruction.{Instruction}
+use Rattle.thread_runs.specs.declared.instruction.Instruction.TheVariants.{Immediate, Move, AddImmediate, Operate, Load, LoadIndexed, Store, StoreIndexed, Compare, CompareImmediate, Branch, Jump, Barrier}
 use Rattle.dataflow.specs.declared.taints.Taints.{Taints}
 use Rattle.dataflow.specs.declared.pass.Control.{Control}
-use Rattle.ppc_semantics.specs.Machine.{is_load, is_branch}
+use Rattle.thread_runs.specs.Machine.{is_load, is_branch}
 use Rattle.dataflow.specs.Chains.{Executed, Place, IsOperand, event_place, is_event, is_plain, is_isync, LoadReaches, IsCtrl}
 use Rattle.dataflow.specs.Taints.{Bit, IsPlace, AreTaints, AreColumnsOf, IsWithinFile, passes_of, operand_word}
 use Rattle.dataflow.specs.Control.{branched_after, synchronised_after, steered, control_of, control_word}

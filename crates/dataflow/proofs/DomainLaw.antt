@@ -6,15 +6,15 @@ use Rattle.std.proofs.lemmas.Bool.Decides.{eqb_tells}
 use Rattle.std.proofs.lemmas.Map.Steps.{length-le_from_distinct_below}
 use Rattle.std.proofs.lemmas.List.{get_or_past}
 use Rattle.std.proofs.lemmas.List.Elements.{Contains-push, Contains-append_left, Contains-append_right}
-use Rattle.ppc_semantics.specs.declared.value.Value.{Value}
-use Rattle.ppc_semantics.specs.declared.instruction.Instruction.{Instruction}
-use Rattle.ppc_semantics.specs.declared.instruction.Instruction.TheVariants.{Immediate, Move, AddImmediate, Operate, Load, LoadIndexed, Store, StoreIndexed, Compare, CompareImmediate, Branch, Jump, Barrier}
-use Rattle.ppc_semantics.specs.declared.instruction.RunStep.{RunStep}
-use Rattle.ppc_semantics.specs.declared.instruction.Event.{Event}
-use Rattle.ppc_semantics.specs.declared.instruction.Event.TheVariants.{Writes}
-use Rattle.ppc_semantics.specs.declared.state.State.{State}
-use Rattle.ppc_semantics.specs.Machine.{register, event_of, is_load, sum_of}
-use Rattle.ppc_semantics.specs.Runs.{Walk, Outcome, Thread, started, run_of, executed, loaded_at, nothing, StoresFreely, InDomain}
+use Rattle.thread_runs.specs.declared.value.Value.{Value}
+use Rattle.thread_runs.specs.declared.instruction.Instruction.{Instruction}
+use Rattle.thread_runs.specs.declared.instruction.Instruction.TheVariants.{Immediate, Move, AddImmediate, Operate, Load, LoadIndexed, Store, StoreIndexed, Compare, CompareImmediate, Branch, Jump, Barrier}
+use Rattle.thread_runs.specs.declared.instruction.RunStep.{RunStep}
+use Rattle.thread_runs.specs.declared.instruction.Event.{Event}
+use Rattle.thread_runs.specs.declared.instruction.Event.TheVariants.{Writes}
+use Rattle.thread_runs.specs.declared.state.State.{State}
+use Rattle.thread_runs.specs.Machine.{register, event_of, is_load, sum_of}
+use Rattle.thread_runs.specs.Runs.{Walk, Outcome, Thread, started, run_of, executed, loaded_at, nothing, StoresFreely, InDomain}
 use Rattle.dataflow.specs.Chains.{Executed, Register, IsNeed, IsStoredRegister}
 use Rattle.dataflow.specs.Law.{state_at, events_before, IsWalk, IsPicked}
 use Rattle.dataflow.specs.Execution.{Source, Initial, From, Execution, IsExecution, Node, LoadNode, StoreNode, Leads, Way, Precedes, IsReadFrom, value_read, executed_by, loaded_by}

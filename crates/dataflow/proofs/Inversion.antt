@@ -1,9 +1,9 @@
 -- What reaches a place behind one instruction more: either it goes through that instruction, or it reached the place before.
 use Rattle.std.proofs.Common.{ℕ, zero, suc, ◌≡◌, ◌⊎◌, inl, inr, Bool, true, false, List, [], ◌∷◌, refl, sym, ap, subst, arith, IsTrue}
 use Rattle.std.proofs.lemmas.Bool.{cases_eq, false≢true}
-use Rattle.ppc_semantics.specs.declared.instruction.Instruction.{Instruction}
-use Rattle.ppc_semantics.specs.declared.instruction.Instruction.TheVariants.{Immediate, Move, AddImmediate, Operate, Load, LoadIndexed, Store, StoreIndexed, Compare, CompareImmediate, Branch, Jump, Barrier}
-use Rattle.ppc_semantics.specs.Machine.{is_load}
+use Rattle.thread_runs.specs.declared.instruction.Instruction.{Instruction}
+use Rattle.thread_runs.specs.declared.instruction.Instruction.TheVariants.{Immediate, Move, AddImmediate, Operate, Load, LoadIndexed, Store, StoreIndexed, Compare, CompareImmediate, Branch, Jump, Barrier}
+use Rattle.thread_runs.specs.Machine.{is_load}
 use Rattle.dataflow.specs.Chains.{Executed, Place, Register, Cr0, Chain, FeedsOnward, Reaches, IsWritten, IsOperand, IsNeed, IsStoredRegister, is_narrow}
 use Rattle.dataflow.proofs.Agreement.{reaches_more, reaches_through, reaches_own}
 

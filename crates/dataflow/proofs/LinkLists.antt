@@ -3,11 +3,11 @@ use Rattle.std.proofs.Common.{ℕ, zero, suc, ◌≡◌, ◌<◌, ◌+◌, inl, 
 use Rattle.std.specs.List.{Contains}
 use Rattle.std.proofs.lemmas.Bool.{false≢true, cases_lt}
 use Rattle.std.proofs.lemmas.List.{get_or_past}
-use Rattle.ppc_semantics.specs.declared.instruction.Instruction.{Instruction}
-use Rattle.ppc_semantics.specs.declared.instruction.Instruction.TheVariants.{Immediate, Move, AddImmediate, Operate, Load, LoadIndexed, Store, StoreIndexed, Compare, CompareImmediate, Branch, Jump, Barrier}
-use Rattle.ppc_semantics.specs.declared.instruction.RunStep.{RunStep}
-use Rattle.ppc_semantics.specs.Machine.{is_load}
-use Rattle.ppc_semantics.specs.Runs.{executed, nothing}
+use Rattle.thread_runs.specs.declared.instruction.Instruction.{Instruction}
+use Rattle.thread_runs.specs.declared.instruction.Instruction.TheVariants.{Immediate, Move, AddImmediate, Operate, Load, LoadIndexed, Store, StoreIndexed, Compare, CompareImmediate, Branch, Jump, Barrier}
+use Rattle.thread_runs.specs.declared.instruction.RunStep.{RunStep}
+use Rattle.thread_runs.specs.Machine.{is_load}
+use Rattle.thread_runs.specs.Runs.{executed, nothing}
 use Rattle.dataflow.specs.Chains.{Executed, Place, event_place, is_event, LoadReaches, IsCtrl, IsCtrlIsync, IsListOf, OfEvents}
 use Rattle.dataflow.specs.Taints.{Bit, AreColumnsOf, reads_of}
 use Rattle.dataflow.specs.Dependencies.{ArePairs}

@@ -2,12 +2,12 @@
 use Rattle.std.proofs.Common.{ℕ, zero, suc, ◌≡◌, ◌<◌, ◌≤◌, ◌+◌, ◌↔◌, inl, inr, Bool, true, false, List, [], ◌∷◌, refl, sym, ap, subst, ◌∙◌, arith, length, get_or, set, get_or-set_same, get_or-set_other, if◌then◌else◌, add-one, replicate}
 use Rattle.std.proofs.lemmas.List.{length-set, get_or-replicate, length-replicate}
 use Rattle.std.proofs.lemmas.Bool.{false≢true, cases_eq}
-use Rattle.ppc_semantics.specs.declared.instruction.Instruction.{Instruction}
-use Rattle.ppc_semantics.specs.declared.instruction.Instruction.TheVariants.{Immediate, Move, AddImmediate, Operate, Load, LoadIndexed, Store, StoreIndexed, Compare, CompareImmediate, Branch, Jump, Barrier}
-use Rattle.ppc_semantics.specs.declared.instruction.RunStep.{RunStep}
+use Rattle.thread_runs.specs.declared.instruction.Instruction.{Instruction}
+use Rattle.thread_runs.specs.declared.instruction.Instruction.TheVariants.{Immediate, Move, AddImmediate, Operate, Load, LoadIndexed, Store, StoreIndexed, Compare, CompareImmediate, Branch, Jump, Barrier}
+use Rattle.thread_runs.specs.declared.instruction.RunStep.{RunStep}
 use Rattle.dataflow.specs.declared.taints.Taints.{Taints}
-use Rattle.ppc_semantics.specs.Machine.{is_load}
-use Rattle.ppc_semantics.specs.Runs.{executed, nothing}
+use Rattle.thread_runs.specs.Machine.{is_load}
+use Rattle.thread_runs.specs.Runs.{executed, nothing}
 use Rattle.dataflow.specs.Chains.{Executed, Place, Register, Cr0, IsOperand, event_place, is_event, LoadReaches}
 use Rattle.dataflow.specs.Taints.{Bit, IsPlace, AreTaints, AreColumns, AreColumnsOf, IsUnion, IsWithinFile, IsStep, word_of, passes_of, reads_of, read_word, noted}
 use Rattle.dataflow.proofs.TaintSteps.{read_word-union, noted-step, taints_more, taints_first, with_word_long}

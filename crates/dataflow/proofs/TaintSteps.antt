@@ -4,11 +4,11 @@ use Rattle.std.specs.Int.{bit_at, w128}
 use Rattle.std.specs.Int.RustNames.{bit_or}
 use Rattle.std.proofs.lemmas.List.{length-set}
 use Rattle.std.proofs.lemmas.Nat.Bits.{bit_at_or, bit_at-zero, bit_at-lt, bit_at_set_same, bit_at_set_other}
-use Rattle.ppc_semantics.specs.declared.instruction.Instruction.{Instruction}
-use Rattle.ppc_semantics.specs.declared.instruction.Instruction.TheVariants.{Immediate, Move, AddImmediate, Operate, Load, LoadIndexed, Store, StoreIndexed, Compare, CompareImmediate, Branch, Jump, Barrier}
+use Rattle.thread_runs.specs.declared.instruction.Instruction.{Instruction}
+use Rattle.thread_runs.specs.declared.instruction.Instruction.TheVariants.{Immediate, Move, AddImmediate, Operate, Load, LoadIndexed, Store, StoreIndexed, Compare, CompareImmediate, Branch, Jump, Barrier}
 use Rattle.std.proofs.lemmas.Bool.{false≢true, cases_eq}
 use Rattle.dataflow.specs.declared.taints.Taints.{Taints}
-use Rattle.ppc_semantics.specs.Machine.{is_load}
+use Rattle.thread_runs.specs.Machine.{is_load}
 use Rattle.dataflow.specs.Chains.{Executed, Place, Register, Cr0, IsOperand, IsWritten, event_place}
 use Rattle.dataflow.specs.Taints.{Bit, TaintOf, IsStep, IsUnion, IsOrigin, IsPlace, AreTaints, word_of, passes_of, operand_word, bit_word, origin_word, with_word, noted, reads_of, read_word}
 use Rattle.dataflow.proofs.Agreement.{reaches_more}

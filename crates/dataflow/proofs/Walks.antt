@@ -5,17 +5,17 @@ use Rattle.std.proofs.lemmas.Bool.{cases_lt, false≢true}
 use Rattle.std.proofs.lemmas.List.{length-append, get_or_append_left}
 use Rattle.std.proofs.lemmas.List.Elements.{All-cons}
 use Rattle.std.proofs.Math.Seq.{get_or-append_seam}
-use Rattle.ppc_semantics.specs.declared.value.Value.{Value}
-use Rattle.ppc_semantics.specs.declared.value.Value.TheVariants.{NoValue}
-use Rattle.ppc_semantics.specs.declared.instruction.Instruction.{Instruction}
-use Rattle.ppc_semantics.specs.declared.instruction.Instruction.TheVariants.{Immediate, Move, AddImmediate, Operate, Load, LoadIndexed, Store, StoreIndexed, Compare, CompareImmediate, Branch, Jump, Barrier}
-use Rattle.ppc_semantics.specs.declared.instruction.Line.{Line}
-use Rattle.ppc_semantics.specs.declared.instruction.Line.TheVariants.{Label, Does}
-use Rattle.ppc_semantics.specs.declared.instruction.RunStep.{RunStep}
-use Rattle.ppc_semantics.specs.declared.instruction.Event.{Event}
-use Rattle.ppc_semantics.specs.declared.state.State.{State}
-use Rattle.ppc_semantics.specs.Machine.{after, event_of, is_load, is_branch, is_fault, goes}
-use Rattle.ppc_semantics.specs.Runs.{Walk, Outcome, started, ended, advanced, passed, supplied, obeyed, one, ends, run_from, free_from, free_obeyed, free_one, nothing, executed, loaded_at}
+use Rattle.thread_runs.specs.declared.value.Value.{Value}
+use Rattle.thread_runs.specs.declared.value.Value.TheVariants.{NoValue}
+use Rattle.thread_runs.specs.declared.instruction.Instruction.{Instruction}
+use Rattle.thread_runs.specs.declared.instruction.Instruction.TheVariants.{Immediate, Move, AddImmediate, Operate, Load, LoadIndexed, Store, StoreIndexed, Compare, CompareImmediate, Branch, Jump, Barrier}
+use Rattle.thread_runs.specs.declared.instruction.Line.{Line}
+use Rattle.thread_runs.specs.declared.instruction.Line.TheVariants.{Label, Does}
+use Rattle.thread_runs.specs.declared.instruction.RunStep.{RunStep}
+use Rattle.thread_runs.specs.declared.instruction.Event.{Event}
+use Rattle.thread_runs.specs.declared.state.State.{State}
+use Rattle.thread_runs.specs.Machine.{after, event_of, is_load, is_branch, is_fault, goes}
+use Rattle.thread_runs.specs.Runs.{Walk, Outcome, started, ended, advanced, passed, supplied, obeyed, one, ends, run_from, free_from, free_obeyed, free_one, nothing, executed, loaded_at}
 use Rattle.dataflow.specs.Chains.{Executed}
 use Rattle.dataflow.specs.Law.{state_at, events_before, IsWalk, IsPicked}
 

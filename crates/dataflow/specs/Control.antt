@@ -1,7 +1,7 @@
 -- The loads that control goes by, as bits of a word.
 use Rattle.std.specs.Prelude.{ℕ, bit_or, Bool, true, false, if◌then◌else◌}
-use Rattle.ppc_semantics.specs.declared.instruction.Instruction.{Instruction}
-use Rattle.ppc_semantics.specs.Machine.{is_branch}
+use Rattle.thread_runs.specs.declared.instruction.Instruction.{Instruction}
+use Rattle.thread_runs.specs.Machine.{is_branch}
 use Rattle.dataflow.specs.declared.taints.Taints.{Taints}
 use Rattle.dataflow.specs.Taints.{operand_word, noted}
 use Rattle.dataflow.specs.declared.pass.Control.{Control}

@@ -1,9 +1,9 @@
 -- Executions whose loads have any values, and the law that the domain loses none of them.
 use Rattle.std.specs.Prelude.{ℕ, ◌≡◌, ◌<◌, List, [], ◌∷◌, Some, IsTrue, Contains}
-use Rattle.ppc_semantics.specs.declared.value.Value.{Value}
-use Rattle.ppc_semantics.specs.declared.value.Value.TheVariants.{NoValue}
-use Rattle.ppc_semantics.specs.Machine.{register, is_load}
-use Rattle.ppc_semantics.specs.Runs.{Thread, Outcome, InDomain, run_of, executed, loaded_at}
+use Rattle.thread_runs.specs.declared.value.Value.{Value}
+use Rattle.thread_runs.specs.declared.value.Value.TheVariants.{NoValue}
+use Rattle.thread_runs.specs.Machine.{register, is_load}
+use Rattle.thread_runs.specs.Runs.{Thread, Outcome, InDomain, run_of, executed, loaded_at}
 use Rattle.dataflow.specs.Chains.{Executed, Register, IsNeed, IsStoredRegister}
 use Rattle.dataflow.specs.Law.{state_at}
 

@@ -1,10 +1,10 @@
 -- What a store needs: the first step of the law of the domain.
 use Rattle.std.specs.Prelude.{ℕ, zero, suc, ◌≡◌, ◌<◌, ◌≤◌, List, [], ◌++◌, ◌+◌, length, IsTrue}
-use Rattle.ppc_semantics.specs.declared.value.Value.{Value}
-use Rattle.ppc_semantics.specs.declared.instruction.Event.{Event}
-use Rattle.ppc_semantics.specs.declared.state.State.{State}
-use Rattle.ppc_semantics.specs.Machine.{after, event_of, register, is_load}
-use Rattle.ppc_semantics.specs.Runs.{Walk, executed, loaded_at}
+use Rattle.thread_runs.specs.declared.value.Value.{Value}
+use Rattle.thread_runs.specs.declared.instruction.Event.{Event}
+use Rattle.thread_runs.specs.declared.state.State.{State}
+use Rattle.thread_runs.specs.Machine.{after, event_of, register, is_load}
+use Rattle.thread_runs.specs.Runs.{Walk, executed, loaded_at}
 use Rattle.dataflow.specs.Chains.{Executed, Register, IsNeed, IsStoredRegister}
 
 -- the state before the n-th of these instructions, where each load takes the value given for its place

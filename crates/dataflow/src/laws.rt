@@ -1,7 +1,7 @@
 //! Laws of the definitions.
 ghost use Rattle.std.specs.Prelude.{List};
-ghost use Rattle.ppc_semantics.specs.declared.value.Value.{Value};
-ghost use Rattle.ppc_semantics.specs.Runs.{Thread};
+ghost use Rattle.thread_runs.specs.declared.value.Value.{Value};
+ghost use Rattle.thread_runs.specs.Runs.{Thread};
 ghost use Rattle.dataflow.specs.Execution.{Execution, LosesNothing};
 
 /// Whatever values its loads have, an execution reads only values of the domain.

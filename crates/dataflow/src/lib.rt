@@ -5,8 +5,6 @@ pub mod laws;
 mod lists;
 mod pass;
 mod taints;
-#[cfg(test)]
-mod tests;
 
 pub use lists::Links;
 pub use pass::links;

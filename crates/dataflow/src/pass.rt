@@ -3,16 +3,16 @@ ghost use Rattle.std.specs.Prelude.{ℕ, ◌≡◌, ◌<◌, ◌≤◌, ◌↔�
 ghost use Rattle.dataflow.specs.Chains as chains;
 ghost use Rattle.dataflow.specs.Control as control;
 ghost use Rattle.dataflow.specs.Dependencies as found;
-ghost use Rattle.ppc_semantics.specs.Machine as machine;
+ghost use Rattle.thread_runs.specs.Machine as machine;
 ghost use Rattle.dataflow.specs.Taints as taint;
 ghost use Rattle.dataflow.specs.Within.{IsPairWithin, IsWithin};
-ghost use Rattle.ppc_semantics.specs.Runs as runs;
+ghost use Rattle.thread_runs.specs.Runs as runs;
 
 use crate::lists::Links;
 use crate::taints::{Taints, is_event, no_taints, note, operands, reach, registers_fit};
-use litmus_ppc::Fence;
-use ppc_semantics::{Instruction, Run, RunStep};
+use litmus_values::Fence;
 use std::alloc::{AllocError, Global};
+use thread_runs::{Instruction, Run, RunStep};
 
 /// For each event, the loads that reach it: bits, by their places among the events.
 type Columns = [u128; 128];

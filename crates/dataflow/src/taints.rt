@@ -1,11 +1,11 @@
 //! How loads reach the events of a run, in one pass.
 ghost use Rattle.std.specs.Prelude.{◌≡◌, ◌<◌, ◌≤◌, true, length, replicate};
 ghost use Rattle.dataflow.specs.Chains as chains;
-ghost use Rattle.ppc_semantics.specs.Machine as machine;
-ghost use Rattle.ppc_semantics.specs.Runs as runs;
+ghost use Rattle.thread_runs.specs.Machine as machine;
+ghost use Rattle.thread_runs.specs.Runs as runs;
 ghost use Rattle.dataflow.specs.Taints as taint;
 
-use ppc_semantics::{Instruction, RunStep, cancels, is_load};
+use thread_runs::{Instruction, RunStep, cancels, is_load};
 
 /// For each register, and for CR0, the loads that reach it: bits, by their places among the events.
 #[derive(Clone, Copy)]

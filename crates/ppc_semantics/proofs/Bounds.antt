@@ -7,24 +7,24 @@ use Rattle.std.proofs.lemmas.Bool.{cases_lt}
 use Rattle.std.proofs.lemmas.List.{length-map}
 use Rattle.std.proofs.lemmas.List.Sums.{sum_by-le-sum_by}
 use Rattle.std.proofs.lemmas.List.Elements.{Contains-get_or, Contains-push, Contains-push_cases, Contains-append_left, All-contains, All-weaker}
-use Rattle.ppc_semantics.specs.declared.value.Value.{Value}
-use Rattle.ppc_semantics.specs.declared.instruction.Instruction.{Instruction}
-use Rattle.ppc_semantics.specs.declared.instruction.Instruction.TheVariants.{Immediate, Move, AddImmediate, Operate, Load, LoadIndexed, Store, StoreIndexed, Compare, CompareImmediate, Branch, Jump, Barrier}
-use Rattle.ppc_semantics.specs.declared.instruction.Line.{Line}
-use Rattle.ppc_semantics.specs.declared.instruction.Line.TheVariants.{Label, Does}
-use Rattle.ppc_semantics.specs.declared.instruction.Program.{Program}
-use Rattle.ppc_semantics.specs.declared.state.State.{State}
+use Rattle.thread_runs.specs.declared.value.Value.{Value}
+use Rattle.thread_runs.specs.declared.instruction.Instruction.{Instruction}
+use Rattle.thread_runs.specs.declared.instruction.Instruction.TheVariants.{Immediate, Move, AddImmediate, Operate, Load, LoadIndexed, Store, StoreIndexed, Compare, CompareImmediate, Branch, Jump, Barrier}
+use Rattle.thread_runs.specs.declared.instruction.Line.{Line}
+use Rattle.thread_runs.specs.declared.instruction.Line.TheVariants.{Label, Does}
+use Rattle.thread_runs.specs.declared.instruction.Program.{Program}
+use Rattle.thread_runs.specs.declared.state.State.{State}
 use Rattle.ppc_semantics.specs.declared.fault.EvalRefusal.TheVariants.{TooManyEvents, TooManyValues, TooManyRuns, TooManyCandidates, AddressFault, TooManyCombinations}
 use Rattle.ppc_semantics.specs.declared.fault.SpaceFault.{SpaceFault}
 use Rattle.ppc_semantics.specs.declared.fault.SpaceFault.TheVariants.{Refused, OutOfMemory}
-use Rattle.ppc_semantics.specs.Machine.{is_load}
-use Rattle.ppc_semantics.specs.Runs.{Thread, StoresFreely}
-use Rattle.ppc_semantics.specs.AllRuns.{thread_of, all_from, begun, whole}
-use Rattle.ppc_semantics.specs.FreeRuns.{HasFreeRuns}
-use Rattle.ppc_semantics.specs.ValueSet.{IsOne, IsSet}
-use Rattle.ppc_semantics.specs.FreeWalks.{AreAdded}
-use Rattle.ppc_semantics.specs.Domain.{threads_from, threads_of, makes_event, has_event, has_load, lines_with, event_total, load_total, AreProper, InRound, IsRound, IsWithin, HasRuns, HasCombinations, IsFault, IsMemory, HasFewRuns, IsRoundFault, IsCombinationFault, IsNextRound}
-use Rattle.ppc_semantics.proofs.RunsExact.{are_runs}
+use Rattle.thread_runs.specs.Machine.{is_load}
+use Rattle.thread_runs.specs.Runs.{Thread, StoresFreely}
+use Rattle.thread_runs.specs.AllRuns.{thread_of, all_from, begun, whole}
+use Rattle.thread_runs.specs.FreeRuns.{HasFreeRuns}
+use Rattle.thread_runs.specs.ValueSet.{IsOne, IsSet}
+use Rattle.thread_runs.specs.FreeWalks.{AreAdded}
+use Rattle.ppc_semantics.specs.Domain.{threads_from, threads_of, makes_event, has_event, has_load, lines_with, event_total, load_total, AreProper, InRound, IsRound, IsWithin, HasRuns, HasCombinations, IsFault, HasFewRuns, IsRoundFault, IsCombinationFault, IsNextRound}
+use Rattle.thread_runs.proofs.RunsExact.{are_runs}
 
 module _ (p : Program) where
   threads_have : (n : ℕ) (t : Thread) → Contains (threads_from p n) t → (j : ℕ) × (j < n) × (thread_of p j ≡ t)
@@ -96,10 +96,6 @@ module _ (p : Program) where
   round_fault k V events bound before n (Refused AddressFault) h = absurd h
   round_fault k V events bound before n (Refused TooManyCombinations) h = absurd h
   round_fault k V events bound before n (OutOfMemory e) h = h
-
-  pub memory_fault : (e : SpaceFault) → IsMemory e → IsFault p e
-  memory_fault (Refused r) h = absurd h
-  memory_fault (OutOfMemory e) h = h
 
   pub combination_fault : (V : List Value) → event_total p ≤ 128 → ((k : ℕ) → k ≤ load_total p → IsWithin p k) → IsRound p (load_total p) V → (e : SpaceFault) → IsCombinationFault p V e → IsFault p e
   combination_fault V events rounds last (Refused TooManyCombinations) h = let (n, counted, over) = h in record { events = events; rounds = rounds; values = V; last = last; combinations = n; counted = counted; many = over }

@@ -1,15 +1,5 @@
-pub mod MapInPlace
-pub mod RunList
-pub mod RunsExact
-pub mod Sorted
 pub mod Sorting
 pub mod Starting
 pub mod OfTest
 pub mod Bounds
 pub mod Rising
-pub mod FreeLines
-pub mod FreeStores
-pub mod Adding
-pub mod AllFree
-pub mod Counts
-pub mod Pairs

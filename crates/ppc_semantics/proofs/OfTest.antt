@@ -1,8 +1,8 @@
 -- From the program of a test to the test.
 use Rattle.std.proofs.Common.{List}
 use Rattle.litmus_values.specs.declared.test.Test.{Test}
-use Rattle.ppc_semantics.specs.declared.value.Value.{Value}
-use Rattle.ppc_semantics.specs.declared.instruction.Program.{Program}
+use Rattle.thread_runs.specs.declared.value.Value.{Value}
+use Rattle.thread_runs.specs.declared.instruction.Program.{Program}
 use Rattle.ppc_semantics.specs.declared.fault.SpaceFault.{SpaceFault}
 use Rattle.ppc_semantics.specs.declared.fault.SpaceFault.TheVariants.{Refused, OutOfMemory}
 use Rattle.ppc_semantics.specs.Domain.{AreProper, IsDomain, IsFault}

@@ -4,16 +4,16 @@ use Rattle.std.specs.List.{Contains}
 use Rattle.std.proofs.Math.Seq.{take-suc}
 use Rattle.std.proofs.lemmas.List.{take_all}
 use Rattle.std.proofs.lemmas.List.Elements.{Contains-push, Contains-push_cases, Contains-append_left}
-use Rattle.ppc_semantics.specs.declared.value.Value.{Value}
-use Rattle.ppc_semantics.specs.declared.instruction.Line.{Line}
-use Rattle.ppc_semantics.specs.declared.instruction.Program.{Program}
-use Rattle.ppc_semantics.specs.declared.state.State.{State}
-use Rattle.ppc_semantics.specs.Runs.{Thread, StoresFreely, free_run_of}
-use Rattle.ppc_semantics.specs.AllRuns.{thread_of}
-use Rattle.ppc_semantics.specs.ValueSet.{IsOne, IsAdded}
-use Rattle.ppc_semantics.specs.FreeWalks.{AreAdded, Stores}
+use Rattle.thread_runs.specs.declared.value.Value.{Value}
+use Rattle.thread_runs.specs.declared.instruction.Line.{Line}
+use Rattle.thread_runs.specs.declared.instruction.Program.{Program}
+use Rattle.thread_runs.specs.declared.state.State.{State}
+use Rattle.thread_runs.specs.Runs.{Thread, StoresFreely, free_run_of}
+use Rattle.thread_runs.specs.AllRuns.{thread_of}
+use Rattle.thread_runs.specs.ValueSet.{IsOne, IsAdded}
+use Rattle.thread_runs.specs.FreeWalks.{AreAdded, Stores}
 use Rattle.ppc_semantics.specs.Domain.{threads_from}
-use Rattle.ppc_semantics.proofs.Adding.{added_after}
+use Rattle.thread_runs.proofs.Adding.{added_after}
 
 -- the values at the start
 pub initial_more : (xs ys : List Value) (k : ℕ) (d : Value) (old new : List Value) → ys ≡ xs → k < length ys → ((u : Value) → Contains old u ↔ (Contains (take k xs) u × IsOne u)) → IsAdded (get_or ys k d) old new

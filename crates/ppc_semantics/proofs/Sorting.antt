@@ -8,13 +8,13 @@ use Rattle.std.specs.FinMap.{nat_cmp-IsAntisymmetric, slice_cmp-IsAntisymmetric}
 use Rattle.std.specs.declared.cmp.Ordering.{Ordering}
 use Rattle.std.specs.declared.cmp.Ordering.TheVariants.{Less, Equal, Greater}
 use Rattle.std.proofs.Math.Seq.{take-suc}
-use Rattle.std.proofs.lemmas.List.{take_all}
+use Rattle.std.proofs.lemmas.List.{append-nil, take_all}
 use Rattle.std.proofs.lemmas.Bool.{cases_eq, cases_lt}
 use Rattle.std.proofs.lemmas.Cmp.{nat_list_cmp_total}
 use Rattle.std.proofs.lemmas.Grind.{flat_map-append}
 use Rattle.std.proofs.lemmas.List.Elements.{Contains-append_left, Contains-append_right, Contains-append_cases}
 use Rattle.ppc_semantics.specs.Lowering.{name_cmp, IsBefore, Adds, number_of, AreNames}
-use Rattle.ppc_semantics.proofs.Pairs.{inserted_rises, contains_inserted, contains_here, contains_cases, pairs_tail}
+use Rattle.thread_runs.proofs.Pairs.{inserted_rises, contains_inserted, contains_here, contains_cases, pairs_tail}
 
 pub order : IsTotalOrder name_cmp
 order = nat_list_cmp_total
@@ -94,14 +94,10 @@ adds_after a b x y z p q = record {
   );
 }
 
-append_none : (xs : List (List ℕ)) → xs ++ [] ≡ xs
-append_none [] = refl
-append_none (x ∷ xs) = ap (λ (ys : List (List ℕ)). x ∷ ys) (append_none xs)
-
 -- the names of one element more
 pub adds_more : {A : Type 0} (f : A → List (List ℕ)) (xs : List A) (k : ℕ) (d : A) (x y z : List (List ℕ)) → k < length xs → Adds (flat_map f (take k xs)) x y → Adds (f (get_or xs k d)) y z → Adds (flat_map f (take (k + 1) xs)) x z
 adds_more f xs k d x y z lt p q = rw (add-one, take-suc xs k d lt)
-    (subst (λ (names : List (List ℕ)). Adds names x z) (ap (λ (names : List (List ℕ)). flat_map f (take k xs) ++ names) (sym (append_none (f (get_or xs k d)))) ∙ sym (flat_map-append f (take k xs) (get_or xs k d ∷ []))) (adds_after (flat_map f (take k xs)) (f (get_or xs k d)) x y z p q))
+    (subst (λ (names : List (List ℕ)). Adds names x z) (ap (λ (names : List (List ℕ)). flat_map f (take k xs) ++ names) (sym (append-nil (f (get_or xs k d)))) ∙ sym (flat_map-append f (take k xs) (get_or xs k d ∷ []))) (adds_after (flat_map f (take k xs)) (f (get_or xs k d)) x y z p q))
 
 pub adds_all : {A : Type 0} (f : A → List (List ℕ)) (xs : List A) (k : ℕ) (x y : List (List ℕ)) → length xs ≤ k → Adds (flat_map f (take k xs)) x y → Adds (flat_map f xs) x y
 adds_all {A = A} f xs k x y le h = subst (λ (ys : List A). Adds (flat_map f ys) x y) (take_all k xs le) h

@@ -15,10 +15,10 @@ use Rattle.litmus_values.specs.declared.test.Value as written
 use Rattle.litmus_values.specs.declared.test.Value.TheVariants as values
 use Rattle.litmus_values.specs.declared.test.InitEntry.{InitEntry}
 use Rattle.litmus_values.specs.declared.test.Thread.{Thread}
-use Rattle.ppc_semantics.specs.declared.value.Value.{Value}
-use Rattle.ppc_semantics.specs.declared.value.Value.TheVariants.{Number, Address, NoValue}
-use Rattle.ppc_semantics.specs.declared.instruction.Line.{Line}
-use Rattle.ppc_semantics.specs.ValueSet.{IsOne}
+use Rattle.thread_runs.specs.declared.value.Value.{Value}
+use Rattle.thread_runs.specs.declared.value.Value.TheVariants.{Number, Address, NoValue}
+use Rattle.thread_runs.specs.declared.instruction.Line.{Line}
+use Rattle.thread_runs.specs.ValueSet.{IsOne}
 use Rattle.ppc_semantics.specs.Lowering.{name_cmp, IsBefore, number_of, value_of, Starts, AreInitial, AreRegisters, AreFiles, AreLines, AreThreads, blank, put_location, put_register}
 use Rattle.ppc_semantics.proofs.Sorting.{order, same_name, number_found}
 
@@ -182,12 +182,6 @@ pub files_more : (init : List InitEntry) (k : ℕ) (e : InitEntry) (names : List
 files_more init k e names n xs ys lt there h made =
     let more : take (k + 1) init ≡ take k init ++ e ∷ [] = take_more init k e lt ∙ ap (λ (f : InitEntry). take k init ++ f ∷ []) there in
     subst (λ (es : List InitEntry). AreFiles es names n ys) (sym more) (subst (λ (zs : List (List Value)). AreFiles (take k init ++ e ∷ []) names n zs) (sym made) (files_step (take k init) e names n xs e.place refl h))
-
-pub initial_none : (names : List (List ℕ)) (n : ℕ) (xs : List Value) → n ≡ length names → xs ≡ replicate n (Number 0) → AreInitial [] names xs
-initial_none names n xs e made = subst (λ (zs : List Value). AreInitial [] names zs) (sym made) (record {
-  each_one = length-replicate n (Number 0) ∙ e;
-  starts = λ k lt. inr (All-nil (λ f. f.place ≡ Location (get_or names k []) → ⊥), get_or-replicate n k (Number 0) NoValue (omega arith));
-})
 
 registers_none : (names : List (List ℕ)) (t : ℕ) → AreRegisters [] names t (blank)
 registers_none names t = record {

@@ -2,21 +2,21 @@
 use Rattle.std.specs.Prelude.{Vec, vec_len, ℕ, zero, suc, ◌≡◌, ◌≤◌, ◌<◌, ◌+◌, ◌*◌, ◌↔◌, length, Bool, true, false, List, [], ◌∷◌, ◌++◌, Contains, All}
 use Rattle.std.specs.List.{sum_by, count_by}
 use Rattle.std.specs.declared.alloc.Global.{Global}
-use Rattle.ppc_semantics.specs.declared.value.Value.{Value}
-use Rattle.ppc_semantics.specs.declared.instruction.Instruction.{Instruction}
-use Rattle.ppc_semantics.specs.declared.instruction.Instruction.TheVariants.{Store, StoreIndexed, Barrier}
-use Rattle.ppc_semantics.specs.declared.instruction.Line.{Line}
-use Rattle.ppc_semantics.specs.declared.instruction.Line.TheVariants.{Label, Does}
-use Rattle.ppc_semantics.specs.declared.instruction.Program.{Program}
+use Rattle.thread_runs.specs.declared.value.Value.{Value}
+use Rattle.thread_runs.specs.declared.instruction.Instruction.{Instruction}
+use Rattle.thread_runs.specs.declared.instruction.Instruction.TheVariants.{Store, StoreIndexed, Barrier}
+use Rattle.thread_runs.specs.declared.instruction.Line.{Line}
+use Rattle.thread_runs.specs.declared.instruction.Line.TheVariants.{Label, Does}
+use Rattle.thread_runs.specs.declared.instruction.Program.{Program}
 use Rattle.ppc_semantics.specs.declared.fault.EvalRefusal.{EvalRefusal}
 use Rattle.ppc_semantics.specs.declared.fault.EvalRefusal.TheVariants.{TooManyEvents, TooManyValues, TooManyRuns, TooManyCombinations}
 use Rattle.ppc_semantics.specs.declared.fault.SpaceFault.{SpaceFault}
 use Rattle.ppc_semantics.specs.declared.fault.SpaceFault.TheVariants.{Refused, OutOfMemory}
-use Rattle.ppc_semantics.specs.Machine.{is_load}
-use Rattle.ppc_semantics.specs.Runs.{Thread, Run, AreRuns, InDomain}
-use Rattle.ppc_semantics.specs.AllRuns.{thread_of}
-use Rattle.ppc_semantics.specs.FreeRuns.{HasFreeRuns}
-use Rattle.ppc_semantics.specs.ValueSet.{IsOne, IsSet}
+use Rattle.thread_runs.specs.Machine.{is_load}
+use Rattle.thread_runs.specs.Runs.{Thread, Run, AreRuns, InDomain}
+use Rattle.thread_runs.specs.AllRuns.{thread_of}
+use Rattle.thread_runs.specs.FreeRuns.{HasFreeRuns}
+use Rattle.thread_runs.specs.ValueSet.{IsOne, IsSet}
 
 -- the first threads of a program, and all
 abbrev pub threads_from : Program → ℕ → List Thread

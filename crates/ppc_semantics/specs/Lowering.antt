@@ -19,17 +19,17 @@ use Rattle.litmus_values.specs.declared.instruction.Instruction as text
 use Rattle.litmus_values.specs.declared.instruction.Instruction.TheVariants as texts
 use Rattle.litmus_values.specs.Value.{Formula, Constant, Holds, Not, Join, formula_of}
 use Rattle.litmus_values.specs.declared.test.Test.{Test}
-use Rattle.ppc_semantics.specs.declared.value.Value.{Value}
-use Rattle.ppc_semantics.specs.declared.value.Value.TheVariants.{Number, Address, NoValue}
-use Rattle.ppc_semantics.specs.declared.instruction.Instruction.{Instruction}
-use Rattle.ppc_semantics.specs.declared.instruction.Instruction.TheVariants.{Immediate, Move, AddImmediate, Operate, Load, LoadIndexed, Store, StoreIndexed, Compare, CompareImmediate, Branch, Jump, Barrier}
-use Rattle.ppc_semantics.specs.declared.instruction.Line.{Line}
-use Rattle.ppc_semantics.specs.declared.instruction.Line.TheVariants.{Label, Does}
-use Rattle.ppc_semantics.specs.declared.instruction.Program.{Program}
+use Rattle.thread_runs.specs.declared.value.Value.{Value}
+use Rattle.thread_runs.specs.declared.value.Value.TheVariants.{Number, Address, NoValue}
+use Rattle.thread_runs.specs.declared.instruction.Instruction.{Instruction}
+use Rattle.thread_runs.specs.declared.instruction.Instruction.TheVariants.{Immediate, Move, AddImmediate, Operate, Load, LoadIndexed, Store, StoreIndexed, Compare, CompareImmediate, Branch, Jump, Barrier}
+use Rattle.thread_runs.specs.declared.instruction.Line.{Line}
+use Rattle.thread_runs.specs.declared.instruction.Line.TheVariants.{Label, Does}
+use Rattle.thread_runs.specs.declared.instruction.Program.{Program}
 use Rattle.ppc_semantics.specs.declared.fault.SpaceFault.{SpaceFault}
 use Rattle.ppc_semantics.specs.declared.fault.SpaceFault.TheVariants.{Refused, OutOfMemory}
-use Rattle.ppc_semantics.specs.declared.run.Run.{Run}
-use Rattle.ppc_semantics.specs.AllRuns.{ShowsRuns, thread_of}
+use Rattle.thread_runs.specs.declared.run.Run.{Run}
+use Rattle.thread_runs.specs.AllRuns.{ShowsRuns, thread_of}
 use Rattle.ppc_semantics.specs.Domain.{IsDomain, IsRefused}
 
 -- names in the order of their bytes, each once

@@ -1,23 +1,16 @@
-//! What a thread does: values, runs, free runs, and the domain of values.
+//! What a test means: its program, the domain of values, and the runs of its threads.
 #![tactic(auto)]
 
-mod enumerate;
 mod fault;
-mod free;
-mod instruction;
 mod lowering;
 mod rounds;
-mod run;
-mod state;
-mod value;
-mod value_set;
-mod walk;
+mod test_runs;
 
-pub use enumerate::{runs, runs_of};
 pub use fault::{EvalRefusal, SpaceFault};
-pub use instruction::{Event, Instruction, Line, Program, RunStep};
 pub use lowering::program;
 pub use rounds::{MAX_COMBINATIONS, MAX_EVENTS, domain, domain_of};
-pub use run::{Domain, Run};
-pub use state::{State, cancels, is_load};
-pub use value::{Comparison, Value};
+pub use test_runs::runs;
+pub use thread_runs::{
+    Comparison, Domain, Event, Instruction, Line, Program, Run, RunStep, State, Value, cancels,
+    is_load, runs_of,
+};

@@ -6,12 +6,11 @@ ghost use Rattle.litmus_values.specs.Value.{formula_of};
 ghost use Rattle.ppc_semantics.specs.Domain.{AreProper};
 ghost use Rattle.ppc_semantics.specs.Lowering as low;
 
-use crate::instruction::{Instruction, Line, Program};
-use crate::value::Value;
-use litmus_ppc::{InitEntry, Place, Proposition, Step, Test, Thread};
+use litmus_ppc::{InitEntry, Instruction as Written, Place, Proposition, Step, Test, Thread};
 use source_text::Name;
 use std::alloc::{AllocError, Global};
 use std::cmp::Ordering;
+use thread_runs::{Instruction, Line, Program, Value};
 
 /// How two names stand in the order of their bytes.
 fn compare(left: &Name, right: &Name) -> Ordering
@@ -247,55 +246,47 @@ fn registers_of(
 }
 
 /// The instruction, with its label by number.
-fn instruction_of(labels: &[Name], instruction: &litmus_ppc::Instruction) -> Instruction
+fn instruction_of(labels: &[Name], instruction: &Written) -> Instruction
     requires { AllPairs low.IsBefore labels.now }
     ensures { result ≡ low.instruction_of labels.now instruction.now }
 {
     match instruction {
-        litmus_ppc::Instruction::LoadImmediate { target, value } => {
+        Written::LoadImmediate { target, value } => {
             Instruction::Immediate(target.number(), value.cast_unsigned())
         }
-        litmus_ppc::Instruction::Move { target, source } => {
-            Instruction::Move(target.number(), source.number())
-        }
-        litmus_ppc::Instruction::AddImmediate {
+        Written::Move { target, source } => { Instruction::Move(target.number(), source.number()) }
+        Written::AddImmediate {
             target,
             left,
             value,
         } => Instruction::AddImmediate(target.number(), left.number(), value.cast_unsigned()),
-        litmus_ppc::Instruction::Compute {
+        Written::Compute {
             operation,
             target,
             left,
             right,
         } => Instruction::Operate(*operation, target.number(), left.number(), right.number()),
-        litmus_ppc::Instruction::Load { target, base } => {
-            Instruction::Load(target.number(), base.number())
-        }
-        litmus_ppc::Instruction::LoadIndexed {
+        Written::Load { target, base } => { Instruction::Load(target.number(), base.number()) }
+        Written::LoadIndexed {
             target,
             base,
             index,
         } => Instruction::LoadIndexed(target.number(), base.number(), index.number()),
-        litmus_ppc::Instruction::Store { source, base } => {
-            Instruction::Store(source.number(), base.number())
-        }
-        litmus_ppc::Instruction::StoreIndexed {
+        Written::Store { source, base } => { Instruction::Store(source.number(), base.number()) }
+        Written::StoreIndexed {
             source,
             base,
             index,
         } => Instruction::StoreIndexed(source.number(), base.number(), index.number()),
-        litmus_ppc::Instruction::Compare { left, right } => {
-            Instruction::Compare(left.number(), right.number())
-        }
-        litmus_ppc::Instruction::CompareImmediate { left, value } => {
+        Written::Compare { left, right } => { Instruction::Compare(left.number(), right.number()) }
+        Written::CompareImmediate { left, value } => {
             Instruction::CompareImmediate(left.number(), value.cast_unsigned())
         }
-        litmus_ppc::Instruction::BranchIf { condition, label } => {
+        Written::BranchIf { condition, label } => {
             Instruction::Branch(*condition, number_of(labels, label))
         }
-        litmus_ppc::Instruction::Branch { label } => Instruction::Jump(number_of(labels, label)),
-        litmus_ppc::Instruction::Fence(fence) => Instruction::Barrier(*fence),
+        Written::Branch { label } => Instruction::Jump(number_of(labels, label)),
+        Written::Fence(fence) => Instruction::Barrier(*fence),
     }
 }
 

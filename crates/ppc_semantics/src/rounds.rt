@@ -2,26 +2,23 @@
 
 ghost use Rattle.std.specs.Prelude.{ℕ, ◌≡◌, ◌≤◌, ◌<◌, ◌+◌, ◌↔◌, ◌-◌, ◌^◌, IfOk, IfErr, OnOk, List, Contains, min, length, vec_len};
 ghost use Rattle.std.specs.List.{AllPairs, count_by};
-ghost use Rattle.ppc_semantics.specs.declared.value.Value.{Value};
-ghost use Rattle.ppc_semantics.specs.ValueSet.{IsOne, IsSet};
-ghost use Rattle.ppc_semantics.specs.Runs.{IsLess, StoresFreely};
-ghost use Rattle.ppc_semantics.specs.AllRuns as all;
-ghost use Rattle.ppc_semantics.specs.FreeRuns.{HasFreeRuns};
-ghost use Rattle.ppc_semantics.specs.FreeWalks.{AreAdded};
+ghost use Rattle.thread_runs.specs.declared.value.Value.{Value};
+ghost use Rattle.thread_runs.specs.ValueSet.{IsOne, IsSet};
+ghost use Rattle.thread_runs.specs.Runs.{IsLess, StoresFreely};
+ghost use Rattle.thread_runs.specs.AllRuns as all;
+ghost use Rattle.thread_runs.specs.FreeRuns.{HasFreeRuns};
+ghost use Rattle.thread_runs.specs.FreeWalks.{AreAdded};
 ghost use Rattle.ppc_semantics.specs.Domain as dom;
 ghost use Rattle.ppc_semantics.specs.Lowering as low;
 
-use crate::enumerate::run_count;
 use crate::fault::{EvalRefusal, SpaceFault};
-use crate::free::{MANY, MAX_VALUES, add_stored, free_count};
-use crate::instruction::{Instruction, Line, Program};
 use crate::lowering::program;
-use crate::run::Domain;
-use crate::state::{State, is_load};
-use crate::value::Value;
-use crate::value_set::add_value;
 use litmus_ppc::Test;
 use std::alloc::{AllocError, Global};
+use thread_runs::{
+    Domain, Instruction, Line, MANY, MAX_VALUES, Program, State, Value, add_stored, add_value,
+    free_count, is_load, run_count,
+};
 
 /// The greatest number of events of a test.
 pub const MAX_EVENTS: usize = 128;
@@ -183,7 +180,7 @@ fn check_round(alloc: Global, program: &Program, values: &[Value]) -> Result<(),
 }
 
 /// How many runs a thread has over the values.
-fn thread_runs(
+fn runs_in_thread(
     alloc: Global,
     program: &Program,
     thread: usize,
@@ -208,7 +205,7 @@ fn check_combinations(alloc: Global, program: &Program, values: &[Value]) -> Res
 {
     let mut product: u64 = 1;
     for thread in 0..program.threads.len() {
-        match thread_runs(alloc, program, thread, values) {
+        match runs_in_thread(alloc, program, thread, values) {
             Ok(count) => {
                 product = product.saturating_mul(count as u64);
             }

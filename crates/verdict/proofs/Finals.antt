@@ -5,8 +5,8 @@ use Rattle.std.specs.List.{filter_map, cons_option}
 use Rattle.std.proofs.lemmas.List.{take_more, append-nil}
 use Rattle.std.proofs.lemmas.List.Elements.{filter_map-append}
 use Rattle.candidates.specs.declared.candidate.Combination.{Combination}
-use Rattle.ppc_semantics.specs.declared.value.Value.{Value}
-use Rattle.ppc_semantics.specs.declared.value.Value.TheVariants.{NoValue}
+use Rattle.thread_runs.specs.declared.value.Value.{Value}
+use Rattle.thread_runs.specs.declared.value.Value.TheVariants.{NoValue}
 use Rattle.verdict.specs.Final.{last_or, stored_at, final_word}
 
 last_push : (d : Value) (xs : List Value) (x : Value) → last_or d (xs ++ x ∷ []) ≡ x

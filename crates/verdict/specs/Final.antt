@@ -6,8 +6,8 @@ use Rattle.candidates.specs.declared.candidate.Action.{Action}
 use Rattle.candidates.specs.declared.candidate.Action.TheVariants as actions
 use Rattle.candidates.specs.declared.candidate.Combination.{Combination}
 use Rattle.candidates.specs.declared.candidate.Space.{Space}
-use Rattle.ppc_semantics.specs.declared.value.Value.{Value}
-use Rattle.ppc_semantics.specs.declared.value.Value.TheVariants as held
+use Rattle.thread_runs.specs.declared.value.Value.{Value}
+use Rattle.thread_runs.specs.declared.value.Value.TheVariants as held
 use Rattle.verdict.specs.declared.answer.FinalValue.{FinalValue}
 use Rattle.verdict.specs.declared.answer.FinalValue.TheVariants as values
 use Rattle.verdict.specs.declared.shown_place.ShownPlace.{ShownPlace}

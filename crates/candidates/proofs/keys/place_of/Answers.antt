@@ -1,6 +1,6 @@
 use Rattle.std.proofs.Common.{◌≡◌, true, length, get_or, arith, rules, tests, sym}
 use Rattle.std.proofs.lemmas.List.Sums.{position_or_len_is}
-use Rattle.ppc_semantics.specs.declared.value.Value.{Value}
+use Rattle.thread_runs.specs.declared.value.Value.{Value}
 use Rattle.candidates.specs.Ways.{same_value}
 use Rattle.candidates.proofs.keys.place_of.Goals as goal
 

@@ -1,5 +1,5 @@
 use Rattle.std.proofs.Common.{ℕ, ◌≡◌, ◌<◌, false, get_or}
-use Rattle.ppc_semantics.specs.declared.value.Value.{Value}
+use Rattle.thread_runs.specs.declared.value.Value.{Value}
 use Rattle.candidates.specs.Ways.{same_value}
 use Rattle.candidates.proofs.keys.place_of.Given as goal
 

@@ -1,7 +1,7 @@
 use Rattle.std.proofs.Common.{ℕ, List, Vec, ◌≡◌, take, length, arith, ap, sym, subst, ◌∙◌}
 use Rattle.std.proofs.Math.Seq.{take-length}
 use Rattle.std.specs.declared.alloc.Global.{Global}
-use Rattle.ppc_semantics.specs.declared.run.Run.{Run}
+use Rattle.thread_runs.specs.declared.run.Run.{Run}
 use Rattle.candidates.specs.Parts.{NamesRuns, AreBelow, HasWritesOf, AreEach, IsMade, AreThreads}
 use Rattle.candidates.specs.declared.part.Sketch.{Sketch}
 use Rattle.candidates.proofs.Parting.{each_length, named_at, threads_more}

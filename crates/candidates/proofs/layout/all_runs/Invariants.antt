@@ -1,7 +1,7 @@
 use Rattle.std.proofs.Common.{Vec, ℕ, ◌≡◌, Some, length, slice_get}
 use Rattle.std.specs.declared.alloc.Global.{Global}
-use Rattle.ppc_semantics.specs.declared.run.Run.{Run}
-use Rattle.ppc_semantics.specs.AllRuns.{ShowsRuns, thread_of}
+use Rattle.thread_runs.specs.declared.run.Run.{Run}
+use Rattle.thread_runs.specs.AllRuns.{ShowsRuns, thread_of}
 use Rattle.candidates.proofs.layout.all_runs.Given as goal
 
 abbrev pub invariant-loop-thread : goal.invariant-loop-thread

@@ -1,7 +1,7 @@
 use Rattle.std.proofs.Common.{List, Vec, arith, subst}
 use Rattle.std.specs.declared.alloc.Global.{Global}
-use Rattle.ppc_semantics.specs.declared.value.Value.{Value}
-use Rattle.ppc_semantics.specs.declared.run.Run.{Run}
+use Rattle.thread_runs.specs.declared.value.Value.{Value}
+use Rattle.thread_runs.specs.declared.run.Run.{Run}
 use Rattle.candidates.specs.Parts.{AreSketches}
 use Rattle.candidates.specs.declared.part.Sketch.{Sketch}
 use Rattle.candidates.proofs.Laying.{each_more}

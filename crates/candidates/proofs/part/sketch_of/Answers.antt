@@ -1,6 +1,6 @@
 use Rattle.std.proofs.Common.{ℕ, ◌≡◌, List, take, length, ap, subst, arith, ◌∙◌}
 use Rattle.std.proofs.Math.Seq.{take-length}
-use Rattle.ppc_semantics.specs.declared.instruction.Event as run
+use Rattle.thread_runs.specs.declared.instruction.Event as run
 use Rattle.candidates.specs.Keys.{AreKeys, bit_of}
 use Rattle.candidates.specs.Parts.{part_events}
 use Rattle.candidates.proofs.part.sketch_of.Goals as goal

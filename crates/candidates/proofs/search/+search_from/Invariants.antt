@@ -1,5 +1,5 @@
 use Rattle.std.proofs.Common.{ℕ, ◌≤◌, Option, min, take, length}
-use Rattle.ppc_semantics.specs.declared.value.Value.{Value}
+use Rattle.thread_runs.specs.declared.value.Value.{Value}
 use Rattle.candidates.specs.Keys.{AreKeys, ThreadsAreKeyed}
 use Rattle.candidates.specs.Search.{begun, tally, combinations, AllFit, Searched}
 use Rattle.candidates.proofs.Searching.{going_on}

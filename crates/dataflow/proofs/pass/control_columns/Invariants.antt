@@ -1,4 +1,4 @@
-use Rattle.ppc_semantics.specs.Runs.{executed}
+use Rattle.thread_runs.specs.Runs.{executed}
 use Rattle.dataflow.proofs.ControlLoop.{IsControlled}
 use Rattle.dataflow.proofs.pass.control_columns.Given as goal
 

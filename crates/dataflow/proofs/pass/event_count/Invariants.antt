@@ -1,5 +1,5 @@
 use Rattle.std.proofs.Common.{◌≡◌, ◌≤◌}
-use Rattle.ppc_semantics.specs.Runs.{executed}
+use Rattle.thread_runs.specs.Runs.{executed}
 use Rattle.dataflow.specs.Chains.{event_place}
 use Rattle.dataflow.proofs.pass.event_count.Given as goal
 

@@ -1,5 +1,5 @@
 use Rattle.std.proofs.Common.{length, false, true}
-use Rattle.ppc_semantics.specs.Runs.{executed}
+use Rattle.thread_runs.specs.Runs.{executed}
 use Rattle.dataflow.specs.Chains.{event_place, is_plain, is_narrow, IsAddr, IsData, IsNeed, IsCtrl, IsCtrlIsync}
 use Rattle.dataflow.proofs.LinkLists.{list_of, reach_loads, ctrl_loads, ctrlisync_loads}
 use Rattle.dataflow.proofs.pass.links.Goals as goal

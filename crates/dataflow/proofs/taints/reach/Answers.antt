@@ -1,5 +1,5 @@
 use Rattle.std.proofs.Common.{ℕ, ap, set, ◌≡◌, sym, ◌∙◌, arith, rules}
-use Rattle.ppc_semantics.specs.Runs.{executed}
+use Rattle.thread_runs.specs.Runs.{executed}
 use Rattle.dataflow.specs.Taints.{IsWithinFile}
 use Rattle.dataflow.specs.Chains.{event_place}
 use Rattle.dataflow.proofs.ReachLoop.{reached_first, reached_event, reached_other, reached_as, instruction_at, below_128}

@@ -1,4 +1,4 @@
-use Rattle.ppc_semantics.specs.Runs.{executed}
+use Rattle.thread_runs.specs.Runs.{executed}
 use Rattle.dataflow.proofs.ReachLoop.{IsReached}
 use Rattle.dataflow.proofs.taints.reach.Given as goal
 

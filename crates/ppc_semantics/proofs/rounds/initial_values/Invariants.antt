@@ -1,7 +1,7 @@
 use Rattle.std.proofs.Common.{◌↔◌, take}
 use Rattle.std.specs.List.{Contains}
-use Rattle.ppc_semantics.specs.declared.value.Value.{Value}
-use Rattle.ppc_semantics.specs.ValueSet.{IsOne, IsSet}
+use Rattle.thread_runs.specs.declared.value.Value.{Value}
+use Rattle.thread_runs.specs.ValueSet.{IsOne, IsSet}
 use Rattle.ppc_semantics.proofs.rounds.initial_values.Given as goal
 
 abbrev pub invariant-loop-value : goal.invariant-loop-value

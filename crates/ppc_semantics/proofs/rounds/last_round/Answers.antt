@@ -1,5 +1,5 @@
 use Rattle.std.proofs.Common.{ℕ, ◌≡◌, ◌+◌, List, arith, sym, subst}
-use Rattle.ppc_semantics.specs.declared.value.Value.{Value}
+use Rattle.thread_runs.specs.declared.value.Value.{Value}
 use Rattle.ppc_semantics.specs.Domain.{load_total, IsRound}
 use Rattle.ppc_semantics.proofs.Bounds.{few_loads, going, going_fault, passed_on, stopped_round, stopped_within}
 use Rattle.ppc_semantics.proofs.rounds.last_round.Goals as goal

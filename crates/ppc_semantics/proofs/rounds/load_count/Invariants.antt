@@ -1,7 +1,7 @@
 use Rattle.std.proofs.Common.{◌≡◌, ◌-◌, ◌^◌, Vec, take, min}
 use Rattle.std.specs.List.{sum_by, count_by}
 use Rattle.std.specs.declared.alloc.Global.{Global}
-use Rattle.ppc_semantics.specs.declared.instruction.Line.{Line}
+use Rattle.thread_runs.specs.declared.instruction.Line.{Line}
 use Rattle.ppc_semantics.specs.Domain.{has_load}
 use Rattle.ppc_semantics.proofs.rounds.load_count.Given as goal
 

@@ -1,7 +1,7 @@
 use Rattle.std.proofs.Common.{ℕ, ◌≡◌, vec_len, arith, subst}
 use Rattle.std.specs.List.{Contains}
-use Rattle.ppc_semantics.specs.Runs.{StoresFreely}
-use Rattle.ppc_semantics.specs.FreeWalks.{AreAdded}
+use Rattle.thread_runs.specs.Runs.{StoresFreely}
+use Rattle.thread_runs.specs.FreeWalks.{AreAdded}
 use Rattle.ppc_semantics.specs.Domain.{threads_from}
 use Rattle.ppc_semantics.proofs.Rising.{next_more}
 use Rattle.ppc_semantics.proofs.rounds.next_values.Goals as goal

@@ -1,7 +1,7 @@
 use Rattle.std.specs.List.{Contains}
-use Rattle.ppc_semantics.specs.ValueSet.{IsSet}
-use Rattle.ppc_semantics.specs.Runs.{StoresFreely}
-use Rattle.ppc_semantics.specs.FreeWalks.{AreAdded}
+use Rattle.thread_runs.specs.ValueSet.{IsSet}
+use Rattle.thread_runs.specs.Runs.{StoresFreely}
+use Rattle.thread_runs.specs.FreeWalks.{AreAdded}
 use Rattle.ppc_semantics.specs.Domain.{threads_from}
 use Rattle.ppc_semantics.proofs.rounds.next_values.Given as goal
 

@@ -1,7 +1,7 @@
 use Rattle.std.proofs.Common.{ℕ, ◌≡◌, List, min, subst}
-use Rattle.ppc_semantics.specs.declared.instruction.Line.{Line}
-use Rattle.ppc_semantics.specs.AllRuns.{thread_of}
-use Rattle.ppc_semantics.specs.FreeRuns.{HasFreeRuns}
+use Rattle.thread_runs.specs.declared.instruction.Line.{Line}
+use Rattle.thread_runs.specs.AllRuns.{thread_of}
+use Rattle.thread_runs.specs.FreeRuns.{HasFreeRuns}
 use Rattle.ppc_semantics.proofs.rounds.thread_count.Goals as goal
 
 pub returns-in-Ok-clause-counted : goal.returns-in-Ok-clause-counted

@@ -1,6 +1,6 @@
 use Rattle.std.proofs.Common.{◌≡◌, ◌<◌, Vec, List, length, get_or, ap, subst, ◌∙◌, arith, rules, HoldsAt}
 use Rattle.std.specs.declared.alloc.Global.{Global}
-use Rattle.ppc_semantics.specs.declared.value.Value.{Value}
+use Rattle.thread_runs.specs.declared.value.Value.{Value}
 use Rattle.candidates.specs.Space.{candidates_of, IsExecution}
 use Rattle.candidates.specs.declared.candidate.Combination.{Combination}
 use Rattle.candidates.proofs.Spaces.{place_within, found_there}

@@ -1,7 +1,7 @@
 use Rattle.std.proofs.Common.{ℕ, List, Vec, ◌≡◌, Some, length, refl, subst, sym, ◌∙◌}
 use Rattle.std.specs.declared.alloc.Global.{Global}
-use Rattle.ppc_semantics.specs.declared.value.Value.{Value}
-use Rattle.ppc_semantics.specs.declared.run.Run.{Run}
+use Rattle.thread_runs.specs.declared.value.Value.{Value}
+use Rattle.thread_runs.specs.declared.run.Run.{Run}
 use Rattle.candidates.specs.Keys.{HasKey, HasStore, bit_of}
 use Rattle.candidates.specs.Parts.{AreSome, initial_from, AreEach, NamesRuns, AreThreads}
 use Rattle.candidates.specs.declared.candidate.Event.{Event}

@@ -1,7 +1,0 @@
-use Rattle.std.proofs.Common.{◌≡◌, drop}
-use Rattle.std.specs.List.{flat_map}
-use Rattle.ppc_semantics.specs.AllRuns.{all_from, begun}
-use Rattle.ppc_semantics.proofs.enumerate.beginnings_of.Given as goal
-
-abbrev pub invariant-loop-line : goal.invariant-loop-line
-invariant-loop-line l = flat_map (all_from l.values (drop l.line-index l.lines)) l.beginnings.items ≡ all_from l.values l.lines (begun l.fn.first)

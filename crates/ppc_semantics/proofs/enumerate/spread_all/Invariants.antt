@@ -1,7 +1,0 @@
-use Rattle.std.proofs.Common.{◌≡◌}
-use Rattle.std.specs.List.{flat_map}
-use Rattle.ppc_semantics.specs.AllRuns.{spread}
-use Rattle.ppc_semantics.proofs.enumerate.spread_all.Given as goal
-
-abbrev pub invariant-loop-beginning : goal.invariant-loop-beginning
-invariant-loop-beginning l = l.next.items ≡ flat_map (spread l.values l.instruction) l.yielded

@@ -1,9 +1,0 @@
-use Rattle.ppc_semantics.specs.ValueSet.{IsSet}
-use Rattle.ppc_semantics.proofs.FreeStores.{IsUnderWay}
-use Rattle.ppc_semantics.proofs.free.add_stored.Given as goal
-
-abbrev pub invariant-loop-place : goal.invariant-loop-place
-invariant-loop-place l = record {
-  rising : IsSet l.stored.items;
-  way : IsUnderWay l.lines l.fn.first l.values l.place l.walks.items l.initial.stored.items l.stored.items;
-}

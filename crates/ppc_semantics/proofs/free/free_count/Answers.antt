@@ -1,6 +1,0 @@
-use Rattle.std.proofs.Common.{rules}
-use Rattle.ppc_semantics.proofs.AllFree.{has_free_runs}
-use Rattle.ppc_semantics.proofs.free.free_count.Goals as goal
-
-pub returns-clause-runs : goal.returns-clause-runs
-returns-clause-runs c = λ first V rising e. has_free_runs c.args.lines.now first V c.args.size _ rising e (search rules)

@@ -1,0 +1,10 @@
+pub mod MapInPlace
+pub mod RunList
+pub mod RunsExact
+pub mod Sorted
+pub mod FreeLines
+pub mod FreeStores
+pub mod Adding
+pub mod AllFree
+pub mod Counts
+pub mod Pairs

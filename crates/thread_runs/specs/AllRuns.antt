@@ -1,0 +1,107 @@
+-- All runs of a thread over a list of values, in order.
+use Rattle.std.specs.Prelude.{Vec, slice_get, slice_index_or, replicate, ℕ, ◌≡◌, Bool, true, false, List, [], ◌∷◌, ◌++◌, map, take, Option, Some, None, if◌then◌else◌, Contains}
+use Rattle.std.specs.List.{flat_map}
+use Rattle.std.specs.declared.alloc.Global.{Global}
+use Rattle.thread_runs.specs.declared.value.Value.{Value}
+use Rattle.thread_runs.specs.declared.value.Value.TheVariants.{Number, NoValue}
+use Rattle.thread_runs.specs.declared.instruction.Instruction.{Instruction}
+use Rattle.thread_runs.specs.declared.instruction.Line.{Line}
+use Rattle.thread_runs.specs.declared.instruction.Line.TheVariants.{Label, Does}
+use Rattle.thread_runs.specs.declared.state.State.{State}
+use Rattle.thread_runs.specs.Machine.{is_load, is_fault, goes}
+use Rattle.thread_runs.specs.declared.value.Comparison.TheVariants.{Equal}
+use Rattle.thread_runs.specs.declared.instruction.Program.{Program}
+use Rattle.thread_runs.specs.declared.instruction.Event.{Event}
+use Rattle.thread_runs.specs.declared.instruction.RunStep.{RunStep}
+use Rattle.thread_runs.specs.declared.run.Run as made
+use Rattle.thread_runs.specs.Runs.{Walk, Run, Thread, AreRuns, started, ended, advanced, passed}
+
+-- the beginning of a run: the values that its loads took, and whether it stopped at a fault
+pub record Beginning : Type 0 where
+  pub values : List Value
+  pub stopped : Bool
+  pub walk : Walk
+
+abbrev pub begun : State → Beginning
+begun s = record { values = []; stopped = false; walk = started s }
+
+-- an instruction that is no load
+abbrev pub over_instruction : Bool → Instruction → Beginning → Beginning
+over_instruction true i b = record b { stopped = true }
+over_instruction false i b = record b { walk = advanced i (goes i b.walk.state) NoValue b.walk }
+
+abbrev pub over_line : Option ℕ → Line → Beginning → Beginning
+over_line (Some l) x b = record b { walk = passed x l b.walk }
+over_line None (Label m) b = b
+over_line None (Does i) b = over_instruction (is_fault i b.walk.state) i b
+
+abbrev pub gone_over : Line → Beginning → Beginning
+gone_over x b = if b.stopped then b else over_line b.walk.seeking x b
+
+-- whether the run goes on by executing an instruction, which is a fault or not
+abbrev pub goes_on : Bool → Option ℕ → Bool → Bool
+goes_on false None false = true
+goes_on _ _ _ = false
+
+abbrev pub executes : Instruction → Beginning → Bool
+executes i b = goes_on b.stopped b.walk.seeking (is_fault i b.walk.state)
+
+-- the load takes the value
+abbrev pub with_load : Instruction → Beginning → Value → Beginning
+with_load i b v = record { values = b.values ++ v ∷ []; stopped = false; walk = advanced i false v b.walk }
+
+abbrev pub spread : List Value → Instruction → Beginning → List Beginning
+spread V i b = if executes i b then map (with_load i b) V else gone_over (Does i) b ∷ []
+
+-- what the beginning becomes by one line
+abbrev pub next : List Value → Line → Beginning → List Beginning
+next V (Label m) b = gone_over (Label m) b ∷ []
+next V (Does i) b = if is_load i then spread V i b else gone_over (Does i) b ∷ []
+
+-- what it becomes by all lines
+abbrev pub all_from : List Value → List Line → Beginning → List Beginning
+all_from V [] b = b ∷ []
+all_from V (x ∷ xs) b = flat_map (all_from V xs) (next V x b)
+
+-- a beginning that is whole is a run
+abbrev pub whole : Beginning → Run
+whole b = record { values = b.values; outcome = ended b.stopped b.walk }
+
+-- what a run shows
+pub record Shown : Type 0 where
+  pub values : List Value
+  pub steps : List RunStep
+  pub events : List Event
+  pub registers : List Value
+  pub faulted : Bool
+
+-- its events, of which at most 128 are kept
+abbrev pub shown_of : Run → Shown
+shown_of r = record {
+  values = r.values;
+  steps = r.outcome.walk.steps;
+  events = take 128 r.outcome.walk.events;
+  registers = r.outcome.walk.state.registers;
+  faulted = r.outcome.faulted;
+}
+
+abbrev pub shown_whole : Beginning → Shown
+shown_whole b = shown_of (whole b)
+
+abbrev pub shown : made.Run → Shown
+shown r = record { values = r.values.items; steps = r.steps.items; events = r.events.items; registers = r.registers; faulted = r.faulted }
+
+-- the list shows all runs of the thread whose loads take these values, in order
+abbrev pub ShowsRuns : Thread → List Value → List made.Run → Type 0
+ShowsRuns t V runs = (all : List Run) × AreRuns t (Contains V) all × (map shown runs ≡ map shown_of all)
+
+-- the thread of a program, with the state in which it begins
+abbrev pub lines_at : Option (Vec Line Global) → List Line
+lines_at None = []
+lines_at (Some v) = v.items
+
+abbrev pub first_of : Program → ℕ → State
+first_of p t = record { registers = slice_index_or p.registers.items t (replicate 32 (Number 0)); compared = Equal }
+
+abbrev pub thread_of : Program → ℕ → Thread
+thread_of p t = record { lines = lines_at (slice_get p.threads.items t); first = first_of p t }

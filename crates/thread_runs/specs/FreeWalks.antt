@@ -1,0 +1,89 @@
+-- Free runs on their way, and what they store.
+use Rattle.std.specs.Prelude.{ℕ, ◌≡◌, ◌≤◌, ◌⊎◌, Bool, true, false, List, [], ◌∷◌, ◌++◌, map, Option, Some, None, Contains, All, length, nat_lt}
+use Rattle.thread_runs.specs.declared.value.Value.{Value}
+use Rattle.thread_runs.specs.declared.value.Value.TheVariants.{NoValue}
+use Rattle.thread_runs.specs.declared.instruction.Instruction.{Instruction}
+use Rattle.thread_runs.specs.declared.instruction.Instruction.TheVariants.{Store, StoreIndexed}
+use Rattle.thread_runs.specs.declared.instruction.Line.{Line}
+use Rattle.thread_runs.specs.declared.instruction.Line.TheVariants.{Label, Does}
+use Rattle.thread_runs.specs.declared.instruction.Event.TheVariants.{Writes}
+use Rattle.thread_runs.specs.declared.state.State.{State}
+use Rattle.thread_runs.specs.declared.free.FreeWalk.{FreeWalk}
+use Rattle.thread_runs.specs.Machine.{after, register, is_load, is_branch, target}
+use Rattle.thread_runs.specs.Runs.{Outcome, found_at, free_run_of}
+use Rattle.thread_runs.specs.FreeRuns.{count_free}
+use Rattle.thread_runs.specs.ValueSet.{IsOne}
+
+abbrev pub walked : Instruction → Bool → Value → FreeWalk → FreeWalk
+walked i b v w = record { state = after i v w.state; seeking = target i b }
+
+-- over a line that is passed, or that is no load and no branch
+abbrev pub over_line : Option ℕ → Line → FreeWalk → FreeWalk
+over_line (Some l) x w = record w { seeking = found_at x l }
+over_line None (Label m) w = w
+over_line None (Does i) w = walked i false NoValue w
+
+abbrev pub over : Line → FreeWalk → FreeWalk
+over x w = over_line w.seeking x w
+
+-- what it stores there
+abbrev pub stored_by : Instruction → State → List Value
+stored_by (Store d a) s = register s d ∷ []
+stored_by (StoreIndexed d a b) s = register s d ∷ []
+stored_by _ s = []
+
+abbrev pub stored_on : Option ℕ → Line → FreeWalk → List Value
+stored_on (Some l) x w = []
+stored_on None (Label m) w = []
+stored_on None (Does i) w = stored_by i w.state
+
+abbrev pub stored_at : Line → FreeWalk → List Value
+stored_at x w = stored_on w.seeking x w
+
+-- what it becomes by a line: a load takes each value, and a branch goes on, and there, where free runs do
+abbrev pub one_if : Bool → FreeWalk → List FreeWalk
+one_if true w = w ∷ []
+one_if false w = []
+
+abbrev pub chosen : Bool → Bool → Instruction → FreeWalk → List FreeWalk
+chosen on there i w = one_if on (walked i false NoValue w) ++ one_if there (walked i true NoValue w)
+
+abbrev pub loaded : List Value → Instruction → FreeWalk → List FreeWalk
+loaded V i w = map (λ v. walked i false v w) V
+
+abbrev pub does_next : Bool → Bool → List Value → Bool → Bool → Instruction → FreeWalk → List FreeWalk
+does_next true branches V on there i w = loaded V i w
+does_next false true V on there i w = chosen on there i w
+does_next false false V on there i w = walked i false NoValue w ∷ []
+
+abbrev pub next_on : List Value → Bool → Bool → Option ℕ → Line → FreeWalk → List FreeWalk
+next_on V on there (Some l) x w = over_line (Some l) x w ∷ []
+next_on V on there None (Label m) w = w ∷ []
+next_on V on there None (Does i) w = does_next (is_load i) (is_branch i) V on there i w
+
+abbrev pub next_of : List Value → Bool → Bool → Line → FreeWalk → List FreeWalk
+next_of V on there x w = next_on V on there w.seeking x w
+
+-- whether free runs go on behind a line
+abbrev pub goes_by : ℕ → List Line → Bool → Line → Bool
+goes_by size xs taken (Label m) = false
+goes_by size xs taken (Does i) = nat_lt 0 (count_free size xs (target i taken))
+
+-- some of the walks stores the value on the line
+abbrev pub SomeStores : Line → List FreeWalk → Value → Type 0
+SomeStores x walks v = (w : FreeWalk) × Contains walks w × Contains (stored_at x w) v
+
+-- some free run of the lines from the state, whose loads take the values, stores the value
+abbrev pub Stores : List Line → State → List Value → Value → Type 0
+Stores lines first V v =
+    (bs : List Bool) × (vs : List Value) × All (Contains V) vs
+    × (f : Outcome) × (free_run_of lines first bs vs ≡ Some f)
+    × (a : Value) × Contains f.walk.events (Writes a v)
+
+-- the values with the property are added, all of them where there are not over 16 values then
+pub record AreAdded (P : Value → Type 0) (old new : List Value) : Type 0 where
+  pub longer : length old ≤ length new
+  pub unchanged : length old ≡ length new → old ≡ new
+  pub kept : (v : Value) → Contains old v → Contains new v
+  pub sound : (v : Value) → Contains new v → Contains old v ⊎ (P v × IsOne v)
+  pub whole : length new ≤ 16 → (v : Value) → P v → IsOne v → Contains new v

@@ -1,0 +1,6 @@
+pub mod Machine
+pub mod Runs
+pub mod AllRuns
+pub mod ValueSet
+pub mod FreeRuns
+pub mod FreeWalks

@@ -1,0 +1,159 @@
+-- The runs of a thread, its free runs, and the domain.
+use Rattle.std.specs.Prelude.{ℕ, zero, suc, ◌≡◌, ◌⊎◌, ◌↔◌, ◌<◌, Bool, true, false, nat_eq, List, [], ◌∷◌, ◌++◌, Option, Some, None, if◌then◌else◌, slice_index_or, Contains, All}
+use Rattle.thread_runs.specs.declared.value.Value.{Value}
+use Rattle.std.specs.List.{AllPairs}
+use Rattle.thread_runs.specs.declared.value.Value.TheVariants.{Number, Address, NoValue}
+use Rattle.thread_runs.specs.declared.instruction.Instruction.{Instruction}
+use Rattle.thread_runs.specs.declared.instruction.Instruction.TheVariants.{Jump}
+use Rattle.thread_runs.specs.declared.instruction.Line.{Line}
+use Rattle.thread_runs.specs.declared.instruction.Line.TheVariants.{Label, Does}
+use Rattle.thread_runs.specs.declared.instruction.RunStep.{RunStep}
+use Rattle.thread_runs.specs.declared.instruction.Event.{Event}
+use Rattle.thread_runs.specs.declared.instruction.Event.TheVariants.{Writes}
+pub use Rattle.thread_runs.specs.Machine.{State, offset, after, event_of, is_fault, is_load, is_branch, goes, target}
+
+-- a thread on its way: the label that it is looking for, and what it has done
+pub record Walk : Type 0 where
+  pub state : State
+  pub seeking : Option ℕ
+  pub steps : List RunStep
+  pub events : List Event
+
+pub record Outcome : Type 0 where
+  pub faulted : Bool
+  pub walk : Walk
+
+abbrev pub started : State → Walk
+started s = record { state = s; seeking = None; steps = []; events = [] }
+
+abbrev pub ended : Bool → Walk → Outcome
+ended f w = record { faulted = f; walk = w }
+
+-- one instruction more, with the value that it loads, and with its branch taken or not
+abbrev pub advanced : Instruction → Bool → Value → Walk → Walk
+advanced i b v w = record {
+  state = after i v w.state;
+  seeking = target i b;
+  steps = w.steps ++ record { instruction = i; loaded = v } ∷ [];
+  events = w.events ++ event_of i v w.state;
+}
+
+-- a line that is passed over: the label that is looked for is found here
+abbrev pub found_at : Line → ℕ → Option ℕ
+found_at (Label m) l = if nat_eq l m then None else Some l
+found_at (Does i) l = Some l
+
+abbrev pub passed : Line → ℕ → Walk → Walk
+passed x l w = record w { seeking = found_at x l }
+
+-- what comes next: the walk and the values that are left
+abbrev pub Next : Type 0
+Next = Walk → List Value → Option Outcome
+
+-- the walk ends here, if no value is left
+abbrev pub ends : Bool → Next
+ends f w [] = Some (ended f w)
+ends f w (v ∷ vs) = None
+
+-- a load takes the next value
+abbrev pub supplied : Bool → Instruction → Bool → Next → Next
+supplied true i b go w [] = None
+supplied true i b go w (v ∷ vs) = go (advanced i b v w) vs
+supplied false i b go w vs = go (advanced i b NoValue w) vs
+
+-- an instruction stops the run if it is a fault
+abbrev pub obeyed : Bool → Instruction → Next → Next
+obeyed true i go w vs = ends true w vs
+obeyed false i go w vs = supplied (is_load i) i (goes i w.state) go w vs
+
+abbrev pub one : Option ℕ → Line → Next → Next
+one (Some l) x go w vs = go (passed x l w) vs
+one None (Label m) go w vs = go w vs
+one None (Does i) go w vs = obeyed (is_fault i w.state) i go w vs
+
+-- the run whose loads take these values in order, if it executes just as many
+abbrev pub run_from : List Line → Next
+run_from [] w vs = ends false w vs
+run_from (x ∷ xs) w vs = one w.seeking x (run_from xs) w vs
+
+abbrev pub run_of : List Line → State → List Value → Option Outcome
+run_of lines s vs = run_from lines (started s) vs
+
+-- a free run: a branch takes the next choice, and nothing is a fault
+abbrev pub FreeNext : Type 0
+FreeNext = Walk → List Bool → List Value → Option Outcome
+
+abbrev pub free_ends : FreeNext
+free_ends w [] vs = ends false w vs
+free_ends w (b ∷ bs) vs = None
+
+abbrev pub free_obeyed : Bool → Instruction → FreeNext → FreeNext
+free_obeyed true i go w [] vs = None
+free_obeyed true i go w (b ∷ bs) vs = supplied (is_load i) i b (λ u us. go u bs us) w vs
+free_obeyed false i go w bs vs = supplied (is_load i) i false (λ u us. go u bs us) w vs
+
+abbrev pub free_one : Option ℕ → Line → FreeNext → FreeNext
+free_one (Some l) x go w bs vs = go (passed x l w) bs vs
+free_one None (Label m) go w bs vs = go w bs vs
+free_one None (Does i) go w bs vs = free_obeyed (is_branch i) i go w bs vs
+
+abbrev pub free_from : List Line → FreeNext
+free_from [] w bs vs = free_ends w bs vs
+free_from (x ∷ xs) w bs vs = free_one w.seeking x (free_from xs) w bs vs
+
+abbrev pub free_run_of : List Line → State → List Bool → List Value → Option Outcome
+free_run_of lines s bs vs = free_from lines (started s) bs vs
+
+pub record Thread : Type 0 where
+  pub lines : List Line
+  pub first : State
+
+-- some free run whose loads take values with the property stores the value
+abbrev pub StoresFreely : List Thread → (Value → Type 0) → Value → Type 0
+StoresFreely threads P v =
+    (t : Thread) × Contains threads t × (bs : List Bool) × (vs : List Value) × All P vs
+    × (f : Outcome) × (free_run_of t.lines t.first bs vs ≡ Some f)
+    × (a : Value) × Contains f.walk.events (Writes a v)
+
+-- the values after k rounds
+abbrev pub InDomain : List Value → List Thread → ℕ → Value → Type 0
+InDomain initial threads zero v = Contains initial v
+InDomain initial threads (suc k) v =
+    InDomain initial threads k v ⊎ (StoresFreely threads (InDomain initial threads k) v × (v ≡ NoValue → ⊥))
+
+-- the instruction at a place, and the value that it loaded
+abbrev pub nothing : RunStep
+nothing = record { instruction = Jump 0; loaded = NoValue }
+
+abbrev pub executed : List RunStep → ℕ → Instruction
+executed steps n = (slice_index_or steps n nothing).instruction
+
+abbrev pub loaded_at : List RunStep → ℕ → Value
+loaded_at steps n = (slice_index_or steps n nothing).loaded
+
+-- a run with the values that it was given
+pub record Run : Type 0 where
+  pub values : List Value
+  pub outcome : Outcome
+
+-- the run is one of the thread, and takes values with the property
+abbrev pub IsRun : Thread → (Value → Type 0) → Run → Type 0
+IsRun t P r = All P r.values × (run_of t.lines t.first r.values ≡ Some r.outcome)
+
+-- the first list comes before the second where they first differ
+abbrev pub IsBefore : (Value → Value → Type 0) → List Value → List Value → Type 0
+IsBefore Lt xs [] = ⊥
+IsBefore Lt [] (y ∷ ys) = Unit {0}
+IsBefore Lt (x ∷ xs) (y ∷ ys) = Lt x y ⊎ ((x ≡ y) × IsBefore Lt xs ys)
+
+-- numbers first, rising as signed numbers, then addresses
+abbrev pub IsLess : Value → Value → Type 0
+IsLess (Number m) (Number n) = offset m < offset n
+IsLess (Number m) (Address l) = Unit {0}
+IsLess (Address k) (Address l) = k < l
+IsLess _ _ = ⊥
+
+-- the list has just the runs of the thread over the values with the property, in lexicographic order
+pub record AreRuns (t : Thread) (P : Value → Type 0) (runs : List Run) : Type 0 where
+  pub rising : AllPairs (λ r s. IsBefore IsLess r.values s.values) runs
+  pub exact : (r : Run) → Contains runs r ↔ IsRun t P r

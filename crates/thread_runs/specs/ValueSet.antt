@@ -1,0 +1,25 @@
+-- Sets of values as lists in their order.
+use Rattle.std.specs.Prelude.{ℕ, ◌≡◌, ◌<◌, ◌≤◌, ◌⊎◌, ◌↔◌, List, length, slice_index_or, Contains}
+use Rattle.std.specs.List.{All, AllPairs}
+use Rattle.thread_runs.specs.declared.value.Value.{Value}
+use Rattle.thread_runs.specs.declared.value.Value.TheVariants.{NoValue}
+use Rattle.thread_runs.specs.Runs.{IsLess}
+
+-- it is a number or an address
+abbrev pub IsOne : Value → Type 0
+IsOne v = v ≡ NoValue → ⊥
+
+-- values in their order, each once
+pub record IsSet (values : List Value) : Type 0 where
+  pub rising : AllPairs IsLess values
+  pub proper : All IsOne values
+
+-- the new list has what the old one has, and the value if it is one
+abbrev pub IsAdded : Value → List Value → List Value → Type 0
+IsAdded value old new = (v : Value) → Contains new v ↔ (Contains old v ⊎ ((v ≡ value) × IsOne value))
+
+-- the values before the place are less than the value, and it is less than the one there
+pub record IsPlaceOf (value : Value) (values : List Value) (place : ℕ) : Type 0 where
+  pub within : place ≤ length values
+  pub before : (k : ℕ) → k < place → IsLess (slice_index_or values k value) value
+  pub behind : place < length values → IsLess value (slice_index_or values place value)

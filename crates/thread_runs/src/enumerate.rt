@@ -1,0 +1,288 @@
+//! All runs of a thread over a list of values.
+ghost use Rattle.std.specs.Prelude.{◌≡◌, ◌++◌, ◌<◌, ◌≤◌, IfOk, OnOk, map, take, length, [], vec_len};
+ghost use Rattle.std.specs.List.{AllPairs};
+ghost use Rattle.thread_runs.specs.Runs.{IsLess};
+ghost use Rattle.std.specs.List.{flat_map};
+ghost use Rattle.thread_runs.specs.AllRuns as all;
+
+use crate::instruction::{Event, Instruction, Line, Program};
+use crate::run::{Domain, Run};
+use crate::state::{State, is_load};
+use crate::value::Value;
+use crate::walk::Walk;
+use arrayvec::ArrayVec;
+use std::alloc::{AllocError, Global};
+use std::marker::Model;
+
+/// The beginning of a run: the values that its loads took, and whether it stopped at a fault.
+#[derive(Drop)]
+struct Beginning {
+    values: Vec<Value>,
+    stopped: bool,
+    walk: Walk,
+}
+
+impl Model for Beginning {
+    ghost use Rattle.thread_runs.specs.AllRuns as all;
+
+    ghost Value = { all.Beginning };
+
+    ghost view = { λ b. record { values = b.values.items; stopped = b.stopped; walk = b.walk } };
+}
+
+impl Beginning {
+    fn new(alloc: Global, first: State) -> Beginning
+        ensures { result ≡ all.begun first }
+    {
+        Beginning {
+            values: Vec::new(alloc),
+            stopped: false,
+            walk: Walk::started(alloc, first),
+        }
+    }
+
+    /// Whether it goes on by executing the instruction.
+    fn executes(&self, instruction: Instruction) -> bool
+        ensures { result ≡ all.executes instruction self.now }
+    {
+        if self.stopped {
+            return false;
+        }
+        match self.walk.seeking() {
+            Some(_) => false,
+            None => !self.walk.is_fault(instruction),
+        }
+    }
+
+    /// Goes over a line that is no load, or that it does not execute.
+    fn go_over(&mut self, line: Line) -> Result<(), AllocError>
+        ensures { OnOk result (self.new ≡ all.gone_over line self.old) }
+    {
+        if self.stopped {
+            return Ok(());
+        }
+        match self.walk.seeking() {
+            Some(label) => self.walk.pass(line, label),
+            None => match line {
+                Line::Label(_) => {}
+                Line::Does(instruction) => {
+                    if self.walk.is_fault(instruction) {
+                        self.stopped = true;
+                    } else {
+                        let taken = self.walk.goes(instruction);
+                        self.walk.advance(instruction, taken, Value::NoValue)?;
+                    }
+                }
+            },
+        }
+        Ok(())
+    }
+
+    /// What follows where the load takes the value.
+    fn with_load(
+        &self,
+        alloc: Global,
+        instruction: Instruction,
+        value: Value,
+    ) -> Result<Beginning, AllocError>
+        ensures { IfOk result (λ b. b ≡ all.with_load instruction self.now value) }
+    {
+        let mut values = Vec::from_slice(alloc, &self.values)?;
+        values.push(value)?;
+        let mut walk = self.walk.copied(alloc)?;
+        walk.advance(instruction, false, value)?;
+        Ok(Beginning {
+            values,
+            stopped: false,
+            walk,
+        })
+    }
+
+    /// A beginning that is whole, as a run.
+    fn into_run(self) -> Run
+        ensures { all.shown result ≡ all.shown_of (all.whole self) }
+    {
+        let Beginning {
+            values,
+            stopped,
+            walk,
+        } = self;
+        let events = bounded(walk.events());
+        let registers = walk.registers();
+        Run {
+            values,
+            steps: walk.into_steps(),
+            events,
+            registers,
+            faulted: stopped,
+        }
+    }
+}
+
+fn kept(events: &[Event]) -> ArrayVec<Event, 128>
+    requires { length events.now ≤ 128 }
+    ensures { result.items ≡ events.now }
+{
+    let mut kept = ArrayVec::new();
+    for event in events {
+        kept.push(*event);
+    }
+    kept
+}
+
+/// The first 128 of the events.
+fn bounded(events: &[Event]) -> ArrayVec<Event, 128>
+    ensures { result.items ≡ take 128 events.now }
+{
+    if events.len() <= 128 {
+        kept(events)
+    } else {
+        kept(&events[..128])
+    }
+}
+
+/// One beginning for each value that the load takes.
+fn add_loads(
+    alloc: Global,
+    beginning: &Beginning,
+    instruction: Instruction,
+    values: &[Value],
+    next: &mut Vec<Beginning>,
+) -> Result<(), AllocError>
+    ensures { OnOk result (next.new.items ≡ next.old.items ++ map (all.with_load instruction beginning.now) values.now) }
+{
+    for value in values {
+        next.push(beginning.with_load(alloc, instruction, *value)?)?;
+    }
+    Ok(())
+}
+
+/// What the beginning becomes by a load.
+fn spread(
+    alloc: Global,
+    mut beginning: Beginning,
+    instruction: Instruction,
+    values: &[Value],
+    next: &mut Vec<Beginning>,
+) -> Result<(), AllocError>
+    ensures { OnOk result (next.new.items ≡ next.old.items ++ all.spread values.now instruction beginning) }
+{
+    if beginning.executes(instruction) {
+        add_loads(alloc, &beginning, instruction, values, next)?;
+    } else {
+        beginning.go_over(Line::Does(instruction))?;
+        next.push(beginning)?;
+    }
+    Ok(())
+}
+
+fn spread_all(
+    alloc: Global,
+    beginnings: Vec<Beginning>,
+    instruction: Instruction,
+    values: &[Value],
+) -> Result<Vec<Beginning>, AllocError>
+    ensures { IfOk result (λ v. v.items ≡ flat_map (all.spread values.now instruction) beginnings.items) }
+{
+    let mut next = Vec::new(alloc);
+    for beginning in beginnings {
+        spread(alloc, beginning, instruction, values, &mut next)?;
+    }
+    Ok(next)
+}
+
+/// All beginnings go over a line that is no load.
+fn go_over_all(beginnings: &mut Vec<Beginning>, line: Line) -> Result<(), AllocError>
+    ensures { OnOk result (beginnings.new.items ≡ map (all.gone_over line) beginnings.old.items) }
+{
+    for beginning in beginnings.iter_mut() {
+        beginning.go_over(line)?;
+    }
+    Ok(())
+}
+
+/// What the beginnings become by one line.
+#[tactic(auto, using(crate::proofs::RunList::label_next, crate::proofs::RunList::plain_next, crate::proofs::RunList::load_next))]
+fn go_on(
+    alloc: Global,
+    mut beginnings: Vec<Beginning>,
+    line: Line,
+    values: &[Value],
+) -> Result<Vec<Beginning>, AllocError>
+    ensures { IfOk result (λ v. v.items ≡ flat_map (all.next values.now line) beginnings.items) }
+{
+    match line {
+        Line::Label(_) => {
+            go_over_all(&mut beginnings, line)?;
+            Ok(beginnings)
+        }
+        Line::Does(instruction) => {
+            if is_load(instruction) {
+                return spread_all(alloc, beginnings, instruction, values);
+            }
+            go_over_all(&mut beginnings, line)?;
+            Ok(beginnings)
+        }
+    }
+}
+
+/// All runs, as beginnings that are whole.
+fn beginnings_of(
+    alloc: Global,
+    lines: &[Line],
+    first: State,
+    values: &[Value],
+) -> Result<Vec<Beginning>, AllocError>
+    ensures { IfOk result (λ v. v.items ≡ all.all_from values.now lines.now (all.begun first)) }
+{
+    let mut beginnings = Vec::new(alloc);
+    beginnings.push(Beginning::new(alloc, first))?;
+    for line in lines {
+        beginnings = go_on(alloc, beginnings, *line, values)?;
+    }
+    Ok(beginnings)
+}
+
+/// How many runs the thread has over the values.
+pub fn run_count(
+    alloc: Global,
+    lines: &[Line],
+    first: State,
+    values: &[Value],
+) -> Result<usize, AllocError>
+    ensures { IfOk result (λ n. n ≡ length (all.all_from values.now lines.now (all.begun first))) }
+{
+    Ok(beginnings_of(alloc, lines, first, values)?.len())
+}
+
+fn shown_runs(alloc: Global, beginnings: Vec<Beginning>) -> Result<Vec<Run>, AllocError>
+    ensures { IfOk result (λ v. map all.shown v.items ≡ map all.shown_whole beginnings.items) }
+{
+    let mut runs = Vec::new(alloc);
+    for beginning in beginnings {
+        runs.push(beginning.into_run())?;
+    }
+    Ok(runs)
+}
+
+/// The runs of the thread over the domain, in lexicographic order of their value lists. A
+/// thread that is not there has none. Errors: want of memory.
+pub fn runs_of(
+    alloc: Global,
+    program: &Program,
+    thread: usize,
+    domain: &Domain,
+) -> Result<Vec<Run>, AllocError>
+    ensures runs { IfOk result (λ v. AllPairs IsLess domain.now.values.items → thread < vec_len program.now.threads → all.ShowsRuns (all.thread_of program.now thread) domain.now.values.items v.items) }
+    ensures no_thread { IfOk result (λ v. vec_len program.now.threads ≤ thread → v.items ≡ []) }
+{
+    match program.threads.get(thread) {
+        Some(lines) => {
+            let first = State::first(program, thread);
+            let beginnings = beginnings_of(alloc, lines, first, &domain.values)?;
+            let runs = shown_runs(alloc, beginnings)?;
+            Ok(runs)
+        }
+        None => Ok(Vec::new(alloc)),
+    }
+}

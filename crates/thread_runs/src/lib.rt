@@ -1,0 +1,19 @@
+//! What one thread does: its machine, its runs over a list of values, and its free runs.
+#![tactic(auto)]
+
+mod enumerate;
+mod free;
+mod instruction;
+mod run;
+mod state;
+mod value;
+mod value_set;
+mod walk;
+
+pub use enumerate::{run_count, runs_of};
+pub use free::{MANY, MAX_VALUES, add_stored, free_count};
+pub use instruction::{Event, Instruction, Line, Program, RunStep};
+pub use run::{Domain, Run};
+pub use state::{State, cancels, is_load};
+pub use value::{Comparison, Value};
+pub use value_set::add_value;

@@ -1,0 +1,79 @@
+//! Sets of values in their order.
+ghost use Rattle.std.specs.Prelude.{◌≡◌, ◌≤◌, ◌↔◌, OnOk, length, IfSome, IsTrue, None, Contains, All};
+ghost use Rattle.std.specs.declared.cmp.Ordering.TheVariants.{Less, Equal, Greater};
+ghost use Rattle.thread_runs.specs.Machine as machine;
+ghost use Rattle.thread_runs.specs.Runs.{IsLess};
+ghost use Rattle.thread_runs.specs.ValueSet.{IsOne, IsSet, IsAdded, IsPlaceOf};
+
+use crate::value::{Value, is_value};
+use std::alloc::AllocError;
+use std::cmp::Ordering;
+
+/// The place of a number among the signed numbers.
+fn offset(n: u32) -> u32
+    ensures { result ≡ machine.offset n }
+{
+    n.wrapping_add(0x8000_0000)
+}
+
+/// Whether the first value comes before the second: numbers first, rising as signed numbers, then
+/// addresses.
+fn is_less(v: Value, w: Value) -> bool
+    ensures { IsTrue result ↔ IsLess v w }
+{
+    match (v, w) {
+        (Value::Number(m), Value::Number(n)) => offset(m) < offset(n),
+        (Value::Number(_), Value::Address(_)) => true,
+        (Value::Address(k), Value::Address(l)) => k < l,
+        _ => false,
+    }
+}
+
+/// Which of the two values comes first.
+fn order(v: Value, w: Value) -> Ordering
+    ensures less { result ≡ Less ↔ IsLess v w }
+    ensures equal { IsOne v → IsOne w → result ≡ Equal ↔ v ≡ w }
+    ensures greater { result ≡ Greater ↔ IsLess w v }
+{
+    if is_less(v, w) {
+        Ordering::Less
+    } else if is_less(w, v) {
+        Ordering::Greater
+    } else {
+        Ordering::Equal
+    }
+}
+
+/// The place in the order where the value is missing, and none where it is among the values.
+fn missing_place(values: &[Value], value: Value) -> Option<usize>
+    requires one { IsOne value }
+    requires proper { All IsOne values.now }
+    ensures there { result ≡ None → Contains values.now value }
+    ensures missing { IfSome result (λ place. IsPlaceOf value values.now place) }
+{
+    for place in 0..values.len() {
+        match order(values[place], value) {
+            Ordering::Less => {}
+            Ordering::Equal => return None,
+            Ordering::Greater => return Some(place),
+        }
+    }
+    Some(values.len())
+}
+
+/// Adds the value, if it is one, at its place in the order.
+pub fn add_value(values: &mut Vec<Value>, value: Value) -> Result<(), AllocError>
+    requires { IsSet values.old.items }
+    ensures set { IsSet values.new.items }
+    ensures longer { length values.old.items ≤ length values.new.items }
+    ensures unchanged { length values.old.items ≡ length values.new.items → values.old.items ≡ values.new.items }
+    ensures added { OnOk result (IsAdded value values.old.items values.new.items) }
+{
+    if !is_value(value) {
+        return Ok(());
+    }
+    if let Some(place) = missing_place(values, value) {
+        values.insert(place, value)?;
+    }
+    Ok(())
+}

@@ -1,0 +1,125 @@
+//! A thread on its way through its lines.
+ghost use Rattle.std.specs.Prelude.{◌≡◌, IfOk, OnOk};
+ghost use Rattle.thread_runs.specs.Runs as runs;
+
+use crate::instruction::{Event, Instruction, Line, RunStep};
+use crate::state::{State, apply, event, goes, is_fault, target};
+use crate::value::Value;
+use std::alloc::{AllocError, Global};
+use std::marker::Model;
+
+/// The label that a thread is looking for, and what it has done.
+#[derive(Drop)]
+pub struct Walk {
+    state: State,
+    seeking: Option<usize>,
+    steps: Vec<RunStep>,
+    events: Vec<Event>,
+}
+
+impl Model for Walk {
+    ghost use Rattle.thread_runs.specs.Runs as runs;
+
+    ghost Value = { runs.Walk };
+
+    ghost view = { λ w. record { state = w.state; seeking = w.seeking; steps = w.steps.items; events = w.events.items } };
+}
+
+impl Walk {
+    /// A walk at the first line, where nothing is done.
+    pub fn started(alloc: Global, state: State) -> Walk
+        ensures { result ≡ runs.started state }
+    {
+        Walk {
+            state,
+            seeking: None,
+            steps: Vec::new(alloc),
+            events: Vec::new(alloc),
+        }
+    }
+
+    /// The walk once more.
+    pub fn copied(&self, alloc: Global) -> Result<Walk, AllocError>
+        ensures { IfOk result (λ w. w ≡ self.now) }
+    {
+        Ok(Walk {
+            state: self.state,
+            seeking: self.seeking,
+            steps: Vec::from_slice(alloc, &self.steps)?,
+            events: Vec::from_slice(alloc, &self.events)?,
+        })
+    }
+
+    /// One instruction more.
+    pub fn advance(
+        &mut self,
+        instruction: Instruction,
+        taken: bool,
+        loaded: Value,
+    ) -> Result<(), AllocError>
+        ensures { OnOk result (self.new ≡ runs.advanced instruction taken loaded self.old) }
+    {
+        if let Some(event) = event(instruction, loaded, &self.state) {
+            self.events.push(event)?;
+        }
+        self.steps.push(RunStep {
+            instruction,
+            loaded,
+        })?;
+        apply(instruction, loaded, &mut self.state);
+        self.seeking = target(instruction, taken);
+        Ok(())
+    }
+
+    /// Passes over a line.
+    pub fn pass(&mut self, line: Line, label: usize)
+        ensures { self.new ≡ runs.passed line label self.old }
+    {
+        self.seeking = match line {
+            Line::Label(here) => { if label == here { None } else { Some(label) } }
+            Line::Does(_) => Some(label),
+        };
+    }
+
+    /// The label that is looked for, if a branch was taken.
+    pub fn seeking(&self) -> Option<usize>
+        ensures { result ≡ self.now.seeking }
+    {
+        self.seeking
+    }
+
+    /// Whether the instruction would be a fault now.
+    pub fn is_fault(&self, instruction: Instruction) -> bool
+        ensures { result ≡ runs.is_fault instruction self.now.state }
+    {
+        is_fault(instruction, &self.state)
+    }
+
+    /// Whether the instruction, if it is a branch, is taken now.
+    pub fn goes(&self, instruction: Instruction) -> bool
+        ensures { result ≡ runs.goes instruction self.now.state }
+    {
+        goes(instruction, &self.state)
+    }
+
+    /// What the registers hold now.
+    pub fn registers(&self) -> [Value; 32]
+        ensures { result ≡ self.now.state.registers }
+    {
+        self.state.registers
+    }
+
+    /// The events so far.
+    pub fn events(&self) -> &[Event]
+        ensures { result.now ≡ self.now.events }
+    {
+        &self.events
+    }
+
+    /// The steps alone.
+    pub fn into_steps(self) -> Vec<RunStep>
+        ensures { result.items ≡ self.steps }
+    {
+        self.steps
+    }
+}
