@@ -21,7 +21,7 @@ use Rattle.binding_kinds.specs.Outermost.{naming_of}
 use Rattle.binding_kinds.specs.Value.{clause_of, ArePlainClauses}
 use Rattle.verdict.specs.declared.answer.Outcome.{Outcome}
 use Rattle.verdict.specs.Judgement.{IsAnswerOf}
-use Rattle.memo_graph.specs.Cell.{IsCell, OfModel}
+use Rattle.memo_graph.specs.Cell.{IsCell, IsEvaluationUnder, OfModel}
 use Rattle.litmusbench.specs.declared.fault.EvalFault.{EvalFault}
 use Rattle.litmusbench.specs.declared.fault.EvalFault.TheVariants as eval_faults
 use Rattle.litmusbench.specs.declared.fault.SessionFault.{SessionFault}
@@ -32,11 +32,12 @@ use Rattle.litmusbench.specs.Written.{WritesFront}
 
 -- ---- what a test that was read says under a model that was read
 
--- this outcome is of the test's kind, with its condition, and says the model's first fault where it has one
+-- this outcome is of the test's kind, with its condition, and says the model's first fault where it has one, and else what
+-- the model's checks and flags give
 pub record IsSaid (test : Test) (model : ModelText) (o : Outcome) : Type 0 where
   pub judged : IsAnswerOf test.condition.quantifier o
   pub cell : IsCell test o
-  pub of_model : ArePlainClauses (map clause_of model.items.items) → OfModel (FirstFault (reverse (map naming_of PREDEFINED)) 0 (map clause_of model.items.items)) (HasNoFault (reverse (map naming_of PREDEFINED)) 0 (map clause_of model.items.items)) o.result
+  pub of_model : ArePlainClauses (map clause_of model.items.items) → OfModel (FirstFault (reverse (map naming_of PREDEFINED)) 0 (map clause_of model.items.items)) (HasNoFault (reverse (map naming_of PREDEFINED)) 0 (map clause_of model.items.items)) (IsEvaluationUnder (reverse (map naming_of PREDEFINED)) model.items.items test) o.result
 
 -- the log of such an outcome
 abbrev pub IsLogOf : Test → ModelText → List ℕ → Type 0

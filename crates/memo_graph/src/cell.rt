@@ -1,15 +1,21 @@
 //! A test under a model, from scratch.
 
-ghost use Rattle.std.specs.Prelude.{◌≡◌, IfOk, map, reverse};
+ghost use denote.Ref.{Bor};
+ghost use Rattle.std.specs.Prelude.{◌≡◌, ◌<◌, ◌∷◌, ◌++◌, ℕ, [], List, Vec, IfOk, OnOk, map, option_map, reverse, slice_index_or, vec_len};
 ghost use Rattle.litmus_values.specs.Value.{formula_of};
 ghost use Rattle.litmus_printing.specs.Printing.{condition_text};
 ghost use Rattle.binding_kinds.specs.Faults.{HasNoFault, FirstFault};
 ghost use Rattle.binding_kinds.specs.Outermost.{naming_of};
 ghost use Rattle.binding_kinds.specs.Value.{clause_of, ArePlainClauses};
+ghost use Rattle.cat_eval.specs.Columns.{ColumnsOf};
+ghost use Rattle.cat_eval.specs.Values.{AnswersOf};
+ghost use Rattle.verdict.specs.Evaluated.{IsEvaluatedAs};
 ghost use Rattle.verdict.specs.Judgement.{IsOutcomeOf, IsAnswerOf};
-ghost use Rattle.memo_graph.specs.Cell.{IsSaid, IsCell, OfModel};
+ghost use Rattle.memo_graph.specs.Answers.{of_raised, AreSaid, AreOrdered};
+ghost use Rattle.memo_graph.specs.Known.{column_of, AreFound, IsAnswered, ColumnsAt, of_flags, checks_of, flags_of};
+ghost use Rattle.memo_graph.specs.Cell.{IsSaid, IsCell, IsEvaluationBy, IsEvaluationOver, IsEvaluationUnder, OfModel};
 
-use binding_graph::{CheckCode, ResolveFault, Resolved, ResolvedItem, Role, resolve, used};
+use binding_graph::{CheckCode, Input, ResolveFault, Resolved, ResolvedItem, Role, resolve, used};
 use candidates::{Space, space};
 use cat_eval::{Column, eval_check, eval_group};
 use cat_syntax::ModelText;
@@ -36,9 +42,14 @@ struct ItemAnswers<'a> {
     flags: Vec<FlagAnswer<'a>>,
 }
 
-fn no_answers<'a>(alloc: Global, items: usize) -> Result<ItemAnswers<'a>, AllocError> {
+fn no_answers<'a>(alloc: Global, items: usize) -> Result<ItemAnswers<'a>, AllocError>
+    ensures count { IfOk result (λ a. vec_len a.columns ≡ items) }
+    ensures empty { IfOk result (λ a. (j : ℕ) → j < items → ColumnsAt a j (λ cs. cs ≡ [])) }
+    ensures checks { IfOk result (λ a. checks_of a ≡ []) }
+    ensures flags { IfOk result (λ a. flags_of a ≡ []) }
+{
     let mut columns = Vec::with_capacity(alloc, items)?;
-    for _ in 0..items {
+    'items: for _at in 0..items {
         columns.push(Vec::new(alloc))?;
     }
     Ok(ItemAnswers {
@@ -48,18 +59,28 @@ fn no_answers<'a>(alloc: Global, items: usize) -> Result<ItemAnswers<'a>, AllocE
     })
 }
 
+// The value of a name of another item, where it is known.
+fn column_of<'c>(columns: &'c [Vec<Column>], name: &Input) -> Option<&'c Column>
+    ensures { option_map (λ c. c.now) result ≡ column_of columns.now name.now }
+{
+    match columns.get(name.item) {
+        Some(names) => names.get(name.position),
+        None => None,
+    }
+}
+
 // The values of the names of other items that the item uses, in its order.
 fn inputs<'c>(
     alloc: Global,
     columns: &'c [Vec<Column>],
     item: &ResolvedItem,
-) -> Result<Vec<&'c Column>, AllocError> {
+) -> Result<Vec<&'c Column>, AllocError>
+    ensures { IfOk result (λ v. AreFound columns.now item.now.inputs.items v.items) }
+{
     let mut found = Vec::with_capacity(alloc, item.inputs.len())?;
     for input in &item.inputs {
-        if let Some(names) = columns.get(input.item) {
-            if let Some(column) = names.get(input.position) {
-                found.push(column)?;
-            }
+        if let Some(column) = column_of(columns, input) {
+            found.push(column)?;
         }
     }
     Ok(found)
@@ -71,7 +92,9 @@ fn group_columns(
     space: &Space,
     item: &ResolvedItem,
     columns: &[Vec<Column>],
-) -> Result<Vec<Column>, AllocError> {
+) -> Result<Vec<Column>, AllocError>
+    ensures { IfOk result (λ v. (inputs : List (Bor Column)) × AreFound columns.now item.now.inputs.items inputs × ColumnsOf item.now.role inputs space.now v.items) }
+{
     let inputs = inputs(alloc, columns, item)?;
     eval_group(alloc, item, space, &inputs)
 }
@@ -82,24 +105,58 @@ fn check_answers(
     space: &Space,
     item: &ResolvedItem,
     columns: &[Vec<Column>],
-) -> Result<Vec<bool>, AllocError> {
+) -> Result<Vec<bool>, AllocError>
+    ensures { IfOk result (λ v. (inputs : List (Bor Column)) × AreFound columns.now item.now.inputs.items inputs × AnswersOf item.now.role inputs space.now v.items) }
+{
     let inputs = inputs(alloc, columns, item)?;
     eval_check(alloc, item, space, &inputs)
+}
+
+// The answers of one check more.
+fn push_check(checks: &mut Vec<Vec<bool>>, holds: Vec<bool>) -> Result<(), AllocError>
+    ensures { OnOk result (map (λ v. v.items) checks.new.items ≡ map (λ v. v.items) checks.old.items ++ holds.items ∷ []) }
+{
+    checks.push(holds)?;
+    Ok(())
+}
+
+// Those of one flag more.
+fn push_flag<'a>(
+    flags: &mut Vec<FlagAnswer<'a>>,
+    name: &'a Name,
+    holds: Vec<bool>,
+) -> Result<(), AllocError>
+    ensures { OnOk result (of_flags flags.new.items ≡ of_flags flags.old.items ++ (name.now, holds.items) ∷ []) }
+{
+    flags.push(FlagAnswer { name, holds })?;
+    Ok(())
 }
 
 fn answer_check<'a>(
     alloc: Global,
     space: &Space,
+    at: usize,
     item: &ResolvedItem,
     check: &'a CheckCode,
     answers: &mut ItemAnswers<'a>,
-) -> Result<(), AllocError> {
+) -> Result<(), AllocError>
+    ensures { item.now.role ≡ Role.Check check.now → OnOk result (IsAnswered space.now at item.now answers.old answers.new) }
+{
     let holds = check_answers(alloc, space, item, &answers.columns)?;
     match &check.flag {
-        Some(name) => answers.flags.push(FlagAnswer { name, holds })?,
-        None => answers.checks.push(holds)?,
+        Some(name) => push_flag(&mut answers.flags, name, holds),
+        None => push_check(&mut answers.checks, holds),
     }
-    Ok(())
+}
+
+fn put_columns(columns: &mut Vec<Vec<Column>>, at: usize, found: Vec<Column>)
+    ensures count { vec_len columns.new ≡ vec_len columns.old }
+    ensures others { (j : ℕ) → (j ≡ at → ⊥) → (d : Vec Column Global) → slice_index_or columns.new.items j d ≡ slice_index_or columns.old.items j d }
+    ensures here { at < vec_len columns.old → (d : Vec Column Global) → slice_index_or columns.new.items at d ≡ found }
+{
+    if at < columns.len() {
+        columns[at] = found;
+    }
 }
 
 fn answer_item<'a>(
@@ -108,16 +165,16 @@ fn answer_item<'a>(
     at: usize,
     item: &'a ResolvedItem,
     answers: &mut ItemAnswers<'a>,
-) -> Result<(), AllocError> {
+) -> Result<(), AllocError>
+    ensures { OnOk result (IsAnswered space.now at item.now answers.old answers.new) }
+{
     match &item.role {
         Role::Group { .. } => {
             let found = group_columns(alloc, space, item, &answers.columns)?;
-            if let Some(names) = answers.columns.get_mut(at) {
-                *names = found;
-            }
+            put_columns(&mut answers.columns, at, found);
             Ok(())
         }
-        Role::Check(check) => answer_check(alloc, space, item, check, answers),
+        Role::Check(check) => answer_check(alloc, space, at, item, check, answers),
         Role::Silent => Ok(()),
     }
 }
@@ -127,17 +184,20 @@ fn answers<'a>(
     alloc: Global,
     space: &Space,
     resolved: &'a Resolved,
-) -> Result<ItemAnswers<'a>, AllocError> {
+) -> Result<ItemAnswers<'a>, AllocError>
+    ensures { let items = reverse resolved.now.items.items in AreOrdered items → IfOk result (λ a. AreSaid space.now items (checks_of a) (flags_of a)) }
+{
     let mut answers = no_answers(alloc, resolved.items.len())?;
-    for at in used(alloc, resolved)? {
-        if let Some(item) = resolved.items.get(at) {
-            answer_item(alloc, space, at, item, &mut answers)?;
-        }
+    let places = used(alloc, resolved)?;
+    for at in &places {
+        answer_item(alloc, space, *at, &resolved.items[*at], &mut answers)?;
     }
     Ok(answers)
 }
 
-fn raised<'a>(alloc: Global, flags: &'a [FlagAnswer<'a>]) -> Result<Vec<Raised<'a>>, AllocError> {
+fn raised<'a>(alloc: Global, flags: &'a [FlagAnswer<'a>]) -> Result<Vec<Raised<'a>>, AllocError>
+    ensures { IfOk result (λ v. of_raised v.items ≡ of_flags flags.now) }
+{
     let mut raised = Vec::with_capacity(alloc, flags.len())?;
     for flag in flags {
         raised.push(Raised {
@@ -156,6 +216,7 @@ fn evaluated(
 ) -> Result<Outcome, AllocError>
     ensures judged { IfOk result (λ o. IsOutcomeOf test.now.condition.quantifier o) }
     ensures said { IfOk result (λ o. IsSaid space.now test.now o) }
+    ensures answers { AreOrdered (reverse resolved.now.items.items) → IfOk result (λ o. IsEvaluatedAs (IsEvaluationBy resolved.now.items.items space.now test.now) o.result) }
 {
     let found = answers(alloc, space, resolved)?;
     let flags = raised(alloc, &found.flags)?;
@@ -184,7 +245,7 @@ fn refused(alloc: Global, test: &Test, refusal: Refusal) -> Result<Outcome, Allo
 fn over_candidates(alloc: Global, test: &Test, resolved: &Resolved) -> Result<Outcome, AllocError>
     ensures judged { IfOk result (λ o. IsAnswerOf test.now.condition.quantifier o) }
     ensures cell { IfOk result (λ o. IsCell test.now o) }
-    ensures model { IfOk result (λ o. OfModel (λ _. ⊥) (Unit {0}) o.result) }
+    ensures model { IfOk result (λ o. OfModel (λ _. ⊥) (Unit {0}) (λ e. AreOrdered (reverse resolved.now.items.items) → IsEvaluationOver resolved.now.items.items test.now e) o.result) }
 {
     match space(alloc, test) {
         Ok(space) => evaluated(alloc, test, resolved, &space),
@@ -198,7 +259,7 @@ fn over_candidates(alloc: Global, test: &Test, resolved: &Resolved) -> Result<Ou
 pub fn eval_cell(alloc: Global, test: &Test, model: &ModelText) -> Result<Outcome, AllocError>
     ensures judged { IfOk result (λ o. IsAnswerOf test.now.condition.quantifier o) }
     ensures cell { IfOk result (λ o. IsCell test.now o) }
-    ensures model { let names = reverse (map naming_of PREDEFINED) in let clauses = map clause_of model.now.items.items in ArePlainClauses clauses → IfOk result (λ o. OfModel (FirstFault names 0 clauses) (HasNoFault names 0 clauses) o.result) }
+    ensures model { let names = reverse (map naming_of PREDEFINED) in let clauses = map clause_of model.now.items.items in ArePlainClauses clauses → IfOk result (λ o. OfModel (FirstFault names 0 clauses) (HasNoFault names 0 clauses) (IsEvaluationUnder names model.now.items.items test.now) o.result) }
 {
     match resolve(alloc, model) {
         Ok(resolved) => over_candidates(alloc, test, &resolved),

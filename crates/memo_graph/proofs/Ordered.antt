@@ -1,0 +1,188 @@
+-- The items of a resolved model use names of earlier items alone.
+use Rattle.std.proofs.Common.{ℕ, ◌≡◌, ◌+◌, ◌<◌, ◌≤◌, inl, inr, suc, List, [], ◌∷◌, ◌++◌, length, map, reverse, Bool, true, false, Option, Some, None, refl, sym, ap, ◌∙◌, subst, append_assoc, leb-false, arith}
+use Rattle.std.specs.Prelude.{if◌then◌else◌, bytes_eq, nat_le, is_some}
+use Rattle.std.specs.List.{AllByRecursion}
+use Rattle.std.proofs.lemmas.List.{reverse-append, append-nil}
+use Rattle.std.proofs.lemmas.Option.{none-some}
+use Rattle.cat_values.specs.declared.predefined.Predefined.{Predefined}
+use Rattle.binding_kinds.specs.declared.scope.Binder.{Binder}
+use Rattle.binding_kinds.specs.declared.scope.Binder.TheVariants as binders
+use Rattle.binding_kinds.specs.declared.scope.Found.{Found}
+use Rattle.binding_kinds.specs.declared.scope.Input.{Input}
+use Rattle.binding_kinds.specs.declared.scope.Used.{Used}
+use Rattle.binding_kinds.specs.Value.{Term, Word, Everything, NoPairs, NoEvents, Join, Mark, Not, Only, Call, Naming, Bound, Clause, Group, Check, Mute, Defined, IsPlainClause, ArePlainClauses}
+use Rattle.binding_kinds.specs.Kinds.{found, kind}
+use Rattle.binding_kinds.specs.Faults.{with_own, with_all, extended}
+use Rattle.binding_kinds.specs.Outermost.{naming_of}
+use Rattle.binding_graph.specs.declared.resolved.Body.{Body}
+use Rattle.binding_graph.specs.declared.resolved.Role.{Role}
+use Rattle.binding_graph.specs.declared.resolved.Role.TheVariants as roles
+use Rattle.binding_graph.specs.declared.resolved.ResolvedItem.{ResolvedItem}
+use Rattle.binding_graph.specs.Inputs.{place_of, with_binder, with_name, with_uses, with_all_uses, inputs_of}
+use Rattle.binding_graph.specs.Resolved.{AreBodies, IsGroupRole, IsResolvedIn, AreResolved}
+use Rattle.cat_eval.specs.Candidates.{name_count}
+use Rattle.memo_graph.specs.Answers.{IsBound, AreOrdered}
+
+-- ---- names that these items bind
+
+OfBinder : List ResolvedItem → Binder → Type 0
+OfBinder rs (binders.Predefined p) = Unit {0}
+OfBinder rs (binders.Bound i) = IsBound rs i
+OfBinder rs (binders.Applicable f) = Unit {0}
+
+abbrev AreAllBound : List ResolvedItem → List Naming → Type 0
+AreAllBound rs names = AllByRecursion (λ n. OfBinder rs n.binder) names
+
+-- those with a slot below `from`
+abbrev AreBound : List ResolvedItem → ℕ → List Naming → Type 0
+AreBound rs from [] = Unit {0}
+AreBound rs from (n ∷ ns) = (length ns < from → OfBinder rs n.binder) × AreBound rs from ns
+
+below_all : (rs : List ResolvedItem) (from : ℕ) (names : List Naming) → AreAllBound rs names → AreBound rs from names
+below_all rs from [] h = tt
+below_all rs from (n ∷ ns) h = (λ lt. h.0, below_all rs from ns h.1)
+
+found_bound : (rs : List ResolvedItem) (from : ℕ) (names : List Naming) (x : List ℕ) (f : Found) → AreBound rs from names → found names x ≡ Some f → f.slot < from → OfBinder rs f.binder
+found_bound rs from [] x f h e lt = absurd (none-some f e)
+found_bound rs from (n ∷ ns) x f h e lt = at_test (bytes_eq n.name x) (λ g. found_bound rs from ns x f h.1 g lt) e
+  where
+    at_test : (b : Bool) → (found ns x ≡ Some f → OfBinder rs f.binder) → (if b then Some (record { slot = length ns; kind = n.kind; binder = n.binder }) else found ns x) ≡ Some f → OfBinder rs f.binder
+    at_test true rest e =
+        let g : Found = record { slot = length ns; kind = n.kind; binder = n.binder } in
+        let s : g ≡ f = let same : Some g ≡ Some f = e in cc in
+        subst (λ (k : Found). OfBinder rs k.binder) s (h.0 (subst (λ (k : Found). k.slot < from) (sym s) lt))
+    at_test false rest e = rest e
+
+-- ---- names that are used
+
+abbrev AllBound : List ResolvedItem → List Used → Type 0
+AllBound rs us = AllByRecursion (λ u. IsBound rs u.input) us
+
+noted_by : (rs : List ResolvedItem) (us : List Used) (u : Used) (t : Bool) → AllBound rs us → IsBound rs u.input → AllBound rs (if t then us else u ∷ us)
+noted_by rs us u true h b = h
+noted_by rs us u false h b = (b, h)
+
+with_binder_bound : (rs : List ResolvedItem) (us : List Used) (slot : ℕ) (b : Binder) → OfBinder rs b → AllBound rs us → AllBound rs (with_binder us slot b)
+unfolding OfBinder
+with_binder_bound rs us slot (binders.Predefined p) o h = h
+with_binder_bound rs us slot (binders.Bound i) o h = noted_by rs us (record { slot = slot; input = i }) (is_some (place_of us slot)) h o
+with_binder_bound rs us slot (binders.Applicable f) o h = h
+
+with_found_by : (rs : List ResolvedItem) (us : List Used) (from : ℕ) (f : Found) (t : Bool) → (t ≡ false → OfBinder rs f.binder) → AllBound rs us → AllBound rs (if t then us else with_binder us f.slot f.binder)
+with_found_by rs us from f true b h = h
+with_found_by rs us from f false b h = with_binder_bound rs us f.slot f.binder (b refl) h
+
+with_name_bound : (rs : List ResolvedItem) (names : List Naming) (from : ℕ) (x : List ℕ) (us : List Used) (o : Option Found) → AreBound rs from names → AllBound rs us → found names x ≡ o → AllBound rs (with_name us from o)
+with_name_bound rs names from x us None b h e = h
+with_name_bound rs names from x us (Some f) b h e = with_found_by rs us from f (nat_le from f.slot) (λ off. found_bound rs from names x f b e (leb-false from f.slot off)) h
+
+uses_bound : (rs : List ResolvedItem) (names : List Naming) (from : ℕ) (t : Term) (us : List Used) → AreBound rs from names → AllBound rs us → AllBound rs (with_uses names from t us)
+uses_bound rs names from (Word x) us b h = with_name_bound rs names from x us (found names x) b h refl
+uses_bound rs names from Everything us b h = h
+uses_bound rs names from NoPairs us b h = h
+uses_bound rs names from NoEvents us b h = h
+uses_bound rs names from (Join op s t) us b h = uses_bound rs names from t (with_uses names from s us) b (uses_bound rs names from s us b h)
+uses_bound rs names from (Mark op a) us b h = uses_bound rs names from a us b h
+uses_bound rs names from (Not a) us b h = uses_bound rs names from a us b h
+uses_bound rs names from (Only a) us b h = uses_bound rs names from a us b h
+uses_bound rs names from (Call x) us b h = h
+
+all_uses_bound : (rs : List ResolvedItem) (names : List Naming) (from : ℕ) (bs : List Bound) (us : List Used) → AreBound rs from names → AllBound rs us → AllBound rs (with_all_uses names from bs us)
+all_uses_bound rs names from [] us b h = h
+all_uses_bound rs names from (x ∷ xs) us b h = all_uses_bound rs names from xs (with_uses names from x.body us) b (uses_bound rs names from x.body us b h)
+
+all_push : {X : Type 0} (P : X → Type 0) (xs : List X) (x : X) → AllByRecursion P xs → P x → AllByRecursion P (xs ++ x ∷ [])
+all_push P [] x h p = (p, tt)
+all_push P (y ∷ ys) x h p = (h.0, all_push P ys x h.1 p)
+
+all_reverse : {X : Type 0} (P : X → Type 0) (xs : List X) → AllByRecursion P xs → AllByRecursion P (reverse xs)
+all_reverse P [] h = tt
+all_reverse {X} P (x ∷ xs) h = subst (λ (ys : List X). AllByRecursion P ys) (sym (reverse-append (x ∷ []) xs)) (all_push P (reverse xs) x (all_reverse P xs h.1) h.0)
+
+all_inputs : (rs : List ResolvedItem) (us : List Used) → AllBound rs us → AllByRecursion (IsBound rs) (map (λ u. u.input) us)
+all_inputs rs [] h = tt
+all_inputs rs (u ∷ us) h = (h.0, all_inputs rs us h.1)
+
+inputs_bound : (rs : List ResolvedItem) (us : List Used) (inputs : List Input) → inputs ≡ inputs_of us → AllBound rs us → AllByRecursion (IsBound rs) inputs
+inputs_bound rs us inputs e h = subst (λ (is : List Input). AllByRecursion (IsBound rs) is) (sym e) (all_inputs rs (reverse us) (all_reverse (λ u. IsBound rs u.input) us h))
+
+-- ---- names that an item adds
+
+own_bound : (rs : List ResolvedItem) (from : ℕ) (names : List Naming) (item at : ℕ) (bs : List Bound) → from ≤ length names → AreBound rs from names → AreBound rs from (with_own names item at bs)
+own_bound rs from names item at [] le h = h
+own_bound rs from names item at (b ∷ bs) le h = own_bound rs from _ item (suc at) bs (omega arith) (λ lt. absurd (omega arith), h)
+
+own_all : (rs : List ResolvedItem) (names : List Naming) (item at : ℕ) (bs : List Bound) → ((p : ℕ) → at ≤ p → p < at + length bs → IsBound rs (record { item = item; position = p })) → AreAllBound rs names → AreAllBound rs (with_own names item at bs)
+unfolding OfBinder
+own_all rs names item at [] new h = h
+own_all rs names item at (b ∷ bs) new h = own_all rs _ item (suc at) bs (λ p from to. new p (omega arith) (omega arith)) (new at (omega arith) (omega arith), h)
+
+outer_all : (rs : List ResolvedItem) (outer names : List Naming) (item at : ℕ) (bs : List Bound) → ((p : ℕ) → at ≤ p → p < at + length bs → IsBound rs (record { item = item; position = p })) → AreAllBound rs names → AreAllBound rs (with_all outer names item at bs)
+unfolding OfBinder
+outer_all rs outer names item at [] new h = h
+outer_all rs outer names item at (b ∷ bs) new h = outer_all rs outer (record { name = b.name; kind = kind outer b.body; binder = binders.Bound (record { item = item; position = at }) } ∷ names) item (suc at) bs (λ p from to. new p (omega arith) (omega arith)) (new at (omega arith) (omega arith), h)
+
+binder_later : (rs : List ResolvedItem) (r : ResolvedItem) (b : Binder) → OfBinder rs b → OfBinder (r ∷ rs) b
+unfolding OfBinder
+binder_later rs r (binders.Predefined p) h = tt
+binder_later rs r (binders.Bound i) h = inr h
+binder_later rs r (binders.Applicable f) h = tt
+
+all_later : (rs : List ResolvedItem) (r : ResolvedItem) (names : List Naming) → AreAllBound rs names → AreAllBound (r ∷ rs) names
+all_later rs r [] h = tt
+all_later rs r (n ∷ ns) h = (binder_later rs r n.binder h.0, all_later rs r ns h.1)
+
+bodies_count : (names : List Naming) (from : ℕ) (us : List Used) (bs : List Bound) (rs : List Body) → AreBodies names from us bs rs → length rs ≡ length bs
+bodies_count names from us [] [] h = refl
+bodies_count names from us [] (r ∷ rs) h = absurd h
+bodies_count names from us (b ∷ bs) [] h = absurd h
+bodies_count names from us (b ∷ bs) (r ∷ rs) h = omega (arith, bodies_count names from (with_uses names from b.body us) bs rs h.2)
+
+role_count : (names : List Naming) (from : ℕ) (recursive : Bool) (bs : List Bound) (role : Role) → IsGroupRole names from recursive bs role → name_count role ≡ length bs
+role_count names from recursive bs (roles.Group r bodies) h = bodies_count names from [] bs bodies.items h.1
+role_count names from recursive bs (roles.Check c) h = absurd h
+role_count names from recursive bs roles.Silent h = absurd h
+
+-- ---- item by item
+
+none_used : (rs : List ResolvedItem) (inputs : List Input) → inputs ≡ [] → AllByRecursion (IsBound rs) inputs
+none_used rs inputs e = subst (λ (is : List Input). AllByRecursion (IsBound rs) is) (sym e) tt
+
+item_inputs : (rs : List ResolvedItem) (names : List Naming) (at : ℕ) (c : Clause) (r : ResolvedItem) → IsPlainClause c → AreAllBound rs names → IsResolvedIn names (extended names at c) (length names) c r → AllByRecursion (IsBound rs) r.inputs.items
+item_inputs rs names at (Group true bs) r plain all h =
+    let own = with_own names at 0 bs in
+    inputs_bound rs (with_all_uses own (length names) bs []) r.inputs.items h.1 (all_uses_bound rs own (length names) bs [] (own_bound rs (length names) names at 0 bs (omega arith) (below_all rs (length names) names all)) tt)
+item_inputs rs names at (Group false bs) r plain all h =
+    inputs_bound rs (with_all_uses names (length names) bs []) r.inputs.items h.1 (all_uses_bound rs names (length names) bs [] (below_all rs (length names) names all) tt)
+item_inputs rs names at (Check w e) r plain all h =
+    inputs_bound rs (with_uses names (length names) e []) r.inputs.items h.1 (uses_bound rs names (length names) e [] (below_all rs (length names) names all) tt)
+item_inputs rs names at Mute r plain all h = none_used rs r.inputs.items h.1
+item_inputs rs names at (Defined n) r plain all h = absurd plain
+
+item_names : (rs : List ResolvedItem) (names : List Naming) (at : ℕ) (c : Clause) (r : ResolvedItem) → length rs ≡ at → AreAllBound rs names → IsResolvedIn names (extended names at c) (length names) c r → AreAllBound (r ∷ rs) (extended names at c)
+item_names rs names at (Group true bs) r long all h =
+    let many = role_count (with_own names at 0 bs) (length names) true bs r.role h.0 in
+    own_all (r ∷ rs) names at 0 bs (λ p from to. inl (sym long, omega (arith, many))) (all_later rs r names all)
+item_names rs names at (Group false bs) r long all h =
+    let many = role_count names (length names) false bs r.role h.0 in
+    outer_all (r ∷ rs) names names at 0 bs (λ p from to. inl (sym long, omega (arith, many))) (all_later rs r names all)
+item_names rs names at (Check w e) r long all h = all_later rs r names all
+item_names rs names at Mute r long all h = all_later rs r names all
+item_names rs names at (Defined n) r long all h = all_later rs r names all
+
+ordered : (names : List Naming) (at : ℕ) (clauses : List Clause) (items rs : List ResolvedItem) → length rs ≡ at → ArePlainClauses clauses → AreAllBound rs names → AreOrdered rs → AreResolved names at clauses items → AreOrdered (reverse items ++ rs)
+ordered names at [] [] rs long plain all before h = before
+ordered names at [] (r ∷ items) rs long plain all before h = absurd h
+ordered names at (c ∷ cs) [] rs long plain all before h = absurd h
+ordered names at (c ∷ cs) (r ∷ items) rs long plain all before h =
+    let rest : AreOrdered (reverse items ++ r ∷ rs) = ordered (extended names at c) (at + 1) cs items (r ∷ rs) (omega (arith, long)) plain.1 (item_names rs names at c r long all h.0) (item_inputs rs names at c r plain.0 all h.0, before) h.1 in
+    subst (λ (xs : List ResolvedItem). AreOrdered xs) (sym (ap (λ (ys : List ResolvedItem). ys ++ rs) (reverse-append (r ∷ []) items) ∙ append_assoc (reverse items) (r ∷ []) rs)) rest
+
+predefined_bound : (ps : List Predefined) → AreAllBound [] (map naming_of ps)
+unfolding OfBinder
+predefined_bound [] = tt
+predefined_bound (p ∷ ps) = (tt, predefined_bound ps)
+
+pub resolved_ordered : (ps : List Predefined) (clauses : List Clause) (items : List ResolvedItem) → ArePlainClauses clauses → AreResolved (reverse (map naming_of ps)) 0 clauses items → AreOrdered (reverse items)
+resolved_ordered ps clauses items plain h =
+    rw append-nil at (ordered (reverse (map naming_of ps)) 0 clauses items [] refl plain (all_reverse (λ (n : Naming). OfBinder [] n.binder) (map naming_of ps) (predefined_bound ps)) tt h)

@@ -1,0 +1,63 @@
+-- What is known of a model's items on the way through them.
+use Rattle.std.specs.Prelude.{◌≡◌, ℕ, suc, ◌<◌, ◌≤◌, Bool, List, [], length, map, reverse, take, Option, Some, None, Vec, vec_len, slice_get, slice_index_or, Contains}
+use Rattle.std.specs.List.{filter_map}
+use Rattle.std.specs.declared.alloc.Global.{Global}
+use denote.Ref.{Bor}
+use Rattle.binding_kinds.specs.declared.scope.Input.{Input}
+use Rattle.binding_graph.specs.declared.resolved.ResolvedItem.{ResolvedItem}
+use Rattle.candidates.specs.declared.candidate.Space.{Space}
+use Rattle.cat_eval.specs.declared.column.Column.{Column}
+use Rattle.memo_graph.specs.declared.cell.ItemAnswers.{ItemAnswers}
+use Rattle.memo_graph.specs.declared.cell.FlagAnswer.{FlagAnswer}
+use Rattle.cat_eval.specs.Columns.{ColumnsOf}
+use Rattle.cat_eval.specs.Values.{AnswersOf}
+use Rattle.memo_graph.specs.Answers.{Flag, IsSaidBy, IsValued, AreSaid}
+
+abbrev pub column_in : Option (Vec Column Global) → ℕ → Option Column
+column_in None position = None
+column_in (Some names) position = slice_get names.items position
+
+-- the column of a name among those of all items
+abbrev pub column_of : List (Vec Column Global) → Input → Option Column
+column_of columns name = column_in (slice_get columns name.item) name.position
+
+-- the columns of these names, where they are known
+abbrev pub AreFound : List (Vec Column Global) → List Input → List (Bor Column) → Type 0
+AreFound columns names found = map (λ c. c.now) found ≡ filter_map (column_of columns) names
+
+abbrev pub checks_of : ItemAnswers → List (List Bool)
+checks_of a = map (λ v. v.items) a.checks.items
+
+abbrev pub of_flags : List FlagAnswer → List Flag
+of_flags flags = map (λ f. (f.name.now, f.holds.items)) flags
+
+abbrev pub flags_of : ItemAnswers → List Flag
+flags_of a = of_flags a.flags.items
+
+-- the columns that are known at that place
+abbrev pub ColumnsAt : ItemAnswers → ℕ → (List Column → Type 0) → Type 0
+ColumnsAt a place P = (d : Vec Column Global) → P (slice_index_or a.columns.items place d).items
+
+-- what the item at that place gives, from what was known, is known too
+pub record IsAnswered (space : Space) (place : ℕ) (r : ResolvedItem) (old new : ItemAnswers) : Type 0 where
+  pub inputs : List (Bor Column)
+  pub found : AreFound old.columns.items r.inputs.items inputs
+  pub count : vec_len new.columns ≡ vec_len old.columns
+  pub others : (j : ℕ) → (j ≡ place → ⊥) → (d : Vec Column Global) → slice_index_or new.columns.items j d ≡ slice_index_or old.columns.items j d
+  pub here : place < vec_len old.columns → ColumnsAt old place (λ cs. cs ≡ []) → ColumnsAt new place (ColumnsOf r.role inputs space)
+  pub said : IsSaidBy r.role (AnswersOf r.role inputs space) (λ cs fs. (cs ≡ checks_of old) × (fs ≡ flags_of old)) (checks_of new) (flags_of new)
+
+-- of the items before that number, the columns of those at these places are known, and the answers of all
+pub record AreKnown (space : Space) (items : List ResolvedItem) (places : List ℕ) (n : ℕ) (a : ItemAnswers) : Type 0 where
+  pub count : vec_len a.columns ≡ length items
+  pub values : (j : ℕ) → j < n → Contains places j → ColumnsAt a j (IsValued space (reverse (take (suc j) items)) j)
+  pub empty : (j : ℕ) → n ≤ j → j < length items → ColumnsAt a j (λ cs. cs ≡ [])
+  pub said : AreSaid space (reverse (take n items)) (checks_of a) (flags_of a)
+
+-- that many of the places are behind, which rise
+pub record AreKnownTo (space : Space) (items : List ResolvedItem) (places : List ℕ) (p : ℕ) (a : ItemAnswers) : Type 0 where
+  pub number : ℕ
+  pub within : number ≤ length items
+  pub below : (q d : ℕ) → q < p → slice_index_or places q d < number
+  pub above : (q d : ℕ) → p ≤ q → q < length places → number ≤ slice_index_or places q d
+  pub known : AreKnown space items places number a
