@@ -5,7 +5,8 @@ use Rattle.cat_values.specs.declared.model.Expression.{Expression}
 use Rattle.cat_values.specs.declared.model.Expression.TheVariants as expressions
 use Rattle.cat_values.specs.Value.{Term, gathered}
 use Rattle.cat_values.specs.Values.{term_of}
-use Rattle.cat_printing.specs.Printing.{joined, printed_term, printed_terms}
+use Rattle.cat_printing.specs.Printing.{printed_term, printed_terms}
+use Rattle.source_text.specs.Joined.{joined}
 use Rattle.cat_values.proofs.Arguments.{applied_term}
 
 texts_gathered : (ts : List Term) → printed_terms (gathered ts) ≡ map printed_term ts

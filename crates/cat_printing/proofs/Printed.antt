@@ -28,7 +28,8 @@ use Rattle.cat_tokens.specs.Lexer.{is_layout, ends_name, sign_token, word_front,
 use Rattle.source_text.specs.Letters.{is_letter}
 use Rattle.cat_tokens.specs.Tokens.{Placed, tokens_of}
 use Rattle.cat_grammar.specs.Grammar.{Tree, infix_token, postfix_token, spelled, spelled_arguments, show_token, spelled_rec, spelled_tilde, spelled_label, spelled_bound, spelled_group, spelled_parameters, spelled_check, spelled_one, spelled_shown, spelled_item, spelled_items, Limits, NoTitle, has_no_effect}
-use Rattle.cat_printing.specs.Printing.{joined, is_binary, is_compound, infix_text, postfix_text, bracketed, printed_term, printed_terms, label_text, optional_label, tilde_text, word_text, check_text, recursion_text, binding_text, show_text, shown_text, quote, printed_item, printed_model}
+use Rattle.cat_printing.specs.Printing.{is_binary, is_compound, infix_text, postfix_text, printed_term, printed_terms, label_text, optional_label, tilde_text, word_text, check_text, recursion_text, binding_text, show_text, shown_text, quote, printed_item, printed_model}
+use Rattle.source_text.specs.Joined.{joined, bracketed}
 use Rattle.cat_printing.specs.Written as written
 use Rattle.cat_printing.specs.Written.{IsName, IsTerm, AreTerms, AreNames, IsLabel, AreBindings, IsWritten, AreWritten, IsTextOfItem, IsTextOfModel}
 use Rattle.cat_printing.proofs.PrintedTrees.{grouped, tree_of, trees_of, bound_of, check_of, shown_of, item_of, items_back, all_needs, IsEnough, items_fit}

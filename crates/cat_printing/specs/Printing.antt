@@ -1,5 +1,6 @@
 -- The text of an item and of a model.
-use Rattle.std.specs.Prelude.{ℕ, zero, suc, List, [], ◌∷◌, ◌++◌, map, Bool, true, false, Option, Some, None, codes}
+use Rattle.std.specs.Prelude.{ℕ, List, [], ◌∷◌, ◌++◌, map, Bool, true, false, Option, Some, None, codes}
+use Rattle.source_text.specs.Joined.{joined, bracketed}
 use Rattle.cat_values.specs.declared.model.CheckWord.{CheckWord}
 use Rattle.cat_values.specs.declared.model.CheckWord.TheVariants.{Acyclic, Irreflexive, Empty}
 use Rattle.cat_values.specs.declared.model.Infix.{Infix}
@@ -7,17 +8,6 @@ use Rattle.cat_values.specs.declared.model.Infix.TheVariants.{Union, Sequence, D
 use Rattle.cat_values.specs.declared.model.Postfix.{Postfix}
 use Rattle.cat_values.specs.declared.model.Postfix.TheVariants as postfix
 use Rattle.cat_values.specs.Value.{Term, Terms, Atom, AllEvents, EmptyRelation, EmptySet, Join, Mark, Not, On, Apply, NoTerm, OneMore, Checked, Clause, Binding, Function, Checking, Flagging, Showing, Including}
-
--- texts with a sign between them
-abbrev pub joined : List ℕ → List (List ℕ) → List ℕ
-joined sign [] = []
-joined sign (t ∷ []) = t
-joined sign (t ∷ u ∷ ts) = t ++ (sign ++ joined sign (u ∷ ts))
-
--- a sign before all but the first of a list
-abbrev pub between : List ℕ → ℕ → List ℕ
-between sign zero = []
-between sign (suc k) = sign
 
 -- texts one a line
 abbrev pub lines : List (List ℕ) → List ℕ
@@ -50,10 +40,6 @@ is_compound (Join op a b) = true
 is_compound (Mark op a) = true
 is_compound (Not a) = true
 is_compound _ = false
-
-abbrev pub bracketed : Bool → List ℕ → List ℕ
-bracketed true text = codes "(" ++ (text ++ codes ")")
-bracketed false text = text
 
 abbrev mutual
   -- an infix operand of an infix operator or of a tilde stands in parentheses, and so does the operand of a postfix

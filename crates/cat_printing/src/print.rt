@@ -1,13 +1,14 @@
 //! Prints items.
 
-ghost use Rattle.std.specs.Prelude.{◌≡◌, ◌++◌, List, map, OnOk, IfOk, codes};
+ghost use Rattle.std.specs.Prelude.{◌≡◌, ◌++◌, map, OnOk, IfOk, codes};
 ghost use Rattle.cat_values.specs.Values.{term_of, binding_of, shown_of, check_of, clause_of, clauses_of};
-ghost use Rattle.cat_printing.specs.Printing.{joined, between, infix_text, postfix_text, is_binary, is_compound, bracketed, printed_term, label_text, optional_label, word_text, check_text, recursion_text, binding_text, show_text, shown_text, printed_item, printed_model};
+ghost use Rattle.cat_printing.specs.Printing.{infix_text, postfix_text, is_binary, is_compound, printed_term, label_text, optional_label, word_text, check_text, recursion_text, binding_text, show_text, shown_text, printed_item, printed_model};
+ghost use Rattle.source_text.specs.Joined.{joined, between, bracketed};
 
 use cat_values::{
     Binding, Check, CheckWord, Expression, Infix, Item, ModelText, Postfix, ShownExpression,
 };
-use source_text::{Name, put_bytes};
+use source_text::{Name, put_between, put_bytes};
 use std::alloc::{AllocError, Global};
 
 fn infix_text(op: Infix) -> &'static [u8]
@@ -73,17 +74,6 @@ fn is_compound(expression: &Expression) -> bool
         Expression::NoEvents => false,
         Expression::Identity(_) => false,
         Expression::Applied(_, _) => false,
-    }
-}
-
-// Appends a sign before all but the first of a list.
-fn put_between(text: &mut Vec<u8>, sign: &[u8], number: usize) -> Result<(), AllocError>
-    ensures { OnOk result (text.new.items ≡ text.old.items ++ between sign.now number) }
-{
-    if number == 0 {
-        Ok(())
-    } else {
-        put_bytes(text, sign)
     }
 }
 

@@ -5,7 +5,8 @@ use Rattle.litmus_tokens.specs.declared.token.Token.{Token}
 use Rattle.litmus_tokens.specs.Faults.{Begins}
 use Rattle.litmus_conditions.specs.Grammar.{Limits}
 use Rattle.litmus_conditions.specs.ConditionMachine.{Frame, Hole, Wants, Fed, Goes, Ends, Refuses, feed, whole_at, go_on, proposition}
-use Rattle.litmus_conditions.specs.Laws.{are_none, takes_on, takes, IsPropositionText, TakesWhatBegins}
+use Rattle.litmus_conditions.specs.Laws.{takes_on, takes, IsPropositionText, TakesWhatBegins}
+use Rattle.litmus_tokens.specs.Texts.{are_none}
 use Rattle.litmus_conditions.proofs.Sound.{sound}
 use Rattle.litmus_conditions.proofs.Complete.{complete}
 use Rattle.litmus_conditions.proofs.Finishes.{finishes}

@@ -14,7 +14,7 @@ use Rattle.litmus_conditions.specs.declared.place.WrittenPlace.{WrittenPlace}
 use Rattle.litmus_conditions.specs.declared.place.WrittenPlace.TheVariants as written
 use Rattle.litmus_conditions.specs.declared.place.PlaceStep.{PlaceStep}
 use Rattle.litmus_conditions.specs.declared.place.PlaceStep.TheVariants as steps
-use Rattle.litmus_conditions.specs.Grammar.{PlaceTree, Location, Register, ValueTree, Number, Address, spelled_place, spelled_value, place_meaning, value_meaning, IsPlace, HasThread, IsValue}
+use Rattle.litmus_conditions.specs.Grammar.{PlaceTree, Location, Register, ValueTree, Number, Address, spelled_place, spelled_value, place_meaning, value_meaning, IsPlace, HasThread, IsValue, written_place}
 use Rattle.litmus_conditions.specs.PlaceMachine.{place_begun, register_ends, place_step, place_of, number_read, value_read}
 
 -- the tokens that were read within a place, and then rest
@@ -25,15 +25,11 @@ within (WantsBracket n) rest = tokens.Mark OpenBracket ∷ tokens.Word n ∷ res
 within (WantsColon t) rest = tokens.Number false t ∷ rest
 within (WantsRegister t) rest = tokens.Number false t ∷ tokens.Mark Colon ∷ rest
 
-abbrev pub written_of : PlaceTree → WrittenPlace
-written_of (Location b n) = written.Location n
-written_of (Register t r) = written.Register t (or_zero (register_of r))
-
 -- a place was read
 pub record PlaceRead (whole rest : List Token) (w : WrittenPlace) : Type 0 where
   pub tree : PlaceTree
   pub fine : IsPlace tree
-  pub means : written_of tree ≡ w
+  pub means : written_place tree ≡ w
   pub whole_is : whole ≡ spelled_place tree rest
 
 abbrev pub StepStands : List Token → List Token → Option PlaceStep → Type 0
@@ -97,12 +93,12 @@ place_thread threads (WantsColon n) _ h = tt
 place_thread threads (WantsRegister n) (tokens.Word w) h = register_thread threads n (register_of w) h
 place_thread threads (WantsRegister n) _ h = tt
 
-pub has_thread : (threads : ℕ) (p : PlaceTree) → WrittenThread threads (written_of p) → HasThread threads p
+pub has_thread : (threads : ℕ) (p : PlaceTree) → WrittenThread threads (written_place p) → HasThread threads p
 has_thread threads (Location b n) h = tt
 has_thread threads (Register t r) h = h
 
 -- a thread's number that is there is no greater than what fits
-pub place_of_written : (threads : ℕ) (p : PlaceTree) → threads < 18446744073709551616 → HasThread threads p → place_of (written_of p) ≡ place_meaning p
+pub place_of_written : (threads : ℕ) (p : PlaceTree) → threads < 18446744073709551616 → HasThread threads p → place_of (written_place p) ≡ place_meaning p
 place_of_written threads (Location b n) few h = refl
 place_of_written threads (Register t r) few h =
     let le : decimal t ≤ 18446744073709551615 = omega arith in

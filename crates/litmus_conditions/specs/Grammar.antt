@@ -14,6 +14,8 @@ use Rattle.litmus_tokens.specs.declared.token.Token.{Token}
 use Rattle.litmus_tokens.specs.declared.token.Token.TheVariants as tokens
 use Rattle.litmus_tokens.specs.declared.token.Mark.TheVariants.{OpenBracket, CloseBracket, Open, Close, Colon, Equals, Tilde, And, Or, Implies}
 use Rattle.litmus_tokens.specs.Words.{decimal, signed, is_int, register_of, is_register, or_zero}
+use Rattle.litmus_conditions.specs.declared.place.WrittenPlace.{WrittenPlace}
+use Rattle.litmus_conditions.specs.declared.place.WrittenPlace.TheVariants as written
 
 -- ---- places and values
 
@@ -38,6 +40,11 @@ spelled_value (Address n) rest = tokens.Word n ∷ rest
 abbrev pub place_meaning : PlaceTree → Place
 place_meaning (Location b n) = places.Location n
 place_meaning (Register t r) = places.Register (decimal t) (or_zero (register_of r))
+
+-- a place as it is written, its brackets aside: of a thread's number the digits, which no zeros lead
+abbrev pub written_place : PlaceTree → WrittenPlace
+written_place (Location b n) = written.Location n
+written_place (Register t r) = written.Register t (or_zero (register_of r))
 
 abbrev pub value_meaning : ValueTree → declared_value.Value
 value_meaning (Number negative ds) = values.Number (signed negative (decimal ds))

@@ -3,6 +3,7 @@ use Rattle.std.specs.Prelude.{◌≡◌, ◌↔◌, ℕ, List, [], ◌∷◌, Bo
 use Rattle.litmus_values.specs.Value.{Formula}
 use Rattle.litmus_tokens.specs.declared.token.Token.{Token}
 use Rattle.litmus_tokens.specs.Faults.{Begins}
+use Rattle.litmus_tokens.specs.Texts.{are_none}
 use Rattle.litmus_conditions.specs.Grammar.{Limits, IsProposition}
 use Rattle.litmus_conditions.specs.ConditionMachine.{Frame, Hole, Wants, Fed, Goes, Ends, Refuses, feed, proposition}
 
@@ -11,10 +12,6 @@ pub record Finishes (most : Limits) (threads : ℕ) (frames : List Frame) (used 
   pub rest : List Token
   pub value : Formula
   pub by : proposition most threads frames used hole rest ≡ Some value
-
-abbrev pub are_none : List Token → Bool
-are_none [] = true
-are_none (t ∷ ts) = false
 
 abbrev pub takes_on : (List Frame → ℕ → Hole → Bool) → List Token → Fed → Bool
 takes_on later ts (Goes fs used hole) = later fs used hole

@@ -8,7 +8,7 @@ use Rattle.litmus_tokens.specs.declared.token.Token.{Token}
 use Rattle.litmus_tokens.specs.declared.token.Token.TheVariants as tokens
 use Rattle.litmus_tokens.specs.declared.token.Mark.TheVariants as marks
 use Rattle.litmus_tokens.specs.Stage.{after}
-use Rattle.litmus_tokens.specs.Texts.{Placed, tokens_of, stage_after}
+use Rattle.litmus_tokens.specs.Texts.{Placed, tokens_of, stage_after, begins_tail}
 use Rattle.litmus_tokens.specs.Words.{column_name, names_column}
 use Rattle.litmus_tokens.specs.Faults.{Begins}
 use Rattle.litmus_values.specs.declared.test.Step.{Step}
@@ -25,7 +25,7 @@ use Rattle.litmus_table.proofs.Tests.{both}
 use Rattle.litmus_grammar.specs.Grammar.{members, AreItems}
 use Rattle.litmus_grammar.specs.InitMachine as init
 use Rattle.litmus_grammar.specs.TextMachine as text
-use Rattle.litmus_grammar.specs.TextMachine.{Part, Held, Next, State, Ran, placed, and_then, stepped, part_step, run}
+use Rattle.litmus_grammar.specs.TextMachine.{Held, Next, State, Ran, placed, and_then, stepped, run}
 use Rattle.litmus_grammar.proofs.Passing.{test_at}
 use Rattle.litmus_grammar.proofs.Runs.{tokens_of-append, run-append}
 use Rattle.litmus_grammar.proofs.Spelled.{rows-append}
@@ -40,11 +40,6 @@ pub record IsRows (others : ℕ) (ts : List Token) : Type 0 where
   pub behind : List Token
   pub tail : IsTail (others + 1) behind
   pub whole : ts ≡ spelled_rows rows behind
-
-same_tail : (t : Token) → laws.begins_tail t ≡ text.begins_tail t
-same_tail (tokens.Word w) = refl
-same_tail (tokens.Mark marks.Tilde) = refl
-same_tail t = refl
 
 pub length-meaning : (k n : ℕ) (rs : List RowTree) → length (columns_meaning k n rs) ≡ n
 length-meaning k zero rs = refl
@@ -150,26 +145,26 @@ module _ (name : List ℕ) (block : init.Block) where
   rows_pass [] u g s e =
       let same : rows_at g u ≡ s = cc in
       inl (record { reached = u; by = refl; same = sym same })
-  rows_pass (p ∷ ps) u g s e = by_tail (table.is_row_start u && text.begins_tail p.token) refl e (λ v k. rows_pass ps v (after g p.token) s k)
+  rows_pass (p ∷ ps) u g s e = by_tail (table.is_row_start u && begins_tail p.token) refl e (λ v k. rows_pass ps v (after g p.token) s k)
     where
       by_step : (o : Option table.State) → table.step u p.token p.place ≡ o → row_step g u p ps (text.table_went (held_at u) text.Rows o) ≡ Ok s
           → ((v : table.State) → run (rows_at (after g p.token) v) ps ≡ Ok s → Within (after g p.token) v ps s ⊎ Behind (after g p.token) v ps s) → Within g u (p ∷ ps) s ⊎ Behind g u (p ∷ ps) s
       by_step None c k later = absurd cc
       by_step (Some v) c k later = within_on g u v p ps s c (later v k)
 
-      by_tail : (b : Bool) → (table.is_row_start u && text.begins_tail p.token) ≡ b → row_step g u p ps (if b then text.leads (held_at u) (text.tail_begun p.token) else text.table_went (held_at u) text.Rows (table.step u p.token p.place)) ≡ Ok s
+      by_tail : (b : Bool) → (table.is_row_start u && begins_tail p.token) ≡ b → row_step g u p ps (if b then text.leads (held_at u) (text.tail_begun p.token) else text.table_went (held_at u) text.Rows (table.step u p.token p.place)) ≡ Ok s
           → ((v : table.State) → run (rows_at (after g p.token) v) ps ≡ Ok s → Within (after g p.token) v ps s ⊎ Behind (after g p.token) v ps s) → Within g u (p ∷ ps) s ⊎ Behind g u (p ∷ ps) s
-      by_tail true c k later = inr (record { before = []; token = p; behind = ps; reached = u; whole = refl; by = refl; row = (both (table.is_row_start u) (text.begins_tail p.token) c).0; on = k })
+      by_tail true c k later = inr (record { before = []; token = p; behind = ps; reached = u; whole = refl; by = refl; row = (both (table.is_row_start u) (begins_tail p.token) c).0; on = k })
       by_tail false c k later = by_step (table.step u p.token p.place) refl k later
 
   -- a token that the table takes ends no table
   row_goes : (u v : table.State) (t : Token) (place : ℕ) → table.step u t place ≡ Some v → text.row_read (held_at u) t place ≡ Some (record { part = text.Rows; held = held_at v })
-  row_goes u v t place e = choose (table.is_row_start u && text.begins_tail t) refl
+  row_goes u v t place e = choose (table.is_row_start u && begins_tail t) refl
     where
-      choose : (b : Bool) → (table.is_row_start u && text.begins_tail t) ≡ b → (if b then text.leads (held_at u) (text.tail_begun t) else text.table_went (held_at u) text.Rows (table.step u t place)) ≡ Some (record { part = text.Rows; held = held_at v })
+      choose : (b : Bool) → (table.is_row_start u && begins_tail t) ≡ b → (if b then text.leads (held_at u) (text.tail_begun t) else text.table_went (held_at u) text.Rows (table.step u t place)) ≡ Some (record { part = text.Rows; held = held_at v })
       choose true c =
-          let b = both (table.is_row_start u) (text.begins_tail t) c in
-          let none = apart u t place b.0 (same_tail t ∙ b.1) in
+          let b = both (table.is_row_start u) (begins_tail t) c in
+          let none = apart u t place b.0 b.1 in
           absurd (let no : Some v ≡ None = sym e ∙ none in cc)
       choose false c = ap (text.table_went (held_at u) text.Rows) e
 

@@ -9,7 +9,7 @@ use Rattle.litmus_tokens.specs.declared.token.Mark.TheVariants as marks
 use Rattle.litmus_tokens.specs.declared.lexer.Front.{Front}
 use Rattle.litmus_tokens.specs.declared.lexer.Front.TheVariants.{Layout, Lexeme}
 use Rattle.litmus_tokens.specs.Lexer.{front}
-use Rattle.litmus_tokens.specs.Texts.{Placed, after_front, tokens_from, lexed}
+use Rattle.litmus_tokens.specs.Texts.{Placed, after_front, tokens_from, lexed, is_end, begins_tail}
 use Rattle.litmus_tokens.specs.Words.{is_test_name, names_column}
 use Rattle.litmus_values.specs.declared.test.InitEntry.{InitEntry}
 use Rattle.litmus_values.specs.declared.test.Place.{Place}
@@ -34,7 +34,7 @@ use Rattle.litmus_grammar.specs.declared.parts.InitHole.TheVariants as holes
 use Rattle.litmus_grammar.specs.InitMachine as init
 use Rattle.litmus_grammar.specs.InitMachine.{Block, Did, missing, lacks_thread}
 use Rattle.litmus_grammar.specs.TextMachine as text
-use Rattle.litmus_grammar.specs.TextMachine.{Part, Held, Next, State, Ran, with_name, with_table, with_init, at, leads, stepped, and_then, run, start, nothing, first_table, first_stage}
+use Rattle.litmus_grammar.specs.TextMachine.{Part, Held, Next, State, with_name, at, leads, stepped, and_then, run, start, nothing, first_stage}
 use Rattle.litmus_grammar.specs.Kept.{AreAtMost, AreKept, IsKept}
 
 pushed : (n p : ℕ) (ps : List ℕ) → p ≤ n → AreAtMost n ps → AreAtMost n (ps ++ p ∷ [])
@@ -176,10 +176,10 @@ module _ (n p : ℕ) (le : p ≤ n) (kind : TextKind) (h : Held) (k : AreKept n 
   fed_kept q condition.Refuses = tt
 
   row_kept : (t : Token) → InNext n (text.row_read h t p)
-  row_kept t = either_way (table.is_row_start h.table && text.begins_tail t) (leads h (text.tail_begun t)) (text.table_went h text.Rows (table.step h.table t p)) (led (text.tail_begun t)) (rows_kept text.Rows t)
+  row_kept t = either_way (table.is_row_start h.table && begins_tail t) (leads h (text.tail_begun t)) (text.table_went h text.Rows (table.step h.table t p)) (led (text.tail_begun t)) (rows_kept text.Rows t)
 
   cell_kept : (t : Token) → InNext n (text.cell_read h t p)
-  cell_kept t = either_way (table.can_end h.table.hole && text.is_end t) (at h text.Done) (text.table_went h text.Cells (table.step h.table t p)) k (rows_kept text.Cells t)
+  cell_kept t = either_way (table.can_end h.table.hole && is_end t) (at h text.Done) (text.table_went h text.Cells (table.step h.table t p)) k (rows_kept text.Cells t)
 
   part_kept : (given : ℕ) (q : Part) (t : Token) → InNext n (text.part_step kind given h q t p)
   part_kept given text.Magic t = led (text.magic_read t)

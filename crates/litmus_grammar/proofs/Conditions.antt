@@ -10,7 +10,7 @@ use Rattle.litmus_tokens.specs.declared.token.Token.{Token}
 use Rattle.litmus_tokens.specs.declared.token.Token.TheVariants as tokens
 use Rattle.litmus_tokens.specs.declared.token.Mark.TheVariants as marks
 use Rattle.litmus_tokens.specs.Stage.{after}
-use Rattle.litmus_tokens.specs.Texts.{Placed, tokens_of, stage_after}
+use Rattle.litmus_tokens.specs.Texts.{Placed, tokens_of, stage_after, are_none}
 use Rattle.litmus_tokens.specs.Words.{is_filter}
 use Rattle.litmus_tokens.specs.Faults.{Begins, CanFollow, Always, ruling, Says}
 use Rattle.litmus_values.specs.declared.test.Quantifier.{Quantifier}
@@ -18,7 +18,7 @@ use Rattle.litmus_values.specs.declared.test.Quantifier.TheVariants.{Exists, Not
 use Rattle.litmus_values.specs.Value.{Formula}
 use Rattle.litmus_conditions.specs.Grammar.{limits, meaning, spelled, spelled_quantifier, IsConditionText}
 use Rattle.litmus_conditions.specs.ConditionMachine.{Frame, Hole, Wants, Fed, Goes, Ends, Refuses, feed, whole_at, go_on, proposition}
-use Rattle.litmus_conditions.specs.Laws.{are_none, takes_on, takes, IsPropositionText}
+use Rattle.litmus_conditions.specs.Laws.{takes_on, takes, IsPropositionText}
 use Rattle.litmus_conditions.proofs.Sound.{sound}
 use Rattle.litmus_conditions.proofs.Complete.{complete}
 use Rattle.litmus_conditions.proofs.Beginnings.{takes_beginnings}
@@ -26,7 +26,7 @@ use Rattle.litmus_table.specs.Machine as table
 use Rattle.litmus_grammar.specs.declared.parts.TextKind.{TextKind}
 use Rattle.litmus_grammar.specs.declared.parts.TextKind.TheVariants as kinds
 use Rattle.litmus_grammar.specs.TextMachine as text
-use Rattle.litmus_grammar.specs.TextMachine.{Part, Held, State, Ran, placed, and_then, stepped, fed, with_condition, nothing, start, run, rule_at, first_stage}
+use Rattle.litmus_grammar.specs.TextMachine.{Part, Held, State, Ran, placed, and_then, stepped, fed, with_condition, nothing, start, run, rule_at}
 use Rattle.litmus_grammar.proofs.Runs.{follows}
 use Rattle.litmus_grammar.proofs.Outcomes.{Reading}
 

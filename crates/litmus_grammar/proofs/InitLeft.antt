@@ -15,12 +15,12 @@ use Rattle.litmus_conditions.specs.declared.place.PlaceHole.TheVariants as place
 use Rattle.litmus_conditions.specs.declared.place.PlaceStep.{PlaceStep}
 use Rattle.litmus_conditions.specs.declared.place.WrittenPlace.{WrittenPlace}
 use Rattle.litmus_conditions.specs.declared.place.WrittenPlace.TheVariants as written
-use Rattle.litmus_conditions.specs.Grammar.{PlaceTree, Location, Register, ValueTree, Number, Address, spelled_place, spelled_value, IsPlace, IsValue}
+use Rattle.litmus_conditions.specs.Grammar.{PlaceTree, Location, Register, ValueTree, Number, Address, spelled_place, spelled_value, IsPlace, IsValue, written_place}
 use Rattle.litmus_conditions.specs.PlaceMachine.{place_step, place_of, register_ends, number_read}
 use Rattle.litmus_grammar.specs.declared.parts.InitHole.{InitHole}
 use Rattle.litmus_grammar.specs.declared.parts.InitHole.TheVariants as holes
 use Rattle.litmus_grammar.specs.declared.parts.TextKind.TheVariants as kinds
-use Rattle.litmus_grammar.specs.Grammar.{EntryTree, spelled_entry, spelled_others, written_place, Lacks, AreEntries, IsInitText}
+use Rattle.litmus_grammar.specs.Grammar.{EntryTree, spelled_entry, spelled_others, Lacks, AreEntries, IsInitText}
 use Rattle.litmus_grammar.specs.InitMachine as init
 use Rattle.litmus_grammar.specs.InitMachine.{Block, Did, has_key, with_key, begun_at, with_entry, place_went, and_place, valued}
 use Rattle.litmus_grammar.specs.TextMachine as text

@@ -13,12 +13,12 @@ use Rattle.litmus_values.specs.declared.test.Place.{Place}
 use Rattle.litmus_conditions.specs.declared.place.PlaceHole.TheVariants as places
 use Rattle.litmus_conditions.specs.declared.place.WrittenPlace.{WrittenPlace}
 use Rattle.litmus_conditions.specs.declared.place.WrittenPlace.TheVariants as written
-use Rattle.litmus_conditions.specs.Grammar.{PlaceTree, Location, Register, ValueTree, Number, Address, spelled_place, spelled_value, value_meaning, IsPlace, IsValue}
+use Rattle.litmus_conditions.specs.Grammar.{PlaceTree, Location, Register, ValueTree, Number, Address, spelled_place, spelled_value, value_meaning, IsPlace, IsValue, written_place}
 use Rattle.litmus_conditions.specs.PlaceMachine.{place_step, place_of, register_ends, number_read}
 use Rattle.litmus_grammar.specs.declared.parts.InitHole.{InitHole}
 use Rattle.litmus_grammar.specs.declared.parts.InitHole.TheVariants as holes
 use Rattle.litmus_grammar.specs.declared.parts.TextKind.TheVariants as kinds
-use Rattle.litmus_grammar.specs.Grammar.{Listed, EntryTree, spelled_entry, spelled_others, spelled_init, members, written_place, Lacks, AreEntries}
+use Rattle.litmus_grammar.specs.Grammar.{Listed, EntryTree, spelled_entry, spelled_others, spelled_init, members, Lacks, AreEntries}
 use Rattle.litmus_grammar.specs.InitMachine as init
 use Rattle.litmus_grammar.specs.InitMachine.{Block, has_key, with_key, begun_at, with_entry, and_place, valued}
 use Rattle.litmus_grammar.specs.Laws.{entry_kept, AreStarts}

@@ -9,7 +9,7 @@ use Rattle.litmus_tokens.specs.declared.token.Token.{Token}
 use Rattle.litmus_tokens.specs.declared.token.Token.TheVariants as tokens
 use Rattle.litmus_tokens.specs.declared.token.Mark.TheVariants as marks
 use Rattle.litmus_tokens.specs.Stage.{after}
-use Rattle.litmus_tokens.specs.Texts.{Placed, tokens_of, stage_after}
+use Rattle.litmus_tokens.specs.Texts.{Placed, tokens_of, stage_after, begins_tail}
 use Rattle.litmus_tokens.specs.Faults.{Begins}
 use Rattle.litmus_values.specs.declared.test.Place.{Place}
 use Rattle.litmus_values.specs.declared.test.Quantifier.{Quantifier}
@@ -358,12 +358,12 @@ module _ (name : List ℕ) (block : init.Block) (t : table.State) (few : length 
       }
 
   module _ (row : table.is_row_start t ≡ true) where
-    row_first : (q : Placed) (ps : List Placed) (g : Stage) → text.begins_tail q.token ≡ true → run (test_at g text.Rows there) (q ∷ ps) ≡ first_step g text.Rows q ps (text.leads there (text.tail_begun q.token))
+    row_first : (q : Placed) (ps : List Placed) (g : Stage) → begins_tail q.token ≡ true → run (test_at g text.Rows there) (q ∷ ps) ≡ first_step g text.Rows q ps (text.leads there (text.tail_begun q.token))
     row_first q ps g e =
-        ap (λ (b : Bool). first_step g text.Rows q ps (if b && text.begins_tail q.token then text.leads there (text.tail_begun q.token) else text.table_went there text.Rows (table.step t q.token q.place))) row
+        ap (λ (b : Bool). first_step g text.Rows q ps (if b && begins_tail q.token then text.leads there (text.tail_begun q.token) else text.table_went there text.Rows (table.step t q.token q.place))) row
         ∙ ap (λ (b : Bool). first_step g text.Rows q ps (if b then text.leads there (text.tail_begun q.token) else text.table_went there text.Rows (table.step t q.token q.place))) e
 
-    first_token : (x : Token) (n : ℕ) (ps : List Placed) (g : Stage) (p : Part) → text.begins_tail x ≡ true → text.tail_begun x ≡ Some p → text.quantifier_read x ≡ Some p → run (test_at g text.Rows there) (record { token = x; place = n } ∷ ps) ≡ run (test_at g text.WantsQuantifier there) (record { token = x; place = n } ∷ ps)
+    first_token : (x : Token) (n : ℕ) (ps : List Placed) (g : Stage) (p : Part) → begins_tail x ≡ true → text.tail_begun x ≡ Some p → text.quantifier_read x ≡ Some p → run (test_at g text.Rows there) (record { token = x; place = n } ∷ ps) ≡ run (test_at g text.WantsQuantifier there) (record { token = x; place = n } ∷ ps)
     first_token x n ps g p e k m =
         let q : Placed = record { token = x; place = n } in
         row_first q ps g e ∙ ap (λ (o : Option Part). first_step g text.Rows q ps (text.leads there o)) k ∙ same_step_back g text.Rows text.WantsQuantifier q ps (record { part = p; held = there })

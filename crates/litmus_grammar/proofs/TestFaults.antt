@@ -11,7 +11,7 @@ use Rattle.litmus_tokens.specs.declared.token.Token.TheVariants as tokens
 use Rattle.litmus_tokens.specs.declared.token.Mark.TheVariants as marks
 use Rattle.litmus_tokens.specs.Faults.{Begins, CanFollow, cell_ruling, ruling, Says, IsFault}
 use Rattle.litmus_tokens.specs.Stage.{after}
-use Rattle.litmus_tokens.specs.Texts.{Placed, tokens_of, stage_after}
+use Rattle.litmus_tokens.specs.Texts.{Placed, tokens_of, stage_after, begins_tail}
 use Rattle.litmus_tokens.specs.Words.{is_test_name}
 use Rattle.litmus_values.specs.declared.test.Quantifier.TheVariants.{Exists, Forall}
 use Rattle.litmus_conditions.specs.Grammar.{PlaceTree, Location, Register, ValueTree, Number, Address, spelled_place, spelled_value}
@@ -193,7 +193,7 @@ test_begins ps s few e =
 -- ---- the rule that a refused token breaks
 
 -- a token of the table goes on, or ends it
-begins_goes : (t : Token) → text.begins_tail t ≡ true → text.tail_begun t ≡ None → ⊥
+begins_goes : (t : Token) → begins_tail t ≡ true → text.tail_begun t ≡ None → ⊥
 begins_goes (tokens.Word w) e n = choose (bytes_eq w (codes "locations")) (bytes_eq w (codes "exists")) (bytes_eq w (codes "forall")) e n
   where
     choose : (a b c : Bool) → (a || b || c) ≡ true → (if a then Some text.WantsList else (if b then Some (text.proposition Exists) else (if c then Some (text.proposition Forall) else None))) ≡ None → ⊥
@@ -203,11 +203,6 @@ begins_goes (tokens.Word w) e n = choose (bytes_eq w (codes "locations")) (bytes
     choose false false false e n = absurd cc
 begins_goes (tokens.Mark marks.Tilde) e n = absurd cc
 begins_goes t e n = absurd cc
-
-same_tail : (t : Token) → laws.begins_tail t ≡ text.begins_tail t
-same_tail (tokens.Word w) = refl
-same_tail (tokens.Mark marks.Tilde) = refl
-same_tail t = refl
 
 none_led : (h : Held) (o : Option Part) → text.leads h o ≡ None → o ≡ None
 none_led h None e = refl
@@ -232,22 +227,19 @@ not_taken (Some u) e = absurd cc
 
 module _ (h : Held) (t : Token) where
   abbrev ends_row : Bool
-  ends_row = table.is_row_start h.table && text.begins_tail t
-
-  same_ends : (table.is_row_start h.table && laws.begins_tail t) ≡ ends_row
-  same_ends = ap (λ (b : Bool). table.is_row_start h.table && b) (same_tail t)
+  ends_row = table.is_row_start h.table && begins_tail t
 
   stops_where : text.row_read h t 0 ≡ None → stands false h.table t ≡ false
   stops_where none = choose ends_row refl none
     where
       choose : (b : Bool) → ends_row ≡ b → (if b then text.leads h (text.tail_begun t) else text.table_went h text.Rows (table.step h.table t 0)) ≡ None → stands false h.table t ≡ false
-      choose true e k = absurd (begins_goes t (both (table.is_row_start h.table) (text.begins_tail t) e).1 (none_led h (text.tail_begun t) k))
-      choose false e k = neither (is_taken (table.step h.table t 0)) (table.is_row_start h.table && laws.begins_tail t) (none_went h (table.step h.table t 0) k) (same_ends ∙ e)
+      choose true e k = absurd (begins_goes t (both (table.is_row_start h.table) (begins_tail t) e).1 (none_led h (text.tail_begun t) k))
+      choose false e k = neither (is_taken (table.step h.table t 0)) (table.is_row_start h.table && begins_tail t) (none_went h (table.step h.table t 0) k) e
 
   stuck : stands false h.table t ≡ false → text.row_read h t 0 ≡ None
   stuck e =
-      let x = first_false (is_taken (table.step h.table t 0)) (table.is_row_start h.table && laws.begins_tail t) e in
-      ap (λ (b : Bool). if b then text.leads h (text.tail_begun t) else text.table_went h text.Rows (table.step h.table t 0)) (sym same_ends ∙ x.1)
+      let x = first_false (is_taken (table.step h.table t 0)) (table.is_row_start h.table && begins_tail t) e in
+      ap (λ (b : Bool). if b then text.leads h (text.tail_begun t) else text.table_went h text.Rows (table.step h.table t 0)) x.1
       ∙ ap (text.table_went h text.Rows) (not_taken (table.step h.table t 0) x.0)
 
 module _ (ps : List Placed) (few : length ps + 1 < 18446744073709551616) (g : Stage) (h : Held) (reached : run begun ps ≡ Ok (test_at g text.Rows h)) where

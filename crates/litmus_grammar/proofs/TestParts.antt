@@ -8,7 +8,7 @@ use Rattle.litmus_tokens.specs.declared.token.Token.{Token}
 use Rattle.litmus_tokens.specs.declared.token.Token.TheVariants as tokens
 use Rattle.litmus_tokens.specs.declared.token.Mark.TheVariants as marks
 use Rattle.litmus_tokens.specs.Stage.{after}
-use Rattle.litmus_tokens.specs.Texts.{Placed, tokens_of, stage_after}
+use Rattle.litmus_tokens.specs.Texts.{Placed, tokens_of, stage_after, begins_tail}
 use Rattle.litmus_tokens.specs.Words.{is_test_name, names_column}
 use Rattle.litmus_values.specs.declared.test.Place.{Place}
 use Rattle.litmus_values.specs.declared.test.Quantifier.{Quantifier}
@@ -32,7 +32,7 @@ use Rattle.litmus_grammar.specs.declared.parts.TextKind.TheVariants as kinds
 use Rattle.litmus_grammar.specs.InitMachine as init
 use Rattle.litmus_grammar.specs.InitMachine.{Block}
 use Rattle.litmus_grammar.specs.TextMachine as text
-use Rattle.litmus_grammar.specs.TextMachine.{Part, Held, Next, State, Ran, placed, and_then, stepped, part_step, run}
+use Rattle.litmus_grammar.specs.TextMachine.{Part, Held, Next, State, placed, and_then, stepped, part_step, run}
 use Rattle.litmus_grammar.proofs.Passing.{test_at}
 use Rattle.litmus_grammar.proofs.Threads.{Matches, IsMatched, step_matches}
 
@@ -280,17 +280,17 @@ module _ (h : Held) where
   only_begins stages.InCell table.Whole m e = absurd cc
   only_begins g x m e = absurd m
 
-  to_tail : (t : Token) → text.begins_tail t ≡ true → after stages.CellBegins t ≡ stages.Tail
+  to_tail : (t : Token) → begins_tail t ≡ true → after stages.CellBegins t ≡ stages.Tail
   to_tail (tokens.Word w) e = ap (λ (b : Bool). if b then stages.Tail else stages.InCell) e
   to_tail (tokens.Mark marks.Tilde) e = refl
   to_tail t e = absurd cc
 
   row_agrees : (g : Stage) (t : Token) (place : ℕ) → Matches g h.table.hole → NextAgrees (after g t) (text.row_read h t place)
-  row_agrees g t place m = choose (table.is_row_start h.table && text.begins_tail t) refl
+  row_agrees g t place m = choose (table.is_row_start h.table && begins_tail t) refl
     where
-      choose : (b : Bool) → (table.is_row_start h.table && text.begins_tail t) ≡ b → NextAgrees (after g t) (if b then text.leads h (text.tail_begun t) else text.table_went h text.Rows (table.step h.table t place))
+      choose : (b : Bool) → (table.is_row_start h.table && begins_tail t) ≡ b → NextAgrees (after g t) (if b then text.leads h (text.tail_begun t) else text.table_went h text.Rows (table.step h.table t place))
       choose true e =
-          let x = both (table.is_row_start h.table) (text.begins_tail t) e in
+          let x = both (table.is_row_start h.table) (begins_tail t) e in
           let y = both (h.table.column == 0) (table.is_begin h.table.hole) x.0 in
           let first : g ≡ stages.CellBegins = only_begins g h.table.hole m (begins_at h.table.hole y.1) in
           subst (λ (f : Stage). NextAgrees f (text.leads h (text.tail_begun t))) (sym (ap (λ (f : Stage). after f t) first ∙ to_tail t x.1)) (leads_tail (text.tail_begun t) (begun_tail t))

@@ -8,7 +8,7 @@ use Rattle.litmus_tokens.specs.declared.token.Token.{Token}
 use Rattle.litmus_tokens.specs.declared.token.Token.TheVariants as tokens
 use Rattle.litmus_tokens.specs.declared.token.Mark.TheVariants as marks
 use Rattle.litmus_tokens.specs.Stage.{after}
-use Rattle.litmus_tokens.specs.Texts.{Placed, tokens_of, stage_after}
+use Rattle.litmus_tokens.specs.Texts.{Placed, tokens_of, stage_after, is_end}
 use Rattle.litmus_tokens.specs.Words.{ends_table}
 use Rattle.litmus_tokens.specs.Faults.{Begins, CanFollow, Ruling, Always, Where, cell_ruling, ruling, Says}
 use Rattle.litmus_table.specs.declared.opcode.Opcode.{Opcode}
@@ -20,7 +20,7 @@ use Rattle.litmus_table.specs.Grammar.{spelled_thread, thread_meaning}
 use Rattle.litmus_table.specs.Late.{thread_notes}
 use Rattle.litmus_table.specs.Machine as table
 use Rattle.litmus_table.specs.Laws as laws
-use Rattle.litmus_table.specs.Laws.{IsThread, then_on, steps_of, AreNoted, is_whole, is_taken, ends_at, stands, IsInCell}
+use Rattle.litmus_table.specs.Laws.{IsThread, then_on, steps_of, AreNoted, is_whole, is_taken, stands, IsInCell}
 use Rattle.litmus_table.proofs.Rules.{apart, rules_given}
 use Rattle.litmus_table.proofs.Sound.{thread_sound}
 use Rattle.litmus_table.proofs.Tables.{thread_complete, thread_begins}
@@ -28,7 +28,7 @@ use Rattle.litmus_table.proofs.Tests.{both}
 use Rattle.litmus_grammar.specs.declared.parts.TextKind.TheVariants as kinds
 use Rattle.litmus_grammar.specs.Grammar.{IsThreadText}
 use Rattle.litmus_grammar.specs.TextMachine as text
-use Rattle.litmus_grammar.specs.TextMachine.{Part, Held, Next, State, Ran, with_table, placed, and_then, stepped, part_step, nothing, start, run, rule_at}
+use Rattle.litmus_grammar.specs.TextMachine.{Part, Held, Next, State, with_table, placed, and_then, stepped, part_step, nothing, start, run, rule_at}
 use Rattle.litmus_grammar.proofs.Ends.{no_cell}
 use Rattle.litmus_grammar.proofs.Inner.{AreInner}
 use Rattle.litmus_grammar.proofs.Outcomes.{ReadingWhere, refused}
@@ -160,11 +160,11 @@ says_so C D g (Always n) k to from e = e
 says_so C D g (Where other n) k to from (inl x) = inl (to other x.0, x.1)
 says_so C D g (Where other n) k to from (inr x) = inr (λ d. x.0 (from other d), x.1)
 
-token_end : (t : Token) → text.is_end t ≡ true → t ≡ tokens.End
+token_end : (t : Token) → is_end t ≡ true → t ≡ tokens.End
 token_end tokens.End e = refl
 token_end t e = absurd cc
 
-end_placed : (p : Placed) → text.is_end p.token ≡ true → p ≡ record { token = tokens.End; place = p.place }
+end_placed : (p : Placed) → is_end p.token ≡ true → p ≡ record { token = tokens.End; place = p.place }
 end_placed p e = ap (λ (t : Token). record { token = t; place = p.place }) (token_end p.token e)
 
 and_false : (a : Bool) → (a && false) ≡ false
@@ -173,9 +173,9 @@ and_false false = refl
 
 -- a token that the table takes ends no text
 pub cell_goes : (h : Held) (t : Token) (place : ℕ) (v : table.State) → table.step h.table t place ≡ Some v → text.cell_read h t place ≡ Some (record { part = text.Cells; held = with_table h v })
-cell_goes h t place v e = choose (text.is_end t) refl
+cell_goes h t place v e = choose (is_end t) refl
   where
-    choose : (b : Bool) → text.is_end t ≡ b → text.cell_read h t place ≡ Some (record { part = text.Cells; held = with_table h v })
+    choose : (b : Bool) → is_end t ≡ b → text.cell_read h t place ≡ Some (record { part = text.Cells; held = with_table h v })
     choose true k =
         let none : table.step h.table t place ≡ None = ap (λ (x : Token). table.step h.table x place) (token_end t k) ∙ no_cell h.table.threads h.table.column h.table.hole place in
         absurd (let no : Some v ≡ None = sym e ∙ none in cc)
@@ -206,9 +206,9 @@ module _ (threads : ℕ) where
   prepend g h p ps s u q (Inside v r e m) = Inside v (ap (then_on (λ x. laws.run x ps)) q ∙ r) e m
   prepend g h p ps s u q (Ended v qs n whole r ended held) = Ended v (p ∷ qs) n (ap (λ (l : List Placed). p ∷ l) whole) (ap (then_on (λ x. laws.run x qs)) q ∙ r) ended held
 
-  last : (g : Stage) (h : Held) (p : Placed) (ps : List Placed) (s : State) → (table.can_end h.table.hole && text.is_end p.token) ≡ true → run (standing (after g p.token) text.Done h) ps ≡ Ok s → Standing g h (p ∷ ps) s
+  last : (g : Stage) (h : Held) (p : Placed) (ps : List Placed) (s : State) → (table.can_end h.table.hole && is_end p.token) ≡ true → run (standing (after g p.token) text.Done h) ps ≡ Ok s → Standing g h (p ∷ ps) s
   last g h p [] s q e =
-      let b = both (table.can_end h.table.hole) (text.is_end p.token) q in
+      let b = both (table.can_end h.table.hole) (is_end p.token) q in
       let same : standing (after g p.token) text.Done h ≡ s = cc in
       Ended h.table [] p.place (ap (λ (x : Placed). x ∷ []) (end_placed p b.1)) refl b.0 (ap (λ (x : State). x.held) (sym same))
   last g h p (r ∷ ps) s q e = absurd cc
@@ -217,14 +217,14 @@ module _ (threads : ℕ) where
   stands_there [] g h s m e =
       let same : standing g text.Cells h ≡ s = cc in
       Inside h.table refl (sym same) m
-  stands_there (p ∷ ps) g h s m e = by_end (table.can_end h.table.hole && text.is_end p.token) refl e (λ u k x. stands_there ps (after g p.token) (with_table h u) s k x)
+  stands_there (p ∷ ps) g h s m e = by_end (table.can_end h.table.hole && is_end p.token) refl e (λ u k x. stands_there ps (after g p.token) (with_table h u) s k x)
     where
       by_step : (o : Option table.State) → table.step h.table p.token p.place ≡ o → and_then (placed p.place (stepped (standing g text.Cells h) p.token (text.table_went h text.Cells o))) (λ x. run x ps) ≡ Ok s
           → ((u : table.State) → Matches (after g p.token) u.hole → run (standing (after g p.token) text.Cells (with_table h u)) ps ≡ Ok s → Standing (after g p.token) (with_table h u) ps s) → Standing g h (p ∷ ps) s
       by_step None q k later = absurd cc
       by_step (Some u) q k later = prepend g h p ps s u q (later u (subst (IsMatched (after g p.token)) q (step_matches h.table.threads h.table.column p.place g h.table.hole p.token m)) k)
 
-      by_end : (b : Bool) → (table.can_end h.table.hole && text.is_end p.token) ≡ b
+      by_end : (b : Bool) → (table.can_end h.table.hole && is_end p.token) ≡ b
           → and_then (placed p.place (stepped (standing g text.Cells h) p.token (if b then text.at h text.Done else text.table_went h text.Cells (table.step h.table p.token p.place)))) (λ x. run x ps) ≡ Ok s
           → ((u : table.State) → Matches (after g p.token) u.hole → run (standing (after g p.token) text.Cells (with_table h u)) ps ≡ Ok s → Standing (after g p.token) (with_table h u) ps s) → Standing g h (p ∷ ps) s
       by_end true q k later = last g h p ps s q k
@@ -312,29 +312,24 @@ module _ (threads : ℕ) where
         let p : Placed = record { token = t; place = 0 } in
         subst (Begins IsThreadText) (tokens_of-append ps (p ∷ [])) (begins_more (tokens_of (ps ++ p ∷ [])) (thread_begins (ps ++ p ∷ []) (record { after = v; by = table_one ps (laws.columns 0) u v p by e })))
 
-    ends_here : (t : Token) → is_whole u ≡ true → laws.is_end t ≡ true → Can t
+    ends_here : (t : Token) → is_whole u ≡ true → is_end t ≡ true → Can t
     ends_here tokens.End w e = record { rest = []; text = subst IsThreadText (sym (append-nil (tokens_of ps ++ tokens.End ∷ []))) (to_text (tokens_of ps) (thread_sound ps u by w)) }
     ends_here t w e = absurd cc
 
     can_by : (t : Token) → stands true u t ≡ true → Can t
     can_by t e = choose (table.step u t 0) refl e
       where
-        choose : (o : Option table.State) → table.step u t 0 ≡ o → (is_taken o || (is_whole u && laws.is_end t)) ≡ true → Can t
+        choose : (o : Option table.State) → table.step u t 0 ≡ o → (is_taken o || (is_whole u && is_end t)) ≡ true → Can t
         choose (Some v) q k = one_more t v q
-        choose None q k = let b = both (is_whole u) (laws.is_end t) k in ends_here t b.0 b.1
-
-    same_end : (t : Token) → laws.is_end t ≡ text.is_end t
-    same_end tokens.End = refl
-    same_end t = refl
+        choose None q k = let b = both (is_whole u) (is_end t) k in ends_here t b.0 b.1
 
     stuck : (t : Token) → stands true u t ≡ false → text.cell_read (with_table begun u) t 0 ≡ None
     stuck t e = choose (table.step u t 0) refl e
       where
-        choose : (o : Option table.State) → table.step u t 0 ≡ o → (is_taken o || (is_whole u && laws.is_end t)) ≡ false → text.cell_read (with_table begun u) t 0 ≡ None
+        choose : (o : Option table.State) → table.step u t 0 ≡ o → (is_taken o || (is_whole u && is_end t)) ≡ false → text.cell_read (with_table begun u) t 0 ≡ None
         choose (Some v) q k = absurd cc
         choose None q k =
-            ap (λ (b : Bool). if is_whole u && b then text.at (with_table begun u) text.Done else text.table_went (with_table begun u) text.Cells (table.step u t 0)) (sym (same_end t))
-            ∙ ap (λ (b : Bool). if b then text.at (with_table begun u) text.Done else text.table_went (with_table begun u) text.Cells (table.step u t 0)) k
+            ap (λ (b : Bool). if b then text.at (with_table begun u) text.Done else text.table_went (with_table begun u) text.Cells (table.step u t 0)) k
             ∙ ap (text.table_went (with_table begun u) text.Cells) q
 
     can_not : (t : Token) (place : ℕ) → text.cell_read (with_table begun u) t place ≡ None → Can t → ⊥

@@ -4,13 +4,13 @@ use Rattle.std.specs.Prelude.{◌≡◌, ℕ, zero, suc, ◌+◌, List, [], ◌�
 use Rattle.litmus_tokens.specs.declared.token.Token.{Token}
 use Rattle.litmus_tokens.specs.declared.token.Token.TheVariants as tokens
 use Rattle.litmus_tokens.specs.declared.token.Mark.TheVariants.{OpenBrace, CloseBrace, OpenBracket, CloseBracket, Semicolon, Equals}
-use Rattle.litmus_tokens.specs.Words.{is_test_name, register_of, or_zero}
+use Rattle.litmus_tokens.specs.Words.{is_test_name}
 use Rattle.litmus_values.specs.declared.test.InitEntry.{InitEntry}
 use Rattle.litmus_values.specs.declared.test.Quantifier.{Quantifier}
 use Rattle.litmus_values.specs.Value.{Content}
 use Rattle.litmus_conditions.specs.declared.place.WrittenPlace.{WrittenPlace}
 use Rattle.litmus_conditions.specs.declared.place.WrittenPlace.TheVariants as written
-use Rattle.litmus_conditions.specs.Grammar.{PlaceTree, Location, Register, ValueTree, spelled_place, spelled_value, place_meaning, value_meaning, IsPlace, HasThread, IsValue, FormulaTree, spelled, meaning, Limits, IsFormula, spelled_quantifier}
+use Rattle.litmus_conditions.specs.Grammar.{PlaceTree, ValueTree, spelled_place, spelled_value, place_meaning, value_meaning, IsPlace, HasThread, IsValue, FormulaTree, spelled, meaning, Limits, IsFormula, spelled_quantifier, written_place}
 use Rattle.litmus_table.specs.Grammar.{RowTree, ThreadTree, AreCells, AreRows, spelled_header, spelled_rows, spelled_thread, columns_meaning}
 
 -- ---- lists with semicolons between, and one behind the last or none
@@ -47,11 +47,6 @@ spelled_entry e rest = spelled_place e.place (tokens.Mark Equals ∷ spelled_val
 
 abbrev pub entry_meaning : EntryTree → InitEntry
 entry_meaning e = record { place = place_meaning e.place; value = value_meaning e.value }
-
--- a place as it is written, its brackets aside: of a thread's number the digits, which no zeros lead
-abbrev pub written_place : PlaceTree → WrittenPlace
-written_place (Location b n) = written.Location n
-written_place (Register t r) = written.Register t (or_zero (register_of r))
 
 abbrev pub spelled_init : Option (Listed EntryTree) → List Token → List Token
 spelled_init es rest = tokens.Mark OpenBrace ∷ spelled_listed spelled_entry es (tokens.Mark CloseBrace ∷ rest)

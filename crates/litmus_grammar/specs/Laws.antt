@@ -8,13 +8,13 @@ use Rattle.litmus_values.specs.declared.test.InitEntry.{InitEntry}
 use Rattle.litmus_values.specs.declared.test.Place.{Place}
 use Rattle.litmus_values.specs.declared.test.Quantifier.{Quantifier}
 use Rattle.litmus_values.specs.Value.{Formula}
-use Rattle.litmus_conditions.specs.Grammar.{place_meaning, value_meaning, meaning}
+use Rattle.litmus_conditions.specs.Grammar.{place_meaning, value_meaning, meaning, written_place}
 use Rattle.litmus_conditions.specs.PlaceMachine.{place_of}
 use Rattle.litmus_table.specs.Grammar.{ThreadTree, columns_meaning, thread_meaning}
 use Rattle.litmus_table.specs.Late.{thread_notes, columns_notes}
 use Rattle.litmus_table.specs.Laws.{steps_of, AreNoted}
 use Rattle.litmus_grammar.specs.declared.parts.TextKind.{TextKind}
-use Rattle.litmus_grammar.specs.Grammar.{EntryTree, spelled_entry, members, written_place, TestTree}
+use Rattle.litmus_grammar.specs.Grammar.{EntryTree, spelled_entry, members, TestTree}
 use Rattle.litmus_grammar.specs.TextMachine.{Held, State, start, run}
 use Rattle.litmus_grammar.specs.Texts.{before_entries, before_rows}
 

@@ -9,8 +9,8 @@ use Rattle.litmus_tokens.specs.declared.token.Token.{Token}
 use Rattle.litmus_tokens.specs.declared.token.Token.TheVariants as tokens
 use Rattle.litmus_tokens.specs.declared.token.Mark.TheVariants as marks
 use Rattle.litmus_tokens.specs.Stage.{after, rule_of}
-use Rattle.litmus_tokens.specs.Texts.{Placed}
-use Rattle.litmus_tokens.specs.Words.{is_test_name, is_filter, ends_table}
+use Rattle.litmus_tokens.specs.Texts.{Placed, is_end, begins_tail}
+use Rattle.litmus_tokens.specs.Words.{is_test_name, is_filter}
 use Rattle.litmus_values.specs.declared.test.Place.{Place}
 use Rattle.litmus_values.specs.declared.test.Quantifier.{Quantifier}
 use Rattle.litmus_values.specs.declared.test.Quantifier.TheVariants.{Exists, NotExists, Forall}
@@ -91,10 +91,6 @@ leads h None = None
 
 -- ---- tokens that are looked at alone
 
-abbrev pub is_end : Token → Bool
-is_end tokens.End = true
-is_end t = false
-
 abbrev pub is_word : Token → Bool
 is_word (tokens.Word w) = true
 is_word t = false
@@ -106,12 +102,6 @@ is_filter_word t = false
 abbrev pub is_list_word : Token → Bool
 is_list_word (tokens.Word w) = bytes_eq w (codes "locations")
 is_list_word t = false
-
--- whether the token begins what stands behind the table
-abbrev pub begins_tail : Token → Bool
-begins_tail (tokens.Word w) = ends_table w
-begins_tail (tokens.Mark marks.Tilde) = true
-begins_tail t = false
 
 -- ---- before the init block
 

@@ -22,8 +22,9 @@ use Rattle.litmus_values.specs.declared.test.Connective.{Connective}
 use Rattle.litmus_values.specs.declared.test.Connective.TheVariants as connectives
 use Rattle.litmus_values.specs.Value.{Formula, Constant, Holds, Not, Join, level}
 use Rattle.litmus_conditions.specs.Grammar as grammar
-use Rattle.litmus_conditions.specs.Grammar.{FormulaTree, Word, Atom, Prefix, Pair, Group, connective_token, spelled, spelled_quantifier, place_meaning, meaning, tightness, IsGrouped, HasAtoms, depth, operators, Limits, limits}
-use Rattle.litmus_printing.specs.Printing.{place_text, value_text, connective_text, bracketed, is_loose, formula_text, condition_text}
+use Rattle.litmus_conditions.specs.Grammar.{FormulaTree, Word, Atom, Prefix, Pair, Group, connective_token, spelled, spelled_quantifier, meaning, tightness, IsGrouped, HasAtoms, depth, operators, Limits, limits}
+use Rattle.litmus_printing.specs.Printing.{place_text, value_text, connective_text, is_loose, formula_text, condition_text}
+use Rattle.source_text.specs.Joined.{bracketed}
 use Rattle.litmus_grammar.specs.Texts.{ReadsCondition}
 use Rattle.litmus_laws.specs.Written.{begins_word, IsWord, IsPlace, IsFormula, IsTextOfCondition, one_where, nesting, joins, IsWithinLimits}
 use Rattle.litmus_laws.proofs.Read.{Within, Entries, Operands, Condition, part, core, free, inner, inner_turn, not_it}

@@ -36,7 +36,8 @@ use Rattle.litmus_table.specs.declared.opcode.Want.{Want}
 use Rattle.litmus_table.specs.declared.opcode.Want.TheVariants as wants
 use Rattle.litmus_table.specs.Words.{computing_of, accessing_of, fence_of, branch_of, opcode_of, data_form, all_fit, registers, immediate, data_meaning, instruction_meaning}
 use Rattle.litmus_table.specs.Grammar.{InstructionTree, IsOperation}
-use Rattle.litmus_printing.specs.Printing.{joined, register_text, operation_text, branch_text, fence_text, operands_text, based_text, instruction_text}
+use Rattle.litmus_printing.specs.Printing.{register_text, operation_text, branch_text, fence_text, operands_text, based_text, instruction_text}
+use Rattle.source_text.specs.Joined.{joined}
 use Rattle.litmus_laws.specs.Written.{begins_word, IsWord, IsNumber, IsBase, IsInstruction}
 use Rattle.litmus_laws.proofs.Read.{Operands, core, read, free, turn, inner, first_of, not_it, word_byte}
 use Rattle.litmus_laws.proofs.Numbers.{second_test, word_len, word, number, signed_number, is_negative, digits_of, signed_back, is_int_back, register_back, register_word}

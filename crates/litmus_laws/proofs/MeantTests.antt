@@ -18,11 +18,11 @@ use Rattle.litmus_values.specs.declared.test.Place.TheVariants as places
 use Rattle.litmus_values.specs.Value.{Content}
 use Rattle.litmus_conditions.specs.declared.place.WrittenPlace.{WrittenPlace}
 use Rattle.litmus_conditions.specs.declared.place.WrittenPlace.TheVariants as written
-use Rattle.litmus_conditions.specs.Grammar.{Limits, limits, PlaceTree, Location, Register, ValueTree, Number, Address, spelled_place, spelled_value, place_meaning, HasThread}
+use Rattle.litmus_conditions.specs.Grammar.{Limits, limits, PlaceTree, Location, Register, ValueTree, Number, Address, spelled_place, spelled_value, place_meaning, HasThread, written_place}
 use Rattle.litmus_table.specs.Grammar.{spelled_names, spelled_header, spelled_rows, columns_meaning}
 use Rattle.litmus_table.specs.Late.{late_columns}
 use Rattle.litmus_grammar.specs.Grammar as grammar
-use Rattle.litmus_grammar.specs.Grammar.{Listed, spelled_end, spelled_others, spelled_listed, members, EntryTree, spelled_entry, entry_meaning, written_place, spelled_init, spelled_observed, AreItems, TestTree, spelled_text, spelled_keylines, spelled_condition, spelled_test, test_meaning}
+use Rattle.litmus_grammar.specs.Grammar.{Listed, spelled_others, spelled_listed, members, EntryTree, spelled_entry, entry_meaning, spelled_init, spelled_observed, AreItems, TestTree, spelled_text, spelled_keylines, spelled_condition, spelled_test, test_meaning}
 use Rattle.litmus_grammar.specs.Texts.{ReadsTest, is_there, late_entries, late_test, before_entries, before_rows}
 use Rattle.litmus_laws.specs.Written.{IsFormula, Lacks, AreEntries, ArePlaces, IsTest, IsTextOfTest}
 use Rattle.litmus_laws.proofs.Numbers.{own}

@@ -1,8 +1,8 @@
 //! The parts of a text, and the tokens that lead from one to the next.
 
 ghost use Rattle.std.specs.Prelude.{◌≡◌};
-ghost use Rattle.litmus_tokens.specs.Texts.{ends_line};
-ghost use Rattle.litmus_grammar.specs.TextMachine.{is_end, is_word, is_filter_word, is_list_word, begins_tail, magic_read, title_ended, head_read, column_ended, word_quantifier, quantifier_read, exists_read, proposition, list_opened, item_ended, tail_begun, end_read, list_begun, init_part, after_init, after_list, first_part};
+ghost use Rattle.litmus_tokens.specs.Texts.{ends_line, is_end, begins_tail};
+ghost use Rattle.litmus_grammar.specs.TextMachine.{is_word, is_filter_word, is_list_word, magic_read, title_ended, head_read, column_ended, word_quantifier, quantifier_read, exists_read, proposition, list_opened, item_ended, tail_begun, end_read, list_begun, init_part, after_init, after_list, first_part};
 ghost use Rattle.litmus_parts.specs.PartReading.{part_of, Leads};
 
 use litmus_conditions::{Frame, Hole, StepError};

@@ -14,14 +14,14 @@ use Rattle.litmus_tokens.specs.Words.{decimal, register_of, or_zero}
 use Rattle.litmus_values.specs.declared.test.Place.{Place}
 use Rattle.litmus_values.specs.declared.test.Place.TheVariants as whole_places
 use Rattle.litmus_values.specs.declared.test.InitEntry.{InitEntry}
-use Rattle.litmus_conditions.specs.Grammar.{PlaceTree, Location, Register, place_meaning, value_meaning}
+use Rattle.litmus_conditions.specs.Grammar.{PlaceTree, Location, Register, place_meaning, value_meaning, written_place}
 use Rattle.litmus_conditions.specs.PlaceMachine.{place_of}
 use Rattle.litmus_table.specs.Late.{Late}
 use Rattle.litmus_ppc.specs.declared.fault.LitmusFault.{LitmusFault}
 use Rattle.litmus_ppc.specs.declared.fault.LitmusFault.TheVariants as faults
 use Rattle.litmus_grammar.specs.declared.parts.TextKind.{TextKind}
 use Rattle.litmus_grammar.specs.declared.parts.TextKind.TheVariants as kinds
-use Rattle.litmus_grammar.specs.Grammar.{EntryTree, spelled_entry, members, entry_meaning, written_place, IsInitText}
+use Rattle.litmus_grammar.specs.Grammar.{EntryTree, spelled_entry, members, entry_meaning, IsInitText}
 use Rattle.litmus_grammar.specs.InitMachine.{lacks_thread, missing}
 use Rattle.litmus_grammar.specs.TextMachine.{State, Ran, run, start, threads_in}
 use Rattle.litmus_ppc.specs.TextReading.{FailsAt}

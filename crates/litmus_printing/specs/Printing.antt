@@ -1,6 +1,7 @@
 -- The text of a test.
 use Rattle.std.specs.Prelude.{ℕ, zero, suc, ◌+◌, max, List, [], ◌∷◌, ◌++◌, map, length, Bool, true, false, nat_lt, codes}
 use Rattle.std.specs.Fmt.{decimal, signed_decimal}
+use Rattle.source_text.specs.Joined.{joined, bracketed}
 use Rattle.litmus_values.specs.declared.instruction.Instruction.{Instruction}
 use Rattle.litmus_values.specs.declared.instruction.Instruction.TheVariants as instructions
 use Rattle.litmus_values.specs.declared.instruction.Operation.{Operation}
@@ -24,16 +25,6 @@ use Rattle.litmus_values.specs.Value.{Formula, Constant, Holds, Not, Join, Conte
 
 abbrev pub line : List ℕ → List ℕ
 line text = text ++ 10 ∷ []
-
-abbrev pub joined : List ℕ → List (List ℕ) → List ℕ
-joined sign [] = []
-joined sign (t ∷ []) = t
-joined sign (t ∷ u ∷ ts) = t ++ (sign ++ joined sign (u ∷ ts))
-
--- a sign before all but the first of a list
-abbrev pub between : List ℕ → ℕ → List ℕ
-between sign zero = []
-between sign (suc k) = sign
 
 abbrev pub all_of : List (List ℕ) → List ℕ
 all_of [] = []
@@ -110,10 +101,6 @@ abbrev pub connective_text : Connective → List ℕ
 connective_text connectives.And = 32 ∷ 47 ∷ 92 ∷ 32 ∷ []
 connective_text connectives.Or = 32 ∷ 92 ∷ 47 ∷ 32 ∷ []
 connective_text connectives.Implies = codes " => "
-
-abbrev pub bracketed : Bool → List ℕ → List ℕ
-bracketed true text = codes "(" ++ (text ++ codes ")")
-bracketed false text = text
 
 -- a left operand stands alone where its operator is tighter, a right one where it is the same too
 abbrev pub is_loose : ℕ → Formula → Bool

@@ -3,7 +3,8 @@
 ghost use Rattle.std.specs.Prelude.{◌≡◌, ◌++◌, ◌+◌, OnOk, IfOk, codes};
 ghost use Rattle.std.specs.Fmt.{decimal, signed_decimal};
 ghost use Rattle.litmus_values.specs.Value.{formula_of, level};
-ghost use Rattle.litmus_printing.specs.Printing.{line, register_text, value_text, place_text, entry_text, operation_text, branch_text, fence_text, instruction_text, step_text, connective_text, bracketed, is_loose, formula_text, condition_text};
+ghost use Rattle.litmus_printing.specs.Printing.{line, register_text, value_text, place_text, entry_text, operation_text, branch_text, fence_text, instruction_text, step_text, connective_text, is_loose, formula_text, condition_text};
+ghost use Rattle.source_text.specs.Joined.{bracketed};
 
 use litmus_values::{
     BranchCondition, Condition, Connective, Fence, InitEntry, Instruction, Operation, Place,

@@ -1,24 +1,13 @@
 //! Prints tests.
 
-ghost use Rattle.std.specs.Prelude.{◌≡◌, ◌++◌, List, map, length, OnOk, IfOk};
+ghost use Rattle.std.specs.Prelude.{◌≡◌, ◌++◌, map, OnOk, IfOk};
 ghost use Rattle.litmus_values.specs.Value.{steps_of, content_of};
-ghost use Rattle.litmus_printing.specs.Printing.{all_of, item_text, between, cell_text, row_text, rows_text, longest, names, observed_text, entry_line, printed};
+ghost use Rattle.litmus_printing.specs.Printing.{all_of, item_text, cell_text, row_text, rows_text, longest, names, observed_text, entry_line, printed};
 
 use crate::print::{put_condition, put_entry, put_place, put_step};
 use litmus_values::{InitEntry, Place, Step, Test, Thread};
-use source_text::{put_bytes, put_decimal};
+use source_text::{put_between, put_bytes, put_decimal};
 use std::alloc::{AllocError, Global};
-
-// Appends a sign before all but the first of a list.
-fn put_between(text: &mut Vec<u8>, sign: &[u8], number: usize) -> Result<(), AllocError>
-    ensures { OnOk result (text.new.items ≡ text.old.items ++ between sign.now number) }
-{
-    if number == 0 {
-        Ok(())
-    } else {
-        put_bytes(text, sign)
-    }
-}
 
 // Appends the names of the columns.
 fn put_header(text: &mut Vec<u8>, threads: usize) -> Result<(), AllocError>

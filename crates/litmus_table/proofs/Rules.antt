@@ -18,7 +18,8 @@ use Rattle.litmus_table.specs.declared.opcode.Want.{Want}
 use Rattle.litmus_table.specs.declared.opcode.Want.TheVariants as wants
 use Rattle.litmus_table.specs.Words.{opcode_of, computing_of, accessing_of, fence_of, branch_of, fits}
 use Rattle.litmus_table.specs.Machine.{Placed, Pending, Hole, Begins, Labelled, Within, WantsLabel, Whole, State, first_of, kept, at, is_last, operation, operand, step, is_row_start, is_begin, can_end, wanted, is_base, is_zero, separator_rule, rule_at}
-use Rattle.litmus_table.specs.Laws.{is_whole, begins_tail, is_end, is_taken, ends_at, stands, IsInCell, GivesRules}
+use Rattle.litmus_table.specs.Laws.{is_whole, is_taken, ends_at, stands, IsInCell, GivesRules}
+use Rattle.litmus_tokens.specs.Texts.{begins_tail, is_end}
 use Rattle.litmus_table.proofs.Tests.{both}
 
 and_false : (a : Bool) → (a && false) ≡ false

@@ -4,10 +4,8 @@ use Rattle.litmus_tokens.specs.declared.stage.Stage.{Stage}
 use Rattle.litmus_tokens.specs.declared.stage.Stage.TheVariants.{CellBegins, InCell}
 use Rattle.litmus_tokens.specs.declared.token.Token.{Token}
 use Rattle.litmus_tokens.specs.declared.token.Token.TheVariants as tokens
-use Rattle.litmus_tokens.specs.declared.token.Mark.TheVariants.{Tilde}
-use Rattle.litmus_tokens.specs.Words.{ends_table}
 use Rattle.litmus_tokens.specs.Texts as texts
-use Rattle.litmus_tokens.specs.Texts.{tokens_of, StandsAt}
+use Rattle.litmus_tokens.specs.Texts.{tokens_of, StandsAt, is_end, begins_tail}
 use Rattle.litmus_tokens.specs.Faults.{Says, cell_ruling}
 use Rattle.litmus_values.specs.declared.instruction.Instruction.{Instruction}
 use Rattle.litmus_values.specs.declared.instruction.Instruction.TheVariants as instructions
@@ -119,16 +117,6 @@ pub record TakesCells (qs ps rs : List texts.Placed) (tree : ThreadTree) : Type 
   pub noted : AreNoted (qs ++ ps ++ rs) (thread_notes (tokens_of qs) (tree.first ∷ tree.others) ∷ []) after.threads
 
 -- ---- what can stand
-
--- a token that begins what stands behind the table
-abbrev pub begins_tail : Token → Bool
-begins_tail (tokens.Word w) = ends_table w
-begins_tail (tokens.Mark Tilde) = true
-begins_tail t = false
-
-abbrev pub is_end : Token → Bool
-is_end tokens.End = true
-is_end t = false
 
 abbrev pub is_taken : Option State → Bool
 is_taken None = false

@@ -5,6 +5,7 @@ use Rattle.litmus_tokens.specs.Words.{decimal, signed, is_int, is_empty, is_regi
 use Rattle.litmus_tokens.specs.declared.token.Token.{Token}
 use Rattle.litmus_tokens.specs.declared.token.Token.TheVariants as tokens
 use Rattle.litmus_tokens.specs.declared.token.Mark.TheVariants as marks
+use Rattle.litmus_tokens.specs.Texts.{are_none}
 use Rattle.litmus_values.specs.declared.instruction.Operation.TheVariants as operations
 use Rattle.litmus_values.specs.declared.instruction.BranchCondition.{BranchCondition}
 use Rattle.litmus_values.specs.declared.instruction.BranchCondition.TheVariants as branches
@@ -112,15 +113,11 @@ abbrev pub is_label : List Token → Bool
 is_label (tokens.Word w ∷ []) = true
 is_label ts = false
 
-abbrev pub is_nothing : List Token → Bool
-is_nothing [] = true
-is_nothing (t ∷ ts) = false
-
 -- registers and numbers as the form has them; a label behind a branch; nothing behind a fence
 abbrev pub takes : Opcode → List Token → Bool
 takes (opcodes.Data op) ts = all_fit (data_form op) ts
 takes (opcodes.Branch condition) ts = is_label ts
-takes (opcodes.Fence f) ts = is_nothing ts
+takes (opcodes.Fence f) ts = are_none ts
 
 -- ---- what an instruction means, of tokens that fit
 

@@ -2,11 +2,10 @@
 
 ghost use Rattle.std.specs.Prelude.{◌≡◌, ◌↔◌, ℕ, List, Some, None, true};
 ghost use Rattle.litmus_tokens.specs.declared.token.Token.{Token};
-ghost use Rattle.litmus_tokens.specs.Texts.{Placed, tokens_of};
+ghost use Rattle.litmus_tokens.specs.Texts.{Placed, tokens_of, begins_tail};
 ghost use Rattle.litmus_tokens.specs.Faults.{Begins};
-ghost use Rattle.litmus_table.specs.Grammar.{RowTree, ThreadTree, spelled_rows, spelled_thread, AreRows};
 ghost use Rattle.litmus_table.specs.Machine.{State, step, is_row_start};
-ghost use Rattle.litmus_table.specs.Laws.{IsTable, IsThread, run, columns, Takes, Finishes, TakesRows, TakesCells, is_whole, begins_tail, GivesRules};
+ghost use Rattle.litmus_table.specs.Laws.{IsTable, IsThread, run, columns, Takes, Finishes, TakesRows, TakesCells, is_whole, GivesRules};
 
 /// Token by token, the reader takes the rows of tables and nothing else, and keeps what they mean. What it has taken
 /// begins some rows, and it takes all that begins some.

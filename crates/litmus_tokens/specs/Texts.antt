@@ -8,6 +8,8 @@ use Rattle.litmus_tokens.specs.declared.lexer.Front.{Front}
 use Rattle.litmus_tokens.specs.declared.lexer.Front.TheVariants.{Layout, Lexeme}
 use Rattle.litmus_tokens.specs.Lexer.{front}
 use Rattle.litmus_tokens.specs.Stage.{after}
+use Rattle.litmus_tokens.specs.declared.token.Mark.TheVariants.{Tilde}
+use Rattle.litmus_tokens.specs.Words.{ends_table}
 
 -- a token and the byte that it begins at
 pub record Placed : Type 0 where
@@ -23,9 +25,24 @@ abbrev pub stage_after : Stage → List Token → Stage
 stage_after s [] = s
 stage_after s (t ∷ ts) = stage_after (after s t) ts
 
+abbrev pub are_none : List Token → Bool
+are_none [] = true
+are_none (t ∷ ts) = false
+
 abbrev pub ends_line : Token → Bool
 ends_line tokens.LineEnd = true
 ends_line t = false
+
+-- the end of the text
+abbrev pub is_end : Token → Bool
+is_end tokens.End = true
+is_end t = false
+
+-- a token that begins what stands behind the table
+abbrev pub begins_tail : Token → Bool
+begins_tail (tokens.Word w) = ends_table w
+begins_tail (tokens.Mark Tilde) = true
+begins_tail t = false
 
 -- a line is fresh that holds nothing but blanks so far
 abbrev pub fresh_after : Bool → ℕ → Bool

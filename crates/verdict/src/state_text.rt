@@ -1,7 +1,8 @@
 //! States as they are printed.
 
 ghost use Rattle.std.specs.Prelude.{◌≡◌, ◌++◌, IfOk, OnOk, codes};
-ghost use Rattle.litmus_printing.specs.Printing.{place_text, between};
+ghost use Rattle.litmus_printing.specs.Printing.{place_text};
+ghost use Rattle.source_text.specs.Joined.{between};
 ghost use Rattle.verdict.specs.Text.{name_at, place_of, value_text, held_text, state_text};
 
 use crate::answer::FinalValue;

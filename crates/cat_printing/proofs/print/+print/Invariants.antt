@@ -1,8 +1,9 @@
 use Rattle.std.proofs.Common.{◌≡◌, ◌++◌, drop}
 use Rattle.std.specs.Prelude.{codes, map}
 use Rattle.cat_values.specs.Values.{term_of}
-use Rattle.cat_printing.specs.Printing.{joined, printed_term}
-use Rattle.cat_printing.proofs.Separated.{from}
+use Rattle.cat_printing.specs.Printing.{printed_term}
+use Rattle.source_text.specs.Joined.{joined}
+use Rattle.source_text.proofs.Separated.{from}
 use Rattle.cat_printing.proofs.print.+print.Given as goal
 
 abbrev pub invariant-put_arguments-loop-i : goal.invariant-put_arguments-loop-i
