@@ -1,15 +1,14 @@
 -- Reads-from and coherence, load by load and store by store.
-use Rattle.std.proofs.Common.{ℕ, ◌≡◌, ◌<◌, ◌+◌, ◌↔◌, ◌⊎◌, List, [], ◌∷◌, ◌++◌, length, take, get_or, inl, inr, arith, refl, sym, ap, ◌∙◌}
+use Rattle.std.proofs.Common.{ℕ, ◌≡◌, ◌<◌, ◌+◌, ◌↔◌, ◌⊎◌, List, [], ◌∷◌, ◌++◌, length, take, get_or, inl, inr, arith, refl, ap, ◌∙◌}
 use Rattle.std.proofs.lemmas.Bool.{cases_eq}
 use Rattle.std.proofs.lemmas.List.{take_more}
-use Rattle.std.proofs.lemmas.Option.{slice_get-get_or, get_or_from_slice_get}
 use Rattle.bit_relations.specs.Relation.{Relation, Has, IsRelation}
-use Rattle.bit_relations.specs.Pairs.{Union, Added}
+use Rattle.bit_relations.specs.Pairs.{Union}
 use Rattle.candidates.specs.declared.candidate.Event.{Event}
 use Rattle.candidates.specs.declared.candidate.Action.{Action}
 use Rattle.candidates.specs.declared.candidate.Action.TheVariants.{Read, Write, Fence}
-use Rattle.base_env.specs.Events.{Below, IsRead, SameLocation, reads_in, added_read, ReadsTo, Source, CoherenceFrom, CoherenceTo, CoherenceFromTo}
-use Rattle.base_env.proofs.Linking.{with_pairs, more_added, same_added}
+use Rattle.base_env.specs.Events.{Below, IsRead, reads_in, added_read, ReadsTo, Source, CoherenceFrom, CoherenceTo}
+use Rattle.base_env.proofs.Linking.{with_pairs}
 use Rattle.base_env.proofs.Linked.{at_number}
 
 below : {a i : ℕ} → (a ≡ i → ⊥) → a < i + 1 → a < i
@@ -39,36 +38,6 @@ order_more {n = n} events order i before step = grown (Below n (CoherenceTo even
     | inl r ↦ (r.0, r.1, (r.2.0, omega (arith, r.2.1), r.2.2))
     | inr t ↦ (t.0, t.1, (i, omega arith, t.2))
   ]),
-))
-
--- a store behind one that is of its location
-pub later_more : {now new : Relation} {n : ℕ} (O : ℕ → ℕ → Type 0) (events : List Event) (order : List ℕ) (i j s t : ℕ) → s ≡ get_or order i 0 → t ≡ get_or order j 0 → i < length order → j < length order → i < j → SameLocation events s t → s < n → t < n → IsRelation now n (Union O (Below n (CoherenceFromTo events order i j))) → IsRelation new now.count (Added (Has now) s t) → IsRelation new n (Union O (Below n (CoherenceFromTo events order i (j + 1))))
-later_more {n = n} O events order i j s t at_i at_j in_i in_j lt same small small' before step = more_added O (Below n (CoherenceFromTo events order i j)) (Below n (CoherenceFromTo events order i (j + 1))) (λ a b. (a ≡ s) × (b ≡ t)) before step (λ a b. (
-  (λ h.
-      let k = h.2 in
-      elim (cases_eq k.0 j) [
-        | inl here ↦ inr (sym (get_or_from_slice_get order i a 0 k.3) ∙ sym at_i, sym (get_or_from_slice_get order j b 0 (rw here at k.4)) ∙ sym at_j)
-        | inr other ↦ inl (h.0, h.1, (k.0, below other k.1, k.2, k.3, k.4, k.5))
-      ]),
-  (λ h. elim h [
-    | inl r ↦ let k = r.2 in (r.0, r.1, (k.0, omega (arith, k.1), k.2, k.3, k.4, k.5))
-    | inr e ↦ rw (e.0, e.1) (small, small', (j, omega arith, lt, rw at_i (slice_get-get_or order i 0 in_i), rw at_j (slice_get-get_or order j 0 in_j), same))
-  ]),
-))
-
--- a store behind one that is not
-pub later_less : {now : Relation} {n : ℕ} (O : ℕ → ℕ → Type 0) (events : List Event) (order : List ℕ) (i j s t : ℕ) → s ≡ get_or order i 0 → t ≡ get_or order j 0 → (SameLocation events s t → s < n → t < n → ⊥) → IsRelation now n (Union O (Below n (CoherenceFromTo events order i j))) → IsRelation now n (Union O (Below n (CoherenceFromTo events order i (j + 1))))
-later_less {n = n} O events order i j s t at_i at_j none before = same_added O (Below n (CoherenceFromTo events order i (j + 1))) before (λ a b. (
-  (λ h.
-      let k = h.2 in
-      elim (cases_eq k.0 j) [
-        | inl here ↦
-            let e : a ≡ s = sym (get_or_from_slice_get order i a 0 k.3) ∙ sym at_i in
-            let f : b ≡ t = sym (get_or_from_slice_get order j b 0 (rw here at k.4)) ∙ sym at_j in
-            absurd (none (rw (e, f) at k.5) (rw e at h.0) (rw f at h.1))
-        | inr other ↦ (h.0, h.1, (k.0, below other k.1, k.2, k.3, k.4, k.5))
-      ]),
-  (λ r. let k = r.2 in (r.0, r.1, (k.0, omega (arith, k.1), k.2, k.3, k.4, k.5))),
 ))
 
 -- ---- reads-from

@@ -9,3 +9,4 @@ pub mod Meant
 pub mod Covering
 pub mod Every
 pub mod Facts
+pub mod Rising

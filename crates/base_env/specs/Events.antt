@@ -1,5 +1,5 @@
 -- Events of a candidate, by their numbers, and how two of them may be linked whatever the loads read.
-use Rattle.std.specs.Prelude.{ℕ, ◌≡◌, ◌<◌, ◌+◌, List, [], ◌∷◌, take, Option, Some, None, slice_get, Contains}
+use Rattle.std.specs.Prelude.{ℕ, ◌≡◌, ◌<◌, ◌≤◌, ◌+◌, List, [], ◌∷◌, take, Option, Some, None, slice_get, Contains}
 use Rattle.litmus_values.specs.declared.instruction.Fence as kinds
 use Rattle.cat_values.specs.declared.predefined.Predefined.{Predefined}
 use Rattle.cat_values.specs.declared.predefined.Predefined.TheVariants as names
@@ -136,3 +136,12 @@ CoherenceTo events order end a b = (i : ℕ) × (i < end) × CoherenceFrom event
 -- the pairs with the first store at this place and the second below an end of the list
 abbrev pub CoherenceFromTo : List Event → List ℕ → ℕ → ℕ → ℕ → ℕ → Type 0
 CoherenceFromTo events order i end a b = (j : ℕ) × (j < end) × (i < j) × (slice_get order i ≡ Some a) × (slice_get order j ≡ Some b) × SameLocation events a b
+
+-- the event at this place of the list is an access of the location
+abbrev pub StandsAt : List Event → List ℕ → ℕ → ℕ → Type 0
+StandsAt events order i l = (s : ℕ) × (slice_get order i ≡ Some s) × At events (λ e. location_of e.action ≡ Some l) s
+
+-- at each place below an end stands an access, none of a lower location than an earlier one
+abbrev pub AreRising : List Event → List ℕ → ℕ → Type 0
+AreRising events order end =
+    ((i : ℕ) → i < end → (l : ℕ) × StandsAt events order i l) × ((i j l m : ℕ) → i < j → j < end → StandsAt events order i l → StandsAt events order j m → l ≤ m)

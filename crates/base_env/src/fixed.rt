@@ -33,7 +33,7 @@ fn put_pairs(place: &mut Rel, pairs: &[(usize, usize)])
 }
 
 /// The location of an access.
-fn location_of(event: &Event) -> Option<usize>
+pub fn location_of(event: &Event) -> Option<usize>
     ensures { result ≡ location_of event.now.action }
 {
     match event.action {
@@ -51,7 +51,7 @@ pub fn is_access(event: &Event) -> bool
 }
 
 /// Whether both are accesses of one location.
-pub fn is_same_location(first: &Event, second: &Event) -> bool
+fn is_same_location(first: &Event, second: &Event) -> bool
     ensures { IsTrue result ↔ IsSameLocation first.now second.now }
 {
     match (location_of(first), location_of(second)) {
