@@ -49,6 +49,9 @@ fn refusals_at_applications(rt: HostRuntime) -> Result<(), Fail> {
     assert_eq!(rt; number(&rt, alloc, small), 0);
     let large = b"let f(a)=a|a let g(a)=f(f(a)) let h(a)=g(g(a)) let i(a)=h(h(a)) acyclic i(i(po))";
     assert_eq!(rt; number(&rt, alloc, large), 7);
+    let larger =
+        b"let f(a)=a|a let g(a)=f(f(a)) let h(a)=g(g(a)) let i(a)=h(h(a)) let j(a)=i(i(a)) acyclic j(po)";
+    assert_eq!(rt; number(&rt, alloc, larger), 7);
     Ok(())
 }
 

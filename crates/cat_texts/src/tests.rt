@@ -97,6 +97,16 @@ fn refusals_stand_at_their_places(rt: HostRuntime) -> Result<(), Fail> {
 }
 
 #[test]
+fn refuses_a_recursive_function_as_an_item(rt: HostRuntime) {
+    match read_item(rt.alloc(), b"let rec f(a) = a") {
+        Err(CatFault::Refused { rule, place }) => {
+            assert_eq!(rt; (rule.number(), place), (4, 9));
+        }
+        _ => assert!(rt; false),
+    }
+}
+
+#[test]
 fn texts_are_read(rt: HostRuntime) -> Result<(), Fail> {
     expect(&rt, b"acyclic po // (* x", "read 1")?;
     expect(&rt, b"let rec a = ~a", "read 1")?;

@@ -3,6 +3,8 @@
 #![tactic(auto)]
 
 #[cfg(test)]
+mod cell_tests;
+#[cfg(test)]
 mod form_tests;
 #[cfg(test)]
 mod log_tests;

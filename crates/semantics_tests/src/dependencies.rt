@@ -5,7 +5,7 @@ use litmus_ppc::{
     BranchCondition, Condition, Fence, InitEntry, Instruction, Name, Operation, Place, Proposition,
     Quantifier, Register, Step, Test, Thread,
 };
-use ppc_semantics::{Domain, Value, runs};
+use ppc_semantics::{Domain, Event, Value, runs};
 use std::alloc::{AllocError, Global};
 use std::test::Fail;
 
@@ -112,6 +112,14 @@ fn control_reaches_behind_the_branch(rt: HostRuntime) -> Result<(), Fail> {
     let test = one_thread(alloc, control(alloc)?)?;
     let found = runs(alloc, &test, 0, &zero(alloc)?)?;
     assert_eq!(rt; found.len(), 1);
+    let [
+        Event::Reads(_, _),
+        Event::Orders(Fence::Isync),
+        Event::Reads(_, _),
+    ] = found[0].events.as_slice()
+    else {
+        return Err(Fail::from("its events are not a load, isync and a load"));
+    };
     let links = links(alloc, &found[0])?;
     assert_eq!(rt; links.ctrl_pairs.as_slice(), [(0, 1), (0, 2)].as_slice());
     assert_eq!(rt; links.ctrlisync_pairs.as_slice(), [(0, 2)].as_slice());
