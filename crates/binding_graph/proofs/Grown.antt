@@ -6,8 +6,9 @@ use Rattle.cat_values.specs.declared.model.Binding.{Binding}
 use Rattle.binding_kinds.specs.declared.scope.Entry.{Entry}
 use Rattle.binding_kinds.specs.declared.scope.Binder.TheVariants as binders
 use Rattle.binding_kinds.specs.declared.kinds.Kind.TheVariants.{OfRelation}
-use Rattle.binding_kinds.specs.Value.{Naming, entry_of, bound_of, term_of, IsPlain, ArePlain}
-use Rattle.binding_kinds.specs.Kinds.{kind}
+use Rattle.cat_values.specs.Values.{term_of}
+use Rattle.binding_kinds.specs.Value.{Naming, entry_of, bound_of}
+use Rattle.binding_kinds.specs.Senses.{Sense, kind_in}
 use Rattle.binding_kinds.specs.Faults.{with_own, with_all}
 use Rattle.binding_kinds.proofs.Scopes.{rev_push}
 
@@ -16,12 +17,8 @@ pub own_more : (g : List Binding) (i item : ℕ) (d : Binding) (s : List Entry) 
 own_more g i item d s e lt name k b = rw (drop-cons g i d lt, rev_push entry_of s e, name, k, b, add-one i) refl
 
 -- one more name whose body sees the outer names
-pub all_more : (outer : List Naming) (g : List Binding) (i item : ℕ) (d : Binding) (s : List Entry) (e : Entry) → i < length g → e.name ≡ (get_or g i d).name → e.kind ≡ kind outer (term_of (get_or g i d).body) → e.binder ≡ binders.Bound (record { item = item; position = i }) → with_all outer (reverse (map entry_of s)) item i (map bound_of (drop i g)) ≡ with_all outer (reverse (map entry_of (s ++ e ∷ []))) item (i + 1) (map bound_of (drop (i + 1) g))
-all_more outer g i item d s e lt name k b = rw (drop-cons g i d lt, rev_push entry_of s e, name, k, b, add-one i) refl
-
--- the next body, and those behind it
-pub plain_more : (g : List Binding) (i : ℕ) (d : Binding) → i < length g → ArePlain (map bound_of (drop i g)) → IsPlain (term_of (get_or g i d).body) × ArePlain (map bound_of (drop (i + 1) g))
-plain_more g i d lt h = rw (add-one i) (rw (drop-cons g i d lt) at h)
+pub all_more : (ss : List Sense) (outer : List Naming) (g : List Binding) (i item : ℕ) (d : Binding) (s : List Entry) (e : Entry) → i < length g → e.name ≡ (get_or g i d).name → e.kind ≡ kind_in ss outer (term_of (get_or g i d).body) → e.binder ≡ binders.Bound (record { item = item; position = i }) → with_all ss outer (reverse (map entry_of s)) item i (map bound_of (drop i g)) ≡ with_all ss outer (reverse (map entry_of (s ++ e ∷ []))) item (i + 1) (map bound_of (drop (i + 1) g))
+all_more ss outer g i item d s e lt name k b = rw (drop-cons g i d lt, rev_push entry_of s e, name, k, b, add-one i) refl
 
 at_most : {X : Type 0} (a b : List X) → take (length a) b ≡ a → length a ≤ length b
 at_most a b e = omega (arith, ap length e, length-take (length a) b)

@@ -1,12 +1,13 @@
 -- The names of other items that expressions use, the latest first: a name's place is the number of those behind it,
 -- so it stays the same as more are used.
 use Rattle.std.specs.Prelude.{◌≡◌, ℕ, ◌==◌, nat_le, List, [], ◌∷◌, length, map, reverse, if◌then◌else◌, Option, Some, None, is_some, get_or}
+use Rattle.cat_values.specs.Value.{Term, Atom, AllEvents, EmptyRelation, EmptySet, Join, Mark, Not, On, Apply}
 use Rattle.binding_kinds.specs.declared.scope.Input.{Input}
 use Rattle.binding_kinds.specs.declared.scope.Used.{Used}
 use Rattle.binding_kinds.specs.declared.scope.Found.{Found}
 use Rattle.binding_kinds.specs.declared.scope.Binder.{Binder}
 use Rattle.binding_kinds.specs.declared.scope.Binder.TheVariants as binders
-use Rattle.binding_kinds.specs.Value.{Term, Word, Everything, NoPairs, NoEvents, Join, Mark, Not, Only, Call, Naming, Bound}
+use Rattle.binding_kinds.specs.Value.{Naming, Bound}
 use Rattle.binding_kinds.specs.Kinds.{found}
 
 -- the place of the name with that slot
@@ -34,15 +35,15 @@ with_name us from (Some f) = with_found us from f
 
 -- the names that are used, with those of an expression
 abbrev pub with_uses : List Naming → ℕ → Term → List Used → List Used
-with_uses names from (Word x) us = with_name us from (found names x)
-with_uses names from Everything us = us
-with_uses names from NoPairs us = us
-with_uses names from NoEvents us = us
+with_uses names from (Atom x) us = with_name us from (found names x)
+with_uses names from AllEvents us = us
+with_uses names from EmptyRelation us = us
+with_uses names from EmptySet us = us
 with_uses names from (Join op a b) us = with_uses names from b (with_uses names from a us)
 with_uses names from (Mark op a) us = with_uses names from a us
 with_uses names from (Not a) us = with_uses names from a us
-with_uses names from (Only a) us = with_uses names from a us
-with_uses names from (Call x) us = us
+with_uses names from (On a) us = with_uses names from a us
+with_uses names from (Apply x arguments) us = us
 
 -- the names that the bodies of a group use
 abbrev pub with_all_uses : List Naming → ℕ → List Bound → List Used → List Used

@@ -5,8 +5,10 @@ use Rattle.cat_values.specs.declared.model.CheckWord.{CheckWord}
 use Rattle.cat_values.specs.declared.model.Item as code_item
 use Rattle.cat_values.specs.declared.model.Item.TheVariants as items
 use Rattle.binding_kinds.specs.declared.scope.Used.{Used}
-use Rattle.binding_kinds.specs.Value.{Term, Naming, Bound, Clause, Group, Check, Mute, Defined}
-use Rattle.binding_kinds.specs.Faults.{extended}
+use Rattle.cat_values.specs.Value.{Term}
+use Rattle.binding_kinds.specs.Value.{Naming, Bound, Clause, Group, Check, Mute, Defined}
+use Rattle.binding_kinds.specs.Senses.{Sense}
+use Rattle.binding_kinds.specs.Faults.{extended, senses_after}
 use Rattle.binding_graph.specs.declared.resolved.Body.{Body}
 use Rattle.binding_graph.specs.declared.resolved.Role.{Role}
 use Rattle.binding_graph.specs.declared.resolved.Role.TheVariants as roles
@@ -16,44 +18,44 @@ use Rattle.binding_graph.specs.Meaning.{IsCode}
 
 -- The bodies are those of the bindings, each with its steps. Places among the inputs are counted as the inputs are
 -- first used, in the order of the text.
-abbrev pub AreBodies : List Naming → ℕ → List Used → List Bound → List Body → Type 0
-AreBodies names from us [] [] = Unit {0}
-AreBodies names from us [] (r ∷ rs) = ⊥
-AreBodies names from us (b ∷ bs) [] = ⊥
-AreBodies names from us (b ∷ bs) (r ∷ rs) =
-    (r.name ≡ b.name) × IsCode names (with_uses names from b.body us) from b.body r.code × AreBodies names from (with_uses names from b.body us) bs rs
+abbrev pub AreBodies : List Sense → List Naming → ℕ → List Used → List Bound → List Body → Type 0
+AreBodies ss names from us [] [] = Unit {0}
+AreBodies ss names from us [] (r ∷ rs) = ⊥
+AreBodies ss names from us (b ∷ bs) [] = ⊥
+AreBodies ss names from us (b ∷ bs) (r ∷ rs) =
+    (r.name ≡ b.name) × IsCode ss names (with_uses names from b.body us) from b.body r.code × AreBodies ss names from (with_uses names from b.body us) bs rs
 
-abbrev pub IsGroupRole : List Naming → ℕ → Bool → List Bound → Role → Type 0
-IsGroupRole names from recursive bs (roles.Group r bodies) = (r ≡ recursive) × AreBodies names from [] bs bodies.items
-IsGroupRole names from recursive bs (roles.Check c) = ⊥
-IsGroupRole names from recursive bs roles.Silent = ⊥
+abbrev pub IsGroupRole : List Sense → List Naming → ℕ → Bool → List Bound → Role → Type 0
+IsGroupRole ss names from recursive bs (roles.Group r bodies) = (r ≡ recursive) × AreBodies ss names from [] bs bodies.items
+IsGroupRole ss names from recursive bs (roles.Check c) = ⊥
+IsGroupRole ss names from recursive bs roles.Silent = ⊥
 
-abbrev pub IsCheckRole : List Naming → ℕ → CheckWord → Term → Role → Type 0
-IsCheckRole names from w e (roles.Group r bodies) = ⊥
-IsCheckRole names from w e (roles.Check c) = (c.word ≡ w) × IsCode names (with_uses names from e []) from e c.code
-IsCheckRole names from w e roles.Silent = ⊥
+abbrev pub IsCheckRole : List Sense → List Naming → ℕ → CheckWord → Term → Role → Type 0
+IsCheckRole ss names from w e (roles.Group r bodies) = ⊥
+IsCheckRole ss names from w e (roles.Check c) = (c.word ≡ w) × IsCode ss names (with_uses names from e []) from e c.code
+IsCheckRole ss names from w e roles.Silent = ⊥
 
 -- an item, whose bodies see those names, where the names of the item itself have the slot `from` and those behind it
-abbrev pub IsGroup : List Naming → ℕ → Bool → List Bound → ResolvedItem → Type 0
-IsGroup names from recursive bs r = IsGroupRole names from recursive bs r.role × (r.inputs.items ≡ inputs_of (with_all_uses names from bs []))
+abbrev pub IsGroup : List Sense → List Naming → ℕ → Bool → List Bound → ResolvedItem → Type 0
+IsGroup ss names from recursive bs r = IsGroupRole ss names from recursive bs r.role × (r.inputs.items ≡ inputs_of (with_all_uses names from bs []))
 
-abbrev pub IsCheck : List Naming → ℕ → CheckWord → Term → ResolvedItem → Type 0
-IsCheck names from w e r = IsCheckRole names from w e r.role × (r.inputs.items ≡ inputs_of (with_uses names from e []))
+abbrev pub IsCheck : List Sense → List Naming → ℕ → CheckWord → Term → ResolvedItem → Type 0
+IsCheck ss names from w e r = IsCheckRole ss names from w e r.role × (r.inputs.items ≡ inputs_of (with_uses names from e []))
 
 -- The bodies of a recursive group see its names, and other bodies the names before the item.
-abbrev pub IsResolvedIn : List Naming → List Naming → ℕ → Clause → ResolvedItem → Type 0
-IsResolvedIn names own from (Group true bs) r = IsGroup own from true bs r
-IsResolvedIn names own from (Group false bs) r = IsGroup names from false bs r
-IsResolvedIn names own from (Check w e) r = IsCheck names from w e r
-IsResolvedIn names own from Mute r = (r.role ≡ roles.Silent) × (r.inputs.items ≡ [])
-IsResolvedIn names own from (Defined n) r = Unit {0}
+abbrev pub IsResolvedIn : List Sense → List Naming → List Naming → ℕ → Clause → ResolvedItem → Type 0
+IsResolvedIn ss names own from (Group true bs) r = IsGroup ss own from true bs r
+IsResolvedIn ss names own from (Group false bs) r = IsGroup ss names from false bs r
+IsResolvedIn ss names own from (Check w e) r = IsCheck ss names from w e r
+IsResolvedIn ss names own from Mute r = (r.role ≡ roles.Silent) × (r.inputs.items ≡ [])
+IsResolvedIn ss names own from (Defined n ps b) r = Unit {0}
 
 -- each item after those names, of which the first has the number `at`, is resolved
-abbrev pub AreResolved : List Naming → ℕ → List Clause → List ResolvedItem → Type 0
-AreResolved names at [] [] = Unit {0}
-AreResolved names at [] (r ∷ rs) = ⊥
-AreResolved names at (c ∷ cs) [] = ⊥
-AreResolved names at (c ∷ cs) (r ∷ rs) = IsResolvedIn names (extended names at c) (length names) c r × AreResolved (extended names at c) (at + 1) cs rs
+abbrev pub AreResolved : List Sense → List Naming → ℕ → List Clause → List ResolvedItem → Type 0
+AreResolved ss names at [] [] = Unit {0}
+AreResolved ss names at [] (r ∷ rs) = ⊥
+AreResolved ss names at (c ∷ cs) [] = ⊥
+AreResolved ss names at (c ∷ cs) (r ∷ rs) = IsResolvedIn ss names (extended ss names at c) (length names) c r × AreResolved (senses_after ss names c) (extended ss names at c) (at + 1) cs rs
 
 -- this is a check or a flag: negated or not, and with that name where it is a flag
 abbrev pub IsLabelled : Bool → Option (List ℕ) → Role → Type 0

@@ -1,10 +1,13 @@
 //! The names that an item adds, and its first fault.
 
-ghost use Rattle.std.specs.Prelude.{◌≡◌, IfOk, OnOk, reverse, map, length, take, false};
-ghost use Rattle.binding_kinds.specs.Value.{entry_of, bound_of, clause_of, term_of, IsPlain, ArePlain, IsPlainClause};
-ghost use Rattle.binding_kinds.specs.Kinds.{kind, takes_body};
+ghost use Rattle.std.specs.Prelude.{◌≡◌, IfOk, OnOk, List, reverse, map, length, take, false};
+ghost use Rattle.cat_values.specs.Values.{term_of};
+ghost use Rattle.binding_kinds.specs.Value.{entry_of, bound_of, clause_of, IsNoFunction};
+ghost use Rattle.binding_kinds.specs.Kinds.{takes_body};
+ghost use Rattle.binding_kinds.specs.Senses.{Sense, AreKept, kind_in, first_within};
 ghost use Rattle.binding_kinds.specs.Faults.{with_own, with_all, extended};
-ghost use Rattle.binding_kinds.specs.Verdict.{first_of, first_of_item, or_else, unless};
+ghost use Rattle.binding_kinds.specs.Verdict.{or_else, unless};
+ghost use Rattle.binding_kinds.specs.First.{first_of_item};
 
 use crate::expand::expand;
 use crate::plan::Plan;
@@ -48,7 +51,7 @@ fn declare_all(
     group: &[Binding],
 ) -> Result<(), AllocError>
     ensures kept { OnOk result (take (length entries.old.items) entries.new.items ≡ entries.old.items) }
-    ensures names { ArePlain (map bound_of group.now) → OnOk result (reverse (map entry_of entries.new.items) ≡ with_all (reverse (map entry_of entries.old.items)) (reverse (map entry_of entries.old.items)) item 0 (map bound_of group.now)) }
+    ensures names { (senses : List Sense) → AreKept functions.now senses → OnOk result (reverse (map entry_of entries.new.items) ≡ with_all senses (reverse (map entry_of entries.old.items)) (reverse (map entry_of entries.old.items)) item 0 (map bound_of group.now)) }
 {
     let before = entries.len();
     for (position, binding) in group.iter().enumerate() {
@@ -64,7 +67,7 @@ fn declare_all(
 
 /// The first fault of a check or a flag.
 fn check_fault(entries: &[Entry], functions: &[Function], check: &Check) -> Option<ModelFault>
-    ensures { let names = reverse (map entry_of entries.now) in IsPlain (term_of check.now.body) → result ≡ or_else (unless (takes_body check.now.word (kind names (term_of check.now.body))) ModelFault.Kind) (first_of names (length entries.now) false (term_of check.now.body)) }
+    ensures { let names = reverse (map entry_of entries.now) in (senses : List Sense) → AreKept functions.now senses → result ≡ or_else (unless (takes_body check.now.word (kind_in senses names (term_of check.now.body))) ModelFault.Kind) (first_within senses names (length entries.now) false (term_of check.now.body)) }
 {
     let body = judge(entries, functions, entries.len(), false, &check.body);
     let here = unless(takes_body(check.word, body.kind), ModelFault::Kind);
@@ -78,9 +81,10 @@ pub fn item_fault(
     place: usize,
     item: &Item,
 ) -> Result<Option<ModelFault>, AllocError>
-    ensures fault { IsPlainClause (clause_of item.now) → IfOk result (λ f. f ≡ first_of_item (reverse (map entry_of scope.old.entries.items)) place (clause_of item.now)) }
-    ensures kept { IsPlainClause (clause_of item.now) → OnOk result (take (length scope.old.entries.items) scope.new.entries.items ≡ scope.old.entries.items) }
-    ensures names { IsPlainClause (clause_of item.now) → OnOk result (reverse (map entry_of scope.new.entries.items) ≡ extended (reverse (map entry_of scope.old.entries.items)) place (clause_of item.now)) }
+    ensures fault { (senses : List Sense) → AreKept scope.old.functions.items senses → IsNoFunction (clause_of item.now) → IfOk result (λ f. f ≡ first_of_item senses (reverse (map entry_of scope.old.entries.items)) place (clause_of item.now)) }
+    ensures kept { IsNoFunction (clause_of item.now) → OnOk result (take (length scope.old.entries.items) scope.new.entries.items ≡ scope.old.entries.items) }
+    ensures names { (senses : List Sense) → AreKept scope.old.functions.items senses → IsNoFunction (clause_of item.now) → OnOk result (reverse (map entry_of scope.new.entries.items) ≡ extended senses (reverse (map entry_of scope.old.entries.items)) place (clause_of item.now)) }
+    ensures functions { IsNoFunction (clause_of item.now) → scope.new.functions.items ≡ scope.old.functions.items }
 {
     let from = scope.entries.len();
     match item {

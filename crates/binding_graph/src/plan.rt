@@ -1,7 +1,9 @@
 //! Expressions in postfix order, whose names are resolved.
 
 ghost use Rattle.std.specs.Prelude.{◌≡◌, ◌≤◌, List, [], ◌∷◌, ◌++◌, length, map, reverse, vec_len, OnOk};
-ghost use Rattle.binding_kinds.specs.Value.{entry_of, term_of, IsPlain};
+ghost use Rattle.cat_values.specs.Values.{term_of};
+ghost use Rattle.binding_kinds.specs.Value.{entry_of};
+ghost use Rattle.binding_kinds.specs.Fits.{IsPlain};
 ghost use Rattle.binding_kinds.specs.Kinds.{found};
 ghost use Rattle.binding_graph.specs.declared.plan.Node.{Node};
 ghost use Rattle.binding_graph.specs.Inputs.{IsIndexed, with_name, with_uses};

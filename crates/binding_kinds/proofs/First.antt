@@ -1,16 +1,19 @@
 -- What is looked for is the first fault.
-use Rattle.std.proofs.Common.{ℕ, ◌≡◌, ◌<◌, ◌≤◌, ◌+◌, ◌⊎◌, inl, inr, List, Bool, true, false, IsTrue, IsFalse, ◌&&◌, nat_le, Option, Some, None, refl, arith, sym, ap, rules}
-use Rattle.std.proofs.lemmas.Bool.{leb-true}
-use Rattle.std.specs.Prelude.{if◌then◌else◌}
+use Rattle.std.proofs.Common.{ℕ, ◌≡◌, ◌<◌, ◌≤◌, ◌+◌, ◌⊎◌, inl, inr, suc, List, Bool, true, false, IsTrue, IsFalse, ◌&&◌, ◌||◌, nat_le, Option, Some, None, Result, Ok, Err, refl, arith, sym, ap, rules}
+use Rattle.std.proofs.lemmas.Bool.{leb-true, lt-ltb, ltb-true}
+use Rattle.std.specs.Prelude.{if◌then◌else◌, nat_lt, not}
+use Rattle.cat_values.specs.Value.{Term, Terms, Atom, AllEvents, EmptyRelation, EmptySet, Join, Mark, Not, On, Apply, NoTerm, OneMore}
+use Rattle.binding_kinds.specs.declared.kinds.Kind.{Kind}
 use Rattle.binding_kinds.specs.declared.fault.ModelFault.{ModelFault}
 use Rattle.binding_kinds.specs.declared.fault.ModelFault.TheVariants as faults
 use Rattle.binding_kinds.specs.declared.scope.Found.{Found}
 use Rattle.binding_kinds.specs.declared.scope.Binder.{Binder}
 use Rattle.binding_kinds.specs.declared.scope.Binder.TheVariants as binders
-use Rattle.binding_kinds.specs.Value.{Term, Word, Everything, NoPairs, NoEvents, Join, Mark, Not, Only, Call, Naming}
-use Rattle.binding_kinds.specs.Kinds.{found, kind, takes, is_relation, is_set, is_turned}
-use Rattle.binding_kinds.specs.Faults.{width, IsFaultOfUse, IsFaultOfName, IsFaultAt, IsFirst, IsNoLater}
-use Rattle.binding_kinds.specs.Verdict.{or_else, unless, of_name, of_use, of_slot, first_of}
+use Rattle.binding_kinds.specs.Value.{Naming}
+use Rattle.binding_kinds.specs.Kinds.{found, takes, is_relation, is_set, is_turned}
+use Rattle.binding_kinds.specs.Senses.{Sense, size_with, sense_of, count_of, sizes_in, kind_in, kinds_in, under_of, fault_applied, first_within, first_among}
+use Rattle.binding_kinds.specs.Faults.{width, widths, IsFaultOfUse, IsFaultOfName, IsFaultOfApplication, IsFaultAt, IsFaultAmong, IsFirst, IsNoLater}
+use Rattle.binding_kinds.specs.Verdict.{or_else, unless, of_name, of_use, of_slot}
 
 -- the first of these faults, or that there is none
 abbrev pub Judges : (ℕ → ModelFault → Type 0) → Option ModelFault → Type 0
@@ -80,7 +83,7 @@ of_binder (binders.Applicable x) from under slot = record {
   none_before = λ p l h. inr (sym h.0, rw h.1 (omega arith));
 }
 
-named : (from : ℕ) (under : Bool) (o : Option Found) → Judges (λ p k. (p ≡ 0) × IsFaultOfName from under o k) (of_name from under o)
+pub named : (from : ℕ) (under : Bool) (o : Option Found) → Judges (λ p k. (p ≡ 0) × IsFaultOfName from under o k) (of_name from under o)
 named from under None = record {
   place = 0;
   there = (refl, refl);
@@ -88,46 +91,98 @@ named from under None = record {
 }
 named from under (Some f) = of_binder f.binder from under f.slot
 
-pub inside : (names : List Naming) (from : ℕ) (under : Bool) (t : Term) (p : ℕ) (k : ModelFault) → IsFaultAt names from under t p k → p < width t
-inside names from under (Word x) p k h = omega (arith, h.0)
-inside names from under Everything p k h = absurd h
-inside names from under NoPairs p k h = absurd h
-inside names from under NoEvents p k h = absurd h
-inside names from under (Join op a b) p k h = elim h [
-  | inl f ↦ let lt : p < width a = inside names from under a p k f in omega arith
-  | inr g ↦ elim g [
-    | inl s ↦ omega (arith, s.0)
-    | inr (after, e, f) ↦ let lt : after < width b = inside names from (is_turned op under) b after k f in omega (arith, e, lt)
+mutual
+  pub inside : (ss : List Sense) (names : List Naming) (from : ℕ) (under : Bool) (t : Term) (p : ℕ) (k : ModelFault) → IsFaultAt ss names from under t p k → p < width t
+  inside ss names from under (Atom x) p k h = omega (arith, h.0)
+  inside ss names from under AllEvents p k h = absurd h
+  inside ss names from under EmptyRelation p k h = absurd h
+  inside ss names from under EmptySet p k h = absurd h
+  inside ss names from under (Join op a b) p k h = elim h [
+    | inl f ↦ let lt : p < width a = inside ss names from under a p k f in omega arith
+    | inr g ↦ elim g [
+      | inl s ↦ omega (arith, s.0)
+      | inr (after, e, f) ↦ let lt : after < width b = inside ss names from (is_turned op under) b after k f in omega (arith, e, lt)
+    ]
   ]
-]
-inside names from under (Mark op a) p k h = elim h [
-  | inl f ↦ let lt : p < width a = inside names from under a p k f in omega arith
-  | inr s ↦ omega (arith, s.0)
-]
-inside names from under (Not a) p k (after, e, f) = let lt : after < width a = inside names from true a after k f in omega (arith, e, lt)
-inside names from under (Call x) p k h = absurd h
-inside names from under (Only a) p k h = elim h [
-  | inl s ↦ omega (arith, s.0)
-  | inr (after, e, f) ↦ let lt : after < width a = inside names from under a after k f in omega (arith, e, lt)
-]
+  inside ss names from under (Mark op a) p k h = elim h [
+    | inl f ↦ let lt : p < width a = inside ss names from under a p k f in omega arith
+    | inr s ↦ omega (arith, s.0)
+  ]
+  inside ss names from under (Not a) p k (after, e, f) = let lt : after < width a = inside ss names from true a after k f in omega (arith, e, lt)
+  inside ss names from under (On a) p k h = elim h [
+    | inl s ↦ omega (arith, s.0)
+    | inr (after, e, f) ↦ let lt : after < width a = inside ss names from under a after k f in omega (arith, e, lt)
+  ]
+  inside ss names from under (Apply x ts) p k h = elim h [
+    | inl s ↦ omega (arith, s.0)
+    | inr (after, e, f) ↦ let lt : after < widths ts = inside_among ss names from under (under_of (sense_of ss (count_of ts) (found names x))) 0 ts after k f in omega (arith, e, lt)
+  ]
 
-pub judged : (names : List Naming) (from : ℕ) (under : Bool) (t : Term) → Judges (IsFaultAt names from under t) (first_of names from under t)
-judged names from under (Word x) = named from under (found names x)
-judged names from under Everything = λ p k h. absurd h
-judged names from under NoPairs = λ p k h. absurd h
-judged names from under NoEvents = λ p k h. absurd h
-judged names from under (Join op a b) =
-    in_turn _ _ (width a) _ _ (inside names from under a)
-    (λ p k h. elim h [ inl s ↦ omega (arith, s.0) | inr (after, e, f) ↦ omega (arith, e) ])
-    (judged names from under a)
-    (in_turn _ _ (width a + 1) _ _ (λ p k s. omega (arith, s.0)) (λ p k (after, e, f). omega (arith, e))
-    (tested (width a) (takes op (kind names a) (kind names b)) faults.Kind)
-    (moved (IsFaultAt names from (is_turned op under) b) (width a + 1) _ (judged names from (is_turned op under) b)))
-judged names from under (Mark op a) =
-    in_turn _ _ (width a) _ _ (inside names from under a) (λ p k s. omega (arith, s.0))
-    (judged names from under a) (tested (width a) (is_relation (kind names a)) faults.Kind)
-judged names from under (Not a) = moved (IsFaultAt names from true a) 1 _ (judged names from true a)
-judged names from under (Call x) = λ p k h. absurd h
-judged names from under (Only a) =
-    in_turn _ _ 1 _ _ (λ p k s. omega (arith, s.0)) (λ p k (after, e, f). omega (arith, e))
-    (tested 0 (is_set (kind names a)) faults.Kind) (moved (IsFaultAt names from under a) 1 _ (judged names from under a))
+  inside_among : (ss : List Sense) (names : List Naming) (from : ℕ) (under : Bool) (turned : ℕ → Bool) (i : ℕ) (ts : Terms) (p : ℕ) (k : ModelFault) → IsFaultAmong ss names from under turned i ts p k → p < widths ts
+  inside_among ss names from under turned i NoTerm p k h = absurd h
+  inside_among ss names from under turned i (OneMore a others) p k h = elim h [
+    | inl f ↦ let lt : p < width a = inside ss names from (under || turned i) a p k f in omega arith
+    | inr (after, e, f) ↦ let lt : after < widths others = inside_among ss names from under turned (suc i) others after k f in omega (arith, e, lt)
+  ]
+
+clash : (n : ℕ) (c : Bool) → (4096 < n → ⊥) → Judges (λ p k. (p ≡ 0) × (((4096 < n) × (k ≡ faults.TooLarge)) ⊎ (IsTrue c × (k ≡ faults.Kind)))) (unless (not c) faults.Kind)
+clash n true small = record {
+  place = 0;
+  there = (refl, inr (search rules, refl));
+  none_before = λ p l h. inr (sym h.0, elim h.1 [ inl a ↦ absurd (small a.0) | inr b ↦ rw b.1 (omega arith) ]);
+}
+clash n false small = λ p l h. elim h.1 [ inl a ↦ small a.0 | inr b ↦ let e = b.0 in cc ]
+
+large : (n : ℕ) (c : Bool) → 4096 < n → Judges (λ p k. (p ≡ 0) × (((4096 < n) × (k ≡ faults.TooLarge)) ⊎ (IsTrue c × (k ≡ faults.Kind)))) (Some faults.TooLarge)
+large n c lt = record {
+  place = 0;
+  there = (refl, inl (lt, refl));
+  none_before = λ p l h. inr (sym h.0, elim h.1 [ inl a ↦ rw a.1 (omega arith) | inr b ↦ rw b.1 (omega arith) ]);
+}
+
+at_size : (n : ℕ) (c b : Bool) (G : ℕ → ModelFault → Type 0) (later : Option ModelFault) → (b ≡ true → 4096 < n) → (4096 < n → b ≡ true) → ((p : ℕ) (k : ModelFault) → G p k → 1 ≤ p) → Judges G later
+    → Judges (λ p k. ((p ≡ 0) × (((4096 < n) × (k ≡ faults.TooLarge)) ⊎ (IsTrue c × (k ≡ faults.Kind)))) ⊎ G p k) (if b then Some faults.TooLarge else or_else (unless (not c) faults.Kind) later)
+at_size n c true G later lt is high g = in_turn _ G 1 (Some faults.TooLarge) later (λ p k s. omega (arith, s.0)) high (large n c (lt refl)) g
+at_size n c false G later lt is high g = in_turn _ G 1 (unless (not c) faults.Kind) later (λ p k s. omega (arith, s.0)) high (clash n c (λ l. let e : false ≡ true = is l in cc)) g
+
+-- the fault of an application, and then those of its arguments
+applied : (f : Result Sense ModelFault) (sizes : List ℕ) (kinds : List Kind) (G : ℕ → ModelFault → Type 0) (later : Option ModelFault) → ((p : ℕ) (k : ModelFault) → G p k → 1 ≤ p) → Judges G later
+    → Judges (λ p k. ((p ≡ 0) × IsFaultOfApplication f sizes kinds k) ⊎ G p k) (fault_applied f sizes kinds later)
+applied (Err l) sizes kinds G later high g = in_turn _ G 1 (Some l) later (λ p k s. omega (arith, s.0)) high only g
+  where
+    only : Judges (λ p k. (p ≡ 0) × (k ≡ l)) (Some l)
+    only = record { place = 0; there = (refl, refl); none_before = λ p m h. inr (sym h.0, rw h.1 (omega arith)) }
+applied (Ok s) sizes kinds G later high g =
+    at_size (size_with s sizes) (s.clashes kinds) (nat_lt 4096 (size_with s sizes)) G later (ltb-true 4096 (size_with s sizes)) (lt-ltb 4096 (size_with s sizes)) high g
+
+mutual
+  pub judged : (ss : List Sense) (names : List Naming) (from : ℕ) (under : Bool) (t : Term) → Judges (IsFaultAt ss names from under t) (first_within ss names from under t)
+  judged ss names from under (Atom x) = named from under (found names x)
+  judged ss names from under AllEvents = λ p k h. absurd h
+  judged ss names from under EmptyRelation = λ p k h. absurd h
+  judged ss names from under EmptySet = λ p k h. absurd h
+  judged ss names from under (Join op a b) =
+      in_turn _ _ (width a) _ _ (inside ss names from under a)
+      (λ p k h. elim h [ inl s ↦ omega (arith, s.0) | inr (after, e, f) ↦ omega (arith, e) ])
+      (judged ss names from under a)
+      (in_turn _ _ (width a + 1) _ _ (λ p k s. omega (arith, s.0)) (λ p k (after, e, f). omega (arith, e))
+      (tested (width a) (takes op (kind_in ss names a) (kind_in ss names b)) faults.Kind)
+      (moved (IsFaultAt ss names from (is_turned op under) b) (width a + 1) _ (judged ss names from (is_turned op under) b)))
+  judged ss names from under (Mark op a) =
+      in_turn _ _ (width a) _ _ (inside ss names from under a) (λ p k s. omega (arith, s.0))
+      (judged ss names from under a) (tested (width a) (is_relation (kind_in ss names a)) faults.Kind)
+  judged ss names from under (Not a) = moved (IsFaultAt ss names from true a) 1 _ (judged ss names from true a)
+  judged ss names from under (On a) =
+      in_turn _ _ 1 _ _ (λ p k s. omega (arith, s.0)) (λ p k (after, e, f). omega (arith, e))
+      (tested 0 (is_set (kind_in ss names a)) faults.Kind) (moved (IsFaultAt ss names from under a) 1 _ (judged ss names from under a))
+  judged ss names from under (Apply x ts) =
+      let f = sense_of ss (count_of ts) (found names x) in
+      applied f (sizes_in ss names ts) (kinds_in ss names ts) _ _ (λ p k (after, e, h). omega (arith, e))
+      (moved (IsFaultAmong ss names from under (under_of f) 0 ts) 1 _ (judged_among ss names from under (under_of f) 0 ts))
+
+  judged_among : (ss : List Sense) (names : List Naming) (from : ℕ) (under : Bool) (turned : ℕ → Bool) (i : ℕ) (ts : Terms) → Judges (IsFaultAmong ss names from under turned i ts) (first_among ss names from under turned i ts)
+  judged_among ss names from under turned i NoTerm = λ p k h. absurd h
+  judged_among ss names from under turned i (OneMore a others) =
+      in_turn _ _ (width a) _ _ (inside ss names from (under || turned i) a) (λ p k (after, e, f). omega (arith, e))
+      (judged ss names from (under || turned i) a)
+      (moved (IsFaultAmong ss names from under turned (suc i) others) (width a) _ (judged_among ss names from under turned (suc i) others))

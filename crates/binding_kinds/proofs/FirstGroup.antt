@@ -6,12 +6,13 @@ use Rattle.binding_kinds.specs.declared.fault.ModelFault.TheVariants as faults
 use Rattle.binding_kinds.specs.declared.kinds.Kind.{Kind}
 use Rattle.binding_kinds.specs.declared.kinds.Kind.TheVariants.{OfSet, OfRelation, OfAny}
 use Rattle.binding_kinds.specs.Value.{Naming, Bound}
-use Rattle.binding_kinds.specs.Kinds.{kind}
+use Rattle.binding_kinds.specs.Senses.{Sense, kind_in}
 use Rattle.binding_kinds.specs.Faults.{width, IsAmong, IsFaultAt, IsFaultOfBinding, IsFaultIn}
-use Rattle.binding_kinds.specs.Verdict.{is_seen, is_of_set, of_binding, first_in}
+use Rattle.binding_kinds.specs.Verdict.{is_seen, is_of_set}
+use Rattle.binding_kinds.specs.First.{of_binding, first_in}
 use Rattle.binding_kinds.proofs.First.{Judges, in_turn, moved, inside, judged}
 
-seen_is : (ns : List (List ℕ)) (x : List ℕ) → is_seen ns x ≡ true → IsAmong ns x
+pub seen_is : (ns : List (List ℕ)) (x : List ℕ) → is_seen ns x ≡ true → IsAmong ns x
 seen_is [] x e = absurd (let f : false ≡ true = e in cc)
 seen_is (n ∷ ns) x e = at_test (bytes_eq n x) (bytes_eq-Decides n x).0 (seen_is ns x) e
   where
@@ -19,7 +20,7 @@ seen_is (n ∷ ns) x e = at_test (bytes_eq n x) (bytes_eq-Decides n x).0 (seen_i
     at_test true same rest h = inl (same refl)
     at_test false same rest h = inr (rest h)
 
-is_seen_of : (ns : List (List ℕ)) (x : List ℕ) → IsAmong ns x → is_seen ns x ≡ true
+pub is_seen_of : (ns : List (List ℕ)) (x : List ℕ) → IsAmong ns x → is_seen ns x ≡ true
 is_seen_of [] x h = absurd h
 is_seen_of (n ∷ ns) x h = at_test (bytes_eq n x) (bytes_eq-Decides n x).1 (is_seen_of ns x) h
   where
@@ -35,11 +36,11 @@ of_set OfAny e = absurd (let f : false ≡ true = e in cc)
 set_of_true : (k : Kind) → k ≡ OfSet → is_of_set k ≡ true
 set_of_true k e = rw e refl
 
-judged_binding : (names : List Naming) (recursive : Bool) (seen : List (List ℕ)) (b : Bound) → Judges (λ p k. (p ≡ 0) × IsFaultOfBinding names recursive seen b k) (of_binding names recursive seen b)
-judged_binding names recursive seen b =
-    at_tests recursive (is_seen seen b.name) (is_of_set (kind names b.body)) (seen_is seen b.name) (is_seen_of seen b.name) (of_set (kind names b.body)) (set_of_true (kind names b.body))
+judged_binding : (ss : List Sense) (names : List Naming) (recursive : Bool) (seen : List (List ℕ)) (b : Bound) → Judges (λ p k. (p ≡ 0) × IsFaultOfBinding ss names recursive seen b k) (of_binding ss names recursive seen b)
+judged_binding ss names recursive seen b =
+    at_tests recursive (is_seen seen b.name) (is_of_set (kind_in ss names b.body)) (seen_is seen b.name) (is_seen_of seen b.name) (of_set (kind_in ss names b.body)) (set_of_true (kind_in ss names b.body))
   where
-    at_tests : (r s t : Bool) → (s ≡ true → IsAmong seen b.name) → (IsAmong seen b.name → s ≡ true) → (t ≡ true → kind names b.body ≡ OfSet) → (kind names b.body ≡ OfSet → t ≡ true) → Judges (λ p k. (p ≡ 0) × IsFaultOfBinding names r seen b k) (if s then Some faults.Duplicate else if r && t then Some faults.SetInRec else None)
+    at_tests : (r s t : Bool) → (s ≡ true → IsAmong seen b.name) → (IsAmong seen b.name → s ≡ true) → (t ≡ true → kind_in ss names b.body ≡ OfSet) → (kind_in ss names b.body ≡ OfSet → t ≡ true) → Judges (λ p k. (p ≡ 0) × IsFaultOfBinding ss names r seen b k) (if s then Some faults.Duplicate else if r && t then Some faults.SetInRec else None)
     at_tests r true t s0 s1 t0 t1 = record {
       place = 0;
       there = (refl, inl (s0 refl, refl));
@@ -53,14 +54,14 @@ judged_binding names recursive seen b =
     at_tests true false false s0 s1 t0 t1 = λ p l h. elim h.1 [ inl d ↦ let f : false ≡ true = s1 d.0 in cc | inr m ↦ let f : false ≡ true = t1 m.1 in cc ]
     at_tests false false t s0 s1 t0 t1 = λ p l h. elim h.1 [ inl d ↦ let f : false ≡ true = s1 d.0 in cc | inr m ↦ let f = m.0 in cc ]
 
-pub judged_in : (names : List Naming) (from : ℕ) (recursive : Bool) (seen : List (List ℕ)) (bs : List Bound) → Judges (IsFaultIn names from recursive seen bs) (first_in names from recursive seen bs)
-judged_in names from recursive seen [] = λ p k h. absurd h
-judged_in names from recursive seen (b ∷ bs) =
+pub judged_in : (ss : List Sense) (names : List Naming) (from : ℕ) (recursive : Bool) (seen : List (List ℕ)) (bs : List Bound) → Judges (IsFaultIn ss names from recursive seen bs) (first_in ss names from recursive seen bs)
+judged_in ss names from recursive seen [] = λ p k h. absurd h
+judged_in ss names from recursive seen (b ∷ bs) =
     in_turn _ _ 1 _ _ (λ p k s. omega (arith, s.0))
     (λ p k h. elim h [ inl (after, e, f) ↦ omega (arith, e) | inr (after, e, f) ↦ omega (arith, e) ])
-    (judged_binding names recursive seen b)
+    (judged_binding ss names recursive seen b)
     (in_turn _ _ (1 + width b.body) _ _
-    (λ p k (after, e, f). let lt : after < width b.body = inside names from false b.body after k f in omega (arith, e, lt))
+    (λ p k (after, e, f). let lt : after < width b.body = inside ss names from false b.body after k f in omega (arith, e, lt))
     (λ p k (after, e, f). omega (arith, e))
-    (moved (IsFaultAt names from false b.body) 1 _ (judged names from false b.body))
-    (moved (IsFaultIn names from recursive (b.name ∷ seen) bs) (1 + width b.body) _ (judged_in names from recursive (b.name ∷ seen) bs)))
+    (moved (IsFaultAt ss names from false b.body) 1 _ (judged ss names from false b.body))
+    (moved (IsFaultIn ss names from recursive (b.name ∷ seen) bs) (1 + width b.body) _ (judged_in ss names from recursive (b.name ∷ seen) bs)))

@@ -1,32 +1,122 @@
 -- What is looked for in items is the first fault.
-use Rattle.std.proofs.Common.{ℕ, ◌+◌, inl, inr, List, [], ◌∷◌, length, true, false, Option, Some, None, refl, arith, sym, ◌∙◌, ap}
+use Rattle.std.proofs.Common.{ℕ, ◌≡◌, ◌<◌, ◌≤◌, ◌+◌, inl, inr, List, [], ◌∷◌, length, reverse, Bool, true, false, Option, Some, None, Result, Ok, Err, refl, arith, sym, ◌∙◌, ap}
+use Rattle.std.specs.Prelude.{if◌then◌else◌}
+use Rattle.cat_values.specs.Value.{Term, Terms, Atom, AllEvents, EmptyRelation, EmptySet, Join, Mark, Not, On, Apply, NoTerm, OneMore}
 use Rattle.binding_kinds.specs.declared.fault.ModelFault.{ModelFault}
 use Rattle.binding_kinds.specs.declared.fault.ModelFault.TheVariants as faults
+use Rattle.binding_kinds.specs.declared.scope.Found.{Found}
 use Rattle.binding_kinds.specs.Value.{Naming, Clause, Group, Check, Mute, Defined}
-use Rattle.binding_kinds.specs.Kinds.{kind, takes_body}
-use Rattle.binding_kinds.specs.Faults.{IsFaultAt, IsFaultOfItem, FirstFault, HasNoFault, with_own, extended}
-use Rattle.binding_kinds.specs.Verdict.{or_else, first_of_item, first}
-use Rattle.binding_kinds.proofs.First.{Judges, in_turn, moved, tested, judged}
-use Rattle.binding_kinds.proofs.FirstGroup.{judged_in}
+use Rattle.binding_kinds.specs.Kinds.{found, takes_body}
+use Rattle.binding_kinds.specs.Meanings.{parameter_of}
+use Rattle.binding_kinds.specs.Senses.{Sense, sense_of, count_of, kind_in}
+use Rattle.binding_kinds.specs.Faults.{width, widths, IsAmong, IsFaultAt, IsFaultOfParameters, IsFaultInside, IsFaultApplied, IsFaultOfBody, IsFaultOfBodies, IsFaultOfItem, FirstFault, HasNoFault, with_own, extended, senses_after}
+use Rattle.binding_kinds.specs.Verdict.{or_else, is_seen, of_parameters}
+use Rattle.binding_kinds.specs.First.{of_inside, of_applied, first_of_body, first_of_bodies, first_of_item, first}
+use Rattle.binding_kinds.proofs.First.{Judges, in_turn, moved, tested, named, judged}
+use Rattle.binding_kinds.proofs.FirstGroup.{seen_is, is_seen_of, judged_in}
 
-pub judged_item : (names : List Naming) (item : ℕ) (c : Clause) → Judges (IsFaultOfItem names item c) (first_of_item names item c)
-judged_item names item (Group true bs) = judged_in (with_own names item 0 bs) (length names) true [] bs
-judged_item names item (Group false bs) = judged_in names (length names) false [] bs
-judged_item names item (Check w e) =
+inside_parameters : (seen ps : List (List ℕ)) (p : ℕ) (k : ModelFault) → IsFaultOfParameters seen ps p k → p < length ps
+inside_parameters seen [] p k h = absurd h
+inside_parameters seen (x ∷ xs) p k h = elim h [
+  | inl a ↦ omega (arith, a.0)
+  | inr (after, e, f) ↦ let lt : after < length xs = inside_parameters (x ∷ seen) xs after k f in omega (arith, e, lt)
+]
+
+judged_parameters : (seen ps : List (List ℕ)) → Judges (IsFaultOfParameters seen ps) (of_parameters seen ps)
+judged_parameters seen [] = λ p k h. absurd h
+judged_parameters seen (x ∷ xs) = at_test (is_seen seen x) (seen_is seen x) (is_seen_of seen x) (judged_parameters (x ∷ seen) xs)
+  where
+    at_test : (b : Bool) → (b ≡ true → IsAmong seen x) → (IsAmong seen x → b ≡ true) → Judges (IsFaultOfParameters (x ∷ seen) xs) (of_parameters (x ∷ seen) xs)
+        → Judges (IsFaultOfParameters seen (x ∷ xs)) (if b then Some faults.Duplicate else of_parameters (x ∷ seen) xs)
+    at_test true is of rest =
+        in_turn _ _ 1 (Some faults.Duplicate) (of_parameters (x ∷ seen) xs) (λ p k s. omega (arith, s.0)) (λ p k (after, e, f). omega (arith, e))
+        (record { place = 0; there = (refl, is refl, refl); none_before = λ p l h. inr (sym h.0, rw h.2 (omega arith)) })
+        (moved (IsFaultOfParameters (x ∷ seen) xs) 1 _ rest)
+    at_test false is of rest =
+        in_turn _ _ 1 None (of_parameters (x ∷ seen) xs) (λ p k s. omega (arith, s.0)) (λ p k (after, e, f). omega (arith, e))
+        (λ p k h. let e : false ≡ true = of h.1 in cc)
+        (moved (IsFaultOfParameters (x ∷ seen) xs) 1 _ rest)
+
+judged_inside : (o : Option ℕ) (f : Option Found) → Judges (λ p k. (p ≡ 0) × IsFaultInside o f k) (of_inside o f)
+judged_inside None f = named 0 false f
+judged_inside (Some i) f = λ p k h. absurd h.1
+
+only : (l : ModelFault) → Judges (λ p k. (p ≡ 0) × (k ≡ l)) (Some l)
+only l = record { place = 0; there = (refl, refl); none_before = λ p m h. inr (sym h.0, rw h.1 (omega arith)) }
+
+judged_applied : (o : Option ℕ) (f : Result Sense ModelFault) → Judges (λ p k. (p ≡ 0) × IsFaultApplied o f k) (of_applied o f)
+judged_applied (Some i) f = only faults.Arity
+judged_applied None (Ok s) = λ p k h. absurd h.1
+judged_applied None (Err l) = only l
+
+mutual
+  inside_body : (ss : List Sense) (names : List Naming) (ps : List (List ℕ)) (t : Term) (p : ℕ) (k : ModelFault) → IsFaultOfBody ss names ps t p k → p < width t
+  inside_body ss names ps (Atom x) p k h = omega (arith, h.0)
+  inside_body ss names ps AllEvents p k h = absurd h
+  inside_body ss names ps EmptyRelation p k h = absurd h
+  inside_body ss names ps EmptySet p k h = absurd h
+  inside_body ss names ps (Join op a b) p k h = elim h [
+    | inl f ↦ let lt : p < width a = inside_body ss names ps a p k f in omega arith
+    | inr (after, e, f) ↦ let lt : after < width b = inside_body ss names ps b after k f in omega (arith, e, lt)
+  ]
+  inside_body ss names ps (Mark op a) p k h = let lt : p < width a = inside_body ss names ps a p k h in omega arith
+  inside_body ss names ps (Not a) p k (after, e, f) = let lt : after < width a = inside_body ss names ps a after k f in omega (arith, e, lt)
+  inside_body ss names ps (On a) p k (after, e, f) = let lt : after < width a = inside_body ss names ps a after k f in omega (arith, e, lt)
+  inside_body ss names ps (Apply x ts) p k h = elim h [
+    | inl s ↦ omega (arith, s.0)
+    | inr (after, e, f) ↦ let lt : after < widths ts = inside_bodies ss names ps ts after k f in omega (arith, e, lt)
+  ]
+
+  inside_bodies : (ss : List Sense) (names : List Naming) (ps : List (List ℕ)) (ts : Terms) (p : ℕ) (k : ModelFault) → IsFaultOfBodies ss names ps ts p k → p < widths ts
+  inside_bodies ss names ps NoTerm p k h = absurd h
+  inside_bodies ss names ps (OneMore a others) p k h = elim h [
+    | inl f ↦ let lt : p < width a = inside_body ss names ps a p k f in omega arith
+    | inr (after, e, f) ↦ let lt : after < widths others = inside_bodies ss names ps others after k f in omega (arith, e, lt)
+  ]
+
+mutual
+  judged_body : (ss : List Sense) (names : List Naming) (ps : List (List ℕ)) (t : Term) → Judges (IsFaultOfBody ss names ps t) (first_of_body ss names ps t)
+  judged_body ss names ps (Atom x) = judged_inside (parameter_of (reverse ps) x) (found names x)
+  judged_body ss names ps AllEvents = λ p k h. absurd h
+  judged_body ss names ps EmptyRelation = λ p k h. absurd h
+  judged_body ss names ps EmptySet = λ p k h. absurd h
+  judged_body ss names ps (Join op a b) =
+      in_turn _ _ (width a) _ _ (inside_body ss names ps a) (λ p k (after, e, f). omega (arith, e))
+      (judged_body ss names ps a) (moved (IsFaultOfBody ss names ps b) (width a + 1) _ (judged_body ss names ps b))
+  judged_body ss names ps (Mark op a) = judged_body ss names ps a
+  judged_body ss names ps (Not a) = moved (IsFaultOfBody ss names ps a) 1 _ (judged_body ss names ps a)
+  judged_body ss names ps (On a) = moved (IsFaultOfBody ss names ps a) 1 _ (judged_body ss names ps a)
+  judged_body ss names ps (Apply x ts) =
+      in_turn _ _ 1 _ _ (λ p k s. omega (arith, s.0)) (λ p k (after, e, f). omega (arith, e))
+      (judged_applied (parameter_of (reverse ps) x) (sense_of ss (count_of ts) (found names x)))
+      (moved (IsFaultOfBodies ss names ps ts) 1 _ (judged_bodies ss names ps ts))
+
+  judged_bodies : (ss : List Sense) (names : List Naming) (ps : List (List ℕ)) (ts : Terms) → Judges (IsFaultOfBodies ss names ps ts) (first_of_bodies ss names ps ts)
+  judged_bodies ss names ps NoTerm = λ p k h. absurd h
+  judged_bodies ss names ps (OneMore a others) =
+      in_turn _ _ (width a) _ _ (inside_body ss names ps a) (λ p k (after, e, f). omega (arith, e))
+      (judged_body ss names ps a) (moved (IsFaultOfBodies ss names ps others) (width a) _ (judged_bodies ss names ps others))
+
+pub judged_item : (ss : List Sense) (names : List Naming) (item : ℕ) (c : Clause) → Judges (IsFaultOfItem ss names item c) (first_of_item ss names item c)
+judged_item ss names item (Group true bs) = judged_in ss (with_own names item 0 bs) (length names) true [] bs
+judged_item ss names item (Group false bs) = judged_in ss names (length names) false [] bs
+judged_item ss names item (Check w e) =
     in_turn _ _ 1 _ _ (λ p k s. omega (arith, s.0)) (λ p k (after, h, f). omega (arith, h))
-    (tested 0 (takes_body w (kind names e)) faults.Kind)
-    (moved (IsFaultAt names (length names) false e) 1 _ (judged names (length names) false e))
-judged_item names item Mute = λ p k h. absurd h
-judged_item names item (Defined n) = λ p k h. absurd h
+    (tested 0 (takes_body w (kind_in ss names e)) faults.Kind)
+    (moved (IsFaultAt ss names (length names) false e) 1 _ (judged ss names (length names) false e))
+judged_item ss names item Mute = λ p k h. absurd h
+judged_item ss names item (Defined n ps b) =
+    in_turn _ _ (length ps) _ _ (inside_parameters [] ps) (λ p k (after, h, f). omega (arith, h))
+    (judged_parameters [] ps) (moved (IsFaultOfBody ss names ps b) (length ps) _ (judged_body ss names ps b))
 
 -- the first fault of the items, or that there is none
-abbrev pub JudgesItems : List Naming → ℕ → List Clause → Option ModelFault → Type 0
-JudgesItems names from cs None = HasNoFault names from cs
-JudgesItems names from cs (Some k) = FirstFault names from cs k
+abbrev pub JudgesItems : List Sense → List Naming → ℕ → List Clause → Option ModelFault → Type 0
+JudgesItems ss names from cs None = HasNoFault ss names from cs
+JudgesItems ss names from cs (Some k) = FirstFault ss names from cs k
 
-after_item : (names : List Naming) (from : ℕ) (c : Clause) (cs : List Clause) (o q : Option ModelFault) → Judges (IsFaultOfItem names from c) o → JudgesItems (extended names from c) (from + 1) cs q → JudgesItems names from (c ∷ cs) (or_else o q)
-after_item names from c cs None None f g = λ i p k h. elim h [ inl (e, a) ↦ f p k a | inr (after, e, b) ↦ g after p k b ]
-after_item names from c cs None (Some k) f g = record {
+after_item : (ss : List Sense) (names : List Naming) (from : ℕ) (c : Clause) (cs : List Clause) (o q : Option ModelFault) → Judges (IsFaultOfItem ss names from c) o → JudgesItems (senses_after ss names c) (extended ss names from c) (from + 1) cs q → JudgesItems ss names from (c ∷ cs) (or_else o q)
+after_item ss names from c cs None None f g = λ i p k h. elim h [ inl (e, a) ↦ f p k a | inr (after, e, b) ↦ g after p k b ]
+after_item ss names from c cs None (Some k) f g = record {
   item = 1 + g.item;
   place = g.place;
   there = inr (g.item, refl, g.there);
@@ -35,7 +125,7 @@ after_item names from c cs None (Some k) f g = record {
     | inr (after, e, b) ↦ elim (g.none_before after p l b) [ inl lt ↦ inl (omega (arith, e, lt)) | inr s ↦ inr (ap (λ (n : ℕ). 1 + n) s.0 ∙ sym e, s.1) ]
   ];
 }
-after_item names from c cs (Some k) q f g = record {
+after_item ss names from c cs (Some k) q f g = record {
   item = 0;
   place = f.place;
   there = inl (refl, f.there);
@@ -45,6 +135,6 @@ after_item names from c cs (Some k) q f g = record {
   ];
 }
 
-pub judged_items : (names : List Naming) (from : ℕ) (cs : List Clause) → JudgesItems names from cs (first names from cs)
-judged_items names from [] = λ i p k h. absurd h
-judged_items names from (c ∷ cs) = after_item names from c cs (first_of_item names from c) (first (extended names from c) (from + 1) cs) (judged_item names from c) (judged_items (extended names from c) (from + 1) cs)
+pub judged_items : (ss : List Sense) (names : List Naming) (from : ℕ) (cs : List Clause) → JudgesItems ss names from cs (first ss names from cs)
+judged_items ss names from [] = λ i p k h. absurd h
+judged_items ss names from (c ∷ cs) = after_item ss names from c cs (first_of_item ss names from c) (first (senses_after ss names c) (extended ss names from c) (from + 1) cs) (judged_item ss names from c) (judged_items (senses_after ss names c) (extended ss names from c) (from + 1) cs)

@@ -1,5 +1,5 @@
 -- Expressions without fault fit.
-use Rattle.std.proofs.Common.{ℕ, ◌≡◌, ◌<◌, suc, List, [], ◌∷◌, length, Bool, true, false, IsTrue, Option, Some, None, refl, arith, rules}
+use Rattle.std.proofs.Common.{ℕ, ◌≡◌, ◌<◌, ◌∙◌, suc, List, [], ◌∷◌, length, Bool, true, false, IsTrue, Option, Some, None, Result, Ok, Err, refl, sym, ap, arith, rules}
 use Rattle.std.specs.Prelude.{if◌then◌else◌, bytes_eq}
 use Rattle.cat_values.specs.declared.model.Infix.{Infix}
 use Rattle.cat_values.specs.declared.model.Infix.TheVariants.{Union, Sequence, Difference, Intersection, Product}
@@ -10,11 +10,14 @@ use Rattle.binding_kinds.specs.declared.kinds.Kind.TheVariants.{OfSet, OfRelatio
 use Rattle.binding_kinds.specs.declared.scope.Found.{Found}
 use Rattle.binding_kinds.specs.declared.scope.Binder.{Binder}
 use Rattle.binding_kinds.specs.declared.scope.Binder.TheVariants as binders
-use Rattle.binding_kinds.specs.Value.{Term, Word, Everything, NoPairs, NoEvents, Join, Mark, Not, Only, Call, Naming, Bound, Clause, Group, Check, Mute, Defined, IsPlain, ArePlain, IsPlainClause}
-use Rattle.binding_kinds.specs.Kinds.{found, kind, takes, takes_body, is_relation, is_set, is_turned, joined, marked, narrowed, kind_found}
-use Rattle.binding_kinds.specs.Faults.{with_own, with_all, extended}
-use Rattle.binding_kinds.specs.Verdict.{or_else, unless, of_use, of_name, first_of, of_binding, first_in, first_of_item}
-use Rattle.binding_kinds.specs.Fits.{IsKnown, IsValue, IsKnownValue, IsFit, AreFit, IsKnownUnlessFunction, AreKnown, IsFitClause}
+use Rattle.cat_values.specs.Value.{Term, Atom, AllEvents, EmptyRelation, EmptySet, Join, Mark, Not, On, Apply}
+use Rattle.binding_kinds.specs.Value.{Naming, Bound, Clause, Group, Check, Mute, Defined, IsNoFunction}
+use Rattle.binding_kinds.specs.Kinds.{found, takes, takes_body, is_relation, is_set, is_turned, joined, marked, narrowed, kind_found}
+use Rattle.binding_kinds.specs.Senses.{Sense, with_arity, sense_of_binder, sense_of, count_of, sizes_in, kind_in, kinds_in, fault_applied, first_within, first_among, under_of}
+use Rattle.binding_kinds.specs.Faults.{with_own, with_all, extended, senses_after}
+use Rattle.binding_kinds.specs.Verdict.{or_else, unless, of_use, of_name}
+use Rattle.binding_kinds.specs.First.{of_binding, first_in, first_of_item}
+use Rattle.binding_kinds.specs.Fits.{IsKnown, IsValue, IsKnownValue, IsPlain, IsFit, AreFit, IsKnownUnlessFunction, AreKnown, IsFitClause}
 
 -- where there is neither fault
 none_first : (o q : Option ModelFault) → or_else o q ≡ None → o ≡ None
@@ -62,24 +65,39 @@ known_name : (names : List Naming) (x : List ℕ) (from : ℕ) (under : Bool) (o
 known_name names x from under None h is e = absurd (let g : Some faults.Unbound ≡ None = e in cc)
 known_name names x from under (Some f) h is e = known_use f.binder f.kind from under f.slot (known_found names x f h is) e
 
-pub fit : (names : List Naming) (from : ℕ) (under : Bool) (t : Term) → AreKnown names → IsPlain t → first_of names from under t ≡ None → IsFit names t
-fit names from under (Word x) h p e = known_name names x from under (found names x) h refl e
-fit names from under Everything h p e = tt
-fit names from under NoPairs h p e = tt
-fit names from under NoEvents h p e = tt
-fit names from under (Join op a b) h p e =
-    let rest = none_later (first_of names from under a) _ e in
-    let here = none_first (unless (takes op (kind names a) (kind names b)) faults.Kind) _ rest in (
-      fit names from under a h p.0 (none_first _ _ e),
-      fit names from (is_turned op under) b h p.1 (none_later (unless (takes op (kind names a) (kind names b)) faults.Kind) _ rest),
+-- where there are no functions, an application is at fault
+no_sense : (n : ℕ) (o : Option Found) → (k : ModelFault) × (sense_of [] n o ≡ Err k)
+no_sense n None = (faults.Unbound, refl)
+no_sense n (Some f) = at_binder f.binder
+  where
+    at_binder : (b : Binder) → (k : ModelFault) × (sense_of_binder [] n b ≡ Err k)
+    at_binder (binders.Predefined p) = (faults.Arity, refl)
+    at_binder (binders.Bound i) = (faults.Arity, refl)
+    at_binder (binders.Applicable g) = (faults.Arity, refl)
+
+-- an expression without fault, where there are no functions
+pub fit : (names : List Naming) (from : ℕ) (under : Bool) (t : Term) → AreKnown names → first_within [] names from under t ≡ None → IsFit [] names t
+fit names from under (Atom x) h e = known_name names x from under (found names x) h refl e
+fit names from under AllEvents h e = tt
+fit names from under EmptyRelation h e = tt
+fit names from under EmptySet h e = tt
+fit names from under (Join op a b) h e =
+    let rest = none_later (first_within [] names from under a) _ e in
+    let here = none_first (unless (takes op (kind_in [] names a) (kind_in [] names b)) faults.Kind) _ rest in (
+      fit names from under a h (none_first _ _ e),
+      fit names from (is_turned op under) b h (none_later (unless (takes op (kind_in [] names a) (kind_in [] names b)) faults.Kind) _ rest),
       holds _ faults.Kind here,
     )
-fit names from under (Mark op a) h p e =
-    (fit names from under a h p (none_first _ _ e), holds (is_relation (kind names a)) faults.Kind (none_later (first_of names from under a) _ e))
-fit names from under (Not a) h p e = fit names from true a h p e
-fit names from under (Only a) h p e =
-    (fit names from under a h p (none_later (unless (is_set (kind names a)) faults.Kind) _ e), holds (is_set (kind names a)) faults.Kind (none_first _ (first_of names from under a) e))
-fit names from under (Call x) h p e = absurd p
+fit names from under (Mark op a) h e =
+    (fit names from under a h (none_first _ _ e), holds (is_relation (kind_in [] names a)) faults.Kind (none_later (first_within [] names from under a) _ e))
+fit names from under (Not a) h e = fit names from true a h e
+fit names from under (On a) h e =
+    (fit names from under a h (none_later (unless (is_set (kind_in [] names a)) faults.Kind) _ e), holds (is_set (kind_in [] names a)) faults.Kind (none_first _ (first_within [] names from under a) e))
+fit names from under (Apply x ts) h e =
+    let s = no_sense (count_of ts) (found names x) in
+    let there : Some s.0 ≡ None =
+    sym (ap (λ f. fault_applied f (sizes_in [] names ts) (kinds_in [] names ts) (first_among [] names from under (under_of f) 0 ts)) s.1) ∙ e in
+    cc
 
 joined_known : (op : Infix) (k l : Kind) → IsKnown k → IsKnown l → IsTrue (takes op k l) → IsKnown (joined op k l)
 joined_known Union OfSet OfSet k l t = tt
@@ -126,45 +144,64 @@ known_value None h = absurd h
 known_value (Some f) h = h.1
 
 -- what fits is a set or a relation
-pub fit_known : (names : List Naming) (t : Term) → IsFit names t → IsKnown (kind names t)
-fit_known names (Word x) h = known_value (found names x) h
-fit_known names Everything h = tt
-fit_known names NoPairs h = tt
-fit_known names NoEvents h = tt
-fit_known names (Join op a b) h = joined_known op (kind names a) (kind names b) (fit_known names a h.0) (fit_known names b h.1) h.2
-fit_known names (Mark op a) h = marked_known (kind names a) (fit_known names a h.0) h.1
-fit_known names (Not a) h = fit_known names a h
-fit_known names (Only a) h = narrowed_known (kind names a) (fit_known names a h.0) h.1
-fit_known names (Call x) h = absurd h
+pub fit_known : (ss : List Sense) (names : List Naming) (t : Term) → IsFit ss names t → IsKnown (kind_in ss names t)
+fit_known ss names (Atom x) h = known_value (found names x) h
+fit_known ss names AllEvents h = tt
+fit_known ss names EmptyRelation h = tt
+fit_known ss names EmptySet h = tt
+fit_known ss names (Join op a b) h = joined_known op (kind_in ss names a) (kind_in ss names b) (fit_known ss names a h.0) (fit_known ss names b h.1) h.2
+fit_known ss names (Mark op a) h = marked_known (kind_in ss names a) (fit_known ss names a h.0) h.1
+fit_known ss names (Not a) h = fit_known ss names a h
+fit_known ss names (On a) h = narrowed_known (kind_in ss names a) (fit_known ss names a h.0) h.1
+fit_known ss names (Apply x ts) h = absurd h
 
-pub fit_in : (names : List Naming) (from : ℕ) (recursive : Bool) (seen : List (List ℕ)) (bs : List Bound) → AreKnown names → ArePlain bs → first_in names from recursive seen bs ≡ None → AreFit names bs
-fit_in names from recursive seen [] h p e = tt
-fit_in names from recursive seen (b ∷ bs) h p e =
-    let rest = none_later (of_binding names recursive seen b) _ e in
-    (fit names from false b.body h p.0 (none_first _ _ rest), fit_in names from recursive (b.name ∷ seen) bs h p.1 (none_later (first_of names from false b.body) _ rest))
+-- what fits applies no function
+pub fit_plain : (ss : List Sense) (names : List Naming) (t : Term) → IsFit ss names t → IsPlain t
+fit_plain ss names (Atom x) h = tt
+fit_plain ss names AllEvents h = tt
+fit_plain ss names EmptyRelation h = tt
+fit_plain ss names EmptySet h = tt
+fit_plain ss names (Join op a b) h = (fit_plain ss names a h.0, fit_plain ss names b h.1)
+fit_plain ss names (Mark op a) h = fit_plain ss names a h.0
+fit_plain ss names (Not a) h = fit_plain ss names a h
+fit_plain ss names (On a) h = fit_plain ss names a h.0
+fit_plain ss names (Apply x ts) h = absurd h
+
+pub fit_in : (names : List Naming) (from : ℕ) (recursive : Bool) (seen : List (List ℕ)) (bs : List Bound) → AreKnown names → first_in [] names from recursive seen bs ≡ None → AreFit [] names bs
+fit_in names from recursive seen [] h e = tt
+fit_in names from recursive seen (b ∷ bs) h e =
+    let rest = none_later (of_binding [] names recursive seen b) _ e in
+    (fit names from false b.body h (none_first _ _ rest), fit_in names from recursive (b.name ∷ seen) bs h (none_later (first_within [] names from false b.body) _ rest))
 
 known_own : (names : List Naming) (item at : ℕ) (bs : List Bound) → AreKnown names → AreKnown (with_own names item at bs)
 known_own names item at [] h = h
 known_own names item at (b ∷ bs) h = known_own _ item (suc at) bs (tt, h)
 
-known_all : (outer : List Naming) (item at : ℕ) (bs : List Bound) (names : List Naming) → AreKnown names → AreFit outer bs → AreKnown (with_all outer names item at bs)
-known_all outer item at [] names h f = h
-known_all outer item at (b ∷ bs) names h f =
-    let n : Naming = record { name = b.name; kind = kind outer b.body; binder = binders.Bound (record { item = item; position = at }) } in
-    known_all outer item (suc at) bs (n ∷ names) (fit_known outer b.body f.0, h) f.1
+known_all : (ss : List Sense) (outer : List Naming) (item at : ℕ) (bs : List Bound) (names : List Naming) → AreKnown names → AreFit ss outer bs → AreKnown (with_all ss outer names item at bs)
+known_all ss outer item at [] names h f = h
+known_all ss outer item at (b ∷ bs) names h f =
+    let n : Naming = record { name = b.name; kind = kind_in ss outer b.body; binder = binders.Bound (record { item = item; position = at }) } in
+    known_all ss outer item (suc at) bs (n ∷ names) (fit_known ss outer b.body f.0, h) f.1
 
 -- an item without fault fits
-pub fit_item : (names : List Naming) (item : ℕ) (c : Clause) → AreKnown names → IsPlainClause c → first_of_item names item c ≡ None → IsFitClause names (extended names item c) c
-fit_item names item (Group true bs) h p e = fit_in (with_own names item 0 bs) (length names) true [] bs (known_own names item 0 bs h) p e
-fit_item names item (Group false bs) h p e = fit_in names (length names) false [] bs h p e
-fit_item names item (Check w b) h p e = fit names (length names) false b h p (none_later (unless (takes_body w (kind names b)) faults.Kind) _ e)
-fit_item names item Mute h p e = tt
-fit_item names item (Defined n) h p e = tt
+pub fit_item : (names : List Naming) (item : ℕ) (c : Clause) → AreKnown names → first_of_item [] names item c ≡ None → IsFitClause [] names (extended [] names item c) c
+fit_item names item (Group true bs) h e = fit_in (with_own names item 0 bs) (length names) true [] bs (known_own names item 0 bs h) e
+fit_item names item (Group false bs) h e = fit_in names (length names) false [] bs h e
+fit_item names item (Check w b) h e = fit names (length names) false b h (none_later (unless (takes_body w (kind_in [] names b)) faults.Kind) _ e)
+fit_item names item Mute h e = tt
+fit_item names item (Defined n ps b) h e = tt
 
 -- its names are known
-pub known_item : (names : List Naming) (item : ℕ) (c : Clause) → AreKnown names → IsPlainClause c → first_of_item names item c ≡ None → AreKnown (extended names item c)
-known_item names item (Group true bs) h p e = known_own names item 0 bs h
-known_item names item (Group false bs) h p e = known_all names item 0 bs names h (fit_in names (length names) false [] bs h p e)
-known_item names item (Check w b) h p e = h
-known_item names item Mute h p e = h
-known_item names item (Defined n) h p e = h
+pub known_item : (names : List Naming) (item : ℕ) (c : Clause) → AreKnown names → first_of_item [] names item c ≡ None → AreKnown (extended [] names item c)
+known_item names item (Group true bs) h e = known_own names item 0 bs h
+known_item names item (Group false bs) h e = known_all [] names item 0 bs names h (fit_in names (length names) false [] bs h e)
+known_item names item (Check w b) h e = h
+known_item names item Mute h e = h
+known_item names item (Defined n ps b) h e = (tt, h)
+
+-- an item that defines no function leaves the functions as they are
+pub same_senses : (ss : List Sense) (names : List Naming) (c : Clause) → IsNoFunction c → senses_after ss names c ≡ ss
+same_senses ss names (Group r bs) h = refl
+same_senses ss names (Check w b) h = refl
+same_senses ss names Mute h = refl
+same_senses ss names (Defined n ps b) h = absurd h

@@ -1,25 +1,35 @@
--- The faults of an expression and of a group, each at its place, and the first of them.
-use Rattle.std.specs.Prelude.{◌≡◌, ℕ, suc, ◌+◌, ◌<◌, ◌≤◌, ◌⊎◌, List, [], ◌∷◌, length, Bool, true, false, IsTrue, IsFalse, Option, Some, None}
+-- The faults of an expression and of an item, each at its place, and the first of them.
+use Rattle.std.specs.Prelude.{◌≡◌, ℕ, suc, ◌+◌, ◌<◌, ◌≤◌, ◌⊎◌, List, [], ◌∷◌, ◌++◌, length, reverse, Bool, true, false, ◌||◌, IsTrue, IsFalse, Option, Some, None, Result, Ok, Err}
+use Rattle.cat_values.specs.Value.{Term, Terms, Atom, AllEvents, EmptyRelation, EmptySet, Join, Mark, Not, On, Apply, NoTerm, OneMore}
 use Rattle.binding_kinds.specs.declared.fault.ModelFault.{ModelFault}
 use Rattle.binding_kinds.specs.declared.fault.ModelFault.TheVariants as faults
-use Rattle.binding_kinds.specs.declared.kinds.Kind.TheVariants.{OfSet, OfRelation}
+use Rattle.binding_kinds.specs.declared.kinds.Kind.{Kind}
+use Rattle.binding_kinds.specs.declared.kinds.Kind.TheVariants.{OfSet, OfRelation, OfAny}
 use Rattle.binding_kinds.specs.declared.scope.Found.{Found}
 use Rattle.binding_kinds.specs.declared.scope.Binder.{Binder}
 use Rattle.binding_kinds.specs.declared.scope.Binder.TheVariants as binders
-use Rattle.binding_kinds.specs.Value.{Term, Word, Everything, NoPairs, NoEvents, Join, Mark, Not, Only, Call, Naming, Bound, Clause, Group, Check, Mute, Defined}
-use Rattle.binding_kinds.specs.Kinds.{found, kind, takes, is_relation, is_set, is_turned, takes_body}
+use Rattle.binding_kinds.specs.Value.{Naming, Bound, Clause, Group, Check, Mute, Defined}
+use Rattle.binding_kinds.specs.Kinds.{found, takes, is_relation, is_set, is_turned, takes_body}
+use Rattle.binding_kinds.specs.Meanings.{parameter_of}
+use Rattle.binding_kinds.specs.Senses.{Sense, size_with, sense_of, count_of, sizes_in, kind_in, kinds_in, under_of}
+use Rattle.binding_kinds.specs.Functions.{sense_of_function}
 
--- how many names, signs and brackets an expression has: its places are those below
-abbrev pub width : Term → ℕ
-width (Word x) = 1
-width Everything = 1
-width NoPairs = 1
-width NoEvents = 1
-width (Join op a b) = width a + 1 + width b
-width (Mark op a) = width a + 1
-width (Not a) = 1 + width a
-width (Only a) = 1 + width a
-width (Call x) = 1
+abbrev mutual
+  -- how many names, signs and brackets an expression has: its places are those below
+  pub width : Term → ℕ
+  width (Atom x) = 1
+  width AllEvents = 1
+  width EmptyRelation = 1
+  width EmptySet = 1
+  width (Join op a b) = width a + 1 + width b
+  width (Mark op a) = width a + 1
+  width (Not a) = 1 + width a
+  width (On a) = 1 + width a
+  width (Apply x arguments) = 1 + widths arguments
+
+  pub widths : Terms → ℕ
+  widths NoTerm = 0
+  widths (OneMore a others) = width a + widths others
 
 -- A name is recursive where its slot is not below `from`.
 abbrev pub IsFaultOfUse : Binder → ℕ → Bool → ℕ → ModelFault → Type 0
@@ -32,42 +42,102 @@ abbrev pub IsFaultOfName : ℕ → Bool → Option Found → ModelFault → Type
 IsFaultOfName from under None k = k ≡ faults.Unbound
 IsFaultOfName from under (Some f) k = IsFaultOfUse f.binder from under f.slot k
 
--- The expression, seen under a complement or not, has this fault at this place.
-abbrev pub IsFaultAt : List Naming → ℕ → Bool → Term → ℕ → ModelFault → Type 0
-IsFaultAt names from under (Word x) place k = (place ≡ 0) × IsFaultOfName from under (found names x) k
-IsFaultAt names from under Everything place k = ⊥
-IsFaultAt names from under NoPairs place k = ⊥
-IsFaultAt names from under NoEvents place k = ⊥
-IsFaultAt names from under (Join op a b) place k =
-    IsFaultAt names from under a place k
-    ⊎ (((place ≡ width a) × IsFalse (takes op (kind names a) (kind names b)) × (k ≡ faults.Kind))
-    ⊎ ((after : ℕ) × (place ≡ width a + 1 + after) × IsFaultAt names from (is_turned op under) b after k))
-IsFaultAt names from under (Mark op a) place k =
-    IsFaultAt names from under a place k
-    ⊎ ((place ≡ width a) × IsFalse (is_relation (kind names a)) × (k ≡ faults.Kind))
-IsFaultAt names from under (Not a) place k = (after : ℕ) × (place ≡ 1 + after) × IsFaultAt names from true a after k
-IsFaultAt names from under (Call x) place k = ⊥
-IsFaultAt names from under (Only a) place k =
-    ((place ≡ 0) × IsFalse (is_set (kind names a)) × (k ≡ faults.Kind))
-    ⊎ ((after : ℕ) × (place ≡ 1 + after) × IsFaultAt names from under a after k)
+-- A name applied that is no function of so many parameters, an application that is too large, or an operator of the
+-- body that does not take its operands.
+abbrev pub IsFaultOfApplication : Result Sense ModelFault → List ℕ → List Kind → ModelFault → Type 0
+IsFaultOfApplication (Err l) sizes kinds k = k ≡ l
+IsFaultOfApplication (Ok s) sizes kinds k = ((4096 < size_with s sizes) × (k ≡ faults.TooLarge)) ⊎ (IsTrue (s.clashes kinds) × (k ≡ faults.Kind))
+
+abbrev mutual
+  -- The expression, seen under a complement or not, has this fault at this place.
+  pub IsFaultAt : List Sense → List Naming → ℕ → Bool → Term → ℕ → ModelFault → Type 0
+  IsFaultAt ss names from under (Atom x) place k = (place ≡ 0) × IsFaultOfName from under (found names x) k
+  IsFaultAt ss names from under AllEvents place k = ⊥
+  IsFaultAt ss names from under EmptyRelation place k = ⊥
+  IsFaultAt ss names from under EmptySet place k = ⊥
+  IsFaultAt ss names from under (Join op a b) place k =
+      IsFaultAt ss names from under a place k
+      ⊎ (((place ≡ width a) × IsFalse (takes op (kind_in ss names a) (kind_in ss names b)) × (k ≡ faults.Kind))
+      ⊎ ((after : ℕ) × (place ≡ width a + 1 + after) × IsFaultAt ss names from (is_turned op under) b after k))
+  IsFaultAt ss names from under (Mark op a) place k =
+      IsFaultAt ss names from under a place k
+      ⊎ ((place ≡ width a) × IsFalse (is_relation (kind_in ss names a)) × (k ≡ faults.Kind))
+  IsFaultAt ss names from under (Not a) place k = (after : ℕ) × (place ≡ 1 + after) × IsFaultAt ss names from true a after k
+  IsFaultAt ss names from under (On a) place k =
+      ((place ≡ 0) × IsFalse (is_set (kind_in ss names a)) × (k ≡ faults.Kind))
+      ⊎ ((after : ℕ) × (place ≡ 1 + after) × IsFaultAt ss names from under a after k)
+  IsFaultAt ss names from under (Apply x arguments) place k =
+      let f = sense_of ss (count_of arguments) (found names x) in
+      ((place ≡ 0) × IsFaultOfApplication f (sizes_in ss names arguments) (kinds_in ss names arguments) k)
+      ⊎ ((after : ℕ) × (place ≡ 1 + after) × IsFaultAmong ss names from under (under_of f) 0 arguments after k)
+
+  -- the arguments from that one on have this fault at this place
+  pub IsFaultAmong : List Sense → List Naming → ℕ → Bool → (ℕ → Bool) → ℕ → Terms → ℕ → ModelFault → Type 0
+  IsFaultAmong ss names from under is_under i NoTerm place k = ⊥
+  IsFaultAmong ss names from under is_under i (OneMore a others) place k =
+      IsFaultAt ss names from (under || is_under i) a place k
+      ⊎ ((after : ℕ) × (place ≡ width a + after) × IsFaultAmong ss names from under is_under (suc i) others after k)
 
 abbrev pub IsAmong : List (List ℕ) → List ℕ → Type 0
 IsAmong [] x = ⊥
 IsAmong (n ∷ ns) x = (n ≡ x) ⊎ IsAmong ns x
 
 -- The binding's own name has this fault: it stands earlier in the group, or its recursive body is a set.
-abbrev pub IsFaultOfBinding : List Naming → Bool → List (List ℕ) → Bound → ModelFault → Type 0
-IsFaultOfBinding names recursive seen b k =
+abbrev pub IsFaultOfBinding : List Sense → List Naming → Bool → List (List ℕ) → Bound → ModelFault → Type 0
+IsFaultOfBinding ss names recursive seen b k =
     (IsAmong seen b.name × (k ≡ faults.Duplicate))
-    ⊎ (IsTrue recursive × (kind names b.body ≡ OfSet) × (k ≡ faults.SetInRec))
+    ⊎ (IsTrue recursive × (kind_in ss names b.body ≡ OfSet) × (k ≡ faults.SetInRec))
 
 -- The bindings, after those of the names seen, have this fault: a name, its body, and the rest follow one another.
-abbrev pub IsFaultIn : List Naming → ℕ → Bool → List (List ℕ) → List Bound → ℕ → ModelFault → Type 0
-IsFaultIn names from recursive seen [] place k = ⊥
-IsFaultIn names from recursive seen (b ∷ bs) place k =
-    ((place ≡ 0) × IsFaultOfBinding names recursive seen b k)
-    ⊎ (((after : ℕ) × (place ≡ 1 + after) × IsFaultAt names from false b.body after k)
-    ⊎ ((after : ℕ) × (place ≡ 1 + width b.body + after) × IsFaultIn names from recursive (b.name ∷ seen) bs after k))
+abbrev pub IsFaultIn : List Sense → List Naming → ℕ → Bool → List (List ℕ) → List Bound → ℕ → ModelFault → Type 0
+IsFaultIn ss names from recursive seen [] place k = ⊥
+IsFaultIn ss names from recursive seen (b ∷ bs) place k =
+    ((place ≡ 0) × IsFaultOfBinding ss names recursive seen b k)
+    ⊎ (((after : ℕ) × (place ≡ 1 + after) × IsFaultAt ss names from false b.body after k)
+    ⊎ ((after : ℕ) × (place ≡ 1 + width b.body + after) × IsFaultIn ss names from recursive (b.name ∷ seen) bs after k))
+
+-- The parameters, after those seen, have this fault at this place: one stands twice.
+abbrev pub IsFaultOfParameters : List (List ℕ) → List (List ℕ) → ℕ → ModelFault → Type 0
+IsFaultOfParameters seen [] place k = ⊥
+IsFaultOfParameters seen (p ∷ ps) place k =
+    ((place ≡ 0) × IsAmong seen p × (k ≡ faults.Duplicate))
+    ⊎ ((after : ℕ) × (place ≡ 1 + after) × IsFaultOfParameters (p ∷ seen) ps after k)
+
+-- A name of a body that is no parameter: nothing binds it, or it is a function without arguments.
+abbrev pub IsFaultInside : Option ℕ → Option Found → ModelFault → Type 0
+IsFaultInside (Some p) o k = ⊥
+IsFaultInside None o k = IsFaultOfName 0 false o k
+
+-- A name applied in a body: a parameter, or no function of so many parameters.
+abbrev pub IsFaultApplied : Option ℕ → Result Sense ModelFault → ModelFault → Type 0
+IsFaultApplied (Some p) f k = k ≡ faults.Arity
+IsFaultApplied None (Err l) k = k ≡ l
+IsFaultApplied None (Ok s) k = ⊥
+
+abbrev mutual
+  -- The body of a function has this fault at this place. Nothing else is looked for there: kinds, sizes and complements
+  -- count where the function is applied.
+  pub IsFaultOfBody : List Sense → List Naming → List (List ℕ) → Term → ℕ → ModelFault → Type 0
+  IsFaultOfBody ss names ps (Atom x) place k = (place ≡ 0) × IsFaultInside (parameter_of (reverse ps) x) (found names x) k
+  IsFaultOfBody ss names ps AllEvents place k = ⊥
+  IsFaultOfBody ss names ps EmptyRelation place k = ⊥
+  IsFaultOfBody ss names ps EmptySet place k = ⊥
+  IsFaultOfBody ss names ps (Join op a b) place k =
+      IsFaultOfBody ss names ps a place k
+      ⊎ ((after : ℕ) × (place ≡ width a + 1 + after) × IsFaultOfBody ss names ps b after k)
+  IsFaultOfBody ss names ps (Mark op a) place k = IsFaultOfBody ss names ps a place k
+  IsFaultOfBody ss names ps (Not a) place k = (after : ℕ) × (place ≡ 1 + after) × IsFaultOfBody ss names ps a after k
+  IsFaultOfBody ss names ps (On a) place k = (after : ℕ) × (place ≡ 1 + after) × IsFaultOfBody ss names ps a after k
+  IsFaultOfBody ss names ps (Apply x arguments) place k =
+      ((place ≡ 0) × IsFaultApplied (parameter_of (reverse ps) x) (sense_of ss (count_of arguments) (found names x)) k)
+      ⊎ ((after : ℕ) × (place ≡ 1 + after) × IsFaultOfBodies ss names ps arguments after k)
+
+  -- the arguments, one after another
+  pub IsFaultOfBodies : List Sense → List Naming → List (List ℕ) → Terms → ℕ → ModelFault → Type 0
+  IsFaultOfBodies ss names ps NoTerm place k = ⊥
+  IsFaultOfBodies ss names ps (OneMore a others) place k =
+      IsFaultOfBody ss names ps a place k
+      ⊎ ((after : ℕ) × (place ≡ width a + after) × IsFaultOfBodies ss names ps others after k)
 
 -- the recursive names of a group, from that position of the item on, seen after the names
 abbrev pub with_own : List Naming → ℕ → ℕ → List Bound → List Naming
@@ -76,35 +146,43 @@ with_own names item at (b ∷ bs) =
     with_own (record { name = b.name; kind = OfRelation; binder = binders.Bound (record { item = item; position = at }) } ∷ names) item (suc at) bs
 
 -- the names of a group that is not recursive, whose bodies see the outer names
-abbrev pub with_all : List Naming → List Naming → ℕ → ℕ → List Bound → List Naming
-with_all outer names item at [] = names
-with_all outer names item at (b ∷ bs) =
-    with_all outer (record { name = b.name; kind = kind outer b.body; binder = binders.Bound (record { item = item; position = at }) } ∷ names) item (suc at) bs
+abbrev pub with_all : List Sense → List Naming → List Naming → ℕ → ℕ → List Bound → List Naming
+with_all ss outer names item at [] = names
+with_all ss outer names item at (b ∷ bs) =
+    with_all ss outer (record { name = b.name; kind = kind_in ss outer b.body; binder = binders.Bound (record { item = item; position = at }) } ∷ names) item (suc at) bs
 
 -- the names that are seen after the item of that number
-abbrev pub extended : List Naming → ℕ → Clause → List Naming
-extended names item (Group true bs) = with_own names item 0 bs
-extended names item (Group false bs) = with_all names names item 0 bs
-extended names item (Check w e) = names
-extended names item Mute = names
-extended names item (Defined n) = names
+abbrev pub extended : List Sense → List Naming → ℕ → Clause → List Naming
+extended ss names item (Group true bs) = with_own names item 0 bs
+extended ss names item (Group false bs) = with_all ss names names item 0 bs
+extended ss names item (Check w e) = names
+extended ss names item Mute = names
+extended ss names item (Defined n ps b) = record { name = n; kind = OfAny; binder = binders.Applicable (length ss) } ∷ names
+
+-- what the functions are after the item
+abbrev pub senses_after : List Sense → List Naming → Clause → List Sense
+senses_after ss names (Group r bs) = ss
+senses_after ss names (Check w e) = ss
+senses_after ss names Mute = ss
+senses_after ss names (Defined n ps b) = ss ++ sense_of_function ss names ps b ∷ []
 
 -- the item of that number has this fault at this place
-abbrev pub IsFaultOfItem : List Naming → ℕ → Clause → ℕ → ModelFault → Type 0
-IsFaultOfItem names item (Group true bs) place k = IsFaultIn (with_own names item 0 bs) (length names) true [] bs place k
-IsFaultOfItem names item (Group false bs) place k = IsFaultIn names (length names) false [] bs place k
-IsFaultOfItem names item (Check w e) place k =
-    ((place ≡ 0) × IsFalse (takes_body w (kind names e)) × (k ≡ faults.Kind))
-    ⊎ ((after : ℕ) × (place ≡ 1 + after) × IsFaultAt names (length names) false e after k)
-IsFaultOfItem names item Mute place k = ⊥
-IsFaultOfItem names item (Defined n) place k = ⊥
+abbrev pub IsFaultOfItem : List Sense → List Naming → ℕ → Clause → ℕ → ModelFault → Type 0
+IsFaultOfItem ss names item (Group true bs) place k = IsFaultIn ss (with_own names item 0 bs) (length names) true [] bs place k
+IsFaultOfItem ss names item (Group false bs) place k = IsFaultIn ss names (length names) false [] bs place k
+IsFaultOfItem ss names item (Check w e) place k =
+    ((place ≡ 0) × IsFalse (takes_body w (kind_in ss names e)) × (k ≡ faults.Kind))
+    ⊎ ((after : ℕ) × (place ≡ 1 + after) × IsFaultAt ss names (length names) false e after k)
+IsFaultOfItem ss names item Mute place k = ⊥
+IsFaultOfItem ss names item (Defined n ps b) place k =
+    IsFaultOfParameters [] ps place k ⊎ ((after : ℕ) × (place ≡ length ps + after) × IsFaultOfBody ss names ps b after k)
 
 -- Of the items, the first of which has the number `from`, the one that many behind the first has this fault at this place.
-abbrev pub IsFault : List Naming → ℕ → List Clause → ℕ → ℕ → ModelFault → Type 0
-IsFault names from [] item place k = ⊥
-IsFault names from (c ∷ cs) item place k =
-    ((item ≡ 0) × IsFaultOfItem names from c place k)
-    ⊎ ((after : ℕ) × (item ≡ 1 + after) × IsFault (extended names from c) (from + 1) cs after place k)
+abbrev pub IsFault : List Sense → List Naming → ℕ → List Clause → ℕ → ℕ → ModelFault → Type 0
+IsFault ss names from [] item place k = ⊥
+IsFault ss names from (c ∷ cs) item place k =
+    ((item ≡ 0) × IsFaultOfItem ss names from c place k)
+    ⊎ ((after : ℕ) × (item ≡ 1 + after) × IsFault (senses_after ss names c) (extended ss names from c) (from + 1) cs after place k)
 
 -- which fault is answered at one place
 abbrev pub rank : ModelFault → ℕ
@@ -127,11 +205,11 @@ pub record IsFirst (Faulty : ℕ → ModelFault → Type 0) (k : ModelFault) : T
   pub none_before : (other : ℕ) (l : ModelFault) → Faulty other l → IsNoLater place k other l
 
 -- the items have this fault as the first, by item and then by place
-pub record FirstFault (names : List Naming) (from : ℕ) (items : List Clause) (k : ModelFault) : Type 0 where
+pub record FirstFault (ss : List Sense) (names : List Naming) (from : ℕ) (items : List Clause) (k : ModelFault) : Type 0 where
   pub item : ℕ
   pub place : ℕ
-  pub there : IsFault names from items item place k
-  pub none_before : (i p : ℕ) (l : ModelFault) → IsFault names from items i p l → (item < i) ⊎ ((item ≡ i) × IsNoLater place k p l)
+  pub there : IsFault ss names from items item place k
+  pub none_before : (i p : ℕ) (l : ModelFault) → IsFault ss names from items i p l → (item < i) ⊎ ((item ≡ i) × IsNoLater place k p l)
 
-abbrev pub HasNoFault : List Naming → ℕ → List Clause → Type 0
-HasNoFault names from items = (i p : ℕ) (l : ModelFault) → IsFault names from items i p l → ⊥
+abbrev pub HasNoFault : List Sense → List Naming → ℕ → List Clause → Type 0
+HasNoFault ss names from items = (i p : ℕ) (l : ModelFault) → IsFault ss names from items i p l → ⊥

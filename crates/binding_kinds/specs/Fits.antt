@@ -1,12 +1,14 @@
 -- Expressions without fault, whose kinds are known.
 use Rattle.std.specs.Prelude.{List, [], ◌∷◌, true, false, IsTrue, Option, Some, None}
+use Rattle.cat_values.specs.Value.{Term, Atom, AllEvents, EmptyRelation, EmptySet, Join, Mark, Not, On, Apply}
 use Rattle.binding_kinds.specs.declared.kinds.Kind.{Kind}
 use Rattle.binding_kinds.specs.declared.kinds.Kind.TheVariants.{OfSet, OfRelation, OfAny}
 use Rattle.binding_kinds.specs.declared.scope.Found.{Found}
 use Rattle.binding_kinds.specs.declared.scope.Binder.{Binder}
 use Rattle.binding_kinds.specs.declared.scope.Binder.TheVariants as binders
-use Rattle.binding_kinds.specs.Value.{Term, Word, Everything, NoPairs, NoEvents, Join, Mark, Not, Only, Call, Naming, Bound, Clause, Group, Check, Mute, Defined}
-use Rattle.binding_kinds.specs.Kinds.{found, kind, takes, is_relation, is_set}
+use Rattle.binding_kinds.specs.Value.{Naming, Bound, Clause, Group, Check, Mute, Defined}
+use Rattle.binding_kinds.specs.Kinds.{found, takes, is_relation, is_set}
+use Rattle.binding_kinds.specs.Senses.{Sense, kind_in}
 
 -- a set or a relation
 abbrev pub IsKnown : Kind → Type 0
@@ -24,21 +26,33 @@ abbrev pub IsKnownValue : Option Found → Type 0
 IsKnownValue None = ⊥
 IsKnownValue (Some f) = IsValue f.binder × IsKnown f.kind
 
--- each name stands for a set or a relation, and each operator takes its operands
-abbrev pub IsFit : List Naming → Term → Type 0
-IsFit names (Word x) = IsKnownValue (found names x)
-IsFit names Everything = Unit {0}
-IsFit names NoPairs = Unit {0}
-IsFit names NoEvents = Unit {0}
-IsFit names (Join op a b) = IsFit names a × IsFit names b × IsTrue (takes op (kind names a) (kind names b))
-IsFit names (Mark op a) = IsFit names a × IsTrue (is_relation (kind names a))
-IsFit names (Not a) = IsFit names a
-IsFit names (Only a) = IsFit names a × IsTrue (is_set (kind names a))
-IsFit names (Call x) = ⊥
+-- the expression applies no function
+abbrev pub IsPlain : Term → Type 0
+IsPlain (Atom x) = Unit {0}
+IsPlain AllEvents = Unit {0}
+IsPlain EmptyRelation = Unit {0}
+IsPlain EmptySet = Unit {0}
+IsPlain (Join op a b) = IsPlain a × IsPlain b
+IsPlain (Mark op a) = IsPlain a
+IsPlain (Not a) = IsPlain a
+IsPlain (On a) = IsPlain a
+IsPlain (Apply x arguments) = ⊥
 
-abbrev pub AreFit : List Naming → List Bound → Type 0
-AreFit names [] = Unit {0}
-AreFit names (b ∷ bs) = IsFit names b.body × AreFit names bs
+-- each name stands for a set or a relation, each operator takes its operands, and no function is applied
+abbrev pub IsFit : List Sense → List Naming → Term → Type 0
+IsFit ss names (Atom x) = IsKnownValue (found names x)
+IsFit ss names AllEvents = Unit {0}
+IsFit ss names EmptyRelation = Unit {0}
+IsFit ss names EmptySet = Unit {0}
+IsFit ss names (Join op a b) = IsFit ss names a × IsFit ss names b × IsTrue (takes op (kind_in ss names a) (kind_in ss names b))
+IsFit ss names (Mark op a) = IsFit ss names a × IsTrue (is_relation (kind_in ss names a))
+IsFit ss names (Not a) = IsFit ss names a
+IsFit ss names (On a) = IsFit ss names a × IsTrue (is_set (kind_in ss names a))
+IsFit ss names (Apply x arguments) = ⊥
+
+abbrev pub AreFit : List Sense → List Naming → List Bound → Type 0
+AreFit ss names [] = Unit {0}
+AreFit ss names (b ∷ bs) = IsFit ss names b.body × AreFit ss names bs
 
 -- what a name stands for has a kind, unless it is a function
 abbrev pub IsKnownUnlessFunction : Binder → Kind → Type 0
@@ -51,9 +65,9 @@ AreKnown [] = Unit {0}
 AreKnown (n ∷ ns) = IsKnownUnlessFunction n.binder n.kind × AreKnown ns
 
 -- The bodies of a recursive group see its names, and other bodies the names before the item.
-abbrev pub IsFitClause : List Naming → List Naming → Clause → Type 0
-IsFitClause names own (Group true bs) = AreFit own bs
-IsFitClause names own (Group false bs) = AreFit names bs
-IsFitClause names own (Check w e) = IsFit names e
-IsFitClause names own Mute = Unit {0}
-IsFitClause names own (Defined n) = Unit {0}
+abbrev pub IsFitClause : List Sense → List Naming → List Naming → Clause → Type 0
+IsFitClause ss names own (Group true bs) = AreFit ss own bs
+IsFitClause ss names own (Group false bs) = AreFit ss names bs
+IsFitClause ss names own (Check w e) = IsFit ss names e
+IsFitClause ss names own Mute = Unit {0}
+IsFitClause ss names own (Defined n ps b) = Unit {0}

@@ -7,7 +7,7 @@ use Rattle.cat_values.specs.declared.model.CheckWord.TheVariants.{Acyclic, Irref
 use Rattle.binding_kinds.specs.declared.kinds.Kind.{Kind}
 use Rattle.binding_kinds.specs.declared.kinds.Kind.TheVariants.{OfSet, OfRelation, OfAny}
 use Rattle.binding_kinds.specs.declared.scope.Found.{Found}
-use Rattle.binding_kinds.specs.Value.{Term, Word, Everything, NoPairs, NoEvents, Join, Mark, Not, Only, Call, Naming}
+use Rattle.binding_kinds.specs.Value.{Naming}
 
 -- The namings that an expression sees, the latest first. The slot of a naming is the number of those before it,
 -- so it stays the same as the scope grows.
@@ -71,18 +71,6 @@ narrowed OfAny = OfAny
 abbrev pub kind_found : Option Found → Kind
 kind_found None = OfAny
 kind_found (Some f) = f.kind
-
--- The kind of an expression. One that holds an unbound name or an operator that does not take its operands fits every kind.
-abbrev pub kind : List Naming → Term → Kind
-kind names (Word x) = kind_found (found names x)
-kind names Everything = OfSet
-kind names NoPairs = OfRelation
-kind names NoEvents = OfSet
-kind names (Join op a b) = joined op (kind names a) (kind names b)
-kind names (Mark op a) = marked (kind names a)
-kind names (Not a) = kind names a
-kind names (Only a) = narrowed (kind names a)
-kind names (Call x) = OfAny
 
 -- whether the check takes an expression of this kind
 abbrev pub takes_body : CheckWord → Kind → Bool

@@ -81,7 +81,7 @@ kind_applied (Ok s) sizes kinds = if nat_lt 4096 (size_with s sizes) then OfAny 
 kind_applied (Err k) sizes kinds = OfAny
 
 abbrev mutual
-  -- the kind of an expression
+  -- The kind of an expression. One that holds an unbound name or an operator that does not take its operands fits every kind.
   pub kind_in : List Sense → List Naming → Term → Kind
   kind_in ss names (Atom x) = kind_found (found names x)
   kind_in ss names AllEvents = OfSet

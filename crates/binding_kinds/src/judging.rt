@@ -1,13 +1,14 @@
 //! The kinds and the first fault of expressions and groups.
 
 ghost use Rattle.std.specs.Prelude.{◌≡◌, ◌+◌, ◌*◌, ◌^◌, ◌<◌, ◌≤◌, [], List, reverse, map, get_or, Ok, Err, Some, None, true, false, not, ◌||◌, MatchResult};
-ghost use Rattle.binding_kinds.specs.Value.{Naming, entry_of, term_of, bound_of, IsPlain, ArePlain};
-ghost use Rattle.binding_kinds.specs.Kinds.{kind, kind_found, found, joined, takes, marked, narrowed, is_set, is_relation};
-ghost use Rattle.binding_kinds.specs.Verdict.{first_of, first_in, of_binding, is_seen, or_else, unless, of_name, of_slot, of_parameters};
+ghost use Rattle.binding_kinds.specs.Value.{Naming, entry_of, bound_of};
+ghost use Rattle.binding_kinds.specs.Kinds.{kind_found, found, joined, takes, marked, narrowed, is_set, is_relation};
+ghost use Rattle.binding_kinds.specs.Verdict.{is_seen, or_else, unless, of_name, of_slot, of_parameters};
+ghost use Rattle.binding_kinds.specs.First.{first_in, of_binding};
 ghost use Rattle.binding_kinds.specs.Seen.{names_of};
 ghost use Rattle.binding_kinds.specs.Combinations.{digit, unknown};
 ghost use Rattle.binding_kinds.specs.Senses.{Sense, IsKept, AreKept, sense_of, size_in, kind_in, first_within, IsAlike};
-ghost use Rattle.cat_values.specs.Values as values;
+ghost use Rattle.cat_values.specs.Values.{term_of};
 
 use crate::fault::ModelFault;
 use crate::function::{Function, MAX_SIZE};
@@ -268,11 +269,9 @@ pub fn judge(
     under: bool,
     term: &Expression,
 ) -> Judged
-    ensures kind_in { (senses : List Sense) → AreKept functions.now senses → result.kind ≡ kind_in senses (reverse (map entry_of entries.now)) (values.term_of term.now) }
-    ensures size_in { (senses : List Sense) → AreKept functions.now senses → IsAlike result.size (size_in senses (reverse (map entry_of entries.now)) (values.term_of term.now)) }
-    ensures first_within { (senses : List Sense) → AreKept functions.now senses → result.fault ≡ first_within senses (reverse (map entry_of entries.now)) from under (values.term_of term.now) }
-    ensures kind { IsPlain (term_of term.now) → result.kind ≡ kind (reverse (map entry_of entries.now)) (term_of term.now) }
-    ensures fault { IsPlain (term_of term.now) → result.fault ≡ first_of (reverse (map entry_of entries.now)) from under (term_of term.now) }
+    ensures kind_in { (senses : List Sense) → AreKept functions.now senses → result.kind ≡ kind_in senses (reverse (map entry_of entries.now)) (term_of term.now) }
+    ensures size_in { (senses : List Sense) → AreKept functions.now senses → IsAlike result.size (size_in senses (reverse (map entry_of entries.now)) (term_of term.now)) }
+    ensures first_within { (senses : List Sense) → AreKept functions.now senses → result.fault ≡ first_within senses (reverse (map entry_of entries.now)) from under (term_of term.now) }
 {
     match term {
         Expression::Named(name) => judge_name(entries, from, under, name),
@@ -330,7 +329,7 @@ fn binding_fault(
     before: &[Binding],
     binding: &Binding,
 ) -> Option<ModelFault>
-    ensures { (names : List Naming) → body ≡ kind names (bound_of binding.now).body → result ≡ of_binding names recursive (names_of before.now) (bound_of binding.now) }
+    ensures { (senses : List Sense) → (names : List Naming) → body ≡ kind_in senses names (bound_of binding.now).body → result ≡ of_binding senses names recursive (names_of before.now) (bound_of binding.now) }
 {
     if is_seen(before, &binding.name) {
         return Some(ModelFault::Duplicate);
@@ -349,7 +348,7 @@ pub fn group_fault(
     recursive: bool,
     group: &[Binding],
 ) -> Option<ModelFault>
-    ensures { ArePlain (map bound_of group.now) → result ≡ first_in (reverse (map entry_of entries.now)) from recursive [] (map bound_of group.now) }
+    ensures { (senses : List Sense) → AreKept functions.now senses → result ≡ first_in senses (reverse (map entry_of entries.now)) from recursive [] (map bound_of group.now) }
 {
     for (place, binding) in group.iter().enumerate() {
         let body = judge(entries, functions, from, false, &binding.body);

@@ -1,6 +1,6 @@
 //! What names stand for.
 
-ghost use Rattle.std.specs.Prelude.{◌≡◌, reverse, map, bytes_eq, IfOk};
+ghost use Rattle.std.specs.Prelude.{◌≡◌, [], reverse, map, bytes_eq, IfOk};
 ghost use Rattle.binding_kinds.specs.Value.{entry_of};
 ghost use Rattle.binding_kinds.specs.Kinds.{found, kind_found};
 ghost use Rattle.binding_kinds.specs.Outermost.{kind_of_predefined, naming_of};
@@ -140,7 +140,8 @@ fn predefined_entries(alloc: Global, names: &[Predefined]) -> Result<Vec<Entry>,
 impl Scope {
     /// The predefined names. Errors: want of memory.
     pub fn new(alloc: Global) -> Result<Scope, AllocError>
-        ensures { IfOk result (λ s. map entry_of s.entries.items ≡ map naming_of PREDEFINED) }
+        ensures entries { IfOk result (λ s. map entry_of s.entries.items ≡ map naming_of PREDEFINED) }
+        ensures functions { IfOk result (λ s. s.functions.items ≡ []) }
     {
         Ok(Scope {
             entries: predefined_entries(alloc, &PREDEFINED)?,

@@ -1,5 +1,5 @@
 -- What is said of a model's text and a test's text.
-use Rattle.std.specs.Prelude.{◌≡◌, ◌+◌, ◌≤◌, ◌⊎◌, ℕ, List, ◌∷◌, ◌++◌, length, Bool, true, false, map, reverse, codes, decimal, Option, Result, Ok, Err, IfSome}
+use Rattle.std.specs.Prelude.{◌≡◌, ◌+◌, ◌≤◌, ◌⊎◌, ℕ, List, [], ◌∷◌, ◌++◌, length, Bool, true, false, map, reverse, codes, decimal, Option, Result, Ok, Err, IfSome}
 use Rattle.std.specs.Io.KnownBytes.{Keeps, Appends}
 use Rattle.litmus_tokens.specs.declared.rule.LitmusRule.{LitmusRule}
 use Rattle.litmus_tokens.specs.Numbers.{number_of as test_rule_number}
@@ -18,7 +18,7 @@ use Rattle.cat_syntax.specs.Reads.{Reads, FaultAt}
 use Rattle.cat_syntax.specs.declared.fault.CatFault.TheVariants as model_faults
 use Rattle.binding_kinds.specs.Faults.{HasNoFault, FirstFault}
 use Rattle.binding_kinds.specs.Outermost.{naming_of}
-use Rattle.binding_kinds.specs.Value.{clause_of, ArePlainClauses}
+use Rattle.binding_kinds.specs.Value.{clause_of, AreNoFunctions}
 use Rattle.verdict.specs.declared.answer.Outcome.{Outcome}
 use Rattle.verdict.specs.Judgement.{IsAnswerOf}
 use Rattle.memo_graph.specs.Cell.{IsCell, IsEvaluationUnder, OfModel}
@@ -37,7 +37,7 @@ use Rattle.litmusbench.specs.Written.{WritesFront}
 pub record IsSaid (test : Test) (model : ModelText) (o : Outcome) : Type 0 where
   pub judged : IsAnswerOf test.condition.quantifier o
   pub cell : IsCell test o
-  pub of_model : ArePlainClauses (map clause_of model.items.items) → OfModel (FirstFault (reverse (map naming_of PREDEFINED)) 0 (map clause_of model.items.items)) (HasNoFault (reverse (map naming_of PREDEFINED)) 0 (map clause_of model.items.items)) (IsEvaluationUnder (reverse (map naming_of PREDEFINED)) model.items.items test) o.result
+  pub of_model : AreNoFunctions (map clause_of model.items.items) → OfModel (FirstFault [] (reverse (map naming_of PREDEFINED)) 0 (map clause_of model.items.items)) (HasNoFault [] (reverse (map naming_of PREDEFINED)) 0 (map clause_of model.items.items)) (IsEvaluationUnder (reverse (map naming_of PREDEFINED)) model.items.items test) o.result
 
 -- the log of such an outcome
 abbrev pub IsLogOf : Test → ModelText → List ℕ → Type 0

@@ -1,5 +1,5 @@
 -- From what is said over some space to the outcome of a test.
-use Rattle.std.proofs.Common.{◌≡◌, Bool, List, Vec, Global, map, reverse, Result, Ok, Err, IfOk, sym, ap, ◌∙◌, subst}
+use Rattle.std.proofs.Common.{◌≡◌, Bool, List, [], Vec, Global, map, reverse, Result, Ok, Err, IfOk, sym, ap, ◌∙◌, subst}
 use Rattle.std.specs.declared.alloc.AllocError.{AllocError}
 use Rattle.cat_values.specs.declared.model.Item.{Item}
 use Rattle.cat_values.specs.declared.predefined.TheConstants.{PREDEFINED}
@@ -9,7 +9,7 @@ use Rattle.litmus_values.specs.Value.{formula_of}
 use Rattle.litmus_printing.specs.Printing.{condition_text}
 use Rattle.binding_kinds.specs.declared.fault.ModelFault.{ModelFault}
 use Rattle.binding_kinds.specs.Outermost.{naming_of}
-use Rattle.binding_kinds.specs.Value.{clause_of, ArePlainClauses}
+use Rattle.binding_kinds.specs.Value.{clause_of, AreNoFunctions}
 use Rattle.binding_graph.specs.declared.resolved.ResolvedItem.{ResolvedItem}
 use Rattle.binding_graph.specs.Resolved.{AreResolved, AreLabelled}
 use Rattle.candidates.specs.declared.candidate.Space.{Space}
@@ -76,6 +76,6 @@ of_model P Q R S (Refused (refusals.Model k)) q more h = absurd h
 of_model P Q R S (Refused (refusals.Space x)) q more h = q
 of_model P Q R S (Evaluated e) q more h = (q, more e h.1)
 
--- under a model without functions, whose items are so resolved
-pub under_model : (model : List Item) (items : List ResolvedItem) (test : Test) (e : Evaluation) → ArePlainClauses (map clause_of model) → AreResolved (reverse (map naming_of PREDEFINED)) 0 (map clause_of model) items → AreLabelled model items → (AreOrdered (reverse items) → IsEvaluationOver items test e) → IsEvaluationUnder (reverse (map naming_of PREDEFINED)) model test e
+-- under a model that defines no function, whose items are so resolved
+pub under_model : (model : List Item) (items : List ResolvedItem) (test : Test) (e : Evaluation) → AreNoFunctions (map clause_of model) → AreResolved [] (reverse (map naming_of PREDEFINED)) 0 (map clause_of model) items → AreLabelled model items → (AreOrdered (reverse items) → IsEvaluationOver items test e) → IsEvaluationUnder (reverse (map naming_of PREDEFINED)) model test e
 under_model model items test e plain resolved labels over = (items, resolved, labels, over (resolved_ordered PREDEFINED (map clause_of model) items plain resolved))

@@ -10,9 +10,11 @@ use Rattle.binding_kinds.specs.declared.scope.Binder.TheVariants as binders
 use Rattle.binding_kinds.specs.declared.scope.Found.{Found}
 use Rattle.binding_kinds.specs.declared.scope.Input.{Input}
 use Rattle.binding_kinds.specs.declared.scope.Used.{Used}
-use Rattle.binding_kinds.specs.Value.{Term, Word, Everything, NoPairs, NoEvents, Join, Mark, Not, Only, Call, Naming, Bound, Clause, Group, Check, Mute, Defined, IsPlainClause, ArePlainClauses}
-use Rattle.binding_kinds.specs.Kinds.{found, kind}
-use Rattle.binding_kinds.specs.Faults.{with_own, with_all, extended}
+use Rattle.cat_values.specs.Value.{Term, Atom, AllEvents, EmptyRelation, EmptySet, Join, Mark, Not, On, Apply}
+use Rattle.binding_kinds.specs.Value.{Naming, Bound, Clause, Group, Check, Mute, Defined, IsNoFunction, AreNoFunctions}
+use Rattle.binding_kinds.specs.Kinds.{found}
+use Rattle.binding_kinds.specs.Senses.{Sense, kind_in}
+use Rattle.binding_kinds.specs.Faults.{with_own, with_all, extended, senses_after}
 use Rattle.binding_kinds.specs.Outermost.{naming_of}
 use Rattle.binding_graph.specs.declared.resolved.Body.{Body}
 use Rattle.binding_graph.specs.declared.resolved.Role.{Role}
@@ -77,15 +79,15 @@ with_name_bound rs names from x us None b h e = h
 with_name_bound rs names from x us (Some f) b h e = with_found_by rs us from f (nat_le from f.slot) (λ off. found_bound rs from names x f b e (leb-false from f.slot off)) h
 
 uses_bound : (rs : List ResolvedItem) (names : List Naming) (from : ℕ) (t : Term) (us : List Used) → AreBound rs from names → AllBound rs us → AllBound rs (with_uses names from t us)
-uses_bound rs names from (Word x) us b h = with_name_bound rs names from x us (found names x) b h refl
-uses_bound rs names from Everything us b h = h
-uses_bound rs names from NoPairs us b h = h
-uses_bound rs names from NoEvents us b h = h
+uses_bound rs names from (Atom x) us b h = with_name_bound rs names from x us (found names x) b h refl
+uses_bound rs names from AllEvents us b h = h
+uses_bound rs names from EmptyRelation us b h = h
+uses_bound rs names from EmptySet us b h = h
 uses_bound rs names from (Join op s t) us b h = uses_bound rs names from t (with_uses names from s us) b (uses_bound rs names from s us b h)
 uses_bound rs names from (Mark op a) us b h = uses_bound rs names from a us b h
 uses_bound rs names from (Not a) us b h = uses_bound rs names from a us b h
-uses_bound rs names from (Only a) us b h = uses_bound rs names from a us b h
-uses_bound rs names from (Call x) us b h = h
+uses_bound rs names from (On a) us b h = uses_bound rs names from a us b h
+uses_bound rs names from (Apply x ts) us b h = h
 
 all_uses_bound : (rs : List ResolvedItem) (names : List Naming) (from : ℕ) (bs : List Bound) (us : List Used) → AreBound rs from names → AllBound rs us → AllBound rs (with_all_uses names from bs us)
 all_uses_bound rs names from [] us b h = h
@@ -117,10 +119,10 @@ unfolding OfBinder
 own_all rs names item at [] new h = h
 own_all rs names item at (b ∷ bs) new h = own_all rs _ item (suc at) bs (λ p from to. new p (omega arith) (omega arith)) (new at (omega arith) (omega arith), h)
 
-outer_all : (rs : List ResolvedItem) (outer names : List Naming) (item at : ℕ) (bs : List Bound) → ((p : ℕ) → at ≤ p → p < at + length bs → IsBound rs (record { item = item; position = p })) → AreAllBound rs names → AreAllBound rs (with_all outer names item at bs)
+outer_all : (ss : List Sense) (rs : List ResolvedItem) (outer names : List Naming) (item at : ℕ) (bs : List Bound) → ((p : ℕ) → at ≤ p → p < at + length bs → IsBound rs (record { item = item; position = p })) → AreAllBound rs names → AreAllBound rs (with_all ss outer names item at bs)
 unfolding OfBinder
-outer_all rs outer names item at [] new h = h
-outer_all rs outer names item at (b ∷ bs) new h = outer_all rs outer (record { name = b.name; kind = kind outer b.body; binder = binders.Bound (record { item = item; position = at }) } ∷ names) item (suc at) bs (λ p from to. new p (omega arith) (omega arith)) (new at (omega arith) (omega arith), h)
+outer_all ss rs outer names item at [] new h = h
+outer_all ss rs outer names item at (b ∷ bs) new h = outer_all ss rs outer (record { name = b.name; kind = kind_in ss outer b.body; binder = binders.Bound (record { item = item; position = at }) } ∷ names) item (suc at) bs (λ p from to. new p (omega arith) (omega arith)) (new at (omega arith) (omega arith), h)
 
 binder_later : (rs : List ResolvedItem) (r : ResolvedItem) (b : Binder) → OfBinder rs b → OfBinder (r ∷ rs) b
 unfolding OfBinder
@@ -132,50 +134,51 @@ all_later : (rs : List ResolvedItem) (r : ResolvedItem) (names : List Naming) �
 all_later rs r [] h = tt
 all_later rs r (n ∷ ns) h = (binder_later rs r n.binder h.0, all_later rs r ns h.1)
 
-bodies_count : (names : List Naming) (from : ℕ) (us : List Used) (bs : List Bound) (rs : List Body) → AreBodies names from us bs rs → length rs ≡ length bs
-bodies_count names from us [] [] h = refl
-bodies_count names from us [] (r ∷ rs) h = absurd h
-bodies_count names from us (b ∷ bs) [] h = absurd h
-bodies_count names from us (b ∷ bs) (r ∷ rs) h = omega (arith, bodies_count names from (with_uses names from b.body us) bs rs h.2)
+bodies_count : (ss : List Sense) (names : List Naming) (from : ℕ) (us : List Used) (bs : List Bound) (rs : List Body) → AreBodies ss names from us bs rs → length rs ≡ length bs
+bodies_count ss names from us [] [] h = refl
+bodies_count ss names from us [] (r ∷ rs) h = absurd h
+bodies_count ss names from us (b ∷ bs) [] h = absurd h
+bodies_count ss names from us (b ∷ bs) (r ∷ rs) h = omega (arith, bodies_count ss names from (with_uses names from b.body us) bs rs h.2)
 
-role_count : (names : List Naming) (from : ℕ) (recursive : Bool) (bs : List Bound) (role : Role) → IsGroupRole names from recursive bs role → name_count role ≡ length bs
-role_count names from recursive bs (roles.Group r bodies) h = bodies_count names from [] bs bodies.items h.1
-role_count names from recursive bs (roles.Check c) h = absurd h
-role_count names from recursive bs roles.Silent h = absurd h
+role_count : (ss : List Sense) (names : List Naming) (from : ℕ) (recursive : Bool) (bs : List Bound) (role : Role) → IsGroupRole ss names from recursive bs role → name_count role ≡ length bs
+role_count ss names from recursive bs (roles.Group r bodies) h = bodies_count ss names from [] bs bodies.items h.1
+role_count ss names from recursive bs (roles.Check c) h = absurd h
+role_count ss names from recursive bs roles.Silent h = absurd h
 
 -- ---- item by item
 
 none_used : (rs : List ResolvedItem) (inputs : List Input) → inputs ≡ [] → AllByRecursion (IsBound rs) inputs
 none_used rs inputs e = subst (λ (is : List Input). AllByRecursion (IsBound rs) is) (sym e) tt
 
-item_inputs : (rs : List ResolvedItem) (names : List Naming) (at : ℕ) (c : Clause) (r : ResolvedItem) → IsPlainClause c → AreAllBound rs names → IsResolvedIn names (extended names at c) (length names) c r → AllByRecursion (IsBound rs) r.inputs.items
-item_inputs rs names at (Group true bs) r plain all h =
+item_inputs : (ss : List Sense) (rs : List ResolvedItem) (names : List Naming) (at : ℕ) (c : Clause) (r : ResolvedItem) → IsNoFunction c → AreAllBound rs names → IsResolvedIn ss names (extended ss names at c) (length names) c r → AllByRecursion (IsBound rs) r.inputs.items
+item_inputs ss rs names at (Group true bs) r plain all h =
     let own = with_own names at 0 bs in
     inputs_bound rs (with_all_uses own (length names) bs []) r.inputs.items h.1 (all_uses_bound rs own (length names) bs [] (own_bound rs (length names) names at 0 bs (omega arith) (below_all rs (length names) names all)) tt)
-item_inputs rs names at (Group false bs) r plain all h =
+item_inputs ss rs names at (Group false bs) r plain all h =
     inputs_bound rs (with_all_uses names (length names) bs []) r.inputs.items h.1 (all_uses_bound rs names (length names) bs [] (below_all rs (length names) names all) tt)
-item_inputs rs names at (Check w e) r plain all h =
+item_inputs ss rs names at (Check w e) r plain all h =
     inputs_bound rs (with_uses names (length names) e []) r.inputs.items h.1 (uses_bound rs names (length names) e [] (below_all rs (length names) names all) tt)
-item_inputs rs names at Mute r plain all h = none_used rs r.inputs.items h.1
-item_inputs rs names at (Defined n) r plain all h = absurd plain
+item_inputs ss rs names at Mute r plain all h = none_used rs r.inputs.items h.1
+item_inputs ss rs names at (Defined n ps b) r plain all h = absurd plain
 
-item_names : (rs : List ResolvedItem) (names : List Naming) (at : ℕ) (c : Clause) (r : ResolvedItem) → length rs ≡ at → AreAllBound rs names → IsResolvedIn names (extended names at c) (length names) c r → AreAllBound (r ∷ rs) (extended names at c)
-item_names rs names at (Group true bs) r long all h =
-    let many = role_count (with_own names at 0 bs) (length names) true bs r.role h.0 in
+item_names : (ss : List Sense) (rs : List ResolvedItem) (names : List Naming) (at : ℕ) (c : Clause) (r : ResolvedItem) → length rs ≡ at → AreAllBound rs names → IsResolvedIn ss names (extended ss names at c) (length names) c r → AreAllBound (r ∷ rs) (extended ss names at c)
+unfolding OfBinder
+item_names ss rs names at (Group true bs) r long all h =
+    let many = role_count ss (with_own names at 0 bs) (length names) true bs r.role h.0 in
     own_all (r ∷ rs) names at 0 bs (λ p from to. inl (sym long, omega (arith, many))) (all_later rs r names all)
-item_names rs names at (Group false bs) r long all h =
-    let many = role_count names (length names) false bs r.role h.0 in
-    outer_all (r ∷ rs) names names at 0 bs (λ p from to. inl (sym long, omega (arith, many))) (all_later rs r names all)
-item_names rs names at (Check w e) r long all h = all_later rs r names all
-item_names rs names at Mute r long all h = all_later rs r names all
-item_names rs names at (Defined n) r long all h = all_later rs r names all
+item_names ss rs names at (Group false bs) r long all h =
+    let many = role_count ss names (length names) false bs r.role h.0 in
+    outer_all ss (r ∷ rs) names names at 0 bs (λ p from to. inl (sym long, omega (arith, many))) (all_later rs r names all)
+item_names ss rs names at (Check w e) r long all h = all_later rs r names all
+item_names ss rs names at Mute r long all h = all_later rs r names all
+item_names ss rs names at (Defined n ps b) r long all h = (tt, all_later rs r names all)
 
-ordered : (names : List Naming) (at : ℕ) (clauses : List Clause) (items rs : List ResolvedItem) → length rs ≡ at → ArePlainClauses clauses → AreAllBound rs names → AreOrdered rs → AreResolved names at clauses items → AreOrdered (reverse items ++ rs)
-ordered names at [] [] rs long plain all before h = before
-ordered names at [] (r ∷ items) rs long plain all before h = absurd h
-ordered names at (c ∷ cs) [] rs long plain all before h = absurd h
-ordered names at (c ∷ cs) (r ∷ items) rs long plain all before h =
-    let rest : AreOrdered (reverse items ++ r ∷ rs) = ordered (extended names at c) (at + 1) cs items (r ∷ rs) (omega (arith, long)) plain.1 (item_names rs names at c r long all h.0) (item_inputs rs names at c r plain.0 all h.0, before) h.1 in
+ordered : (ss : List Sense) (names : List Naming) (at : ℕ) (clauses : List Clause) (items rs : List ResolvedItem) → length rs ≡ at → AreNoFunctions clauses → AreAllBound rs names → AreOrdered rs → AreResolved ss names at clauses items → AreOrdered (reverse items ++ rs)
+ordered ss names at [] [] rs long plain all before h = before
+ordered ss names at [] (r ∷ items) rs long plain all before h = absurd h
+ordered ss names at (c ∷ cs) [] rs long plain all before h = absurd h
+ordered ss names at (c ∷ cs) (r ∷ items) rs long plain all before h =
+    let rest : AreOrdered (reverse items ++ r ∷ rs) = ordered (senses_after ss names c) (extended ss names at c) (at + 1) cs items (r ∷ rs) (omega (arith, long)) plain.1 (item_names ss rs names at c r long all h.0) (item_inputs ss rs names at c r plain.0 all h.0, before) h.1 in
     subst (λ (xs : List ResolvedItem). AreOrdered xs) (sym (ap (λ (ys : List ResolvedItem). ys ++ rs) (reverse-append (r ∷ []) items) ∙ append_assoc (reverse items) (r ∷ []) rs)) rest
 
 predefined_bound : (ps : List Predefined) → AreAllBound [] (map naming_of ps)
@@ -183,6 +186,6 @@ unfolding OfBinder
 predefined_bound [] = tt
 predefined_bound (p ∷ ps) = (tt, predefined_bound ps)
 
-pub resolved_ordered : (ps : List Predefined) (clauses : List Clause) (items : List ResolvedItem) → ArePlainClauses clauses → AreResolved (reverse (map naming_of ps)) 0 clauses items → AreOrdered (reverse items)
+pub resolved_ordered : (ps : List Predefined) (clauses : List Clause) (items : List ResolvedItem) → AreNoFunctions clauses → AreResolved [] (reverse (map naming_of ps)) 0 clauses items → AreOrdered (reverse items)
 resolved_ordered ps clauses items plain h =
-    rw append-nil at (ordered (reverse (map naming_of ps)) 0 clauses items [] refl plain (all_reverse (λ (n : Naming). OfBinder [] n.binder) (map naming_of ps) (predefined_bound ps)) tt h)
+    rw append-nil at (ordered [] (reverse (map naming_of ps)) 0 clauses items [] refl plain (all_reverse (λ (n : Naming). OfBinder [] n.binder) (map naming_of ps) (predefined_bound ps)) tt h)

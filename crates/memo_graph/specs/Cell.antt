@@ -1,5 +1,5 @@
 -- What a test says under a model.
-use Rattle.std.specs.Prelude.{◌≡◌, Bool, List, Vec, map, reverse}
+use Rattle.std.specs.Prelude.{◌≡◌, Bool, List, [], Vec, map, reverse}
 use Rattle.std.specs.declared.alloc.Global.{Global}
 use Rattle.litmus_values.specs.declared.test.Test.{Test}
 use Rattle.litmus_values.specs.Value.{formula_of}
@@ -52,7 +52,7 @@ IsEvaluationOver items test e = (space : Space) × IsTestSpace test space × IsE
 -- the evaluation of the test under a model of these items, of which the first sees those names: that of what they are
 -- resolved to, with the checks negated and the flags named as in the text
 abbrev pub IsEvaluationUnder : List Naming → List Item → Test → Evaluation → Type 0
-IsEvaluationUnder names model test e = (items : List ResolvedItem) × AreResolved names 0 (map clause_of model) items × AreLabelled model items × IsEvaluationOver items test e
+IsEvaluationUnder names model test e = (items : List ResolvedItem) × AreResolved [] names 0 (map clause_of model) items × AreLabelled model items × IsEvaluationOver items test e
 
 -- what is said of the model is this: the first case where it is its fault that is answered, and else the second, and of an
 -- evaluation the third too

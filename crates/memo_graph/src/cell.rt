@@ -6,7 +6,7 @@ ghost use Rattle.litmus_values.specs.Value.{formula_of};
 ghost use Rattle.litmus_printing.specs.Printing.{condition_text};
 ghost use Rattle.binding_kinds.specs.Faults.{HasNoFault, FirstFault};
 ghost use Rattle.binding_kinds.specs.Outermost.{naming_of};
-ghost use Rattle.binding_kinds.specs.Value.{clause_of, ArePlainClauses};
+ghost use Rattle.binding_kinds.specs.Value.{clause_of, AreNoFunctions};
 ghost use Rattle.cat_eval.specs.Columns.{ColumnsOf};
 ghost use Rattle.cat_eval.specs.Values.{AnswersOf};
 ghost use Rattle.verdict.specs.Evaluated.{IsEvaluatedAs};
@@ -259,7 +259,7 @@ fn over_candidates(alloc: Global, test: &Test, resolved: &Resolved) -> Result<Ou
 pub fn eval_cell(alloc: Global, test: &Test, model: &ModelText) -> Result<Outcome, AllocError>
     ensures judged { IfOk result (λ o. IsAnswerOf test.now.condition.quantifier o) }
     ensures cell { IfOk result (λ o. IsCell test.now o) }
-    ensures model { let names = reverse (map naming_of PREDEFINED) in let clauses = map clause_of model.now.items.items in ArePlainClauses clauses → IfOk result (λ o. OfModel (FirstFault names 0 clauses) (HasNoFault names 0 clauses) (IsEvaluationUnder names model.now.items.items test.now) o.result) }
+    ensures model { let names = reverse (map naming_of PREDEFINED) in let clauses = map clause_of model.now.items.items in AreNoFunctions clauses → IfOk result (λ o. OfModel (FirstFault [] names 0 clauses) (HasNoFault [] names 0 clauses) (IsEvaluationUnder names model.now.items.items test.now) o.result) }
 {
     match resolve(alloc, model) {
         Ok(resolved) => over_candidates(alloc, test, &resolved),

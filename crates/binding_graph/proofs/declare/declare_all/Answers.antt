@@ -2,8 +2,7 @@ use Rattle.std.proofs.Common.{◌≡◌, length, ◌<◌, ◌≤◌, arith, ◌�
 use Rattle.std.proofs.lemmas.List.{take-append-le}
 use Rattle.binding_kinds.specs.declared.scope.Entry.{Entry}
 use Rattle.binding_kinds.specs.declared.scope.Binder.TheVariants as binders
-use Rattle.binding_kinds.specs.Value.{term_of, IsPlain}
-use Rattle.binding_graph.proofs.Grown.{all_more, plain_more}
+use Rattle.binding_graph.proofs.Grown.{all_more}
 use Rattle.binding_graph.proofs.declare.declare_all.Goals as goal
 
 pub loop-position-preserved : goal.loop-position-preserved
@@ -16,10 +15,7 @@ loop-position-preserved c =
     record {
       before = rw c.in_ok-push.ensures.items (rw length-append (omega arith));
       outer = rw c.in_ok-push.ensures.items (rw (take-append-le c.len-before.result c.loop-position.entries.items _ before) c.loop-position.invariant.outer);
-      names = λ h.
-          let inv = c.loop-position.invariant.names h in
-          let p = plain_more c.args.group.now c.loop-position.position c.index-group-position.result lt inv.0 in
-          let q : IsPlain (term_of c.index-group-position.result.body) = rw (← is) at p.0 in
-          let k = rw outer at (c.judge-body.ensures.kind q) in
-          (p.1, rw c.in_ok-push.ensures.items (inv.1 ∙ all_more _ c.args.group.now _ c.args.item c.index-group-position.result c.loop-position.entries.items e lt (rw (← is) c.in_ok-copied.ensures) (rw (← is) k) refl));
+      names = λ ss kept.
+          let k = rw outer at (c.judge-body.ensures.kind_in ss kept) in
+          rw c.in_ok-push.ensures.items (c.loop-position.invariant.names ss kept ∙ all_more ss _ c.args.group.now _ c.args.item c.index-group-position.result c.loop-position.entries.items e lt (rw (← is) c.in_ok-copied.ensures) (rw (← is) k) refl);
     }

@@ -2,14 +2,15 @@ use Rattle.binding_kinds.proofs.FirstItem.{judged_items, JudgesItems}
 use Rattle.std.proofs.Common.{ℕ, Option, Some, None, subst, sym, ◌∙◌, ◌≡◌, List}
 use Rattle.binding_kinds.specs.declared.fault.ModelFault.{ModelFault}
 use Rattle.binding_kinds.specs.Value.{Naming, Clause}
-use Rattle.binding_kinds.specs.Verdict.{first}
+use Rattle.binding_kinds.specs.Senses.{Sense}
+use Rattle.binding_kinds.specs.First.{first}
 use Rattle.binding_graph.proofs.items.resolve_items.Goals as goal
 
-given : (names : List Naming) (from : ℕ) (cs : List Clause) (o : Option ModelFault) → o ≡ first names from cs → JudgesItems names from cs o
-given names from cs o e = let P : Option ModelFault → Type 0 = λ q. JudgesItems names from cs q in subst P (sym e) (judged_items names from cs)
+given : (ss : List Sense) (names : List Naming) (from : ℕ) (cs : List Clause) (o : Option ModelFault) → o ≡ first ss names from cs → JudgesItems ss names from cs o
+given ss names from cs o e = let P : Option ModelFault → Type 0 = λ q. JudgesItems ss names from cs q in subst P (sym e) (judged_items ss names from cs)
 
 pub returns-in-None-clause-fault : goal.returns-in-None-clause-fault
-returns-in-None-clause-fault c = λ h. given _ _ _ None (sym c.in-None.is ∙ c.in_ok-resolved.ensures.fault h)
+returns-in-None-clause-fault c = λ ss kept h. given ss _ _ _ None (sym c.in-None.is ∙ c.in_ok-resolved.ensures.fault ss kept h)
 
 pub returns-in-Some-clause-fault : goal.returns-in-Some-clause-fault
-returns-in-Some-clause-fault c = λ h. given _ _ _ (Some c.in-Some.fault) (sym c.in-Some.is ∙ c.in_ok-resolved.ensures.fault h)
+returns-in-Some-clause-fault c = λ ss kept h. given ss _ _ _ (Some c.in-Some.fault) (sym c.in-Some.is ∙ c.in_ok-resolved.ensures.fault ss kept h)

@@ -1,12 +1,12 @@
-use Rattle.std.proofs.Common.{◌≡◌, reverse, map, take, drop, []}
+use Rattle.std.proofs.Common.{◌≡◌, List, reverse, map, take, drop, []}
 use Rattle.binding_kinds.specs.Seen.{names_of}
-use Rattle.binding_kinds.specs.Value.{entry_of, bound_of, ArePlain}
-use Rattle.binding_kinds.specs.Verdict.{first_in}
+use Rattle.binding_kinds.specs.Value.{entry_of, bound_of}
+use Rattle.binding_kinds.specs.Senses.{Sense, AreKept}
+use Rattle.binding_kinds.specs.First.{first_in}
 use Rattle.binding_kinds.proofs.judging.group_fault.Given as goal
 
 abbrev pub invariant-loop-place : goal.invariant-loop-place
 invariant-loop-place l =
-    ArePlain (map bound_of l.group) →
-    ArePlain (map bound_of (drop l.place l.group))
-    × (first_in (reverse (map entry_of l.entries)) l.from l.recursive [] (map bound_of l.group)
-    ≡ first_in (reverse (map entry_of l.entries)) l.from l.recursive (names_of (take l.place l.group)) (map bound_of (drop l.place l.group)))
+    (senses : List Sense) → AreKept l.functions senses →
+    first_in senses (reverse (map entry_of l.entries)) l.from l.recursive [] (map bound_of l.group)
+    ≡ first_in senses (reverse (map entry_of l.entries)) l.from l.recursive (names_of (take l.place l.group)) (map bound_of (drop l.place l.group))

@@ -1,0 +1,149 @@
+-- What a function of a model is to those who apply it, from its parameters and its body.
+use Rattle.std.specs.Prelude.{ℕ, suc, ◌+◌, ◌*◌, List, [], ◌∷◌, length, reverse, Bool, true, false, not, ◌&&◌, ◌||◌, nat_eq, if◌then◌else◌, Option, Some, None, is_some, Result, Ok, Err}
+use Rattle.cat_values.specs.Value.{Term, Terms, Atom, AllEvents, EmptyRelation, EmptySet, Join, Mark, Not, On, Apply, NoTerm, OneMore}
+use Rattle.binding_kinds.specs.declared.fault.ModelFault.{ModelFault}
+use Rattle.binding_kinds.specs.declared.kinds.Kind.{Kind}
+use Rattle.binding_kinds.specs.declared.kinds.Kind.TheVariants.{OfSet, OfRelation, OfAny}
+use Rattle.binding_kinds.specs.declared.scope.Binder.TheVariants as binders
+use Rattle.binding_kinds.specs.Value.{Naming}
+use Rattle.binding_kinds.specs.Kinds.{found, kind_found, joined, marked, narrowed, takes, is_relation, is_set, is_turned}
+use Rattle.binding_kinds.specs.Combinations.{has_any}
+use Rattle.binding_kinds.specs.Meanings.{parameter_of}
+use Rattle.binding_kinds.specs.Senses.{Sense, sense_of, count_of}
+
+-- The parameters, with the kinds of the arguments, hide the names that the function sees.
+abbrev pub with_parameters : List (List ℕ) → List Kind → List Naming → List Naming
+with_parameters [] ks names = names
+with_parameters (p ∷ ps) [] names = names
+with_parameters (p ∷ ps) (k ∷ ks) names =
+    with_parameters ps ks (record { name = p; kind = k; binder = binders.Bound (record { item = 0; position = 0 }) } ∷ names)
+
+-- A parameter is no function.
+abbrev pub sense_seen : List Sense → List Naming → List (List ℕ) → ℕ → List ℕ → Option Sense
+sense_seen ss names ps count x = at_parameter (parameter_of (reverse ps) x)
+  where
+    at_sense : Result Sense ModelFault → Option Sense
+    at_sense (Ok s) = Some s
+    at_sense (Err k) = None
+
+    at_parameter : Option ℕ → Option Sense
+    at_parameter (Some p) = None
+    at_parameter None = at_sense (sense_of ss count (found names x))
+
+abbrev pub kind_of_sense : Option Sense → List Kind → Kind
+kind_of_sense None ks = OfAny
+kind_of_sense (Some s) ks = s.kind_with ks
+
+-- What is no function has another fault.
+abbrev pub clash_of_sense : Option Sense → Bool → List Kind → Bool
+clash_of_sense None among ks = false
+clash_of_sense (Some s) among ks = among || s.clashes ks
+
+-- In a body the sizes of applications are of no matter.
+abbrev mutual
+  -- the kind of a body, where the parameters have these kinds
+  pub kind_of_body : List Sense → List Naming → List (List ℕ) → List Kind → Term → Kind
+  kind_of_body ss names ps ks (Atom x) = kind_found (found (with_parameters ps ks names) x)
+  kind_of_body ss names ps ks AllEvents = OfSet
+  kind_of_body ss names ps ks EmptyRelation = OfRelation
+  kind_of_body ss names ps ks EmptySet = OfSet
+  kind_of_body ss names ps ks (Join op a b) = joined op (kind_of_body ss names ps ks a) (kind_of_body ss names ps ks b)
+  kind_of_body ss names ps ks (Mark op a) = marked (kind_of_body ss names ps ks a)
+  kind_of_body ss names ps ks (Not a) = kind_of_body ss names ps ks a
+  kind_of_body ss names ps ks (On a) = narrowed (kind_of_body ss names ps ks a)
+  kind_of_body ss names ps ks (Apply x ts) = kind_of_sense (sense_seen ss names ps (count_of ts) x) (kinds_of_body ss names ps ks ts)
+
+  pub kinds_of_body : List Sense → List Naming → List (List ℕ) → List Kind → Terms → List Kind
+  kinds_of_body ss names ps ks NoTerm = []
+  kinds_of_body ss names ps ks (OneMore a others) = kind_of_body ss names ps ks a ∷ kinds_of_body ss names ps ks others
+
+abbrev mutual
+  -- an operator of the body, or of the body of a function that it applies, does not take its operands
+  pub clashes_in : List Sense → List Naming → List (List ℕ) → List Kind → Term → Bool
+  clashes_in ss names ps ks (Atom x) = false
+  clashes_in ss names ps ks AllEvents = false
+  clashes_in ss names ps ks EmptyRelation = false
+  clashes_in ss names ps ks EmptySet = false
+  clashes_in ss names ps ks (Join op a b) =
+      clashes_in ss names ps ks a || clashes_in ss names ps ks b || not (takes op (kind_of_body ss names ps ks a) (kind_of_body ss names ps ks b))
+  clashes_in ss names ps ks (Mark op a) = clashes_in ss names ps ks a || not (is_relation (kind_of_body ss names ps ks a))
+  clashes_in ss names ps ks (Not a) = clashes_in ss names ps ks a
+  clashes_in ss names ps ks (On a) = clashes_in ss names ps ks a || not (is_set (kind_of_body ss names ps ks a))
+  clashes_in ss names ps ks (Apply x ts) = clash_of_sense (sense_seen ss names ps (count_of ts) x) (clash_among ss names ps ks ts) (kinds_of_body ss names ps ks ts)
+
+  pub clash_among : List Sense → List Naming → List (List ℕ) → List Kind → Terms → Bool
+  clash_among ss names ps ks NoTerm = false
+  clash_among ss names ps ks (OneMore a others) = clashes_in ss names ps ks a || clash_among ss names ps ks others
+
+abbrev pub is_at : ℕ → Option ℕ → Bool
+is_at place None = false
+is_at place (Some p) = nat_eq p place
+
+abbrev pub under_at : Option Sense → ℕ → Bool
+under_at None i = false
+under_at (Some s) i = s.is_under i
+
+abbrev mutual
+  -- the parameter at that place stands under a complement or right of a difference
+  pub is_under_in : List Sense → List Naming → List (List ℕ) → ℕ → Bool → Term → Bool
+  is_under_in ss names ps place under (Atom x) = under && is_at place (parameter_of (reverse ps) x)
+  is_under_in ss names ps place under AllEvents = false
+  is_under_in ss names ps place under EmptyRelation = false
+  is_under_in ss names ps place under EmptySet = false
+  is_under_in ss names ps place under (Join op a b) = is_under_in ss names ps place under a || is_under_in ss names ps place (is_turned op under) b
+  is_under_in ss names ps place under (Mark op a) = is_under_in ss names ps place under a
+  is_under_in ss names ps place under (Not a) = is_under_in ss names ps place true a
+  is_under_in ss names ps place under (On a) = is_under_in ss names ps place under a
+  is_under_in ss names ps place under (Apply x ts) =
+      let s = sense_seen ss names ps (count_of ts) x in
+      is_some s && is_under_among ss names ps place under (under_at s) 0 ts
+
+  -- the arguments from that one on
+  pub is_under_among : List Sense → List Naming → List (List ℕ) → ℕ → Bool → (ℕ → Bool) → ℕ → Terms → Bool
+  is_under_among ss names ps place under turned i NoTerm = false
+  is_under_among ss names ps place under turned i (OneMore a others) =
+      is_under_in ss names ps place (under || turned i) a || is_under_among ss names ps place under turned (suc i) others
+
+-- how much a name counts, where it is the parameter and where it is none
+abbrev pub part_of : ℕ → (ℕ → ℕ) → Option ℕ → ℕ
+part_of other own None = other
+part_of other own (Some p) = own p
+
+abbrev pub constant_at : Option Sense → ℕ → ℕ
+constant_at None other = other
+constant_at (Some s) other = s.constant
+
+abbrev pub factor_at : Option Sense → ℕ → ℕ
+factor_at None i = 0
+factor_at (Some s) i = s.factor i
+
+-- Of a size, the part that each name counts: what a name, a sign or an operator counts that is no parameter, and what
+-- each parameter counts.
+abbrev mutual
+  pub parts_in : List Sense → List Naming → List (List ℕ) → ℕ → (ℕ → ℕ) → Term → ℕ
+  parts_in ss names ps other own (Atom x) = part_of other own (parameter_of (reverse ps) x)
+  parts_in ss names ps other own AllEvents = other
+  parts_in ss names ps other own EmptyRelation = other
+  parts_in ss names ps other own EmptySet = other
+  parts_in ss names ps other own (Join op a b) = parts_in ss names ps other own a + parts_in ss names ps other own b + other
+  parts_in ss names ps other own (Mark op a) = parts_in ss names ps other own a + other
+  parts_in ss names ps other own (Not a) = parts_in ss names ps other own a + other
+  parts_in ss names ps other own (On a) = parts_in ss names ps other own a + other
+  parts_in ss names ps other own (Apply x ts) =
+      let s = sense_seen ss names ps (count_of ts) x in
+      other * constant_at s 1 + parts_among ss names ps other own (factor_at s) 0 ts
+
+  pub parts_among : List Sense → List Naming → List (List ℕ) → ℕ → (ℕ → ℕ) → (ℕ → ℕ) → ℕ → Terms → ℕ
+  parts_among ss names ps other own factor i NoTerm = 0
+  parts_among ss names ps other own factor i (OneMore a others) = factor i * parts_in ss names ps other own a + parts_among ss names ps other own factor (suc i) others
+
+-- An application to an argument that fits every kind fits every kind.
+abbrev pub sense_of_function : List Sense → List Naming → List (List ℕ) → Term → Sense
+sense_of_function ss names ps body = record {
+  arity = length ps;
+  kind_with = λ ks. if has_any ks then OfAny else kind_of_body ss names ps ks body;
+  clashes = λ ks. clashes_in ss names ps ks body;
+  is_under = λ place. is_under_in ss names ps place false body;
+  constant = parts_in ss names ps 1 (λ p. 0) body;
+  factor = λ place. parts_in ss names ps 0 (λ p. if nat_eq p place then 1 else 0) body;
+}
