@@ -28,7 +28,7 @@ small_digit OfSet = omega arith
 small_digit OfRelation = omega arith
 small_digit OfAny = omega arith
 
-below_power : (ks : List Kind) → number_of ks < 3 ^ length ks
+pub below_power : (ks : List Kind) → number_of ks < 3 ^ length ks
 below_power [] = omega arith
 below_power (k ∷ ks) =
     let h = below_power ks in
@@ -207,7 +207,7 @@ no_function fs ss n i o f h o_is b_is at = ap (sense_of ss n) o_is ∙ ap (sense
 abbrev arguments_of : Vec Expression Global → Terms
 arguments_of args = gathered (map values.term_of args.items)
 
-count_arguments : (xs : List Expression) → count_of (gathered (map values.term_of xs)) ≡ length xs
+pub count_arguments : (xs : List Expression) → count_of (gathered (map values.term_of xs)) ≡ length xs
 count_arguments [] = refl
 count_arguments (x ∷ xs) = ap suc (count_arguments xs)
 

@@ -5,3 +5,4 @@ pub mod FirstItem
 pub mod Fitting
 pub mod Combinations
 pub mod Applications
+pub mod Tables

@@ -5,6 +5,7 @@ pub mod Combinations
 pub mod Meanings
 pub mod Senses
 pub mod Functions
+pub mod Columns
 pub mod Faults
 pub mod First
 pub mod Seen

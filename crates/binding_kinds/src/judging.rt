@@ -57,7 +57,7 @@ pub fn unless(holds: bool, fault: ModelFault) -> Option<ModelFault>
     if holds { None } else { Some(fault) }
 }
 
-fn either(one: bool, other: bool) -> bool
+pub(crate) fn either(one: bool, other: bool) -> bool
     ensures { result ≡ (one || other) }
 {
     one || other
@@ -128,7 +128,7 @@ fn judge_name(entries: &[Entry], from: usize, under: bool, name: &Name) -> Judge
 }
 
 /// The function that a name with so many arguments stands for.
-fn function_of<'a>(
+pub(crate) fn function_of<'a>(
     entries: &[Entry],
     functions: &'a [Function],
     name: &Name,

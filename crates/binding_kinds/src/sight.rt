@@ -35,7 +35,7 @@ pub enum Meaning {
 
 /// The place of the parameter of that name.
 #[tactic(auto, using(crate::proofs::Scopes::rev_next))]
-fn parameter(parameters: &[Name], name: &Name) -> Option<usize>
+pub(crate) fn parameter(parameters: &[Name], name: &Name) -> Option<usize>
     ensures { result ≡ parameter_of (reverse parameters.now) name.now }
 {
     let mut last = None;

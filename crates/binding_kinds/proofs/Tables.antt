@@ -1,0 +1,252 @@
+-- Tables for all combinations of kinds, an entry at a time.
+use Rattle.std.proofs.Common.{ℕ, suc, ◌≡◌, ◌<◌, ◌≤◌, ◌+◌, ◌*◌, ◌^◌, inl, inr, ◌⊎◌, List, [], ◌∷◌, ◌++◌, length, map, take, reverse, get_or, replicate, Bool, true, false, ◌||◌, Option, Some, None, Result, Vec, Global, subst, refl, sym, ap, ◌∙◌, arith, length-append, length-take}
+use Rattle.std.specs.declared.alloc.AllocError.{AllocError}
+use Rattle.std.specs.Prelude.{if◌then◌else◌, bytes_eq, IfOk}
+use Rattle.std.proofs.lemmas.Result.{IfOk-weaker}
+use Rattle.std.proofs.lemmas.Bool.{cases_lt}
+use Rattle.std.proofs.lemmas.List.{get_or_push, get_or_append_left, get_or_default, get_or-replicate, length-replicate, take_more, reverse-append, length-reverse}
+use Rattle.std.proofs.Math.Nat.{pow-succ', mul_assoc, mul_comm}
+use Rattle.cat_values.specs.declared.model.Expression.{Expression}
+use Rattle.cat_values.specs.declared.model.Expression.TheVariants as expressions
+use Rattle.cat_values.specs.declared.model.Infix.{Infix}
+use Rattle.cat_values.specs.declared.model.Postfix.{Postfix}
+use Rattle.cat_values.specs.Values as values
+use Rattle.cat_values.proofs.Arguments.{applied_term}
+use Rattle.cat_values.specs.Value.{Term, Terms, Join, Mark, On, Apply, gathered}
+use Rattle.binding_kinds.specs.declared.kinds.Kind.{Kind}
+use Rattle.binding_kinds.specs.declared.kinds.Kind.TheVariants.{OfAny}
+use Rattle.binding_kinds.specs.declared.scope.Binder.TheVariants as binders
+use Rattle.binding_kinds.specs.declared.column.Gathered.{Gathered}
+use Rattle.binding_kinds.specs.Value.{Naming}
+use Rattle.binding_kinds.specs.Kinds.{found, kind_found}
+use Rattle.binding_kinds.specs.Meanings.{parameter_of}
+use Rattle.binding_kinds.specs.declared.signature.Signature.{Signature}
+use Rattle.binding_kinds.specs.declared.function.Function.{Function}
+use Rattle.binding_kinds.specs.Combinations.{digit, number_of, unknown}
+use Rattle.binding_kinds.specs.Senses.{Sense, IsKept, count_of}
+use Rattle.binding_kinds.specs.Functions.{with_parameters, sense_seen, kind_of_sense, clash_of_sense, kind_of_body, kinds_of_body, clashes_in, clash_among}
+use Rattle.binding_kinds.specs.Columns.{IsFilled, plain, of_infix, of_postfix, of_identity, of_applied, with_one, signature_in, gathered_in}
+use Rattle.binding_kinds.proofs.Applications.{below_power, below_table, count_arguments}
+
+pub filled_none : {X : Type 0} (d : X) (arity : ℕ) (made : List Kind → X) → IsFilled d arity 0 made []
+filled_none d arity made = record { long = refl; entries = λ ks e lt. absurd (omega (arith, lt)) }
+
+-- one more entry
+pub filled_more : {X : Type 0} (d : X) (arity n : ℕ) (made : List Kind → X) (xs ys : List X) (y : X) → ys ≡ xs ++ y ∷ [] → IsFilled d arity n made xs → ((ks : List Kind) → length ks ≡ arity → number_of ks ≡ n → y ≡ made ks) → IsFilled d arity (n + 1) made ys
+filled_more {X} d arity n made xs ys y is h new = record {
+  long = let e = ap length is in let l = length-append xs (y ∷ []) in let k = h.long in omega (arith, e, l, k);
+  entries = λ ks e lt. ap (λ (l : List X). get_or l (number_of ks) d) is ∙ at_place ks e lt (cases_lt (number_of ks) n);
+}
+  where
+    at_place : (ks : List Kind) → length ks ≡ arity → number_of ks < n + 1 → (number_of ks < n) ⊎ (n ≤ number_of ks) → get_or (xs ++ y ∷ []) (number_of ks) d ≡ made ks
+    at_place ks e lt (inl less) = let k = h.long in get_or_append_left xs (y ∷ []) d (number_of ks) (omega (arith, less, k)) ∙ h.entries ks e less
+    at_place ks e lt (inr more) = let same : number_of ks ≡ n = omega (arith, lt, more) in get_or_push xs y d (number_of ks) (h.long ∙ sym same) ∙ new ks e same
+
+pub filled_same : {X : Type 0} (d x : X) (arity w : ℕ) (xs : List X) → w ≡ 3 ^ arity → xs ≡ replicate w x → IsFilled d arity (3 ^ arity) (λ ks. x) xs
+filled_same {X} d x arity w xs w_is is = record {
+  long = ap length is ∙ (length-replicate w x ∙ w_is);
+  entries = λ ks e lt. ap (λ (l : List X). get_or l (number_of ks) d) is ∙ get_or-replicate w (number_of ks) x d (omega (arith, lt, w_is));
+}
+
+pub filled_as : {X : Type 0} (d : X) (arity n : ℕ) (f g : List Kind → X) (xs : List X) → ((ks : List Kind) → length ks ≡ arity → f ks ≡ g ks) → IsFilled d arity n f xs → IsFilled d arity n g xs
+filled_as d arity n f g xs same h = record { long = h.long; entries = λ ks e lt. h.entries ks e lt ∙ same ks e }
+
+pub filled_at : {X : Type 0} (d : X) (arity n m : ℕ) (f : List Kind → X) (xs : List X) → n ≡ m → IsFilled d arity n f xs → IsFilled d arity m f xs
+filled_at d arity n m f xs same h = record { long = h.long ∙ same; entries = λ ks e lt. h.entries ks e (omega (arith, lt, same)) }
+
+-- all entries are there
+pub filled_all : {X Y : Type 0} (d : X) (o : Y) (arity n : ℕ) (f : List Kind → X) (g : List Kind → Y) (all : List X) (xs : List Y) → IsFilled d arity (3 ^ arity) f all → length all ≤ n → n ≤ length all → IsFilled o arity n g xs → IsFilled o arity (3 ^ arity) g xs
+filled_all d o arity n f g all xs h le ge k =
+    let l = h.long in let same : n ≡ 3 ^ arity = omega (arith, l, le, ge) in
+    record { long = k.long ∙ same; entries = λ ks e lt. k.entries ks e (omega (arith, lt, same)) }
+
+pub entry_at : {X : Type 0} (d w : X) (arity i : ℕ) (made : List Kind → X) (all : List X) (ks : List Kind) → IsFilled d arity (3 ^ arity) made all → i < length all → length ks ≡ arity → number_of ks ≡ i → get_or all i w ≡ made ks
+entry_at d w arity i made all ks h lt long same =
+    let l = h.long in
+    get_or_default all i w d lt ∙ (ap (λ (n : ℕ). get_or all n d) (sym same) ∙ h.entries ks long (omega (arith, lt, l, same)))
+
+-- one more entry, made of those of two tables
+pub zipped_more : {X Y Z : Type 0} (d w : X) (e : Z) (o : Y) (arity i : ℕ) (first : List Kind → X) (second : List Kind → Z) (f : X → Z → Y) (all : List X) (others : List Z) (xs ys : List Y) (y : Y) → i < length all
+    → ((ks : List Kind) → get_or all i w ≡ first ks → y ≡ f (get_or all i w) (get_or others i e)) → ys ≡ xs ++ y ∷ [] → IsFilled d arity (3 ^ arity) first all → IsFilled e arity (3 ^ arity) second others
+    → IsFilled o arity i (λ ks. f (first ks) (second ks)) xs → IsFilled o arity (i + 1) (λ ks. f (first ks) (second ks)) ys
+zipped_more {X} {Y} {Z} d w e o arity i first second f all others xs ys y lt y_is is h k inv =
+    filled_more o arity i (λ ks. f (first ks) (second ks)) xs ys y is inv (λ ks long same.
+    let l = h.long in
+    let m = k.long in
+    let a : get_or all i w ≡ first ks = entry_at d w arity i first all ks h lt long same in
+    let b : get_or others i e ≡ second ks = entry_at e e arity i second others ks k (omega (arith, lt, l, m)) long same in
+    y_is ks a ∙ (ap (λ (x : X). f x (get_or others i e)) a ∙ ap (λ (z : Z). f (first ks) z) b))
+
+-- one more entry, made of that of another table
+pub mapped_more : {X Y : Type 0} (d w : X) (o : Y) (arity i : ℕ) (before : List Kind → X) (f : X → Y) (all : List X) (xs ys : List Y) (y : Y) → i < length all → y ≡ f (get_or all i w) → ys ≡ xs ++ y ∷ []
+    → IsFilled d arity (3 ^ arity) before all → IsFilled o arity i (λ ks. f (before ks)) xs → IsFilled o arity (i + 1) (λ ks. f (before ks)) ys
+mapped_more d w o arity i before f all xs ys y lt y_is is h inv =
+    zipped_more d w d o arity i before before (λ x z. f x) all all xs ys y lt (λ ks e. y_is) is h h inv
+
+-- a table has a combination of its kinds
+pub below_arity : (ks : List Kind) (arity : ℕ) → length ks ≡ arity → number_of ks < 3 ^ arity
+below_arity ks arity e = let h = below_power ks in let p = ap (λ (n : ℕ). 3 ^ n) e in omega (arith, h, p)
+
+-- ---- parameters
+
+abbrev shifted : Option ℕ → Bool → Option ℕ
+shifted (Some i) b = Some (suc i)
+shifted None true = Some 0
+shifted None false = None
+
+abbrev kind_at_parameter : List Kind → Option ℕ → Kind → Kind
+kind_at_parameter ks None k = k
+kind_at_parameter ks (Some i) k = get_or ks i OfAny
+
+parameter_before : (ps : List (List ℕ)) (p x : List ℕ) → parameter_of (ps ++ p ∷ []) x ≡ shifted (parameter_of ps x) (bytes_eq p x)
+parameter_before [] p x = at_test (bytes_eq p x)
+  where
+    at_test : (b : Bool) → (if b then Some 0 else None) ≡ shifted None b
+    at_test true = refl
+    at_test false = refl
+parameter_before (q ∷ ps) p x = at_test (bytes_eq q x) (parameter_before ps p x)
+  where
+    long : length (ps ++ p ∷ []) ≡ suc (length ps)
+    long = let l = length-append ps (p ∷ []) in omega (arith, l)
+
+    at_test : (b : Bool) → parameter_of (ps ++ p ∷ []) x ≡ shifted (parameter_of ps x) (bytes_eq p x)
+        → (if b then Some (length (ps ++ p ∷ [])) else parameter_of (ps ++ p ∷ []) x) ≡ shifted (if b then Some (length ps) else parameter_of ps x) (bytes_eq p x)
+    at_test true h = ap (λ (n : ℕ). Some n) long
+    at_test false h = h
+
+parameter_within : (ps : List (List ℕ)) (x : List ℕ) (i : ℕ) → Some i ≡ parameter_of ps x → i < length ps
+parameter_within [] x i e = absurd (let f : Some i ≡ None = e in cc)
+parameter_within (p ∷ ps) x i e = at_test (bytes_eq p x) (parameter_within ps x i) e
+  where
+    at_test : (b : Bool) → (Some i ≡ parameter_of ps x → i < length ps) → Some i ≡ (if b then Some (length ps) else parameter_of ps x) → i < suc (length ps)
+    at_test true below h = let same : i ≡ length ps = let f : Some i ≡ Some (length ps) = h in cc in omega (arith, same)
+    at_test false below h = let lt = below h in omega (arith, lt)
+
+pub parameter_below : (ps : List (List ℕ)) (x : List ℕ) (i : ℕ) → Some i ≡ parameter_of (reverse ps) x → i < length ps
+parameter_below ps x i e = let lt = parameter_within (reverse ps) x i e in let l = length-reverse ps in omega (arith, lt, l)
+
+-- A parameter has the kind of its argument, and hides any other name.
+found_kind : (ps : List (List ℕ)) (ks : List Kind) (names : List Naming) (x : List ℕ) → length ks ≡ length ps → kind_found (found (with_parameters ps ks names) x) ≡ kind_at_parameter ks (parameter_of (reverse ps) x) (kind_found (found names x))
+found_kind [] ks names x e = refl
+found_kind (p ∷ ps) [] names x e = absurd (omega (arith, e))
+found_kind (p ∷ ps) (k ∷ ks) names x e =
+    let n : Naming = record { name = p; kind = k; binder = binders.Bound (record { item = 0; position = 0 }) } in
+    found_kind ps ks (n ∷ names) x (omega (arith, e))
+    ∙ (at_parameter (parameter_of (reverse ps) x) (bytes_eq p x)
+    ∙ sym (ap (λ (o : Option ℕ). kind_at_parameter (k ∷ ks) o (kind_found (found names x))) (ap (λ (l : List (List ℕ)). parameter_of l x) (reverse-append (p ∷ []) ps) ∙ parameter_before (reverse ps) p x)))
+  where
+    at_parameter : (o : Option ℕ) (b : Bool) → kind_at_parameter ks o (kind_found (if b then Some (record { slot = length names; kind = k; binder = binders.Bound (record { item = 0; position = 0 }) }) else found names x)) ≡ kind_at_parameter (k ∷ ks) (shifted o b) (kind_found (found names x))
+    at_parameter (Some i) b = refl
+    at_parameter None true = refl
+    at_parameter None false = refl
+
+pub parameter_kind : (ps : List (List ℕ)) (ks : List Kind) (names : List Naming) (x : List ℕ) (i : ℕ) → length ks ≡ length ps → Some i ≡ parameter_of (reverse ps) x → get_or ks i OfAny ≡ kind_found (found (with_parameters ps ks names) x)
+parameter_kind ps ks names x i e is = sym (found_kind ps ks names x e ∙ ap (λ (o : Option ℕ). kind_at_parameter ks o (kind_found (found names x))) (sym is))
+
+pub other_kind : (ps : List (List ℕ)) (ks : List Kind) (names : List Naming) (x : List ℕ) → length ks ≡ length ps → None ≡ parameter_of (reverse ps) x → kind_found (found names x) ≡ kind_found (found (with_parameters ps ks names) x)
+other_kind ps ks names x e is = sym (found_kind ps ks names x e ∙ ap (λ (o : Option ℕ). kind_at_parameter ks o (kind_found (found names x))) (sym is))
+
+-- ---- arguments
+
+abbrev pub terms_in : List Expression → Terms
+terms_in xs = gathered (map values.term_of xs)
+
+long_kinds : (ss : List Sense) (names : List Naming) (ps : List (List ℕ)) (ks : List Kind) (xs : List Expression) → length (kinds_of_body ss names ps ks (terms_in xs)) ≡ length xs
+long_kinds ss names ps ks [] = refl
+long_kinds ss names ps ks (x ∷ xs) = ap suc (long_kinds ss names ps ks xs)
+
+number_last : (ks : List Kind) (k : Kind) → number_of (ks ++ k ∷ []) ≡ number_of ks + digit k * 3 ^ length ks
+number_last [] k = omega arith
+number_last (l ∷ ks) k =
+    let h = number_last ks k in
+    let e = pow-succ' 3 (length ks) in
+    let m : digit k * (3 * 3 ^ length ks) ≡ 3 * (digit k * 3 ^ length ks) = sym (mul_assoc (digit k) 3 (3 ^ length ks)) ∙ (ap (λ (n : ℕ). n * 3 ^ length ks) (mul_comm (digit k) 3) ∙ mul_assoc 3 (digit k) (3 ^ length ks)) in
+    let w : digit k * 3 ^ suc (length ks) ≡ digit k * (3 * 3 ^ length ks) = ap (λ (n : ℕ). digit k * n) e in
+    omega (arith, h, m, w)
+
+kinds_last : (ss : List Sense) (names : List Naming) (ps : List (List ℕ)) (ks : List Kind) (xs : List Expression) (e : Expression) → kinds_of_body ss names ps ks (terms_in (xs ++ e ∷ [])) ≡ kinds_of_body ss names ps ks (terms_in xs) ++ kind_of_body ss names ps ks (values.term_of e) ∷ []
+kinds_last ss names ps ks [] e = refl
+kinds_last ss names ps ks (x ∷ xs) e = ap (λ (l : List Kind). kind_of_body ss names ps ks (values.term_of x) ∷ l) (kinds_last ss names ps ks xs e)
+
+clash_last : (ss : List Sense) (names : List Naming) (ps : List (List ℕ)) (ks : List Kind) (xs : List Expression) (e : Expression) → clash_among ss names ps ks (terms_in (xs ++ e ∷ [])) ≡ (clash_among ss names ps ks (terms_in xs) || clashes_in ss names ps ks (values.term_of e))
+clash_last ss names ps ks [] e = at_bool (clashes_in ss names ps ks (values.term_of e))
+  where
+    at_bool : (b : Bool) → (b || false) ≡ (false || b)
+    at_bool true = refl
+    at_bool false = refl
+clash_last ss names ps ks (x ∷ xs) e = ap (λ (b : Bool). clashes_in ss names ps ks (values.term_of x) || b) (clash_last ss names ps ks xs e) ∙ at_bool (clashes_in ss names ps ks (values.term_of x))
+  where
+    at_bool : (b : Bool) → (b || (clash_among ss names ps ks (terms_in xs) || clashes_in ss names ps ks (values.term_of e))) ≡ (b || clash_among ss names ps ks (terms_in xs) || clashes_in ss names ps ks (values.term_of e))
+    at_bool true = refl
+    at_bool false = refl
+
+-- one more argument
+pub gathered_more : (ss : List Sense) (names : List Naming) (ps : List (List ℕ)) (xs : List Expression) (i : ℕ) (e : Expression) (ks : List Kind) → i < length xs → e ≡ get_or xs i e
+    → with_one i (gathered_in ss names ps (terms_in (take i xs)) ks) (signature_in ss names ps (values.term_of e) ks) ≡ gathered_in ss names ps (terms_in (take (i + 1) xs)) ks
+gathered_more ss names ps xs i e ks lt is =
+    let front = take i xs in
+    let whole : take (i + 1) xs ≡ front ++ e ∷ [] = take_more xs i e lt ∙ ap (λ (x : Expression). front ++ x ∷ []) (sym is) in
+    let count : length (kinds_of_body ss names ps ks (terms_in front)) ≡ i = let l = long_kinds ss names ps ks front in let t = length-take i xs in omega (arith, l, t, lt) in
+    let number : number_of (kinds_of_body ss names ps ks (terms_in (front ++ e ∷ []))) ≡ number_of (kinds_of_body ss names ps ks (terms_in front)) + digit (kind_of_body ss names ps ks (values.term_of e)) * 3 ^ i =
+    ap number_of (kinds_last ss names ps ks front e) ∙ (number_last (kinds_of_body ss names ps ks (terms_in front)) (kind_of_body ss names ps ks (values.term_of e))
+    ∙ ap (λ (n : ℕ). number_of (kinds_of_body ss names ps ks (terms_in front)) + digit (kind_of_body ss names ps ks (values.term_of e)) * 3 ^ n) count) in
+    let g : (n : ℕ) (b : Bool) → Gathered = λ n b. record { combination = n; clashes = b } in
+    sym (ap (λ (l : List Expression). gathered_in ss names ps (terms_in l) ks) whole
+    ∙ (ap (λ (n : ℕ). g n (clash_among ss names ps ks (terms_in (front ++ e ∷ [])))) number
+    ∙ ap (λ (b : Bool). g (number_of (kinds_of_body ss names ps ks (terms_in front)) + digit (kind_of_body ss names ps ks (values.term_of e)) * 3 ^ i) b) (clash_last ss names ps ks front e)))
+
+pub gathered_small : (ss : List Sense) (names : List Naming) (ps : List (List ℕ)) (xs : List Expression) (i : ℕ) (ks : List Kind) → length xs ≤ 8 → (gathered_in ss names ps (terms_in (take i xs)) ks).combination < 6561
+gathered_small ss names ps xs i ks le =
+    let l = long_kinds ss names ps ks (take i xs) in
+    let t = length-take i xs in
+    below_table (kinds_of_body ss names ps ks (terms_in (take i xs))) (omega (arith, l, t, le))
+
+-- ---- expressions
+
+pub of_joined : (ss : List Sense) (names : List Naming) (ps : List (List ℕ)) (op : Infix) (e : Expression) (a b : Term) (arity : ℕ) (r : Result (Vec Signature Global) AllocError) → values.term_of e ≡ Join op a b
+    → IfOk r (λ v. IsFilled unknown arity (3 ^ arity) (λ kinds. of_infix op (signature_in ss names ps a kinds) (signature_in ss names ps b kinds)) v.items)
+    → IfOk r (λ v. IsFilled unknown arity (3 ^ arity) (signature_in ss names ps (values.term_of e)) v.items)
+of_joined ss names ps op e a b arity r is h = subst (λ (t : Term). IfOk r (λ v. IsFilled unknown arity (3 ^ arity) (signature_in ss names ps t) v.items)) (sym is) h
+
+pub of_marked : (ss : List Sense) (names : List Naming) (ps : List (List ℕ)) (op : Postfix) (e : Expression) (a : Term) (arity : ℕ) (r : Result (Vec Signature Global) AllocError) → values.term_of e ≡ Mark op a
+    → IfOk r (λ v. IsFilled unknown arity (3 ^ arity) (λ kinds. of_postfix (signature_in ss names ps a kinds)) v.items)
+    → IfOk r (λ v. IsFilled unknown arity (3 ^ arity) (signature_in ss names ps (values.term_of e)) v.items)
+of_marked ss names ps op e a arity r is h = subst (λ (t : Term). IfOk r (λ v. IsFilled unknown arity (3 ^ arity) (signature_in ss names ps t) v.items)) (sym is) h
+
+pub of_on : (ss : List Sense) (names : List Naming) (ps : List (List ℕ)) (e : Expression) (a : Term) (arity : ℕ) (r : Result (Vec Signature Global) AllocError) → values.term_of e ≡ On a
+    → IfOk r (λ v. IsFilled unknown arity (3 ^ arity) (λ kinds. of_identity (signature_in ss names ps a kinds)) v.items)
+    → IfOk r (λ v. IsFilled unknown arity (3 ^ arity) (signature_in ss names ps (values.term_of e)) v.items)
+of_on ss names ps e a arity r is h = subst (λ (t : Term). IfOk r (λ v. IsFilled unknown arity (3 ^ arity) (signature_in ss names ps t) v.items)) (sym is) h
+
+-- what an application makes, by what its name stands for
+applied_as : (ss : List Sense) (names : List Naming) (ps : List (List ℕ)) (e : Expression) (n : List ℕ) (args : Vec Expression Global) (count : ℕ) (o : Option Sense) (ks : List Kind) → e ≡ expressions.Applied n args → count ≡ length args.items → sense_seen ss names ps count n ≡ o
+    → signature_in ss names ps (values.term_of e) ks ≡ record { kind = kind_of_sense o (kinds_of_body ss names ps ks (terms_in args.items)); clashes = clash_of_sense o (clash_among ss names ps ks (terms_in args.items)) (kinds_of_body ss names ps ks (terms_in args.items)) }
+applied_as ss names ps e n args count o ks is count_is seen =
+    let ts = terms_in args.items in
+    let t : values.term_of e ≡ Apply n ts = ap values.term_of is ∙ applied_term n args in
+    let s : sense_seen ss names ps (count_of ts) n ≡ o = ap (λ (m : ℕ). sense_seen ss names ps m n) (count_arguments args.items ∙ sym count_is) ∙ seen in
+    let g : Option Sense → Signature = λ q. record { kind = kind_of_sense q (kinds_of_body ss names ps ks ts); clashes = clash_of_sense q (clash_among ss names ps ks ts) (kinds_of_body ss names ps ks ts) } in
+    ap (λ (x : Term). signature_in ss names ps x ks) t ∙ ap g s
+
+pub of_none : (ss : List Sense) (names : List Naming) (ps : List (List ℕ)) (e : Expression) (n : List ℕ) (args : Vec Expression Global) (count arity : ℕ) (r : Result (Vec Signature Global) AllocError) → e ≡ expressions.Applied n args → count ≡ length args.items → sense_seen ss names ps count n ≡ None
+    → IfOk r (λ v. IsFilled unknown arity (3 ^ arity) (λ kinds. plain OfAny) v.items)
+    → IfOk r (λ v. IsFilled unknown arity (3 ^ arity) (signature_in ss names ps (values.term_of e)) v.items)
+of_none ss names ps e n args count arity r is count_is seen h =
+    IfOk-weaker r _ _ (λ v f. filled_as unknown arity (3 ^ arity) (λ kinds. plain OfAny) (signature_in ss names ps (values.term_of e)) v.items (λ ks long. sym (applied_as ss names ps e n args count None ks is count_is seen)) f) h
+
+pub of_function : (ss : List Sense) (names : List Naming) (ps : List (List ℕ)) (e : Expression) (n : List ℕ) (args : Vec Expression Global) (front : List Expression) (count arity : ℕ) (f : Function) (s : Sense) (r : Result (Vec Signature Global) AllocError) → e ≡ expressions.Applied n args → count ≡ length args.items → front ≡ args.items
+    → sense_seen ss names ps count n ≡ Some s → s.arity ≡ count → IsKept f s
+    → IfOk r (λ v. IsFilled unknown arity (3 ^ arity) (λ kinds. of_applied f (gathered_in ss names ps (terms_in front) kinds)) v.items)
+    → IfOk r (λ v. IsFilled unknown arity (3 ^ arity) (signature_in ss names ps (values.term_of e)) v.items)
+of_function ss names ps e n args front count arity f s r is count_is front_is seen arity_is kept h =
+    IfOk-weaker r _ _ (λ v g. filled_as unknown arity (3 ^ arity) (λ kinds. of_applied f (gathered_in ss names ps (terms_in front) kinds)) (signature_in ss names ps (values.term_of e)) v.items (λ ks long. same ks) g) h
+  where
+    same : (ks : List Kind) → of_applied f (gathered_in ss names ps (terms_in front) ks) ≡ signature_in ss names ps (values.term_of e) ks
+    same ks =
+        let ts = terms_in args.items in
+        let kinds = kinds_of_body ss names ps ks ts in
+        let b = clash_among ss names ps ks ts in
+        let g : Signature → Signature = λ x. record { kind = x.kind; clashes = b || x.clashes } in
+        ap (λ (l : List Expression). of_applied f (gathered_in ss names ps (terms_in l) ks)) front_is
+        ∙ (ap g (kept.kinds kinds (long_kinds ss names ps ks args.items ∙ sym (arity_is ∙ count_is)))
+        ∙ sym (applied_as ss names ps e n args count (Some s) ks is count_is seen))
