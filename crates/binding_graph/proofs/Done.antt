@@ -6,9 +6,8 @@ use Rattle.std.proofs.lemmas.List.{drop_all, append-nil, length-map, length-reve
 use Rattle.cat_values.specs.declared.model.Item.{Item}
 use Rattle.binding_kinds.specs.declared.fault.ModelFault.{ModelFault}
 use Rattle.binding_kinds.specs.declared.scope.Entry.{Entry}
-use Rattle.binding_kinds.specs.declared.function.Function.{Function}
 use Rattle.binding_kinds.specs.Value.{Naming, Clause, entry_of, clause_of, IsNoFunction, AreNoFunctions}
-use Rattle.binding_kinds.specs.Senses.{Sense, AreKept}
+use Rattle.binding_kinds.specs.Senses.{Sense}
 use Rattle.binding_kinds.specs.Faults.{extended, senses_after}
 use Rattle.binding_kinds.specs.Verdict.{or_else}
 use Rattle.binding_kinds.specs.First.{first_of_item, first}
@@ -45,9 +44,11 @@ rest_more ss o before after items i d f lt m none is names =
     let c = clause_of (get_or items i d) in
     let whole = rw (drop_next items i d lt) at m in
     let here : first_of_item ss (reverse (map entry_of before)) i c ≡ None = sym is ∙ none in
-    let same : senses_after ss (reverse (map entry_of before)) c ≡ ss = same_senses ss (reverse (map entry_of before)) c whole.0.0 in
-    (whole.0.1, rw names (whole.1 ∙ ap (λ (q : Option ModelFault). or_else q (first (senses_after ss (reverse (map entry_of before)) c) (extended ss (reverse (map entry_of before)) i c) (i + 1) (map clause_of (drop (i + 1) items)))) here
-    ∙ ap (λ (q : List Sense). first q (extended ss (reverse (map entry_of before)) i c) (i + 1) (map clause_of (drop (i + 1) items))) same))
+    let same : senses_after ss (reverse (map entry_of before)) c ≡ ss = same_senses ss (reverse (map entry_of before)) c whole.0.0 in (
+      whole.0.1,
+      rw names (whole.1 ∙ ap (λ (q : Option ModelFault). or_else q (first (senses_after ss (reverse (map entry_of before)) c) (extended ss (reverse (map entry_of before)) i c) (i + 1) (map clause_of (drop (i + 1) items)))) here
+          ∙ ap (λ (q : List Sense). first q (extended ss (reverse (map entry_of before)) i c) (i + 1) (map clause_of (drop (i + 1) items))) same),
+    )
 
 -- the length of what was there
 pub from_fits : (before after : List Entry) → take (length before) after ≡ before → length before ≤ length after

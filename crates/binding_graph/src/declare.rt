@@ -1,13 +1,13 @@
 //! The names that an item adds, and its first fault.
 
-ghost use Rattle.std.specs.Prelude.{◌≡◌, IfOk, OnOk, List, reverse, map, length, take, false};
+ghost use Rattle.std.specs.Prelude.{◌≡◌, [], IfOk, OnOk, List, reverse, map, length, take, false};
 ghost use Rattle.cat_values.specs.Values.{term_of};
 ghost use Rattle.binding_kinds.specs.Value.{entry_of, bound_of, clause_of, IsNoFunction};
 ghost use Rattle.binding_kinds.specs.Kinds.{takes_body};
 ghost use Rattle.binding_kinds.specs.Senses.{Sense, AreKept, kind_in, first_within};
 ghost use Rattle.binding_kinds.specs.Faults.{with_own, with_all, extended};
-ghost use Rattle.binding_kinds.specs.Verdict.{or_else, unless};
-ghost use Rattle.binding_kinds.specs.First.{first_of_item};
+ghost use Rattle.binding_kinds.specs.Verdict.{or_else, unless, of_parameters};
+ghost use Rattle.binding_kinds.specs.First.{first_of_body, first_of_item};
 
 use crate::expand::expand;
 use crate::plan::Plan;
@@ -81,7 +81,7 @@ pub fn item_fault(
     place: usize,
     item: &Item,
 ) -> Result<Option<ModelFault>, AllocError>
-    ensures fault { (senses : List Sense) → AreKept scope.old.functions.items senses → IsNoFunction (clause_of item.now) → IfOk result (λ f. f ≡ first_of_item senses (reverse (map entry_of scope.old.entries.items)) place (clause_of item.now)) }
+    ensures fault { (senses : List Sense) → AreKept scope.old.functions.items senses → IfOk result (λ f. f ≡ first_of_item senses (reverse (map entry_of scope.old.entries.items)) place (clause_of item.now)) }
     ensures kept { IsNoFunction (clause_of item.now) → OnOk result (take (length scope.old.entries.items) scope.new.entries.items ≡ scope.old.entries.items) }
     ensures names { (senses : List Sense) → AreKept scope.old.functions.items senses → IsNoFunction (clause_of item.now) → OnOk result (reverse (map entry_of scope.new.entries.items) ≡ extended senses (reverse (map entry_of scope.old.entries.items)) place (clause_of item.now)) }
     ensures functions { IsNoFunction (clause_of item.now) → scope.new.functions.items ≡ scope.old.functions.items }
@@ -123,7 +123,9 @@ fn declare_function(
     name: &Name,
     parameters: &[Name],
     body: &Expression,
-) -> Result<Option<ModelFault>, AllocError> {
+) -> Result<Option<ModelFault>, AllocError>
+    ensures fault { (senses : List Sense) → AreKept scope.old.functions.items senses → IfOk result (λ f. f ≡ or_else (of_parameters [] parameters.now) (first_of_body senses (reverse (map entry_of scope.old.entries.items)) parameters.now (term_of body.now))) }
+{
     let fault = parameter_fault(parameters);
     if fault.is_some() {
         return Ok(fault);

@@ -1,10 +1,14 @@
 //! Expressions in postfix order, whose names are resolved.
 
-ghost use Rattle.std.specs.Prelude.{◌≡◌, ◌≤◌, List, [], ◌∷◌, ◌++◌, length, map, reverse, vec_len, OnOk};
+ghost use Rattle.std.specs.Prelude.{◌≡◌, ◌≤◌, List, [], ◌∷◌, ◌++◌, None, Some, length, map, reverse, vec_len, OnOk};
 ghost use Rattle.cat_values.specs.Values.{term_of};
 ghost use Rattle.binding_kinds.specs.Value.{entry_of};
 ghost use Rattle.binding_kinds.specs.Fits.{IsPlain};
 ghost use Rattle.binding_kinds.specs.Kinds.{found};
+ghost use Rattle.binding_kinds.specs.Meanings.{parameter_of};
+ghost use Rattle.binding_kinds.specs.Verdict.{or_else};
+ghost use Rattle.binding_kinds.specs.Senses.{Sense, AreKept};
+ghost use Rattle.binding_kinds.specs.First.{of_inside, first_of_body};
 ghost use Rattle.binding_graph.specs.declared.plan.Node.{Node};
 ghost use Rattle.binding_graph.specs.Inputs.{IsIndexed, with_name, with_uses};
 ghost use Rattle.binding_graph.specs.Lowering.{piece_of, nodes_of};
@@ -38,7 +42,8 @@ pub struct Plan {
 impl Plan {
     /// An empty plan.
     pub fn new(alloc: Global) -> Plan
-        ensures { result.nodes.items ≡ [] }
+        ensures nodes { result.nodes.items ≡ [] }
+        ensures fault { result.fault ≡ None }
     {
         Plan {
             nodes: Vec::new(alloc),
@@ -48,7 +53,8 @@ impl Plan {
     }
 
     fn put(&mut self, node: Node) -> Result<(), AllocError>
-        ensures { OnOk result (self.new.nodes.items ≡ self.old.nodes.items ++ node ∷ []) }
+        ensures nodes { OnOk result (self.new.nodes.items ≡ self.old.nodes.items ++ node ∷ []) }
+        ensures fault { self.new.fault ≡ self.old.fault }
     {
         self.nodes.push(node)?;
         Ok(())
@@ -56,7 +62,8 @@ impl Plan {
 
     /// Stands for a name at fault.
     fn put_fault(&mut self, fault: ModelFault) -> Result<(), AllocError>
-        ensures { OnOk result (self.new.nodes.items ≡ self.old.nodes.items ++ Node.Plain Piece.NoPairs ∷ []) }
+        ensures nodes { OnOk result (self.new.nodes.items ≡ self.old.nodes.items ++ Node.Plain Piece.NoPairs ∷ []) }
+        ensures fault { self.new.fault ≡ or_else self.old.fault (Some fault) }
     {
         if self.fault.is_none() {
             self.fault = Some(fault);
@@ -66,13 +73,15 @@ impl Plan {
 
     /// The parameter stands under a complement or not.
     fn mark_under(&mut self, place: usize, under: bool)
-        ensures { self.new.nodes.items ≡ self.old.nodes.items }
+        ensures nodes { self.new.nodes.items ≡ self.old.nodes.items }
+        ensures fault { self.new.fault ≡ self.old.fault }
     {
         if let Some(mark) = self.under.get_mut(place) {
             *mark = *mark || under;
         }
     }
 
+    #[tactic(auto, using(binding_kinds::proofs::Bodies::inside_fault))]
     fn put_name(
         &mut self,
         sight: &Sight,
@@ -84,6 +93,7 @@ impl Plan {
         ensures uses { sight.now.parameters.now ≡ [] → IsIndexed uses.old.places.items uses.old.values.items → length sight.now.entries.now ≤ vec_len uses.old.places → OnOk result (reverse uses.new.values.items ≡ with_name (reverse uses.old.values.items) sight.now.from (found (reverse (map entry_of sight.now.entries.now)) name.now)) }
         ensures indexed { sight.now.parameters.now ≡ [] → IsIndexed uses.old.places.items uses.old.values.items → length sight.now.entries.now ≤ vec_len uses.old.places → OnOk result (IsIndexed uses.new.places.items uses.new.values.items) }
         ensures places { vec_len uses.new.places ≡ vec_len uses.old.places }
+        ensures fault { OnOk result (self.new.fault ≡ or_else self.old.fault (of_inside (parameter_of (reverse sight.now.parameters.now) name.now) (found (reverse (map entry_of sight.now.entries.now)) name.now))) }
     {
         match sight.value(name) {
             Err(fault) => self.put_fault(fault),
@@ -99,6 +109,7 @@ impl Plan {
     }
 
     /// Appends an expression, seen under a complement or not.
+    #[tactic(auto, using(binding_kinds::proofs::Applications::or_else_assoc))]
     pub fn put_term(
         &mut self,
         sight: &Sight,
@@ -110,6 +121,7 @@ impl Plan {
         ensures uses { sight.now.parameters.now ≡ [] → IsPlain (term_of term.now) → IsIndexed uses.old.places.items uses.old.values.items → length sight.now.entries.now ≤ vec_len uses.old.places → OnOk result (reverse uses.new.values.items ≡ with_uses (reverse (map entry_of sight.now.entries.now)) sight.now.from (term_of term.now) (reverse uses.old.values.items)) }
         ensures indexed { sight.now.parameters.now ≡ [] → IsPlain (term_of term.now) → IsIndexed uses.old.places.items uses.old.values.items → length sight.now.entries.now ≤ vec_len uses.old.places → OnOk result (IsIndexed uses.new.places.items uses.new.values.items) }
         ensures places { sight.now.parameters.now ≡ [] → IsPlain (term_of term.now) → vec_len uses.new.places ≡ vec_len uses.old.places }
+        ensures fault { (senses : List Sense) → AreKept sight.now.functions.now senses → OnOk result (self.new.fault ≡ or_else self.old.fault (first_of_body senses (reverse (map entry_of sight.now.entries.now)) sight.now.parameters.now (term_of term.now))) }
     {
         match term {
             Expression::Named(name) => self.put_name(sight, under, name, uses),

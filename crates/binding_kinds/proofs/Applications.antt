@@ -23,6 +23,11 @@ use Rattle.binding_kinds.specs.declared.signature.Signature.{Signature}
 use Rattle.binding_kinds.specs.declared.fault.ModelFault.{ModelFault}
 use Rattle.binding_kinds.specs.Senses.{Sense, size_of_arguments, size_with, with_arity, sense_of_binder, sense_of, count_of, size_applied, under_of, kind_in, first_within, first_among, size_in, sizes_in, kinds_in, kind_applied, fault_applied, ArePositive, IsKept, AreKept, IsAlike}
 
+-- one fault after another
+pub or_else_assoc : (a b c : Option ModelFault) → or_else (or_else a b) c ≡ or_else a (or_else b c)
+or_else_assoc None b c = refl
+or_else_assoc (Some k) b c = refl
+
 small_digit : (k : Kind) → digit k < 3
 small_digit OfSet = omega arith
 small_digit OfRelation = omega arith
@@ -271,12 +276,8 @@ next_fault ss names from under turned xs i e before after one inner total lt is 
     let one_is_so : one ≡ first_within ss names from (under || turned i) (values.term_of e) = one_is ∙ ap (λ (b : Bool). first_within ss names from b (values.term_of e)) inner_is in
     ap (λ (n : ℕ). or_else after (first_among ss names from under turned n rest)) (add-one i)
     ∙ ap (λ (o : Option ModelFault). or_else o (first_among ss names from under turned (suc i) rest)) (after_is ∙ ap (λ (o : Option ModelFault). or_else before o) one_is_so)
-    ∙ over before _ (first_among ss names from under turned (suc i) rest)
+    ∙ or_else_assoc before _ (first_among ss names from under turned (suc i) rest)
     ∙ open_inv
-  where
-    over : (a b c : Option ModelFault) → or_else (or_else a b) c ≡ or_else a (or_else b c)
-    over None b c = refl
-    over (Some k) b c = refl
 
 pub next_size : (ss : List Sense) (names : List Naming) (f : ℕ → ℕ) (xs : List Expression) (i : ℕ) (e : Expression) (before after g one total : ℕ) → i < length xs → e ≡ get_or xs i e
     → g ≡ f i → IsAlike one (size_in ss names (values.term_of e)) → IsAlike after (before + g * one)
@@ -312,7 +313,7 @@ drop_past [] (suc p) le = refl
 drop_past (x ∷ xs) zero le = absurd (omega (arith, le))
 drop_past (x ∷ xs) (suc p) le = drop_past xs p (omega (arith, le))
 
-or_none : (o : Option ModelFault) → or_else o None ≡ o
+pub or_none : (o : Option ModelFault) → or_else o None ≡ o
 or_none None = refl
 or_none (Some k) = refl
 

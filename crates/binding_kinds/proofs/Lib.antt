@@ -6,3 +6,4 @@ pub mod Fitting
 pub mod Combinations
 pub mod Applications
 pub mod Tables
+pub mod Bodies

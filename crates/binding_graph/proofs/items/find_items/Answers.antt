@@ -1,6 +1,6 @@
-use Rattle.std.proofs.Common.{ℕ, List, [], ◌≡◌, ◌<◌, ◌≤◌, ◌+◌, ◌∙◌, ap, sym, length, None, arith, vec_len}
+use Rattle.std.proofs.Common.{ℕ, [], ◌≡◌, ◌<◌, ◌≤◌, ◌+◌, ◌∙◌, ap, sym, length, None, arith, vec_len}
 use Rattle.binding_kinds.specs.Value.{clause_of, IsNoFunction}
-use Rattle.binding_kinds.specs.Senses.{Sense, AreKept}
+use Rattle.binding_kinds.specs.Senses.{AreKept}
 use Rattle.binding_graph.proofs.Done.{next_clause, fit_next, done_more, all_done, rest_more, rest_plain, from_fits, none_of}
 use Rattle.binding_graph.proofs.Labels.{labels_more, labels_all}
 use Rattle.binding_graph.proofs.items.find_items.Goals as goal
@@ -17,16 +17,19 @@ loop-place-preserved c =
       count = c.in_ok-push_item.ensures.count ∙ ap (λ (n : ℕ). n + 1) c.loop-place.invariant.count;
       rest = λ plain.
           let m = c.loop-place.invariant.rest plain in
-          let p : IsNoFunction (clause_of d) = rw (← is) at (next_clause c.args.items.now c.loop-place.place d lt m.0) in
-          (rest_plain c.args.items.now c.loop-place.place d lt m.0, c.in_ok-fault.ensures.functions p ∙ m.1, λ ss kept.
-          let now : AreKept c.loop-place.scope.functions.items ss = rw m.1 kept in
-          (rest_more ss _ before after c.args.items.now c.loop-place.place d c.in_ok-fault.fault lt (m.0, m.2 ss kept) none (rw (← is) (c.in_ok-fault.ensures.fault ss now p)) (rw (← is) (c.in_ok-fault.ensures.names ss now p))).1);
+          let p : IsNoFunction (clause_of d) = rw (← is) at (next_clause c.args.items.now c.loop-place.place d lt m.0) in (
+            rest_plain c.args.items.now c.loop-place.place d lt m.0,
+            c.in_ok-fault.ensures.functions p ∙ m.1,
+            λ ss kept.
+                let now : AreKept c.loop-place.scope.functions.items ss = rw m.1 kept in
+                (rest_more ss _ before after c.args.items.now c.loop-place.place d c.in_ok-fault.fault lt (m.0, m.2 ss kept) none (rw (← is) (c.in_ok-fault.ensures.fault ss now)) (rw (← is) (c.in_ok-fault.ensures.names ss now p))).1,
+          );
       items = λ empty known plain.
           let m = c.loop-place.invariant.items empty known plain in
           let n = c.loop-place.invariant.rest plain in
           let kept_now : AreKept c.loop-place.scope.functions.items [] = rw (n.1, empty) tt in
           let p : IsNoFunction (clause_of d) = rw (← is) at (next_clause c.args.items.now c.loop-place.place d lt m.plain) in
-          let first = c.in_ok-fault.ensures.fault [] kept_now p in
+          let first = c.in_ok-fault.ensures.fault [] kept_now in
           let kept = c.in_ok-fault.ensures.kept p in
           let names = c.in_ok-fault.ensures.names [] kept_now p in
           let from : c.len-from.result ≡ length before = omega arith in

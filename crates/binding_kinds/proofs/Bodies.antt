@@ -1,0 +1,88 @@
+-- What is found of the names of a body is their first fault.
+use Rattle.std.proofs.Common.{ℕ, zero, suc, ◌≡◌, ◌≤◌, List, [], ◌∷◌, length, map, reverse, drop, Bool, true, false, Option, Some, None, Result, Ok, Err, Vec, Global, refl, ap, sym, ◌∙◌}
+use Rattle.std.proofs.lemmas.List.{drop_all}
+use Rattle.std.specs.Prelude.{slice_get, nat_eq, if◌then◌else◌}
+use Rattle.cat_values.specs.declared.model.Expression.{Expression}
+use Rattle.cat_values.specs.declared.model.Expression.TheVariants as expressions
+use Rattle.cat_values.specs.Values.{term_of}
+use Rattle.cat_values.specs.Value.{Apply, gathered}
+use Rattle.cat_values.proofs.Arguments.{applied_term}
+use Rattle.binding_kinds.specs.declared.fault.ModelFault.{ModelFault}
+use Rattle.binding_kinds.specs.declared.fault.ModelFault.TheVariants as faults
+use Rattle.binding_kinds.specs.declared.scope.Found.{Found}
+use Rattle.binding_kinds.specs.declared.scope.Binder.{Binder}
+use Rattle.binding_kinds.specs.declared.scope.Binder.TheVariants as binders
+use Rattle.binding_kinds.specs.declared.function.Function.{Function}
+use Rattle.binding_kinds.specs.Meanings.{parameter_of, meaning_found, meaning_of}
+use Rattle.binding_kinds.specs.Value.{Naming}
+use Rattle.binding_kinds.specs.Kinds.{found}
+use Rattle.binding_kinds.specs.Applicable.{applied, applied_of}
+use Rattle.binding_kinds.specs.Verdict.{or_else, of_use}
+use Rattle.binding_kinds.specs.Senses.{Sense, AreKept, with_arity, sense_of, count_of}
+use Rattle.binding_kinds.specs.First.{of_inside, of_applied, first_of_body, first_of_bodies}
+use Rattle.binding_kinds.proofs.Applications.{count_arguments, or_none}
+
+abbrev pub fault_of : {A : Type 0} → Result A ModelFault → Option ModelFault
+fault_of (Ok x) = None
+fault_of (Err k) = Some k
+
+-- a name without arguments
+pub inside_fault : (p : Option ℕ) (o : Option Found) → of_inside p o ≡ fault_of (meaning_of p o)
+inside_fault (Some i) o = refl
+inside_fault None None = refl
+inside_fault None (Some f) = at_binder f.binder
+  where
+    at_binder : (b : Binder) → of_use b 0 false f.slot ≡ fault_of (meaning_found f b)
+    at_binder (binders.Predefined q) = refl
+    at_binder (binders.Bound i) = refl
+    at_binder (binders.Applicable g) = refl
+
+abbrev arity_of : Option Sense → Option ℕ
+arity_of None = None
+arity_of (Some s) = Some s.arity
+
+arities : (fs : List Function) (ss : List Sense) (i : ℕ) → AreKept fs ss → slice_get (map (λ (f : Function). f.arity) fs) i ≡ arity_of (slice_get ss i)
+arities [] [] i h = refl
+arities [] (s ∷ ss) i h = absurd h
+arities (f ∷ fs) [] i h = absurd h
+arities (f ∷ fs) (s ∷ ss) zero h = ap Some h.0.arity
+arities (f ∷ fs) (s ∷ ss) (suc i) h = arities fs ss i h.1
+
+-- a name with arguments
+pub applied_fault : (fs : List Function) (ss : List Sense) (n : ℕ) (p : Option ℕ) (o : Option Found) → AreKept fs ss → of_applied p (sense_of ss n o) ≡ fault_of (applied_of (λ (i : ℕ). slice_get (map (λ (f : Function). f.arity) fs) i) n p o)
+applied_fault fs ss n (Some q) o h = refl
+applied_fault fs ss n None None h = refl
+applied_fault fs ss n None (Some f) h = at_binder f.binder
+  where
+    at_test : (i : ℕ) (s : Sense) (b : Bool) → of_applied None (if b then Ok s else Err faults.Arity) ≡ fault_of (if b then Ok i else Err faults.Arity)
+    at_test i s true = refl
+    at_test i s false = refl
+
+    at_sense : (i : ℕ) (q : Option Sense) → of_applied None (with_arity n q) ≡ fault_of (applied i n (arity_of q))
+    at_sense i None = refl
+    at_sense i (Some s) = at_test i s (nat_eq s.arity n)
+
+    at_binder : (b : Binder) → of_applied None (sense_of ss n (Some (record { slot = f.slot; kind = f.kind; binder = b }))) ≡ fault_of (applied_of (λ (i : ℕ). slice_get (map (λ (g : Function). g.arity) fs) i) n None (Some (record { slot = f.slot; kind = f.kind; binder = b })))
+    at_binder (binders.Predefined q) = refl
+    at_binder (binders.Bound i) = refl
+    at_binder (binders.Applicable i) = at_sense i (slice_get ss i) ∙ ap (λ (q : Option ℕ). fault_of (applied i n q)) (sym (arities fs ss i h))
+
+-- an application in a body: the fault of its name, and then those of its arguments
+pub body_applied : (fs : List Function) (ss : List Sense) (names : List Naming) (ps : List (List ℕ)) (e : Expression) (n : List ℕ) (args : Vec Expression Global) (m : ℕ) (r : Result ℕ ModelFault) → AreKept fs ss → e ≡ expressions.Applied n args → m ≡ length args.items
+    → r ≡ applied_of (λ (i : ℕ). slice_get (map (λ (f : Function). f.arity) fs) i) m (parameter_of (reverse ps) n) (found names n)
+    → first_of_body ss names ps (term_of e) ≡ or_else (fault_of r) (first_of_bodies ss names ps (gathered (map term_of args.items)))
+body_applied fs ss names ps e n args m r kept is long r_is =
+    let ts = gathered (map term_of args.items) in
+    let par = parameter_of (reverse ps) n in
+    let t : term_of e ≡ Apply n ts = ap term_of is ∙ applied_term n args in
+    ap (first_of_body ss names ps) t
+    ∙ ap (λ (q : Option ModelFault). or_else q (first_of_bodies ss names ps ts))
+    (ap (λ (k : ℕ). of_applied par (sense_of ss k (found names n))) (count_arguments args.items ∙ sym long) ∙ applied_fault fs ss m par (found names n) kept ∙ ap fault_of (sym r_is))
+
+-- the arguments are gone through
+pub bodies_done : (ss : List Sense) (names : List Naming) (ps : List (List ℕ)) (xs ys : List Expression) (p : ℕ) (now old : Option ModelFault) → xs ≡ ys → length xs ≤ p
+    → or_else now (first_of_bodies ss names ps (gathered (map term_of (drop p xs)))) ≡ or_else old (first_of_bodies ss names ps (gathered (map term_of xs)))
+    → now ≡ or_else old (first_of_bodies ss names ps (gathered (map term_of ys)))
+bodies_done ss names ps xs ys p now old same past e =
+    sym (or_none now) ∙ sym (ap (λ (l : List Expression). or_else now (first_of_bodies ss names ps (gathered (map term_of l)))) (drop_all p xs past))
+    ∙ e ∙ ap (λ (l : List Expression). or_else old (first_of_bodies ss names ps (gathered (map term_of l)))) same
