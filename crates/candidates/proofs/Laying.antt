@@ -8,7 +8,8 @@ use Rattle.thread_runs.specs.declared.run.Run.{Run}
 use Rattle.candidates.proofs.Parting.{each_append}
 use Rattle.candidates.proofs.Pruning.{load_front, load_behind, store_split}
 use Rattle.candidates.specs.Keys.{HasKey, IsWithin, HasLoad, HasStore, AreKeys, PartsAreKeyed, ThreadsAreKeyed, bit_of}
-use Rattle.candidates.specs.Parts.{part_events, initial_from, IsSketch, AreSketches, HasWritesOf, AreSome, end, kept_one, left_out, Among, IsChoice, HasRead, HasWrite, IsUnread, AreEach, IsSifted, IsMade, AreBelow, NamesRuns, AreThreads}
+use Rattle.candidates.specs.Parts.{part_events, initial_from, IsSketch, AreSketches, HasWritesOf, AreSome, end, kept_one, left_out, Among, IsChoice, HasRead, HasWrite, IsUnread, IsSifted, IsMade, AreBelow, NamesRuns, AreThreads}
+use Rattle.std.specs.List.{AllZip}
 use Rattle.candidates.specs.Layouts.{ArePartsOf, AreThreadsOf, AreChosen, chosen_events, HasRun, HaveParts, CannotRead}
 use Rattle.candidates.specs.declared.candidate.Action.TheVariants.{Write}
 use Rattle.candidates.specs.declared.candidate.Event.{Event}
@@ -42,12 +43,12 @@ facts_some values runs n (s ∷ xs) ys (kept_one {ys = zs} k) h = (h.0, h.1, fac
 facts_some values runs n (s ∷ xs) ys (left_out k) h = let a : n ≤ s.run = h.0 in facts_lower values runs (s.run + 1) n ys (omega (arith, a)) (facts_some values runs (s.run + 1) xs ys k h.2)
 
 abbrev pub AllSketches : List Value → List (Vec Run Global) → List (Vec Sketch Global) → Type 0
-AllSketches values runs sks = AreEach (λ r s. AreSketches values r.items s.items) runs sks
+AllSketches values runs sks = AllZip (λ r s. AreSketches values r.items s.items) runs sks
 
 abbrev pub AllFacts : List Value → List (Vec Run Global) → List (Vec Sketch Global) → Type 0
-AllFacts values runs sks = AreEach (λ r s. Facts values r.items 0 s.items) runs sks
+AllFacts values runs sks = AllZip (λ r s. Facts values r.items 0 s.items) runs sks
 
-pub all_facts : (values : List Value) (runs : List (Vec Run Global)) (olds news : List (Vec Sketch Global)) → AllSketches values runs olds → AreEach (λ v w. AreSome v.items w.items) olds news → AllFacts values runs news
+pub all_facts : (values : List Value) (runs : List (Vec Run Global)) (olds news : List (Vec Sketch Global)) → AllSketches values runs olds → AllZip (λ v w. AreSome v.items w.items) olds news → AllFacts values runs news
 all_facts values [] [] [] h k = tt
 all_facts values [] [] (w ∷ news) h k = absurd k
 all_facts values [] (v ∷ olds) news h k = absurd h
@@ -63,14 +64,14 @@ facts_below : (values : List Value) (runs : List Run) (n : ℕ) (ss : List Sketc
 facts_below values runs n [] h = tt
 facts_below values runs n (s ∷ ss) h = (slice_get_within runs s.run h.1.0 h.1.1, facts_below values runs (s.run + 1) ss h.2)
 
-pub all_named : (values : List Value) (runs : List (Vec Run Global)) (sks : List (Vec Sketch Global)) → AllFacts values runs sks → AreEach NamesRuns runs sks
+pub all_named : (values : List Value) (runs : List (Vec Run Global)) (sks : List (Vec Sketch Global)) → AllFacts values runs sks → AllZip NamesRuns runs sks
 all_named values [] [] h = tt
 all_named values [] (s ∷ sks) h = absurd h
 all_named values (r ∷ runs) [] h = absurd h
 all_named values (r ∷ runs) (s ∷ sks) h = (facts_below values r.items 0 s.items h.0, all_named values runs sks h.1)
 
 -- the parts of the runs that stay
-parts_of : (values : List Value) (t : ℕ) (runs : List Run) (n : ℕ) (ss : List Sketch) (ps : List Part) → Facts values runs n ss → AreEach (IsMade t runs) ss ps → ArePartsOf t runs n ps
+parts_of : (values : List Value) (t : ℕ) (runs : List Run) (n : ℕ) (ss : List Sketch) (ps : List Part) → Facts values runs n ss → AllZip (IsMade t runs) ss ps → ArePartsOf t runs n ps
 parts_of values t runs n [] [] f m = tt
 parts_of values t runs n [] (p ∷ ps) f m = absurd m
 parts_of values t runs n (s ∷ ss) [] f m = absurd m
@@ -98,7 +99,7 @@ part_keyed values t runs s p f m =
     some_is : {x y : Run} → Some x ≡ Some y → x ≡ y
     some_is e = cc
 
-parts_keyed : (values : List Value) (t : ℕ) (runs : List Run) (n : ℕ) (all : KeySet) (ss : List Sketch) (ps : List Part) → Facts values runs n ss → AreEach (IsMade t runs) ss ps → HasWritesOf all ss → PartsAreKeyed (bit_of values) all ps
+parts_keyed : (values : List Value) (t : ℕ) (runs : List Run) (n : ℕ) (all : KeySet) (ss : List Sketch) (ps : List Part) → Facts values runs n ss → AllZip (IsMade t runs) ss ps → HasWritesOf all ss → PartsAreKeyed (bit_of values) all ps
 parts_keyed values t runs n all [] [] f m w = tt
 parts_keyed values t runs n all [] (p ∷ ps) f m w = absurd m
 parts_keyed values t runs n all (s ∷ ss) [] f m w = absurd m
@@ -178,7 +179,7 @@ unread_there values initial writes ks rs cs keys h u =
       λ s. elim (store_split g.0 g.1 initial (chosen_events 0 rs) s) [ inl q ↦ u.3 (keys g.0 g.1 u.0 u.1 q g.2) | inr q ↦ u.4 (written_there values 0 ks rs cs g.0 g.1 u.0 u.1 h g.2 q) ],
     )
 
-among_run : (t : ℕ) (runs : List Run) (ss : List Sketch) (ps : List Part) (s : Sketch) (k : ℕ) → AreEach (IsMade t runs) ss ps → Among ss s → s.run ≡ k → HasRun ps k
+among_run : (t : ℕ) (runs : List Run) (ss : List Sketch) (ps : List Part) (s : Sketch) (k : ℕ) → AllZip (IsMade t runs) ss ps → Among ss s → s.run ≡ k → HasRun ps k
 among_run t runs [] ps s k m a e = absurd a
 among_run t runs (x ∷ ss) [] s k m a e = absurd m
 among_run t runs (x ∷ ss) (p ∷ ps) s k m (inl a) e = inl (m.0.0 ∙ ap (λ (y : Sketch). y.run) a ∙ e)
@@ -225,10 +226,10 @@ initial_step vs i d old new lt is e =
 pub keys_step : (values : List Value) (es : List Event) (i : ℕ) (d : Event) (r w s x : KeySet) → i < length es → ((xs : List Event) (t : Option ℕ) → AreKeys (bit_of values) xs r w → AreKeys (bit_of values) (xs ++ record { thread = t; action = (get_or es i d).action } ∷ []) s x) → AreKeys (bit_of values) (take i es) r w → AreKeys (bit_of values) (take (i + 1) es) s x
 keys_step values es i d r w s x lt step k = subst (λ (l : List Event). AreKeys (bit_of values) l s x) (sym (take_more es i d lt)) (step (take i es) (get_or es i d).thread k)
 
-pub each_more : {X Y : Type 0} (R : X → Y → Type 0) (xs : List X) (i : ℕ) (x : X) (ys zs : List Y) (y : Y) → i < length xs → x ≡ get_or xs i x → zs ≡ ys ++ y ∷ [] → R x y → AreEach R (take i xs) ys → AreEach R (take (i + 1) xs) zs
+pub each_more : {X Y : Type 0} (R : X → Y → Type 0) (xs : List X) (i : ℕ) (x : X) (ys zs : List Y) (y : Y) → i < length xs → x ≡ get_or xs i x → zs ≡ ys ++ y ∷ [] → R x y → AllZip R (take i xs) ys → AllZip R (take (i + 1) xs) zs
 each_more {X = X} {Y = Y} R xs i x ys zs y lt is e r h =
-    subst (λ (l : List X). AreEach R l zs) (sym (take_more xs i x lt ∙ ap (λ (q : X). take i xs ++ q ∷ []) (sym is)))
-    (subst (λ (l : List Y). AreEach R (take i xs ++ x ∷ []) l) (sym e) (each_append R (take i xs) ys x y h r))
+    subst (λ (l : List X). AllZip R l zs) (sym (take_more xs i x lt ∙ ap (λ (q : X). take i xs ++ q ∷ []) (sym is)))
+    (subst (λ (l : List Y). AllZip R (take i xs ++ x ∷ []) l) (sym e) (each_append R (take i xs) ys x y h r))
 
 -- what stays of a list that is as long
 pub front_is : {X : Type 0} (xs ys : List X) (n : ℕ) → n ≡ length xs → take n (xs ++ ys) ≡ xs

@@ -1,14 +1,15 @@
 -- Runs as parts of candidates, and those that are left out.
 use Rattle.std.proofs.Common.{Vec, ℕ, zero, suc, ◌≡◌, ◌<◌, ◌≤◌, ◌+◌, ◌⊎◌, ◌↔◌, Bool, true, false, List, [], ◌∷◌, ◌++◌, take, length, get_or, Option, Some, length-append, slice_get, slice_set, inl, inr, arith, refl, sym, ap, subst, ◌∙◌}
-use Rattle.std.specs.List.{items_where_true}
+use Rattle.std.specs.List.{items_where_true, AllZip}
 use Rattle.std.specs.List.Retain.{ReturnsInTurn, IsFiltered}
 use Rattle.std.specs.declared.alloc.Global.{Global}
 use Rattle.std.proofs.lemmas.List.{take_more, length-take-le}
+use Rattle.std.proofs.lemmas.Slice.Zip.{AllZip-long}
 use Rattle.thread_runs.specs.declared.value.Value.{Value}
 use Rattle.thread_runs.specs.declared.run.Run.{Run}
 use Rattle.candidates.proofs.Pruning.{load_front, load_behind, store_split}
 use Rattle.candidates.specs.Keys.{HasKey, IsWithin, HasLoad, AreKeys, TellsWithin, bit_of}
-use Rattle.candidates.specs.Parts.{part_events, IsSketch, HasWritesOf, HasWritesOfAll, AreKept, none, kept, left, AreSome, end, kept_one, left_out, Among, IsChoice, HasRead, HasWrite, AreEach, IsSifted, IsMade, AreBelow, NamesRuns, AreThreads}
+use Rattle.candidates.specs.Parts.{part_events, IsSketch, HasWritesOf, HasWritesOfAll, AreKept, none, kept, left, AreSome, end, kept_one, left_out, Among, IsChoice, HasRead, HasWrite, IsSifted, IsMade, AreBelow, NamesRuns, AreThreads}
 use Rattle.candidates.specs.declared.candidate.Action.TheVariants.{Read, Write}
 use Rattle.candidates.specs.declared.candidate.Event.{Event}
 use Rattle.candidates.specs.declared.keys.KeySet.{KeySet}
@@ -116,9 +117,9 @@ retained {F = F} R stored f one ss ts h = subst (λ (l : List Sketch). AreKept s
 
 -- the runs of each thread that stay
 abbrev pub AreKeptOfEach : KeySet → List (Vec Sketch Global) → List (Vec Sketch Global) → Type 0
-AreKeptOfEach stored olds news = AreEach (λ v w. AreKept stored v.items w.items) olds news
+AreKeptOfEach stored olds news = AllZip (λ v w. AreKept stored v.items w.items) olds news
 
-pub each_append : {X Y : Type 0} (R : X → Y → Type 0) (xs : List X) (ys : List Y) (x : X) (y : Y) → AreEach R xs ys → R x y → AreEach R (xs ++ x ∷ []) (ys ++ y ∷ [])
+pub each_append : {X Y : Type 0} (R : X → Y → Type 0) (xs : List X) (ys : List Y) (x : X) (y : Y) → AllZip R xs ys → R x y → AllZip R (xs ++ x ∷ []) (ys ++ y ∷ [])
 each_append R [] [] x y h r = (r, tt)
 each_append R [] (z ∷ ys) x y h r = absurd h
 each_append R (z ∷ xs) [] x y h r = absurd h
@@ -163,7 +164,7 @@ kept_some stored [] ts none = end
 kept_some stored (s ∷ ss) ts (kept {ts = us} k) = kept_one (kept_some stored ss us k)
 kept_some stored (s ∷ ss) ts (left a b h n k) = left_out (kept_some stored ss ts k)
 
-each_some : (stored : KeySet) (olds news : List (Vec Sketch Global)) → AreKeptOfEach stored olds news → AreEach (λ v w. AreSome v.items w.items) olds news
+each_some : (stored : KeySet) (olds news : List (Vec Sketch Global)) → AreKeptOfEach stored olds news → AllZip (λ v w. AreSome v.items w.items) olds news
 each_some stored [] [] k = tt
 each_some stored [] (w ∷ news) k = absurd k
 each_some stored (v ∷ olds) [] k = absurd k
@@ -216,11 +217,11 @@ some_of_some (x ∷ xs) ys zs (left_out h) k = left_out (some_of_some xs ys zs h
 some_of_some (x ∷ xs) ys zs (kept_one {ys = us} h) (kept_one {ys = ws} k) = kept_one (some_of_some xs us ws h k)
 some_of_some (x ∷ xs) ys zs (kept_one {ys = us} h) (left_out k) = left_out (some_of_some xs us zs h k)
 
-each_same : (vs : List (Vec Sketch Global)) → AreEach (λ v w. AreSome v.items w.items) vs vs
+each_same : (vs : List (Vec Sketch Global)) → AllZip (λ v w. AreSome v.items w.items) vs vs
 each_same [] = tt
 each_same (v ∷ vs) = (all_some v.items, each_same vs)
 
-each_then : (us vs ws : List (Vec Sketch Global)) → AreEach (λ v w. AreSome v.items w.items) us vs → AreEach (λ v w. AreSome v.items w.items) vs ws → AreEach (λ v w. AreSome v.items w.items) us ws
+each_then : (us vs ws : List (Vec Sketch Global)) → AllZip (λ v w. AreSome v.items w.items) us vs → AllZip (λ v w. AreSome v.items w.items) vs ws → AllZip (λ v w. AreSome v.items w.items) us ws
 each_then [] [] [] h k = tt
 each_then [] [] (w ∷ ws) h k = absurd k
 each_then [] (v ∷ vs) ws h k = absurd h
@@ -243,26 +244,23 @@ below_at n [] i d h lt = absurd (omega (arith, lt))
 below_at n (s ∷ ss) zero d h lt = h.0
 below_at n (s ∷ ss) (suc i) d h lt = below_at n ss i d h.1 (omega (arith, lt))
 
-pub made_more : (t : ℕ) (runs : List Run) (ss : List Sketch) (i : ℕ) (d : Sketch) (ps qs : List Part) (p : Part) → i < length ss → qs ≡ ps ++ p ∷ [] → IsMade t runs (get_or ss i d) p → AreEach (IsMade t runs) (take i ss) ps → AreEach (IsMade t runs) (take (i + 1) ss) qs
+pub made_more : (t : ℕ) (runs : List Run) (ss : List Sketch) (i : ℕ) (d : Sketch) (ps qs : List Part) (p : Part) → i < length ss → qs ≡ ps ++ p ∷ [] → IsMade t runs (get_or ss i d) p → AllZip (IsMade t runs) (take i ss) ps → AllZip (IsMade t runs) (take (i + 1) ss) qs
 made_more t runs ss i d ps qs p lt is m h =
-    subst (λ (l : List Sketch). AreEach (IsMade t runs) l qs) (sym (take_more ss i d lt))
-    (subst (λ (l : List Part). AreEach (IsMade t runs) (take i ss ++ get_or ss i d ∷ []) l) (sym is) (each_append (IsMade t runs) (take i ss) ps (get_or ss i d) p h m))
+    subst (λ (l : List Sketch). AllZip (IsMade t runs) l qs) (sym (take_more ss i d lt))
+    (subst (λ (l : List Part). AllZip (IsMade t runs) (take i ss ++ get_or ss i d ∷ []) l) (sym is) (each_append (IsMade t runs) (take i ss) ps (get_or ss i d) p h m))
 
 -- the parts of each thread
-pub each_length : {X Y : Type 0} (R : X → Y → Type 0) (xs : List X) (ys : List Y) → AreEach R xs ys → length xs ≡ length ys
-each_length R [] [] h = refl
-each_length R [] (y ∷ ys) h = absurd h
-each_length R (x ∷ xs) [] h = absurd h
-each_length R (x ∷ xs) (y ∷ ys) h = ap (λ (n : ℕ). suc n) (each_length R xs ys h.1)
+pub each_length : {X Y : Type 0} (R : X → Y → Type 0) (xs : List X) (ys : List Y) → AllZip R xs ys → length xs ≡ length ys
+each_length R xs ys h = sym (AllZip-long R xs ys h)
 
-pub named_at : (rs : List (Vec Run Global)) (ss : List (Vec Sketch Global)) (i : ℕ) (r : Vec Run Global) (s : Vec Sketch Global) → AreEach NamesRuns rs ss → i < length rs → r ≡ get_or rs i r → s ≡ get_or ss i s → NamesRuns r s
+pub named_at : (rs : List (Vec Run Global)) (ss : List (Vec Sketch Global)) (i : ℕ) (r : Vec Run Global) (s : Vec Sketch Global) → AllZip NamesRuns rs ss → i < length rs → r ≡ get_or rs i r → s ≡ get_or ss i s → NamesRuns r s
 named_at [] ss i r s h lt er es = absurd (omega (arith, lt))
 named_at (x ∷ rs) [] i r s h lt er es = absurd h
 named_at (x ∷ rs) (y ∷ ss) zero r s h lt er es = subst (λ (a : Vec Run Global). NamesRuns a s) (sym er) (subst (λ (b : Vec Sketch Global). NamesRuns x b) (sym es) h.0)
 named_at (x ∷ rs) (y ∷ ss) (suc i) r s h lt er es = named_at rs ss i r s h.1 (omega (arith, lt)) er es
 
-threads_append : (t n : ℕ) (rs : List (Vec Run Global)) (ss : List (Vec Sketch Global)) (ts : List ThreadParts) (r : Vec Run Global) (s : Vec Sketch Global) (p : ThreadParts) → AreThreads t rs ss ts → n ≡ t + length rs → HasWritesOf p.writes s.items → AreEach (IsMade n r.items) s.items p.parts.items → AreThreads t (rs ++ r ∷ []) (ss ++ s ∷ []) (ts ++ p ∷ [])
-threads_append t n [] [] [] r s p h e w m = (w, subst (λ (k : ℕ). AreEach (IsMade k r.items) s.items p.parts.items) (first e) m, tt)
+threads_append : (t n : ℕ) (rs : List (Vec Run Global)) (ss : List (Vec Sketch Global)) (ts : List ThreadParts) (r : Vec Run Global) (s : Vec Sketch Global) (p : ThreadParts) → AreThreads t rs ss ts → n ≡ t + length rs → HasWritesOf p.writes s.items → AllZip (IsMade n r.items) s.items p.parts.items → AreThreads t (rs ++ r ∷ []) (ss ++ s ∷ []) (ts ++ p ∷ [])
+threads_append t n [] [] [] r s p h e w m = (w, subst (λ (k : ℕ). AllZip (IsMade k r.items) s.items p.parts.items) (first e) m, tt)
   where
     first : n ≡ t + 0 → n ≡ t
     first q = omega (arith, q)
@@ -275,7 +273,7 @@ threads_append t n (x ∷ rs) (y ∷ ss) (z ∷ ts) r s p h e w m = (h.0, h.1, t
     later : n ≡ t + suc (length rs) → n ≡ (t + 1) + length rs
     later q = omega (arith, q)
 
-pub threads_more : (rs : List (Vec Run Global)) (ss : List (Vec Sketch Global)) (i : ℕ) (ts us : List ThreadParts) (r : Vec Run Global) (s : Vec Sketch Global) (p : ThreadParts) → i < length rs → i < length ss → r ≡ get_or rs i r → s ≡ get_or ss i s → us ≡ ts ++ p ∷ [] → HasWritesOf p.writes s.items → AreEach (IsMade i r.items) s.items p.parts.items → AreThreads 0 (take i rs) (take i ss) ts → AreThreads 0 (take (i + 1) rs) (take (i + 1) ss) us
+pub threads_more : (rs : List (Vec Run Global)) (ss : List (Vec Sketch Global)) (i : ℕ) (ts us : List ThreadParts) (r : Vec Run Global) (s : Vec Sketch Global) (p : ThreadParts) → i < length rs → i < length ss → r ≡ get_or rs i r → s ≡ get_or ss i s → us ≡ ts ++ p ∷ [] → HasWritesOf p.writes s.items → AllZip (IsMade i r.items) s.items p.parts.items → AreThreads 0 (take i rs) (take i ss) ts → AreThreads 0 (take (i + 1) rs) (take (i + 1) ss) us
 threads_more rs ss i ts us r s p lr ls er es is w m h =
     subst (λ (l : List ThreadParts). AreThreads 0 (take (i + 1) rs) (take (i + 1) ss) l) (sym is)
     (subst (λ (l : List (Vec Run Global)). AreThreads 0 l (take (i + 1) ss) (ts ++ p ∷ [])) (sym (take_more rs i r lr ∙ ap (λ (q : Vec Run Global). take i rs ++ q ∷ []) (sym er)))

@@ -1,6 +1,6 @@
 -- Runs of threads as parts of candidates, and which of them are left out.
 use Rattle.std.specs.Prelude.{Vec, ℕ, ◌≡◌, ◌<◌, ◌≤◌, ◌+◌, ◌⊎◌, List, [], ◌∷◌, length, Option, Some, None, slice_get}
-use Rattle.std.specs.List.{flat_map}
+use Rattle.std.specs.List.{flat_map, AllZip}
 use Rattle.std.specs.declared.alloc.Global.{Global}
 use Rattle.thread_runs.specs.declared.value.Value.{Value}
 use Rattle.thread_runs.specs.declared.value.Value.TheVariants.{Address}
@@ -93,16 +93,9 @@ HasWrite (s ∷ ss) a b = HasKey s.writes a b ⊎ HasWrite ss a b
 abbrev pub IsUnread : KeySet → List Sketch → Type 0
 IsUnread initial cs = (a b : ℕ) × HasRead cs a b × (HasKey initial a b → ⊥) × (HasWrite cs a b → ⊥)
 
--- the same with lists
-abbrev pub AreEach : {X Y : Type 0} → (X → Y → Type 0) → List X → List Y → Type 0
-AreEach R [] [] = Unit {0}
-AreEach R [] (y ∷ ys) = ⊥
-AreEach R (x ∷ xs) [] = ⊥
-AreEach R (x ∷ xs) (y ∷ ys) = R x y × AreEach R xs ys
-
 -- the runs of each thread that stay: a combination with one that does not has a load that reads what is not stored
 pub record IsSifted (initial : KeySet) (old new : List (Vec Sketch Global)) : Type 0 where
-  pub some : AreEach (λ v w. AreSome v.items w.items) old new
+  pub some : AllZip (λ v w. AreSome v.items w.items) old new
   pub choices : (cs : List Sketch) → IsChoice old cs → IsChoice new cs ⊎ IsUnread initial cs
 
 -- the part is made of the run
@@ -127,5 +120,5 @@ NamesRuns runs sketches = AreBelow (length runs.items) sketches.items
 -- the parts of each thread, from this one on
 abbrev pub AreThreads : ℕ → List (Vec Run Global) → List (Vec Sketch Global) → List ThreadParts → Type 0
 AreThreads thread [] [] [] = Unit {0}
-AreThreads thread (r ∷ rs) (s ∷ ss) (t ∷ ts) = HasWritesOf t.writes s.items × AreEach (IsMade thread r.items) s.items t.parts.items × AreThreads (thread + 1) rs ss ts
+AreThreads thread (r ∷ rs) (s ∷ ss) (t ∷ ts) = HasWritesOf t.writes s.items × AllZip (IsMade thread r.items) s.items t.parts.items × AreThreads (thread + 1) rs ss ts
 AreThreads thread _ _ _ = ⊥

@@ -17,8 +17,12 @@ pairs xs ys = flat_map (λ x. map (λ y. (x, y)) ys) xs
 unfoldable pub candidates_of : Combination → List (List ℕ × List ℕ)
 candidates_of c = pairs (lists_of c.sources.items) (lists_of c.orders.items)
 
+-- one candidate: a combination of runs, the store that each load reads, and the order of the stores
+abbrev pub Candidate : Type 0
+Candidate = Combination × (List ℕ × List ℕ)
+
 -- those of combinations after one another, each with its combination
-abbrev pub candidates_in : List Combination → List (Combination × (List ℕ × List ℕ))
+abbrev pub candidates_in : List Combination → List Candidate
 candidates_in cs = flat_map (λ c. map (λ t. (c, t)) (candidates_of c)) cs
 
 -- what the registers of each thread hold at the end of its run

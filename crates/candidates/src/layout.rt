@@ -6,7 +6,8 @@ ghost use Rattle.thread_runs.specs.declared.value.Value.{Value};
 ghost use Rattle.thread_runs.specs.declared.run.Run.{Run};
 ghost use Rattle.thread_runs.specs.ValueSet.{IsSet};
 ghost use Rattle.candidates.specs.Keys.{HasKey, HasStore, IsKeyed, bit_of};
-ghost use Rattle.candidates.specs.Parts.{initial_from, AreSketches, HasWritesOf, AreBelow, IsMade, AreEach, NamesRuns, AreThreads};
+ghost use Rattle.candidates.specs.Parts.{initial_from, AreSketches, HasWritesOf, AreBelow, IsMade, NamesRuns, AreThreads};
+ghost use Rattle.std.specs.List.{AllZip};
 ghost use Rattle.candidates.specs.Layouts.{AreAllRuns, IsLaidOut};
 
 use crate::candidate::{Action, Event};
@@ -83,7 +84,7 @@ fn all_sketches(
     domain: &Domain,
     runs: &[Vec<Run>],
 ) -> Result<Vec<Vec<Sketch>>, AllocError>
-    ensures { IfOk result (λ v. AreEach (λ r s. AreSketches domain.now.values.items r.items s.items) runs.now v.items) }
+    ensures { IfOk result (λ v. AllZip (λ r s. AreSketches domain.now.values.items r.items s.items) runs.now v.items) }
 {
     let mut threads = Vec::with_capacity(alloc, runs.len())?;
     for thread in runs {
@@ -101,7 +102,7 @@ fn thread_parts(
 ) -> Result<ThreadParts, AllocError>
     requires { AreBelow (length runs.now) sketches.now }
     ensures writes { IfOk result (λ t. HasWritesOf t.writes sketches.now) }
-    ensures parts { IfOk result (λ t. AreEach (IsMade thread runs.now) sketches.now t.parts.items) }
+    ensures parts { IfOk result (λ t. AllZip (IsMade thread runs.now) sketches.now t.parts.items) }
 {
     let mut writes = KeySet::empty();
     join_writes(&mut writes, sketches);
@@ -117,7 +118,7 @@ fn all_parts(
     runs: &[Vec<Run>],
     sketches: &[Vec<Sketch>],
 ) -> Result<Vec<ThreadParts>, AllocError>
-    requires { AreEach NamesRuns runs.now sketches.now }
+    requires { AllZip NamesRuns runs.now sketches.now }
     ensures { IfOk result (λ v. AreThreads 0 runs.now sketches.now v.items) }
 {
     let mut threads = Vec::with_capacity(alloc, runs.len())?;

@@ -3,7 +3,8 @@
 ghost use Rattle.std.specs.Prelude.{ℕ, ◌≡◌, ◌<◌, ◌++◌, List, [], ◌∷◌, Option, length, IfOk};
 ghost use Rattle.candidates.specs.declared.candidate.Event.{Event};
 ghost use Rattle.candidates.specs.Keys.{IsWithin, AreKeys, bit_of};
-ghost use Rattle.candidates.specs.Parts.{action_in, part_events, AreSketches, AreKept, HasWritesOf, HasWritesOfAll, AreBelow, IsSifted, IsPartOf, IsMade, AreEach};
+ghost use Rattle.candidates.specs.Parts.{action_in, part_events, AreSketches, AreKept, HasWritesOf, HasWritesOfAll, AreBelow, IsSifted, IsPartOf, IsMade};
+ghost use Rattle.std.specs.List.{AllZip};
 
 use crate::candidate::{Action, Event};
 use crate::keys::KeySet;
@@ -203,7 +204,7 @@ pub fn parts(
     sketches: &[Sketch],
 ) -> Result<Vec<Part>, AllocError>
     requires { AreBelow (length runs.now) sketches.now }
-    ensures { IfOk result (λ v. AreEach (IsMade thread runs.now) sketches.now v.items) }
+    ensures { IfOk result (λ v. AllZip (IsMade thread runs.now) sketches.now v.items) }
 {
     let mut parts = Vec::with_capacity(alloc, sketches.len())?;
     for sketch in sketches {

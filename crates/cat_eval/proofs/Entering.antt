@@ -11,8 +11,8 @@ use Rattle.candidates.specs.declared.candidate.Combination.{Combination}
 use Rattle.base_env.specs.Known.{Known, set_names}
 use Rattle.base_env.specs.Candidate.{Gives}
 use Rattle.candidates.specs.Lists.{lists_of}
-use Rattle.candidates.specs.Space.{pairs, candidates_of, candidates_in}
-use Rattle.cat_eval.specs.Candidates.{Candidate, reading_so, reading_in, of_combinations}
+use Rattle.candidates.specs.Space.{pairs, candidates_of, candidates_in, Candidate}
+use Rattle.cat_eval.specs.Candidates.{reading_so, reading_in, of_combinations}
 use Rattle.cat_values.specs.declared.predefined.Predefined.{Predefined}
 use Rattle.cat_values.specs.PredefinedNames.{is_set}
 use Rattle.cat_eval.specs.Needed.{AreListed}

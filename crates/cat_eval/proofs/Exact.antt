@@ -14,7 +14,7 @@ use Rattle.binding_graph.specs.Trees.{SetTree, RelTree, set_code, rel_code}
 use Rattle.cat_values.specs.declared.predefined.Predefined.{Predefined}
 use Rattle.base_env.specs.Known.{Known}
 use Rattle.cat_eval.specs.declared.column.Column.{Column}
-use Rattle.cat_eval.specs.Candidates.{Candidate}
+use Rattle.candidates.specs.Space.{Candidate}
 use Rattle.cat_eval.specs.Columns.{HaveValues, AreColumns}
 use Rattle.cat_eval.specs.Executions.{events_of, EventsAt, PairsAt}
 use Rattle.cat_eval.specs.Held.{IsHeldAnswer, AreHeldAnswers, IsHeldMeaning, HaveHeldValues, AreHeldColumns}

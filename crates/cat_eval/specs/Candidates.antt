@@ -3,12 +3,9 @@ use Rattle.std.specs.Prelude.{ℕ, List, length, map, Vec}
 use Rattle.std.specs.List.{flat_map}
 use Rattle.std.specs.declared.alloc.Global.{Global}
 use Rattle.candidates.specs.declared.candidate.Combination.{Combination}
+use Rattle.candidates.specs.Space.{Candidate}
 use Rattle.binding_graph.specs.declared.resolved.Role.{Role}
 use Rattle.binding_graph.specs.declared.resolved.Role.TheVariants as roles
-
--- one candidate: a combination of runs, the store that each load reads, and the order of the stores
-abbrev pub Candidate : Type 0
-Candidate = Combination × (List ℕ × List ℕ)
 
 -- the candidates of a combination that read so, one for each order
 abbrev pub reading_so : Combination → List ℕ → List (Vec ℕ Global) → List Candidate

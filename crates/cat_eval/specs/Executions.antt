@@ -5,7 +5,7 @@ use Rattle.binding_graph.specs.declared.resolved.Source.{Source}
 use Rattle.binding_graph.specs.declared.resolved.Source.TheVariants as sources
 use Rattle.base_env.specs.Candidate.{SetIn, RelationIn}
 use Rattle.cat_eval.specs.declared.column.Column.{Column}
-use Rattle.cat_eval.specs.Candidates.{Candidate}
+use Rattle.candidates.specs.Space.{Candidate}
 use Rattle.cat_eval.specs.Named.{InputEvents, InputPairs}
 
 -- over how many of its events: all, where there are at most 128

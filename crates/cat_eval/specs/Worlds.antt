@@ -5,7 +5,7 @@ use Rattle.cat_values.specs.PredefinedNames.{is_set}
 use Rattle.candidates.specs.declared.candidate.Combination.{Combination}
 use Rattle.base_env.specs.Known.{Known, IsConsistent, set_names}
 use Rattle.base_env.specs.Candidate.{IsEntered, IsReading, IsOrdered, Gives}
-use Rattle.cat_eval.specs.Candidates.{Candidate}
+use Rattle.candidates.specs.Space.{Candidate}
 
 -- what these names need is held: the sets among them, and what the relations among them are made of
 pub record AreHeld (names : List Predefined) (base : Known) : Type 0 where

@@ -17,11 +17,11 @@ use Rattle.std.proofs.lemmas.Map.Views.{Contains-from_any}
 use Rattle.litmus_values.specs.declared.test.Condition.{Condition}
 use Rattle.litmus_values.specs.declared.test.Place.{Place}
 use Rattle.litmus_values.specs.Value.{Formula, formula_of}
-use Rattle.candidates.specs.Space.{candidates_in}
+use Rattle.candidates.specs.Space.{candidates_in, Candidate}
 use Rattle.candidates.specs.declared.candidate.Space.{Space}
 use Rattle.verdict.specs.Compiled.{value_of, Shows, Means}
 use Rattle.verdict.specs.Counting.{count_kept, tally, AreAbove}
-use Rattle.verdict.specs.Evaluated.{Candidate, kept_of, number_that, is_satisfied, values_of, IsWorded, IsCounted, Says}
+use Rattle.verdict.specs.Evaluated.{kept_of, number_that, is_satisfied, values_of, IsWorded, IsCounted, Says}
 use Rattle.verdict.specs.Final.{final_value, final_state}
 use Rattle.verdict.specs.Judgement.{is_same, total_of, IsJudged}
 use Rattle.verdict.specs.Kept.{holds_at, is_kept, holds_on_some, names_of, raised_names}

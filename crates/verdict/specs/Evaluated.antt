@@ -7,8 +7,7 @@ use Rattle.litmus_values.specs.declared.test.Condition.{Condition}
 use Rattle.litmus_values.specs.declared.test.Place.{Place}
 use Rattle.litmus_values.specs.Value.{Formula, formula_of}
 use Rattle.litmus_printing.specs.Printing.{condition_text}
-use Rattle.candidates.specs.Space.{candidates_in}
-use Rattle.candidates.specs.declared.candidate.Combination.{Combination}
+use Rattle.candidates.specs.Space.{candidates_in, Candidate}
 use Rattle.candidates.specs.declared.candidate.Space.{Space}
 use Rattle.verdict.specs.declared.answer.CountedState.{CountedState}
 use Rattle.verdict.specs.declared.answer.Evaluation.{Evaluation}
@@ -27,10 +26,6 @@ use Rattle.verdict.specs.Meaning.{satisfies, places_of}
 use Rattle.verdict.specs.Order.{state_cmp, is_state}
 use Rattle.verdict.specs.Shown.{AreShown}
 use Rattle.verdict.specs.Text.{state_text}
-
--- a candidate: a combination, and a way to read with an order of the stores
-abbrev pub Candidate : Type 0
-Candidate = Combination × (List ℕ × List ℕ)
 
 -- the candidates that the checks keep, each with its place
 abbrev pub kept_of : Space → List (Vec Bool Global) → List (ℕ × Candidate)

@@ -6,6 +6,7 @@ use Rattle.candidates.specs.declared.candidate.Action.{Action}
 use Rattle.candidates.specs.declared.candidate.Action.TheVariants as actions
 use Rattle.candidates.specs.declared.candidate.Combination.{Combination}
 use Rattle.candidates.specs.declared.candidate.Space.{Space}
+use Rattle.candidates.specs.Space.{Candidate}
 use Rattle.thread_runs.specs.declared.value.Value.{Value}
 use Rattle.thread_runs.specs.declared.value.Value.TheVariants as held
 use Rattle.verdict.specs.declared.answer.FinalValue.{FinalValue}
@@ -48,5 +49,5 @@ final_value space c order (shown.Register thread register) = value_shown (final_
 final_value space c order (shown.Location location) = value_shown (final_word c order location)
 
 -- the state over these places in which a candidate ends: a combination, and a way to read with an order of the stores
-abbrev pub final_state : Space → List ShownPlace → Combination × (List ℕ × List ℕ) → List FinalValue
+abbrev pub final_state : Space → List ShownPlace → Candidate → List FinalValue
 final_state space places x = map (final_value space x.0 x.1.1) places

@@ -2,7 +2,8 @@ use Rattle.std.proofs.Common.{ℕ, List, Vec, ◌≡◌, take, length, arith, ap
 use Rattle.std.proofs.Math.Seq.{take-length}
 use Rattle.std.specs.declared.alloc.Global.{Global}
 use Rattle.thread_runs.specs.declared.run.Run.{Run}
-use Rattle.candidates.specs.Parts.{NamesRuns, AreBelow, HasWritesOf, AreEach, IsMade, AreThreads}
+use Rattle.candidates.specs.Parts.{NamesRuns, AreBelow, HasWritesOf, IsMade, AreThreads}
+use Rattle.std.specs.List.{AllZip}
 use Rattle.candidates.specs.declared.part.Sketch.{Sketch}
 use Rattle.candidates.proofs.Parting.{each_length, named_at, threads_more}
 use Rattle.candidates.proofs.layout.all_parts.Goals as goal
@@ -18,7 +19,7 @@ loop-thread-preserved c =
     let e : length c.args.runs.now ≡ length c.args.sketches.now = each_length NamesRuns c.args.runs.now c.args.sketches.now c.requires in
     threads_more c.args.runs.now c.args.sketches.now c.loop-thread.thread c.loop-thread.threads.items c.push.new.self.items c.index-runs-thread.result c.index-sketches-thread.result c.in_ok-thread_parts.field-0 (omega arith) (omega arith) c.index-runs-thread.is c.index-sketches-thread.is c.in_ok-push.ensures.items
     (subst (λ (l : List Sketch). HasWritesOf c.in_ok-thread_parts.field-0.writes l) c.deref-in-loop-thread.ensures.value c.in_ok-thread_parts.ensures.writes)
-    (subst (λ (l : List Run). AreEach (IsMade c.loop-thread.thread l) c.index-sketches-thread.result.items c.in_ok-thread_parts.field-0.parts.items) c.deref.ensures.value (subst (λ (l : List Sketch). AreEach (IsMade c.loop-thread.thread c.deref.result.now) l c.in_ok-thread_parts.field-0.parts.items) c.deref-in-loop-thread.ensures.value c.in_ok-thread_parts.ensures.parts))
+    (subst (λ (l : List Run). AllZip (IsMade c.loop-thread.thread l) c.index-sketches-thread.result.items c.in_ok-thread_parts.field-0.parts.items) c.deref.ensures.value (subst (λ (l : List Sketch). AllZip (IsMade c.loop-thread.thread c.deref.result.now) l c.in_ok-thread_parts.field-0.parts.items) c.deref-in-loop-thread.ensures.value c.in_ok-thread_parts.ensures.parts))
     c.loop-thread.invariant
 
 pub returns : goal.returns

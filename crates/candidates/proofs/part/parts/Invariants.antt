@@ -1,6 +1,7 @@
 use Rattle.std.proofs.Common.{take}
-use Rattle.candidates.specs.Parts.{AreEach, IsMade}
+use Rattle.candidates.specs.Parts.{IsMade}
+use Rattle.std.specs.List.{AllZip}
 use Rattle.candidates.proofs.part.parts.Given as goal
 
 abbrev pub invariant-loop-sketch : goal.invariant-loop-sketch
-invariant-loop-sketch l = AreEach (IsMade l.thread l.runs) (take l.sketch-index l.sketches) l.parts.items
+invariant-loop-sketch l = AllZip (IsMade l.thread l.runs) (take l.sketch-index l.sketches) l.parts.items

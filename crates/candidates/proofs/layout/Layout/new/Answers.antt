@@ -3,7 +3,8 @@ use Rattle.std.specs.declared.alloc.Global.{Global}
 use Rattle.thread_runs.specs.declared.value.Value.{Value}
 use Rattle.thread_runs.specs.declared.run.Run.{Run}
 use Rattle.candidates.specs.Keys.{HasKey, HasStore, bit_of}
-use Rattle.candidates.specs.Parts.{AreSome, initial_from, AreEach, NamesRuns, AreThreads}
+use Rattle.candidates.specs.Parts.{AreSome, initial_from, NamesRuns, AreThreads}
+use Rattle.std.specs.List.{AllZip}
 use Rattle.candidates.specs.declared.candidate.Event.{Event}
 use Rattle.candidates.specs.declared.part.Sketch.{Sketch}
 use Rattle.candidates.proofs.Parting.{each_length}
@@ -21,7 +22,7 @@ all_parts-requires c =
     let sketched : AllSketches c.args.domain.now.values.items c.in_ok-runs.runs.items c.deref_mut.result.now =
     subst (λ (l : List (Vec Sketch Global)). AllSketches c.args.domain.now.values.items c.in_ok-runs.runs.items l) (sym em) (subst (λ (l : List (Vec Run Global)). AllSketches c.args.domain.now.values.items l c.in_ok-sketches.sketches.items) e4 made) in
     let facts : AllFacts c.args.domain.now.values.items c.in_ok-runs.runs.items c.sift.new.threads = all_facts c.args.domain.now.values.items c.in_ok-runs.runs.items c.deref_mut.result.now c.sift.new.threads sketched c.sift.ensures.some in
-    subst (λ (l : List (Vec Run Global)). AreEach NamesRuns l c.deref-6.result.now) (sym e5) (subst (λ (l : List (Vec Sketch Global)). AreEach NamesRuns c.in_ok-runs.runs.items l) (sym e6) (all_named c.args.domain.now.values.items c.in_ok-runs.runs.items c.sift.new.threads facts))
+    subst (λ (l : List (Vec Run Global)). AllZip NamesRuns l c.deref-6.result.now) (sym e5) (subst (λ (l : List (Vec Sketch Global)). AllZip NamesRuns c.in_ok-runs.runs.items l) (sym e6) (all_named c.args.domain.now.values.items c.in_ok-runs.runs.items c.sift.new.threads facts))
 
 pub returns : goal.returns
 returns c =
