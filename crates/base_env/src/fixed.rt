@@ -8,7 +8,7 @@ ghost use Rattle.base_env.specs.Names.{Fixed};
 use bit_relations::Rel;
 use candidates::{Action, Combination, Event};
 use cat_values::Predefined;
-use litmus_ppc::Fence;
+use litmus_values::Fence;
 
 /// Adds a pair of events, if the relation can have it.
 pub fn put(place: &mut Rel, from: usize, to: usize)

@@ -8,7 +8,7 @@ use crate::fixed::is_access;
 use bit_relations::EventSet;
 use candidates::{Action, Event};
 use cat_values::Predefined;
-use litmus_ppc::Fence;
+use litmus_values::Fence;
 
 /// Whether an event is in a predefined set; no event is in a name that is no set.
 fn is_member(name: Predefined, event: &Event) -> bool

@@ -2,7 +2,7 @@
 ghost use Rattle.std.specs.Prelude.{◌≡◌, ◌-◌, ◌^◌, ◌<◌, ◌≤◌, ◌↔◌, min, length, IsTrue, IfOk, IfSome, IfNone, HoldsAt};
 ghost use Rattle.candidates.specs.Space.{candidates_of, candidates_in, registers_at, IsExecution};
 
-use litmus_ppc::Fence;
+use litmus_values::Fence;
 use ppc_semantics::Value;
 use source_text::Name;
 use std::alloc::{AllocError, Global};

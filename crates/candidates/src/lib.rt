@@ -23,7 +23,7 @@ mod search;
 pub use candidate::{Action, Combination, Event, Execution, Space};
 pub use dataflow::laws;
 use layout::{Layout, registers};
-use litmus_ppc::Test;
+use litmus_values::Test;
 use orders::with_orders;
 use ppc_semantics::{EvalRefusal, SpaceFault, domain_of, program};
 use search::search;

@@ -18,9 +18,9 @@ ghost use Rattle.memo_graph.specs.Cell.{IsSaid, IsCell, IsEvaluationBy, IsEvalua
 use binding_graph::{CheckCode, Input, ResolveFault, Resolved, ResolvedItem, Role, resolve, used};
 use candidates::{Space, space};
 use cat_eval::{Column, eval_check, eval_group};
-use cat_syntax::ModelText;
-use cat_values::PREDEFINED;
-use litmus_ppc::{Test, print_condition};
+use cat_values::{ModelText, PREDEFINED};
+use litmus_printing::print_condition;
+use litmus_values::Test;
 use ppc_semantics::SpaceFault;
 use source_text::Name;
 use std::alloc::{AllocError, Global};

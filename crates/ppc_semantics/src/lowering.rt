@@ -6,7 +6,7 @@ ghost use Rattle.litmus_values.specs.Value.{formula_of};
 ghost use Rattle.ppc_semantics.specs.Domain.{AreProper};
 ghost use Rattle.ppc_semantics.specs.Lowering as low;
 
-use litmus_ppc::{InitEntry, Instruction as Written, Place, Proposition, Step, Test, Thread};
+use litmus_values::{InitEntry, Instruction as Written, Place, Proposition, Step, Test, Thread};
 use source_text::Name;
 use std::alloc::{AllocError, Global};
 use std::cmp::Ordering;
@@ -74,15 +74,15 @@ fn note_place(alloc: Global, names: &mut Vec<Name>, place: &Place) -> Result<(),
 fn note_value(
     alloc: Global,
     names: &mut Vec<Name>,
-    value: &litmus_ppc::Value,
+    value: &litmus_values::Value,
 ) -> Result<(), AllocError>
     requires { AllPairs low.IsBefore names.old.items }
     ensures rising { AllPairs low.IsBefore names.new.items }
     ensures noted { OnOk result (low.Adds (low.value_names value.now) names.old.items names.new.items) }
 {
     match value {
-        litmus_ppc::Value::Address(name) => note(alloc, names, name),
-        litmus_ppc::Value::Number(_) => Ok(()),
+        litmus_values::Value::Address(name) => note(alloc, names, name),
+        litmus_values::Value::Number(_) => Ok(()),
     }
 }
 
@@ -91,7 +91,7 @@ fn note_both(
     alloc: Global,
     names: &mut Vec<Name>,
     place: &Place,
-    value: &litmus_ppc::Value,
+    value: &litmus_values::Value,
 ) -> Result<(), AllocError>
     requires { AllPairs low.IsBefore names.old.items }
     ensures rising { AllPairs low.IsBefore names.new.items }
@@ -159,13 +159,13 @@ fn locations_of(alloc: Global, test: &Test) -> Result<Vec<Name>, AllocError>
 }
 
 /// The value, with an address by the number of its location.
-fn value_of(locations: &[Name], value: &litmus_ppc::Value) -> Value
+fn value_of(locations: &[Name], value: &litmus_values::Value) -> Value
     requires { AllPairs low.IsBefore locations.now }
     ensures { result ≡ low.value_of locations.now value.now }
 {
     match value {
-        litmus_ppc::Value::Number(n) => Value::Number(n.cast_unsigned()),
-        litmus_ppc::Value::Address(name) => Value::Address(number_of(locations, name)),
+        litmus_values::Value::Number(n) => Value::Number(n.cast_unsigned()),
+        litmus_values::Value::Address(name) => Value::Address(number_of(locations, name)),
     }
 }
 

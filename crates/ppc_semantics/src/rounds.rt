@@ -13,7 +13,7 @@ ghost use Rattle.ppc_semantics.specs.Lowering as low;
 
 use crate::fault::{EvalRefusal, SpaceFault};
 use crate::lowering::program;
-use litmus_ppc::Test;
+use litmus_values::Test;
 use std::alloc::{AllocError, Global};
 use thread_runs::{
     Domain, Instruction, Line, MANY, MAX_VALUES, Program, State, Value, add_stored, add_value,

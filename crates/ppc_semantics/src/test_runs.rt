@@ -5,7 +5,7 @@ ghost use Rattle.thread_runs.specs.Runs.{IsLess};
 ghost use Rattle.ppc_semantics.specs.Lowering as low;
 
 use crate::lowering::program;
-use litmus_ppc::Test;
+use litmus_values::Test;
 use std::alloc::{AllocError, Global};
 use thread_runs::{Domain, Run, runs_of};
 

@@ -1,8 +1,9 @@
 //! Outcomes.
 
 use binding_graph::ModelFault;
-use litmus_ppc::{Name, Quantifier};
+use litmus_values::Quantifier;
 use ppc_semantics::EvalRefusal;
+use source_text::Name;
 
 /// What a register or a location holds at the end. Numbers come first, rising, then addresses, by
 /// the places of their locations among those of the test, sorted by name bytes.

@@ -9,7 +9,7 @@ ghost use Rattle.verdict.specs.Order.{is_place};
 
 use crate::answer::FinalValue;
 use crate::shown_place::{ShownPlace, location_of, shown_place};
-use litmus_ppc::{Connective, Place, Proposition, Value};
+use litmus_values::{Connective, Place, Proposition, Value};
 use source_text::Name;
 use std::alloc::{AllocError, Global};
 

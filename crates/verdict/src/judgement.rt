@@ -15,7 +15,8 @@ use crate::formula::{Formula, formula_over, satisfies};
 use crate::shown_place::{ShownPlace, shown_places};
 use crate::state_text::state_text;
 use candidates::Space;
-use litmus_ppc::{Condition, Place, Quantifier, print_condition};
+use litmus_printing::print_condition;
+use litmus_values::{Condition, Place, Quantifier};
 use source_text::Name;
 use std::alloc::{AllocError, Global};
 

@@ -5,7 +5,7 @@ ghost use Rattle.litmus_values.specs.Value.{formula_of};
 ghost use Rattle.verdict.specs.Meaning.{location_of, known_place, places_of};
 ghost use Rattle.verdict.specs.Shown.{known_places, Adds, AreShown};
 
-use litmus_ppc::{Place, Proposition};
+use litmus_values::{Place, Proposition};
 use source_text::Name;
 use std::alloc::{AllocError, Global};
 use std::collections::BTreeSet;

@@ -7,7 +7,8 @@ ghost use Rattle.verdict.specs.Text.{name_at, place_of, value_text, held_text, s
 
 use crate::answer::FinalValue;
 use crate::shown_place::ShownPlace;
-use litmus_ppc::{Value, put_value};
+use litmus_printing::put_value;
+use litmus_values::Value;
 use source_text::{Name, put_bytes, put_decimal};
 use std::alloc::{AllocError, Global};
 
