@@ -1,4 +1,4 @@
--- What a text means, without where it lies in memory.
+-- What a test means, without its layout in memory: `content_of` is the meaning of a test, `Formula` of a proposition.
 use Rattle.std.specs.Prelude.{ℕ, List, map, Bool}
 use Rattle.litmus_values.specs.declared.test.Place.{Place}
 use Rattle.litmus_values.specs.declared.test.Value as declared_value

@@ -3,8 +3,8 @@
 use source_text::Name;
 use std::marker::Model;
 
-/// A register, `r0` to `r31`, which contracts see as its number.
-#[derive(Clone, Copy, Debug)]
+/// A register, `r0` to `r31`. Contracts see it as its number.
+#[derive(Clone, Copy)]
 pub struct Register {
     number: u8,
 }
@@ -24,7 +24,7 @@ impl Model for Register {
 impl Register {
     ghost use Rattle.std.specs.Prelude.{◌≡◌, ◌<◌};
 
-    /// The register of this number, which is below 32.
+    /// The register of this number. Callers give a number below 32.
     pub fn new(number: u8) -> Register
         requires { number < 32 }
         ensures { result ≡ number }
@@ -41,23 +41,23 @@ impl Register {
     }
 }
 
-/// What is computed of two registers.
-#[derive(Clone, Copy, Debug, PartialEq, Eq)]
+/// An operation on two registers of 32 bits.
+#[derive(Clone, Copy, PartialEq, Eq)]
 pub enum Operation {
-    /// The sum, which wraps (`add`).
+    /// The sum, modulo 2^32 (`add`).
     Add,
-    /// The second operand less the first, which wraps (`subf`).
+    /// The second operand less the first, modulo 2^32 (`subf`).
     SubtractFrom,
-    /// Exclusive or of each bit (`xor`).
+    /// Bitwise exclusive or (`xor`).
     Xor,
-    /// Or of each bit (`or`).
+    /// Bitwise or (`or`).
     Or,
-    /// And of each bit (`and`).
+    /// Bitwise and (`and`).
     And,
 }
 
-/// When a conditional branch is taken: by what the last comparison, if any, found of its first operand.
-#[derive(Clone, Copy, Debug, PartialEq, Eq)]
+/// When a conditional branch is taken: what the last comparison found of its first operand.
+#[derive(Clone, Copy, PartialEq, Eq)]
 pub enum BranchCondition {
     /// It equals the second (`beq`).
     Equal,
@@ -73,29 +73,29 @@ pub enum BranchCondition {
     GreaterOrEqual,
 }
 
-/// A barrier instruction (Power ISA, book II, storage control instructions).
-#[derive(Clone, Copy, Debug, PartialEq, Eq)]
+/// A fence (Power ISA, book II, storage control instructions).
+#[derive(Clone, Copy, PartialEq, Eq)]
 pub enum Fence {
-    /// The full barrier (`sync`).
+    /// The full fence (`sync`).
     Sync,
-    /// The lighter barrier, which lets a store be passed by later loads (`lwsync`).
+    /// The lightweight fence, which does not order a store before a later load (`lwsync`).
     LightweightSync,
-    /// The barrier between stores (`eieio`).
+    /// The fence between stores (`eieio`).
     Eieio,
-    /// The barrier that waits for earlier branches (`isync`).
+    /// The fence behind branches (`isync`).
     Isync,
 }
 
 /// An instruction of a thread (Power ISA, book I, branch and fixed-point instructions; the herd7
 /// manual, chapter on litmus tests). Registers hold 32 bits here.
-#[derive(Debug, Drop)]
+#[derive(Drop)]
 pub enum Instruction {
     /// Sets a register to a number (`li`).
     LoadImmediate {
         target: Register,
         value: i32,
     },
-    /// Sets a register to what another holds (`mr`).
+    /// Sets a register to the value of another (`mr`).
     Move {
         target: Register,
         source: Register,
@@ -106,7 +106,7 @@ pub enum Instruction {
         left: Register,
         value: i32,
     },
-    /// Sets a register to what is computed of two others (`add`, `subf`, `xor`, `or`, `and`).
+    /// Sets a register to the result of an operation on two others (`add`, `subf`, `xor`, `or`, `and`).
     Compute {
         operation: Operation,
         target: Register,
@@ -145,7 +145,7 @@ pub enum Instruction {
         left: Register,
         value: i32,
     },
-    /// Goes to a label if the last comparison found this.
+    /// Goes to a label if the last comparison satisfies the condition.
     BranchIf {
         condition: BranchCondition,
         label: Name,
@@ -154,6 +154,6 @@ pub enum Instruction {
     Branch {
         label: Name,
     },
-    /// A barrier.
+    /// A fence.
     Fence(Fence),
 }

@@ -1,4 +1,5 @@
-//! Litmus tests of Power: what the text of a test means.
+//! Litmus tests of Power as values: threads, instructions, initial values, conditions.
+//! Read specs/Value.antt first: it says what a test means, without its layout in memory.
 #![tactic(auto)]
 
 mod instruction;
@@ -8,6 +9,3 @@ pub use instruction::{BranchCondition, Fence, Instruction, Operation, Register};
 pub use test::{
     Condition, Connective, InitEntry, Place, Proposition, Quantifier, Step, Test, Thread, Value,
 };
-
-#[cfg(test)]
-mod tests;

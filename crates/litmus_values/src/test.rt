@@ -1,4 +1,4 @@
-//! What the text of a test means.
+//! Tests: threads, initial values and conditions.
 
 ghost use Rattle.std.specs.Prelude.{◌≡◌, ◌≤◌};
 ghost use Rattle.litmus_values.specs.Value.{level};
@@ -6,8 +6,8 @@ ghost use Rattle.litmus_values.specs.Value.{level};
 use crate::instruction::{Instruction, Register};
 use source_text::Name;
 
-/// What holds a value.
-#[derive(Debug, Drop)]
+/// A location in memory, or a register of a thread.
+#[derive(Drop)]
 pub enum Place {
     /// A location in memory, by its name.
     Location(Name),
@@ -15,8 +15,8 @@ pub enum Place {
     Register(usize, Register),
 }
 
-/// What a place holds.
-#[derive(Debug, Drop)]
+/// The value of a location or a register.
+#[derive(Drop)]
 pub enum Value {
     /// A number of 32 bits.
     Number(i32),
@@ -24,44 +24,44 @@ pub enum Value {
     Address(Name),
 }
 
-/// What a place holds at the start. Places that no entry names hold 0.
-#[derive(Debug, Drop)]
+/// The initial value of a location or a register. The initial value is 0 if no entry gives it.
+#[derive(Drop)]
 pub struct InitEntry {
-    /// A location or a register.
+    /// The location or the register.
     pub place: Place,
-    /// What it holds.
+    /// Its initial value.
     pub value: Value,
 }
 
-/// What stands in a thread, one below the other.
-#[derive(Debug, Drop)]
+/// A line of a thread: a label or an instruction.
+#[derive(Drop)]
 pub enum Step {
-    /// A label, to which branches of the same thread that stand before it can go.
+    /// A label, the target of branches of the same thread that stand before it.
     Label(Name),
     /// An instruction.
     Instruction(Instruction),
 }
 
 /// A thread: its labels and instructions in program order.
-#[derive(Debug, Drop)]
+#[derive(Drop)]
 pub struct Thread {
     /// Labels and instructions, in the order of the text.
     pub steps: Vec<Step>,
 }
 
-/// What a condition says of the final states of all executions that a model allows.
+/// Of which final states of the allowed executions a condition says that its proposition holds.
 #[derive(Clone, Copy, Debug, PartialEq, Eq)]
 pub enum Quantifier {
-    /// The proposition holds in one of them.
+    /// At least one of them, `exists`.
     Exists,
-    /// The proposition holds in none of them.
+    /// None of them, `~exists`.
     NotExists,
-    /// The proposition holds in each of them.
+    /// All of them, `forall`.
     Forall,
 }
 
 /// An operator that joins two propositions.
-#[derive(Clone, Copy, Debug, PartialEq, Eq)]
+#[derive(Clone, Copy, PartialEq, Eq)]
 pub enum Connective {
     /// Both hold, `/\`.
     And,
@@ -72,7 +72,7 @@ pub enum Connective {
 }
 
 impl Connective {
-    /// How tightly the operator binds, from 1 to 3; each groups to the right.
+    /// How tightly the operator binds: 1 the least, 3 the most. Each operator groups to the right.
     pub fn level(self) -> usize
         ensures value { result ≡ level self }
         ensures bound { result ≤ 3 }
@@ -86,39 +86,40 @@ impl Connective {
 }
 
 /// What a condition says of one final state.
-#[derive(Debug, Drop)]
+#[derive(Drop)]
 pub enum Proposition {
-    /// It holds in each state, or in none.
+    /// `true` or `false`.
     Constant(bool),
-    /// The place holds the value.
+    /// The location or the register has this value.
     Holds(Place, Value),
-    /// The proposition does not hold.
+    /// The negation.
     Not(Box<Proposition>),
-    /// What the operator says of the two.
+    /// Two propositions, joined by an operator.
     Joined(Connective, Box<Proposition>, Box<Proposition>),
 }
 
-/// What a test asks: a proposition on final states, and of which of them (the herd7 manual, chapter
-/// on litmus tests).
-#[derive(Debug, Drop)]
+/// The condition of a test: a quantifier over final states, and a proposition on one of them (the
+/// herd7 manual, chapter on litmus tests).
+#[derive(Drop)]
 pub struct Condition {
-    /// Of which final states it speaks.
+    /// Which final states satisfy the proposition.
     pub quantifier: Quantifier,
-    /// What it says of each.
+    /// The proposition on one final state.
     pub proposition: Proposition,
 }
 
 /// A litmus test (the herd7 manual, chapter on litmus tests).
-#[derive(Debug, Drop)]
+#[derive(Drop)]
 pub struct Test {
-    /// The name that the log is printed under.
+    /// The name of the test, as the log prints it.
     pub name: Name,
-    /// What places hold at the start, in the order of the text, each place at most once.
+    /// The initial values in the order of the text, at most one for each location or register.
     pub init: Vec<InitEntry>,
-    /// The threads, the first of them number 0.
+    /// The threads. The number of a thread is its index.
     pub threads: Vec<Thread>,
-    /// The places of `locations`, in the order of the text, with repeats: they are shown beside those of the condition.
+    /// The locations and registers of `locations`, in the order of the text, with repeats. A final state shows them
+    /// beside those of the condition.
     pub observed: Vec<Place>,
-    /// What the test asks.
+    /// The condition.
     pub condition: Condition,
 }

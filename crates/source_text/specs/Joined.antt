@@ -1,18 +1,18 @@
--- Texts put together.
+-- Texts put together: a list of texts with a separator between them, and parentheses around a text.
 use Rattle.std.specs.Prelude.{ℕ, zero, suc, List, [], ◌∷◌, ◌++◌, Bool, true, false, codes}
 
--- texts with a sign between them
+-- texts with a separator between them
 abbrev pub joined : List ℕ → List (List ℕ) → List ℕ
-joined sign [] = []
-joined sign (t ∷ []) = t
-joined sign (t ∷ u ∷ ts) = t ++ (sign ++ joined sign (u ∷ ts))
+joined separator [] = []
+joined separator (t ∷ []) = t
+joined separator (t ∷ u ∷ ts) = t ++ (separator ++ joined separator (u ∷ ts))
 
--- a sign before all but the first of a list
+-- the separator before the part of an index: none before the first
 abbrev pub between : List ℕ → ℕ → List ℕ
-between sign zero = []
-between sign (suc k) = sign
+between separator zero = []
+between separator (suc k) = separator
 
--- a text, in parentheses where they are wanted
+-- a text, in parentheses if they are wanted
 abbrev pub bracketed : Bool → List ℕ → List ℕ
 bracketed true text = codes "(" ++ (text ++ codes ")")
 bracketed false text = text

@@ -1,4 +1,4 @@
--- Where lines, strings and comments end.
+-- Where lines, strings and comments end. `quoted_length` and `comment_length` cite the last definitions of each.
 use Rattle.std.specs.Prelude.{ℕ, zero, suc, ◌+◌, ◌-◌, List, [], ◌∷◌, Bool, ◌||◌, ◌&&◌, ◌==◌, Option, Some, None, length, drop, slice_index, if◌then◌else◌}
 use Rattle.std.specs.List.{position_or_len}
 
@@ -11,12 +11,12 @@ is_line_end b = b == 10
 abbrev pub is_quote : ℕ → Bool
 is_quote b = b == 34
 
--- The length of a string that begins with its quote: the next quote ends it.
+-- The length of a string with both of its quotes: the next quote ends it.
 abbrev pub quoted_from : List ℕ → Option ℕ
 quoted_from [] = None
 quoted_from (b ∷ bs) = if position_or_len is_quote bs == length bs then None else Some (position_or_len is_quote bs + 2)
 
--- How many bytes a comment goes on for, where depth comments are open: each skip passes over a byte.
+-- The length of a comment of which n bytes are read, where depth comments are open; skip bytes are passed over.
 unfoldable pub comment_from : ℕ → ℕ → ℕ → List ℕ → Option ℕ
 comment_from skip depth n [] = None
 comment_from (suc skip) depth n (b ∷ bs) = comment_from skip depth (n + 1) bs
@@ -28,6 +28,6 @@ abbrev pub comment_through : Option ℕ → Option ℕ
 comment_through None = None
 comment_through (Some n) = Some (n + 2)
 
--- The length of a comment that begins with its two bytes.
+-- The length of a comment with both of its ends.
 abbrev pub comment_of : List ℕ → Option ℕ
 comment_of bytes = comment_through (comment_from 0 1 0 (drop 2 bytes))

@@ -1,4 +1,4 @@
--- Letters and digits.
+-- Which bytes are ASCII letters and decimal digits.
 use Rattle.std.specs.Prelude.{ℕ, Bool, ◌||◌, ◌&&◌, nat_le}
 
 abbrev pub is_letter : ℕ → Bool

@@ -14,7 +14,7 @@ pub fn is_blank(byte: u8) -> bool
     byte == b' ' || byte == b'\t' || byte == b'\r'
 }
 
-/// How many bytes stand before the first line feed, or in all where there is none.
+/// The number of bytes before the first line feed, or of all bytes if there is no line feed.
 pub fn line_length(bytes: &[u8]) -> usize
     ensures value { result ≡ position_or_len is_line_end bytes.now }
     ensures within { result ≤ length bytes.now }
@@ -25,8 +25,8 @@ pub fn line_length(bytes: &[u8]) -> usize
     }
 }
 
-/// The length of the string that the bytes begin with, from its first `"` through the next one, or `None` where it
-/// does not end. The first byte is taken for a `"`.
+/// The length of the string at the front of the bytes, in bytes, with both of its quotes; `None` if the string does
+/// not end. The first byte counts as the opening `"`, whatever it is.
 pub fn quoted_length(bytes: &[u8]) -> Option<usize>
     ensures value { result ≡ quoted_from bytes.now }
     ensures within { IfSome result (λ n. (2 ≤ n) × (n ≤ length bytes.now)) }
@@ -40,7 +40,7 @@ pub fn quoted_length(bytes: &[u8]) -> Option<usize>
     }
 }
 
-// How many bytes an open comment goes on for.
+// The number of bytes from behind the opening `(*` to the end of the comment.
 fn open_comment(bytes: &[u8]) -> Option<usize>
     ensures value { result ≡ comment_from 0 1 0 bytes.now }
     ensures within { IfSome result (λ n. n ≤ length bytes.now) }
@@ -66,8 +66,8 @@ fn open_comment(bytes: &[u8]) -> Option<usize>
     None
 }
 
-/// The length of the comment that the bytes begin with, from its `(*` through the `*)` that ends it, or `None` where
-/// it does not end. Comments nest. The first two bytes are taken for `(*`.
+/// The length of the comment at the front of the bytes, in bytes, with its `(*` and its `*)`; `None` if the comment
+/// does not end. Comments nest. The first two bytes count as the opening `(*`, whatever they are.
 pub fn comment_length(bytes: &[u8]) -> Option<usize>
     ensures value { result ≡ comment_of bytes.now }
     ensures within { IfSome result (λ n. (2 ≤ n) × (n ≤ length bytes.now)) }

@@ -1,4 +1,4 @@
-//! Bytes of a text: letters, digits, and the byte at a place.
+//! Bytes of a text: letters, digits, and the byte at an index.
 
 ghost use Rattle.std.specs.Prelude.{◌≡◌, ◌<◌, length, slice_index};
 ghost use Rattle.source_text.specs.Letters.{is_letter, is_digit};

@@ -1,4 +1,6 @@
-//! What the readers of tests and of models share: names, blanks, comments, strings and the limit of length.
+//! What the readers of tests and of models share: names, blanks, lines, strings, comments, numbers and
+//! the limit of length. Read specs/Layout.antt first. Other crates cite proofs/Separated.antt, which says
+//! that a list printed part by part is the list with a separator between its parts.
 #![tactic(auto)]
 
 mod layout;

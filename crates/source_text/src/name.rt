@@ -1,10 +1,10 @@
-//! Names.
+//! Names, as a text spells them.
 
 use std::alloc::{AllocError, Global};
 use std::marker::Model;
 
 /// A name, which contracts see as its bytes.
-#[derive(Debug, Drop)]
+#[derive(Drop)]
 pub struct Name {
     bytes: Vec<u8>,
 }
@@ -20,7 +20,7 @@ impl Model for Name {
 impl Name {
     ghost use Rattle.std.specs.Prelude.{◌≡◌, ◌↔◌, IfOk, IsTrue};
 
-    /// The name that these bytes spell. Errors: want of memory.
+    /// The name with these bytes. Errors: out of memory.
     pub fn new(alloc: Global, text: &[u8]) -> Result<Name, AllocError>
         ensures { IfOk result (λ n. n ≡ text.now) }
     {
@@ -36,14 +36,14 @@ impl Name {
         &self.bytes
     }
 
-    /// The name once more. Errors: want of memory.
+    /// A copy of the name. Errors: out of memory.
     pub fn copied(&self, alloc: Global) -> Result<Name, AllocError>
         ensures { IfOk result (λ n. n ≡ self.now) }
     {
         Name::new(alloc, &self.bytes)
     }
 
-    /// Whether both names are spelled alike.
+    /// Whether both names have the same bytes.
     pub fn is_same(&self, other: &Name) -> bool
         ensures { IsTrue result ↔ (self.now ≡ other.now) }
     {
