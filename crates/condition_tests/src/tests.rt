@@ -1,6 +1,6 @@
 //! Propositions whose meaning, or whose first token that cannot stand, is known.
 
-use litmus_conditions::{Fed, Hole, StepError, feed};
+use litmus_conditions::{Expectation, PropositionStep, StepError, proposition_step};
 use litmus_tokens::{Front, Stage, Token, front_of};
 use litmus_values::{Connective, Place, Proposition, Value};
 use source_text::{put_bytes, put_decimal};
@@ -34,18 +34,18 @@ fn token_at(
 fn read(alloc: Global, threads: usize, text: &[u8]) -> Result<Outcome, StepError> {
     let mut frames = Vec::new(alloc);
     let mut operators = 0;
-    let mut hole = Hole::Wants;
+    let mut expected = Expectation::Wants;
     let mut place: usize = 0;
     for _turn in 0..text.len().saturating_add(1) {
         let (found, length) = token_at(alloc, text, place)?;
         if let Some(token) = found {
-            match feed(alloc, threads, frames, operators, hole, token) {
-                Ok(Fed::Goes(now_open, used, was_read)) => {
+            match proposition_step(alloc, threads, frames, operators, expected, token) {
+                Ok(PropositionStep::Goes(now_open, used, was_read)) => {
                     frames = now_open;
                     operators = used;
-                    hole = was_read;
+                    expected = was_read;
                 }
-                Ok(Fed::Ends(proposition)) => return Ok(Outcome::Means(proposition)),
+                Ok(PropositionStep::Ends(proposition)) => return Ok(Outcome::Means(proposition)),
                 Err(StepError::Refused) => return Ok(Outcome::RefusedAt(place)),
                 Err(StepError::OutOfMemory) => return Err(StepError::OutOfMemory),
             }

@@ -1,9 +1,9 @@
 -- The machine takes what a tree spells.
 use Rattle.std.proofs.Common.{◌≡◌, ℕ, ◌+◌, ◌<◌, ◌≤◌, Bool, true, false, List, [], ◌∷◌, Option, Some, None, refl, sym, ap, ◌∙◌, arith}
-use Rattle.std.specs.Prelude.{nat_le, nat_lt, codes, if◌then◌else◌}
+use Rattle.std.specs.Prelude.{nat_lt, codes, if◌then◌else◌}
 use Rattle.std.specs.Str.{bytes_eq}
 use Rattle.std.proofs.lemmas.Slice.Eq.{bytes_eq-Decides}
-use Rattle.std.proofs.lemmas.Bool.Decides.{nat_tests}
+use Rattle.std.proofs.lemmas.Bool.{le-leb, lt-leb, lt-ltb}
 use Rattle.litmus_values.specs.declared.test.Place.{Place}
 use Rattle.litmus_values.specs.declared.test.Place.TheVariants as places
 use Rattle.litmus_values.specs.declared.test.Value as declared_value
@@ -14,11 +14,11 @@ use Rattle.litmus_tokens.specs.declared.token.Token.{Token}
 use Rattle.litmus_tokens.specs.declared.token.Token.TheVariants as tokens
 use Rattle.litmus_tokens.specs.declared.token.Mark.TheVariants as marks
 use Rattle.litmus_tokens.specs.Words.{register_of, is_known, or_zero}
-use Rattle.litmus_conditions.specs.declared.place.PlaceHole.TheVariants.{WantsColon}
+use Rattle.litmus_conditions.specs.declared.place.PlaceExpectation.TheVariants.{WantsColon}
 use Rattle.litmus_conditions.specs.declared.place.WrittenPlace.TheVariants as written
 use Rattle.litmus_conditions.specs.Grammar.{PlaceTree, Location, Register, ValueTree, Number, Address, spelled_place, spelled_value, place_meaning, value_meaning, IsPlace, HasThread, IsValue, FormulaTree, Word, Atom, Prefix, Pair, Group, constant_word, connective_token, spelled, meaning, tightness, IsGrouped, HasAtoms, depth, operators, Limits, IsProposition}
 use Rattle.litmus_conditions.specs.PlaceMachine.{register_ends, place_of}
-use Rattle.litmus_conditions.specs.ConditionMachine.{Frame, InGroup, InPrefix, LeftOf, Hole, Wants, HasConstant, HasNot, InPlace, WantsEquals, WantsValue, Has, Fed, Goes, Refuses, open_count, fold_to, word_hole, place_hole, in_place, operand, left_frames, closed, ended, atom_read, go_on, proposition}
+use Rattle.litmus_conditions.specs.ConditionMachine.{Frame, InGroup, InPrefix, LeftOf, Expectation, Wants, HasConstant, HasNot, InPlace, WantsEquals, WantsValue, Has, StepResult, Goes, Refuses, open_count, fold_to, expected_after_word, expected_after_place, in_place, operand, left_frames, closed, ended, atom_read, go_on, proposition}
 use Rattle.litmus_conditions.proofs.Branches.{level-le}
 use Rattle.litmus_conditions.proofs.Places.{place_of_written, value_taken}
 
@@ -36,21 +36,12 @@ wanted (InGroup ∷ fs) = 0
 wanted (InPrefix ∷ fs) = 4
 wanted (LeftOf op a ∷ fs) = level op
 
-le_true : (l n : ℕ) → l ≤ n → nat_le l n ≡ true
-le_true l n h = grind (arith, nat_tests)
-
-gt_false : (l n : ℕ) → n < l → nat_le l n ≡ false
-gt_false l n h = grind (arith, nat_tests)
-
-lt_is_true : (l n : ℕ) → l < n → nat_lt l n ≡ true
-lt_is_true l n h = grind (arith, nat_tests)
-
 fold_pending : (t : FormulaTree) (fs : List Frame) (l : ℕ) → IsGrouped t → l ≤ tightness t → fold_to l (pending t fs).0 (pending t fs).1 ≡ fold_to l fs (meaning t)
 fold_pending (Word b) fs l g h = refl
 fold_pending (Atom p v) fs l g h = refl
 fold_pending (Prefix tilde a) fs l g h = fold_pending a (InPrefix ∷ fs) l g.1 (omega (arith, g.0))
 fold_pending (Pair op a b) fs l g h =
-    let e = le_true l (level op) h in
+    let e = le-leb l (level op) h in
     fold_pending b (LeftOf op (meaning a) ∷ fs) l g.3 (omega (arith, g.1)) ∙ ap (λ (x : Bool). if x then fold_to l fs (Join op (meaning a) (meaning b)) else (LeftOf op (meaning a) ∷ fs, meaning b)) e
 fold_pending (Group a) fs l g h = refl
 
@@ -60,7 +51,7 @@ fold_stays op [] v h = refl
 fold_stays op (InGroup ∷ fs) v h = refl
 fold_stays op (InPrefix ∷ fs) v h = let e = level-le op in absurd (omega arith)
 fold_stays op (LeftOf o a ∷ fs) v h =
-    ap (λ (x : Bool). if x then fold_to (level op + 1) fs (Join o a v) else (LeftOf o a ∷ fs, v)) (gt_false (level op + 1) (level o) (omega arith))
+    ap (λ (x : Bool). if x then fold_to (level op + 1) fs (Join o a v) else (LeftOf o a ∷ fs, v)) (lt-leb (level op + 1) (level o) (omega arith))
 
 joins_pending : (op : Connective) (a : FormulaTree) (fs : List Frame) → IsGrouped a → level op + 1 ≤ tightness a → wanted fs ≤ level op → left_frames op (fold_to (level op + 1) (pending a fs).0 (pending a fs).1) ≡ LeftOf op (meaning a) ∷ fs
 joins_pending op a fs g h w = ap (left_frames op) (fold_pending a fs (level op + 1) g h ∙ fold_stays op fs (meaning a) w)
@@ -76,14 +67,14 @@ connective_follows connectives.Or ts = tt
 connective_follows connectives.Implies ts = tt
 
 module _ (most : Limits) (threads : ℕ) where
-  abbrev pub run : List Frame → ℕ → Hole → List Token → Option Formula
-  run fs used hole ts = proposition most threads fs used hole ts
+  abbrev pub run : List Frame → ℕ → Expectation → List Token → Option Formula
+  run fs used expected ts = proposition most threads fs used expected ts
 
-  abbrev pub from : Fed → List Token → Option Formula
+  abbrev pub from : StepResult → List Token → Option Formula
   from x ts = go_on (λ gs u k. proposition most threads gs u k ts) ts x
 
-  opened_run : (next : Fed) (fs : List Frame) (ts : List Token) → open_count fs < most.nesting → from (if nat_lt (open_count fs) most.nesting then next else Refuses) ts ≡ from next ts
-  opened_run next fs ts lt = ap (λ (x : Bool). from (if x then next else Refuses) ts) (lt_is_true _ _ lt)
+  opened_run : (next : StepResult) (fs : List Frame) (ts : List Token) → open_count fs < most.nesting → from (if nat_lt (open_count fs) most.nesting then next else Refuses) ts ≡ from next ts
+  opened_run next fs ts lt = ap (λ (x : Bool). from (if x then next else Refuses) ts) (lt-ltb _ _ lt)
 
   -- a word before no equals sign is no location
   word_drop : (b : Bool) (fs : List Frame) (used : ℕ) (rest : List Token) → CanFollow rest → run fs used (HasConstant b) rest ≡ run fs used (Has (Constant b)) rest
@@ -109,7 +100,7 @@ module _ (most : Limits) (threads : ℕ) where
   not_operand (Group a) fs used rest lt = not_token (tokens.Mark marks.Open) fs used (spelled a (tokens.Mark marks.Close ∷ rest)) tt lt
 
   -- a word before an equals sign is a location
-  named_run : (w : List ℕ) (fs : List Frame) (used : ℕ) (rest : List Token) → run fs used (word_hole w) (tokens.Mark marks.Equals ∷ rest) ≡ run fs used (WantsValue (places.Location w)) rest
+  named_run : (w : List ℕ) (fs : List Frame) (used : ℕ) (rest : List Token) → run fs used (expected_after_word w) (tokens.Mark marks.Equals ∷ rest) ≡ run fs used (WantsValue (places.Location w)) rest
   named_run w fs used rest = first (bytes_eq w (codes "true")) ((bytes_eq-Decides w (codes "true")).0)
     where
       spelled_so : (u : List ℕ) → w ≡ u → run fs used (WantsValue (places.Location u)) rest ≡ run fs used (WantsValue (places.Location w)) rest
@@ -133,11 +124,11 @@ module _ (most : Limits) (threads : ℕ) where
   place_run few (Location false n) fs used rest i h = named_run n fs used rest
   place_run few (Location true n) fs used rest i h = refl
   place_run few (Register t r) fs used rest i h =
-      ap (λ (x : Bool). from (if x then Goes fs used (InPlace (WantsColon t)) else Refuses) (tokens.Mark marks.Colon ∷ tokens.Word r ∷ tokens.Mark marks.Equals ∷ rest)) (lt_is_true _ _ h)
+      ap (λ (x : Bool). from (if x then Goes fs used (InPlace (WantsColon t)) else Refuses) (tokens.Mark marks.Colon ∷ tokens.Word r ∷ tokens.Mark marks.Equals ∷ rest)) (lt-ltb _ _ h)
       ∙ by_register (register_of r) i
       ∙ ap (λ (q : Place). run fs used (WantsValue q) rest) (place_of_written threads (Register t r) few h)
     where
-      by_register : (o : Option ℕ) → is_known o ≡ true → from (in_place fs used (place_hole (register_ends t o))) (tokens.Mark marks.Equals ∷ rest) ≡ run fs used (WantsValue (place_of (written.Register t (or_zero o)))) rest
+      by_register : (o : Option ℕ) → is_known o ≡ true → from (in_place fs used (expected_after_place (register_ends t o))) (tokens.Mark marks.Equals ∷ rest) ≡ run fs used (WantsValue (place_of (written.Register t (or_zero o)))) rest
       by_register (Some k) e = refl
       by_register None e = absurd cc
 
@@ -147,9 +138,9 @@ module _ (most : Limits) (threads : ℕ) where
 
   -- an operator behind an operand
   joins_run : (op : Connective) (fs : List Frame) (used : ℕ) (v : Formula) (ts : List Token) → used < most.operators → run fs used (Has v) (connective_token op ∷ ts) ≡ run (left_frames op (fold_to (level op + 1) fs v)) (used + 1) Wants ts
-  joins_run connectives.And fs used v ts lt = ap (λ (x : Bool). from (if x then Goes (left_frames connectives.And (fold_to 4 fs v)) (used + 1) Wants else Refuses) ts) (lt_is_true _ _ lt)
-  joins_run connectives.Or fs used v ts lt = ap (λ (x : Bool). from (if x then Goes (left_frames connectives.Or (fold_to 3 fs v)) (used + 1) Wants else Refuses) ts) (lt_is_true _ _ lt)
-  joins_run connectives.Implies fs used v ts lt = ap (λ (x : Bool). from (if x then Goes (left_frames connectives.Implies (fold_to 2 fs v)) (used + 1) Wants else Refuses) ts) (lt_is_true _ _ lt)
+  joins_run connectives.And fs used v ts lt = ap (λ (x : Bool). from (if x then Goes (left_frames connectives.And (fold_to 4 fs v)) (used + 1) Wants else Refuses) ts) (lt-ltb _ _ lt)
+  joins_run connectives.Or fs used v ts lt = ap (λ (x : Bool). from (if x then Goes (left_frames connectives.Or (fold_to 3 fs v)) (used + 1) Wants else Refuses) ts) (lt-ltb _ _ lt)
+  joins_run connectives.Implies fs used v ts lt = ap (λ (x : Bool). from (if x then Goes (left_frames connectives.Implies (fold_to 2 fs v)) (used + 1) Wants else Refuses) ts) (lt-ltb _ _ lt)
 
   word_run : (b : Bool) (fs : List Frame) (used : ℕ) (rest : List Token) → run fs used Wants (tokens.Word (constant_word b) ∷ rest) ≡ run fs used (HasConstant b) rest
   word_run true fs used rest = refl

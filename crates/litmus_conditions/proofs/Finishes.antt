@@ -9,12 +9,12 @@ use Rattle.litmus_values.specs.Value.{Formula, Holds, Not, Join, level}
 use Rattle.litmus_tokens.specs.declared.token.Token.{Token}
 use Rattle.litmus_tokens.specs.declared.token.Token.TheVariants as tokens
 use Rattle.litmus_tokens.specs.declared.token.Mark.TheVariants as marks
-use Rattle.litmus_conditions.specs.declared.place.PlaceHole.{PlaceHole}
-use Rattle.litmus_conditions.specs.declared.place.PlaceHole.TheVariants.{Begins, WantsName, WantsBracket, WantsColon, WantsRegister}
+use Rattle.litmus_conditions.specs.declared.place.PlaceExpectation.{PlaceExpectation}
+use Rattle.litmus_conditions.specs.declared.place.PlaceExpectation.TheVariants.{Begins, WantsName, WantsBracket, WantsColon, WantsRegister}
 use Rattle.litmus_conditions.specs.declared.place.WrittenPlace.TheVariants as written
 use Rattle.litmus_conditions.specs.Grammar.{constant_word, Limits}
 use Rattle.litmus_conditions.specs.PlaceMachine.{place_of}
-use Rattle.litmus_conditions.specs.ConditionMachine.{Frame, InGroup, InPrefix, LeftOf, Hole, Wants, HasConstant, HasNot, InPlace, WantsEquals, WantsValue, Has, fold_to, closed, ended}
+use Rattle.litmus_conditions.specs.ConditionMachine.{Frame, InGroup, InPrefix, LeftOf, Expectation, Wants, HasConstant, HasNot, InPlace, WantsEquals, WantsValue, Has, fold_to, closed, ended}
 use Rattle.litmus_conditions.specs.Laws.{Finishes}
 use Rattle.litmus_conditions.proofs.Complete.{run, from}
 
@@ -69,21 +69,21 @@ module _ (most : Limits) (threads : ℕ) where
   equals fs = tokens.Mark marks.Equals ∷ last fs
 
   -- these tokens lead to an atom
-  by_atom : (fs : List Frame) (used : ℕ) (hole : Hole) (p : Place) (ts : List Token) → run most threads fs used hole ts ≡ run most threads fs used (Has (atom p)) (closers fs) → Finishes most threads fs used hole
-  by_atom fs used hole p ts e = let r = has_finishes fs used (atom p) in record { rest = ts; value = r.0; by = e ∙ r.1 }
+  by_atom : (fs : List Frame) (used : ℕ) (expected : Expectation) (p : Place) (ts : List Token) → run most threads fs used expected ts ≡ run most threads fs used (Has (atom p)) (closers fs) → Finishes most threads fs used expected
+  by_atom fs used expected p ts e = let r = has_finishes fs used (atom p) in record { rest = ts; value = r.0; by = e ∙ r.1 }
 
-  place_finishes : (fs : List Frame) (used : ℕ) (hole : PlaceHole) → Finishes most threads fs used (InPlace hole)
+  place_finishes : (fs : List Frame) (used : ℕ) (expected : PlaceExpectation) → Finishes most threads fs used (InPlace expected)
   place_finishes fs used Begins = by_atom fs used (InPlace Begins) (places.Location letter) (tokens.Word letter ∷ equals fs) refl
   place_finishes fs used WantsName = by_atom fs used (InPlace WantsName) (places.Location letter) (tokens.Word letter ∷ tokens.Mark marks.CloseBracket ∷ equals fs) refl
   place_finishes fs used (WantsBracket n) = by_atom fs used (InPlace (WantsBracket n)) (places.Location n) (tokens.Mark marks.CloseBracket ∷ equals fs) refl
   place_finishes fs used (WantsColon t) = by_atom fs used (InPlace (WantsColon t)) (place_of (written.Register t 0)) (tokens.Mark marks.Colon ∷ tokens.Word (codes "r0") ∷ equals fs) refl
   place_finishes fs used (WantsRegister t) = by_atom fs used (InPlace (WantsRegister t)) (place_of (written.Register t 0)) (tokens.Word (codes "r0") ∷ equals fs) refl
 
-  pub finishes : (fs : List Frame) (used : ℕ) (hole : Hole) → Finishes most threads fs used hole
+  pub finishes : (fs : List Frame) (used : ℕ) (expected : Expectation) → Finishes most threads fs used expected
   finishes fs used Wants = by_atom fs used Wants (places.Location letter) (tokens.Word letter ∷ equals fs) refl
   finishes fs used (HasConstant b) = by_atom fs used (HasConstant b) (places.Location (constant_word b)) (equals fs) refl
   finishes fs used HasNot = by_atom fs used HasNot (places.Location (codes "not")) (equals fs) refl
-  finishes fs used (InPlace hole) = place_finishes fs used hole
+  finishes fs used (InPlace expected) = place_finishes fs used expected
   finishes fs used (WantsEquals p) = by_atom fs used (WantsEquals p) p (equals fs) refl
   finishes fs used (WantsValue p) = by_atom fs used (WantsValue p) p (last fs) refl
   finishes fs used (Has v) = let r = has_finishes fs used v in record { rest = closers fs; value = r.0; by = r.1 }

@@ -8,17 +8,17 @@ use Rattle.litmus_tokens.specs.declared.token.Token.{Token}
 use Rattle.litmus_tokens.specs.declared.token.Token.TheVariants as tokens
 use Rattle.litmus_tokens.specs.declared.token.Mark.TheVariants.{OpenBracket, CloseBracket, Colon}
 use Rattle.litmus_tokens.specs.Words.{decimal, signed, is_int, register_of, is_known, or_zero}
-use Rattle.litmus_conditions.specs.declared.place.PlaceHole.{PlaceHole}
-use Rattle.litmus_conditions.specs.declared.place.PlaceHole.TheVariants.{Begins, WantsName, WantsBracket, WantsColon, WantsRegister}
+use Rattle.litmus_conditions.specs.declared.place.PlaceExpectation.{PlaceExpectation}
+use Rattle.litmus_conditions.specs.declared.place.PlaceExpectation.TheVariants.{Begins, WantsName, WantsBracket, WantsColon, WantsRegister}
 use Rattle.litmus_conditions.specs.declared.place.WrittenPlace.{WrittenPlace}
 use Rattle.litmus_conditions.specs.declared.place.WrittenPlace.TheVariants as written
 use Rattle.litmus_conditions.specs.declared.place.PlaceStep.{PlaceStep}
 use Rattle.litmus_conditions.specs.declared.place.PlaceStep.TheVariants as steps
 use Rattle.litmus_conditions.specs.Grammar.{PlaceTree, Location, Register, ValueTree, Number, Address, spelled_place, spelled_value, place_meaning, value_meaning, IsPlace, HasThread, IsValue, written_place}
-use Rattle.litmus_conditions.specs.PlaceMachine.{place_begun, register_ends, place_step, place_of, number_read, value_read}
+use Rattle.litmus_conditions.specs.PlaceMachine.{place_start, register_ends, place_step, place_of, number_read, value_read}
 
 -- the tokens that were read within a place, and then rest
-abbrev pub within : PlaceHole → List Token → List Token
+abbrev pub within : PlaceExpectation → List Token → List Token
 within Begins rest = rest
 within WantsName rest = tokens.Mark OpenBracket ∷ rest
 within (WantsBracket n) rest = tokens.Mark OpenBracket ∷ tokens.Word n ∷ rest
@@ -33,7 +33,7 @@ pub record PlaceRead (whole rest : List Token) (w : WrittenPlace) : Type 0 where
   pub whole_is : whole ≡ spelled_place tree rest
 
 abbrev pub StepStands : List Token → List Token → Option PlaceStep → Type 0
-StepStands whole rest (Some (steps.Goes hole)) = whole ≡ within hole rest
+StepStands whole rest (Some (steps.Goes expected)) = whole ≡ within expected rest
 StepStands whole rest (Some (steps.Ends w)) = PlaceRead whole rest w
 StepStands whole rest None = Unit {0}
 
@@ -42,14 +42,14 @@ register_read t w rest (Some r) e =
     record { tree = Register t w; fine = ap is_known e; means = ap (λ (o : Option ℕ). written.Register t (or_zero o)) e; whole_is = refl }
 register_read t w rest None e = tt
 
-begun : (t : Token) (rest : List Token) → StepStands (t ∷ rest) rest (place_begun t)
-begun (tokens.Word n) rest = record { tree = Location false n; fine = tt; means = refl; whole_is = refl }
-begun (tokens.Mark OpenBracket) rest = refl
-begun (tokens.Number false t) rest = refl
-begun _ rest = tt
+start_step : (t : Token) (rest : List Token) → StepStands (t ∷ rest) rest (place_start t)
+start_step (tokens.Word n) rest = record { tree = Location false n; fine = tt; means = refl; whole_is = refl }
+start_step (tokens.Mark OpenBracket) rest = refl
+start_step (tokens.Number false t) rest = refl
+start_step _ rest = tt
 
-pub place_stands : (hole : PlaceHole) (t : Token) (rest : List Token) → StepStands (within hole (t ∷ rest)) rest (place_step hole t)
-place_stands Begins t rest = begun t rest
+pub place_stands : (expected : PlaceExpectation) (t : Token) (rest : List Token) → StepStands (within expected (t ∷ rest)) rest (place_step expected t)
+place_stands Begins t rest = start_step t rest
 place_stands WantsName (tokens.Word n) rest = refl
 place_stands WantsName _ rest = tt
 place_stands (WantsBracket n) (tokens.Mark CloseBracket) rest = record { tree = Location true n; fine = tt; means = refl; whole_is = refl }
@@ -62,19 +62,19 @@ place_stands (WantsRegister n) _ rest = tt
 -- ---- threads
 
 -- more of the place was read than nothing, and its thread, if one was read, is one of so many
-abbrev pub HoleThread : ℕ → PlaceHole → Type 0
-HoleThread threads Begins = ⊥
-HoleThread threads WantsName = Unit {0}
-HoleThread threads (WantsBracket n) = Unit {0}
-HoleThread threads (WantsColon t) = decimal t < threads
-HoleThread threads (WantsRegister t) = decimal t < threads
+abbrev pub ExpectationThread : ℕ → PlaceExpectation → Type 0
+ExpectationThread threads Begins = ⊥
+ExpectationThread threads WantsName = Unit {0}
+ExpectationThread threads (WantsBracket n) = Unit {0}
+ExpectationThread threads (WantsColon t) = decimal t < threads
+ExpectationThread threads (WantsRegister t) = decimal t < threads
 
 abbrev pub WrittenThread : ℕ → WrittenPlace → Type 0
 WrittenThread threads (written.Location n) = Unit {0}
 WrittenThread threads (written.Register t r) = decimal t < threads
 
 abbrev pub StepThread : ℕ → Option PlaceStep → Type 0
-StepThread threads (Some (steps.Goes hole)) = HoleThread threads hole
+StepThread threads (Some (steps.Goes expected)) = ExpectationThread threads expected
 StepThread threads (Some (steps.Ends w)) = WrittenThread threads w
 StepThread threads None = Unit {0}
 
@@ -82,7 +82,7 @@ register_thread : (threads : ℕ) (t : List ℕ) (r : Option ℕ) → decimal t 
 register_thread threads t (Some r) h = h
 register_thread threads t None h = tt
 
-pub place_thread : (threads : ℕ) (hole : PlaceHole) (t : Token) → HoleThread threads hole → StepThread threads (place_step hole t)
+pub place_thread : (threads : ℕ) (expected : PlaceExpectation) (t : Token) → ExpectationThread threads expected → StepThread threads (place_step expected t)
 place_thread threads Begins t h = absurd h
 place_thread threads WantsName (tokens.Word n) h = tt
 place_thread threads WantsName _ h = tt

@@ -3,7 +3,7 @@ use Rattle.std.proofs.Common.{◌≡◌, ℕ, ◌+◌, ◌<◌, ◌≤◌, Bool,
 use Rattle.std.specs.Prelude.{nat_lt, codes, if◌then◌else◌}
 use Rattle.std.specs.Str.{bytes_eq}
 use Rattle.std.proofs.lemmas.Slice.Eq.{bytes_eq-Decides}
-use Rattle.std.proofs.lemmas.Bool.Decides.{nat_tests}
+use Rattle.std.proofs.lemmas.Bool.{ltb-true}
 use Rattle.litmus_values.specs.declared.test.Place.{Place}
 use Rattle.litmus_values.specs.declared.test.Place.TheVariants as places
 use Rattle.litmus_values.specs.declared.test.Value as declared_value
@@ -14,14 +14,14 @@ use Rattle.litmus_tokens.specs.declared.token.Token.{Token}
 use Rattle.litmus_tokens.specs.declared.token.Token.TheVariants as tokens
 use Rattle.litmus_tokens.specs.declared.token.Mark.TheVariants as marks
 use Rattle.litmus_tokens.specs.Words.{decimal}
-use Rattle.litmus_conditions.specs.declared.place.PlaceHole.{PlaceHole}
-use Rattle.litmus_conditions.specs.declared.place.PlaceHole.TheVariants.{WantsColon}
+use Rattle.litmus_conditions.specs.declared.place.PlaceExpectation.{PlaceExpectation}
+use Rattle.litmus_conditions.specs.declared.place.PlaceExpectation.TheVariants.{WantsColon}
 use Rattle.litmus_conditions.specs.declared.place.PlaceStep.{PlaceStep}
 use Rattle.litmus_conditions.specs.declared.place.PlaceStep.TheVariants as steps
 use Rattle.litmus_conditions.specs.Grammar.{PlaceTree, Location, spelled_place, place_meaning, value_meaning, IsPlace, HasThread, FormulaTree, Word, Atom, Group, constant_word, connective_token, spelled, meaning, tightness, IsGrouped, HasAtoms, depth, operators, Limits, IsFormula, IsProposition}
 use Rattle.litmus_conditions.specs.PlaceMachine.{place_step, place_of, value_read}
-use Rattle.litmus_conditions.specs.ConditionMachine.{Frame, InGroup, InPrefix, Hole, Wants, HasConstant, HasNot, InPlace, WantsEquals, WantsValue, Has, Fed, Goes, Ends, Refuses, open_count, fold_to, opened, word_hole, place_hole, in_place, place_fed, operand, left_frames, joins, closed, ended, behind, after_constant, after_not, after_place, atom_read, feed, whole_at, go_on, proposition}
-use Rattle.litmus_conditions.proofs.Places.{within, StepStands, place_stands, HoleThread, WrittenThread, StepThread, place_thread, has_thread, place_of_written, ValueStands, value_stands}
+use Rattle.litmus_conditions.specs.ConditionMachine.{Frame, InGroup, InPrefix, Expectation, Wants, HasConstant, HasNot, InPlace, WantsEquals, WantsValue, Has, StepResult, Goes, Ends, Refuses, open_count, fold_to, opened, expected_after_word, expected_after_place, in_place, place_result, operand, left_frames, joins, closed, ended, behind, after_constant, after_not, after_place, atom_read, proposition_step, whole_at, go_on, proposition}
+use Rattle.litmus_conditions.proofs.Places.{within, StepStands, place_stands, ExpectationThread, WrittenThread, StepThread, place_thread, has_thread, place_of_written, ValueStands, value_stands}
 use Rattle.litmus_conditions.proofs.Branches.{Branch, BGroup, BPrefix, BLeft, frame, frames, before, need, opens, count, Fine, Stops, open_count-frames, level-le, need-le, opens-le, Folded, folded}
 
 -- an operand is wanted here
@@ -56,11 +56,11 @@ pub record Full (most : Limits) (threads : ℕ) (whole rest : List Token) (fs : 
   pub short : used ≤ most.operators
   pub whole_is : whole ≡ before bs (spelled t rest)
 
-abbrev pub Stands : Limits → ℕ → List Token → List Token → List Frame → ℕ → Hole → Type 0
+abbrev pub Stands : Limits → ℕ → List Token → List Token → List Frame → ℕ → Expectation → Type 0
 Stands most threads whole rest fs used Wants = Open most threads whole rest fs used
 Stands most threads whole rest fs used (HasConstant b) = Open most threads whole (tokens.Word (constant_word b) ∷ rest) fs used
 Stands most threads whole rest fs used HasNot = Open most threads whole (tokens.Word (codes "not") ∷ rest) fs used
-Stands most threads whole rest fs used (InPlace hole) = HoleThread threads hole × Open most threads whole (within hole rest) fs used
+Stands most threads whole rest fs used (InPlace expected) = ExpectationThread threads expected × Open most threads whole (within expected rest) fs used
 Stands most threads whole rest fs used (WantsEquals p) = AtPlace most threads whole rest fs used p
 Stands most threads whole rest fs used (WantsValue p) = AtPlace most threads whole (tokens.Mark marks.Equals ∷ rest) fs used p
 Stands most threads whole rest fs used (Has v) = Full most threads whole rest fs used v
@@ -72,13 +72,10 @@ pub record Ended (most : Limits) (threads : ℕ) (whole rest : List Token) (v : 
   pub means : meaning t ≡ v
   pub whole_is : whole ≡ spelled t rest
 
-abbrev pub FedStands : Limits → ℕ → List Token → List Token → Fed → Type 0
-FedStands most threads whole rest (Goes fs used hole) = Stands most threads whole rest fs used hole
-FedStands most threads whole rest (Ends v) = Ended most threads whole (tokens.End ∷ rest) v
-FedStands most threads whole rest Refuses = Unit {0}
-
-lt_true : (l n : ℕ) → nat_lt l n ≡ true → l < n
-lt_true l n h = grind (arith, nat_tests)
+abbrev pub ResultStands : Limits → ℕ → List Token → List Token → StepResult → Type 0
+ResultStands most threads whole rest (Goes fs used expected) = Stands most threads whole rest fs used expected
+ResultStands most threads whole rest (Ends v) = Ended most threads whole (tokens.End ∷ rest) v
+ResultStands most threads whole rest Refuses = Unit {0}
 
 -- the operand of an operator fits where the operator stands
 new_need : (op : Connective) (bs : List Branch) → Stops (level op + 1) bs → need bs ≤ level op
@@ -102,14 +99,14 @@ module _ (most : Limits) (threads : ℕ) (few : threads < 18446744073709551616) 
       let n : open_count fs ≡ opens bs = ap open_count (sym is) ∙ open_count-frames bs in
       record { bs = b ∷ bs; is = ap (λ (g : Frame). g ∷ frames bs) e ∙ ap (λ (gs : List Frame). f ∷ gs) is; fine = grown (omega arith); counted = counted; short = short; whole_is = whole_is }
 
-  opened_stands : (rest : List Token) (fs : List Frame) (next : Fed) → (open_count fs < most.nesting → FedStands most threads whole rest next) → FedStands most threads whole rest (opened most fs next)
+  opened_stands : (rest : List Token) (fs : List Frame) (next : StepResult) → (open_count fs < most.nesting → ResultStands most threads whole rest next) → ResultStands most threads whole rest (opened most fs next)
   opened_stands rest fs next h = choose (nat_lt (open_count fs) most.nesting) refl
     where
-      choose : (x : Bool) → nat_lt (open_count fs) most.nesting ≡ x → FedStands most threads whole rest (if x then next else Refuses)
-      choose true e = h (lt_true _ _ e)
+      choose : (x : Bool) → nat_lt (open_count fs) most.nesting ≡ x → ResultStands most threads whole rest (if x then next else Refuses)
+      choose true e = h (ltb-true _ _ e)
       choose false e = tt
 
-  word_stands : (w : List ℕ) (rest : List Token) (fs : List Frame) (used : ℕ) → Open most threads whole (tokens.Word w ∷ rest) fs used → Stands most threads whole rest fs used (word_hole w)
+  word_stands : (w : List ℕ) (rest : List Token) (fs : List Frame) (used : ℕ) → Open most threads whole (tokens.Word w ∷ rest) fs used → Stands most threads whole rest fs used (expected_after_word w)
   word_stands w rest fs used o = first (bytes_eq w (codes "true")) ((bytes_eq-Decides w (codes "true")).0)
     where
       spelled_so : (u : List ℕ) → w ≡ u → Open most threads whole (tokens.Word u ∷ rest) fs used
@@ -128,10 +125,10 @@ module _ (most : Limits) (threads : ℕ) (few : threads < 18446744073709551616) 
       first false h = second (bytes_eq w (codes "false")) ((bytes_eq-Decides w (codes "false")).0)
 
   -- a token within a place
-  place_fed_stands : (hole : PlaceHole) (t : Token) (rest : List Token) (fs : List Frame) (used : ℕ) → StepThread threads (place_step hole t) → Open most threads whole (within hole (t ∷ rest)) fs used → FedStands most threads whole rest (place_fed fs used hole t)
-  place_fed_stands hole t rest fs used th o = by_step (place_step hole t) (place_stands hole t rest) th
+  place_result_stands : (expected : PlaceExpectation) (t : Token) (rest : List Token) (fs : List Frame) (used : ℕ) → StepThread threads (place_step expected t) → Open most threads whole (within expected (t ∷ rest)) fs used → ResultStands most threads whole rest (place_result fs used expected t)
+  place_result_stands expected t rest fs used th o = by_step (place_step expected t) (place_stands expected t rest) th
     where
-      by_step : (s : Option PlaceStep) → StepStands (within hole (t ∷ rest)) rest s → StepThread threads s → FedStands most threads whole rest (in_place fs used (place_hole s))
+      by_step : (s : Option PlaceStep) → StepStands (within expected (t ∷ rest)) rest s → StepThread threads s → ResultStands most threads whole rest (in_place fs used (expected_after_place s))
       by_step (Some (steps.Goes h)) e k = (k, subst (λ (l : List Token). Open most threads whole l fs used) e o)
       by_step (Some (steps.Ends w)) r k =
           let there : HasThread threads r.tree = has_thread threads r.tree (subst (WrittenThread threads) (sym r.means) k) in
@@ -144,7 +141,7 @@ module _ (most : Limits) (threads : ℕ) (few : threads < 18446744073709551616) 
           }
       by_step None e k = tt
 
-  operand_stands : (t : Token) (rest : List Token) (fs : List Frame) (used : ℕ) → Open most threads whole (t ∷ rest) fs used → FedStands most threads whole rest (operand most threads fs used t)
+  operand_stands : (t : Token) (rest : List Token) (fs : List Frame) (used : ℕ) → Open most threads whole (t ∷ rest) fs used → ResultStands most threads whole rest (operand most threads fs used t)
   operand_stands (tokens.Word w) rest fs used o = word_stands w rest fs used o
   operand_stands (tokens.Mark marks.Tilde) rest fs used o =
       opened_stands rest fs (Goes (InPrefix ∷ fs) used Wants) (λ lt. deeper (BPrefix true) InPrefix rest fs used o.bs refl o.is lt (λ h. (h, o.fine)) o.counted o.short o.whole_is)
@@ -153,8 +150,8 @@ module _ (most : Limits) (threads : ℕ) (few : threads < 18446744073709551616) 
   operand_stands (tokens.Mark marks.OpenBracket) rest fs used o = (tt, o)
   operand_stands (tokens.Number false t) rest fs used o = choose (nat_lt (decimal t) threads) refl
     where
-      choose : (x : Bool) → nat_lt (decimal t) threads ≡ x → FedStands most threads whole rest (if x then Goes fs used (InPlace (WantsColon t)) else Refuses)
-      choose true e = (lt_true _ _ e, o)
+      choose : (x : Bool) → nat_lt (decimal t) threads ≡ x → ResultStands most threads whole rest (if x then Goes fs used (InPlace (WantsColon t)) else Refuses)
+      choose true e = (ltb-true _ _ e, o)
       choose false e = tt
   operand_stands _ rest fs used o = tt
 
@@ -165,38 +162,38 @@ module _ (most : Limits) (threads : ℕ) (few : threads < 18446744073709551616) 
       subst (λ (g : List Frame). Folded most threads l whole rest (fold_to l g v) used) f.is (subst (λ (w : Formula). Folded most threads l whole rest (fold_to l (frames f.bs) w) used) f.means at_tree)
 
   -- an operator was read
-  joins_stands : (op : Connective) (rest : List Token) (fs : List Frame) (used : ℕ) (v : Formula) → Full most threads whole (connective_token op ∷ rest) fs used v → FedStands most threads whole rest (joins most fs used v op)
+  joins_stands : (op : Connective) (rest : List Token) (fs : List Frame) (used : ℕ) (v : Formula) → Full most threads whole (connective_token op ∷ rest) fs used v → ResultStands most threads whole rest (joins most fs used v op)
   joins_stands op rest fs used v f = choose (nat_lt used most.operators) refl
     where
-      choose : (x : Bool) → nat_lt used most.operators ≡ x → FedStands most threads whole rest (if x then Goes (left_frames op (fold_to (level op + 1) fs v)) (used + 1) Wants else Refuses)
+      choose : (x : Bool) → nat_lt used most.operators ≡ x → ResultStands most threads whole rest (if x then Goes (left_frames op (fold_to (level op + 1) fs v)) (used + 1) Wants else Refuses)
       choose true e =
-          let lt = lt_true _ _ e in
+          let lt = ltb-true _ _ e in
           let low = level-le op in
           let d = folded_full (level op + 1) (connective_token op ∷ rest) fs used v (omega arith) f in
           record { bs = BLeft op d.t ∷ d.bs; is = sym (ap (left_frames op) d.is); fine = (d.grouped, d.tight, new_need op d.bs d.stops, d.shallow, d.atoms, d.fine); counted = (let h = d.counted in omega arith); short = omega arith; whole_is = d.whole_is }
       choose false e = tt
 
-  ended_stands : (rest : List Token) (used : ℕ) (p : List Frame × Formula) → used ≤ most.operators → Folded most threads 0 whole (tokens.End ∷ rest) p used → FedStands most threads whole rest (ended p)
+  ended_stands : (rest : List Token) (used : ℕ) (p : List Frame × Formula) → used ≤ most.operators → Folded most threads 0 whole (tokens.End ∷ rest) p used → ResultStands most threads whole rest (ended p)
   ended_stands rest used p short d =
-      subst (λ (q : List Frame × Formula). FedStands most threads whole rest (ended q)) (sym d.is) (by_branches d.bs d.shallow d.counted d.whole_is)
+      subst (λ (q : List Frame × Formula). ResultStands most threads whole rest (ended q)) (sym d.is) (by_branches d.bs d.shallow d.counted d.whole_is)
     where
-      by_branches : (bs : List Branch) → opens bs + depth d.t ≤ most.nesting → count bs + operators d.t ≡ used → whole ≡ before bs (spelled d.t (tokens.End ∷ rest)) → FedStands most threads whole rest (ended (frames bs, meaning d.t))
+      by_branches : (bs : List Branch) → opens bs + depth d.t ≤ most.nesting → count bs + operators d.t ≡ used → whole ≡ before bs (spelled d.t (tokens.End ∷ rest)) → ResultStands most threads whole rest (ended (frames bs, meaning d.t))
       by_branches [] shallow counted is =
           record { t = d.t; is = record { grouped = d.grouped; atoms = d.atoms; shallow = omega arith; short = omega arith }; means = refl; whole_is = is }
       by_branches (b ∷ bs) shallow counted is = tt
 
-  closed_stands : (rest : List Token) (used : ℕ) (p : List Frame × Formula) → used ≤ most.operators → Folded most threads 0 whole (tokens.Mark marks.Close ∷ rest) p used → FedStands most threads whole rest (closed used p)
+  closed_stands : (rest : List Token) (used : ℕ) (p : List Frame × Formula) → used ≤ most.operators → Folded most threads 0 whole (tokens.Mark marks.Close ∷ rest) p used → ResultStands most threads whole rest (closed used p)
   closed_stands rest used p short d =
-      subst (λ (q : List Frame × Formula). FedStands most threads whole rest (closed used q)) (sym d.is) (by_branches d.bs d.fine d.shallow d.counted d.whole_is)
+      subst (λ (q : List Frame × Formula). ResultStands most threads whole rest (closed used q)) (sym d.is) (by_branches d.bs d.fine d.shallow d.counted d.whole_is)
     where
-      by_branches : (bs : List Branch) → Fine most threads bs → opens bs + depth d.t ≤ most.nesting → count bs + operators d.t ≡ used → whole ≡ before bs (spelled d.t (tokens.Mark marks.Close ∷ rest)) → FedStands most threads whole rest (closed used (frames bs, meaning d.t))
+      by_branches : (bs : List Branch) → Fine most threads bs → opens bs + depth d.t ≤ most.nesting → count bs + operators d.t ≡ used → whole ≡ before bs (spelled d.t (tokens.Mark marks.Close ∷ rest)) → ResultStands most threads whole rest (closed used (frames bs, meaning d.t))
       by_branches [] fine shallow counted is = tt
       by_branches (BGroup ∷ bs) fine shallow counted is =
           record { bs = bs; t = Group d.t; is = refl; means = refl; fine = fine.1; grouped = d.grouped; atoms = d.atoms; tight = omega arith; shallow = omega arith; counted = counted; short = short; whole_is = is }
       by_branches (BPrefix tilde ∷ bs) fine shallow counted is = tt
       by_branches (BLeft op a ∷ bs) fine shallow counted is = tt
 
-  behind_stands : (t : Token) (rest : List Token) (fs : List Frame) (used : ℕ) (v : Formula) → Full most threads whole (t ∷ rest) fs used v → FedStands most threads whole rest (behind most fs used v t)
+  behind_stands : (t : Token) (rest : List Token) (fs : List Frame) (used : ℕ) (v : Formula) → Full most threads whole (t ∷ rest) fs used v → ResultStands most threads whole rest (behind most fs used v t)
   behind_stands (tokens.Mark marks.And) rest fs used v f = joins_stands connectives.And rest fs used v f
   behind_stands (tokens.Mark marks.Or) rest fs used v f = joins_stands connectives.Or rest fs used v f
   behind_stands (tokens.Mark marks.Implies) rest fs used v f = joins_stands connectives.Implies rest fs used v f
@@ -208,52 +205,52 @@ module _ (most : Limits) (threads : ℕ) (few : threads < 18446744073709551616) 
   named : (w : List ℕ) (rest : List Token) (fs : List Frame) (used : ℕ) → Open most threads whole (tokens.Word w ∷ tokens.Mark marks.Equals ∷ rest) fs used → AtPlace most threads whole (tokens.Mark marks.Equals ∷ rest) fs used (places.Location w)
   named w rest fs used o = record { tree = Location false w; fine = tt; thread = tt; means = refl; here = o }
 
-  constant_stands : (t : Token) (rest : List Token) (fs : List Frame) (used : ℕ) (b : Bool) → Open most threads whole (tokens.Word (constant_word b) ∷ t ∷ rest) fs used → FedStands most threads whole rest (after_constant most fs used b t)
+  constant_stands : (t : Token) (rest : List Token) (fs : List Frame) (used : ℕ) (b : Bool) → Open most threads whole (tokens.Word (constant_word b) ∷ t ∷ rest) fs used → ResultStands most threads whole rest (after_constant most fs used b t)
   constant_stands (tokens.Mark marks.Equals) rest fs used b o = named (constant_word b) rest fs used o
   constant_stands t rest fs used b o = behind_stands t rest fs used (Constant b) (single (Word b) (t ∷ rest) fs used tt tt (omega arith) refl refl o)
 
-  not_stands : (t : Token) (rest : List Token) (fs : List Frame) (used : ℕ) → Open most threads whole (tokens.Word (codes "not") ∷ t ∷ rest) fs used → FedStands most threads whole rest (after_not most threads fs used t)
+  not_stands : (t : Token) (rest : List Token) (fs : List Frame) (used : ℕ) → Open most threads whole (tokens.Word (codes "not") ∷ t ∷ rest) fs used → ResultStands most threads whole rest (after_not most threads fs used t)
   not_stands (tokens.Mark marks.Equals) rest fs used o = named (codes "not") rest fs used o
   not_stands t rest fs used o =
       opened_stands rest fs (operand most threads (InPrefix ∷ fs) used t)
       (λ lt. operand_stands t rest (InPrefix ∷ fs) used (deeper (BPrefix false) InPrefix (t ∷ rest) fs used o.bs refl o.is lt (λ h. (h, o.fine)) o.counted o.short o.whole_is))
 
-  equals_stands : (t : Token) (rest : List Token) (fs : List Frame) (used : ℕ) (p : Place) → AtPlace most threads whole (t ∷ rest) fs used p → FedStands most threads whole rest (after_place fs used p t)
+  equals_stands : (t : Token) (rest : List Token) (fs : List Frame) (used : ℕ) (p : Place) → AtPlace most threads whole (t ∷ rest) fs used p → ResultStands most threads whole rest (after_place fs used p t)
   equals_stands (tokens.Mark marks.Equals) rest fs used p a = a
   equals_stands _ rest fs used p a = tt
 
-  atom_stands : (t : Token) (rest : List Token) (fs : List Frame) (used : ℕ) (p : Place) → AtPlace most threads whole (tokens.Mark marks.Equals ∷ t ∷ rest) fs used p → FedStands most threads whole rest (atom_read fs used p (value_read t))
+  atom_stands : (t : Token) (rest : List Token) (fs : List Frame) (used : ℕ) (p : Place) → AtPlace most threads whole (tokens.Mark marks.Equals ∷ t ∷ rest) fs used p → ResultStands most threads whole rest (atom_read fs used p (value_read t))
   atom_stands t rest fs used p a = by_value (value_read t) (value_stands t rest)
     where
-      by_value : (o : Option declared_value.Value) → ValueStands (t ∷ rest) rest o → FedStands most threads whole rest (atom_read fs used p o)
+      by_value : (o : Option declared_value.Value) → ValueStands (t ∷ rest) rest o → ResultStands most threads whole rest (atom_read fs used p o)
       by_value (Some v) r =
           let here = subst (λ (l : List Token). Open most threads whole (spelled_place a.tree (tokens.Mark marks.Equals ∷ l)) fs used) r.whole_is a.here in
           let f = single (Atom a.tree r.tree) rest fs used tt (a.fine, a.thread, r.fine) (omega arith) refl refl here in
           subst (λ (w : Formula). Full most threads whole rest fs used w) (ap (λ (q : Place). Holds q (value_meaning r.tree)) a.means ∙ ap (Holds p) r.means) f
       by_value None r = tt
 
-  pub feed_stands : (t : Token) (rest : List Token) (fs : List Frame) (used : ℕ) (hole : Hole) → Stands most threads whole (t ∷ rest) fs used hole → FedStands most threads whole rest (feed most threads fs used hole t)
-  feed_stands t rest fs used Wants h = operand_stands t rest fs used h
-  feed_stands t rest fs used (HasConstant b) h = constant_stands t rest fs used b h
-  feed_stands t rest fs used HasNot h = not_stands t rest fs used h
-  feed_stands t rest fs used (InPlace hole) h = place_fed_stands hole t rest fs used (place_thread threads hole t h.0) h.1
-  feed_stands t rest fs used (WantsEquals p) h = equals_stands t rest fs used p h
-  feed_stands t rest fs used (WantsValue p) h = atom_stands t rest fs used p h
-  feed_stands t rest fs used (Has v) h = behind_stands t rest fs used v h
+  pub step_stands : (t : Token) (rest : List Token) (fs : List Frame) (used : ℕ) (expected : Expectation) → Stands most threads whole (t ∷ rest) fs used expected → ResultStands most threads whole rest (proposition_step most threads fs used expected t)
+  step_stands t rest fs used Wants h = operand_stands t rest fs used h
+  step_stands t rest fs used (HasConstant b) h = constant_stands t rest fs used b h
+  step_stands t rest fs used HasNot h = not_stands t rest fs used h
+  step_stands t rest fs used (InPlace expected) h = place_result_stands expected t rest fs used (place_thread threads expected t h.0) h.1
+  step_stands t rest fs used (WantsEquals p) h = equals_stands t rest fs used p h
+  step_stands t rest fs used (WantsValue p) h = atom_stands t rest fs used p h
+  step_stands t rest fs used (Has v) h = behind_stands t rest fs used v h
 
-  pub run_stands : (ts : List Token) (fs : List Frame) (used : ℕ) (hole : Hole) (v : Formula) → Stands most threads whole ts fs used hole → proposition most threads fs used hole ts ≡ Some v → Ended most threads whole (tokens.End ∷ []) v
-  run_stands [] fs used hole v h e = absurd cc
-  run_stands (t ∷ ts) fs used hole v h e = by_fed (feed most threads fs used hole t) (feed_stands t ts fs used hole h) e (λ gs u k. run_stands ts gs u k v)
+  pub run_stands : (ts : List Token) (fs : List Frame) (used : ℕ) (expected : Expectation) (v : Formula) → Stands most threads whole ts fs used expected → proposition most threads fs used expected ts ≡ Some v → Ended most threads whole (tokens.End ∷ []) v
+  run_stands [] fs used expected v h e = absurd cc
+  run_stands (t ∷ ts) fs used expected v h e = by_result (proposition_step most threads fs used expected t) (step_stands t ts fs used expected h) e (λ gs u k. run_stands ts gs u k v)
     where
       by_end : (w : Formula) (us : List Token) → Ended most threads whole (tokens.End ∷ us) w → whole_at w us ≡ Some v → Ended most threads whole (tokens.End ∷ []) v
       by_end w [] x e' = let same : w ≡ v = cc in subst (λ (y : Formula). Ended most threads whole (tokens.End ∷ []) y) same x
       by_end w (u ∷ us) x e' = absurd cc
 
-      by_fed : (x : Fed) → FedStands most threads whole ts x → go_on (λ gs u k. proposition most threads gs u k ts) ts x ≡ Some v
-          → ((gs : List Frame) (u : ℕ) (k : Hole) → Stands most threads whole ts gs u k → proposition most threads gs u k ts ≡ Some v → Ended most threads whole (tokens.End ∷ []) v) → Ended most threads whole (tokens.End ∷ []) v
-      by_fed (Goes gs u k) s e' later = later gs u k s e'
-      by_fed (Ends w) s e' later = by_end w ts s e'
-      by_fed Refuses s e' later = absurd cc
+      by_result : (x : StepResult) → ResultStands most threads whole ts x → go_on (λ gs u k. proposition most threads gs u k ts) ts x ≡ Some v
+          → ((gs : List Frame) (u : ℕ) (k : Expectation) → Stands most threads whole ts gs u k → proposition most threads gs u k ts ≡ Some v → Ended most threads whole (tokens.End ∷ []) v) → Ended most threads whole (tokens.End ∷ []) v
+      by_result (Goes gs u k) s e' later = later gs u k s e'
+      by_result (Ends w) s e' later = by_end w ts s e'
+      by_result Refuses s e' later = absurd cc
 
 -- what the machine takes to its end is a proposition that means the formula
 pub sound : (most : Limits) (threads : ℕ) → threads < 18446744073709551616 → (ts : List Token) (v : Formula) → proposition most threads [] 0 Wants ts ≡ Some v → IsProposition most threads ts v

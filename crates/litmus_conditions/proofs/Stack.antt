@@ -1,8 +1,8 @@
 -- The stack of frames as a list.
-use Rattle.std.proofs.Common.{◌≡◌, ℕ, ◌+◌, ◌<◌, ◌≤◌, Bool, true, false, cond, List, [], ◌∷◌, ◌++◌, refl, sym, ap, subst, ◌∙◌, arith}
-use Rattle.std.specs.Prelude.{nat_le, nat_lt, if◌then◌else◌, count_by, codes, Result}
-use Rattle.std.proofs.lemmas.Bool.Decides.{nat_tests}
+use Rattle.std.proofs.Common.{◌≡◌, ℕ, ◌+◌, ◌<◌, ◌≤◌, Bool, false, cond, List, [], ◌∷◌, ◌++◌, refl, sym, ap, subst, ◌∙◌, arith}
+use Rattle.std.specs.Prelude.{if◌then◌else◌, count_by, codes, Result}
 use Rattle.std.proofs.lemmas.List.Sums.{sum_by-cons}
+use Rattle.std.proofs.lemmas.Bool.{le-leb, lt-leb, lt-ltb}
 use Rattle.litmus_values.specs.declared.test.Connective.{Connective}
 use Rattle.litmus_values.specs.declared.test.Place.TheVariants as places
 use Rattle.litmus_values.specs.declared.test.Proposition.{Proposition}
@@ -10,11 +10,11 @@ use Rattle.litmus_tokens.specs.declared.token.Token.{Token}
 use Rattle.litmus_values.specs.Value.{Formula, Not, Join, formula_of, level}
 use Rattle.litmus_conditions.specs.declared.condition.Frame as code_frame
 use Rattle.litmus_conditions.specs.declared.condition.Frame.TheVariants as frames
-use Rattle.litmus_conditions.specs.declared.condition.Fed as code_fed
+use Rattle.litmus_conditions.specs.declared.condition.PropositionStep as code_step
 use Rattle.litmus_conditions.specs.declared.step.StepError.{StepError}
 use Rattle.litmus_conditions.specs.Grammar.{limits}
 use Rattle.litmus_conditions.specs.ConditionMachine as machine
-use Rattle.litmus_conditions.specs.Reading.{frame_of, stacked, stack_of, is_open, Feeds}
+use Rattle.litmus_conditions.specs.Reading.{frame_of, stacked, stack_of, is_open, StepsTo}
 
 stacked-push : (fs : List code_frame.Frame) (f : code_frame.Frame) (below : List machine.Frame) → stacked (fs ++ f ∷ []) below ≡ frame_of f ∷ stacked fs below
 stacked-push [] f below = refl
@@ -22,12 +22,6 @@ stacked-push (g ∷ fs) f below = stacked-push fs f (frame_of g ∷ below)
 
 pub stack_of-push : (fs : List code_frame.Frame) (f : code_frame.Frame) → stack_of (fs ++ f ∷ []) ≡ frame_of f ∷ stack_of fs
 stack_of-push fs f = stacked-push fs f []
-
-le_true : (l n : ℕ) → l ≤ n → nat_le l n ≡ true
-le_true l n h = grind (arith, nat_tests)
-
-gt_false : (l n : ℕ) → n < l → nat_le l n ≡ false
-gt_false l n h = grind (arith, nat_tests)
 
 -- one turn of joining: the frame that was popped decides
 module _ (l : ℕ) (start : List machine.Frame × Formula) (items rest : List code_frame.Frame) (v : Formula) (so_far : start ≡ machine.fold_to l (stack_of items) v) where
@@ -41,14 +35,14 @@ module _ (l : ℕ) (start : List machine.Frame × Formula) (items rest : List co
   pub popped_left : (f : code_frame.Frame) → items ≡ rest ++ f ∷ [] → (op : Connective) (a a' w : Proposition) → f ≡ frames.Left op a → a' ≡ a → formula_of w ≡ v → l ≤ level op → start ≡ machine.fold_to l (stack_of rest) (Join op (formula_of a') (formula_of w))
   popped_left f e op a a' w is left same le =
       popped f e ∙ ap (λ (g : code_frame.Frame). machine.fold_to l (frame_of g ∷ stack_of rest) v) is
-      ∙ ap (λ (x : Bool). if x then machine.fold_to l (stack_of rest) (Join op (formula_of a) v) else (machine.LeftOf op (formula_of a) ∷ stack_of rest, v)) (le_true l (level op) le)
+      ∙ ap (λ (x : Bool). if x then machine.fold_to l (stack_of rest) (Join op (formula_of a) v) else (machine.LeftOf op (formula_of a) ∷ stack_of rest, v)) (le-leb l (level op) le)
       ∙ ap (λ (x : Formula). machine.fold_to l (stack_of rest) (Join op (formula_of a) x)) (sym same)
       ∙ ap (λ (x : Proposition). machine.fold_to l (stack_of rest) (Join op (formula_of x) (formula_of w))) (sym left)
 
   pub popped_stays : (f : code_frame.Frame) → items ≡ rest ++ f ∷ [] → (op : Connective) (a : Proposition) (after : List code_frame.Frame) → f ≡ frames.Left op a → level op < l → after ≡ rest ++ frames.Left op a ∷ [] → start ≡ (stack_of after, v)
   popped_stays f e op a after is lt pushed =
       popped f e ∙ ap (λ (g : code_frame.Frame). machine.fold_to l (frame_of g ∷ stack_of rest) v) is
-      ∙ ap (λ (x : Bool). if x then machine.fold_to l (stack_of rest) (Join op (formula_of a) v) else (machine.LeftOf op (formula_of a) ∷ stack_of rest, v)) (gt_false l (level op) lt)
+      ∙ ap (λ (x : Bool). if x then machine.fold_to l (stack_of rest) (Join op (formula_of a) v) else (machine.LeftOf op (formula_of a) ∷ stack_of rest, v)) (lt-leb l (level op) lt)
       ∙ sym (ap (λ (fs : List machine.Frame). (fs, v)) (ap stack_of pushed ∙ stack_of-push rest (frames.Left op a)))
 
   -- a parenthesis stays
@@ -66,32 +60,29 @@ open_count-stacked (frames.Left op a ∷ fs) below = let n = sum_by-cons (λ f. 
 pub open_count-stack : (fs : List code_frame.Frame) → machine.open_count (stack_of fs) ≡ count_by is_open fs
 open_count-stack fs = let h = open_count-stacked fs [] in omega arith
 
-lt_true : (l n : ℕ) → l < n → nat_lt l n ≡ true
-lt_true l n h = grind (arith, nat_tests)
-
 -- one more frame, where it may be opened
 pub opened_below : (fs all : List code_frame.Frame) (f : code_frame.Frame) (used : ℕ) → all ≡ fs ++ f ∷ [] → machine.open_count (stack_of fs) < 64
     → machine.opened limits (stack_of fs) (machine.Goes (frame_of f ∷ stack_of fs) used machine.Wants) ≡ machine.Goes (stack_of all) used machine.Wants
 opened_below fs all f used e lt =
-    ap (λ (x : Bool). if x then machine.Goes (frame_of f ∷ stack_of fs) used machine.Wants else machine.Refuses) (lt_true _ _ lt)
+    ap (λ (x : Bool). if x then machine.Goes (frame_of f ∷ stack_of fs) used machine.Wants else machine.Refuses) (lt-ltb _ _ lt)
     ∙ ap (λ (gs : List machine.Frame). machine.Goes gs used machine.Wants) (sym (ap stack_of e ∙ stack_of-push fs f))
 
 -- an operand behind the word `not`
-pub not_fed : (threads : ℕ) (fs all : List code_frame.Frame) (used : ℕ) (t : Token) (r : Result code_fed.Fed StepError) → machine.is_equals t ≡ false → all ≡ fs ++ frames.Prefix ∷ [] → machine.open_count (stack_of fs) < 64
-    → Feeds r (machine.operand limits threads (stack_of all) used t) → Feeds r (machine.after_not limits threads (stack_of fs) used t)
-not_fed threads fs all used t r other e lt h =
+pub not_result : (threads : ℕ) (fs all : List code_frame.Frame) (used : ℕ) (t : Token) (r : Result code_step.PropositionStep StepError) → machine.is_equals t ≡ false → all ≡ fs ++ frames.Prefix ∷ [] → machine.open_count (stack_of fs) < 64
+    → StepsTo r (machine.operand limits threads (stack_of all) used t) → StepsTo r (machine.after_not limits threads (stack_of fs) used t)
+not_result threads fs all used t r other e lt h =
     let here = machine.operand limits threads (machine.InPrefix ∷ stack_of fs) used t in
     let same : machine.after_not limits threads (stack_of fs) used t ≡ machine.operand limits threads (stack_of all) used t
     = ap (λ (x : Bool). if x then machine.Goes (stack_of fs) used (machine.WantsValue (places.Location (codes "not"))) else machine.opened limits (stack_of fs) here) other
-    ∙ ap (λ (x : Bool). if x then here else machine.Refuses) (lt_true _ _ lt)
+    ∙ ap (λ (x : Bool). if x then here else machine.Refuses) (lt-ltb _ _ lt)
     ∙ ap (λ (gs : List machine.Frame). machine.operand limits threads gs used t) (sym (ap stack_of e ∙ stack_of-push fs frames.Prefix)) in
-    subst (Feeds r) (sym same) h
+    subst (StepsTo r) (sym same) h
 
 -- an operator with its left operand, once what binds tighter is joined
 pub joins_below : (fs middle all : List code_frame.Frame) (op : Connective) (n used : ℕ) (v : Formula) (left : Proposition) → n ≡ level op → machine.fold_to (n + 1) (stack_of fs) v ≡ (stack_of middle, formula_of left) → all ≡ middle ++ frames.Left op left ∷ [] → used < 1024
     → machine.joins limits (stack_of fs) used v op ≡ machine.Goes (stack_of all) (used + 1) machine.Wants
 joins_below fs middle all op n used v left same folded e lt =
-    ap (λ (x : Bool). if x then machine.Goes (machine.left_frames op (machine.fold_to (level op + 1) (stack_of fs) v)) (used + 1) machine.Wants else machine.Refuses) (lt_true _ _ lt)
+    ap (λ (x : Bool). if x then machine.Goes (machine.left_frames op (machine.fold_to (level op + 1) (stack_of fs) v)) (used + 1) machine.Wants else machine.Refuses) (lt-ltb _ _ lt)
     ∙ ap (λ (k : ℕ). machine.Goes (machine.left_frames op (machine.fold_to (k + 1) (stack_of fs) v)) (used + 1) machine.Wants) (sym same)
     ∙ ap (λ (p : List machine.Frame × Formula). machine.Goes (machine.left_frames op p) (used + 1) machine.Wants) folded
     ∙ ap (λ (gs : List machine.Frame). machine.Goes gs (used + 1) machine.Wants) (sym (ap stack_of e ∙ stack_of-push middle (frames.Left op left)))

@@ -5,23 +5,23 @@ use Rattle.litmus_tokens.specs.declared.token.Token.{Token}
 use Rattle.litmus_tokens.specs.Faults.{Begins}
 use Rattle.litmus_tokens.specs.Texts.{are_none}
 use Rattle.litmus_conditions.specs.Grammar.{Limits, IsProposition}
-use Rattle.litmus_conditions.specs.ConditionMachine.{Frame, Hole, Wants, Fed, Goes, Ends, Refuses, feed, proposition}
+use Rattle.litmus_conditions.specs.ConditionMachine.{Frame, Expectation, Wants, StepResult, Goes, Ends, Refuses, proposition_step, proposition}
 
 -- some tokens end the proposition that was begun
-pub record Finishes (most : Limits) (threads : ℕ) (frames : List Frame) (used : ℕ) (hole : Hole) : Type 0 where
+pub record Finishes (most : Limits) (threads : ℕ) (frames : List Frame) (used : ℕ) (expected : Expectation) : Type 0 where
   pub rest : List Token
   pub value : Formula
-  pub by : proposition most threads frames used hole rest ≡ Some value
+  pub by : proposition most threads frames used expected rest ≡ Some value
 
-abbrev pub takes_on : (List Frame → ℕ → Hole → Bool) → List Token → Fed → Bool
-takes_on later ts (Goes fs used hole) = later fs used hole
+abbrev pub takes_on : (List Frame → ℕ → Expectation → Bool) → List Token → StepResult → Bool
+takes_on later ts (Goes fs used expected) = later fs used expected
 takes_on later ts (Ends v) = are_none ts
 takes_on later ts Refuses = false
 
 -- whether each of these tokens is taken, one after another
-abbrev pub takes : Limits → ℕ → List Frame → ℕ → Hole → List Token → Bool
-takes most threads fs used hole [] = true
-takes most threads fs used hole (t ∷ ts) = takes_on (λ gs u h. takes most threads gs u h ts) ts (feed most threads fs used hole t)
+abbrev pub takes : Limits → ℕ → List Frame → ℕ → Expectation → List Token → Bool
+takes most threads fs used expected [] = true
+takes most threads fs used expected (t ∷ ts) = takes_on (λ gs u h. takes most threads gs u h ts) ts (proposition_step most threads fs used expected t)
 
 -- these tokens are a proposition, in a test of so many threads, and the end
 pub record IsPropositionText (most : Limits) (threads : ℕ) (ts : List Token) : Type 0 where

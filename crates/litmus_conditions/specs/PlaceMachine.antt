@@ -8,8 +8,8 @@ use Rattle.litmus_tokens.specs.declared.token.Token.{Token}
 use Rattle.litmus_tokens.specs.declared.token.Token.TheVariants as tokens
 use Rattle.litmus_tokens.specs.declared.token.Mark.TheVariants.{OpenBracket, CloseBracket, Colon}
 use Rattle.litmus_tokens.specs.Words.{decimal, int_of, register_of}
-use Rattle.litmus_conditions.specs.declared.place.PlaceHole.{PlaceHole}
-use Rattle.litmus_conditions.specs.declared.place.PlaceHole.TheVariants.{Begins, WantsName, WantsBracket, WantsColon, WantsRegister}
+use Rattle.litmus_conditions.specs.declared.place.PlaceExpectation.{PlaceExpectation}
+use Rattle.litmus_conditions.specs.declared.place.PlaceExpectation.TheVariants.{Begins, WantsName, WantsBracket, WantsColon, WantsRegister}
 use Rattle.litmus_conditions.specs.declared.place.WrittenPlace.{WrittenPlace}
 use Rattle.litmus_conditions.specs.declared.place.WrittenPlace.TheVariants as written
 use Rattle.litmus_conditions.specs.declared.place.PlaceStep.{PlaceStep}
@@ -17,18 +17,18 @@ use Rattle.litmus_conditions.specs.declared.place.PlaceStep.TheVariants as steps
 use Rattle.litmus_conditions.specs.declared.step.StepError.{StepError}
 use Rattle.litmus_conditions.specs.declared.step.StepError.TheVariants.{Refused}
 
-abbrev pub place_begun : Token → Option PlaceStep
-place_begun (tokens.Word n) = Some (steps.Ends (written.Location n))
-place_begun (tokens.Mark OpenBracket) = Some (steps.Goes WantsName)
-place_begun (tokens.Number false t) = Some (steps.Goes (WantsColon t))
-place_begun t = None
+abbrev pub place_start : Token → Option PlaceStep
+place_start (tokens.Word n) = Some (steps.Ends (written.Location n))
+place_start (tokens.Mark OpenBracket) = Some (steps.Goes WantsName)
+place_start (tokens.Number false t) = Some (steps.Goes (WantsColon t))
+place_start t = None
 
 abbrev pub register_ends : List ℕ → Option ℕ → Option PlaceStep
 register_ends t (Some r) = Some (steps.Ends (written.Register t r))
 register_ends t None = None
 
-abbrev pub place_step : PlaceHole → Token → Option PlaceStep
-place_step Begins t = place_begun t
+abbrev pub place_step : PlaceExpectation → Token → Option PlaceStep
+place_step Begins t = place_start t
 place_step WantsName (tokens.Word n) = Some (steps.Goes (WantsBracket n))
 place_step WantsName t = None
 place_step (WantsBracket n) (tokens.Mark CloseBracket) = Some (steps.Ends (written.Location n))
@@ -58,6 +58,6 @@ is_there threads (tokens.Number negative ds) = nat_lt (decimal ds) threads
 is_there threads t = true
 
 -- what a function answers that takes a token or refuses it
-abbrev pub taken : {A : Type 0} → Option A → Result A StepError
-taken (Some x) = Ok x
-taken None = Err Refused
+abbrev pub or_refused : {A : Type 0} → Option A → Result A StepError
+or_refused (Some x) = Ok x
+or_refused None = Err Refused

@@ -5,10 +5,10 @@ use Rattle.litmus_conditions.specs.declared.step.StepError.{StepError}
 use Rattle.litmus_conditions.specs.declared.step.StepError.TheVariants as errors
 use Rattle.litmus_conditions.specs.declared.condition.Frame as code_frame
 use Rattle.litmus_conditions.specs.declared.condition.Frame.TheVariants as frames
-use Rattle.litmus_conditions.specs.declared.condition.Hole as code_hole
-use Rattle.litmus_conditions.specs.declared.condition.Hole.TheVariants as holes
-use Rattle.litmus_conditions.specs.declared.condition.Fed as code_fed
-use Rattle.litmus_conditions.specs.declared.condition.Fed.TheVariants as fed
+use Rattle.litmus_conditions.specs.declared.condition.Expectation as code_expectation
+use Rattle.litmus_conditions.specs.declared.condition.Expectation.TheVariants as expectations
+use Rattle.litmus_conditions.specs.declared.condition.PropositionStep as code_step
+use Rattle.litmus_conditions.specs.declared.condition.PropositionStep.TheVariants as code_steps
 use Rattle.litmus_conditions.specs.ConditionMachine as machine
 
 abbrev pub frame_of : code_frame.Frame → machine.Frame
@@ -24,25 +24,25 @@ stacked (f ∷ fs) below = stacked fs (frame_of f ∷ below)
 abbrev pub stack_of : List code_frame.Frame → List machine.Frame
 stack_of fs = stacked fs []
 
-abbrev pub hole_of : code_hole.Hole → machine.Hole
-hole_of holes.Wants = machine.Wants
-hole_of (holes.HasConstant b) = machine.HasConstant b
-hole_of holes.HasNot = machine.HasNot
-hole_of (holes.InPlace within) = machine.InPlace within
-hole_of (holes.WantsEquals p) = machine.WantsEquals p
-hole_of (holes.WantsValue p) = machine.WantsValue p
-hole_of (holes.Has a) = machine.Has (formula_of a)
+abbrev pub expectation_of : code_expectation.Expectation → machine.Expectation
+expectation_of expectations.Wants = machine.Wants
+expectation_of (expectations.HasConstant b) = machine.HasConstant b
+expectation_of expectations.HasNot = machine.HasNot
+expectation_of (expectations.InPlace within) = machine.InPlace within
+expectation_of (expectations.WantsEquals p) = machine.WantsEquals p
+expectation_of (expectations.WantsValue p) = machine.WantsValue p
+expectation_of (expectations.Has a) = machine.Has (formula_of a)
 
 -- what a token did is what the machine does, unless memory ran out
-abbrev pub Feeds : Result code_fed.Fed StepError → machine.Fed → Type 0
-Feeds (Ok (fed.Goes fs used hole)) made = made ≡ machine.Goes (stack_of fs.items) used (hole_of hole)
-Feeds (Ok (fed.Ends v)) made = made ≡ machine.Ends (formula_of v)
-Feeds (Err errors.OutOfMemory) made = Unit {0}
-Feeds (Err errors.Refused) made = made ≡ machine.Refuses
+abbrev pub StepsTo : Result code_step.PropositionStep StepError → machine.StepResult → Type 0
+StepsTo (Ok (code_steps.Goes fs used expected)) made = made ≡ machine.Goes (stack_of fs.items) used (expectation_of expected)
+StepsTo (Ok (code_steps.Ends v)) made = made ≡ machine.Ends (formula_of v)
+StepsTo (Err errors.OutOfMemory) made = Unit {0}
+StepsTo (Err errors.Refused) made = made ≡ machine.Refuses
 
 -- a part of a place was read, or the token refused
-abbrev pub ReadsPlace : Result code_hole.Hole StepError → Option machine.Hole → Type 0
-ReadsPlace (Ok hole) made = made ≡ Some (hole_of hole)
+abbrev pub ReadsPlace : Result code_expectation.Expectation StepError → Option machine.Expectation → Type 0
+ReadsPlace (Ok expected) made = made ≡ Some (expectation_of expected)
 ReadsPlace (Err errors.OutOfMemory) made = ⊥
 ReadsPlace (Err errors.Refused) made = made ≡ None
 

@@ -1,13 +1,13 @@
-//! Reads what a condition says, token by token.
+//! Reads propositions, token by token.
 
 ghost use Rattle.std.specs.Prelude.{◌≡◌, ◌∷◌, IfOk};
 ghost use Rattle.litmus_values.specs.Value.{formula_of};
 ghost use Rattle.litmus_conditions.specs.Grammar.{limits, constant_word};
 ghost use Rattle.litmus_conditions.specs.PlaceMachine.{place_step};
-ghost use Rattle.litmus_conditions.specs.ConditionMachine.{Goes, Wants, open_count, opened, fold_to, word_hole, place_hole, operand, joins, closed, ended, behind, is_equals, after_constant, after_not, after_place, feed};
-ghost use Rattle.litmus_conditions.specs.Reading.{frame_of, stack_of, hole_of, Feeds, ReadsPlace};
+ghost use Rattle.litmus_conditions.specs.ConditionMachine.{Goes, Wants, open_count, opened, fold_to, expected_after_word, expected_after_place, operand, joins, closed, ended, behind, is_equals, after_constant, after_not, after_place, proposition_step};
+ghost use Rattle.litmus_conditions.specs.Reading.{frame_of, stack_of, expectation_of, StepsTo, ReadsPlace};
 
-use crate::place::{PlaceHole, PlaceStep, place_step, value_read};
+use crate::place::{PlaceExpectation, PlaceStep, place_step, value_read};
 use crate::step::StepError;
 use litmus_tokens::{Mark, Token, decimal};
 use litmus_values::{Connective, Place, Proposition};
@@ -20,8 +20,8 @@ const MAX_NESTING: usize = 64;
 // How many binary operators a proposition may have.
 const MAX_OPERATORS: usize = 1024;
 
-/// What stands open to the left of a token.
-#[derive(Debug, Drop)]
+/// What is open to the left of a token.
+#[derive(Drop)]
 pub enum Frame {
     /// `(`
     Group,
@@ -31,32 +31,32 @@ pub enum Frame {
     Left(Connective, Proposition),
 }
 
-/// What was read last. The words `true`, `false` and `not` are decided at the token behind them:
-/// before an equals sign they are locations.
-#[derive(Debug, Drop)]
-pub enum Hole {
-    /// An operand is wanted.
-    Wants,
-    /// The word `true` or `false`.
-    HasConstant(bool),
-    /// The word `not`.
-    HasNot,
-    /// A part of a place.
-    InPlace(PlaceHole),
-    /// A place.
-    WantsEquals(Place),
-    /// A place and an equals sign.
-    WantsValue(Place),
+/// What the reader expects next, with what it read last. The words `true`, `false` and `not` are
+/// decided at the token behind them: before an equals sign they are locations.
+#[derive(Drop)]
+pub enum Expectation {
     /// An operand.
+    Wants,
+    /// The token behind the word `true` or `false`.
+    HasConstant(bool),
+    /// The token behind the word `not`.
+    HasNot,
+    /// The next token of an observable.
+    InPlace(PlaceExpectation),
+    /// The equals sign behind an observable.
+    WantsEquals(Place),
+    /// The value behind an observable and its equals sign.
+    WantsValue(Place),
+    /// An operator, a `)` or the end, behind an operand.
     Has(Proposition),
 }
 
-/// What a token did.
-#[derive(Debug, Drop)]
-pub enum Fed {
-    /// The proposition goes on: what is open, how many operators were read, and what was read last.
-    Goes(Vec<Frame>, usize, Hole),
-    /// The text has ended, and so has the proposition.
+/// The result of a step over a token.
+#[derive(Drop)]
+pub enum PropositionStep {
+    /// The proposition goes on: the open frames, the number of operators so far, and what is expected.
+    Goes(Vec<Frame>, usize, Expectation),
+    /// The text has ended, and with it the proposition.
     Ends(Proposition),
 }
 
@@ -115,15 +115,15 @@ fn open_frames(frames: &[Frame]) -> usize
 }
 
 // Opens a parenthesis or a prefix.
-fn opened(frames: Vec<Frame>, operators: usize, frame: Frame) -> Result<Fed, StepError>
-    ensures { Feeds result (opened limits (stack_of frames.items) (Goes (frame_of frame ∷ stack_of frames.items) operators Wants)) }
+fn opened(frames: Vec<Frame>, operators: usize, frame: Frame) -> Result<PropositionStep, StepError>
+    ensures { StepsTo result (opened limits (stack_of frames.items) (Goes (frame_of frame ∷ stack_of frames.items) operators Wants)) }
 {
     let mut frames = frames;
     if open_frames(&frames) >= MAX_NESTING {
         return Err(StepError::Refused);
     }
     frames.push(frame)?;
-    Ok(Fed::Goes(frames, operators, Hole::Wants))
+    Ok(PropositionStep::Goes(frames, operators, Expectation::Wants))
 }
 
 // A token where an operand is wanted.
@@ -132,52 +132,56 @@ fn operand(
     frames: Vec<Frame>,
     operators: usize,
     token: Token,
-) -> Result<Fed, StepError>
-    ensures { Feeds result (operand limits threads (stack_of frames.items) operators token) }
+) -> Result<PropositionStep, StepError>
+    ensures { StepsTo result (operand limits threads (stack_of frames.items) operators token) }
 {
     match token {
-        Token::Word(name) => Ok(Fed::Goes(frames, operators, word_hole(name))),
+        Token::Word(name) => Ok(PropositionStep::Goes(
+            frames,
+            operators,
+            expected_after_word(name),
+        )),
         Token::Mark(Mark::Tilde) => opened(frames, operators, Frame::Prefix),
         Token::Mark(Mark::Open) => opened(frames, operators, Frame::Group),
         Token::Mark(Mark::OpenBracket) => {
-            let hole = Hole::InPlace(PlaceHole::WantsName);
-            Ok(Fed::Goes(frames, operators, hole))
+            let expected = Expectation::InPlace(PlaceExpectation::WantsName);
+            Ok(PropositionStep::Goes(frames, operators, expected))
         }
         Token::Number(false, thread) => {
             if decimal(thread.as_bytes()) >= threads {
                 return Err(StepError::Refused);
             }
-            let hole = Hole::InPlace(PlaceHole::WantsColon(thread));
-            Ok(Fed::Goes(frames, operators, hole))
+            let expected = Expectation::InPlace(PlaceExpectation::WantsColon(thread));
+            Ok(PropositionStep::Goes(frames, operators, expected))
         }
         _ => Err(StepError::Refused),
     }
 }
 
 // What a word may begin.
-fn word_hole(name: Name) -> Hole
-    ensures { hole_of result ≡ word_hole name }
+fn expected_after_word(name: Name) -> Expectation
+    ensures { expectation_of result ≡ expected_after_word name }
 {
     let word = name.as_bytes();
     if word == b"true".as_slice() {
-        return Hole::HasConstant(true);
+        return Expectation::HasConstant(true);
     }
     if word == b"false".as_slice() {
-        return Hole::HasConstant(false);
+        return Expectation::HasConstant(false);
     }
     if word == b"not".as_slice() {
-        return Hole::HasNot;
+        return Expectation::HasNot;
     }
-    Hole::WantsEquals(Place::Location(name))
+    Expectation::WantsEquals(Place::Location(name))
 }
 
 // A token within a place.
-fn place_read(within: PlaceHole, token: Token) -> Result<Hole, StepError>
-    ensures { ReadsPlace result (place_hole (place_step within token)) }
+fn place_read(within: PlaceExpectation, token: Token) -> Result<Expectation, StepError>
+    ensures { ReadsPlace result (expected_after_place (place_step within token)) }
 {
     match place_step(within, token) {
-        Ok(PlaceStep::Goes(hole)) => Ok(Hole::InPlace(hole)),
-        Ok(PlaceStep::Ends(written)) => Ok(Hole::WantsEquals(written.into_place())),
+        Ok(PlaceStep::Goes(expected)) => Ok(Expectation::InPlace(expected)),
+        Ok(PlaceStep::Ends(written)) => Ok(Expectation::WantsEquals(written.into_place())),
         Err(e) => Err(e),
     }
 }
@@ -189,8 +193,8 @@ fn joins(
     operators: usize,
     left: Proposition,
     connective: Connective,
-) -> Result<Fed, StepError>
-    ensures { Feeds result (joins limits (stack_of frames.items) operators (formula_of left) connective) }
+) -> Result<PropositionStep, StepError>
+    ensures { StepsTo result (joins limits (stack_of frames.items) operators (formula_of left) connective) }
 {
     let mut frames = frames;
     if operators >= MAX_OPERATORS {
@@ -198,7 +202,7 @@ fn joins(
     }
     let left = joined(alloc, connective.level() + 1, &mut frames, left)?;
     frames.push(Frame::Left(connective, left))?;
-    Ok(Fed::Goes(frames, operators + 1, Hole::Wants))
+    Ok(PropositionStep::Goes(frames, operators + 1, Expectation::Wants))
 }
 
 // A closing parenthesis behind an operand.
@@ -207,28 +211,36 @@ fn closed(
     frames: Vec<Frame>,
     operators: usize,
     operand: Proposition,
-) -> Result<Fed, StepError>
-    ensures { Feeds result (closed operators (fold_to 0 (stack_of frames.items) (formula_of operand))) }
+) -> Result<PropositionStep, StepError>
+    ensures { StepsTo result (closed operators (fold_to 0 (stack_of frames.items) (formula_of operand))) }
 {
     let mut frames = frames;
     let operand = joined(alloc, 0, &mut frames, operand)?;
     match frames.pop() {
         None => Err(StepError::Refused),
-        Some(Frame::Group) => Ok(Fed::Goes(frames, operators, Hole::Has(operand))),
+        Some(Frame::Group) => Ok(PropositionStep::Goes(
+            frames,
+            operators,
+            Expectation::Has(operand),
+        )),
         Some(Frame::Prefix) => Err(StepError::Refused),
         Some(Frame::Left(_, _)) => Err(StepError::Refused),
     }
 }
 
 // The end of the text behind an operand.
-fn ended(alloc: Global, frames: Vec<Frame>, operand: Proposition) -> Result<Fed, StepError>
-    ensures { Feeds result (ended (fold_to 0 (stack_of frames.items) (formula_of operand))) }
+fn ended(
+    alloc: Global,
+    frames: Vec<Frame>,
+    operand: Proposition,
+) -> Result<PropositionStep, StepError>
+    ensures { StepsTo result (ended (fold_to 0 (stack_of frames.items) (formula_of operand))) }
 {
     let mut frames = frames;
     let operand = joined(alloc, 0, &mut frames, operand)?;
     match frames.pop() {
         Some(_) => Err(StepError::Refused),
-        None => Ok(Fed::Ends(operand)),
+        None => Ok(PropositionStep::Ends(operand)),
     }
 }
 
@@ -239,8 +251,8 @@ fn behind(
     operators: usize,
     operand: Proposition,
     token: Token,
-) -> Result<Fed, StepError>
-    ensures { Feeds result (behind limits (stack_of frames.items) operators (formula_of operand) token) }
+) -> Result<PropositionStep, StepError>
+    ensures { StepsTo result (behind limits (stack_of frames.items) operators (formula_of operand) token) }
 {
     match token {
         Token::Mark(Mark::And) => joins(alloc, frames, operators, operand, Connective::And),
@@ -274,12 +286,12 @@ fn after_constant(
     operators: usize,
     value: bool,
     token: Token,
-) -> Result<Fed, StepError>
-    ensures { Feeds result (after_constant limits (stack_of frames.items) operators value token) }
+) -> Result<PropositionStep, StepError>
+    ensures { StepsTo result (after_constant limits (stack_of frames.items) operators value token) }
 {
     if is_equals(&token) {
         let place = Place::Location(constant_name(alloc, value)?);
-        return Ok(Fed::Goes(frames, operators, Hole::WantsValue(place)));
+        return Ok(PropositionStep::Goes(frames, operators, Expectation::WantsValue(place)));
     }
     behind(
         alloc,
@@ -297,12 +309,12 @@ fn after_not(
     frames: Vec<Frame>,
     operators: usize,
     token: Token,
-) -> Result<Fed, StepError>
-    ensures { Feeds result (after_not limits threads (stack_of frames.items) operators token) }
+) -> Result<PropositionStep, StepError>
+    ensures { StepsTo result (after_not limits threads (stack_of frames.items) operators token) }
 {
     if is_equals(&token) {
         let place = Place::Location(Name::new(alloc, b"not")?);
-        return Ok(Fed::Goes(frames, operators, Hole::WantsValue(place)));
+        return Ok(PropositionStep::Goes(frames, operators, Expectation::WantsValue(place)));
     }
     let mut frames = frames;
     if open_frames(&frames) >= MAX_NESTING {
@@ -318,45 +330,45 @@ fn after_place(
     operators: usize,
     place: Place,
     token: Token,
-) -> Result<Fed, StepError>
-    ensures { Feeds result (after_place (stack_of frames.items) operators place token) }
+) -> Result<PropositionStep, StepError>
+    ensures { StepsTo result (after_place (stack_of frames.items) operators place token) }
 {
     if is_equals(&token) {
-        Ok(Fed::Goes(frames, operators, Hole::WantsValue(place)))
+        Ok(PropositionStep::Goes(frames, operators, Expectation::WantsValue(place)))
     } else {
         Err(StepError::Refused)
     }
 }
 
-/// Takes a token of a proposition, in a test of so many threads, where these frames are open, the
-/// innermost last, this many operators were read, and this was read last. A token with which no
-/// proposition within the limits goes on is refused.
-pub fn feed(
+/// The step over a token of a proposition, in a test of so many threads: `frames` are open, the innermost
+/// last, and `operators` counts the operators so far. Errors: out of memory, or the token is refused, as no
+/// proposition within the limits goes on with it.
+pub fn proposition_step(
     alloc: Global,
     threads: usize,
     frames: Vec<Frame>,
     operators: usize,
-    hole: Hole,
+    expected: Expectation,
     token: Token,
-) -> Result<Fed, StepError>
-    ensures { Feeds result (feed limits threads (stack_of frames.items) operators (hole_of hole) token) }
+) -> Result<PropositionStep, StepError>
+    ensures { StepsTo result (proposition_step limits threads (stack_of frames.items) operators (expectation_of expected) token) }
 {
-    match hole {
-        Hole::Wants => operand(threads, frames, operators, token),
-        Hole::HasConstant(value) => after_constant(alloc, frames, operators, value, token),
-        Hole::HasNot => after_not(alloc, threads, frames, operators, token),
-        Hole::InPlace(within) => match place_read(within, token) {
-            Ok(hole) => Ok(Fed::Goes(frames, operators, hole)),
+    match expected {
+        Expectation::Wants => operand(threads, frames, operators, token),
+        Expectation::HasConstant(value) => after_constant(alloc, frames, operators, value, token),
+        Expectation::HasNot => after_not(alloc, threads, frames, operators, token),
+        Expectation::InPlace(within) => match place_read(within, token) {
+            Ok(expected) => Ok(PropositionStep::Goes(frames, operators, expected)),
             Err(e) => Err(e),
         },
-        Hole::WantsEquals(place) => after_place(frames, operators, place, token),
-        Hole::WantsValue(place) => match value_read(token) {
+        Expectation::WantsEquals(place) => after_place(frames, operators, place, token),
+        Expectation::WantsValue(place) => match value_read(token) {
             Ok(value) => {
                 let atom = Proposition::Holds(place, value);
-                Ok(Fed::Goes(frames, operators, Hole::Has(atom)))
+                Ok(PropositionStep::Goes(frames, operators, Expectation::Has(atom)))
             }
             Err(e) => Err(e),
         },
-        Hole::Has(operand) => behind(alloc, frames, operators, operand, token),
+        Expectation::Has(operand) => behind(alloc, frames, operators, operand, token),
     }
 }

@@ -4,7 +4,7 @@ ghost use Rattle.std.specs.Prelude.{◌≡◌, ◌<◌, ℕ, List, [], Some};
 ghost use Rattle.litmus_values.specs.Value.{Formula};
 ghost use Rattle.litmus_tokens.specs.declared.token.Token.{Token};
 ghost use Rattle.litmus_conditions.specs.Grammar.{Limits, IsProposition};
-ghost use Rattle.litmus_conditions.specs.ConditionMachine.{Frame, Hole, Wants, proposition};
+ghost use Rattle.litmus_conditions.specs.ConditionMachine.{Frame, Expectation, Wants, proposition};
 ghost use Rattle.litmus_conditions.specs.Laws.{Finishes, TakesWhatBegins};
 
 /// Token by token, within any limits, the reader takes the propositions and nothing else, and gives what they
@@ -18,5 +18,5 @@ pub fn takes_propositions()
     // The tokens that it takes are those that begin a proposition.
     ensures stops { (most : Limits) (threads : ℕ) → threads < 18446744073709551616 → TakesWhatBegins most threads }
     // Wherever it stands, some tokens end the proposition.
-    ensures finishes { (most : Limits) (threads : ℕ) (frames : List Frame) (used : ℕ) (hole : Hole) → Finishes most threads frames used hole }
+    ensures finishes { (most : Limits) (threads : ℕ) (frames : List Frame) (used : ℕ) (expected : Expectation) → Finishes most threads frames used expected }
 {}

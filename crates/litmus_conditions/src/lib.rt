@@ -1,4 +1,5 @@
-//! Reads the places, the values and the propositions of litmus tests, token by token.
+//! The reader of the observables, the values and the propositions of litmus tests, token by token. Read
+//! specs/Grammar.antt first (`IsProposition`); `laws::takes_propositions` says that the reader reads that grammar.
 #![tactic(auto)]
 
 mod condition;
@@ -6,8 +7,8 @@ pub mod laws;
 mod place;
 mod step;
 
-pub use condition::{Fed, Frame, Hole, feed};
+pub use condition::{Expectation, Frame, PropositionStep, proposition_step};
 pub use place::{
-    PlaceHole, PlaceStep, WrittenPlace, is_there, place_step, register_of, value_read,
+    PlaceExpectation, PlaceStep, WrittenPlace, is_there, place_step, register_of, value_read,
 };
 pub use step::StepError;

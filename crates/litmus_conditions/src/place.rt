@@ -1,32 +1,32 @@
-//! Reads places and values.
+//! Reads observables (registers and locations) and values.
 
 ghost use Rattle.std.specs.Prelude.{◌≡◌};
 ghost use Rattle.litmus_tokens.specs.Words.{register_of};
-ghost use Rattle.litmus_conditions.specs.PlaceMachine.{place_begun, place_step, place_of, value_read, is_there, taken};
-ghost use Rattle.litmus_conditions.specs.declared.place.PlaceHole.TheVariants.{WantsRegister};
+ghost use Rattle.litmus_conditions.specs.PlaceMachine.{place_start, place_step, place_of, value_read, is_there, or_refused};
+ghost use Rattle.litmus_conditions.specs.declared.place.PlaceExpectation.TheVariants.{WantsRegister};
 
 use crate::step::StepError;
 use litmus_tokens::{Mark, Token, decimal, register_number, signed_number};
 use litmus_values::{Place, Register, Value};
 use source_text::Name;
 
-/// Where in a place the reader stands.
-#[derive(Debug, Drop)]
-pub enum PlaceHole {
-    /// Nothing was read yet.
+/// What the reader of an observable expects next.
+#[derive(Drop)]
+pub enum PlaceExpectation {
+    /// The first token.
     Begins,
-    /// Behind `[`.
+    /// The name behind `[`.
     WantsName,
-    /// Behind `[` and this name.
+    /// The `]` behind this name.
     WantsBracket(Name),
-    /// Behind the digits of a thread's number.
+    /// The colon behind these digits of a thread's number.
     WantsColon(Name),
-    /// Behind these digits and a colon.
+    /// The register behind these digits and a colon.
     WantsRegister(Name),
 }
 
-/// A place as it is written: a thread keeps its digits, as its number may be of any size.
-#[derive(Debug, Drop)]
+/// An observable as the text writes it. A thread keeps its digits, since its number can have any size.
+#[derive(Drop)]
 pub enum WrittenPlace {
     /// A location, with its brackets or without.
     Location(Name),
@@ -34,17 +34,17 @@ pub enum WrittenPlace {
     Register(Name, Register),
 }
 
-/// What a token did.
-#[derive(Debug, Drop)]
+/// The result of a step over a token.
+#[derive(Drop)]
 pub enum PlaceStep {
-    /// The place goes on.
-    Goes(PlaceHole),
-    /// The place ended with this token.
+    /// The observable goes on.
+    Goes(PlaceExpectation),
+    /// The observable ends with this token.
     Ends(WrittenPlace),
 }
 
 impl WrittenPlace {
-    /// The place: a number of a thread that is too great is the greatest that fits.
+    /// The observable. The number of a thread that does not fit is the greatest `usize`.
     pub fn into_place(self) -> Place
         ensures { result ≡ place_of self }
     {
@@ -57,43 +57,45 @@ impl WrittenPlace {
     }
 }
 
-/// Takes a token of a place, or refuses it where no place goes on with it.
-pub fn place_step(hole: PlaceHole, token: Token) -> Result<PlaceStep, StepError>
-    ensures { result ≡ taken (place_step hole token) }
+/// The step over a token of an observable. Errors: the token is refused, as no observable goes on with it.
+pub fn place_step(expected: PlaceExpectation, token: Token) -> Result<PlaceStep, StepError>
+    ensures { result ≡ or_refused (place_step expected token) }
 {
-    match hole {
-        PlaceHole::Begins => place_begun(token),
-        PlaceHole::WantsName => match token {
-            Token::Word(name) => Ok(PlaceStep::Goes(PlaceHole::WantsBracket(name))),
+    match expected {
+        PlaceExpectation::Begins => place_start(token),
+        PlaceExpectation::WantsName => match token {
+            Token::Word(name) => Ok(PlaceStep::Goes(PlaceExpectation::WantsBracket(name))),
             _ => Err(StepError::Refused),
         },
-        PlaceHole::WantsBracket(name) => match token {
+        PlaceExpectation::WantsBracket(name) => match token {
             Token::Mark(Mark::CloseBracket) => Ok(PlaceStep::Ends(WrittenPlace::Location(name))),
             _ => Err(StepError::Refused),
         },
-        PlaceHole::WantsColon(thread) => match token {
-            Token::Mark(Mark::Colon) => Ok(PlaceStep::Goes(PlaceHole::WantsRegister(thread))),
+        PlaceExpectation::WantsColon(thread) => match token {
+            Token::Mark(Mark::Colon) => Ok(PlaceStep::Goes(PlaceExpectation::WantsRegister(
+                thread,
+            ))),
             _ => Err(StepError::Refused),
         },
-        PlaceHole::WantsRegister(thread) => register_read(thread, token),
+        PlaceExpectation::WantsRegister(thread) => register_read(thread, token),
     }
 }
 
 // The first token of a place.
-fn place_begun(token: Token) -> Result<PlaceStep, StepError>
-    ensures { result ≡ taken (place_begun token) }
+fn place_start(token: Token) -> Result<PlaceStep, StepError>
+    ensures { result ≡ or_refused (place_start token) }
 {
     match token {
         Token::Word(name) => Ok(PlaceStep::Ends(WrittenPlace::Location(name))),
-        Token::Mark(Mark::OpenBracket) => Ok(PlaceStep::Goes(PlaceHole::WantsName)),
-        Token::Number(false, thread) => Ok(PlaceStep::Goes(PlaceHole::WantsColon(thread))),
+        Token::Mark(Mark::OpenBracket) => Ok(PlaceStep::Goes(PlaceExpectation::WantsName)),
+        Token::Number(false, thread) => Ok(PlaceStep::Goes(PlaceExpectation::WantsColon(thread))),
         _ => Err(StepError::Refused),
     }
 }
 
 // The register behind the digits of a thread's number and a colon.
 fn register_read(thread: Name, token: Token) -> Result<PlaceStep, StepError>
-    ensures { result ≡ taken (place_step (WantsRegister thread) token) }
+    ensures { result ≡ or_refused (place_step (WantsRegister thread) token) }
 {
     match token {
         Token::Word(word) => match register_of(word.as_bytes()) {
@@ -104,7 +106,7 @@ fn register_read(thread: Name, token: Token) -> Result<PlaceStep, StepError>
     }
 }
 
-/// The register that a word names, if it names one.
+/// The register that a word names, or `None`.
 pub fn register_of(word: &[u8]) -> Option<Register>
     ensures { result ≡ register_of word.now }
 {
@@ -114,9 +116,9 @@ pub fn register_of(word: &[u8]) -> Option<Register>
     }
 }
 
-/// The value that a token is: a number of 32 bits or a location's address. Another token is refused.
+/// The value that a token means: a number of 32 bits or the address of a location. Errors: another token is refused.
 pub fn value_read(token: Token) -> Result<Value, StepError>
-    ensures { result ≡ taken (value_read token) }
+    ensures { result ≡ or_refused (value_read token) }
 {
     match token {
         Token::Word(name) => Ok(Value::Address(name)),
@@ -130,7 +132,7 @@ pub fn value_read(token: Token) -> Result<Value, StepError>
     }
 }
 
-/// Whether the token, if it is the number of a thread, is that of one of so many.
+/// Whether a token that is a number is below the number of threads; other tokens pass.
 pub fn is_there(threads: usize, token: &Token) -> bool
     ensures { result ≡ is_there threads token.now }
 {

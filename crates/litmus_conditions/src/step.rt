@@ -1,14 +1,14 @@
-//! Why a token was not taken.
+//! Why a step failed.
 
 ghost use Rattle.std.specs.Prelude.{◌≡◌};
 ghost use Rattle.litmus_conditions.specs.declared.step.StepError.TheVariants.{OutOfMemory};
 
 use std::alloc::{AllocError, AllocFailed};
 
-/// Why a token was not taken.
-#[derive(Debug, Drop)]
+/// Why a step over a token failed.
+#[derive(Drop)]
 pub enum StepError {
-    /// A growth was refused.
+    /// Memory ran out.
     OutOfMemory,
     /// The token cannot stand here.
     Refused,

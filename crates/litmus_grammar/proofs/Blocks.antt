@@ -15,14 +15,14 @@ use Rattle.litmus_table.specs.Grammar.{spelled_header, spelled_names, columns_me
 use Rattle.litmus_table.specs.Late.{columns_notes}
 use Rattle.litmus_table.specs.Machine as table
 use Rattle.litmus_table.specs.Laws.{columns, steps_of, AreNoted}
-use Rattle.litmus_grammar.specs.declared.parts.InitHole.TheVariants as holes
+use Rattle.litmus_grammar.specs.declared.parts.InitExpectation.TheVariants as expectations
 use Rattle.litmus_grammar.specs.declared.parts.InitStep.{InitStep}
 use Rattle.litmus_grammar.specs.declared.parts.InitStep.TheVariants as init_steps
 use Rattle.litmus_grammar.specs.declared.parts.TextKind.TheVariants as kinds
 use Rattle.litmus_grammar.specs.Grammar.{Listed, EntryTree, spelled_entry, spelled_end, spelled_others, spelled_init, members, AreEntries, IsInitText}
 use Rattle.litmus_grammar.specs.InitMachine as init
 use Rattle.litmus_grammar.specs.TextMachine as text
-use Rattle.litmus_grammar.specs.TextMachine.{Part, Held, Next, State, Ran, placed, and_then, stepped, part_step, nothing, start, run}
+use Rattle.litmus_grammar.specs.TextMachine.{Part, Draft, Next, State, Ran, placed, and_then, stepped, part_step, nothing, start, run}
 use Rattle.litmus_grammar.specs.Texts.{IsStart, IsWhole, BreaksOff, IsBrokenOff}
 use Rattle.litmus_grammar.proofs.Bodies.{IsRows, IsName, header_at, header_begins, any_header, rows_at, name_step, names_led, rows_led}
 use Rattle.litmus_grammar.proofs.Ends.{ends_done}
@@ -44,16 +44,16 @@ move [] r1 r2 [] t ts n e x = absurd cc
 move [] r1 r2 (u ∷ b) t ts n e x = absurd cc
 move (p ∷ q) r1 r2 [] t ts n e x = by_before x.before x.here x.behind x.split x.same x.at_place
   where
-    by_before : (before : List Placed) (here : Placed) (behind : List Placed) → (p ∷ q) ++ r1 ≡ before ++ here ∷ behind → tokens_of before ≡ [] → here.place ≡ n → StandsAt ((p ∷ q) ++ r2) [] n
+    by_before : (before : List Placed) (here : Placed) (behind : List Placed) → (p ∷ q) ++ r1 ≡ before ++ here ∷ behind → tokens_of before ≡ [] → here.offset ≡ n → StandsAt ((p ∷ q) ++ r2) [] n
     by_before [] here behind k same at_place =
         let first : p ≡ here = cc in
-        record { before = []; here = p; behind = q ++ r2; split = refl; same = refl; at_place = ap (λ (y : Placed). y.place) first ∙ at_place }
+        record { before = []; here = p; behind = q ++ r2; split = refl; same = refl; at_place = ap (λ (y : Placed). y.offset) first ∙ at_place }
     by_before (y ∷ before) here behind k same at_place = absurd cc
 move (p ∷ q) r1 r2 (u ∷ b) t ts n e x =
     let left : tokens_of q ≡ b ++ (t ∷ ts) = cc in
     by_before x.before x.here x.behind x.split x.same x.at_place (λ y. move q r1 r2 b t ts n left y)
   where
-    by_before : (before : List Placed) (here : Placed) (behind : List Placed) → (p ∷ q) ++ r1 ≡ before ++ here ∷ behind → tokens_of before ≡ u ∷ b → here.place ≡ n → (StandsAt (q ++ r1) b n → StandsAt (q ++ r2) b n) → StandsAt ((p ∷ q) ++ r2) (u ∷ b) n
+    by_before : (before : List Placed) (here : Placed) (behind : List Placed) → (p ∷ q) ++ r1 ≡ before ++ here ∷ behind → tokens_of before ≡ u ∷ b → here.offset ≡ n → (StandsAt (q ++ r1) b n → StandsAt (q ++ r2) b n) → StandsAt ((p ∷ q) ++ r2) (u ∷ b) n
     by_before [] here behind k same at_place later = absurd cc
     by_before (y ∷ before) here behind k same at_place later =
         let first : p.token ≡ u = cc in
@@ -124,39 +124,39 @@ pub record IsBody (ts : List Token) : Type 0 where
   pub whole : ts ≡ spelled_init entries (spelled_header others behind)
 
 abbrev pub brace_at : ℕ → Placed
-brace_at n = record { token = tokens.Mark marks.OpenBrace; place = n }
+brace_at n = record { token = tokens.Mark marks.OpenBrace; offset = n }
 
 abbrev pub in_block : Part → Bool
-in_block (text.Init hole) = true
+in_block (text.Init expected) = true
 in_block p = false
 
 module _ (name : List ℕ) where
-  abbrev with_block : Held → Held
+  abbrev with_block : Draft → Draft
   with_block h = early name h.init table.start []
 
   abbrev AlikeBlock : Option Next → Option Next → Type 0
   AlikeBlock a b = Alike with_block text.WantsEnd text.WantsColumn in_block a b
 
-  did_alike : (h : Held) (x : InitStep) (b : init.Block) → AlikeBlock (text.init_went kinds.Init h (Some (record { step = x; block = b }))) (text.init_went kinds.Test (with_block h) (Some (record { step = x; block = b })))
-  did_alike h (init_steps.Goes hole) b = (refl, inl (refl, refl))
+  did_alike : (h : Draft) (x : InitStep) (b : init.Block) → AlikeBlock (text.init_result kinds.Init h (Some (record { step = x; block = b }))) (text.init_result kinds.Test (with_block h) (Some (record { step = x; block = b })))
+  did_alike h (init_steps.Goes expected) b = (refl, inl (refl, refl))
   did_alike h init_steps.Ends b = (refl, inr (refl, refl))
 
-  went_alike : (h : Held) (o : Option init.Did) → AlikeBlock (text.init_went kinds.Init h o) (text.init_went kinds.Test (with_block h) o)
-  went_alike h None = tt
-  went_alike h (Some d) = did_alike h d.step d.block
+  init_result_alike : (h : Draft) (o : Option init.Did) → AlikeBlock (text.init_result kinds.Init h o) (text.init_result kinds.Test (with_block h) o)
+  init_result_alike h None = tt
+  init_result_alike h (Some d) = did_alike h d.step d.block
 
-  block_alike : (p : Part) (h : Held) (x : Token) (place : ℕ) → in_block p ≡ true → AlikeBlock (part_step kinds.Init 0 h p x place) (part_step kinds.Test 0 (with_block h) p x place)
-  block_alike (text.Init hole) h x place i = went_alike h (init.step h.init hole x place)
-  block_alike p h x place i = absurd cc
+  block_alike : (p : Part) (h : Draft) (x : Token) (offset : ℕ) → in_block p ≡ true → AlikeBlock (part_step kinds.Init 0 h p x offset) (part_step kinds.Test 0 (with_block h) p x offset)
+  block_alike (text.Init expected) h x offset i = init_result_alike h (init.step h.init expected x offset)
+  block_alike p h x offset i = absurd cc
 
-  abbrev begun : Held
-  begun = nothing kinds.Init
+  abbrev first_draft : Draft
+  first_draft = nothing kinds.Init
 
   abbrev first : Stage
   first = after (stages.Init true false) (tokens.Mark marks.OpenBrace)
 
   abbrev pub block_at : Stage → State
-  block_at g = test_at g (text.Init holes.WantsEntry) (early name init.start table.start [])
+  block_at g = test_at g (text.Init expectations.WantsEntry) (early name init.start table.start [])
 
   -- what the test may still begin
   pub data Opened (ps : List Placed) (n : ℕ) (s : State) : Type 0 where
@@ -176,10 +176,10 @@ module _ (name : List ℕ) where
       }
 
   -- a block that is read to its end
-  block_text : (ps : List Placed) (n : ℕ) (f : Stage) (h : Held) → run (text_at kinds.Init 0 first (text.Init holes.WantsEntry) begun) ps ≡ Ok (text_at kinds.Init 0 f text.WantsEnd h) → (es : Option (Listed EntryTree)) × AreEntries [] (members es) × (tokens_of (brace_at n ∷ ps) ≡ spelled_init es [])
+  block_text : (ps : List Placed) (n : ℕ) (f : Stage) (h : Draft) → run (text_at kinds.Init 0 first (text.Init expectations.WantsEntry) first_draft) ps ≡ Ok (text_at kinds.Init 0 f text.WantsEnd h) → (es : Option (Listed EntryTree)) × AreEntries [] (members es) × (tokens_of (brace_at n ∷ ps) ≡ spelled_init es [])
   block_text ps n f h e =
       let all = brace_at n ∷ (ps ++ last_at 0 ∷ []) in
-      let done : run (start kinds.Init 0) all ≡ Ok (text_at kinds.Init 0 (after f tokens.End) text.Done h) = run-append (text_at kinds.Init 0 first (text.Init holes.WantsEntry) begun) (text_at kinds.Init 0 f text.WantsEnd h) ps (last_at 0 ∷ []) e in
+      let done : run (start kinds.Init 0) all ≡ Ok (text_at kinds.Init 0 (after f tokens.End) text.Done h) = run-append (text_at kinds.Init 0 first (text.Init expectations.WantsEntry) first_draft) (text_at kinds.Init 0 f text.WantsEnd h) ps (last_at 0 ∷ []) e in
       let x = init_whole 0 all _ done refl in (
         x.entries,
         x.fine,
@@ -188,7 +188,7 @@ module _ (name : List ℕ) where
       )
 
   pub block_begins : (ps : List Placed) (n : ℕ) (g : Stage) (s : State) → length ps + 1 < 18446744073709551616 → run (block_at g) ps ≡ Ok s → Opened ps n s
-  block_begins ps n g s few e = by_pass (passes kinds.Init 0 with_block text.WantsEnd text.WantsColumn in_block block_alike ps first g (text.Init holes.WantsEntry) begun s refl e)
+  block_begins ps n g s few e = by_pass (passes kinds.Init 0 with_block text.WantsEnd text.WantsColumn in_block block_alike ps first g (text.Init expectations.WantsEntry) first_draft s refl e)
     where
       ts : List Token
       ts = tokens_of (brace_at n ∷ ps)
@@ -196,7 +196,7 @@ module _ (name : List ℕ) where
       any : Begins (IsName 0) []
       any = any_header name init.start false 0 (omega arith)
 
-      by_rest : (h : Held) (p : Part) (f : Stage) → in_block p ≡ true → run (start kinds.Init 0) (brace_at n ∷ ps) ≡ Ok (text_at kinds.Init 0 f p h) → (es : Option (Listed EntryTree)) → AreEntries [] (members es) → (rest : List Token) → Rest ts rest (spelled_init es []) tokens.End → Opened ps n s
+      by_rest : (h : Draft) (p : Part) (f : Stage) → in_block p ≡ true → run (start kinds.Init 0) (brace_at n ∷ ps) ≡ Ok (text_at kinds.Init 0 f p h) → (es : Option (Listed EntryTree)) → AreEntries [] (members es) → (rest : List Token) → Rest ts rest (spelled_init es []) tokens.End → Opened ps n s
       by_rest h p f i r es fine rest (Nothing k) =
           let cut = split (brace_at n ∷ ps) (spelled_init es []) (tokens.End ∷ []) k in
           let end = single cut.behind tokens.End cut.are_behind in
@@ -204,18 +204,18 @@ module _ (name : List ℕ) where
           absurd (let no : true ≡ false = sym i ∙ ap in_block d in cc)
       by_rest h p f i r es fine rest (More more k m) = IsOne (record { rest = more ++ any.rest; text = subst IsBody (append_assoc ts more any.rest) (body_of (ts ++ more) any.rest es fine m any.text) })
 
-      by_start : (h : Held) (p : Part) (f : Stage) → in_block p ≡ true → s.part ≡ p → run (start kinds.Init 0) (brace_at n ∷ ps) ≡ Ok (text_at kinds.Init 0 f p h) → (rest : List Token) → IsStart IsInitText (stages.Init true false) (ts ++ rest) → Opened ps n s
+      by_start : (h : Draft) (p : Part) (f : Stage) → in_block p ≡ true → s.part ≡ p → run (start kinds.Init 0) (brace_at n ∷ ps) ≡ Ok (text_at kinds.Init 0 f p h) → (rest : List Token) → IsStart IsInitText (stages.Init true false) (ts ++ rest) → Opened ps n s
       by_start h p f i q r rest (IsWhole x) = by_rest h p f i r x.entries x.fine rest (rest_of ts rest (spelled_init x.entries []) tokens.End (x.whole ∙ sym (init-append x.entries [] (tokens.End ∷ []))))
       by_start h p f i q r rest (BreaksOff x) = IsBroken (ap in_block q ∙ i) rest x
 
-      by_pass : Stays kinds.Init 0 with_block text.WantsEnd text.WantsColumn in_block block_alike first g (text.Init holes.WantsEntry) begun ps s ⊎ Leaves kinds.Init 0 with_block text.WantsEnd text.WantsColumn in_block block_alike first g (text.Init holes.WantsEntry) begun ps s → Opened ps n s
+      by_pass : Stays kinds.Init 0 with_block text.WantsEnd text.WantsColumn in_block block_alike first g (text.Init expectations.WantsEntry) first_draft ps s ⊎ Leaves kinds.Init 0 with_block text.WantsEnd text.WantsColumn in_block block_alike first g (text.Init expectations.WantsEntry) first_draft ps s → Opened ps n s
       by_pass (inl r) =
           let b = (init_reading 0).begins (brace_at n ∷ ps) _ r.by in
-          by_start r.held r.part _ r.inside (ap (λ (x : State). x.part) r.same) r.by b.rest b.text
+          by_start r.draft r.part _ r.inside (ap (λ (x : State). x.part) r.same) r.by b.rest b.text
       by_pass (inr r) =
-          let x = block_text r.before n _ r.held r.by in
+          let x = block_text r.before n _ r.draft r.by in
           let many : length ps ≡ length r.before + length r.behind = ap (λ (l : List Placed). length l) r.whole ∙ length-append r.before r.behind in
-          let b = header_begins name r.held.init r.behind false 0 (stage_after g (tokens_of r.before)) s (let h : 0 + length r.behind + 1 < 18446744073709551616 = omega (arith, few, many) in h) r.on in
+          let b = header_begins name r.draft.init r.behind false 0 (stage_after g (tokens_of r.before)) s (let h : 0 + length r.behind + 1 < 18446744073709551616 = omega (arith, few, many) in h) r.on in
           let us = tokens_of (brace_at n ∷ r.before) in
           let same : ts ≡ us ++ tokens_of r.behind = ap (λ (y : List Placed). tokens_of (brace_at n ∷ y)) r.whole ∙ ap (λ (y : List Token). tokens.Mark marks.OpenBrace ∷ y) (tokens_of-append r.before r.behind) in
           IsOne (record {
@@ -250,15 +250,15 @@ module _ (name : List ℕ) where
       ap (λ (y : List Token). tokens.Mark marks.OpenBrace ∷ y) (tokens_of-append q (last_at 0 ∷ [])) ∙ ap (λ (y : List Token). y ++ tokens.End ∷ []) e ∙ init-append es [] (tokens.End ∷ []) in
       let t = init_taken 0 es all fine whole in
       let d = ends_done (start kinds.Init 0) t.state (brace_at n ∷ q) 0 t.by in
-      let m = ends kinds.Init 0 with_block text.WantsEnd text.WantsColumn in_block block_alike (q ++ last_at 0 ∷ []) first (text.Init holes.WantsEntry) begun t.state refl t.by (ap in_block d) in
-      let b = end_behind kinds.Init 0 (stage_after first (tokens_of m.before)) m.held m.behind t.state m.by d in
+      let m = ends kinds.Init 0 with_block text.WantsEnd text.WantsColumn in_block block_alike (q ++ last_at 0 ∷ []) first (text.Init expectations.WantsEntry) first_draft t.state refl t.by (ap in_block d) in
+      let b = end_behind kinds.Init 0 (stage_after first (tokens_of m.before)) m.draft m.behind t.state m.by d in
       let same : q ≡ m.before = unsnoc_placed q m.before (last_at 0) (last_at b.0) (m.whole ∙ ap (λ (y : List Placed). m.before ++ y) b.1) in
       record {
         stage = stage_after g (tokens_of m.before);
-        block = m.held.init;
+        block = m.draft.init;
         by = ap (run (block_at g)) same ∙ m.led g;
-        entries = ap (λ (h : Held). h.init.entries) (sym b.2) ∙ t.entries;
-        stand = subst (λ (h : Held). AreStarts all (tokens.Mark marks.OpenBrace ∷ []) (members es) h.init.starts) b.2 t.stand;
+        entries = ap (λ (h : Draft). h.init.entries) (sym b.2) ∙ t.entries;
+        stand = subst (λ (h : Draft). AreStarts all (tokens.Mark marks.OpenBrace ∷ []) (members es) h.init.starts) b.2 t.stand;
       }
 
   -- where the entries begin in the whole text
@@ -289,8 +289,8 @@ module _ (name : List ℕ) where
         reached = r.reached;
         by =
             run-append (block_at g) (header_at name t.block false t.stage 0) q (w ∷ b) t.by
-            ∙ ap (λ (y : Token). run (header_at name t.block false t.stage 0) (record { token = y; place = w.place } ∷ b)) first_name
-            ∙ name_step name t.block 0 w.place b t.stage
+            ∙ ap (λ (y : Token). run (header_at name t.block false t.stage 0) (record { token = y; offset = w.offset } ∷ b)) first_name
+            ∙ name_step name t.block 0 w.offset b t.stage
             ∙ ap (run (header_at name t.block true g2 0)) l.whole
             ∙ run-append (header_at name t.block true g2 0) (rows_at name t.block l.stage (columns (0 + others))) l.before l.left l.by
             ∙ ap (λ (j : ℕ). run (rows_at name t.block l.stage (columns j)) l.left) z

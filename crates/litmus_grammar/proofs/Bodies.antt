@@ -3,6 +3,7 @@ use Rattle.std.proofs.Common.{◌≡◌, ℕ, zero, suc, ◌+◌, ◌<◌, ◌�
 use Rattle.std.specs.Prelude.{◌&&◌, if◌then◌else◌}
 use Rattle.std.proofs.Math.Numerals.{add-one}
 use Rattle.std.proofs.lemmas.Slice.Eq.{bytes_eq-Decides}
+use Rattle.std.proofs.lemmas.Bool.{and_parts}
 use Rattle.litmus_tokens.specs.declared.stage.Stage.{Stage}
 use Rattle.litmus_tokens.specs.declared.token.Token.{Token}
 use Rattle.litmus_tokens.specs.declared.token.Token.TheVariants as tokens
@@ -21,11 +22,10 @@ use Rattle.litmus_table.specs.Laws.{IsTable, columns, then_on, steps_of, AreNote
 use Rattle.litmus_table.proofs.Rules.{apart}
 use Rattle.litmus_table.proofs.Sound.{table_sound, columns-length}
 use Rattle.litmus_table.proofs.Tables.{table_complete, table_begins}
-use Rattle.litmus_table.proofs.Tests.{both}
 use Rattle.litmus_grammar.specs.Grammar.{members, AreItems}
 use Rattle.litmus_grammar.specs.InitMachine as init
 use Rattle.litmus_grammar.specs.TextMachine as text
-use Rattle.litmus_grammar.specs.TextMachine.{Held, Next, State, Ran, placed, and_then, stepped, run}
+use Rattle.litmus_grammar.specs.TextMachine.{Draft, Next, State, Ran, placed, and_then, stepped, run}
 use Rattle.litmus_grammar.proofs.Passing.{test_at}
 use Rattle.litmus_grammar.proofs.Runs.{tokens_of-append, run-append}
 use Rattle.litmus_grammar.proofs.Spelled.{rows-append}
@@ -101,14 +101,14 @@ IsHeader true k ts = IsNames k ts
 -- ---- the rows
 
 module _ (name : List ℕ) (block : init.Block) where
-  abbrev pub held_at : table.State → Held
-  held_at u = early name block u []
+  abbrev pub draft_at : table.State → Draft
+  draft_at u = early name block u []
 
   abbrev pub rows_at : Stage → table.State → State
-  rows_at g u = test_at g text.Rows (held_at u)
+  rows_at g u = test_at g text.Rows (draft_at u)
 
   abbrev row_step : Stage → table.State → Placed → List Placed → Option Next → Ran
-  row_step g u p ps o = and_then (placed p.place (stepped (rows_at g u) p.token o)) (λ x. run x ps)
+  row_step g u p ps o = and_then (placed p.offset (stepped (rows_at g u) p.token o)) (λ x. run x ps)
 
   -- the test is still within the table
   record Within (g : Stage) (u : table.State) (ps : List Placed) (s : State) : Type 0 where
@@ -125,9 +125,9 @@ module _ (name : List ℕ) (block : init.Block) where
     whole : ps ≡ before ++ token ∷ behind
     by : laws.run u before ≡ Some reached
     row : table.is_row_start reached ≡ true
-    on : row_step (stage_after g (tokens_of before)) reached token behind (text.leads (held_at reached) (text.tail_begun token.token)) ≡ Ok s
+    on : row_step (stage_after g (tokens_of before)) reached token behind (text.next_at (draft_at reached) (text.tail_start token.token)) ≡ Ok s
 
-  within_on : (g : Stage) (u v : table.State) (p : Placed) (ps : List Placed) (s : State) → table.step u p.token p.place ≡ Some v → Within (after g p.token) v ps s ⊎ Behind (after g p.token) v ps s → Within g u (p ∷ ps) s ⊎ Behind g u (p ∷ ps) s
+  within_on : (g : Stage) (u v : table.State) (p : Placed) (ps : List Placed) (s : State) → table.step u p.token p.offset ≡ Some v → Within (after g p.token) v ps s ⊎ Behind (after g p.token) v ps s → Within g u (p ∷ ps) s ⊎ Behind g u (p ∷ ps) s
   within_on g u v p ps s e (inl r) = inl (record { reached = r.reached; by = ap (then_on (λ x. laws.run x ps)) e ∙ r.by; same = r.same })
   within_on g u v p ps s e (inr r) =
       inr (record {
@@ -147,37 +147,37 @@ module _ (name : List ℕ) (block : init.Block) where
       inl (record { reached = u; by = refl; same = sym same })
   rows_pass (p ∷ ps) u g s e = by_tail (table.is_row_start u && begins_tail p.token) refl e (λ v k. rows_pass ps v (after g p.token) s k)
     where
-      by_step : (o : Option table.State) → table.step u p.token p.place ≡ o → row_step g u p ps (text.table_went (held_at u) text.Rows o) ≡ Ok s
+      by_step : (o : Option table.State) → table.step u p.token p.offset ≡ o → row_step g u p ps (text.table_result (draft_at u) text.Rows o) ≡ Ok s
           → ((v : table.State) → run (rows_at (after g p.token) v) ps ≡ Ok s → Within (after g p.token) v ps s ⊎ Behind (after g p.token) v ps s) → Within g u (p ∷ ps) s ⊎ Behind g u (p ∷ ps) s
       by_step None c k later = absurd cc
       by_step (Some v) c k later = within_on g u v p ps s c (later v k)
 
-      by_tail : (b : Bool) → (table.is_row_start u && begins_tail p.token) ≡ b → row_step g u p ps (if b then text.leads (held_at u) (text.tail_begun p.token) else text.table_went (held_at u) text.Rows (table.step u p.token p.place)) ≡ Ok s
+      by_tail : (b : Bool) → (table.is_row_start u && begins_tail p.token) ≡ b → row_step g u p ps (if b then text.next_at (draft_at u) (text.tail_start p.token) else text.table_result (draft_at u) text.Rows (table.step u p.token p.offset)) ≡ Ok s
           → ((v : table.State) → run (rows_at (after g p.token) v) ps ≡ Ok s → Within (after g p.token) v ps s ⊎ Behind (after g p.token) v ps s) → Within g u (p ∷ ps) s ⊎ Behind g u (p ∷ ps) s
-      by_tail true c k later = inr (record { before = []; token = p; behind = ps; reached = u; whole = refl; by = refl; row = (both (table.is_row_start u) (begins_tail p.token) c).0; on = k })
-      by_tail false c k later = by_step (table.step u p.token p.place) refl k later
+      by_tail true c k later = inr (record { before = []; token = p; behind = ps; reached = u; whole = refl; by = refl; row = (and_parts (table.is_row_start u) (begins_tail p.token) c).0; on = k })
+      by_tail false c k later = by_step (table.step u p.token p.offset) refl k later
 
   -- a token that the table takes ends no table
-  row_goes : (u v : table.State) (t : Token) (place : ℕ) → table.step u t place ≡ Some v → text.row_read (held_at u) t place ≡ Some (record { part = text.Rows; held = held_at v })
-  row_goes u v t place e = choose (table.is_row_start u && begins_tail t) refl
+  row_goes : (u v : table.State) (t : Token) (offset : ℕ) → table.step u t offset ≡ Some v → text.row_read (draft_at u) t offset ≡ Some (record { part = text.Rows; draft = draft_at v })
+  row_goes u v t offset e = choose (table.is_row_start u && begins_tail t) refl
     where
-      choose : (b : Bool) → (table.is_row_start u && begins_tail t) ≡ b → (if b then text.leads (held_at u) (text.tail_begun t) else text.table_went (held_at u) text.Rows (table.step u t place)) ≡ Some (record { part = text.Rows; held = held_at v })
+      choose : (b : Bool) → (table.is_row_start u && begins_tail t) ≡ b → (if b then text.next_at (draft_at u) (text.tail_start t) else text.table_result (draft_at u) text.Rows (table.step u t offset)) ≡ Some (record { part = text.Rows; draft = draft_at v })
       choose true c =
-          let b = both (table.is_row_start u) (begins_tail t) c in
-          let none = apart u t place b.0 b.1 in
+          let b = and_parts (table.is_row_start u) (begins_tail t) c in
+          let none = apart u t offset b.0 b.1 in
           absurd (let no : Some v ≡ None = sym e ∙ none in cc)
-      choose false c = ap (text.table_went (held_at u) text.Rows) e
+      choose false c = ap (text.table_result (draft_at u) text.Rows) e
 
   rows_run : (ps : List Placed) (u v : table.State) (g : Stage) → laws.run u ps ≡ Some v → run (rows_at g u) ps ≡ Ok (rows_at (stage_after g (tokens_of ps)) v)
   rows_run [] u v g e =
       let same : u ≡ v = cc in
       ap (λ (x : table.State). Ok (rows_at g x)) same
-  rows_run (p ∷ ps) u v g e = by_step (table.step u p.token p.place) refl e (λ w k. rows_run ps w v (after g p.token) k)
+  rows_run (p ∷ ps) u v g e = by_step (table.step u p.token p.offset) refl e (λ w k. rows_run ps w v (after g p.token) k)
     where
-      by_step : (o : Option table.State) → table.step u p.token p.place ≡ o → then_on (λ x. laws.run x ps) o ≡ Some v
+      by_step : (o : Option table.State) → table.step u p.token p.offset ≡ o → then_on (λ x. laws.run x ps) o ≡ Some v
           → ((w : table.State) → laws.run w ps ≡ Some v → run (rows_at (after g p.token) w) ps ≡ Ok (rows_at (stage_after (after g p.token) (tokens_of ps)) v)) → run (rows_at g u) (p ∷ ps) ≡ Ok (rows_at (stage_after g (tokens_of (p ∷ ps))) v)
       by_step None c k later = absurd cc
-      by_step (Some w) c k later = ap (row_step g u p ps) (row_goes u w p.token p.place c) ∙ later w k
+      by_step (Some w) c k later = ap (row_step g u p ps) (row_goes u w p.token p.offset c) ∙ later w k
 
   -- ---- what is taken begins some rows
 
@@ -257,8 +257,8 @@ module _ (name : List ℕ) (block : init.Block) where
   length-names (suc n) = ap (λ (u : table.State). length u.threads) (sym (names_are n)) ∙ columns-length n ∙ add-one n
 
   abbrev pub header_at : Bool → Stage → ℕ → State
-  header_at false g k = test_at g text.WantsColumn (held_at (names k))
-  header_at true g k = test_at g text.HasColumn (held_at (names (suc k)))
+  header_at false g k = test_at g text.WantsColumn (draft_at (names k))
+  header_at true g k = test_at g text.HasColumn (draft_at (names (suc k)))
 
   few_names : (k : ℕ) → k + 1 < 18446744073709551616 → Begins (IsNames k) []
   few_names k few =
@@ -273,9 +273,9 @@ module _ (name : List ℕ) (block : init.Block) where
 
   pub header_begins : (ps : List Placed) (has : Bool) (k : ℕ) (g : Stage) (s : State) → k + length ps + 1 < 18446744073709551616 → run (header_at has g k) ps ≡ Ok s → Begins (IsHeader has k) (tokens_of ps)
   header_begins [] has k g s few e = any_header has k (let h : k + 1 < 18446744073709551616 = omega (arith, few) in h)
-  header_begins (p ∷ ps) has k g s few e = by_part has p.token p.place e (λ more j f h l. header_begins ps more j f s h l)
+  header_begins (p ∷ ps) has k g s few e = by_part has p.token p.offset e (λ more j f h l. header_begins ps more j f s h l)
     where
-      by_word : (w : List ℕ) (n : ℕ) (b : Bool) → names_column (length (names k).threads) w ≡ b → and_then (placed n (stepped (header_at false g k) (tokens.Word w) (text.table_went (held_at (names k)) text.HasColumn (if b then Some (table.widened (names k)) else None)))) (λ x. run x ps) ≡ Ok s
+      by_word : (w : List ℕ) (n : ℕ) (b : Bool) → names_column (length (names k).threads) w ≡ b → and_then (placed n (stepped (header_at false g k) (tokens.Word w) (text.table_result (draft_at (names k)) text.HasColumn (if b then Some (table.widened (names k)) else None)))) (λ x. run x ps) ≡ Ok s
           → ((more : Bool) (j : ℕ) (f : Stage) → j + length ps + 1 < 18446744073709551616 → run (header_at more f j) ps ≡ Ok s → Begins (IsHeader more j) (tokens_of ps)) → Begins (IsName k) (tokens.Word w ∷ tokens_of ps)
       by_word w n true c l later =
           let b = later true k (after g (tokens.Word w)) (let h : k + length ps + 1 < 18446744073709551616 = omega (arith, few) in h) l in
@@ -283,7 +283,7 @@ module _ (name : List ℕ) (block : init.Block) where
           record { rest = b.rest; text = subst (λ (v : List ℕ). IsName k (tokens.Word v ∷ (tokens_of ps ++ b.rest))) (sym same) (one_name k (tokens_of ps ++ b.rest) b.text) }
       by_word w n false c l later = absurd cc
 
-      by_part : (b : Bool) (t : Token) (n : ℕ) → run (header_at b g k) (record { token = t; place = n } ∷ ps) ≡ Ok s
+      by_part : (b : Bool) (t : Token) (n : ℕ) → run (header_at b g k) (record { token = t; offset = n } ∷ ps) ≡ Ok s
           → ((more : Bool) (j : ℕ) (f : Stage) → j + length ps + 1 < 18446744073709551616 → run (header_at more f j) ps ≡ Ok s → Begins (IsHeader more j) (tokens_of ps)) → Begins (IsHeader b k) (t ∷ tokens_of ps)
       by_part false (tokens.Word w) n l later = by_word w n (names_column (length (names k).threads) w) refl l later
       by_part false t n l later = absurd cc
@@ -310,8 +310,8 @@ module _ (name : List ℕ) (block : init.Block) where
   is_named : (k : ℕ) → names_column (length (names k).threads) (column_name k) ≡ true
   is_named k = ap (λ (j : ℕ). names_column j (column_name k)) (length-names k) ∙ (bytes_eq-Decides (column_name k) (column_name k)).1 refl
 
-  pub name_step : (k : ℕ) (n : ℕ) (ps : List Placed) (g : Stage) → run (header_at false g k) (record { token = tokens.Word (column_name k); place = n } ∷ ps) ≡ run (header_at true (after g (tokens.Word (column_name k))) k) ps
-  name_step k n ps g = ap (λ (b : Bool). and_then (placed n (stepped (header_at false g k) (tokens.Word (column_name k)) (text.table_went (held_at (names k)) text.HasColumn (if b then Some (table.widened (names k)) else None)))) (λ x. run x ps)) (is_named k)
+  pub name_step : (k : ℕ) (n : ℕ) (ps : List Placed) (g : Stage) → run (header_at false g k) (record { token = tokens.Word (column_name k); offset = n } ∷ ps) ≡ run (header_at true (after g (tokens.Word (column_name k))) k) ps
+  name_step k n ps g = ap (λ (b : Bool). and_then (placed n (stepped (header_at false g k) (tokens.Word (column_name k)) (text.table_result (draft_at (names k)) text.HasColumn (if b then Some (table.widened (names k)) else None)))) (λ x. run x ps)) (is_named k)
 
   pub names_led : (m k : ℕ) (ps : List Placed) (behind : List Token) (g : Stage) → tokens_of ps ≡ spelled_names (k + 1) m behind → TakesNames k m ps behind g
   names_led zero k [] behind g e = absurd cc
@@ -328,7 +328,7 @@ module _ (name : List ℕ) (block : init.Block) where
         are_before = ap (λ (x : Token). x ∷ []) t;
         are_left = others;
         by =
-            ap (λ (x : Token). run (header_at true g k) (record { token = x; place = p.place } ∷ [])) t
+            ap (λ (x : Token). run (header_at true g k) (record { token = x; offset = p.offset } ∷ [])) t
             ∙ ap (λ (u : table.State). Ok (rows_at g' u)) (sym (names_are k)) ∙ ap (λ (j : ℕ). Ok (rows_at g' (columns j))) z;
       }
   names_led (suc m) k [] behind g e = absurd cc
@@ -352,9 +352,9 @@ module _ (name : List ℕ) (block : init.Block) where
             ∙ ap (λ (l : List Token). tokens.Mark marks.Bar ∷ tokens.Word (column_name (k + 1)) ∷ l) (r.are_before ∙ ap (λ (j : ℕ). spelled_names (j + 1) m []) (sym (add-one k)));
         are_left = r.are_left;
         by =
-            ap (λ (x : Token). run (header_at true g k) (record { token = x; place = p.place } ∷ q ∷ r.before)) t
-            ∙ ap (λ (x : Token). run (header_at false g1 (suc k)) (record { token = x; place = q.place } ∷ r.before)) (w ∙ next)
-            ∙ name_step (suc k) q.place r.before g1
+            ap (λ (x : Token). run (header_at true g k) (record { token = x; offset = p.offset } ∷ q ∷ r.before)) t
+            ∙ ap (λ (x : Token). run (header_at false g1 (suc k)) (record { token = x; offset = q.offset } ∷ r.before)) (w ∙ next)
+            ∙ name_step (suc k) q.offset r.before g1
             ∙ r.by
             ∙ ap (λ (j : ℕ). Ok (rows_at r.stage (columns j))) z;
       }

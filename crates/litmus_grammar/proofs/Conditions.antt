@@ -17,7 +17,7 @@ use Rattle.litmus_values.specs.declared.test.Quantifier.{Quantifier}
 use Rattle.litmus_values.specs.declared.test.Quantifier.TheVariants.{Exists, NotExists, Forall}
 use Rattle.litmus_values.specs.Value.{Formula}
 use Rattle.litmus_conditions.specs.Grammar.{limits, meaning, spelled, spelled_quantifier, IsConditionText}
-use Rattle.litmus_conditions.specs.ConditionMachine.{Frame, Hole, Wants, Fed, Goes, Ends, Refuses, feed, whole_at, go_on, proposition}
+use Rattle.litmus_conditions.specs.ConditionMachine.{Frame, Expectation, Wants, StepResult, Goes, Ends, Refuses, proposition_step, whole_at, go_on, proposition}
 use Rattle.litmus_conditions.specs.Laws.{takes_on, takes, IsPropositionText}
 use Rattle.litmus_conditions.proofs.Sound.{sound}
 use Rattle.litmus_conditions.proofs.Complete.{complete}
@@ -26,7 +26,7 @@ use Rattle.litmus_table.specs.Machine as table
 use Rattle.litmus_grammar.specs.declared.parts.TextKind.{TextKind}
 use Rattle.litmus_grammar.specs.declared.parts.TextKind.TheVariants as kinds
 use Rattle.litmus_grammar.specs.TextMachine as text
-use Rattle.litmus_grammar.specs.TextMachine.{Part, Held, State, Ran, placed, and_then, stepped, fed, with_condition, nothing, start, run, rule_at}
+use Rattle.litmus_grammar.specs.TextMachine.{Part, Draft, State, Ran, placed, and_then, stepped, proposition_result, with_condition, nothing, start, run, rule_at}
 use Rattle.litmus_grammar.proofs.Runs.{follows}
 use Rattle.litmus_grammar.proofs.Outcomes.{Reading}
 
@@ -46,28 +46,28 @@ tail_says C kind rows (tokens.Word w) = choose (is_filter w)
 tail_says C kind rows t = refl
 
 module _ (threads : ℕ) (few : threads < 18446744073709551616) where
-  abbrev standing : Stage → Part → Held → State
-  standing g p h = record { kind = kinds.Condition; threads = threads; stage = g; part = p; held = h }
+  abbrev standing : Stage → Part → Draft → State
+  standing g p h = record { kind = kinds.Condition; threads = threads; stage = g; part = p; draft = h }
 
-  abbrev went_on : Stage → Quantifier → Held → Token → ℕ → Fed → Ran
-  went_on g q h t n f = placed n (stepped (standing g text.Done h) t (fed h q f))
+  abbrev went_on : Stage → Quantifier → Draft → Token → ℕ → StepResult → Ran
+  went_on g q h t n f = placed n (stepped (standing g text.Done h) t (proposition_result h q f))
 
   -- ---- the proposition
 
-  done_takes : (g : Stage) (h : Held) (ps : List Placed) (s : State) → run (standing g text.Done h) ps ≡ Ok s → are_none (tokens_of ps) ≡ true
+  done_takes : (g : Stage) (h : Draft) (ps : List Placed) (s : State) → run (standing g text.Done h) ps ≡ Ok s → are_none (tokens_of ps) ≡ true
   done_takes g h [] s e = refl
   done_takes g h (p ∷ ps) s e = absurd cc
 
-  prop_takes : (ps : List Placed) (g : Stage) (q : Quantifier) (fs : List Frame) (used : ℕ) (hole : Hole) (h : Held) (s : State) → run (standing g (text.Proposition q fs used hole) h) ps ≡ Ok s → takes limits threads fs used hole (tokens_of ps) ≡ true
-  prop_takes [] g q fs used hole h s e = refl
-  prop_takes (p ∷ ps) g q fs used hole h s e = by_fed (feed limits threads fs used hole p.token) e (λ gs u o k. prop_takes ps (after g p.token) q gs u o h s k)
+  prop_takes : (ps : List Placed) (g : Stage) (q : Quantifier) (fs : List Frame) (used : ℕ) (expected : Expectation) (h : Draft) (s : State) → run (standing g (text.Proposition q fs used expected) h) ps ≡ Ok s → takes limits threads fs used expected (tokens_of ps) ≡ true
+  prop_takes [] g q fs used expected h s e = refl
+  prop_takes (p ∷ ps) g q fs used expected h s e = by_result (proposition_step limits threads fs used expected p.token) e (λ gs u o k. prop_takes ps (after g p.token) q gs u o h s k)
     where
-      by_fed : (f : Fed) → and_then (went_on g q h p.token p.place f) (λ x. run x ps) ≡ Ok s → ((gs : List Frame) (u : ℕ) (o : Hole) → run (standing (after g p.token) (text.Proposition q gs u o) h) ps ≡ Ok s → takes limits threads gs u o (tokens_of ps) ≡ true) → takes_on (λ gs u o. takes limits threads gs u o (tokens_of ps)) (tokens_of ps) f ≡ true
-      by_fed (Goes gs u o) k later = later gs u o k
-      by_fed (Ends v) k later = done_takes (after g p.token) (with_condition h q v) ps s k
-      by_fed Refuses k later = absurd cc
+      by_result : (f : StepResult) → and_then (went_on g q h p.token p.offset f) (λ x. run x ps) ≡ Ok s → ((gs : List Frame) (u : ℕ) (o : Expectation) → run (standing (after g p.token) (text.Proposition q gs u o) h) ps ≡ Ok s → takes limits threads gs u o (tokens_of ps) ≡ true) → takes_on (λ gs u o. takes limits threads gs u o (tokens_of ps)) (tokens_of ps) f ≡ true
+      by_result (Goes gs u o) k later = later gs u o k
+      by_result (Ends v) k later = done_takes (after g p.token) (with_condition h q v) ps s k
+      by_result Refuses k later = absurd cc
 
-  done_ends : (g : Stage) (h : Held) (ps : List Placed) (s : State) (v : Formula) → run (standing g text.Done h) ps ≡ Ok s → whole_at v (tokens_of ps) ≡ Some v
+  done_ends : (g : Stage) (h : Draft) (ps : List Placed) (s : State) (v : Formula) → run (standing g text.Done h) ps ≡ Ok s → whole_at v (tokens_of ps) ≡ Some v
   done_ends g h [] s v e = refl
   done_ends g h (p ∷ ps) s v e = absurd cc
 
@@ -79,37 +79,37 @@ module _ (threads : ℕ) (few : threads < 18446744073709551616) where
   done_in (Ok s) = is_done s.part
   done_in (Err e) = false
 
-  prop_ends : (ps : List Placed) (g : Stage) (q : Quantifier) (fs : List Frame) (used : ℕ) (hole : Hole) (h : Held) (s : State) → run (standing g (text.Proposition q fs used hole) h) ps ≡ Ok s → s.part ≡ text.Done → (v : Formula) × (proposition limits threads fs used hole (tokens_of ps) ≡ Some v)
-  prop_ends [] g q fs used hole h s e d =
+  prop_ends : (ps : List Placed) (g : Stage) (q : Quantifier) (fs : List Frame) (used : ℕ) (expected : Expectation) (h : Draft) (s : State) → run (standing g (text.Proposition q fs used expected) h) ps ≡ Ok s → s.part ≡ text.Done → (v : Formula) × (proposition limits threads fs used expected (tokens_of ps) ≡ Some v)
+  prop_ends [] g q fs used expected h s e d =
       let no : false ≡ true = ap done_in e ∙ ap is_done d in
       absurd cc
-  prop_ends (p ∷ ps) g q fs used hole h s e d = by_fed (feed limits threads fs used hole p.token) e (λ gs u o k. prop_ends ps (after g p.token) q gs u o h s k d)
+  prop_ends (p ∷ ps) g q fs used expected h s e d = by_result (proposition_step limits threads fs used expected p.token) e (λ gs u o k. prop_ends ps (after g p.token) q gs u o h s k d)
     where
-      by_fed : (f : Fed) → and_then (went_on g q h p.token p.place f) (λ x. run x ps) ≡ Ok s → ((gs : List Frame) (u : ℕ) (o : Hole) → run (standing (after g p.token) (text.Proposition q gs u o) h) ps ≡ Ok s → (v : Formula) × (proposition limits threads gs u o (tokens_of ps) ≡ Some v)) → (v : Formula) × (go_on (λ gs u o. proposition limits threads gs u o (tokens_of ps)) (tokens_of ps) f ≡ Some v)
-      by_fed (Goes gs u o) k later = later gs u o k
-      by_fed (Ends v) k later = (v, done_ends (after g p.token) (with_condition h q v) ps s v k)
-      by_fed Refuses k later = absurd cc
+      by_result : (f : StepResult) → and_then (went_on g q h p.token p.offset f) (λ x. run x ps) ≡ Ok s → ((gs : List Frame) (u : ℕ) (o : Expectation) → run (standing (after g p.token) (text.Proposition q gs u o) h) ps ≡ Ok s → (v : Formula) × (proposition limits threads gs u o (tokens_of ps) ≡ Some v)) → (v : Formula) × (go_on (λ gs u o. proposition limits threads gs u o (tokens_of ps)) (tokens_of ps) f ≡ Some v)
+      by_result (Goes gs u o) k later = later gs u o k
+      by_result (Ends v) k later = (v, done_ends (after g p.token) (with_condition h q v) ps s v k)
+      by_result Refuses k later = absurd cc
 
   record Taken (from : State) (ps : List Placed) (q : Quantifier) (v : Formula) : Type 0 where
     state : State
     by : run from ps ≡ Ok state
-    quantifier : state.held.quantifier ≡ q
-    formula : state.held.formula ≡ v
+    quantifier : state.draft.quantifier ≡ q
+    formula : state.draft.formula ≡ v
 
-  prop_runs : (ps : List Placed) (g : Stage) (q : Quantifier) (fs : List Frame) (used : ℕ) (hole : Hole) (h : Held) (v : Formula) → proposition limits threads fs used hole (tokens_of ps) ≡ Some v → Taken (standing g (text.Proposition q fs used hole) h) ps q v
-  prop_runs [] g q fs used hole h v e = absurd cc
-  prop_runs (p ∷ ps) g q fs used hole h v e =
-      let r = by_fed (feed limits threads fs used hole p.token) e (λ gs u o k. let t = prop_runs ps (after g p.token) q gs u o h v k in (t.state, t.by, t.quantifier, t.formula)) in
+  prop_runs : (ps : List Placed) (g : Stage) (q : Quantifier) (fs : List Frame) (used : ℕ) (expected : Expectation) (h : Draft) (v : Formula) → proposition limits threads fs used expected (tokens_of ps) ≡ Some v → Taken (standing g (text.Proposition q fs used expected) h) ps q v
+  prop_runs [] g q fs used expected h v e = absurd cc
+  prop_runs (p ∷ ps) g q fs used expected h v e =
+      let r = by_result (proposition_step limits threads fs used expected p.token) e (λ gs u o k. let t = prop_runs ps (after g p.token) q gs u o h v k in (t.state, t.by, t.quantifier, t.formula)) in
       record { state = r.0; by = r.1; quantifier = r.2; formula = r.3 }
     where
-      by_end : (w : Formula) (qs : List Placed) → whole_at w (tokens_of qs) ≡ Some v → (s : State) × (run (standing (after g p.token) text.Done (with_condition h q w)) qs ≡ Ok s) × (s.held.quantifier ≡ q) × (s.held.formula ≡ v)
+      by_end : (w : Formula) (qs : List Placed) → whole_at w (tokens_of qs) ≡ Some v → (s : State) × (run (standing (after g p.token) text.Done (with_condition h q w)) qs ≡ Ok s) × (s.draft.quantifier ≡ q) × (s.draft.formula ≡ v)
       by_end w [] k = (standing (after g p.token) text.Done (with_condition h q w), refl, refl, cc)
       by_end w (x ∷ qs) k = absurd cc
 
-      by_fed : (f : Fed) → go_on (λ gs u o. proposition limits threads gs u o (tokens_of ps)) (tokens_of ps) f ≡ Some v → ((gs : List Frame) (u : ℕ) (o : Hole) → proposition limits threads gs u o (tokens_of ps) ≡ Some v → (s : State) × (run (standing (after g p.token) (text.Proposition q gs u o) h) ps ≡ Ok s) × (s.held.quantifier ≡ q) × (s.held.formula ≡ v)) → (s : State) × (and_then (went_on g q h p.token p.place f) (λ x. run x ps) ≡ Ok s) × (s.held.quantifier ≡ q) × (s.held.formula ≡ v)
-      by_fed (Goes gs u o) k later = later gs u o k
-      by_fed (Ends w) k later = by_end w ps k
-      by_fed Refuses k later = absurd cc
+      by_result : (f : StepResult) → go_on (λ gs u o. proposition limits threads gs u o (tokens_of ps)) (tokens_of ps) f ≡ Some v → ((gs : List Frame) (u : ℕ) (o : Expectation) → proposition limits threads gs u o (tokens_of ps) ≡ Some v → (s : State) × (run (standing (after g p.token) (text.Proposition q gs u o) h) ps ≡ Ok s) × (s.draft.quantifier ≡ q) × (s.draft.formula ≡ v)) → (s : State) × (and_then (went_on g q h p.token p.offset f) (λ x. run x ps) ≡ Ok s) × (s.draft.quantifier ≡ q) × (s.draft.formula ≡ v)
+      by_result (Goes gs u o) k later = later gs u o k
+      by_result (Ends w) k later = by_end w ps k
+      by_result Refuses k later = absurd cc
 
   -- ---- the quantifier
 
@@ -119,7 +119,7 @@ module _ (threads : ℕ) (few : threads < 18446744073709551616) where
   to_text : (q : Quantifier) (ts : List Token) → IsPropositionText limits threads ts → IsText (spelled_quantifier q ts)
   to_text q ts p = record { quantifier = q; condition = p.text.tree; fine = p.text.fine; whole = ap (spelled_quantifier q) p.text.whole }
 
-  abbrev nothing_yet : Held
+  abbrev nothing_yet : Draft
   nothing_yet = nothing kinds.Condition
 
   -- where a text that is taken so far stands
@@ -136,31 +136,31 @@ module _ (threads : ℕ) (few : threads < 18446744073709551616) where
   part_in (Err e) = text.Magic
 
   word_stands : (g : Stage) (w : List ℕ) (n : ℕ) (ps : List Placed) (s : State) (a b : Bool) → bytes_eq w (codes "exists") ≡ a → bytes_eq w (codes "forall") ≡ b
-      → and_then (placed n (stepped (standing g text.WantsQuantifier nothing_yet) (tokens.Word w) (text.leads nothing_yet (if a then Some (text.proposition Exists) else (if b then Some (text.proposition Forall) else None))))) (λ x. run x ps) ≡ Ok s
-      → Standing (record { token = tokens.Word w; place = n } ∷ ps) s
+      → and_then (placed n (stepped (standing g text.WantsQuantifier nothing_yet) (tokens.Word w) (text.next_at nothing_yet (if a then Some (text.proposition Exists) else (if b then Some (text.proposition Forall) else None))))) (λ x. run x ps) ≡ Ok s
+      → Standing (record { token = tokens.Word w; offset = n } ∷ ps) s
   word_stands g w n ps s true b ea eb e = Behind Exists (after g (tokens.Word w)) ps (ap (λ (x : List ℕ). tokens.Word x ∷ tokens_of ps) (same_word w (codes "exists") ea)) e
   word_stands g w n ps s false true ea eb e = Behind Forall (after g (tokens.Word w)) ps (ap (λ (x : List ℕ). tokens.Word x ∷ tokens_of ps) (same_word w (codes "forall") eb)) e
   word_stands g w n ps s false false ea eb e = absurd cc
 
   exists_stands : (g : Stage) (m n : ℕ) (w : List ℕ) (ps : List Placed) (s : State) (a : Bool) → bytes_eq w (codes "exists") ≡ a
-      → and_then (placed n (stepped (standing g text.AfterTilde nothing_yet) (tokens.Word w) (text.leads nothing_yet (if a then Some (text.proposition NotExists) else None)))) (λ x. run x ps) ≡ Ok s
-      → Standing (record { token = tokens.Mark marks.Tilde; place = m } ∷ record { token = tokens.Word w; place = n } ∷ ps) s
+      → and_then (placed n (stepped (standing g text.AfterTilde nothing_yet) (tokens.Word w) (text.next_at nothing_yet (if a then Some (text.proposition NotExists) else None)))) (λ x. run x ps) ≡ Ok s
+      → Standing (record { token = tokens.Mark marks.Tilde; offset = m } ∷ record { token = tokens.Word w; offset = n } ∷ ps) s
   exists_stands g m n w ps s true ea e = Behind NotExists (after g (tokens.Word w)) ps (ap (λ (x : List ℕ). tokens.Mark marks.Tilde ∷ tokens.Word x ∷ tokens_of ps) (same_word w (codes "exists") ea)) e
   exists_stands g m n w ps s false ea e = absurd cc
 
-  tilde_stands : (g : Stage) (m : ℕ) (ps : List Placed) (s : State) → run (standing g text.AfterTilde nothing_yet) ps ≡ Ok s → Standing (record { token = tokens.Mark marks.Tilde; place = m } ∷ ps) s
+  tilde_stands : (g : Stage) (m : ℕ) (ps : List Placed) (s : State) → run (standing g text.AfterTilde nothing_yet) ps ≡ Ok s → Standing (record { token = tokens.Mark marks.Tilde; offset = m } ∷ ps) s
   tilde_stands g m [] s e = AfterTilde refl (sym (ap part_in e))
-  tilde_stands g m (p ∷ ps) s e = by_token p.token p.place e
+  tilde_stands g m (p ∷ ps) s e = by_token p.token p.offset e
     where
-      by_token : (t : Token) (n : ℕ) → run (standing g text.AfterTilde nothing_yet) (record { token = t; place = n } ∷ ps) ≡ Ok s → Standing (record { token = tokens.Mark marks.Tilde; place = m } ∷ record { token = t; place = n } ∷ ps) s
+      by_token : (t : Token) (n : ℕ) → run (standing g text.AfterTilde nothing_yet) (record { token = t; offset = n } ∷ ps) ≡ Ok s → Standing (record { token = tokens.Mark marks.Tilde; offset = m } ∷ record { token = t; offset = n } ∷ ps) s
       by_token (tokens.Word w) n k = exists_stands g m n w ps s (bytes_eq w (codes "exists")) refl k
       by_token t n k = absurd cc
 
   stands : (g : Stage) (ps : List Placed) (s : State) → run (standing g text.WantsQuantifier nothing_yet) ps ≡ Ok s → Standing ps s
   stands g [] s e = Before refl (sym (ap part_in e))
-  stands g (p ∷ ps) s e = by_token p.token p.place e
+  stands g (p ∷ ps) s e = by_token p.token p.offset e
     where
-      by_token : (t : Token) (n : ℕ) → run (standing g text.WantsQuantifier nothing_yet) (record { token = t; place = n } ∷ ps) ≡ Ok s → Standing (record { token = t; place = n } ∷ ps) s
+      by_token : (t : Token) (n : ℕ) → run (standing g text.WantsQuantifier nothing_yet) (record { token = t; offset = n } ∷ ps) ≡ Ok s → Standing (record { token = t; offset = n } ∷ ps) s
       by_token (tokens.Mark marks.Tilde) n k = tilde_stands (after g (tokens.Mark marks.Tilde)) n ps s k
       by_token (tokens.Word w) n k = word_stands g w n ps s (bytes_eq w (codes "exists")) (bytes_eq w (codes "forall")) refl refl k
       by_token t n k = absurd cc
@@ -196,26 +196,26 @@ module _ (threads : ℕ) (few : threads < 18446744073709551616) where
 
   -- ---- each text is taken
 
-  abbrev begun : Quantifier → Stage → State
-  begun q g = standing g (text.proposition q) nothing_yet
+  abbrev first_draft : Quantifier → Stage → State
+  first_draft q g = standing g (text.proposition q) nothing_yet
 
-  quantifier_runs : (q : Quantifier) (ps : List Placed) (ts : List Token) → tokens_of ps ≡ spelled_quantifier q ts → (g : Stage) × (qs : List Placed) × (tokens_of qs ≡ ts) × (run (start kinds.Condition threads) ps ≡ run (begun q g) qs)
+  quantifier_runs : (q : Quantifier) (ps : List Placed) (ts : List Token) → tokens_of ps ≡ spelled_quantifier q ts → (g : Stage) × (qs : List Placed) × (tokens_of qs ≡ ts) × (run (start kinds.Condition threads) ps ≡ run (first_draft q g) qs)
   quantifier_runs Exists [] ts e = absurd cc
   quantifier_runs Exists (p ∷ ps) ts e =
       let t : p.token ≡ tokens.Word (codes "exists") = cc in
-      (after Tail (tokens.Word (codes "exists")), ps, cc, ap (λ (x : Token). run (standing Tail text.WantsQuantifier nothing_yet) (record { token = x; place = p.place } ∷ ps)) t)
+      (after Tail (tokens.Word (codes "exists")), ps, cc, ap (λ (x : Token). run (standing Tail text.WantsQuantifier nothing_yet) (record { token = x; offset = p.offset } ∷ ps)) t)
   quantifier_runs Forall [] ts e = absurd cc
   quantifier_runs Forall (p ∷ ps) ts e =
       let t : p.token ≡ tokens.Word (codes "forall") = cc in
-      (after Tail (tokens.Word (codes "forall")), ps, cc, ap (λ (x : Token). run (standing Tail text.WantsQuantifier nothing_yet) (record { token = x; place = p.place } ∷ ps)) t)
+      (after Tail (tokens.Word (codes "forall")), ps, cc, ap (λ (x : Token). run (standing Tail text.WantsQuantifier nothing_yet) (record { token = x; offset = p.offset } ∷ ps)) t)
   quantifier_runs NotExists [] ts e = absurd cc
   quantifier_runs NotExists (p ∷ []) ts e = absurd cc
   quantifier_runs NotExists (p ∷ r ∷ ps) ts e =
       let t : p.token ≡ tokens.Mark marks.Tilde = cc in
       let u : r.token ≡ tokens.Word (codes "exists") = cc in
-      (Tail, ps, cc, ap (λ (x : Token). run (standing Tail text.WantsQuantifier nothing_yet) (record { token = x; place = p.place } ∷ r ∷ ps)) t ∙ ap (λ (x : Token). run (standing Tail text.AfterTilde nothing_yet) (record { token = x; place = r.place } ∷ ps)) u)
+      (Tail, ps, cc, ap (λ (x : Token). run (standing Tail text.WantsQuantifier nothing_yet) (record { token = x; offset = p.offset } ∷ r ∷ ps)) t ∙ ap (λ (x : Token). run (standing Tail text.AfterTilde nothing_yet) (record { token = x; offset = r.offset } ∷ ps)) u)
 
-  pub condition_taken : (ps : List Placed) (x : IsText (tokens_of ps)) → (s : State) × (run (start kinds.Condition threads) ps ≡ Ok s) × (s.held.quantifier ≡ x.quantifier) × (s.held.formula ≡ meaning x.condition)
+  pub condition_taken : (ps : List Placed) (x : IsText (tokens_of ps)) → (s : State) × (run (start kinds.Condition threads) ps ≡ Ok s) × (s.draft.quantifier ≡ x.quantifier) × (s.draft.formula ≡ meaning x.condition)
   condition_taken ps x =
       let b = quantifier_runs x.quantifier ps (spelled x.condition (tokens.End ∷ [])) x.whole in
       let m = complete limits threads few (tokens_of b.1) (meaning x.condition) (record { tree = x.condition; fine = x.fine; whole = b.2; meant = refl }) in
@@ -226,9 +226,9 @@ module _ (threads : ℕ) (few : threads < 18446744073709551616) where
   condition_reading = record {
     begins = λ ps s e. begins_by ps s (stands Tail ps s e);
     takes = λ ps x. let r = condition_taken ps x in (r.0, r.1);
-    says = λ ps s t place e none.
+    says = λ ps s t offset e none.
         let f = follows (start kinds.Condition threads) s ps e in
         let stage : s.stage ≡ Tail = f.stage ∙ tail_stays (tokens_of ps) in
         let C = CanFollow IsText (tokens_of ps) in
-        subst (λ (g : Stage). Says C g (ruling g t) (rule_at s.kind s.held.table s.stage t)) (sym (tail_stays (tokens_of ps))) (subst (λ (g : Stage). Says C Tail (ruling Tail t) (rule_at s.kind s.held.table g t)) (sym stage) (tail_says C s.kind s.held.table t));
+        subst (λ (g : Stage). Says C g (ruling g t) (rule_at s.kind s.draft.table s.stage t)) (sym (tail_stays (tokens_of ps))) (subst (λ (g : Stage). Says C Tail (ruling Tail t) (rule_at s.kind s.draft.table g t)) (sym stage) (tail_says C s.kind s.draft.table t));
   }

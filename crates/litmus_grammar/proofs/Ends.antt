@@ -5,8 +5,8 @@ use Rattle.litmus_tokens.specs.declared.token.Token.TheVariants.{End}
 use Rattle.litmus_tokens.specs.Texts.{Placed}
 use Rattle.litmus_values.specs.declared.test.Quantifier.{Quantifier}
 use Rattle.litmus_values.specs.Value.{Formula, Constant}
-use Rattle.litmus_conditions.specs.declared.place.PlaceHole.{PlaceHole}
-use Rattle.litmus_conditions.specs.declared.place.PlaceHole.TheVariants as places
+use Rattle.litmus_conditions.specs.declared.place.PlaceExpectation.{PlaceExpectation}
+use Rattle.litmus_conditions.specs.declared.place.PlaceExpectation.TheVariants as places
 use Rattle.litmus_conditions.specs.Grammar.{limits}
 use Rattle.litmus_conditions.specs.PlaceMachine.{place_step}
 use Rattle.litmus_conditions.specs.ConditionMachine as condition
@@ -14,24 +14,24 @@ use Rattle.litmus_conditions.specs.ConditionMachine.{Frame}
 use Rattle.litmus_table.specs.declared.opcode.Want.{Want}
 use Rattle.litmus_table.specs.declared.opcode.Want.TheVariants as wants
 use Rattle.litmus_table.specs.Machine as table
-use Rattle.litmus_grammar.specs.declared.parts.InitHole.{InitHole}
-use Rattle.litmus_grammar.specs.declared.parts.InitHole.TheVariants as holes
-use Rattle.litmus_grammar.specs.declared.parts.ItemHole.{ItemHole}
-use Rattle.litmus_grammar.specs.declared.parts.ItemHole.TheVariants as items
+use Rattle.litmus_grammar.specs.declared.parts.InitExpectation.{InitExpectation}
+use Rattle.litmus_grammar.specs.declared.parts.InitExpectation.TheVariants as expectations
+use Rattle.litmus_grammar.specs.declared.parts.ItemExpectation.{ItemExpectation}
+use Rattle.litmus_grammar.specs.declared.parts.ItemExpectation.TheVariants as items
 use Rattle.litmus_grammar.specs.declared.parts.TextKind.{TextKind}
 use Rattle.litmus_grammar.specs.InitMachine as init
 use Rattle.litmus_grammar.specs.TextMachine as text
-use Rattle.litmus_grammar.specs.TextMachine.{Part, Held, Next, State, Ran, stepped, and_then, part_step, run}
+use Rattle.litmus_grammar.specs.TextMachine.{Part, Draft, Next, State, Ran, stepped, and_then, part_step, run}
 use Rattle.litmus_grammar.proofs.Runs.{run-split}
 
-no_place : (hole : PlaceHole) → place_step hole End ≡ None
+no_place : (expected : PlaceExpectation) → place_step expected End ≡ None
 no_place places.Begins = refl
 no_place places.WantsName = refl
 no_place (places.WantsBracket n) = refl
 no_place (places.WantsColon n) = refl
 no_place (places.WantsRegister n) = refl
 
-no_operand : (p : table.Pending) (o : Option Want) → table.taken_as p o End ≡ None
+no_operand : (p : table.Pending) (o : Option Want) → table.pending_as p o End ≡ None
 no_operand p None = refl
 no_operand p (Some wants.Register) = refl
 no_operand p (Some wants.Base) = refl
@@ -41,75 +41,75 @@ no_operand p (Some wants.Comma) = refl
 no_operand p (Some wants.Open) = refl
 no_operand p (Some wants.Close) = refl
 
-pub no_cell : (ts : List table.Placed) (c : ℕ) (hole : table.Hole) (place : ℕ) → table.hole_step ts c hole End place ≡ None
-no_cell ts c table.Begins place = refl
-no_cell ts c table.Labelled place = refl
-no_cell ts c (table.Within p) place = ap (λ (o : Option table.Pending). table.operand ts c o place) (no_operand p (table.first_of p.wants))
-no_cell ts c (table.WantsLabel condition) place = refl
-no_cell ts c table.Whole place = refl
+pub no_cell : (ts : List table.Placed) (c : ℕ) (expected : table.Expectation) (offset : ℕ) → table.expected_step ts c expected End offset ≡ None
+no_cell ts c table.Begins offset = refl
+no_cell ts c table.Labelled offset = refl
+no_cell ts c (table.Within p) offset = ap (λ (o : Option table.Pending). table.operand ts c o offset) (no_operand p (table.first_of p.wants))
+no_cell ts c (table.WantsLabel condition) offset = refl
+no_cell ts c table.Whole offset = refl
 
 abbrev IsDone : Option Next → Type 0
 IsDone None = Unit {0}
 IsDone (Some n) = n.part ≡ text.Done
 
-module _ (kind : TextKind) (given : ℕ) (h : Held) (place : ℕ) where
-  no_row : (q : Part) → IsDone (text.table_went h q (table.step h.table End place))
-  no_row q = subst (λ (o : Option table.State). IsDone (text.table_went h q o)) (sym (no_cell h.table.threads h.table.column h.table.hole place)) tt
+module _ (kind : TextKind) (given : ℕ) (h : Draft) (offset : ℕ) where
+  no_row : (q : Part) → IsDone (text.table_result h q (table.step h.table End offset))
+  no_row q = subst (λ (o : Option table.State). IsDone (text.table_result h q o)) (sym (no_cell h.table.threads h.table.column h.table.expected offset)) tt
 
-  row_done : (b : Bool) → IsDone (if b && false then text.leads h (text.tail_begun End) else text.table_went h text.Rows (table.step h.table End place))
+  row_done : (b : Bool) → IsDone (if b && false then text.next_at h (text.tail_start End) else text.table_result h text.Rows (table.step h.table End offset))
   row_done true = no_row text.Rows
   row_done false = no_row text.Rows
 
-  cell_done : (b : Bool) → IsDone (if b && true then text.at h text.Done else text.table_went h text.Cells (table.step h.table End place))
+  cell_done : (b : Bool) → IsDone (if b && true then text.at h text.Done else text.table_result h text.Cells (table.step h.table End offset))
   cell_done true = refl
   cell_done false = no_row text.Cells
 
-  init_done : (hole : InitHole) → IsDone (text.init_went kind h (init.step h.init hole End place))
-  init_done holes.WantsOpen = tt
-  init_done holes.WantsEntry = tt
-  init_done (holes.InPlace within) = subst (λ o. IsDone (text.init_went kind h (init.place_went h.init o))) (sym (no_place within)) tt
-  init_done (holes.WantsEquals p) = tt
-  init_done (holes.WantsValue p) = tt
-  init_done holes.HasEntry = tt
+  init_done : (expected : InitExpectation) → IsDone (text.init_result kind h (init.step h.init expected End offset))
+  init_done expectations.WantsOpen = tt
+  init_done expectations.WantsEntry = tt
+  init_done (expectations.InPlace within) = subst (λ o. IsDone (text.init_result kind h (init.place_result h.init o))) (sym (no_place within)) tt
+  init_done (expectations.WantsEquals p) = tt
+  init_done (expectations.WantsValue p) = tt
+  init_done expectations.HasEntry = tt
 
-  item_done : (threads : ℕ) (hole : ItemHole) → IsDone (text.item_read kind threads h hole End)
+  item_done : (threads : ℕ) (expected : ItemExpectation) → IsDone (text.item_read kind threads h expected End)
   item_done threads items.WantsFirst = tt
   item_done threads items.WantsNext = tt
-  item_done threads (items.Within within) = subst (λ o. IsDone (text.item_went h o)) (sym (no_place within)) tt
+  item_done threads (items.Within within) = subst (λ o. IsDone (text.item_result h o)) (sym (no_place within)) tt
   item_done threads items.HasItem = tt
 
-  ended_done : (q : Quantifier) (p : List Frame × Formula) → IsDone (text.fed h q (condition.ended p))
+  ended_done : (q : Quantifier) (p : List Frame × Formula) → IsDone (text.proposition_result h q (condition.ended p))
   ended_done q ([], v) = refl
   ended_done q (f ∷ fs, v) = tt
 
-  not_done : (q : Quantifier) (b : Bool) → IsDone (text.fed h q (if b then condition.Refuses else condition.Refuses))
+  not_done : (q : Quantifier) (b : Bool) → IsDone (text.proposition_result h q (if b then condition.Refuses else condition.Refuses))
   not_done q true = tt
   not_done q false = tt
 
-  fed_done : (threads : ℕ) (q : Quantifier) (fs : List Frame) (used : ℕ) (hole : condition.Hole) → IsDone (text.fed h q (condition.feed limits threads fs used hole End))
-  fed_done threads q fs used condition.Wants = tt
-  fed_done threads q fs used (condition.HasConstant b) = ended_done q (condition.fold_to 0 fs (Constant b))
-  fed_done threads q fs used condition.HasNot = not_done q (nat_lt (condition.open_count fs) limits.nesting)
-  fed_done threads q fs used (condition.InPlace within) = subst (λ o. IsDone (text.fed h q (condition.in_place fs used (condition.place_hole o)))) (sym (no_place within)) tt
-  fed_done threads q fs used (condition.WantsEquals p) = tt
-  fed_done threads q fs used (condition.WantsValue p) = tt
-  fed_done threads q fs used (condition.Has v) = ended_done q (condition.fold_to 0 fs v)
+  proposition_done : (threads : ℕ) (q : Quantifier) (fs : List Frame) (used : ℕ) (expected : condition.Expectation) → IsDone (text.proposition_result h q (condition.proposition_step limits threads fs used expected End))
+  proposition_done threads q fs used condition.Wants = tt
+  proposition_done threads q fs used (condition.HasConstant b) = ended_done q (condition.fold_to 0 fs (Constant b))
+  proposition_done threads q fs used condition.HasNot = not_done q (nat_lt (condition.open_count fs) limits.nesting)
+  proposition_done threads q fs used (condition.InPlace within) = subst (λ o. IsDone (text.proposition_result h q (condition.in_place fs used (condition.expected_after_place o)))) (sym (no_place within)) tt
+  proposition_done threads q fs used (condition.WantsEquals p) = tt
+  proposition_done threads q fs used (condition.WantsValue p) = tt
+  proposition_done threads q fs used (condition.Has v) = ended_done q (condition.fold_to 0 fs v)
 
-  part_done : (p : Part) → IsDone (part_step kind given h p End place)
+  part_done : (p : Part) → IsDone (part_step kind given h p End offset)
   part_done text.Magic = tt
   part_done text.Title = tt
   part_done text.TitleEnd = tt
   part_done (text.Head b) = tt
-  part_done (text.Init hole) = init_done hole
+  part_done (text.Init expected) = init_done expected
   part_done text.WantsColumn = tt
   part_done text.HasColumn = tt
   part_done text.Rows = row_done (table.is_row_start h.table)
-  part_done text.Cells = cell_done (table.can_end h.table.hole)
+  part_done text.Cells = cell_done (table.can_end h.table.expected)
   part_done text.WantsList = tt
-  part_done (text.Item hole) = item_done (text.threads_in kind given h) hole
+  part_done (text.Item expected) = item_done (text.threads_in kind given h) expected
   part_done text.WantsQuantifier = tt
   part_done text.AfterTilde = tt
-  part_done (text.Proposition q fs used hole) = fed_done (text.threads_in kind given h) q fs used hole
+  part_done (text.Proposition q fs used expected) = proposition_done (text.threads_in kind given h) q fs used expected
   part_done text.ListOrEnd = refl
   part_done text.WantsEnd = refl
   part_done text.Done = tt
@@ -118,13 +118,13 @@ abbrev part_in : Ran → Part
 part_in (Ok x) = x.part
 part_in (Err d) = text.Done
 
-pub ends_done : (s s' : State) (ps : List Placed) (n : ℕ) → run s (ps ++ record { token = End; place = n } ∷ []) ≡ Ok s' → s'.part ≡ text.Done
-ends_done s s' ps n e = by_run (run s ps) (sym (run-split s ps (record { token = End; place = n } ∷ [])) ∙ e)
+pub ends_done : (s s' : State) (ps : List Placed) (n : ℕ) → run s (ps ++ record { token = End; offset = n } ∷ []) ≡ Ok s' → s'.part ≡ text.Done
+ends_done s s' ps n e = by_run (run s ps) (sym (run-split s ps (record { token = End; offset = n } ∷ [])) ∙ e)
   where
     by_end : (x : State) (o : Option Next) → IsDone o → and_then (text.placed n (stepped x End o)) (λ y. Ok y) ≡ Ok s' → s'.part ≡ text.Done
     by_end x (Some y) d k = sym (ap part_in k) ∙ d
     by_end x None d k = absurd cc
 
-    by_run : (r : Ran) → and_then r (λ x. run x (record { token = End; place = n } ∷ [])) ≡ Ok s' → s'.part ≡ text.Done
-    by_run (Ok x) k = by_end x (part_step x.kind x.threads x.held x.part End n) (part_done x.kind x.threads x.held n x.part) k
+    by_run : (r : Ran) → and_then r (λ x. run x (record { token = End; offset = n } ∷ [])) ≡ Ok s' → s'.part ≡ text.Done
+    by_run (Ok x) k = by_end x (part_step x.kind x.threads x.draft x.part End n) (part_done x.kind x.threads x.draft n x.part) k
     by_run (Err d) k = absurd cc

@@ -22,7 +22,7 @@ use Rattle.litmus_grammar.specs.declared.parts.TextKind.TheVariants as kinds
 use Rattle.litmus_grammar.specs.Grammar.{spelled_init, members, TestTree, spelled_text, spelled_keylines, spelled_head, spelled_observed, spelled_condition, spelled_test, IsTest}
 use Rattle.litmus_grammar.specs.InitMachine as init
 use Rattle.litmus_grammar.specs.TextMachine as text
-use Rattle.litmus_grammar.specs.TextMachine.{Part, Held, Next, State, Ran, placed, and_then, stepped, part_step, start, run}
+use Rattle.litmus_grammar.specs.TextMachine.{Part, Draft, Next, State, Ran, placed, and_then, stepped, part_step, start, run}
 use Rattle.litmus_grammar.specs.Texts.{before_entries, before_rows}
 use Rattle.litmus_grammar.proofs.Bodies.{IsRows, any_header}
 use Rattle.litmus_grammar.proofs.Blocks.{IsBody, Opened, IsOne, IsBroken, brace_at, block_at, in_block, block_begins, body_led}
@@ -59,9 +59,9 @@ module _ (X : List Token → Type 0) (Q : State → Type 0) (any : Begins X [])
 
   head_begins : (ps : List Placed) (b : Bool) (name : List ℕ) (g : Stage) (s : State) → length ps < 18446744073709551616 → run (in_head name g (text.Head b)) ps ≡ Ok s → Q s → Begins (HeadOf b) (tokens_of ps)
   head_begins [] b name g s few e q = any_head b
-  head_begins (p ∷ ps) b name g s few e q = by_token b p.token p.place e (λ f k. head_begins ps false name f s (let h : length ps < 18446744073709551616 = omega (arith, few) in h) k q)
+  head_begins (p ∷ ps) b name g s few e q = by_token b p.token p.offset e (λ f k. head_begins ps false name f s (let h : length ps < 18446744073709551616 = omega (arith, few) in h) k q)
     where
-      by_token : (b : Bool) (t : Token) (n : ℕ) → run (in_head name g (text.Head b)) (record { token = t; place = n } ∷ ps) ≡ Ok s → ((f : Stage) → run (in_head name f (text.Head false)) ps ≡ Ok s → Begins Keys (tokens_of ps)) → Begins (HeadOf b) (t ∷ tokens_of ps)
+      by_token : (b : Bool) (t : Token) (n : ℕ) → run (in_head name g (text.Head b)) (record { token = t; offset = n } ∷ ps) ≡ Ok s → ((f : Stage) → run (in_head name f (text.Head false)) ps ≡ Ok s → Begins Keys (tokens_of ps)) → Begins (HeadOf b) (t ∷ tokens_of ps)
       by_token true tokens.Text n k later =
           let r = later (after g tokens.Text) k in
           let x = r.text in
@@ -103,35 +103,35 @@ module _ (X : List Token → Type 0) (Q : State → Type 0) (any : Begins X [])
 
   line_end : (name : List ℕ) → is_test_name name ≡ true → (ps : List Placed) (g : Stage) (s : State) → length ps < 18446744073709551616 → run (in_head name g text.TitleEnd) ps ≡ Ok s → Q s → Begins IsHeaded (tokens.Word (codes "PPC") ∷ tokens.Word name ∷ tokens_of ps)
   line_end name i [] g s few e q = let r = any_lines in record { rest = tokens.LineEnd ∷ r.rest; text = record { name = name; is_name = i; lines = r.rest; head = r.text; whole = refl } }
-  line_end name i (p ∷ ps) g s few e q = by_token p.token p.place e
+  line_end name i (p ∷ ps) g s few e q = by_token p.token p.offset e
     where
-      by_token : (t : Token) (n : ℕ) → run (in_head name g text.TitleEnd) (record { token = t; place = n } ∷ ps) ≡ Ok s → Begins IsHeaded (tokens.Word (codes "PPC") ∷ tokens.Word name ∷ t ∷ tokens_of ps)
+      by_token : (t : Token) (n : ℕ) → run (in_head name g text.TitleEnd) (record { token = t; offset = n } ∷ ps) ≡ Ok s → Begins IsHeaded (tokens.Word (codes "PPC") ∷ tokens.Word name ∷ t ∷ tokens_of ps)
       by_token tokens.LineEnd n k = headed name i (tokens_of ps) (head_begins ps true name (after g tokens.LineEnd) s (let h : length ps < 18446744073709551616 = omega (arith, few) in h) k q)
       by_token t n k = absurd cc
 
   title : (ps : List Placed) (g : Stage) (s : State) → length ps < 18446744073709551616 → run (in_head [] g text.Title) ps ≡ Ok s → Q s → Begins IsHeaded (tokens.Word (codes "PPC") ∷ tokens_of ps)
   title [] g s few e q = let r = any_lines in record { rest = tokens.Word (65 ∷ []) ∷ tokens.LineEnd ∷ r.rest; text = record { name = 65 ∷ []; is_name = refl; lines = r.rest; head = r.text; whole = refl } }
-  title (p ∷ ps) g s few e q = by_token p.token p.place e
+  title (p ∷ ps) g s few e q = by_token p.token p.offset e
     where
       by_word : (w : List ℕ) (n : ℕ) (b : Bool) → is_test_name w ≡ b → and_then (placed n (stepped (in_head [] g text.Title) (tokens.Word w) (if b then text.at (early w init.start table.start []) text.TitleEnd else None))) (λ x. run x ps) ≡ Ok s → Begins IsHeaded (tokens.Word (codes "PPC") ∷ tokens.Word w ∷ tokens_of ps)
       by_word w n true i k = line_end w i ps (after g (tokens.Word w)) s (let h : length ps < 18446744073709551616 = omega (arith, few) in h) k q
       by_word w n false i k = absurd cc
 
-      by_token : (t : Token) (n : ℕ) → run (in_head [] g text.Title) (record { token = t; place = n } ∷ ps) ≡ Ok s → Begins IsHeaded (tokens.Word (codes "PPC") ∷ t ∷ tokens_of ps)
+      by_token : (t : Token) (n : ℕ) → run (in_head [] g text.Title) (record { token = t; offset = n } ∷ ps) ≡ Ok s → Begins IsHeaded (tokens.Word (codes "PPC") ∷ t ∷ tokens_of ps)
       by_token (tokens.Word w) n k = by_word w n (is_test_name w) refl k
       by_token t n k = absurd cc
 
   pub magic : (ps : List Placed) (g : Stage) (s : State) → length ps < 18446744073709551616 → run (in_head [] g text.Magic) ps ≡ Ok s → Q s → Begins IsHeaded (tokens_of ps)
   magic [] g s few e q = let r = any_lines in record { rest = tokens.Word (codes "PPC") ∷ tokens.Word (65 ∷ []) ∷ tokens.LineEnd ∷ r.rest; text = record { name = 65 ∷ []; is_name = refl; lines = r.rest; head = r.text; whole = refl } }
-  magic (p ∷ ps) g s few e q = by_token p.token p.place e
+  magic (p ∷ ps) g s few e q = by_token p.token p.offset e
     where
-      by_word : (w : List ℕ) (n : ℕ) (b : Bool) → bytes_eq w (codes "PPC") ≡ b → and_then (placed n (stepped (in_head [] g text.Magic) (tokens.Word w) (text.leads (early [] init.start table.start []) (if b then Some text.Title else None)))) (λ x. run x ps) ≡ Ok s → Begins IsHeaded (tokens.Word w ∷ tokens_of ps)
+      by_word : (w : List ℕ) (n : ℕ) (b : Bool) → bytes_eq w (codes "PPC") ≡ b → and_then (placed n (stepped (in_head [] g text.Magic) (tokens.Word w) (text.next_at (early [] init.start table.start []) (if b then Some text.Title else None)))) (λ x. run x ps) ≡ Ok s → Begins IsHeaded (tokens.Word w ∷ tokens_of ps)
       by_word w n true i k =
           let same : codes "PPC" ≡ w = sym ((bytes_eq-Decides w (codes "PPC")).0 i) in
           subst (λ (v : List ℕ). Begins IsHeaded (tokens.Word v ∷ tokens_of ps)) same (title ps (after g (tokens.Word w)) s (let h : length ps < 18446744073709551616 = omega (arith, few) in h) k q)
       by_word w n false i k = absurd cc
 
-      by_token : (t : Token) (n : ℕ) → run (in_head [] g text.Magic) (record { token = t; place = n } ∷ ps) ≡ Ok s → Begins IsHeaded (t ∷ tokens_of ps)
+      by_token : (t : Token) (n : ℕ) → run (in_head [] g text.Magic) (record { token = t; offset = n } ∷ ps) ≡ Ok s → Begins IsHeaded (t ∷ tokens_of ps)
       by_token (tokens.Word w) n k = by_word w n (bytes_eq w (codes "PPC")) refl k
       by_token t n k = absurd cc
 
@@ -163,7 +163,7 @@ keys_led name (suc k) b (p ∷ ps) behind g e =
       whole = ap (λ (l : List Placed). p ∷ l) r.whole;
       are_before = ap (λ (x : Token). x ∷ tokens_of r.before) t ∙ ap (λ (l : List Token). tokens.Keyline ∷ l) r.are_before;
       are_left = r.are_left;
-      by = ap (λ (x : Token). run (in_head name g (text.Head b)) (record { token = x; place = p.place } ∷ r.before)) t ∙ r.by;
+      by = ap (λ (x : Token). run (in_head name g (text.Head b)) (record { token = x; offset = p.offset } ∷ r.before)) t ∙ r.by;
     }
 
 lines_led : (name : List ℕ) (t : Bool) (k : ℕ) (ps : List Placed) (behind : List Token) (g : Stage) → tokens_of ps ≡ spelled_text t (spelled_keylines k behind) → TakesLines name true t k ps behind g
@@ -182,7 +182,7 @@ lines_led name true k (p ∷ ps) behind g e =
       whole = ap (λ (l : List Placed). p ∷ l) r.whole;
       are_before = ap (λ (x : Token). x ∷ tokens_of r.before) t ∙ ap (λ (l : List Token). tokens.Text ∷ l) r.are_before;
       are_left = r.are_left;
-      by = ap (λ (x : Token). run (in_head name g (text.Head true)) (record { token = x; place = p.place } ∷ r.before)) t ∙ r.by;
+      by = ap (λ (x : Token). run (in_head name g (text.Head true)) (record { token = x; offset = p.offset } ∷ r.before)) t ∙ r.by;
     }
 
 -- the head was read, and this is left
@@ -217,10 +217,10 @@ head_led name t k (a ∷ b ∷ c ∷ ps) behind i e =
           ∙ ap (λ (x : Token). tokens.Word (codes "PPC") ∷ tokens.Word name ∷ x ∷ tokens_of r.before) tc ∙ ap (λ (l : List Token). tokens.Word (codes "PPC") ∷ tokens.Word name ∷ tokens.LineEnd ∷ l) r.are_before;
       are_left = r.are_left;
       by =
-          ap (λ (x : Token). run (start kinds.Test 0) (record { token = x; place = a.place } ∷ b ∷ c ∷ r.before)) ta
-          ∙ ap (λ (x : Token). run (in_head [] stages.Title text.Title) (record { token = x; place = b.place } ∷ c ∷ r.before)) tb
-          ∙ ap (λ (y : Bool). and_then (placed b.place (stepped (in_head [] stages.Title text.Title) (tokens.Word name) (if y then text.at (early name init.start table.start []) text.TitleEnd else None))) (λ x. run x (c ∷ r.before))) i
-          ∙ ap (λ (x : Token). run (in_head name stages.TitleEnd text.TitleEnd) (record { token = x; place = c.place } ∷ r.before)) tc
+          ap (λ (x : Token). run (start kinds.Test 0) (record { token = x; offset = a.offset } ∷ b ∷ c ∷ r.before)) ta
+          ∙ ap (λ (x : Token). run (in_head [] stages.Title text.Title) (record { token = x; offset = b.offset } ∷ c ∷ r.before)) tb
+          ∙ ap (λ (y : Bool). and_then (placed b.offset (stepped (in_head [] stages.Title text.Title) (tokens.Word name) (if y then text.at (early name init.start table.start []) text.TitleEnd else None))) (λ x. run x (c ∷ r.before))) i
+          ∙ ap (λ (x : Token). run (in_head name stages.TitleEnd text.TitleEnd) (record { token = x; offset = c.offset } ∷ r.before)) tc
           ∙ r.by;
     }
 
@@ -265,9 +265,9 @@ module _ (t : TestTree) (fine : IsTest limits t) (few : t.others + 1 < 184467440
   body_taken ps h [] behind l e k = absurd cc
   body_taken ps h (p ∷ q) [] l e k = absurd cc
   body_taken ps h (p ∷ q) (w ∷ b) l e k =
-      let n = p.place in
+      let n = p.offset in
       let brace : p.token ≡ tokens.Mark marks.OpenBrace = cc in
-      let is_brace : p ≡ brace_at n = ap (λ (x : Token). record { token = x; place = p.place }) brace in
+      let is_brace : p ≡ brace_at n = ap (λ (x : Token). record { token = x; offset = p.offset }) brace in
       let e' : tokens_of (brace_at n ∷ q) ≡ spelled_init t.init [] = ap (λ (x : Placed). tokens_of (x ∷ q)) (sym is_brace) ∙ e in
       let first : w.token ≡ tokens.Word (column_name 0) = cc in
       let others : tokens_of b ≡ spelled_names 1 t.others behind_header = cc in
@@ -356,8 +356,8 @@ test_whole ps s few e d =
     let words : tokens_of all ≡ tokens_of ps ++ b.rest = tokens_of-append ps (anywhere b.rest) ∙ ap (λ (l : List Token). tokens_of ps ++ l) (tokens_of-anywhere b.rest) in
     let r = test_led x.tree x.fine x.few all (words ∙ x.whole) in
     let on : run s (anywhere b.rest) ≡ Ok _ = sym (run-append (start kinds.Test 0) s ps (anywhere b.rest) e) ∙ r.by in
-    let at_end : s ≡ text_at s.kind s.threads s.stage text.Done s.held = ap (λ (p : Part). text_at s.kind s.threads s.stage p s.held) d in
-    let none = nothing_more b.rest (done_behind s.kind s.threads s.stage s.held (anywhere b.rest) _ (ap (λ (y : State). run y (anywhere b.rest)) (sym at_end) ∙ on)).0 in
+    let at_end : s ≡ text_at s.kind s.threads s.stage text.Done s.draft = ap (λ (p : Part). text_at s.kind s.threads s.stage p s.draft) d in
+    let none = nothing_more b.rest (done_behind s.kind s.threads s.stage s.draft (anywhere b.rest) _ (ap (λ (y : State). run y (anywhere b.rest)) (sym at_end) ∙ on)).0 in
     subst IsFewTest (ap (λ (l : List Token). tokens_of ps ++ l) none ∙ append-nil (tokens_of ps)) x
 
 -- ---- no more columns than tokens

@@ -10,21 +10,21 @@ use Rattle.litmus_tokens.specs.Texts.{Placed, tokens_of}
 use Rattle.litmus_tokens.specs.Words.{signed, decimal, is_int, register_of, is_register, is_known, or_zero}
 use Rattle.litmus_values.specs.declared.test.Place.{Place}
 use Rattle.litmus_values.specs.declared.test.Value.TheVariants as values
-use Rattle.litmus_conditions.specs.declared.place.PlaceHole.{PlaceHole}
-use Rattle.litmus_conditions.specs.declared.place.PlaceHole.TheVariants as places
+use Rattle.litmus_conditions.specs.declared.place.PlaceExpectation.{PlaceExpectation}
+use Rattle.litmus_conditions.specs.declared.place.PlaceExpectation.TheVariants as places
 use Rattle.litmus_conditions.specs.declared.place.PlaceStep.{PlaceStep}
 use Rattle.litmus_conditions.specs.declared.place.WrittenPlace.{WrittenPlace}
 use Rattle.litmus_conditions.specs.declared.place.WrittenPlace.TheVariants as written
 use Rattle.litmus_conditions.specs.Grammar.{PlaceTree, Location, Register, ValueTree, Number, Address, spelled_place, spelled_value, IsPlace, IsValue, written_place}
 use Rattle.litmus_conditions.specs.PlaceMachine.{place_step, place_of, register_ends, number_read}
-use Rattle.litmus_grammar.specs.declared.parts.InitHole.{InitHole}
-use Rattle.litmus_grammar.specs.declared.parts.InitHole.TheVariants as holes
+use Rattle.litmus_grammar.specs.declared.parts.InitExpectation.{InitExpectation}
+use Rattle.litmus_grammar.specs.declared.parts.InitExpectation.TheVariants as expectations
 use Rattle.litmus_grammar.specs.declared.parts.TextKind.TheVariants as kinds
 use Rattle.litmus_grammar.specs.Grammar.{EntryTree, spelled_entry, spelled_others, Lacks, AreEntries, IsInitText}
 use Rattle.litmus_grammar.specs.InitMachine as init
-use Rattle.litmus_grammar.specs.InitMachine.{Block, Did, has_key, with_key, begun_at, with_entry, place_went, and_place, valued}
+use Rattle.litmus_grammar.specs.InitMachine.{Block, Did, has_key, with_key, with_start, with_entry, place_result, and_place, valued}
 use Rattle.litmus_grammar.specs.TextMachine as text
-use Rattle.litmus_grammar.specs.TextMachine.{Part, Held, State, Ran, placed, and_then, stepped, with_init, nothing, start, run, init_went}
+use Rattle.litmus_grammar.specs.TextMachine.{Part, Draft, State, Ran, placed, and_then, stepped, with_init, nothing, start, run, init_result}
 use Rattle.litmus_grammar.proofs.InitKeys.{key_of, Keeps, keeps_none, keeps_more}
 
 abbrev pub closing : List Token
@@ -38,11 +38,11 @@ abbrev done_in : Ran → Bool
 done_in (Ok s) = is_done s.part
 done_in r = false
 
-abbrev pub held : Block → Held
-held b = with_init (nothing kinds.Init) b
+abbrev pub draft : Block → Draft
+draft b = with_init (nothing kinds.Init) b
 
 abbrev pub standing : ℕ → Stage → Part → Block → State
-standing threads g p b = record { kind = kinds.Init; threads = threads; stage = g; part = p; held = held b }
+standing threads g p b = record { kind = kinds.Init; threads = threads; stage = g; part = p; draft = draft b }
 
 more : (t : Token) (ts us : List Token) → ts ≡ us → t ∷ ts ≡ t ∷ us
 more t ts us e = ap (λ (xs : List Token). t ∷ xs) e
@@ -116,20 +116,20 @@ record OpenLeft (before : List WrittenPlace) (ts : List Token) : Type 0 where
   whole : ts ≡ tokens.Mark marks.OpenBrace ∷ rest
   entries : EntryLeft before rest
 
-abbrev WithinLeft : List WrittenPlace → PlaceHole → List Token → Type 0
+abbrev WithinLeft : List WrittenPlace → PlaceExpectation → List Token → Type 0
 WithinLeft before places.Begins ts = PlaceLeft before ts
 WithinLeft before places.WantsName ts = NameLeft before ts
 WithinLeft before (places.WantsBracket n) ts = BracketLeft before ts
 WithinLeft before (places.WantsColon d) ts = ColonLeft before d ts
 WithinLeft before (places.WantsRegister d) ts = RegisterLeft before d ts
 
-abbrev Left : List WrittenPlace → InitHole → List Token → Type 0
-Left before holes.WantsOpen ts = OpenLeft before ts
-Left before holes.WantsEntry ts = EntryLeft before ts
-Left before (holes.InPlace hole) ts = WithinLeft before hole ts
-Left before (holes.WantsEquals p) ts = EqualsLeft before ts
-Left before (holes.WantsValue p) ts = ValueLeft before ts
-Left before holes.HasEntry ts = Behind before ts
+abbrev Left : List WrittenPlace → InitExpectation → List Token → Type 0
+Left before expectations.WantsOpen ts = OpenLeft before ts
+Left before expectations.WantsEntry ts = EntryLeft before ts
+Left before (expectations.InPlace expected) ts = WithinLeft before expected ts
+Left before (expectations.WantsEquals p) ts = EqualsLeft before ts
+Left before (expectations.WantsValue p) ts = ValueLeft before ts
+Left before expectations.HasEntry ts = Behind before ts
 
 another : (before : List WrittenPlace) (ts : List Token) → PlaceLeft before ts → Following before ts
 another before ts l =
@@ -154,31 +154,31 @@ module _ (threads : ℕ) where
 
   end_left : (ps : List Placed) (g : Stage) (b : Block) (s : State) → run (standing threads g text.WantsEnd b) ps ≡ Ok s → s.part ≡ text.Done → tokens_of ps ≡ tokens.End ∷ []
   end_left [] g b s e d = absurd (let no_end : false ≡ true = ap done_in e ∙ ap is_done d in cc)
-  end_left (p ∷ ps) g b s e d = by_token p.token p.place e
+  end_left (p ∷ ps) g b s e d = by_token p.token p.offset e
     where
-      by_token : (t : Token) (n : ℕ) → run (standing threads g text.WantsEnd b) (record { token = t; place = n } ∷ ps) ≡ Ok s → t ∷ tokens_of ps ≡ tokens.End ∷ []
+      by_token : (t : Token) (n : ℕ) → run (standing threads g text.WantsEnd b) (record { token = t; offset = n } ∷ ps) ≡ Ok s → t ∷ tokens_of ps ≡ tokens.End ∷ []
       by_token tokens.End n k = more tokens.End (tokens_of ps) [] (only_end ps (after g tokens.End) b s k)
       by_token t n k = absurd cc
 
   -- with what is left behind the token
-  module _ (ps : List Placed) (s : State) (d : s.part ≡ text.Done) (again : (hole : InitHole) (g : Stage) (b : Block) (before : List WrittenPlace) → Keeps b.named before → run (standing threads g (text.Init hole) b) ps ≡ Ok s → Left before hole (tokens_of ps)) where
-    abbrev went_on : Stage → InitHole → Block → Token → ℕ → Option Did → Ran
-    went_on g hole b t n o = and_then (placed n (stepped (standing threads g (text.Init hole) b) t (init_went kinds.Init (held b) o))) (λ x. run x ps)
+  module _ (ps : List Placed) (s : State) (d : s.part ≡ text.Done) (again : (expected : InitExpectation) (g : Stage) (b : Block) (before : List WrittenPlace) → Keeps b.named before → run (standing threads g (text.Init expected) b) ps ≡ Ok s → Left before expected (tokens_of ps)) where
+    abbrev went_on : Stage → InitExpectation → Block → Token → ℕ → Option Did → Ran
+    went_on g expected b t n o = and_then (placed n (stepped (standing threads g (text.Init expected) b) t (init_result kinds.Init (draft b) o))) (λ x. run x ps)
 
     -- a place that is named here was not named before
-    once : (g : Stage) (hole : InitHole) (c b : Block) (t : Token) (n : ℕ) (k : List ℕ) (o : Option PlaceStep) (x : Bool) → has_key b.named k ≡ x → went_on g hole c t n (and_place (if x then None else Some (with_key b k)) o) ≡ Ok s → (has_key b.named k ≡ false) × (went_on g hole c t n (place_went (with_key b k) o) ≡ Ok s)
-    once g hole c b t n k o true e h = absurd cc
-    once g hole c b t n k o false e h = (e, h)
+    once : (g : Stage) (expected : InitExpectation) (c b : Block) (t : Token) (n : ℕ) (k : List ℕ) (o : Option PlaceStep) (x : Bool) → has_key b.named k ≡ x → went_on g expected c t n (and_place (if x then None else Some (with_key b k)) o) ≡ Ok s → (has_key b.named k ≡ false) × (went_on g expected c t n (place_result (with_key b k) o) ≡ Ok s)
+    once g expected c b t n k o true e h = absurd cc
+    once g expected c b t n k o false e h = (e, h)
 
     -- the equals sign behind a place that was named
-    named : (g : Stage) (b : Block) (before : List WrittenPlace) (w : WrittenPlace) (p : Place) → Keeps b.named before → has_key b.named (key_of w) ≡ false → run (standing threads g (text.Init (holes.WantsEquals p)) (with_key b (key_of w))) ps ≡ Ok s → Lacks before w × EqualsLeft (w ∷ before) (tokens_of ps)
-    named g b before w p keeps e h = ((keeps w).0 e, again (holes.WantsEquals p) g (with_key b (key_of w)) (w ∷ before) (keeps_more b.named before w keeps) h)
+    named : (g : Stage) (b : Block) (before : List WrittenPlace) (w : WrittenPlace) (p : Place) → Keeps b.named before → has_key b.named (key_of w) ≡ false → run (standing threads g (text.Init (expectations.WantsEquals p)) (with_key b (key_of w))) ps ≡ Ok s → Lacks before w × EqualsLeft (w ∷ before) (tokens_of ps)
+    named g b before w p keeps e h = ((keeps w).0 e, again (expectations.WantsEquals p) g (with_key b (key_of w)) (w ∷ before) (keeps_more b.named before w keeps) h)
 
-    register_left : (g : Stage) (hole : InitHole) (b : Block) (before : List WrittenPlace) (d w : List ℕ) (n : ℕ) (o : Option ℕ) → register_of w ≡ o → Keeps b.named before
-        → went_on g hole b (tokens.Word w) n (and_place (init.added_if b (init.known_key d o)) (register_ends d o)) ≡ Ok s → RegisterLeft before d (tokens.Word w ∷ tokens_of ps)
-    register_left g hole b before d w n (Some r) e keeps h =
+    register_left : (g : Stage) (expected : InitExpectation) (b : Block) (before : List WrittenPlace) (d w : List ℕ) (n : ℕ) (o : Option ℕ) → register_of w ≡ o → Keeps b.named before
+        → went_on g expected b (tokens.Word w) n (and_place (init.added_if b (init.known_key d o)) (register_ends d o)) ≡ Ok s → RegisterLeft before d (tokens.Word w ∷ tokens_of ps)
+    register_left g expected b before d w n (Some r) e keeps h =
         let place = written.Register d r in
-        let o = once g hole b b (tokens.Word w) n (key_of place) (register_ends d (Some r)) (has_key b.named (key_of place)) refl h in
+        let o = once g expected b b (tokens.Word w) n (key_of place) (register_ends d (Some r)) (has_key b.named (key_of place)) refl h in
         let k = named (after g (tokens.Word w)) b before place (place_of place) keeps o.0 o.1 in
         let same : written.Register d r ≡ written.Register d (or_zero (register_of w)) = ap (λ (x : Option ℕ). written.Register d (or_zero x)) (sym e) in
         record {
@@ -189,81 +189,81 @@ module _ (threads : ℕ) where
           once = subst (Lacks before) same k.0;
           equals = subst (λ (x : WrittenPlace). EqualsLeft (x ∷ before) (tokens_of ps)) same k.1;
         }
-    register_left g hole b before d w n None e keeps h = absurd cc
+    register_left g expected b before d w n None e keeps h = absurd cc
 
-    begun : (g : Stage) (hole : InitHole) (c b : Block) (before : List WrittenPlace) (t : Token) (n : ℕ) → Keeps b.named before → went_on g hole c t n (init.place_read b places.Begins t) ≡ Ok s → PlaceLeft before (t ∷ tokens_of ps)
-    begun g hole c b before (tokens.Word w) n keeps h =
+    first_draft : (g : Stage) (expected : InitExpectation) (c b : Block) (before : List WrittenPlace) (t : Token) (n : ℕ) → Keeps b.named before → went_on g expected c t n (init.place_read b places.Begins t) ≡ Ok s → PlaceLeft before (t ∷ tokens_of ps)
+    first_draft g expected c b before (tokens.Word w) n keeps h =
         let place = written.Location w in
-        let o = once g hole c b (tokens.Word w) n (key_of place) (place_step places.Begins (tokens.Word w)) (has_key b.named (key_of place)) refl h in
+        let o = once g expected c b (tokens.Word w) n (key_of place) (place_step places.Begins (tokens.Word w)) (has_key b.named (key_of place)) refl h in
         let k = named (after g (tokens.Word w)) b before place (place_of place) keeps o.0 o.1 in
         record { place = Location false w; rest = tokens_of ps; fine = tt; whole = refl; once = k.0; equals = k.1 }
-    begun g hole c b before (tokens.Mark marks.OpenBracket) n keeps h =
-        let l = again (holes.InPlace places.WantsName) (after g (tokens.Mark marks.OpenBracket)) b before keeps h in
+    first_draft g expected c b before (tokens.Mark marks.OpenBracket) n keeps h =
+        let l = again (expectations.InPlace places.WantsName) (after g (tokens.Mark marks.OpenBracket)) b before keeps h in
         record { place = Location true l.name; rest = l.rest; fine = tt; whole = more (tokens.Mark marks.OpenBracket) (tokens_of ps) _ l.whole; once = l.once; equals = l.equals }
-    begun g hole c b before (tokens.Number false d) n keeps h =
-        let l = again (holes.InPlace (places.WantsColon d)) (after g (tokens.Number false d)) b before keeps h in
+    first_draft g expected c b before (tokens.Number false d) n keeps h =
+        let l = again (expectations.InPlace (places.WantsColon d)) (after g (tokens.Number false d)) b before keeps h in
         let r = l.register in
         record { place = Register d r.word; rest = r.rest; fine = r.fine; whole = more (tokens.Number false d) (tokens_of ps) _ (l.whole ∙ more (tokens.Mark marks.Colon) l.rest _ r.whole); once = r.once; equals = r.equals }
-    begun g hole c b before t n keeps h = absurd cc
+    first_draft g expected c b before t n keeps h = absurd cc
 
-    within_left : (g : Stage) (hole : PlaceHole) (b : Block) (before : List WrittenPlace) (t : Token) (n : ℕ) → Keeps b.named before → went_on g (holes.InPlace hole) b t n (init.place_read b hole t) ≡ Ok s → WithinLeft before hole (t ∷ tokens_of ps)
-    within_left g places.Begins b before t n keeps h = begun g (holes.InPlace places.Begins) b b before t n keeps h
+    within_left : (g : Stage) (expected : PlaceExpectation) (b : Block) (before : List WrittenPlace) (t : Token) (n : ℕ) → Keeps b.named before → went_on g (expectations.InPlace expected) b t n (init.place_read b expected t) ≡ Ok s → WithinLeft before expected (t ∷ tokens_of ps)
+    within_left g places.Begins b before t n keeps h = first_draft g (expectations.InPlace places.Begins) b b before t n keeps h
     within_left g places.WantsName b before (tokens.Word w) n keeps h =
         let place = written.Location w in
-        let o = once g (holes.InPlace places.WantsName) b b (tokens.Word w) n (key_of place) (place_step places.WantsName (tokens.Word w)) (has_key b.named (key_of place)) refl h in
-        let l = again (holes.InPlace (places.WantsBracket w)) (after g (tokens.Word w)) (with_key b (key_of place)) (place ∷ before) (keeps_more b.named before place keeps) o.1 in
+        let o = once g (expectations.InPlace places.WantsName) b b (tokens.Word w) n (key_of place) (place_step places.WantsName (tokens.Word w)) (has_key b.named (key_of place)) refl h in
+        let l = again (expectations.InPlace (places.WantsBracket w)) (after g (tokens.Word w)) (with_key b (key_of place)) (place ∷ before) (keeps_more b.named before place keeps) o.1 in
         record { name = w; rest = l.rest; whole = more (tokens.Word w) (tokens_of ps) _ l.whole; once = (keeps place).0 o.0; equals = l.equals }
     within_left g places.WantsName b before t n keeps h = absurd cc
     within_left g (places.WantsBracket w) b before (tokens.Mark marks.CloseBracket) n keeps h =
-        record { rest = tokens_of ps; whole = refl; equals = again (holes.WantsEquals (place_of (written.Location w))) (after g (tokens.Mark marks.CloseBracket)) b before keeps h }
+        record { rest = tokens_of ps; whole = refl; equals = again (expectations.WantsEquals (place_of (written.Location w))) (after g (tokens.Mark marks.CloseBracket)) b before keeps h }
     within_left g (places.WantsBracket w) b before t n keeps h = absurd cc
     within_left g (places.WantsColon d) b before (tokens.Mark marks.Colon) n keeps h =
-        record { rest = tokens_of ps; whole = refl; register = again (holes.InPlace (places.WantsRegister d)) (after g (tokens.Mark marks.Colon)) b before keeps h }
+        record { rest = tokens_of ps; whole = refl; register = again (expectations.InPlace (places.WantsRegister d)) (after g (tokens.Mark marks.Colon)) b before keeps h }
     within_left g (places.WantsColon d) b before t n keeps h = absurd cc
-    within_left g (places.WantsRegister d) b before (tokens.Word w) n keeps h = register_left g (holes.InPlace (places.WantsRegister d)) b before d w n (register_of w) refl keeps h
+    within_left g (places.WantsRegister d) b before (tokens.Word w) n keeps h = register_left g (expectations.InPlace (places.WantsRegister d)) b before d w n (register_of w) refl keeps h
     within_left g (places.WantsRegister d) b before t n keeps h = absurd cc
 
-    entry_left : (g : Stage) (b : Block) (before : List WrittenPlace) (t : Token) (n : ℕ) → Keeps b.named before → went_on g holes.WantsEntry b t n (init.entry_read b t n) ≡ Ok s → EntryLeft before (t ∷ tokens_of ps)
+    entry_left : (g : Stage) (b : Block) (before : List WrittenPlace) (t : Token) (n : ℕ) → Keeps b.named before → went_on g expectations.WantsEntry b t n (init.entry_read b t n) ≡ Ok s → EntryLeft before (t ∷ tokens_of ps)
     entry_left g b before (tokens.Mark marks.CloseBrace) n keeps h = Closes (more (tokens.Mark marks.CloseBrace) (tokens_of ps) _ (end_left ps (after g (tokens.Mark marks.CloseBrace)) b s h d))
-    entry_left g b before t n keeps h = Another (another before (t ∷ tokens_of ps) (begun g holes.WantsEntry b (begun_at b n) before t n keeps h))
+    entry_left g b before t n keeps h = Another (another before (t ∷ tokens_of ps) (first_draft g expectations.WantsEntry b (with_start b n) before t n keeps h))
 
-    open_left : (g : Stage) (b : Block) (before : List WrittenPlace) (t : Token) (n : ℕ) → Keeps b.named before → went_on g holes.WantsOpen b t n (init.open_read b t) ≡ Ok s → OpenLeft before (t ∷ tokens_of ps)
-    open_left g b before (tokens.Mark marks.OpenBrace) n keeps h = record { rest = tokens_of ps; whole = refl; entries = again holes.WantsEntry (after g (tokens.Mark marks.OpenBrace)) b before keeps h }
+    open_left : (g : Stage) (b : Block) (before : List WrittenPlace) (t : Token) (n : ℕ) → Keeps b.named before → went_on g expectations.WantsOpen b t n (init.open_read b t) ≡ Ok s → OpenLeft before (t ∷ tokens_of ps)
+    open_left g b before (tokens.Mark marks.OpenBrace) n keeps h = record { rest = tokens_of ps; whole = refl; entries = again expectations.WantsEntry (after g (tokens.Mark marks.OpenBrace)) b before keeps h }
     open_left g b before t n keeps h = absurd cc
 
-    equals_left : (g : Stage) (p : Place) (b : Block) (before : List WrittenPlace) (t : Token) (n : ℕ) → Keeps b.named before → went_on g (holes.WantsEquals p) b t n (init.equals_read b p t) ≡ Ok s → EqualsLeft before (t ∷ tokens_of ps)
-    equals_left g p b before (tokens.Mark marks.Equals) n keeps h = record { rest = tokens_of ps; whole = refl; value = again (holes.WantsValue p) (after g (tokens.Mark marks.Equals)) b before keeps h }
+    equals_left : (g : Stage) (p : Place) (b : Block) (before : List WrittenPlace) (t : Token) (n : ℕ) → Keeps b.named before → went_on g (expectations.WantsEquals p) b t n (init.equals_read b p t) ≡ Ok s → EqualsLeft before (t ∷ tokens_of ps)
+    equals_left g p b before (tokens.Mark marks.Equals) n keeps h = record { rest = tokens_of ps; whole = refl; value = again (expectations.WantsValue p) (after g (tokens.Mark marks.Equals)) b before keeps h }
     equals_left g p b before t n keeps h = absurd cc
 
     number_left : (g : Stage) (p : Place) (b : Block) (before : List WrittenPlace) (negative : Bool) (ds : List ℕ) (n : ℕ) (x : Bool) → is_int negative ds ≡ x → Keeps b.named before
-        → went_on g (holes.WantsValue p) b (tokens.Number negative ds) n (valued b p (number_read (if x then Some (signed negative (decimal ds)) else None))) ≡ Ok s → ValueLeft before (tokens.Number negative ds ∷ tokens_of ps)
+        → went_on g (expectations.WantsValue p) b (tokens.Number negative ds) n (valued b p (number_read (if x then Some (signed negative (decimal ds)) else None))) ≡ Ok s → ValueLeft before (tokens.Number negative ds ∷ tokens_of ps)
     number_left g p b before negative ds n true e keeps h =
-        record { value = Number negative ds; rest = tokens_of ps; fine = e; whole = refl; behind = again holes.HasEntry (after g (tokens.Number negative ds)) (with_entry b p (values.Number (signed negative (decimal ds)))) before keeps h }
+        record { value = Number negative ds; rest = tokens_of ps; fine = e; whole = refl; behind = again expectations.HasEntry (after g (tokens.Number negative ds)) (with_entry b p (values.Number (signed negative (decimal ds)))) before keeps h }
     number_left g p b before negative ds n false e keeps h = absurd cc
 
-    value_left : (g : Stage) (p : Place) (b : Block) (before : List WrittenPlace) (t : Token) (n : ℕ) → Keeps b.named before → went_on g (holes.WantsValue p) b t n (init.step b (holes.WantsValue p) t n) ≡ Ok s → ValueLeft before (t ∷ tokens_of ps)
+    value_left : (g : Stage) (p : Place) (b : Block) (before : List WrittenPlace) (t : Token) (n : ℕ) → Keeps b.named before → went_on g (expectations.WantsValue p) b t n (init.step b (expectations.WantsValue p) t n) ≡ Ok s → ValueLeft before (t ∷ tokens_of ps)
     value_left g p b before (tokens.Word w) n keeps h =
-        record { value = Address w; rest = tokens_of ps; fine = tt; whole = refl; behind = again holes.HasEntry (after g (tokens.Word w)) (with_entry b p (values.Address w)) before keeps h }
+        record { value = Address w; rest = tokens_of ps; fine = tt; whole = refl; behind = again expectations.HasEntry (after g (tokens.Word w)) (with_entry b p (values.Address w)) before keeps h }
     value_left g p b before (tokens.Number negative ds) n keeps h = number_left g p b before negative ds n (is_int negative ds) refl keeps h
     value_left g p b before t n keeps h = absurd cc
 
-    behind_left : (g : Stage) (b : Block) (before : List WrittenPlace) (t : Token) (n : ℕ) → Keeps b.named before → went_on g holes.HasEntry b t n (init.behind b t) ≡ Ok s → Behind before (t ∷ tokens_of ps)
-    behind_left g b before (tokens.Mark marks.Semicolon) n keeps h = after_semicolon before (tokens_of ps) (again holes.WantsEntry (after g (tokens.Mark marks.Semicolon)) b before keeps h)
+    behind_left : (g : Stage) (b : Block) (before : List WrittenPlace) (t : Token) (n : ℕ) → Keeps b.named before → went_on g expectations.HasEntry b t n (init.behind b t) ≡ Ok s → Behind before (t ∷ tokens_of ps)
+    behind_left g b before (tokens.Mark marks.Semicolon) n keeps h = after_semicolon before (tokens_of ps) (again expectations.WantsEntry (after g (tokens.Mark marks.Semicolon)) b before keeps h)
     behind_left g b before (tokens.Mark marks.CloseBrace) n keeps h =
         record { others = []; closed = false; fine = tt; whole = more (tokens.Mark marks.CloseBrace) (tokens_of ps) _ (end_left ps (after g (tokens.Mark marks.CloseBrace)) b s h d) }
     behind_left g b before t n keeps h = absurd cc
 
-    by_hole : (hole : InitHole) (g : Stage) (b : Block) (before : List WrittenPlace) (t : Token) (n : ℕ) → Keeps b.named before → run (standing threads g (text.Init hole) b) (record { token = t; place = n } ∷ ps) ≡ Ok s → Left before hole (t ∷ tokens_of ps)
-    by_hole holes.WantsOpen g b before t n keeps h = open_left g b before t n keeps h
-    by_hole holes.WantsEntry g b before t n keeps h = entry_left g b before t n keeps h
-    by_hole (holes.InPlace hole) g b before t n keeps h = within_left g hole b before t n keeps h
-    by_hole (holes.WantsEquals p) g b before t n keeps h = equals_left g p b before t n keeps h
-    by_hole (holes.WantsValue p) g b before t n keeps h = value_left g p b before t n keeps h
-    by_hole holes.HasEntry g b before t n keeps h = behind_left g b before t n keeps h
+    by_expectation : (expected : InitExpectation) (g : Stage) (b : Block) (before : List WrittenPlace) (t : Token) (n : ℕ) → Keeps b.named before → run (standing threads g (text.Init expected) b) (record { token = t; offset = n } ∷ ps) ≡ Ok s → Left before expected (t ∷ tokens_of ps)
+    by_expectation expectations.WantsOpen g b before t n keeps h = open_left g b before t n keeps h
+    by_expectation expectations.WantsEntry g b before t n keeps h = entry_left g b before t n keeps h
+    by_expectation (expectations.InPlace expected) g b before t n keeps h = within_left g expected b before t n keeps h
+    by_expectation (expectations.WantsEquals p) g b before t n keeps h = equals_left g p b before t n keeps h
+    by_expectation (expectations.WantsValue p) g b before t n keeps h = value_left g p b before t n keeps h
+    by_expectation expectations.HasEntry g b before t n keeps h = behind_left g b before t n keeps h
 
-  left : (ps : List Placed) (hole : InitHole) (g : Stage) (b : Block) (before : List WrittenPlace) (s : State) → Keeps b.named before → run (standing threads g (text.Init hole) b) ps ≡ Ok s → s.part ≡ text.Done → Left before hole (tokens_of ps)
-  left [] hole g b before s keeps e d = absurd (let no_end : false ≡ true = ap done_in e ∙ ap is_done d in cc)
-  left (p ∷ ps) hole g b before s keeps e d = by_hole ps s d (λ o f c more_places k i. left ps o f c more_places s k i d) hole g b before p.token p.place keeps e
+  left : (ps : List Placed) (expected : InitExpectation) (g : Stage) (b : Block) (before : List WrittenPlace) (s : State) → Keeps b.named before → run (standing threads g (text.Init expected) b) ps ≡ Ok s → s.part ≡ text.Done → Left before expected (tokens_of ps)
+  left [] expected g b before s keeps e d = absurd (let no_end : false ≡ true = ap done_in e ∙ ap is_done d in cc)
+  left (p ∷ ps) expected g b before s keeps e d = by_expectation ps s d (λ o f c more_places k i. left ps o f c more_places s k i d) expected g b before p.token p.offset keeps e
 
   to_text : (ts us : List Token) → ts ≡ tokens.Mark marks.OpenBrace ∷ us → EntryLeft [] us → IsInitText ts
   to_text ts us e (Closes k) = record { entries = None; fine = tt; whole = e ∙ more (tokens.Mark marks.OpenBrace) us _ k }
@@ -272,5 +272,5 @@ module _ (threads : ℕ) where
 
   pub init_whole : (ps : List Placed) (s : State) → run (start kinds.Init threads) ps ≡ Ok s → s.part ≡ text.Done → IsInitText (tokens_of ps)
   init_whole ps s e d =
-      let l = left ps holes.WantsOpen (text.first_stage kinds.Init) init.start [] s keeps_none e d in
+      let l = left ps expectations.WantsOpen (text.first_stage kinds.Init) init.start [] s keeps_none e d in
       to_text (tokens_of ps) l.rest l.whole l.entries

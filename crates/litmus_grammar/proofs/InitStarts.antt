@@ -13,25 +13,25 @@ use Rattle.litmus_tokens.specs.Texts.{Placed, tokens_of, stage_after}
 use Rattle.litmus_tokens.specs.Words.{signed, decimal, is_int, register_of}
 use Rattle.litmus_values.specs.declared.test.Place.{Place}
 use Rattle.litmus_values.specs.declared.test.Value.TheVariants as values
-use Rattle.litmus_conditions.specs.declared.place.PlaceHole.{PlaceHole}
-use Rattle.litmus_conditions.specs.declared.place.PlaceHole.TheVariants as places
+use Rattle.litmus_conditions.specs.declared.place.PlaceExpectation.{PlaceExpectation}
+use Rattle.litmus_conditions.specs.declared.place.PlaceExpectation.TheVariants as places
 use Rattle.litmus_conditions.specs.declared.place.PlaceStep.{PlaceStep}
 use Rattle.litmus_conditions.specs.declared.place.WrittenPlace.{WrittenPlace}
 use Rattle.litmus_conditions.specs.declared.place.WrittenPlace.TheVariants as written
 use Rattle.litmus_conditions.specs.PlaceMachine.{place_step, register_ends, number_read}
 use Rattle.litmus_table.specs.Machine as table
-use Rattle.litmus_grammar.specs.declared.parts.InitHole.{InitHole}
-use Rattle.litmus_grammar.specs.declared.parts.InitHole.TheVariants as holes
+use Rattle.litmus_grammar.specs.declared.parts.InitExpectation.{InitExpectation}
+use Rattle.litmus_grammar.specs.declared.parts.InitExpectation.TheVariants as expectations
 use Rattle.litmus_grammar.specs.declared.parts.TextKind.{TextKind}
 use Rattle.litmus_grammar.specs.declared.parts.TextKind.TheVariants as kinds
 use Rattle.litmus_grammar.specs.Grammar.{IsInitText}
 use Rattle.litmus_grammar.specs.InitMachine as init
-use Rattle.litmus_grammar.specs.InitMachine.{Block, has_key, with_key, begun_at, with_entry, place_went, and_place, valued}
+use Rattle.litmus_grammar.specs.InitMachine.{Block, has_key, with_key, with_start, with_entry, place_result, and_place, valued}
 use Rattle.litmus_grammar.specs.Texts.{spelled_colon, is_init, IsBrokenOff, IsStart, IsWhole, BreaksOff}
 use Rattle.litmus_grammar.specs.TextMachine as text
-use Rattle.litmus_grammar.specs.TextMachine.{Part, Held, Next, State, Ran, placed, and_then, stepped, part_step, start, run, rule_at, init_went}
+use Rattle.litmus_grammar.specs.TextMachine.{Part, Draft, Next, State, Ran, placed, and_then, stepped, part_step, start, run, rule_at, init_result}
 use Rattle.litmus_grammar.proofs.InitKeys.{key_of, Keeps, keeps_none, keeps_more, added_new, fresh, lacks_fresh}
-use Rattle.litmus_grammar.proofs.InitLeft.{closing, held, standing, init_whole}
+use Rattle.litmus_grammar.proofs.InitLeft.{closing, draft, standing, init_whole}
 use Rattle.litmus_grammar.proofs.InitTaken.{init_taken}
 use Rattle.litmus_grammar.proofs.Outcomes.{Reading}
 use Rattle.litmus_grammar.proofs.Runs.{anywhere, tokens_of-append, tokens_of-anywhere, run-split, run-append, run_one, follows}
@@ -44,19 +44,19 @@ bracket = tokens.Mark marks.OpenBracket
 
 -- ---- where the machine stands behind the tokens so far
 
-abbrev PlaceOpen : List Token → PlaceHole → Type 0
+abbrev PlaceOpen : List Token → PlaceExpectation → Type 0
 PlaceOpen ts places.Begins = ⊥
 PlaceOpen ts places.WantsName = Unit {0}
 PlaceOpen ts (places.WantsBracket n) = Unit {0}
 PlaceOpen ts (places.WantsColon d) = (before : List Token) × CanFollow IsInitText before bracket × (ts ≡ before ++ tokens.Number false d ∷ [])
 PlaceOpen ts (places.WantsRegister d) = (before : List Token) × CanFollow IsInitText before bracket × (ts ≡ before ++ tokens.Number false d ∷ tokens.Mark marks.Colon ∷ [])
 
-abbrev HoleOpen : List Token → InitHole → Type 0
-HoleOpen ts (holes.InPlace hole) = PlaceOpen ts hole
-HoleOpen ts hole = Unit {0}
+abbrev ExpectationOpen : List Token → InitExpectation → Type 0
+ExpectationOpen ts (expectations.InPlace expected) = PlaceOpen ts expected
+ExpectationOpen ts expected = Unit {0}
 
 abbrev Open : List Token → Part → Type 0
-Open ts (text.Init hole) = HoleOpen ts hole
+Open ts (text.Init expected) = ExpectationOpen ts expected
 Open ts text.WantsEnd = Unit {0}
 Open ts text.Done = Unit {0}
 Open ts p = ⊥
@@ -68,7 +68,7 @@ record Known (ts : List Token) (p : Part) (b : Block) : Type 0 where
 
 abbrev NextKnown : List Token → Option Next → Type 0
 NextKnown ts None = Unit {0}
-NextKnown ts (Some n) = (c : Block) × (n.held ≡ held c) × Known ts n.part c
+NextKnown ts (Some n) = (c : Block) × (n.draft ≡ draft c) × Known ts n.part c
 
 module _ (threads : ℕ) where
   -- ---- the part is the init block to its end
@@ -93,7 +93,7 @@ module _ (threads : ℕ) where
   abbrev behind_name : List Token
   behind_name = tokens.Mark marks.CloseBracket ∷ tokens.Mark marks.Equals ∷ tokens.Word [] ∷ closing
 
-  name_ended : (g : Stage) (b : Block) (ws : List WrittenPlace) → Keeps b.named ws → Ended (standing threads g (text.Init (holes.InPlace places.WantsName)) b)
+  name_ended : (g : Stage) (b : Block) (ws : List WrittenPlace) → Keeps b.named ws → Ended (standing threads g (text.Init (expectations.InPlace places.WantsName)) b)
   name_ended g b ws keeps =
       let name = fresh ws in
       let key = key_of (written.Location name) in
@@ -101,15 +101,15 @@ module _ (threads : ℕ) where
       record {
         rest = tokens.Word name ∷ behind_name;
         state = _;
-        by = ap (λ (o : Option Block). and_then (placed 0 (stepped (standing threads g (text.Init (holes.InPlace places.WantsName)) b) (tokens.Word name) (init_went kinds.Init (held b) (and_place o (place_step places.WantsName (tokens.Word name)))))) (λ x. run x (anywhere behind_name))) (added_new b key new);
+        by = ap (λ (o : Option Block). and_then (placed 0 (stepped (standing threads g (text.Init (expectations.InPlace places.WantsName)) b) (tokens.Word name) (init_result kinds.Init (draft b) (and_place o (place_step places.WantsName (tokens.Word name)))))) (λ x. run x (anywhere behind_name))) (added_new b key new);
         done = refl;
       }
 
-  can_begin : (before : List Placed) (g : Stage) (b : Block) (ws : List WrittenPlace) → Keeps b.named ws → run (start kinds.Init threads) before ≡ Ok (standing threads g (text.Init holes.WantsEntry) b) → CanFollow IsInitText (tokens_of before) bracket
+  can_begin : (before : List Placed) (g : Stage) (b : Block) (ws : List WrittenPlace) → Keeps b.named ws → run (start kinds.Init threads) before ≡ Ok (standing threads g (text.Init expectations.WantsEntry) b) → CanFollow IsInitText (tokens_of before) bracket
   can_begin before g b ws keeps reached =
-      let e = name_ended (after g bracket) (begun_at b 0) ws keeps in
+      let e = name_ended (after g bracket) (with_start b 0) ws keeps in
       let us = bracket ∷ e.rest in
-      let all : run (start kinds.Init threads) (before ++ anywhere us) ≡ Ok e.state = run-append (start kinds.Init threads) (standing threads g (text.Init holes.WantsEntry) b) before (anywhere us) reached ∙ e.by in
+      let all : run (start kinds.Init threads) (before ++ anywhere us) ≡ Ok e.state = run-append (start kinds.Init threads) (standing threads g (text.Init expectations.WantsEntry) b) before (anywhere us) reached ∙ e.by in
       let same : tokens_of (before ++ anywhere us) ≡ (tokens_of before ++ bracket ∷ []) ++ e.rest
       = tokens_of-append before (anywhere us) ∙ ap (λ (ts : List Token). tokens_of before ++ ts) (tokens_of-anywhere us) ∙ sym (append_assoc (tokens_of before) (bracket ∷ []) e.rest) in
       record { rest = e.rest; text = subst IsInitText same (init_whole threads (before ++ anywhere us) e.state all e.done) }
@@ -121,29 +121,29 @@ module _ (threads : ℕ) where
     so_far t = tokens_of before ++ t ∷ []
 
     -- a place that is named here
-    key_known : (t : Token) (c : Block) (w : WrittenPlace) (hole : InitHole) (o : Option PlaceStep) → c.named ≡ b.named → HoleOpen (so_far t) hole → ((d : Block) → place_went d o ≡ init.goes d hole) → (x : Bool) → NextKnown (so_far t) (init_went kinds.Init (held b) (and_place (if x then None else Some (with_key c (key_of w))) o))
-    key_known t c w hole o same open_so goes true = tt
-    key_known t c w hole o same open_so goes false =
+    key_known : (t : Token) (c : Block) (w : WrittenPlace) (expected : InitExpectation) (o : Option PlaceStep) → c.named ≡ b.named → ExpectationOpen (so_far t) expected → ((d : Block) → place_result d o ≡ init.goes d expected) → (x : Bool) → NextKnown (so_far t) (init_result kinds.Init (draft b) (and_place (if x then None else Some (with_key c (key_of w))) o))
+    key_known t c w expected o same open_so goes true = tt
+    key_known t c w expected o same open_so goes false =
         let d = with_key c (key_of w) in
         let more : Keeps d.named (w ∷ ws) = keeps_more c.named ws w (subst (λ (ks : List (List ℕ)). Keeps ks ws) (sym same) keeps) in
-        subst (λ (x : Option init.Did). NextKnown (so_far t) (init_went kinds.Init (held b) x)) (sym (goes d)) (d, refl, record { named = w ∷ ws; keeps = more; open_so = open_so })
+        subst (λ (x : Option init.Did). NextKnown (so_far t) (init_result kinds.Init (draft b) x)) (sym (goes d)) (d, refl, record { named = w ∷ ws; keeps = more; open_so = open_so })
 
-    entry_known : (t : Token) (n : ℕ) → run (start kinds.Init threads) before ≡ Ok (standing threads g (text.Init holes.WantsEntry) b) → NextKnown (so_far t) (init_went kinds.Init (held b) (init.entry_read b t n))
+    entry_known : (t : Token) (n : ℕ) → run (start kinds.Init threads) before ≡ Ok (standing threads g (text.Init expectations.WantsEntry) b) → NextKnown (so_far t) (init_result kinds.Init (draft b) (init.entry_read b t n))
     entry_known (tokens.Mark marks.CloseBrace) n reached = (b, refl, record { named = ws; keeps = keeps; open_so = tt })
     entry_known (tokens.Word w) n reached =
-        key_known (tokens.Word w) (begun_at b n) (written.Location w) _ (place_step places.Begins (tokens.Word w)) refl tt (λ d. refl) (has_key b.named (key_of (written.Location w)))
-    entry_known (tokens.Mark marks.OpenBracket) n reached = (begun_at b n, refl, record { named = ws; keeps = keeps; open_so = tt })
-    entry_known (tokens.Number false d) n reached = (begun_at b n, refl, record { named = ws; keeps = keeps; open_so = (tokens_of before, can_begin before g b ws keeps reached, refl) })
+        key_known (tokens.Word w) (with_start b n) (written.Location w) _ (place_step places.Begins (tokens.Word w)) refl tt (λ d. refl) (has_key b.named (key_of (written.Location w)))
+    entry_known (tokens.Mark marks.OpenBracket) n reached = (with_start b n, refl, record { named = ws; keeps = keeps; open_so = tt })
+    entry_known (tokens.Number false d) n reached = (with_start b n, refl, record { named = ws; keeps = keeps; open_so = (tokens_of before, can_begin before g b ws keeps reached, refl) })
     entry_known t n reached = tt
 
-    register_known : (d w : List ℕ) (o : Option ℕ) → NextKnown (so_far (tokens.Word w)) (init_went kinds.Init (held b) (and_place (init.added_if b (init.known_key d o)) (register_ends d o)))
+    register_known : (d w : List ℕ) (o : Option ℕ) → NextKnown (so_far (tokens.Word w)) (init_result kinds.Init (draft b) (and_place (init.added_if b (init.known_key d o)) (register_ends d o)))
     register_known d w (Some r) = key_known (tokens.Word w) b (written.Register d r) _ (register_ends d (Some r)) refl tt (λ c. refl) (has_key b.named (key_of (written.Register d r)))
     register_known d w None = tt
 
-    within_known : (hole : PlaceHole) (t : Token) → PlaceOpen (tokens_of before) hole → NextKnown (so_far t) (init_went kinds.Init (held b) (init.place_read b hole t))
+    within_known : (expected : PlaceExpectation) (t : Token) → PlaceOpen (tokens_of before) expected → NextKnown (so_far t) (init_result kinds.Init (draft b) (init.place_read b expected t))
     within_known places.Begins t o = absurd o
     within_known places.WantsName (tokens.Word w) o =
-        key_known (tokens.Word w) b (written.Location w) (holes.InPlace (places.WantsBracket w)) (place_step places.WantsName (tokens.Word w)) refl tt (λ d. refl) (has_key b.named (key_of (written.Location w)))
+        key_known (tokens.Word w) b (written.Location w) (expectations.InPlace (places.WantsBracket w)) (place_step places.WantsName (tokens.Word w)) refl tt (λ d. refl) (has_key b.named (key_of (written.Location w)))
     within_known places.WantsName t o = tt
     within_known (places.WantsBracket w) (tokens.Mark marks.CloseBracket) o = (b, refl, record { named = ws; keeps = keeps; open_so = tt })
     within_known (places.WantsBracket w) t o = tt
@@ -155,39 +155,39 @@ module _ (threads : ℕ) where
     within_known (places.WantsRegister d) (tokens.Word w) o = register_known d w (register_of w)
     within_known (places.WantsRegister d) t o = tt
 
-    open_known : (t : Token) → NextKnown (so_far t) (init_went kinds.Init (held b) (init.open_read b t))
+    open_known : (t : Token) → NextKnown (so_far t) (init_result kinds.Init (draft b) (init.open_read b t))
     open_known (tokens.Mark marks.OpenBrace) = (b, refl, record { named = ws; keeps = keeps; open_so = tt })
     open_known t = tt
 
-    equals_known : (p : Place) (t : Token) → NextKnown (so_far t) (init_went kinds.Init (held b) (init.equals_read b p t))
+    equals_known : (p : Place) (t : Token) → NextKnown (so_far t) (init_result kinds.Init (draft b) (init.equals_read b p t))
     equals_known p (tokens.Mark marks.Equals) = (b, refl, record { named = ws; keeps = keeps; open_so = tt })
     equals_known p t = tt
 
-    number_known : (p : Place) (negative : Bool) (ds : List ℕ) (x : Bool) → NextKnown (so_far (tokens.Number negative ds)) (init_went kinds.Init (held b) (valued b p (number_read (if x then Some (signed negative (decimal ds)) else None))))
+    number_known : (p : Place) (negative : Bool) (ds : List ℕ) (x : Bool) → NextKnown (so_far (tokens.Number negative ds)) (init_result kinds.Init (draft b) (valued b p (number_read (if x then Some (signed negative (decimal ds)) else None))))
     number_known p negative ds true = (with_entry b p (values.Number (signed negative (decimal ds))), refl, record { named = ws; keeps = keeps; open_so = tt })
     number_known p negative ds false = tt
 
-    value_known : (p : Place) (t : Token) (n : ℕ) → NextKnown (so_far t) (init_went kinds.Init (held b) (init.step b (holes.WantsValue p) t n))
+    value_known : (p : Place) (t : Token) (n : ℕ) → NextKnown (so_far t) (init_result kinds.Init (draft b) (init.step b (expectations.WantsValue p) t n))
     value_known p (tokens.Word w) n = (with_entry b p (values.Address w), refl, record { named = ws; keeps = keeps; open_so = tt })
     value_known p (tokens.Number negative ds) n = number_known p negative ds (is_int negative ds)
     value_known p t n = tt
 
-    behind_known : (t : Token) → NextKnown (so_far t) (init_went kinds.Init (held b) (init.behind b t))
+    behind_known : (t : Token) → NextKnown (so_far t) (init_result kinds.Init (draft b) (init.behind b t))
     behind_known (tokens.Mark marks.Semicolon) = (b, refl, record { named = ws; keeps = keeps; open_so = tt })
     behind_known (tokens.Mark marks.CloseBrace) = (b, refl, record { named = ws; keeps = keeps; open_so = tt })
     behind_known t = tt
 
-    end_known : (t : Token) → NextKnown (so_far t) (text.leads (held b) (text.end_read t))
+    end_known : (t : Token) → NextKnown (so_far t) (text.next_at (draft b) (text.end_read t))
     end_known tokens.End = (b, refl, record { named = ws; keeps = keeps; open_so = tt })
     end_known t = tt
 
-    step_known : (p : Part) (t : Token) (n : ℕ) → Open (tokens_of before) p → run (start kinds.Init threads) before ≡ Ok (standing threads g p b) → NextKnown (so_far t) (part_step kinds.Init threads (held b) p t n)
-    step_known (text.Init holes.WantsOpen) t n o reached = open_known t
-    step_known (text.Init holes.WantsEntry) t n o reached = entry_known t n reached
-    step_known (text.Init (holes.InPlace hole)) t n o reached = within_known hole t o
-    step_known (text.Init (holes.WantsEquals p)) t n o reached = equals_known p t
-    step_known (text.Init (holes.WantsValue p)) t n o reached = value_known p t n
-    step_known (text.Init holes.HasEntry) t n o reached = behind_known t
+    step_known : (p : Part) (t : Token) (n : ℕ) → Open (tokens_of before) p → run (start kinds.Init threads) before ≡ Ok (standing threads g p b) → NextKnown (so_far t) (part_step kinds.Init threads (draft b) p t n)
+    step_known (text.Init expectations.WantsOpen) t n o reached = open_known t
+    step_known (text.Init expectations.WantsEntry) t n o reached = entry_known t n reached
+    step_known (text.Init (expectations.InPlace expected)) t n o reached = within_known expected t o
+    step_known (text.Init (expectations.WantsEquals p)) t n o reached = equals_known p t
+    step_known (text.Init (expectations.WantsValue p)) t n o reached = value_known p t n
+    step_known (text.Init expectations.HasEntry) t n o reached = behind_known t
     step_known text.WantsEnd t n o reached = end_known t
     step_known text.Done t n o reached = tt
     step_known p t n o reached = absurd o
@@ -204,22 +204,22 @@ module _ (threads : ℕ) where
       let same : s ≡ standing threads g p b = cc in
       record { stage = g; part = p; block = b; is = same; known = subst (λ (ps : List Placed). Known (tokens_of ps) p b) (sym (append-nil before)) k }
   walk before (q ∷ rest) g p b s reached k e =
-      by_next (part_step kinds.Init threads (held b) p q.token q.place) refl (step_known before g b k.named k.keeps p q.token q.place k.open_so reached) e
+      by_next (part_step kinds.Init threads (draft b) p q.token q.offset) refl (step_known before g b k.named k.keeps p q.token q.offset k.open_so reached) e
       (λ c r h i j. rw (← append_assoc before (q ∷ []) rest) (walk (before ++ q ∷ []) rest (after g q.token) r c s h i j))
     where
-      by_next : (o : Option Next) → part_step kinds.Init threads (held b) p q.token q.place ≡ o → NextKnown (tokens_of before ++ q.token ∷ []) o → and_then (placed q.place (stepped (standing threads g p b) q.token o)) (λ x. run x rest) ≡ Ok s
+      by_next : (o : Option Next) → part_step kinds.Init threads (draft b) p q.token q.offset ≡ o → NextKnown (tokens_of before ++ q.token ∷ []) o → and_then (placed q.offset (stepped (standing threads g p b) q.token o)) (λ x. run x rest) ≡ Ok s
           → ((c : Block) (r : Part) → run (start kinds.Init threads) (before ++ q ∷ []) ≡ Ok (standing threads (after g q.token) r c) → Known (tokens_of (before ++ q ∷ [])) r c → run (standing threads (after g q.token) r c) rest ≡ Ok s → Reached (tokens_of (before ++ q ∷ rest)) s)
           → Reached (tokens_of (before ++ q ∷ rest)) s
       by_next (Some n) step known h later =
           let here = run_one (start kinds.Init threads) (standing threads g p b) before q n reached step in
-          let at_held : (x : Held) → State = λ (x : Held). record { kind = kinds.Init; threads = threads; stage = after g q.token; part = n.part; held = x } in
-          later known.0 n.part (here ∙ ap (λ (x : Held). Ok (at_held x)) known.1)
+          let at_draft : (x : Draft) → State = λ (x : Draft). record { kind = kinds.Init; threads = threads; stage = after g q.token; part = n.part; draft = x } in
+          later known.0 n.part (here ∙ ap (λ (x : Draft). Ok (at_draft x)) known.1)
           (subst (λ (ts : List Token). Known ts n.part known.0) (sym (tokens_of-append before (q ∷ []))) known.2)
-          (ap (λ (x : Held). run (at_held x) rest) (sym known.1) ∙ h)
+          (ap (λ (x : Draft). run (at_draft x) rest) (sym known.1) ∙ h)
       by_next None step known h later = absurd cc
 
   reach : (ps : List Placed) (s : State) → run (start kinds.Init threads) ps ≡ Ok s → Reached (tokens_of ps) s
-  reach ps s e = walk [] ps first_stage (text.Init holes.WantsOpen) init.start s refl (record { named = []; keeps = keeps_none; open_so = tt }) e
+  reach ps s e = walk [] ps first_stage (text.Init expectations.WantsOpen) init.start s refl (record { named = []; keeps = keeps_none; open_so = tt }) e
 
   -- ---- what is taken begins a text, or breaks one off
 
@@ -227,7 +227,7 @@ module _ (threads : ℕ) where
     Ends : Ended s → CanEnd ts s
     Breaks : IsBrokenOff IsInitText first_stage ts → CanEnd ts s
 
-  place_ends : (ts : List Token) (g : Stage) (b : Block) (hole : PlaceHole) → Known ts (text.Init (holes.InPlace hole)) b → CanEnd ts (standing threads g (text.Init (holes.InPlace hole)) b)
+  place_ends : (ts : List Token) (g : Stage) (b : Block) (expected : PlaceExpectation) → Known ts (text.Init (expectations.InPlace expected)) b → CanEnd ts (standing threads g (text.Init (expectations.InPlace expected)) b)
   place_ends ts g b places.Begins k = absurd k.open_so
   place_ends ts g b places.WantsName k = Ends (name_ended g b k.named k.keeps)
   place_ends ts g b (places.WantsBracket n) k = Ends (record { rest = behind_name; state = _; by = refl; done = refl })
@@ -235,12 +235,12 @@ module _ (threads : ℕ) where
   place_ends ts g b (places.WantsRegister d) k = Breaks (record { before = k.open_so.0; in_init = ap is_init (stays false k.open_so.0).1; entry = k.open_so.1; thread = d; colon = true; whole = k.open_so.2 })
 
   ends : (ts : List Token) (g : Stage) (p : Part) (b : Block) → Known ts p b → CanEnd ts (standing threads g p b)
-  ends ts g (text.Init holes.WantsOpen) b k = Ends (record { rest = tokens.Mark marks.OpenBrace ∷ closing; state = _; by = refl; done = refl })
-  ends ts g (text.Init holes.WantsEntry) b k = Ends (record { rest = closing; state = _; by = refl; done = refl })
-  ends ts g (text.Init (holes.InPlace hole)) b k = place_ends ts g b hole k
-  ends ts g (text.Init (holes.WantsEquals p)) b k = Ends (record { rest = tokens.Mark marks.Equals ∷ tokens.Word [] ∷ closing; state = _; by = refl; done = refl })
-  ends ts g (text.Init (holes.WantsValue p)) b k = Ends (record { rest = tokens.Word [] ∷ closing; state = _; by = refl; done = refl })
-  ends ts g (text.Init holes.HasEntry) b k = Ends (record { rest = closing; state = _; by = refl; done = refl })
+  ends ts g (text.Init expectations.WantsOpen) b k = Ends (record { rest = tokens.Mark marks.OpenBrace ∷ closing; state = _; by = refl; done = refl })
+  ends ts g (text.Init expectations.WantsEntry) b k = Ends (record { rest = closing; state = _; by = refl; done = refl })
+  ends ts g (text.Init (expectations.InPlace expected)) b k = place_ends ts g b expected k
+  ends ts g (text.Init (expectations.WantsEquals p)) b k = Ends (record { rest = tokens.Mark marks.Equals ∷ tokens.Word [] ∷ closing; state = _; by = refl; done = refl })
+  ends ts g (text.Init (expectations.WantsValue p)) b k = Ends (record { rest = tokens.Word [] ∷ closing; state = _; by = refl; done = refl })
+  ends ts g (text.Init expectations.HasEntry) b k = Ends (record { rest = closing; state = _; by = refl; done = refl })
   ends ts g text.WantsEnd b k = Ends (record { rest = tokens.End ∷ []; state = _; by = refl; done = refl })
   ends ts g text.Done b k = Ends (record { rest = []; state = _; by = refl; done = refl })
   ends ts g p b k = absurd k.open_so
@@ -273,39 +273,39 @@ module _ (threads : ℕ) where
       let s = split_at ps us vs cc in
       record { front = p ∷ s.front; back = s.back; split = ap (λ (x : List Placed). p ∷ x) s.split; front_is = ap (λ (x : Token). x ∷ tokens_of s.front) same ∙ ap (λ (x : List Token). u ∷ x) s.front_is; back_is = s.back_is }
 
-  at_entry : (ts : List Token) (g : Stage) (p : Part) (b : Block) (rest : List Placed) (s : State) → Known ts p b → run (standing threads g p b) (record { token = bracket; place = 0 } ∷ rest) ≡ Ok s → p ≡ text.Init holes.WantsEntry
-  at_entry ts g (text.Init holes.WantsOpen) b rest s k e = absurd cc
-  at_entry ts g (text.Init holes.WantsEntry) b rest s k e = refl
-  at_entry ts g (text.Init (holes.InPlace hole)) b rest s k e = by_place hole k e
+  at_entry : (ts : List Token) (g : Stage) (p : Part) (b : Block) (rest : List Placed) (s : State) → Known ts p b → run (standing threads g p b) (record { token = bracket; offset = 0 } ∷ rest) ≡ Ok s → p ≡ text.Init expectations.WantsEntry
+  at_entry ts g (text.Init expectations.WantsOpen) b rest s k e = absurd cc
+  at_entry ts g (text.Init expectations.WantsEntry) b rest s k e = refl
+  at_entry ts g (text.Init (expectations.InPlace expected)) b rest s k e = by_place expected k e
     where
-      by_place : (hole : PlaceHole) → Known ts (text.Init (holes.InPlace hole)) b → run (standing threads g (text.Init (holes.InPlace hole)) b) (record { token = bracket; place = 0 } ∷ rest) ≡ Ok s → text.Init (holes.InPlace hole) ≡ text.Init holes.WantsEntry
+      by_place : (expected : PlaceExpectation) → Known ts (text.Init (expectations.InPlace expected)) b → run (standing threads g (text.Init (expectations.InPlace expected)) b) (record { token = bracket; offset = 0 } ∷ rest) ≡ Ok s → text.Init (expectations.InPlace expected) ≡ text.Init expectations.WantsEntry
       by_place places.Begins j h = absurd j.open_so
       by_place places.WantsName j h = absurd cc
       by_place (places.WantsBracket n) j h = absurd cc
       by_place (places.WantsColon d) j h = absurd cc
       by_place (places.WantsRegister d) j h = absurd cc
-  at_entry ts g (text.Init (holes.WantsEquals p)) b rest s k e = absurd cc
-  at_entry ts g (text.Init (holes.WantsValue p)) b rest s k e = absurd cc
-  at_entry ts g (text.Init holes.HasEntry) b rest s k e = absurd cc
+  at_entry ts g (text.Init (expectations.WantsEquals p)) b rest s k e = absurd cc
+  at_entry ts g (text.Init (expectations.WantsValue p)) b rest s k e = absurd cc
+  at_entry ts g (text.Init expectations.HasEntry) b rest s k e = absurd cc
   at_entry ts g text.WantsEnd b rest s k e = absurd cc
   at_entry ts g text.Done b rest s k e = absurd cc
   at_entry ts g p b rest s k e = absurd k.open_so
 
-  number_taken : (g : Stage) (b : Block) (d : List ℕ) (colon : Bool) (ps : List Placed) → tokens_of ps ≡ tokens.Number false d ∷ spelled_colon colon → (s : State) × (run (standing threads g (text.Init holes.WantsEntry) b) ps ≡ Ok s)
+  number_taken : (g : Stage) (b : Block) (d : List ℕ) (colon : Bool) (ps : List Placed) → tokens_of ps ≡ tokens.Number false d ∷ spelled_colon colon → (s : State) × (run (standing threads g (text.Init expectations.WantsEntry) b) ps ≡ Ok s)
   number_taken g b d colon [] e = absurd cc
   number_taken g b d colon (p ∷ ps) e =
       let same : p.token ≡ tokens.Number false d = cc in
       let rest : tokens_of ps ≡ spelled_colon colon = cc in
-      let r = colon_taken (after g (tokens.Number false d)) (begun_at b p.place) colon ps rest in
-      (r.0, ap (λ (x : Token). run (standing threads g (text.Init holes.WantsEntry) b) (record { token = x; place = p.place } ∷ ps)) same ∙ r.1)
+      let r = colon_taken (after g (tokens.Number false d)) (with_start b p.offset) colon ps rest in
+      (r.0, ap (λ (x : Token). run (standing threads g (text.Init expectations.WantsEntry) b) (record { token = x; offset = p.offset } ∷ ps)) same ∙ r.1)
     where
-      colon_taken : (h : Stage) (c : Block) (x : Bool) (qs : List Placed) → tokens_of qs ≡ spelled_colon x → (s : State) × (run (standing threads h (text.Init (holes.InPlace (places.WantsColon d))) c) qs ≡ Ok s)
+      colon_taken : (h : Stage) (c : Block) (x : Bool) (qs : List Placed) → tokens_of qs ≡ spelled_colon x → (s : State) × (run (standing threads h (text.Init (expectations.InPlace (places.WantsColon d))) c) qs ≡ Ok s)
       colon_taken h c false [] k = (_, refl)
       colon_taken h c false (q ∷ qs) k = absurd cc
       colon_taken h c true [] k = absurd cc
       colon_taken h c true (q ∷ []) k =
           let same : q.token ≡ tokens.Mark marks.Colon = cc in
-          (_, ap (λ (x : Token). run (standing threads h (text.Init (holes.InPlace (places.WantsColon d))) c) (record { token = x; place = q.place } ∷ [])) same)
+          (_, ap (λ (x : Token). run (standing threads h (text.Init (expectations.InPlace (places.WantsColon d))) c) (record { token = x; offset = q.offset } ∷ [])) same)
       colon_taken h c true (q ∷ r ∷ qs) k = absurd cc
 
   part_run : (front : List Placed) (rest : List Placed) (s : State) → run (start kinds.Init threads) (front ++ rest) ≡ Ok s → (x : State) × (run (start kinds.Init threads) front ≡ Ok x) × (run x rest ≡ Ok s)
@@ -329,9 +329,9 @@ module _ (threads : ℕ) where
       let p = part_run c.front (anywhere us) all.state all.by in
       let r = reach c.front p.0 p.1 in
       let there : run (standing threads r.stage r.part r.block) (anywhere us) ≡ Ok all.state = ap (λ (y : State). run y (anywhere us)) (sym r.is) ∙ p.2 in
-      let entry : r.part ≡ text.Init holes.WantsEntry = at_entry (tokens_of c.front) r.stage r.part r.block (anywhere x.entry.rest) all.state r.known there in
+      let entry : r.part ≡ text.Init expectations.WantsEntry = at_entry (tokens_of c.front) r.stage r.part r.block (anywhere x.entry.rest) all.state r.known there in
       let n = number_taken r.stage r.block x.thread x.colon c.back c.back_is in
-      let at_wants : p.0 ≡ standing threads r.stage (text.Init holes.WantsEntry) r.block = r.is ∙ ap (λ (q : Part). standing threads r.stage q r.block) entry in
+      let at_wants : p.0 ≡ standing threads r.stage (text.Init expectations.WantsEntry) r.block = r.is ∙ ap (λ (q : Part). standing threads r.stage q r.block) entry in
       (n.0, ap (run (start kinds.Init threads)) c.split ∙ run-append (start kinds.Init threads) p.0 c.front c.back p.1 ∙ ap (λ (y : State). run y c.back) at_wants ∙ n.1)
 
   init_takes : (ps : List Placed) → IsStart IsInitText first_stage (tokens_of ps) → (s : State) × (run (start kinds.Init threads) ps ≡ Ok s)
@@ -347,9 +347,9 @@ module _ (threads : ℕ) where
   init_reading = record {
     begins = init_begins;
     takes = init_takes;
-    says = λ ps s t place e none.
+    says = λ ps s t offset e none.
         let f = follows (start kinds.Init threads) s ps e in
         let y = stays false (tokens_of ps) in
         let C = CanFollow (IsStart IsInitText first_stage) (tokens_of ps) in
-        subst (λ (g : Stage). Says C g (ruling g t) (rule_at s.kind s.held.table s.stage t)) (sym y.1) (subst (λ (g : Stage). Says C (stages.Init true y.0) (ruling (stages.Init true y.0) t) (rule_at s.kind s.held.table g t)) (sym (f.stage ∙ y.1)) (init_says C s.kind s.held.table y.0 t));
+        subst (λ (g : Stage). Says C g (ruling g t) (rule_at s.kind s.draft.table s.stage t)) (sym y.1) (subst (λ (g : Stage). Says C (stages.Init true y.0) (ruling (stages.Init true y.0) t) (rule_at s.kind s.draft.table g t)) (sym (f.stage ∙ y.1)) (init_says C s.kind s.draft.table y.0 t));
   }

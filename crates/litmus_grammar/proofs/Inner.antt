@@ -110,24 +110,24 @@ front_inner s fresh bs =
 -- tokens of which just the last is an end
 pub record EndsOnce (ps : List Placed) : Type 0 where
   pub inner : List Placed
-  pub place : ℕ
-  pub split : ps ≡ inner ++ record { token = tokens.End; place = place } ∷ []
+  pub offset : ℕ
+  pub split : ps ≡ inner ++ record { token = tokens.End; offset = offset } ∷ []
   pub are_inner : AreInner (tokens_of inner)
 
-from_ends : (s : Stage) (fresh : Bool) (skip place : ℕ) (bytes : List ℕ) → EndsOnce (tokens_from s fresh skip place bytes)
+from_ends : (s : Stage) (fresh : Bool) (skip offset : ℕ) (bytes : List ℕ) → EndsOnce (tokens_from s fresh skip offset bytes)
 unfolding tokens_from
-from_ends s fresh skip place [] = record { inner = []; place = place; split = refl; are_inner = tt }
-from_ends s fresh (suc skip) place (b ∷ bs) = from_ends s fresh skip (place + 1) bs
-from_ends s fresh zero place (b ∷ bs) = by_front (front s fresh (b ∷ bs)) (front_inner s fresh (b ∷ bs)) (λ g f skip. from_ends g f skip (place + 1) bs)
+from_ends s fresh skip offset [] = record { inner = []; offset = offset; split = refl; are_inner = tt }
+from_ends s fresh (suc skip) offset (b ∷ bs) = from_ends s fresh skip (offset + 1) bs
+from_ends s fresh zero offset (b ∷ bs) = by_front (front s fresh (b ∷ bs)) (front_inner s fresh (b ∷ bs)) (λ g f skip. from_ends g f skip (offset + 1) bs)
   where
-    by_front : (f : Front) → FrontInner f → ((g : Stage) (f : Bool) (skip : ℕ) → EndsOnce (tokens_from g f skip (place + 1) bs)) → EndsOnce (after_front s fresh place b f (λ g f skip. tokens_from g f skip (place + 1) bs))
+    by_front : (f : Front) → FrontInner f → ((g : Stage) (f : Bool) (skip : ℕ) → EndsOnce (tokens_from g f skip (offset + 1) bs)) → EndsOnce (after_front s fresh offset b f (λ g f skip. tokens_from g f skip (offset + 1) bs))
     by_front (Layout k) i r = r _ _ _
     by_front (Lexeme t k) i r =
         let q = r (after s t) (ends_line t) (k - 1) in
         record {
-          inner = record { token = t; place = place } ∷ q.inner;
-          place = q.place;
-          split = ap (λ (ps : List Placed). record { token = t; place = place } ∷ ps) q.split;
+          inner = record { token = t; offset = offset } ∷ q.inner;
+          offset = q.offset;
+          split = ap (λ (ps : List Placed). record { token = t; offset = offset } ∷ ps) q.split;
           are_inner = (i, q.are_inner);
         }
 
@@ -150,16 +150,16 @@ before_inner (q ∷ qs) e (b ∷ before) p behind same i =
 pub lexed_inner : (s : Stage) (bytes : List ℕ) (before : List Placed) (p : Placed) (behind : List Placed) → lexed s bytes ≡ before ++ p ∷ behind → AreInner (tokens_of before)
 lexed_inner s bytes before p behind e =
     let l = lexed_ends s bytes in
-    before_inner l.inner (record { token = tokens.End; place = l.place }) before p behind (sym e ∙ l.split) l.are_inner
+    before_inner l.inner (record { token = tokens.End; offset = l.offset }) before p behind (sym e ∙ l.split) l.are_inner
 
-from_length : (s : Stage) (fresh : Bool) (skip place : ℕ) (bytes : List ℕ) → length (tokens_from s fresh skip place bytes) ≤ length bytes + 1
+from_length : (s : Stage) (fresh : Bool) (skip offset : ℕ) (bytes : List ℕ) → length (tokens_from s fresh skip offset bytes) ≤ length bytes + 1
 unfolding tokens_from
-from_length s fresh skip place [] = omega arith
-from_length s fresh (suc skip) place (b ∷ bs) = let h = from_length s fresh skip (place + 1) bs in omega (arith, h)
-from_length s fresh zero place (b ∷ bs) = by_front (front s fresh (b ∷ bs)) (λ g f skip. from_length g f skip (place + 1) bs)
+from_length s fresh skip offset [] = omega arith
+from_length s fresh (suc skip) offset (b ∷ bs) = let h = from_length s fresh skip (offset + 1) bs in omega (arith, h)
+from_length s fresh zero offset (b ∷ bs) = by_front (front s fresh (b ∷ bs)) (λ g f skip. from_length g f skip (offset + 1) bs)
   where
-    by_front : (f : Front) → ((g : Stage) (f : Bool) (skip : ℕ) → length (tokens_from g f skip (place + 1) bs) ≤ length bs + 1) → length (after_front s fresh place b f (λ g f skip. tokens_from g f skip (place + 1) bs)) ≤ length (b ∷ bs) + 1
-    by_front (Layout k) r = let h = r _ _ (k - 1) in let m : length (after_front s fresh place b (Layout k) (λ g f skip. tokens_from g f skip (place + 1) bs)) ≤ length bs + 1 = h in omega (arith, m)
+    by_front : (f : Front) → ((g : Stage) (f : Bool) (skip : ℕ) → length (tokens_from g f skip (offset + 1) bs) ≤ length bs + 1) → length (after_front s fresh offset b f (λ g f skip. tokens_from g f skip (offset + 1) bs)) ≤ length (b ∷ bs) + 1
+    by_front (Layout k) r = let h = r _ _ (k - 1) in let m : length (after_front s fresh offset b (Layout k) (λ g f skip. tokens_from g f skip (offset + 1) bs)) ≤ length bs + 1 = h in omega (arith, m)
     by_front (Lexeme t k) r = let h = r (after s t) (ends_line t) (k - 1) in omega (arith, h)
 
 pub lexed_length : (s : Stage) (bytes : List ℕ) → length (lexed s bytes) ≤ length bytes + 1

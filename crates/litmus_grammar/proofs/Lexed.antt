@@ -13,19 +13,19 @@ use Rattle.litmus_tokens.specs.Stage.{after}
 use Rattle.litmus_tokens.specs.Texts.{Placed, ends_line, fresh_after, after_front, tokens_from}
 
 -- passing over bytes
-pub tokens_skip : (s : Stage) (fresh : Bool) (k place : ℕ) (bs : List ℕ) → k ≤ length bs → tokens_from s fresh k place bs ≡ tokens_from s fresh 0 (place + k) (drop k bs)
+pub tokens_skip : (s : Stage) (fresh : Bool) (k offset : ℕ) (bs : List ℕ) → k ≤ length bs → tokens_from s fresh k offset bs ≡ tokens_from s fresh 0 (offset + k) (drop k bs)
 unfolding tokens_from
-tokens_skip s fresh zero place bs h = ap (λ n. tokens_from s fresh 0 n bs) (omega arith)
-tokens_skip s fresh (suc k) place [] h = absurd (omega arith)
-tokens_skip s fresh (suc k) place (b ∷ bs) h =
-    tokens_skip s fresh k (place + 1) bs (omega arith) ∙ ap (λ n. tokens_from s fresh 0 n (drop k bs)) (omega arith)
+tokens_skip s fresh zero offset bs h = ap (λ n. tokens_from s fresh 0 n bs) (omega arith)
+tokens_skip s fresh (suc k) offset [] h = absurd (omega arith)
+tokens_skip s fresh (suc k) offset (b ∷ bs) h =
+    tokens_skip s fresh k (offset + 1) bs (omega arith) ∙ ap (λ n. tokens_from s fresh 0 n (drop k bs)) (omega arith)
 
-tokens_past : (s : Stage) (fresh : Bool) (k place : ℕ) (bs : List ℕ) → length bs ≤ k → tokens_from s fresh k place bs ≡ tokens_from s fresh 0 (place + length bs) []
+tokens_past : (s : Stage) (fresh : Bool) (k offset : ℕ) (bs : List ℕ) → length bs ≤ k → tokens_from s fresh k offset bs ≡ tokens_from s fresh 0 (offset + length bs) []
 unfolding tokens_from
-tokens_past s fresh zero place [] h = ap (λ n. record { token = tokens.End; place = n } ∷ []) (omega arith)
-tokens_past s fresh zero place (b ∷ bs) h = absurd (omega arith)
-tokens_past s fresh (suc k) place [] h = ap (λ n. record { token = tokens.End; place = n } ∷ []) (omega arith)
-tokens_past s fresh (suc k) place (b ∷ bs) h = tokens_past s fresh k (place + 1) bs (omega arith) ∙ ap (λ n. tokens_from s fresh 0 n []) (omega arith)
+tokens_past s fresh zero offset [] h = ap (λ n. record { token = tokens.End; offset = n } ∷ []) (omega arith)
+tokens_past s fresh zero offset (b ∷ bs) h = absurd (omega arith)
+tokens_past s fresh (suc k) offset [] h = ap (λ n. record { token = tokens.End; offset = n } ∷ []) (omega arith)
+tokens_past s fresh (suc k) offset (b ∷ bs) h = tokens_past s fresh k (offset + 1) bs (omega arith) ∙ ap (λ n. tokens_from s fresh 0 n []) (omega arith)
 
 -- one token, or what stands between tokens
 module _ (bytes : List ℕ) (p n q : ℕ) (lt : p < length bytes) (is : q ≡ p + min (max n 1) (length bytes - p)) where
@@ -54,10 +54,10 @@ module _ (bytes : List ℕ) (p n q : ℕ) (lt : p < length bytes) (is : q ≡ p 
   pub layout_turn : (s : Stage) (fresh : Bool) (f : Front) → f ≡ front s fresh (drop p bytes) → f ≡ Layout n → tokens_from s fresh 0 p (drop p bytes) ≡ tokens_from s (fresh_after fresh (get_or bytes p 0)) 0 q (drop q bytes)
   layout_turn s fresh f e k = opens_with s fresh f e ∙ ap (then_on s fresh) k ∙ next s (fresh_after fresh (get_or bytes p 0))
 
-  pub lexeme_turn : (s : Stage) (fresh : Bool) (f : Front) (t : Token) → f ≡ front s fresh (drop p bytes) → f ≡ Lexeme t n → tokens_from s fresh 0 p (drop p bytes) ≡ record { token = t; place = p } ∷ tokens_from (after s t) (ends_line t) 0 q (drop q bytes)
+  pub lexeme_turn : (s : Stage) (fresh : Bool) (f : Front) (t : Token) → f ≡ front s fresh (drop p bytes) → f ≡ Lexeme t n → tokens_from s fresh 0 p (drop p bytes) ≡ record { token = t; offset = p } ∷ tokens_from (after s t) (ends_line t) 0 q (drop q bytes)
   lexeme_turn s fresh f t e k =
-      opens_with s fresh f e ∙ ap (then_on s fresh) k ∙ ap (λ (ps : List Placed). record { token = t; place = p } ∷ ps) (next (after s t) (ends_line t))
+      opens_with s fresh f e ∙ ap (then_on s fresh) k ∙ ap (λ (ps : List Placed). record { token = t; offset = p } ∷ ps) (next (after s t) (ends_line t))
 
-pub at_end : (s : Stage) (fresh : Bool) (bytes : List ℕ) (p : ℕ) → length bytes ≤ p → tokens_from s fresh 0 p (drop p bytes) ≡ record { token = tokens.End; place = p } ∷ []
+pub at_end : (s : Stage) (fresh : Bool) (bytes : List ℕ) (p : ℕ) → length bytes ≤ p → tokens_from s fresh 0 p (drop p bytes) ≡ record { token = tokens.End; offset = p } ∷ []
 unfolding tokens_from
 at_end s fresh bytes p high = ap (tokens_from s fresh 0 p) (drop_all p bytes high)

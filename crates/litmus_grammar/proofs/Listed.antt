@@ -13,40 +13,40 @@ use Rattle.litmus_tokens.specs.Stage.{after}
 use Rattle.litmus_tokens.specs.Texts.{Placed, tokens_of}
 use Rattle.litmus_tokens.specs.Words.{decimal, register_of, is_known, or_zero}
 use Rattle.litmus_values.specs.declared.test.Place.{Place}
-use Rattle.litmus_conditions.specs.declared.place.PlaceHole.{PlaceHole}
-use Rattle.litmus_conditions.specs.declared.place.PlaceHole.TheVariants as places
+use Rattle.litmus_conditions.specs.declared.place.PlaceExpectation.{PlaceExpectation}
+use Rattle.litmus_conditions.specs.declared.place.PlaceExpectation.TheVariants as places
 use Rattle.litmus_conditions.specs.declared.place.PlaceStep.{PlaceStep}
 use Rattle.litmus_conditions.specs.declared.place.PlaceStep.TheVariants as place_steps
 use Rattle.litmus_conditions.specs.declared.place.WrittenPlace.TheVariants as written
 use Rattle.litmus_conditions.specs.Grammar.{PlaceTree, Location, Register, spelled_place, place_meaning, IsPlace, HasThread}
 use Rattle.litmus_conditions.specs.PlaceMachine.{place_step, place_of, register_ends, is_there}
 use Rattle.litmus_conditions.proofs.Places.{place_of_written}
-use Rattle.litmus_grammar.specs.declared.parts.ItemHole.{ItemHole}
-use Rattle.litmus_grammar.specs.declared.parts.ItemHole.TheVariants as items
+use Rattle.litmus_grammar.specs.declared.parts.ItemExpectation.{ItemExpectation}
+use Rattle.litmus_grammar.specs.declared.parts.ItemExpectation.TheVariants as items
 use Rattle.litmus_grammar.specs.declared.parts.TextKind.TheVariants as kinds
 use Rattle.litmus_grammar.specs.Grammar.{Listed, spelled_others, members, spelled_observed, AreItems, IsLocationsText}
 use Rattle.litmus_grammar.specs.TextMachine as text
-use Rattle.litmus_grammar.specs.TextMachine.{Part, Held, Next, State, Ran, placed, and_then, stepped, part_step, with_place, nothing, start, run, rule_at, item_went}
+use Rattle.litmus_grammar.specs.TextMachine.{Part, Draft, Next, State, Ran, placed, and_then, stepped, part_step, with_place, nothing, start, run, rule_at, item_result}
 use Rattle.litmus_grammar.proofs.Conditions.{tail_stays, tail_says}
 use Rattle.litmus_grammar.proofs.Lists.{closing, list_whole}
 use Rattle.litmus_grammar.proofs.Outcomes.{Reading}
 use Rattle.litmus_grammar.proofs.Runs.{anywhere, tokens_of-append, tokens_of-anywhere, follows}
 
 record Uncons (ps : List Placed) (t : Token) (ts : List Token) : Type 0 where
-  place : ℕ
+  offset : ℕ
   behind : List Placed
-  split : ps ≡ record { token = t; place = place } ∷ behind
+  split : ps ≡ record { token = t; offset = offset } ∷ behind
   rest : tokens_of behind ≡ ts
 
 uncons : (ps : List Placed) (t : Token) (ts : List Token) → tokens_of ps ≡ t ∷ ts → Uncons ps t ts
 uncons [] t ts e = absurd cc
 uncons (p ∷ ps) t ts e =
     let same : p.token ≡ t = cc in
-    record { place = p.place; behind = ps; split = ap (λ (x : Token). record { token = x; place = p.place } ∷ ps) same; rest = cc }
+    record { offset = p.offset; behind = ps; split = ap (λ (x : Token). record { token = x; offset = p.offset } ∷ ps) same; rest = cc }
 
 module _ (threads : ℕ) (few : threads < 18446744073709551616) where
-  abbrev standing : Stage → Part → Held → State
-  standing g p h = record { kind = kinds.Locations; threads = threads; stage = g; part = p; held = h }
+  abbrev standing : Stage → Part → Draft → State
+  standing g p h = record { kind = kinds.Locations; threads = threads; stage = g; part = p; draft = h }
 
   -- ---- each text is taken
 
@@ -60,42 +60,42 @@ module _ (threads : ℕ) (few : threads < 18446744073709551616) where
   leads_on a b c ps ts us l f = let m = f l.behind l.rest in record { behind = m.behind; rest = m.rest; by = l.by ∙ m.by }
 
   -- a token that is taken
-  one : (p q : Part) (h k : Held) (t : Token) (ps : List Placed) (ts : List Token) → ((n : ℕ) → part_step kinds.Locations threads h p t n ≡ Some (record { part = q; held = k })) → tokens_of ps ≡ t ∷ ts → Leads (standing Tail p h) ps (standing Tail q k) ts
+  one : (p q : Part) (h k : Draft) (t : Token) (ps : List Placed) (ts : List Token) → ((n : ℕ) → part_step kinds.Locations threads h p t n ≡ Some (record { part = q; draft = k })) → tokens_of ps ≡ t ∷ ts → Leads (standing Tail p h) ps (standing Tail q k) ts
   one p q h k t ps ts takes e =
       let u = uncons ps t ts e in
       record {
         behind = u.behind;
         rest = u.rest;
-        by = ap (run (standing Tail p h)) u.split ∙ ap (λ (o : Option Next). and_then (placed u.place (stepped (standing Tail p h) t o)) (λ x. run x u.behind)) (takes u.place);
+        by = ap (run (standing Tail p h)) u.split ∙ ap (λ (o : Option Next). and_then (placed u.offset (stepped (standing Tail p h) t o)) (λ x. run x u.behind)) (takes u.offset);
       }
 
-  abbrev wants : Bool → ItemHole
+  abbrev wants : Bool → ItemExpectation
   wants false = items.WantsFirst
   wants true = items.WantsNext
 
-  abbrev has : Place → Held → State
+  abbrev has : Place → Draft → State
   has p h = standing Tail (text.Item items.HasItem) (with_place h p)
 
   there : (a b : ℕ) → a < b → nat_lt a b ≡ true
   there a b h = grind (arith, nat_tests)
 
-  word_first : (next : Bool) (n : List ℕ) (h : Held) (place : ℕ) → part_step kinds.Locations threads h (text.Item (wants next)) (tokens.Word n) place ≡ text.at (with_place h (place_meaning (Location false n))) (text.Item items.HasItem)
-  word_first false n h place = refl
-  word_first true n h place = refl
+  word_first : (next : Bool) (n : List ℕ) (h : Draft) (offset : ℕ) → part_step kinds.Locations threads h (text.Item (wants next)) (tokens.Word n) offset ≡ text.at (with_place h (place_meaning (Location false n))) (text.Item items.HasItem)
+  word_first false n h offset = refl
+  word_first true n h offset = refl
 
-  bracket_first : (next : Bool) (h : Held) (place : ℕ) → part_step kinds.Locations threads h (text.Item (wants next)) (tokens.Mark marks.OpenBracket) place ≡ text.at h (text.Item (items.Within places.WantsName))
-  bracket_first false h place = refl
-  bracket_first true h place = refl
+  bracket_first : (next : Bool) (h : Draft) (offset : ℕ) → part_step kinds.Locations threads h (text.Item (wants next)) (tokens.Mark marks.OpenBracket) offset ≡ text.at h (text.Item (items.Within places.WantsName))
+  bracket_first false h offset = refl
+  bracket_first true h offset = refl
 
-  number_first : (next : Bool) (d : List ℕ) (h : Held) (place : ℕ) → decimal d < threads → part_step kinds.Locations threads h (text.Item (wants next)) (tokens.Number false d) place ≡ text.at h (text.Item (items.Within (places.WantsColon d)))
-  number_first false d h place lt = ap (λ (b : Bool). if b then item_went h (place_step places.Begins (tokens.Number false d)) else None) (there (decimal d) threads lt)
-  number_first true d h place lt = ap (λ (b : Bool). if b then item_went h (place_step places.Begins (tokens.Number false d)) else None) (there (decimal d) threads lt)
+  number_first : (next : Bool) (d : List ℕ) (h : Draft) (offset : ℕ) → decimal d < threads → part_step kinds.Locations threads h (text.Item (wants next)) (tokens.Number false d) offset ≡ text.at h (text.Item (items.Within (places.WantsColon d)))
+  number_first false d h offset lt = ap (λ (b : Bool). if b then item_result h (place_step places.Begins (tokens.Number false d)) else None) (there (decimal d) threads lt)
+  number_first true d h offset lt = ap (λ (b : Bool). if b then item_result h (place_step places.Begins (tokens.Number false d)) else None) (there (decimal d) threads lt)
 
-  register_last : (d w : List ℕ) (h : Held) (place : ℕ) (o : Option ℕ) → register_of w ≡ o → is_known o ≡ true → part_step kinds.Locations threads h (text.Item (items.Within (places.WantsRegister d))) (tokens.Word w) place ≡ text.at (with_place h (place_of (written.Register d (or_zero (register_of w))))) (text.Item items.HasItem)
-  register_last d w h place (Some r) e k = ap (λ (x : Option ℕ). item_went h (register_ends d x)) e ∙ ap (λ (x : Option ℕ). text.at (with_place h (place_of (written.Register d (or_zero x)))) (text.Item items.HasItem)) (sym e)
-  register_last d w h place None e k = absurd cc
+  register_last : (d w : List ℕ) (h : Draft) (offset : ℕ) (o : Option ℕ) → register_of w ≡ o → is_known o ≡ true → part_step kinds.Locations threads h (text.Item (items.Within (places.WantsRegister d))) (tokens.Word w) offset ≡ text.at (with_place h (place_of (written.Register d (or_zero (register_of w))))) (text.Item items.HasItem)
+  register_last d w h offset (Some r) e k = ap (λ (x : Option ℕ). item_result h (register_ends d x)) e ∙ ap (λ (x : Option ℕ). text.at (with_place h (place_of (written.Register d (or_zero x)))) (text.Item items.HasItem)) (sym e)
+  register_last d w h offset None e k = absurd cc
 
-  place_taken : (next : Bool) (p : PlaceTree) (h : Held) (ps : List Placed) (ts : List Token) → IsPlace p → HasThread threads p → tokens_of ps ≡ spelled_place p ts → Leads (standing Tail (text.Item (wants next)) h) ps (has (place_meaning p) h) ts
+  place_taken : (next : Bool) (p : PlaceTree) (h : Draft) (ps : List Placed) (ts : List Token) → IsPlace p → HasThread threads p → tokens_of ps ≡ spelled_place p ts → Leads (standing Tail (text.Item (wants next)) h) ps (has (place_meaning p) h) ts
   place_taken next (Location false n) h ps ts i t e = one (text.Item (wants next)) (text.Item items.HasItem) h (with_place h (place_meaning (Location false n))) (tokens.Word n) ps ts (word_first next n h) e
   place_taken next (Location true n) h ps ts i t e =
       let named = tokens.Word n ∷ tokens.Mark marks.CloseBracket ∷ ts in
@@ -118,22 +118,22 @@ module _ (threads : ℕ) (few : threads < 18446744073709551616) where
   record Taken (from : State) (ps : List Placed) (found : List Place) : Type 0 where
     state : State
     by : run from ps ≡ Ok state
-    observed : state.held.observed ≡ found
+    observed : state.draft.observed ≡ found
 
   taken_by : (a b : State) (ps : List Placed) (ts : List Token) (found : List Place) → Leads a ps b ts → ((qs : List Placed) → tokens_of qs ≡ ts → Taken b qs found) → Taken a ps found
   taken_by a b ps ts found l f = let r = f l.behind l.rest in record { state = r.state; by = l.by ∙ r.by; observed = r.observed }
 
-  done_taken : (h : Held) (ps : List Placed) → tokens_of ps ≡ [] → Taken (standing Tail text.Done h) ps h.observed
+  done_taken : (h : Draft) (ps : List Placed) → tokens_of ps ≡ [] → Taken (standing Tail text.Done h) ps h.observed
   done_taken h [] e = record { state = standing Tail text.Done h; by = refl; observed = refl }
   done_taken h (p ∷ ps) e = absurd cc
 
-  end_taken : (h : Held) (ps : List Placed) → tokens_of ps ≡ tokens.End ∷ [] → Taken (standing Tail text.WantsEnd h) ps h.observed
+  end_taken : (h : Draft) (ps : List Placed) → tokens_of ps ≡ tokens.End ∷ [] → Taken (standing Tail text.WantsEnd h) ps h.observed
   end_taken h ps e = taken_by _ (standing Tail text.Done h) ps [] h.observed (one text.WantsEnd text.Done h h tokens.End ps [] (λ m. refl) e) (done_taken h)
 
-  close_taken : (hole : ItemHole) (h : Held) (ps : List Placed) → ((m : ℕ) → part_step kinds.Locations threads h (text.Item hole) (tokens.Mark marks.CloseBracket) m ≡ text.at h text.WantsEnd) → tokens_of ps ≡ closing → Taken (standing Tail (text.Item hole) h) ps h.observed
-  close_taken hole h ps takes e = taken_by _ (standing Tail text.WantsEnd h) ps (tokens.End ∷ []) h.observed (one (text.Item hole) text.WantsEnd h h (tokens.Mark marks.CloseBracket) ps (tokens.End ∷ []) takes e) (end_taken h)
+  close_taken : (expected : ItemExpectation) (h : Draft) (ps : List Placed) → ((m : ℕ) → part_step kinds.Locations threads h (text.Item expected) (tokens.Mark marks.CloseBracket) m ≡ text.at h text.WantsEnd) → tokens_of ps ≡ closing → Taken (standing Tail (text.Item expected) h) ps h.observed
+  close_taken expected h ps takes e = taken_by _ (standing Tail text.WantsEnd h) ps (tokens.End ∷ []) h.observed (one (text.Item expected) text.WantsEnd h h (tokens.Mark marks.CloseBracket) ps (tokens.End ∷ []) takes e) (end_taken h)
 
-  others_taken : (os : List PlaceTree) (closed : Bool) (h : Held) (ps : List Placed) → AreItems threads os → tokens_of ps ≡ spelled_others spelled_place closed os closing → Taken (standing Tail (text.Item items.HasItem) h) ps (h.observed ++ map place_meaning os)
+  others_taken : (os : List PlaceTree) (closed : Bool) (h : Draft) (ps : List Placed) → AreItems threads os → tokens_of ps ≡ spelled_others spelled_place closed os closing → Taken (standing Tail (text.Item items.HasItem) h) ps (h.observed ++ map place_meaning os)
   others_taken [] false h ps fine e = subst (Taken (standing Tail (text.Item items.HasItem) h) ps) (sym (append-nil h.observed)) (close_taken items.HasItem h ps (λ m. refl) e)
   others_taken [] true h ps fine e =
       subst (Taken (standing Tail (text.Item items.HasItem) h) ps) (sym (append-nil h.observed))
@@ -144,7 +144,7 @@ module _ (threads : ℕ) (few : threads < 18446744073709551616) where
       (taken_by _ (standing Tail (text.Item items.WantsNext) h) ps (spelled_place o left) _ (one (text.Item items.HasItem) (text.Item items.WantsNext) h h (tokens.Mark marks.Semicolon) ps (spelled_place o left) (λ m. refl) e)
       (λ qs k. taken_by _ (has (place_meaning o) h) qs left _ (place_taken true o h qs left fine.0 fine.1 k) (λ rs j. others_taken os closed (with_place h (place_meaning o)) rs fine.2 j)))
 
-  abbrev nothing_yet : Held
+  abbrev nothing_yet : Draft
   nothing_yet = nothing kinds.Locations
 
   text_taken : (l : Option (Listed PlaceTree)) (ps : List Placed) → AreItems threads (members l) → tokens_of ps ≡ spelled_observed l (tokens.End ∷ []) → Taken (start kinds.Locations threads) ps (map place_meaning (members l))
@@ -156,7 +156,7 @@ module _ (threads : ℕ) (few : threads < 18446744073709551616) where
       (λ qs k. taken_by _ (standing Tail (text.Item items.WantsFirst) nothing_yet) qs (spelled_place l.first left) _ (one text.WantsList (text.Item items.WantsFirst) nothing_yet nothing_yet (tokens.Mark marks.OpenBracket) qs (spelled_place l.first left) (λ m. refl) k)
       (λ rs j. taken_by _ (has (place_meaning l.first) nothing_yet) rs left _ (place_taken false l.first nothing_yet rs left fine.0 fine.1 j) (λ us i. others_taken l.others l.closed (with_place nothing_yet (place_meaning l.first)) us fine.2 i)))
 
-  pub list_taken : (ps : List Placed) (x : IsLocationsText threads (tokens_of ps)) → (s : State) × (run (start kinds.Locations threads) ps ≡ Ok s) × (s.held.observed ≡ map place_meaning (members x.items))
+  pub list_taken : (ps : List Placed) (x : IsLocationsText threads (tokens_of ps)) → (s : State) × (run (start kinds.Locations threads) ps ≡ Ok s) × (s.draft.observed ≡ map place_meaning (members x.items))
   list_taken ps x = let r = text_taken x.items ps x.fine x.whole in (r.state, r.by, r.observed)
 
   -- ---- what is taken can be gone on with to the end
@@ -164,7 +164,7 @@ module _ (threads : ℕ) (few : threads < 18446744073709551616) where
   abbrev IsOfList : Part → Type 0
   IsOfList text.ListOrEnd = Unit {0}
   IsOfList text.WantsList = Unit {0}
-  IsOfList (text.Item hole) = Unit {0}
+  IsOfList (text.Item expected) = Unit {0}
   IsOfList text.WantsEnd = Unit {0}
   IsOfList text.Done = Unit {0}
   IsOfList p = ⊥
@@ -173,48 +173,48 @@ module _ (threads : ℕ) (few : threads < 18446744073709551616) where
   LeadsToList None = Unit {0}
   LeadsToList (Some n) = IsOfList n.part
 
-  went_stays : (h : Held) (o : Option PlaceStep) → LeadsToList (item_went h o)
-  went_stays h (Some (place_steps.Goes hole)) = tt
-  went_stays h (Some (place_steps.Ends w)) = tt
-  went_stays h None = tt
+  result_stays : (h : Draft) (o : Option PlaceStep) → LeadsToList (item_result h o)
+  result_stays h (Some (place_steps.Goes expected)) = tt
+  result_stays h (Some (place_steps.Ends w)) = tt
+  result_stays h None = tt
 
-  begun_stays : (h : Held) (t : Token) → LeadsToList (text.item_begun threads h t)
-  begun_stays h t = choose (is_there threads t)
+  start_stays : (h : Draft) (t : Token) → LeadsToList (text.item_start threads h t)
+  start_stays h t = choose (is_there threads t)
     where
-      choose : (b : Bool) → LeadsToList (if b then item_went h (place_step places.Begins t) else None)
-      choose true = went_stays h (place_step places.Begins t)
+      choose : (b : Bool) → LeadsToList (if b then item_result h (place_step places.Begins t) else None)
+      choose true = result_stays h (place_step places.Begins t)
       choose false = tt
 
-  next_stays : (h : Held) (t : Token) → LeadsToList (text.next_item kinds.Locations threads h t)
+  next_stays : (h : Draft) (t : Token) → LeadsToList (text.next_item kinds.Locations threads h t)
   next_stays h (tokens.Mark marks.CloseBracket) = tt
-  next_stays h t = begun_stays h t
+  next_stays h t = start_stays h t
 
-  ended_stays : (h : Held) (t : Token) → LeadsToList (text.leads h (text.item_ended kinds.Locations t))
+  ended_stays : (h : Draft) (t : Token) → LeadsToList (text.next_at h (text.item_ended kinds.Locations t))
   ended_stays h (tokens.Mark marks.Semicolon) = tt
   ended_stays h (tokens.Mark marks.CloseBracket) = tt
   ended_stays h t = tt
 
-  opened_stays : (h : Held) (t : Token) → LeadsToList (text.leads h (text.list_opened t))
+  opened_stays : (h : Draft) (t : Token) → LeadsToList (text.next_at h (text.list_opened t))
   opened_stays h (tokens.Mark marks.OpenBracket) = tt
   opened_stays h t = tt
 
-  end_stays : (h : Held) (t : Token) → LeadsToList (text.leads h (text.end_read t))
+  end_stays : (h : Draft) (t : Token) → LeadsToList (text.next_at h (text.end_read t))
   end_stays h tokens.End = tt
   end_stays h t = tt
 
-  list_stays : (h : Held) (t : Token) → LeadsToList (text.leads h (text.list_begun t))
+  list_stays : (h : Draft) (t : Token) → LeadsToList (text.next_at h (text.list_start t))
   list_stays h t = choose (text.is_list_word t)
     where
-      choose : (b : Bool) → LeadsToList (text.leads h (if b then Some text.WantsList else text.end_read t))
+      choose : (b : Bool) → LeadsToList (text.next_at h (if b then Some text.WantsList else text.end_read t))
       choose true = tt
       choose false = end_stays h t
 
-  stays : (h : Held) (p : Part) (t : Token) (n : ℕ) → IsOfList p → LeadsToList (part_step kinds.Locations threads h p t n)
+  stays : (h : Draft) (p : Part) (t : Token) (n : ℕ) → IsOfList p → LeadsToList (part_step kinds.Locations threads h p t n)
   stays h text.ListOrEnd t n o = list_stays h t
   stays h text.WantsList t n o = opened_stays h t
-  stays h (text.Item items.WantsFirst) t n o = begun_stays h t
+  stays h (text.Item items.WantsFirst) t n o = start_stays h t
   stays h (text.Item items.WantsNext) t n o = next_stays h t
-  stays h (text.Item (items.Within hole)) t n o = went_stays h (place_step hole t)
+  stays h (text.Item (items.Within expected)) t n o = result_stays h (place_step expected t)
   stays h (text.Item items.HasItem) t n o = ended_stays h t
   stays h text.WantsEnd t n o = end_stays h t
   stays h text.Done t n o = tt
@@ -229,40 +229,40 @@ module _ (threads : ℕ) (few : threads < 18446744073709551616) where
   abbrev known_register : List ℕ
   known_register = 114 ∷ 49 ∷ []
 
-  abbrev place_rest : PlaceHole → List Token → List Token
+  abbrev place_rest : PlaceExpectation → List Token → List Token
   place_rest places.Begins ts = tokens.Word [] ∷ ts
   place_rest places.WantsName ts = tokens.Word [] ∷ tokens.Mark marks.CloseBracket ∷ ts
   place_rest (places.WantsBracket n) ts = tokens.Mark marks.CloseBracket ∷ ts
   place_rest (places.WantsColon d) ts = tokens.Mark marks.Colon ∷ tokens.Word known_register ∷ ts
   place_rest (places.WantsRegister d) ts = tokens.Word known_register ∷ ts
 
-  within_finished : (g : Stage) (h : Held) (hole : PlaceHole) → Finished (standing g (text.Item (items.Within hole)) h) []
+  within_finished : (g : Stage) (h : Draft) (expected : PlaceExpectation) → Finished (standing g (text.Item (items.Within expected)) h) []
   within_finished g h places.Begins = record { rest = place_rest places.Begins closing; state = _; by = refl; done = refl }
   within_finished g h places.WantsName = record { rest = place_rest places.WantsName closing; state = _; by = refl; done = refl }
   within_finished g h (places.WantsBracket n) = record { rest = place_rest (places.WantsBracket n) closing; state = _; by = refl; done = refl }
   within_finished g h (places.WantsColon d) = record { rest = place_rest (places.WantsColon d) closing; state = _; by = refl; done = refl }
   within_finished g h (places.WantsRegister d) = record { rest = place_rest (places.WantsRegister d) closing; state = _; by = refl; done = refl }
 
-  finished : (g : Stage) (p : Part) (h : Held) → IsOfList p → Finished (standing g p h) []
+  finished : (g : Stage) (p : Part) (h : Draft) → IsOfList p → Finished (standing g p h) []
   finished g text.ListOrEnd h o = record { rest = tokens.End ∷ []; state = _; by = refl; done = refl }
   finished g text.WantsList h o = record { rest = tokens.Mark marks.OpenBracket ∷ tokens.Word [] ∷ closing; state = _; by = refl; done = refl }
   finished g (text.Item items.WantsFirst) h o = record { rest = tokens.Word [] ∷ closing; state = _; by = refl; done = refl }
   finished g (text.Item items.WantsNext) h o = record { rest = closing; state = _; by = refl; done = refl }
-  finished g (text.Item (items.Within hole)) h o = within_finished g h hole
+  finished g (text.Item (items.Within expected)) h o = within_finished g h expected
   finished g (text.Item items.HasItem) h o = record { rest = closing; state = _; by = refl; done = refl }
   finished g text.WantsEnd h o = record { rest = tokens.End ∷ []; state = _; by = refl; done = refl }
   finished g text.Done h o = record { rest = []; state = _; by = refl; done = refl }
   finished g p h o = absurd o
 
-  goes_on : (ps : List Placed) (g : Stage) (p : Part) (h : Held) (s : State) → IsOfList p → run (standing g p h) ps ≡ Ok s → Finished (standing g p h) ps
+  goes_on : (ps : List Placed) (g : Stage) (p : Part) (h : Draft) (s : State) → IsOfList p → run (standing g p h) ps ≡ Ok s → Finished (standing g p h) ps
   goes_on [] g p h s o e = finished g p h o
   goes_on (q ∷ ps) g p h s o e =
-      let r = by_next (part_step kinds.Locations threads h p q.token q.place) (stays h p q.token q.place o) e (λ n i k. goes_on ps (after g q.token) n.part n.held s i k) in
+      let r = by_next (part_step kinds.Locations threads h p q.token q.offset) (stays h p q.token q.offset o) e (λ n i k. goes_on ps (after g q.token) n.part n.draft s i k) in
       record { rest = r.0; state = r.1; by = r.2; done = r.3 }
     where
-      by_next : (m : Option Next) → LeadsToList m → and_then (placed q.place (stepped (standing g p h) q.token m)) (λ x. run x ps) ≡ Ok s
-          → ((n : Next) → IsOfList n.part → run (standing (after g q.token) n.part n.held) ps ≡ Ok s → Finished (standing (after g q.token) n.part n.held) ps)
-          → (rest : List Token) × (x : State) × (and_then (placed q.place (stepped (standing g p h) q.token m)) (λ y. run y (ps ++ anywhere rest)) ≡ Ok x) × (x.part ≡ text.Done)
+      by_next : (m : Option Next) → LeadsToList m → and_then (placed q.offset (stepped (standing g p h) q.token m)) (λ x. run x ps) ≡ Ok s
+          → ((n : Next) → IsOfList n.part → run (standing (after g q.token) n.part n.draft) ps ≡ Ok s → Finished (standing (after g q.token) n.part n.draft) ps)
+          → (rest : List Token) × (x : State) × (and_then (placed q.offset (stepped (standing g p h) q.token m)) (λ y. run y (ps ++ anywhere rest)) ≡ Ok x) × (x.part ≡ text.Done)
       by_next (Some n) i k later = let f = later n i k in (f.rest, f.state, f.by, f.done)
       by_next None i k later = absurd cc
 
@@ -275,9 +275,9 @@ module _ (threads : ℕ) (few : threads < 18446744073709551616) where
   list_reading = record {
     begins = begins_by;
     takes = λ ps x. let r = list_taken ps x in (r.0, r.1);
-    says = λ ps s t place e none.
+    says = λ ps s t offset e none.
         let f = follows (start kinds.Locations threads) s ps e in
         let stage : s.stage ≡ Tail = f.stage ∙ tail_stays (tokens_of ps) in
         let C = CanFollow (IsLocationsText threads) (tokens_of ps) in
-        subst (λ (g : Stage). Says C g (ruling g t) (rule_at s.kind s.held.table s.stage t)) (sym (tail_stays (tokens_of ps))) (subst (λ (g : Stage). Says C Tail (ruling Tail t) (rule_at s.kind s.held.table g t)) (sym stage) (tail_says C s.kind s.held.table t));
+        subst (λ (g : Stage). Says C g (ruling g t) (rule_at s.kind s.draft.table s.stage t)) (sym (tail_stays (tokens_of ps))) (subst (λ (g : Stage). Says C Tail (ruling Tail t) (rule_at s.kind s.draft.table g t)) (sym stage) (tail_says C s.kind s.draft.table t));
   }

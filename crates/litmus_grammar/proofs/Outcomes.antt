@@ -15,21 +15,21 @@ pub record Reading (IsText : List Token → Type 0) (kind : TextKind) (threads :
   -- it takes each text
   pub takes : (ps : List Placed) → IsText (tokens_of ps) → (s : State) × (run (start kind threads) ps ≡ Ok s)
   -- and names the rule that another token breaks
-  pub says : (ps : List Placed) (s : State) (t : Token) (place : ℕ) → run (start kind threads) ps ≡ Ok s → part_step s.kind s.threads s.held s.part t place ≡ None
-      → Says (CanFollow IsText (tokens_of ps)) (stage_after (first_stage kind) (tokens_of ps)) (ruling (stage_after (first_stage kind) (tokens_of ps)) t) (rule_at s.kind s.held.table s.stage t)
+  pub says : (ps : List Placed) (s : State) (t : Token) (offset : ℕ) → run (start kind threads) ps ≡ Ok s → part_step s.kind s.threads s.draft s.part t offset ≡ None
+      → Says (CanFollow IsText (tokens_of ps)) (stage_after (first_stage kind) (tokens_of ps)) (ruling (stage_after (first_stage kind) (tokens_of ps)) t) (rule_at s.kind s.draft.table s.stage t)
 
 -- the same, where the rule is known behind some tokens alone
 pub record ReadingWhere (Fine : List Token → Type 0) (IsText : List Token → Type 0) (kind : TextKind) (threads : ℕ) : Type 0 where
   pub begins : (ps : List Placed) (s : State) → run (start kind threads) ps ≡ Ok s → Begins IsText (tokens_of ps)
   pub takes : (ps : List Placed) → IsText (tokens_of ps) → (s : State) × (run (start kind threads) ps ≡ Ok s)
-  pub says : (ps : List Placed) (s : State) (t : Token) (place : ℕ) → Fine (tokens_of ps) → run (start kind threads) ps ≡ Ok s → part_step s.kind s.threads s.held s.part t place ≡ None
-      → Says (CanFollow IsText (tokens_of ps)) (stage_after (first_stage kind) (tokens_of ps)) (ruling (stage_after (first_stage kind) (tokens_of ps)) t) (rule_at s.kind s.held.table s.stage t)
+  pub says : (ps : List Placed) (s : State) (t : Token) (offset : ℕ) → Fine (tokens_of ps) → run (start kind threads) ps ≡ Ok s → part_step s.kind s.threads s.draft s.part t offset ≡ None
+      → Says (CanFollow IsText (tokens_of ps)) (stage_after (first_stage kind) (tokens_of ps)) (ruling (stage_after (first_stage kind) (tokens_of ps)) t) (rule_at s.kind s.draft.table s.stage t)
 
 abbrev anywhere_at_all : List Token → Type 0
 anywhere_at_all ts = Unit {0}
 
 in_general : (IsText : List Token → Type 0) (kind : TextKind) (threads : ℕ) → Reading IsText kind threads → ReadingWhere anywhere_at_all IsText kind threads
-in_general IsText kind threads known = record { begins = known.begins; takes = known.takes; says = λ ps s t place fine e none. known.says ps s t place e none }
+in_general IsText kind threads known = record { begins = known.begins; takes = known.takes; says = λ ps s t offset fine e none. known.says ps s t offset e none }
 
 abbrev stopped : LitmusRule × ℕ → Ran
 stopped e = Err e
@@ -42,28 +42,28 @@ not_both e s h = absurd cc
 
 -- a token that is refused cannot follow
 pub refused : (IsText : List Token → Type 0) (kind : TextKind) (threads : ℕ) (takes : (ps : List Placed) → IsText (tokens_of ps) → (s : State) × (run (start kind threads) ps ≡ Ok s)) (before : List Placed) (s : State) (p : Placed)
-    → run (start kind threads) before ≡ Ok s → part_step s.kind s.threads s.held s.part p.token p.place ≡ None → CanFollow IsText (tokens_of before) p.token → ⊥
+    → run (start kind threads) before ≡ Ok s → part_step s.kind s.threads s.draft s.part p.token p.offset ≡ None → CanFollow IsText (tokens_of before) p.token → ⊥
 refused IsText kind threads takes before s p reached none c =
     let qs = before ++ p ∷ anywhere c.rest in
     let same : tokens_of qs ≡ (tokens_of before ++ p.token ∷ []) ++ c.rest =
     tokens_of-append before (p ∷ anywhere c.rest) ∙ ap (λ (ts : List Token). tokens_of before ++ p.token ∷ ts) (tokens_of-anywhere c.rest) ∙ sym (append_assoc (tokens_of before) (p.token ∷ []) c.rest) in
     let r = takes qs (subst IsText (sym same) c.text) in
-    let stops : run s (p ∷ anywhere c.rest) ≡ stopped (rule_at s.kind s.held.table s.stage p.token, p.place) =
-    ap (λ (o : Option Next). and_then (placed p.place (stepped s p.token o)) (λ x. run x (anywhere c.rest))) none in
-    not_both (rule_at s.kind s.held.table s.stage p.token, p.place) r.0 (sym stops ∙ sym (run-append (start kind threads) s before (p ∷ anywhere c.rest) reached) ∙ r.1)
+    let stops : run s (p ∷ anywhere c.rest) ≡ stopped (rule_at s.kind s.draft.table s.stage p.token, p.offset) =
+    ap (λ (o : Option Next). and_then (placed p.offset (stepped s p.token o)) (λ x. run x (anywhere c.rest))) none in
+    not_both (rule_at s.kind s.draft.table s.stage p.token, p.offset) r.0 (sym stops ∙ sym (run-append (start kind threads) s before (p ∷ anywhere c.rest) reached) ∙ r.1)
 
 module _ (Fine : List Token → Type 0) (IsText : List Token → Type 0) (kind : TextKind) (threads : ℕ) (known : ReadingWhere Fine IsText kind threads) (ps : List Placed) (fine : (before : List Placed) (p : Placed) (behind : List Placed) → ps ≡ before ++ p ∷ behind → Fine (tokens_of before)) where
   go : (before : List Placed) (s : State) (rest : List Placed) (r : LitmusRule) (n : ℕ) → ps ≡ before ++ rest → run (start kind threads) before ≡ Ok s → run s rest ≡ Err (r, n) → IsFault IsText (first_stage kind) (before ++ rest) r n
   go before s [] r n whole reached e = absurd (not_both (r, n) s (sym e))
   go before s (p ∷ rest) r n whole reached e =
-      by_next (part_step s.kind s.threads s.held s.part p.token p.place) refl e
+      by_next (part_step s.kind s.threads s.draft s.part p.token p.offset) refl e
       (λ x q h. rw (← append_assoc before (p ∷ []) rest) (go (before ++ p ∷ []) x rest r n (whole ∙ sym (append_assoc before (p ∷ []) rest)) q h))
     where
-      by_next : (o : Option Next) → part_step s.kind s.threads s.held s.part p.token p.place ≡ o → and_then (placed p.place (stepped s p.token o)) (λ x. run x rest) ≡ Err (r, n)
+      by_next : (o : Option Next) → part_step s.kind s.threads s.draft s.part p.token p.offset ≡ o → and_then (placed p.offset (stepped s p.token o)) (λ x. run x rest) ≡ Err (r, n)
           → ((x : State) → run (start kind threads) (before ++ p ∷ []) ≡ Ok x → run x rest ≡ Err (r, n) → IsFault IsText (first_stage kind) (before ++ p ∷ rest) r n) → IsFault IsText (first_stage kind) (before ++ p ∷ rest) r n
       by_next (Some x) q h f = f (went s p.token x) (run_one (start kind threads) s before p x reached q) h
       by_next None q h f =
-          let same : (rule_at s.kind s.held.table s.stage p.token, p.place) ≡ (r, n) = stopped_is _ _ h in
+          let same : (rule_at s.kind s.draft.table s.stage p.token, p.offset) ≡ (r, n) = stopped_is _ _ h in
           let stage = stage_after (first_stage kind) (tokens_of before) in
           record {
             before = before;
@@ -73,7 +73,7 @@ module _ (Fine : List Token → Type 0) (IsText : List Token → Type 0) (kind :
             begins = known.begins before s reached;
             ends = refused IsText kind threads known.takes before s p reached q;
             at_place = ap (λ (x : LitmusRule × ℕ). x.1) same;
-            number = subst (Says (CanFollow IsText (tokens_of before)) stage (ruling stage p.token)) (ap (λ (x : LitmusRule × ℕ). x.0) same) (known.says before s p.token p.place (fine before p rest whole) reached q);
+            number = subst (Says (CanFollow IsText (tokens_of before)) stage (ruling stage p.token)) (ap (λ (x : LitmusRule × ℕ). x.0) same) (known.says before s p.token p.offset (fine before p rest whole) reached q);
           }
 
   pub fault_where : (r : LitmusRule) (n : ℕ) → run (start kind threads) ps ≡ Err (r, n) → IsFault IsText (first_stage kind) ps r n

@@ -41,17 +41,17 @@ thread-append t xs ys = cell-append t.first (spelled_steps t.others xs) ys ∙ a
 
 -- ---- places, lists, entries and propositions
 
-place-append : (p : PlaceTree) (xs ys : List Token) → spelled_place p xs ++ ys ≡ spelled_place p (xs ++ ys)
-place-append (Location false n) xs ys = refl
-place-append (Location true n) xs ys = refl
-place-append (Register t r) xs ys = refl
+offset-append : (p : PlaceTree) (xs ys : List Token) → spelled_place p xs ++ ys ≡ spelled_place p (xs ++ ys)
+offset-append (Location false n) xs ys = refl
+offset-append (Location true n) xs ys = refl
+offset-append (Register t r) xs ys = refl
 
 value-append : (v : ValueTree) (xs ys : List Token) → spelled_value v xs ++ ys ≡ spelled_value v (xs ++ ys)
 value-append (Number negative ds) xs ys = refl
 value-append (Address n) xs ys = refl
 
 pub entry-append : (e : EntryTree) (xs ys : List Token) → spelled_entry e xs ++ ys ≡ spelled_entry e (xs ++ ys)
-entry-append e xs ys = place-append e.place (tokens.Mark marks.Equals ∷ spelled_value e.value xs) ys ∙ ap (λ (l : List Token). spelled_place e.place (tokens.Mark marks.Equals ∷ l)) (value-append e.value xs ys)
+entry-append e xs ys = offset-append e.place (tokens.Mark marks.Equals ∷ spelled_value e.value xs) ys ∙ ap (λ (l : List Token). spelled_place e.place (tokens.Mark marks.Equals ∷ l)) (value-append e.value xs ys)
 
 end-append : (closed : Bool) (xs ys : List Token) → spelled_end closed xs ++ ys ≡ spelled_end closed (xs ++ ys)
 end-append true xs ys = refl
@@ -71,12 +71,12 @@ init-append es xs ys = ap (λ (l : List Token). tokens.Mark marks.OpenBrace ∷ 
 pub items-append : (l : Listed PlaceTree) (xs ys : List Token) → spelled_items l xs ++ ys ≡ spelled_items l (xs ++ ys)
 items-append l xs ys =
     ap (λ (ts : List Token). tokens.Word (codes "locations") ∷ tokens.Mark marks.OpenBracket ∷ ts)
-    (place-append l.first (spelled_others spelled_place l.closed l.others (tokens.Mark marks.CloseBracket ∷ xs)) ys
-    ∙ ap (spelled_place l.first) (others-append spelled_place place-append l.closed l.others (tokens.Mark marks.CloseBracket ∷ xs) ys))
+    (offset-append l.first (spelled_others spelled_place l.closed l.others (tokens.Mark marks.CloseBracket ∷ xs)) ys
+    ∙ ap (spelled_place l.first) (others-append spelled_place offset-append l.closed l.others (tokens.Mark marks.CloseBracket ∷ xs) ys))
 
 formula-append : (a : FormulaTree) (xs ys : List Token) → spelled a xs ++ ys ≡ spelled a (xs ++ ys)
 formula-append (Word b) xs ys = refl
-formula-append (Atom p v) xs ys = place-append p (tokens.Mark marks.Equals ∷ spelled_value v xs) ys ∙ ap (λ (l : List Token). spelled_place p (tokens.Mark marks.Equals ∷ l)) (value-append v xs ys)
+formula-append (Atom p v) xs ys = offset-append p (tokens.Mark marks.Equals ∷ spelled_value v xs) ys ∙ ap (λ (l : List Token). spelled_place p (tokens.Mark marks.Equals ∷ l)) (value-append v xs ys)
 formula-append (Prefix tilde a) xs ys = ap (λ (l : List Token). prefix_token tilde ∷ l) (formula-append a xs ys)
 formula-append (Pair op a b) xs ys = formula-append a (connective_token op ∷ spelled b xs) ys ∙ ap (λ (l : List Token). spelled a (connective_token op ∷ l)) (formula-append b xs ys)
 formula-append (Group a) xs ys = ap (λ (l : List Token). tokens.Mark marks.Open ∷ l) (formula-append a (tokens.Mark marks.Close ∷ xs) ys)

@@ -1,4 +1,4 @@
--- Lists of tokens with their places, cut where their tokens are.
+-- Lists of tokens with their offsets, cut where their tokens are.
 use Rattle.std.proofs.Common.{◌≡◌, ℕ, List, [], ◌∷◌, ◌++◌, refl, ap, ◌∙◌}
 use Rattle.litmus_tokens.specs.declared.token.Token.{Token}
 use Rattle.litmus_tokens.specs.Texts.{Placed, tokens_of}
@@ -26,11 +26,11 @@ split (p ∷ ps) (u ∷ us) vs e =
     }
 
 -- one token
-pub single : (ps : List Placed) (t : Token) → tokens_of ps ≡ t ∷ [] → (n : ℕ) × (ps ≡ record { token = t; place = n } ∷ [])
+pub single : (ps : List Placed) (t : Token) → tokens_of ps ≡ t ∷ [] → (n : ℕ) × (ps ≡ record { token = t; offset = n } ∷ [])
 single [] t e = absurd cc
 single (p ∷ []) t e =
     let first : p.token ≡ t = cc in
-    (p.place, ap (λ (x : Token). record { token = x; place = p.place } ∷ []) first)
+    (p.offset, ap (λ (x : Token). record { token = x; offset = p.offset } ∷ []) first)
 single (p ∷ q ∷ ps) t e = absurd cc
 
 -- the last token

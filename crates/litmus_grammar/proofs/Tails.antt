@@ -15,20 +15,20 @@ use Rattle.litmus_values.specs.declared.test.Place.{Place}
 use Rattle.litmus_values.specs.declared.test.Quantifier.{Quantifier}
 use Rattle.litmus_values.specs.declared.test.Quantifier.TheVariants.{Exists, NotExists, Forall}
 use Rattle.litmus_values.specs.Value.{Formula, Constant}
-use Rattle.litmus_conditions.specs.declared.place.PlaceHole.TheVariants as places
+use Rattle.litmus_conditions.specs.declared.place.PlaceExpectation.TheVariants as places
 use Rattle.litmus_conditions.specs.declared.place.PlaceStep.{PlaceStep}
 use Rattle.litmus_conditions.specs.declared.place.PlaceStep.TheVariants as place_steps
 use Rattle.litmus_conditions.specs.PlaceMachine.{place_step, is_there}
 use Rattle.litmus_conditions.specs.ConditionMachine as condition
 use Rattle.litmus_conditions.specs.Grammar.{limits, PlaceTree, FormulaTree, place_meaning, meaning, spelled, spelled_quantifier, IsFormula, IsConditionText}
 use Rattle.litmus_table.specs.Machine as table
-use Rattle.litmus_grammar.specs.declared.parts.ItemHole.TheVariants as items
+use Rattle.litmus_grammar.specs.declared.parts.ItemExpectation.TheVariants as items
 use Rattle.litmus_grammar.specs.declared.parts.TextKind.{TextKind}
 use Rattle.litmus_grammar.specs.declared.parts.TextKind.TheVariants as kinds
 use Rattle.litmus_grammar.specs.Grammar.{Listed, members, spelled_items, spelled_observed, spelled_condition, AreItems, IsLocationsText}
 use Rattle.litmus_grammar.specs.InitMachine as init
 use Rattle.litmus_grammar.specs.TextMachine as text
-use Rattle.litmus_grammar.specs.TextMachine.{Part, Held, Next, State, Ran, placed, and_then, stepped, part_step, nothing, start, run}
+use Rattle.litmus_grammar.specs.TextMachine.{Part, Draft, Next, State, Ran, placed, and_then, stepped, part_step, nothing, start, run}
 use Rattle.litmus_grammar.proofs.Conditions.{condition_taken, condition_reading}
 use Rattle.litmus_grammar.proofs.Ends.{ends_done}
 use Rattle.litmus_grammar.proofs.Lists.{list_whole}
@@ -39,13 +39,13 @@ use Rattle.litmus_grammar.proofs.Spelled.{items-append, condition-append}
 use Rattle.litmus_grammar.proofs.Splits.{split, single, unsnoc, Rest, Nothing, More, rest_of, unsnoc_placed}
 
 abbrev pub last_at : ℕ → Placed
-last_at n = record { token = tokens.End; place = n }
+last_at n = record { token = tokens.End; offset = n }
 
--- what is held of a test before its condition
-abbrev pub early : List ℕ → init.Block → table.State → List Place → Held
+-- the draft of a test before its condition
+abbrev pub early : List ℕ → init.Block → table.State → List Place → Draft
 early name block t o = record { name = name; init = block; table = t; observed = o; quantifier = Exists; formula = Constant true }
 
-abbrev pub with_all : List ℕ → init.Block → table.State → List Place → Quantifier → Formula → Held
+abbrev pub with_all : List ℕ → init.Block → table.State → List Place → Quantifier → Formula → Draft
 with_all name block t o q a = record { name = name; init = block; table = t; observed = o; quantifier = q; formula = a }
 
 -- the texts that stand behind the table of a test of so many threads
@@ -57,23 +57,23 @@ pub record IsTail (threads : ℕ) (ts : List Token) : Type 0 where
   pub fine : IsFormula limits threads condition
   pub whole : ts ≡ spelled_observed observed (spelled_condition quantifier condition)
 
-pub done_behind : (kind : TextKind) (n : ℕ) (g : Stage) (h : Held) (ps : List Placed) (s : State) → run (text_at kind n g text.Done h) ps ≡ Ok s → (ps ≡ []) × (s ≡ text_at kind n g text.Done h)
+pub done_behind : (kind : TextKind) (n : ℕ) (g : Stage) (h : Draft) (ps : List Placed) (s : State) → run (text_at kind n g text.Done h) ps ≡ Ok s → (ps ≡ []) × (s ≡ text_at kind n g text.Done h)
 done_behind kind n g h [] s e =
     let same : text_at kind n g text.Done h ≡ s = cc in
     (refl, sym same)
 done_behind kind n g h (p ∷ ps) s e = absurd cc
 
 -- behind the part of a text alone stands the end
-pub end_behind : (kind : TextKind) (n : ℕ) (g : Stage) (h : Held) (ps : List Placed) (s : State) → run (text_at kind n g text.WantsEnd h) ps ≡ Ok s → s.part ≡ text.Done → (m : ℕ) × (ps ≡ last_at m ∷ []) × (s.held ≡ h)
+pub end_behind : (kind : TextKind) (n : ℕ) (g : Stage) (h : Draft) (ps : List Placed) (s : State) → run (text_at kind n g text.WantsEnd h) ps ≡ Ok s → s.part ≡ text.Done → (m : ℕ) × (ps ≡ last_at m ∷ []) × (s.draft ≡ h)
 end_behind kind n g h [] s e d =
     let same : text_at kind n g text.WantsEnd h ≡ s = cc in
     absurd (let no : text.WantsEnd ≡ text.Done = ap (λ (x : State). x.part) same ∙ d in cc)
-end_behind kind n g h (p ∷ ps) s e d = by_token p.token p.place e
+end_behind kind n g h (p ∷ ps) s e d = by_token p.token p.offset e
   where
-    by_token : (t : Token) (m : ℕ) → run (text_at kind n g text.WantsEnd h) (record { token = t; place = m } ∷ ps) ≡ Ok s → (k : ℕ) × (record { token = t; place = m } ∷ ps ≡ last_at k ∷ []) × (s.held ≡ h)
+    by_token : (t : Token) (m : ℕ) → run (text_at kind n g text.WantsEnd h) (record { token = t; offset = m } ∷ ps) ≡ Ok s → (k : ℕ) × (record { token = t; offset = m } ∷ ps ≡ last_at k ∷ []) × (s.draft ≡ h)
     by_token tokens.End m k =
         let r = done_behind kind n (after g tokens.End) h ps s k in
-        (m, ap (λ (l : List Placed). last_at m ∷ l) r.0, ap (λ (x : State). x.held) r.1)
+        (m, ap (λ (l : List Placed). last_at m ∷ l) r.0, ap (λ (x : State). x.draft) r.1)
     by_token t m k = absurd cc
 
 module _ (name : List ℕ) (block : init.Block) (t : table.State) (few : length t.threads < 18446744073709551616) where
@@ -82,13 +82,13 @@ module _ (name : List ℕ) (block : init.Block) (t : table.State) (few : length 
 
   -- ---- the condition
 
-  abbrev with_condition : List Place → Held → Held
+  abbrev with_condition : List Place → Draft → Draft
   with_condition o h = with_all name block t o h.quantifier h.formula
 
   abbrev in_condition : Part → Bool
   in_condition text.WantsQuantifier = true
   in_condition text.AfterTilde = true
-  in_condition (text.Proposition q fs used hole) = true
+  in_condition (text.Proposition q fs used expected) = true
   in_condition p = false
 
   abbrev IsInCondition : Option Part → Type 0
@@ -98,7 +98,7 @@ module _ (name : List ℕ) (block : init.Block) (t : table.State) (few : length 
   abbrev AlikeCondition : List Place → Option Next → Option Next → Type 0
   AlikeCondition o a b = Alike (with_condition o) text.Done text.Done in_condition a b
 
-  leads_alike : (o : List Place) (h : Held) (p : Option Part) → IsInCondition p → AlikeCondition o (text.leads h p) (text.leads (with_condition o h) p)
+  leads_alike : (o : List Place) (h : Draft) (p : Option Part) → IsInCondition p → AlikeCondition o (text.next_at h p) (text.next_at (with_condition o h) p)
   leads_alike o h None i = tt
   leads_alike o h (Some p) i = (refl, inl (i, refl))
 
@@ -123,16 +123,16 @@ module _ (name : List ℕ) (block : init.Block) (t : table.State) (few : length 
       choose false = tt
   exists_in x = tt
 
-  fed_alike : (o : List Place) (h : Held) (q : Quantifier) (f : condition.Fed) → AlikeCondition o (text.fed h q f) (text.fed (with_condition o h) q f)
-  fed_alike o h q (condition.Goes fs used hole) = (refl, inl (refl, refl))
-  fed_alike o h q (condition.Ends a) = (refl, inr (refl, refl))
-  fed_alike o h q condition.Refuses = tt
+  proposition_alike : (o : List Place) (h : Draft) (q : Quantifier) (f : condition.StepResult) → AlikeCondition o (text.proposition_result h q f) (text.proposition_result (with_condition o h) q f)
+  proposition_alike o h q (condition.Goes fs used expected) = (refl, inl (refl, refl))
+  proposition_alike o h q (condition.Ends a) = (refl, inr (refl, refl))
+  proposition_alike o h q condition.Refuses = tt
 
-  condition_alike : (o : List Place) (p : Part) (h : Held) (x : Token) (place : ℕ) → in_condition p ≡ true → AlikeCondition o (part_step kinds.Condition threads h p x place) (part_step kinds.Test 0 (with_condition o h) p x place)
-  condition_alike o text.WantsQuantifier h x place i = leads_alike o h (text.quantifier_read x) (quantifier_in x)
-  condition_alike o text.AfterTilde h x place i = leads_alike o h (text.exists_read x) (exists_in x)
-  condition_alike o (text.Proposition q fs used hole) h x place i = fed_alike o h q (condition.feed limits threads fs used hole x)
-  condition_alike o p h x place i = absurd cc
+  condition_alike : (o : List Place) (p : Part) (h : Draft) (x : Token) (offset : ℕ) → in_condition p ≡ true → AlikeCondition o (part_step kinds.Condition threads h p x offset) (part_step kinds.Test 0 (with_condition o h) p x offset)
+  condition_alike o text.WantsQuantifier h x offset i = leads_alike o h (text.quantifier_read x) (quantifier_in x)
+  condition_alike o text.AfterTilde h x offset i = leads_alike o h (text.exists_read x) (exists_in x)
+  condition_alike o (text.Proposition q fs used expected) h x offset i = proposition_alike o h q (condition.proposition_step limits threads fs used expected x)
+  condition_alike o p h x offset i = absurd cc
 
   abbrev IsCondition : List Token → Type 0
   IsCondition = IsConditionText limits threads
@@ -144,7 +144,7 @@ module _ (name : List ℕ) (block : init.Block) (t : table.State) (few : length 
           ⊎ Leaves kinds.Condition threads (with_condition o) text.Done text.Done in_condition (condition_alike o) stages.Tail g text.WantsQuantifier (nothing kinds.Condition) ps s → Begins IsCondition (tokens_of ps)
       by_pass (inl r) = (condition_reading threads few).begins ps _ r.by
       by_pass (inr r) =
-          let d = done_behind kinds.Test 0 (stage_after g (tokens_of r.before)) (with_condition o r.held) r.behind s r.on in
+          let d = done_behind kinds.Test 0 (stage_after g (tokens_of r.before)) (with_condition o r.draft) r.behind s r.on in
           let same : ps ≡ r.before = r.whole ∙ ap (λ (l : List Placed). r.before ++ l) d.0 ∙ append-nil r.before in
           subst (λ (l : List Placed). Begins IsCondition (tokens_of l)) (sym same) ((condition_reading threads few).begins r.before _ r.by)
 
@@ -162,73 +162,73 @@ module _ (name : List ℕ) (block : init.Block) (t : table.State) (few : length 
       let d = ends_done (start kinds.Condition threads) r.0 cut.before end.0 (ap (run (start kinds.Condition threads)) (sym split_so) ∙ r.1) in
       let out : in_condition r.0.part ≡ false = ap in_condition d in
       let m = ends kinds.Condition threads (with_condition o) text.Done text.Done in_condition (condition_alike o) ps stages.Tail text.WantsQuantifier (nothing kinds.Condition) r.0 refl r.1 out in
-      let b = done_behind kinds.Condition threads (stage_after stages.Tail (tokens_of m.before)) m.held m.behind r.0 m.by in
+      let b = done_behind kinds.Condition threads (stage_after stages.Tail (tokens_of m.before)) m.draft m.behind r.0 m.by in
       let same : ps ≡ m.before = m.whole ∙ ap (λ (l : List Placed). m.before ++ l) b.0 ∙ append-nil m.before in
-      let held : r.0.held ≡ m.held = ap (λ (y : State). y.held) b.1 in
-      let q : m.held.quantifier ≡ x.quantifier = ap (λ (y : Held). y.quantifier) (sym held) ∙ r.2 in
-      let a : m.held.formula ≡ meaning x.condition = ap (λ (y : Held). y.formula) (sym held) ∙ r.3 in
+      let draft : r.0.draft ≡ m.draft = ap (λ (y : State). y.draft) b.1 in
+      let q : m.draft.quantifier ≡ x.quantifier = ap (λ (y : Draft). y.quantifier) (sym draft) ∙ r.2 in
+      let a : m.draft.formula ≡ meaning x.condition = ap (λ (y : Draft). y.formula) (sym draft) ∙ r.3 in
       record {
         stage = stage_after g (tokens_of m.before);
         by =
             ap (run (test_at g text.WantsQuantifier (early name block t o))) same ∙ m.led g
-            ∙ ap (λ (y : Quantifier). Ok (test_at (stage_after g (tokens_of m.before)) text.Done (with_all name block t o y m.held.formula))) q
+            ∙ ap (λ (y : Quantifier). Ok (test_at (stage_after g (tokens_of m.before)) text.Done (with_all name block t o y m.draft.formula))) q
             ∙ ap (λ (y : Formula). Ok (test_at (stage_after g (tokens_of m.before)) text.Done (with_all name block t o x.quantifier y))) a;
       }
 
   -- ---- `locations`
 
-  abbrev with_places : Held → Held
+  abbrev with_places : Draft → Draft
   with_places h = early name block t h.observed
 
   abbrev in_list : Part → Bool
   in_list text.WantsList = true
-  in_list (text.Item hole) = true
+  in_list (text.Item expected) = true
   in_list p = false
 
   abbrev AlikeList : Option Next → Option Next → Type 0
   AlikeList a b = Alike with_places text.WantsEnd text.WantsQuantifier in_list a b
 
-  opened_alike : (h : Held) (x : Token) → AlikeList (text.leads h (text.list_opened x)) (text.leads (with_places h) (text.list_opened x))
+  opened_alike : (h : Draft) (x : Token) → AlikeList (text.next_at h (text.list_opened x)) (text.next_at (with_places h) (text.list_opened x))
   opened_alike h (tokens.Mark marks.OpenBracket) = (refl, inl (refl, refl))
   opened_alike h x = tt
 
-  went_alike : (h : Held) (p : Option PlaceStep) → AlikeList (text.item_went h p) (text.item_went (with_places h) p)
-  went_alike h (Some (place_steps.Goes hole)) = (refl, inl (refl, refl))
-  went_alike h (Some (place_steps.Ends w)) = (refl, inl (refl, refl))
-  went_alike h None = tt
+  item_result_alike : (h : Draft) (p : Option PlaceStep) → AlikeList (text.item_result h p) (text.item_result (with_places h) p)
+  item_result_alike h (Some (place_steps.Goes expected)) = (refl, inl (refl, refl))
+  item_result_alike h (Some (place_steps.Ends w)) = (refl, inl (refl, refl))
+  item_result_alike h None = tt
 
-  begun_alike : (h : Held) (x : Token) → AlikeList (text.item_begun threads h x) (text.item_begun threads (with_places h) x)
-  begun_alike h x = choose (is_there threads x)
+  start_alike : (h : Draft) (x : Token) → AlikeList (text.item_start threads h x) (text.item_start threads (with_places h) x)
+  start_alike h x = choose (is_there threads x)
     where
-      choose : (b : Bool) → AlikeList (if b then text.item_went h (place_step places.Begins x) else None) (if b then text.item_went (with_places h) (place_step places.Begins x) else None)
-      choose true = went_alike h (place_step places.Begins x)
+      choose : (b : Bool) → AlikeList (if b then text.item_result h (place_step places.Begins x) else None) (if b then text.item_result (with_places h) (place_step places.Begins x) else None)
+      choose true = item_result_alike h (place_step places.Begins x)
       choose false = tt
 
-  next_alike : (h : Held) (x : Token) → AlikeList (text.next_item kinds.Locations threads h x) (text.next_item kinds.Test threads (with_places h) x)
+  next_alike : (h : Draft) (x : Token) → AlikeList (text.next_item kinds.Locations threads h x) (text.next_item kinds.Test threads (with_places h) x)
   next_alike h (tokens.Mark marks.CloseBracket) = (refl, inr (refl, refl))
-  next_alike h x = begun_alike h x
+  next_alike h x = start_alike h x
 
-  ended_alike : (h : Held) (x : Token) → AlikeList (text.leads h (text.item_ended kinds.Locations x)) (text.leads (with_places h) (text.item_ended kinds.Test x))
+  ended_alike : (h : Draft) (x : Token) → AlikeList (text.next_at h (text.item_ended kinds.Locations x)) (text.next_at (with_places h) (text.item_ended kinds.Test x))
   ended_alike h (tokens.Mark marks.Semicolon) = (refl, inl (refl, refl))
   ended_alike h (tokens.Mark marks.CloseBracket) = (refl, inr (refl, refl))
   ended_alike h x = tt
 
-  list_alike : (p : Part) (h : Held) (x : Token) (place : ℕ) → in_list p ≡ true → AlikeList (part_step kinds.Locations threads h p x place) (part_step kinds.Test 0 (with_places h) p x place)
-  list_alike text.WantsList h x place i = opened_alike h x
-  list_alike (text.Item items.WantsFirst) h x place i = begun_alike h x
-  list_alike (text.Item items.WantsNext) h x place i = next_alike h x
-  list_alike (text.Item (items.Within hole)) h x place i = went_alike h (place_step hole x)
-  list_alike (text.Item items.HasItem) h x place i = ended_alike h x
-  list_alike p h x place i = absurd cc
+  list_alike : (p : Part) (h : Draft) (x : Token) (offset : ℕ) → in_list p ≡ true → AlikeList (part_step kinds.Locations threads h p x offset) (part_step kinds.Test 0 (with_places h) p x offset)
+  list_alike text.WantsList h x offset i = opened_alike h x
+  list_alike (text.Item items.WantsFirst) h x offset i = start_alike h x
+  list_alike (text.Item items.WantsNext) h x offset i = next_alike h x
+  list_alike (text.Item (items.Within expected)) h x offset i = item_result_alike h (place_step expected x)
+  list_alike (text.Item items.HasItem) h x offset i = ended_alike h x
+  list_alike p h x offset i = absurd cc
 
   abbrev IsList : List Token → Type 0
   IsList = IsLocationsText threads
 
-  abbrev begun : Held
-  begun = nothing kinds.Locations
+  abbrev first_draft : Draft
+  first_draft = nothing kinds.Locations
 
   abbrev word_at : ℕ → Placed
-  word_at n = record { token = tokens.Word (codes "locations"); place = n }
+  word_at n = record { token = tokens.Word (codes "locations"); offset = n }
 
   -- some condition
   any_condition : Begins IsCondition []
@@ -246,11 +246,11 @@ module _ (name : List ℕ) (block : init.Block) (t : table.State) (few : length 
       }
 
   -- a list that is read to its end
-  list_text : (ps : List Placed) (n : ℕ) (f : Stage) (h : Held) → run (text_at kinds.Locations threads (after stages.Tail (tokens.Word (codes "locations"))) text.WantsList begun) ps ≡ Ok (text_at kinds.Locations threads f text.WantsEnd h) → (l : Listed PlaceTree) × AreItems threads (members (Some l)) × (tokens_of (word_at n ∷ ps) ≡ spelled_items l [])
+  list_text : (ps : List Placed) (n : ℕ) (f : Stage) (h : Draft) → run (text_at kinds.Locations threads (after stages.Tail (tokens.Word (codes "locations"))) text.WantsList first_draft) ps ≡ Ok (text_at kinds.Locations threads f text.WantsEnd h) → (l : Listed PlaceTree) × AreItems threads (members (Some l)) × (tokens_of (word_at n ∷ ps) ≡ spelled_items l [])
   list_text ps n f h e =
       let all = word_at n ∷ (ps ++ last_at 0 ∷ []) in
-      let done : run (start kinds.Locations threads) all ≡ Ok (text_at kinds.Locations threads (after f tokens.End) text.Done h) = run-append (text_at kinds.Locations threads (after stages.Tail (tokens.Word (codes "locations"))) text.WantsList begun) (text_at kinds.Locations threads f text.WantsEnd h) ps (last_at 0 ∷ []) e in
-      let x = list_whole threads all stages.Tail begun _ done refl in
+      let done : run (start kinds.Locations threads) all ≡ Ok (text_at kinds.Locations threads (after f tokens.End) text.Done h) = run-append (text_at kinds.Locations threads (after stages.Tail (tokens.Word (codes "locations"))) text.WantsList first_draft) (text_at kinds.Locations threads f text.WantsEnd h) ps (last_at 0 ∷ []) e in
+      let x = list_whole threads all stages.Tail first_draft _ done refl in
       by_items x.items x.fine (sym (ap (λ (l : List Token). tokens.Word (codes "locations") ∷ l) (tokens_of-append ps (last_at 0 ∷ []))) ∙ x.whole)
     where
       by_items : (o : Option (Listed PlaceTree)) → AreItems threads (members o) → tokens_of (word_at n ∷ ps) ++ tokens.End ∷ [] ≡ spelled_observed o (tokens.End ∷ []) → (l : Listed PlaceTree) × AreItems threads (members (Some l)) × (tokens_of (word_at n ∷ ps) ≡ spelled_items l [])
@@ -258,7 +258,7 @@ module _ (name : List ℕ) (block : init.Block) (t : table.State) (few : length 
       by_items (Some l) fine k = (l, fine, unsnoc (tokens_of (word_at n ∷ ps)) (spelled_items l []) tokens.End tokens.End (k ∙ sym (items-append l [] (tokens.End ∷ []))))
 
   list_begins : (ps : List Placed) (n : ℕ) (g : Stage) (s : State) → run (test_at g text.WantsList (early name block t [])) ps ≡ Ok s → Begins (IsTail threads) (tokens_of (word_at n ∷ ps))
-  list_begins ps n g s e = by_pass (passes kinds.Locations threads with_places text.WantsEnd text.WantsQuantifier in_list list_alike ps (after stages.Tail (tokens.Word (codes "locations"))) g text.WantsList begun s refl e)
+  list_begins ps n g s e = by_pass (passes kinds.Locations threads with_places text.WantsEnd text.WantsQuantifier in_list list_alike ps (after stages.Tail (tokens.Word (codes "locations"))) g text.WantsList first_draft s refl e)
     where
       ts : List Token
       ts = tokens_of (word_at n ∷ ps)
@@ -266,7 +266,7 @@ module _ (name : List ℕ) (block : init.Block) (t : table.State) (few : length 
       c : List Token
       c = any_condition.rest
 
-      by_rest : (h : Held) (p : Part) (f : Stage) → in_list p ≡ true → run (start kinds.Locations threads) (word_at n ∷ ps) ≡ Ok (text_at kinds.Locations threads f p h) → (l : Listed PlaceTree) → AreItems threads (members (Some l)) → (rest : List Token) → Rest ts rest (spelled_items l []) tokens.End → Begins (IsTail threads) ts
+      by_rest : (h : Draft) (p : Part) (f : Stage) → in_list p ≡ true → run (start kinds.Locations threads) (word_at n ∷ ps) ≡ Ok (text_at kinds.Locations threads f p h) → (l : Listed PlaceTree) → AreItems threads (members (Some l)) → (rest : List Token) → Rest ts rest (spelled_items l []) tokens.End → Begins (IsTail threads) ts
       by_rest h p f i r l fine rest (Nothing k) =
           let cut = split (word_at n ∷ ps) (spelled_items l []) (tokens.End ∷ []) k in
           let end = single cut.behind tokens.End cut.are_behind in
@@ -274,18 +274,18 @@ module _ (name : List ℕ) (block : init.Block) (t : table.State) (few : length 
           absurd (let no : true ≡ false = sym i ∙ ap in_list d in cc)
       by_rest h p f i r l fine rest (More more k m) = record { rest = more ++ c; text = subst (IsTail threads) (append_assoc ts more c) (tail_of (ts ++ more) l c fine m any_condition.text) }
 
-      by_items : (h : Held) (p : Part) (f : Stage) → in_list p ≡ true → run (start kinds.Locations threads) (word_at n ∷ ps) ≡ Ok (text_at kinds.Locations threads f p h) → (o : Option (Listed PlaceTree)) → AreItems threads (members o) → (rest : List Token) → ts ++ rest ≡ spelled_observed o (tokens.End ∷ []) → Begins (IsTail threads) ts
+      by_items : (h : Draft) (p : Part) (f : Stage) → in_list p ≡ true → run (start kinds.Locations threads) (word_at n ∷ ps) ≡ Ok (text_at kinds.Locations threads f p h) → (o : Option (Listed PlaceTree)) → AreItems threads (members o) → (rest : List Token) → ts ++ rest ≡ spelled_observed o (tokens.End ∷ []) → Begins (IsTail threads) ts
       by_items h p f i r None fine rest k = absurd cc
       by_items h p f i r (Some l) fine rest k = by_rest h p f i r l fine rest (rest_of ts rest (spelled_items l []) tokens.End (k ∙ sym (items-append l [] (tokens.End ∷ []))))
 
-      by_pass : Stays kinds.Locations threads with_places text.WantsEnd text.WantsQuantifier in_list list_alike (after stages.Tail (tokens.Word (codes "locations"))) g text.WantsList begun ps s
-          ⊎ Leaves kinds.Locations threads with_places text.WantsEnd text.WantsQuantifier in_list list_alike (after stages.Tail (tokens.Word (codes "locations"))) g text.WantsList begun ps s → Begins (IsTail threads) (tokens_of (word_at n ∷ ps))
+      by_pass : Stays kinds.Locations threads with_places text.WantsEnd text.WantsQuantifier in_list list_alike (after stages.Tail (tokens.Word (codes "locations"))) g text.WantsList first_draft ps s
+          ⊎ Leaves kinds.Locations threads with_places text.WantsEnd text.WantsQuantifier in_list list_alike (after stages.Tail (tokens.Word (codes "locations"))) g text.WantsList first_draft ps s → Begins (IsTail threads) (tokens_of (word_at n ∷ ps))
       by_pass (inl r) =
           let b = (list_reading threads few).begins (word_at n ∷ ps) _ r.by in
-          by_items r.held r.part _ r.inside r.by b.text.items b.text.fine b.rest b.text.whole
+          by_items r.draft r.part _ r.inside r.by b.text.items b.text.fine b.rest b.text.whole
       by_pass (inr r) =
-          let l = list_text r.before n _ r.held r.by in
-          let b = condition_begins r.held.observed r.behind _ s r.on in
+          let l = list_text r.before n _ r.draft r.by in
+          let b = condition_begins r.draft.observed r.behind _ s r.on in
           let us = tokens_of (word_at n ∷ r.before) in
           let same : ts ≡ us ++ tokens_of r.behind = ap (λ (y : List Placed). tokens_of (word_at n ∷ y)) r.whole ∙ ap (λ (y : List Token). tokens.Word (codes "locations") ∷ y) (tokens_of-append r.before r.behind) in
           record {
@@ -295,11 +295,11 @@ module _ (name : List ℕ) (block : init.Block) (t : table.State) (few : length 
 
   -- ---- all that stands there
 
-  abbrev there : Held
+  abbrev there : Draft
   there = early name block t []
 
   abbrev first_step : Stage → Part → Placed → List Placed → Option Next → Ran
-  first_step g p q ps o = and_then (placed q.place (stepped (test_at g p there) q.token o)) (λ x. run x ps)
+  first_step g p q ps o = and_then (placed q.offset (stepped (test_at g p there) q.token o)) (λ x. run x ps)
 
   same_step : (g : Stage) (a b : Part) (q : Placed) (ps : List Placed) (o : Option Next) (s : State) → first_step g a q ps o ≡ Ok s → first_step g b q ps o ≡ Ok s
   same_step g a b q ps None s e = absurd cc
@@ -314,21 +314,21 @@ module _ (name : List ℕ) (block : init.Block) (t : table.State) (few : length 
   pub any_tail : Begins (IsTail threads) []
   any_tail = of_condition [] any_condition
 
-  pub tail_begins : (q : Placed) (ps : List Placed) (g : Stage) (s : State) → first_step g text.Rows q ps (text.leads there (text.tail_begun q.token)) ≡ Ok s → Begins (IsTail threads) (tokens_of (q ∷ ps))
-  tail_begins q ps g s e = by_token q.token q.place e
+  pub tail_begins : (q : Placed) (ps : List Placed) (g : Stage) (s : State) → first_step g text.Rows q ps (text.next_at there (text.tail_start q.token)) ≡ Ok s → Begins (IsTail threads) (tokens_of (q ∷ ps))
+  tail_begins q ps g s e = by_token q.token q.offset e
     where
-      by_word : (w : List ℕ) (n : ℕ) (b : Bool) → bytes_eq w (codes "locations") ≡ b → first_step g text.Rows (record { token = tokens.Word w; place = n }) ps (text.leads there (if b then Some text.WantsList else text.quantifier_read (tokens.Word w))) ≡ Ok s → Begins (IsTail threads) (tokens.Word w ∷ tokens_of ps)
+      by_word : (w : List ℕ) (n : ℕ) (b : Bool) → bytes_eq w (codes "locations") ≡ b → first_step g text.Rows (record { token = tokens.Word w; offset = n }) ps (text.next_at there (if b then Some text.WantsList else text.quantifier_read (tokens.Word w))) ≡ Ok s → Begins (IsTail threads) (tokens.Word w ∷ tokens_of ps)
       by_word w n true c k =
           let same : codes "locations" ≡ w = sym ((bytes_eq-Decides w (codes "locations")).0 c) in
           subst (λ (x : List ℕ). Begins (IsTail threads) (tokens.Word x ∷ tokens_of ps)) same (list_begins ps n (after g (tokens.Word w)) s k)
       by_word w n false c k =
-          let p : Placed = record { token = tokens.Word w; place = n } in
-          of_condition (tokens_of (p ∷ ps)) (condition_begins [] (p ∷ ps) g s (same_step g text.Rows text.WantsQuantifier p ps (text.leads there (text.quantifier_read (tokens.Word w))) s k))
+          let p : Placed = record { token = tokens.Word w; offset = n } in
+          of_condition (tokens_of (p ∷ ps)) (condition_begins [] (p ∷ ps) g s (same_step g text.Rows text.WantsQuantifier p ps (text.next_at there (text.quantifier_read (tokens.Word w))) s k))
 
-      by_token : (x : Token) (n : ℕ) → first_step g text.Rows (record { token = x; place = n }) ps (text.leads there (text.tail_begun x)) ≡ Ok s → Begins (IsTail threads) (x ∷ tokens_of ps)
+      by_token : (x : Token) (n : ℕ) → first_step g text.Rows (record { token = x; offset = n }) ps (text.next_at there (text.tail_start x)) ≡ Ok s → Begins (IsTail threads) (x ∷ tokens_of ps)
       by_token (tokens.Word w) n k = by_word w n (bytes_eq w (codes "locations")) refl k
       by_token (tokens.Mark marks.Tilde) n k =
-          let p : Placed = record { token = tokens.Mark marks.Tilde; place = n } in
+          let p : Placed = record { token = tokens.Mark marks.Tilde; offset = n } in
           of_condition (tokens_of (p ∷ ps)) (condition_begins [] (p ∷ ps) g s k)
       by_token x n k = absurd cc
 
@@ -346,10 +346,10 @@ module _ (name : List ℕ) (block : init.Block) (t : table.State) (few : length 
       ap (λ (y : List Token). tokens.Word (codes "locations") ∷ y) (tokens_of-append ps (last_at 0 ∷ [])) ∙ ap (λ (y : List Token). y ++ tokens.End ∷ []) e ∙ items-append l [] (tokens.End ∷ []) in
       let r = list_taken threads few all (record { items = Some l; fine = fine; whole = whole }) in
       let d = ends_done (start kinds.Locations threads) r.0 (word_at n ∷ ps) 0 r.1 in
-      let m = ends kinds.Locations threads with_places text.WantsEnd text.WantsQuantifier in_list list_alike (ps ++ last_at 0 ∷ []) (after stages.Tail (tokens.Word (codes "locations"))) text.WantsList begun r.0 refl r.1 (ap in_list d) in
-      let b = end_behind kinds.Locations threads (stage_after (after stages.Tail (tokens.Word (codes "locations"))) (tokens_of m.before)) m.held m.behind r.0 m.by d in
+      let m = ends kinds.Locations threads with_places text.WantsEnd text.WantsQuantifier in_list list_alike (ps ++ last_at 0 ∷ []) (after stages.Tail (tokens.Word (codes "locations"))) text.WantsList first_draft r.0 refl r.1 (ap in_list d) in
+      let b = end_behind kinds.Locations threads (stage_after (after stages.Tail (tokens.Word (codes "locations"))) (tokens_of m.before)) m.draft m.behind r.0 m.by d in
       let same : ps ≡ m.before = unsnoc_placed ps m.before (last_at 0) (last_at b.0) (m.whole ∙ ap (λ (y : List Placed). m.before ++ y) b.1) in
-      let o : m.held.observed ≡ map place_meaning (members (Some l)) = ap (λ (y : Held). y.observed) (sym b.2) ∙ r.2 in
+      let o : m.draft.observed ≡ map place_meaning (members (Some l)) = ap (λ (y : Draft). y.observed) (sym b.2) ∙ r.2 in
       record {
         stage = stage_after g (tokens_of m.before);
         by =
@@ -358,16 +358,16 @@ module _ (name : List ℕ) (block : init.Block) (t : table.State) (few : length 
       }
 
   module _ (row : table.is_row_start t ≡ true) where
-    row_first : (q : Placed) (ps : List Placed) (g : Stage) → begins_tail q.token ≡ true → run (test_at g text.Rows there) (q ∷ ps) ≡ first_step g text.Rows q ps (text.leads there (text.tail_begun q.token))
+    row_first : (q : Placed) (ps : List Placed) (g : Stage) → begins_tail q.token ≡ true → run (test_at g text.Rows there) (q ∷ ps) ≡ first_step g text.Rows q ps (text.next_at there (text.tail_start q.token))
     row_first q ps g e =
-        ap (λ (b : Bool). first_step g text.Rows q ps (if b && begins_tail q.token then text.leads there (text.tail_begun q.token) else text.table_went there text.Rows (table.step t q.token q.place))) row
-        ∙ ap (λ (b : Bool). first_step g text.Rows q ps (if b then text.leads there (text.tail_begun q.token) else text.table_went there text.Rows (table.step t q.token q.place))) e
+        ap (λ (b : Bool). first_step g text.Rows q ps (if b && begins_tail q.token then text.next_at there (text.tail_start q.token) else text.table_result there text.Rows (table.step t q.token q.offset))) row
+        ∙ ap (λ (b : Bool). first_step g text.Rows q ps (if b then text.next_at there (text.tail_start q.token) else text.table_result there text.Rows (table.step t q.token q.offset))) e
 
-    first_token : (x : Token) (n : ℕ) (ps : List Placed) (g : Stage) (p : Part) → begins_tail x ≡ true → text.tail_begun x ≡ Some p → text.quantifier_read x ≡ Some p → run (test_at g text.Rows there) (record { token = x; place = n } ∷ ps) ≡ run (test_at g text.WantsQuantifier there) (record { token = x; place = n } ∷ ps)
+    first_token : (x : Token) (n : ℕ) (ps : List Placed) (g : Stage) (p : Part) → begins_tail x ≡ true → text.tail_start x ≡ Some p → text.quantifier_read x ≡ Some p → run (test_at g text.Rows there) (record { token = x; offset = n } ∷ ps) ≡ run (test_at g text.WantsQuantifier there) (record { token = x; offset = n } ∷ ps)
     first_token x n ps g p e k m =
-        let q : Placed = record { token = x; place = n } in
-        row_first q ps g e ∙ ap (λ (o : Option Part). first_step g text.Rows q ps (text.leads there o)) k ∙ same_step_back g text.Rows text.WantsQuantifier q ps (record { part = p; held = there })
-        ∙ ap (λ (o : Option Part). first_step g text.WantsQuantifier q ps (text.leads there o)) (sym m)
+        let q : Placed = record { token = x; offset = n } in
+        row_first q ps g e ∙ ap (λ (o : Option Part). first_step g text.Rows q ps (text.next_at there o)) k ∙ same_step_back g text.Rows text.WantsQuantifier q ps (record { part = p; draft = there })
+        ∙ ap (λ (o : Option Part). first_step g text.WantsQuantifier q ps (text.next_at there o)) (sym m)
 
     quantifier_first : (q : Quantifier) (ps : List Placed) (ts : List Token) (g : Stage) → tokens_of ps ≡ spelled_quantifier q ts → run (test_at g text.Rows there) ps ≡ run (test_at g text.WantsQuantifier there) ps
     quantifier_first Exists [] ts g e = absurd cc
@@ -375,16 +375,16 @@ module _ (name : List ℕ) (block : init.Block) (t : table.State) (few : length 
     quantifier_first Forall [] ts g e = absurd cc
     quantifier_first Exists (p ∷ ps) ts g e =
         let x : tokens.Word (codes "exists") ≡ p.token = cc in
-        subst (λ (y : Token). run (test_at g text.Rows there) (record { token = y; place = p.place } ∷ ps) ≡ run (test_at g text.WantsQuantifier there) (record { token = y; place = p.place } ∷ ps)) x
-        (first_token (tokens.Word (codes "exists")) p.place ps g (text.proposition Exists) refl refl refl)
+        subst (λ (y : Token). run (test_at g text.Rows there) (record { token = y; offset = p.offset } ∷ ps) ≡ run (test_at g text.WantsQuantifier there) (record { token = y; offset = p.offset } ∷ ps)) x
+        (first_token (tokens.Word (codes "exists")) p.offset ps g (text.proposition Exists) refl refl refl)
     quantifier_first Forall (p ∷ ps) ts g e =
         let x : tokens.Word (codes "forall") ≡ p.token = cc in
-        subst (λ (y : Token). run (test_at g text.Rows there) (record { token = y; place = p.place } ∷ ps) ≡ run (test_at g text.WantsQuantifier there) (record { token = y; place = p.place } ∷ ps)) x
-        (first_token (tokens.Word (codes "forall")) p.place ps g (text.proposition Forall) refl refl refl)
+        subst (λ (y : Token). run (test_at g text.Rows there) (record { token = y; offset = p.offset } ∷ ps) ≡ run (test_at g text.WantsQuantifier there) (record { token = y; offset = p.offset } ∷ ps)) x
+        (first_token (tokens.Word (codes "forall")) p.offset ps g (text.proposition Forall) refl refl refl)
     quantifier_first NotExists (p ∷ ps) ts g e =
         let x : tokens.Mark marks.Tilde ≡ p.token = cc in
-        subst (λ (y : Token). run (test_at g text.Rows there) (record { token = y; place = p.place } ∷ ps) ≡ run (test_at g text.WantsQuantifier there) (record { token = y; place = p.place } ∷ ps)) x
-        (first_token (tokens.Mark marks.Tilde) p.place ps g text.AfterTilde refl refl refl)
+        subst (λ (y : Token). run (test_at g text.Rows there) (record { token = y; offset = p.offset } ∷ ps) ≡ run (test_at g text.WantsQuantifier there) (record { token = y; offset = p.offset } ∷ ps)) x
+        (first_token (tokens.Mark marks.Tilde) p.offset ps g text.AfterTilde refl refl refl)
 
     pub record TakesTail (ps : List Placed) (o : Option (Listed PlaceTree)) (q : Quantifier) (a : Formula) (g : Stage) : Type 0 where
       pub stage : Stage
@@ -394,15 +394,15 @@ module _ (name : List ℕ) (block : init.Block) (t : table.State) (few : length 
     list_first l [] behind g q a fine f e k = absurd cc
     list_first l (p ∷ before) behind g q a fine f e k =
         let x : tokens.Word (codes "locations") ≡ p.token = cc in
-        let same : word_at p.place ≡ p = ap (λ (y : Token). record { token = y; place = p.place }) x in
+        let same : word_at p.offset ≡ p = ap (λ (y : Token). record { token = y; offset = p.offset }) x in
         let g' = after g (tokens.Word (codes "locations")) in
-        let r = list_led l p.place before g' fine (ap (λ (y : Placed). tokens_of (y ∷ before)) same ∙ e) in
+        let r = list_led l p.offset before g' fine (ap (λ (y : Placed). tokens_of (y ∷ before)) same ∙ e) in
         let c = condition_led (map place_meaning (members (Some l))) behind r.stage (record { quantifier = q; condition = a; fine = f; whole = k }) in
         record {
           stage = c.stage;
           by =
               ap (λ (y : Placed). run (test_at g text.Rows there) (y ∷ (before ++ behind))) (sym same)
-              ∙ row_first (word_at p.place) (before ++ behind) g refl
+              ∙ row_first (word_at p.offset) (before ++ behind) g refl
               ∙ run-append (test_at g' text.WantsList there) (test_at r.stage text.WantsQuantifier (early name block t (map place_meaning (members (Some l))))) before behind r.by
               ∙ c.by;
         }

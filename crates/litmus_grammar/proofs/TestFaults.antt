@@ -3,6 +3,7 @@ use Rattle.std.proofs.Common.{◌≡◌, ℕ, zero, suc, ◌+◌, ◌<◌, ◌�
 use Rattle.std.specs.Prelude.{◌&&◌, ◌||◌, codes, if◌then◌else◌}
 use Rattle.std.specs.Str.{bytes_eq}
 use Rattle.std.proofs.lemmas.List.{length-append}
+use Rattle.std.proofs.lemmas.Bool.{and_parts}
 use Rattle.litmus_tokens.specs.declared.rule.LitmusRule.{LitmusRule}
 use Rattle.litmus_tokens.specs.declared.stage.Stage.{Stage}
 use Rattle.litmus_tokens.specs.declared.stage.Stage.TheVariants as stages
@@ -15,16 +16,14 @@ use Rattle.litmus_tokens.specs.Texts.{Placed, tokens_of, stage_after, begins_tai
 use Rattle.litmus_tokens.specs.Words.{is_test_name}
 use Rattle.litmus_values.specs.declared.test.Quantifier.TheVariants.{Exists, Forall}
 use Rattle.litmus_conditions.specs.Grammar.{PlaceTree, Location, Register, ValueTree, Number, Address, spelled_place, spelled_value}
-use Rattle.litmus_table.specs.Laws as laws
 use Rattle.litmus_table.specs.Laws.{IsInCell, stands, is_taken}
 use Rattle.litmus_table.specs.Machine as table
 use Rattle.litmus_table.proofs.Rules.{rules_given}
-use Rattle.litmus_table.proofs.Tests.{both}
 use Rattle.litmus_grammar.specs.declared.parts.TextKind.TheVariants as kinds
 use Rattle.litmus_grammar.specs.Grammar.{Listed, EntryTree, spelled_entry, spelled_others, spelled_listed, spelled_init, members, AreEntries, IsInitText, spelled_text, spelled_keylines}
 use Rattle.litmus_grammar.specs.InitMachine as init
 use Rattle.litmus_grammar.specs.TextMachine as text
-use Rattle.litmus_grammar.specs.TextMachine.{Part, Held, Next, State, Ran, placed, and_then, stepped, part_step, start, run, rule_at}
+use Rattle.litmus_grammar.specs.TextMachine.{Part, Draft, Next, State, Ran, placed, and_then, stepped, part_step, start, run, rule_at}
 use Rattle.litmus_grammar.specs.Texts.{is_init, spelled_colon, IsBrokenOff, IsWhole, BreaksOff}
 use Rattle.litmus_grammar.proofs.Blocks.{IsBody, Opened, IsOne, IsBroken, brace_at, block_at, block_begins, body_of}
 use Rattle.litmus_grammar.proofs.Bodies.{any_header}
@@ -42,8 +41,8 @@ use Rattle.litmus_grammar.proofs.Threads.{says_so}
 abbrev bracket : Token
 bracket = tokens.Mark marks.OpenBracket
 
-abbrev begun : State
-begun = start kinds.Test 0
+abbrev first_draft : State
+first_draft = start kinds.Test 0
 
 -- ---- within the entries no token leads out of the init block
 
@@ -174,8 +173,8 @@ module _ (name : List ℕ) (i : is_test_name name ≡ true) (t : Bool) (k : ℕ)
       let e = x.entry.text in
       broken_by e.entries e.fine (rest_of (x.before ++ bracket ∷ []) x.entry.rest (spelled_init e.entries []) tokens.End (e.whole ∙ sym (init-append e.entries [] (tokens.End ∷ []))))
 
-begun_of : (ts : List Token) → IsHeaded IsBodyStart AnyState any_start start_from ts → IsBegun ts
-begun_of ts x = by_body x.head.3
+start_of : (ts : List Token) → IsHeaded IsBodyStart AnyState any_start start_from ts → IsBegun ts
+start_of ts x = by_body x.head.3
   where
     same : ts ≡ head_of x.name x.head.0 x.head.1 x.head.2
     same = x.whole ∙ ap (λ (l : List Token). tokens.Word (codes "PPC") ∷ tokens.Word x.name ∷ tokens.LineEnd ∷ l) x.head.4
@@ -185,15 +184,15 @@ begun_of ts x = by_body x.head.3
     by_body (inr b) = subst IsBegun (sym same) (BreaksOff (broken_of x.name x.is_name x.head.0 x.head.1 x.head.2 b))
 
 -- what is taken begins a test, or a text that is broken off
-pub test_begins : (ps : List Placed) (s : State) → length ps < 18446744073709551616 → run begun ps ≡ Ok s → Begins IsBegun (tokens_of ps)
+pub test_begins : (ps : List Placed) (s : State) → length ps < 18446744073709551616 → run first_draft ps ≡ Ok s → Begins IsBegun (tokens_of ps)
 test_begins ps s few e =
     let b = magic IsBodyStart AnyState any_start start_from ps stages.Magic s few e tt in
-    record { rest = b.rest; text = begun_of (tokens_of ps ++ b.rest) b.text }
+    record { rest = b.rest; text = start_of (tokens_of ps ++ b.rest) b.text }
 
 -- ---- the rule that a refused token breaks
 
 -- a token of the table goes on, or ends it
-begins_goes : (t : Token) → begins_tail t ≡ true → text.tail_begun t ≡ None → ⊥
+begins_goes : (t : Token) → begins_tail t ≡ true → text.tail_start t ≡ None → ⊥
 begins_goes (tokens.Word w) e n = choose (bytes_eq w (codes "locations")) (bytes_eq w (codes "exists")) (bytes_eq w (codes "forall")) e n
   where
     choose : (a b c : Bool) → (a || b || c) ≡ true → (if a then Some text.WantsList else (if b then Some (text.proposition Exists) else (if c then Some (text.proposition Forall) else None))) ≡ None → ⊥
@@ -204,13 +203,13 @@ begins_goes (tokens.Word w) e n = choose (bytes_eq w (codes "locations")) (bytes
 begins_goes (tokens.Mark marks.Tilde) e n = absurd cc
 begins_goes t e n = absurd cc
 
-none_led : (h : Held) (o : Option Part) → text.leads h o ≡ None → o ≡ None
+none_led : (h : Draft) (o : Option Part) → text.next_at h o ≡ None → o ≡ None
 none_led h None e = refl
 none_led h (Some p) e = absurd cc
 
-none_went : (h : Held) (o : Option table.State) → text.table_went h text.Rows o ≡ None → is_taken o ≡ false
-none_went h None e = refl
-none_went h (Some u) e = absurd cc
+none_result : (h : Draft) (o : Option table.State) → text.table_result h text.Rows o ≡ None → is_taken o ≡ false
+none_result h None e = refl
+none_result h (Some u) e = absurd cc
 
 neither : (a b : Bool) → a ≡ false → b ≡ false → (a || b) ≡ false
 neither false false e f = refl
@@ -225,24 +224,24 @@ not_taken : (o : Option table.State) → is_taken o ≡ false → o ≡ None
 not_taken None e = refl
 not_taken (Some u) e = absurd cc
 
-module _ (h : Held) (t : Token) where
+module _ (h : Draft) (t : Token) where
   abbrev ends_row : Bool
   ends_row = table.is_row_start h.table && begins_tail t
 
   stops_where : text.row_read h t 0 ≡ None → stands false h.table t ≡ false
   stops_where none = choose ends_row refl none
     where
-      choose : (b : Bool) → ends_row ≡ b → (if b then text.leads h (text.tail_begun t) else text.table_went h text.Rows (table.step h.table t 0)) ≡ None → stands false h.table t ≡ false
-      choose true e k = absurd (begins_goes t (both (table.is_row_start h.table) (begins_tail t) e).1 (none_led h (text.tail_begun t) k))
-      choose false e k = neither (is_taken (table.step h.table t 0)) (table.is_row_start h.table && begins_tail t) (none_went h (table.step h.table t 0) k) e
+      choose : (b : Bool) → ends_row ≡ b → (if b then text.next_at h (text.tail_start t) else text.table_result h text.Rows (table.step h.table t 0)) ≡ None → stands false h.table t ≡ false
+      choose true e k = absurd (begins_goes t (and_parts (table.is_row_start h.table) (begins_tail t) e).1 (none_led h (text.tail_start t) k))
+      choose false e k = neither (is_taken (table.step h.table t 0)) (table.is_row_start h.table && begins_tail t) (none_result h (table.step h.table t 0) k) e
 
   stuck : stands false h.table t ≡ false → text.row_read h t 0 ≡ None
   stuck e =
       let x = first_false (is_taken (table.step h.table t 0)) (table.is_row_start h.table && begins_tail t) e in
-      ap (λ (b : Bool). if b then text.leads h (text.tail_begun t) else text.table_went h text.Rows (table.step h.table t 0)) x.1
-      ∙ ap (text.table_went h text.Rows) (not_taken (table.step h.table t 0) x.0)
+      ap (λ (b : Bool). if b then text.next_at h (text.tail_start t) else text.table_result h text.Rows (table.step h.table t 0)) x.1
+      ∙ ap (text.table_result h text.Rows) (not_taken (table.step h.table t 0) x.0)
 
-module _ (ps : List Placed) (few : length ps + 1 < 18446744073709551616) (g : Stage) (h : Held) (reached : run begun ps ≡ Ok (test_at g text.Rows h)) where
+module _ (ps : List Placed) (few : length ps + 1 < 18446744073709551616) (g : Stage) (h : Draft) (reached : run first_draft ps ≡ Ok (test_at g text.Rows h)) where
   abbrev Can : Token → Type 0
   Can t = CanFollow IsBegun (tokens_of ps) t
 
@@ -251,9 +250,9 @@ module _ (ps : List Placed) (few : length ps + 1 < 18446744073709551616) (g : St
 
   goes : (t : Token) (n : Next) → text.row_read h t 0 ≡ Some n → Can t
   goes t n e =
-      let p : Placed = record { token = t; place = 0 } in
+      let p : Placed = record { token = t; offset = 0 } in
       let many : length (ps ++ p ∷ []) ≡ length ps + 1 = length-append ps (p ∷ []) in
-      subst (Begins IsBegun) (tokens_of-append ps (p ∷ [])) (test_begins (ps ++ p ∷ []) (went there t n) (let l : length (ps ++ p ∷ []) < 18446744073709551616 = omega (arith, many, few) in l) (run_one begun there ps p n reached e))
+      subst (Begins IsBegun) (tokens_of-append ps (p ∷ [])) (test_begins (ps ++ p ∷ []) (went there t n) (let l : length (ps ++ p ∷ []) < 18446744073709551616 = omega (arith, many, few) in l) (run_one first_draft there ps p n reached e))
 
   can_by : (t : Token) → stands false h.table t ≡ true → Can t
   can_by t e = choose (text.row_read h t 0) refl
@@ -262,8 +261,8 @@ module _ (ps : List Placed) (few : length ps + 1 < 18446744073709551616) (g : St
       choose (Some n) q = goes t n q
       choose None q = absurd (let no : true ≡ false = sym e ∙ stops_where h t q in cc)
 
-  can_not : (t : Token) (place : ℕ) → text.row_read h t place ≡ None → Can t → ⊥
-  can_not t place none c = test_refused ps there (record { token = t; place = place }) few reached none c
+  can_not : (t : Token) (offset : ℕ) → text.row_read h t offset ≡ None → Can t → ⊥
+  can_not t offset none c = test_refused ps there (record { token = t; offset = offset }) few reached none c
 
   by_can : (t : Token) → Can t → stands false h.table t ≡ true
   by_can t c = choose (stands false h.table t) refl
@@ -272,15 +271,15 @@ module _ (ps : List Placed) (few : length ps + 1 < 18446744073709551616) (g : St
       choose true e = e
       choose false e = absurd (can_not t 0 (stuck h t e) c)
 
-  out : (t : Token) (place : ℕ) → text.row_read h t place ≡ None → stands false h.table t ≡ false
-  out t place none = choose (stands false h.table t) refl
+  out : (t : Token) (offset : ℕ) → text.row_read h t offset ≡ None → stands false h.table t ≡ false
+  out t offset none = choose (stands false h.table t) refl
     where
       choose : (b : Bool) → stands false h.table t ≡ b → stands false h.table t ≡ false
-      choose true e = absurd (can_not t place none (can_by t e))
+      choose true e = absurd (can_not t offset none (can_by t e))
       choose false e = e
 
-  cell_says : (f : Stage) (t : Token) (place : ℕ) → IsInCell f → text.row_read h t place ≡ None → Says Can f (cell_ruling f t) (table.rule_at false h.table t)
-  cell_says f t place i none = says_so (λ x. stands false h.table x ≡ true) Can f (cell_ruling f t) (table.rule_at false h.table t) can_by by_can (rules_given false h.table f t i (out t place none))
+  cell_says : (f : Stage) (t : Token) (offset : ℕ) → IsInCell f → text.row_read h t offset ≡ None → Says Can f (cell_ruling f t) (table.rule_at false h.table t)
+  cell_says f t offset i none = says_so (λ x. stands false h.table x ≡ true) Can f (cell_ruling f t) (table.rule_at false h.table t) can_by by_can (rules_given false h.table f t i (out t offset none))
 
 by_stage : (C : Token → Type 0) (u : table.State) (g : Stage) (t : Token) → IsInCell g → Says C g (cell_ruling g t) (table.rule_at false u t) → Says C g (ruling g t) (rule_at kinds.Test u g t)
 by_stage C u stages.CellBegins (tokens.Broken rule) i x = refl
@@ -322,18 +321,18 @@ module _ (C : Token → Type 0) (u : table.State) where
   header_says k (tokens.Word w) = refl
   header_says k t = refl
 
-module _ (ps : List Placed) (few : length ps + 1 < 18446744073709551616) (g : Stage) (p : Part) (h : Held) (reached : run begun ps ≡ Ok (test_at g p h)) (t : Token) (place : ℕ) where
+module _ (ps : List Placed) (few : length ps + 1 < 18446744073709551616) (g : Stage) (p : Part) (h : Draft) (reached : run first_draft ps ≡ Ok (test_at g p h)) (t : Token) (offset : ℕ) where
   abbrev Follows : Token → Type 0
   Follows x = CanFollow IsBegun (tokens_of ps) x
 
-  rows_say : (f : Stage) → IsInCell f → AgreesRows f p h.table.hole → part_step kinds.Test 0 h p t place ≡ None → Says Follows f (ruling f t) (rule_at kinds.Test h.table f t)
+  rows_say : (f : Stage) → IsInCell f → AgreesRows f p h.table.expected → part_step kinds.Test 0 h p t offset ≡ None → Says Follows f (ruling f t) (rule_at kinds.Test h.table f t)
   rows_say f i a none = by_part p reached a none
     where
-      by_part : (q : Part) → run begun ps ≡ Ok (test_at g q h) → AgreesRows f q h.table.hole → part_step kinds.Test 0 h q t place ≡ None → Says Follows f (ruling f t) (rule_at kinds.Test h.table f t)
-      by_part text.Rows r b n = by_stage Follows h.table f t i (cell_says ps few g h r f t place i n)
+      by_part : (q : Part) → run first_draft ps ≡ Ok (test_at g q h) → AgreesRows f q h.table.expected → part_step kinds.Test 0 h q t offset ≡ None → Says Follows f (ruling f t) (rule_at kinds.Test h.table f t)
+      by_part text.Rows r b n = by_stage Follows h.table f t i (cell_says ps few g h r f t offset i n)
       by_part q r b n = absurd b
 
-  all_say : (f : Stage) → Agrees f p h.table.hole → part_step kinds.Test 0 h p t place ≡ None → Says Follows f (ruling f t) (rule_at kinds.Test h.table f t)
+  all_say : (f : Stage) → Agrees f p h.table.expected → part_step kinds.Test 0 h p t offset ≡ None → Says Follows f (ruling f t) (rule_at kinds.Test h.table f t)
   all_say stages.Magic a none = magic_says Follows h.table t
   all_say stages.Title a none = title_says Follows h.table t
   all_say stages.TitleEnd a none = title_end_says Follows h.table t
@@ -344,13 +343,13 @@ module _ (ps : List Placed) (few : length ps + 1 < 18446744073709551616) (g : St
   all_say stages.InCell a none = rows_say stages.InCell tt a none
   all_say stages.Tail a none = tail_says Follows kinds.Test h.table t
 
-pub test_says : (ps : List Placed) (s : State) (t : Token) (place : ℕ) → length ps + 1 < 18446744073709551616 → run begun ps ≡ Ok s → part_step s.kind s.threads s.held s.part t place ≡ None
-    → Says (CanFollow IsBegun (tokens_of ps)) (stage_after stages.Magic (tokens_of ps)) (ruling (stage_after stages.Magic (tokens_of ps)) t) (rule_at s.kind s.held.table s.stage t)
-test_says ps s t place few e none =
+pub test_says : (ps : List Placed) (s : State) (t : Token) (offset : ℕ) → length ps + 1 < 18446744073709551616 → run first_draft ps ≡ Ok s → part_step s.kind s.threads s.draft s.part t offset ≡ None
+    → Says (CanFollow IsBegun (tokens_of ps)) (stage_after stages.Magic (tokens_of ps)) (ruling (stage_after stages.Magic (tokens_of ps)) t) (rule_at s.kind s.draft.table s.stage t)
+test_says ps s t offset few e none =
     let y = stood ps s e in
     let g = stage_after stages.Magic (tokens_of ps) in
-    let still : part_step kinds.Test 0 y.held y.part t place ≡ None = ap (λ (x : State). part_step x.kind x.threads x.held x.part t place) (sym y.same) ∙ none in
-    subst (λ (x : State). Says (CanFollow IsBegun (tokens_of ps)) g (ruling g t) (rule_at x.kind x.held.table x.stage t)) (sym y.same) (all_say ps few g y.part y.held (e ∙ ap (λ (x : State). Ok x) y.same) t place g y.agrees still)
+    let still : part_step kinds.Test 0 y.draft y.part t offset ≡ None = ap (λ (x : State). part_step x.kind x.threads x.draft x.part t offset) (sym y.same) ∙ none in
+    subst (λ (x : State). Says (CanFollow IsBegun (tokens_of ps)) g (ruling g t) (rule_at x.kind x.draft.table x.stage t)) (sym y.same) (all_say ps few g y.part y.draft (e ∙ ap (λ (x : State). Ok x) y.same) t offset g y.agrees still)
 
 -- ---- the fault
 
@@ -360,10 +359,10 @@ stopped e = Err e
 stopped_is : (a b : LitmusRule × ℕ) → stopped a ≡ stopped b → a ≡ b
 stopped_is a b e = cc
 
-go : (before : List Placed) (s : State) (rest : List Placed) (r : LitmusRule) (n : ℕ) → length (before ++ rest) < 18446744073709551616 → run begun before ≡ Ok s → run s rest ≡ Err (r, n) → IsFault IsBegun stages.Magic (before ++ rest) r n
+go : (before : List Placed) (s : State) (rest : List Placed) (r : LitmusRule) (n : ℕ) → length (before ++ rest) < 18446744073709551616 → run first_draft before ≡ Ok s → run s rest ≡ Err (r, n) → IsFault IsBegun stages.Magic (before ++ rest) r n
 go before s [] r n few reached e = absurd (not_both (r, n) s (sym e))
 go before s (p ∷ rest) r n few reached e =
-    by_next (part_step s.kind s.threads s.held s.part p.token p.place) refl e
+    by_next (part_step s.kind s.threads s.draft s.part p.token p.offset) refl e
     (λ x q h. rw (← append_assoc before (p ∷ []) rest) (go (before ++ p ∷ []) x rest r n (subst (λ (l : List Placed). length l < 18446744073709551616) (sym (append_assoc before (p ∷ []) rest)) few) q h))
   where
     short : length before + 1 < 18446744073709551616
@@ -372,11 +371,11 @@ go before s (p ∷ rest) r n few reached e =
     fits : length before < 18446744073709551616
     fits = omega (arith, short)
 
-    by_next : (o : Option Next) → part_step s.kind s.threads s.held s.part p.token p.place ≡ o → and_then (placed p.place (stepped s p.token o)) (λ x. run x rest) ≡ Err (r, n)
-        → ((x : State) → run begun (before ++ p ∷ []) ≡ Ok x → run x rest ≡ Err (r, n) → IsFault IsBegun stages.Magic (before ++ p ∷ rest) r n) → IsFault IsBegun stages.Magic (before ++ p ∷ rest) r n
-    by_next (Some x) q h f = f (went s p.token x) (run_one begun s before p x reached q) h
+    by_next : (o : Option Next) → part_step s.kind s.threads s.draft s.part p.token p.offset ≡ o → and_then (placed p.offset (stepped s p.token o)) (λ x. run x rest) ≡ Err (r, n)
+        → ((x : State) → run first_draft (before ++ p ∷ []) ≡ Ok x → run x rest ≡ Err (r, n) → IsFault IsBegun stages.Magic (before ++ p ∷ rest) r n) → IsFault IsBegun stages.Magic (before ++ p ∷ rest) r n
+    by_next (Some x) q h f = f (went s p.token x) (run_one first_draft s before p x reached q) h
     by_next None q h f =
-        let same : (rule_at s.kind s.held.table s.stage p.token, p.place) ≡ (r, n) = stopped_is (rule_at s.kind s.held.table s.stage p.token, p.place) (r, n) h in
+        let same : (rule_at s.kind s.draft.table s.stage p.token, p.offset) ≡ (r, n) = stopped_is (rule_at s.kind s.draft.table s.stage p.token, p.offset) (r, n) h in
         let stage = stage_after stages.Magic (tokens_of before) in
         record {
           before = before;
@@ -386,8 +385,8 @@ go before s (p ∷ rest) r n few reached e =
           begins = test_begins before s fits reached;
           ends = test_refused before s p short reached q;
           at_place = ap (λ (x : LitmusRule × ℕ). x.1) same;
-          number = subst (Says (CanFollow IsBegun (tokens_of before)) stage (ruling stage p.token)) (ap (λ (x : LitmusRule × ℕ). x.0) same) (test_says before s p.token p.place short reached q);
+          number = subst (Says (CanFollow IsBegun (tokens_of before)) stage (ruling stage p.token)) (ap (λ (x : LitmusRule × ℕ). x.0) same) (test_says before s p.token p.offset short reached q);
         }
 
-pub test_fault_where : (ps : List Placed) (r : LitmusRule) (n : ℕ) → length ps < 18446744073709551616 → run begun ps ≡ Err (r, n) → IsFault IsBegun stages.Magic ps r n
-test_fault_where ps r n few e = go [] begun ps r n few refl e
+pub test_fault_where : (ps : List Placed) (r : LitmusRule) (n : ℕ) → length ps < 18446744073709551616 → run first_draft ps ≡ Err (r, n) → IsFault IsBegun stages.Magic ps r n
+test_fault_where ps r n few e = go [] first_draft ps r n few refl e

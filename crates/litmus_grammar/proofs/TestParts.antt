@@ -2,6 +2,7 @@
 use Rattle.std.proofs.Common.{◌≡◌, ℕ, Bool, true, false, List, [], ◌∷◌, Option, Some, None, Ok, refl, sym, ap, ◌∙◌, subst}
 use Rattle.std.specs.Prelude.{◌&&◌, ◌==◌, codes, length, if◌then◌else◌}
 use Rattle.std.specs.Str.{bytes_eq}
+use Rattle.std.proofs.lemmas.Bool.{and_parts}
 use Rattle.litmus_tokens.specs.declared.stage.Stage.{Stage}
 use Rattle.litmus_tokens.specs.declared.stage.Stage.TheVariants as stages
 use Rattle.litmus_tokens.specs.declared.token.Token.{Token}
@@ -13,8 +14,8 @@ use Rattle.litmus_tokens.specs.Words.{is_test_name, names_column}
 use Rattle.litmus_values.specs.declared.test.Place.{Place}
 use Rattle.litmus_values.specs.declared.test.Quantifier.{Quantifier}
 use Rattle.litmus_values.specs.declared.test.Quantifier.TheVariants.{Exists, NotExists, Forall}
-use Rattle.litmus_conditions.specs.declared.place.PlaceHole.{PlaceHole}
-use Rattle.litmus_conditions.specs.declared.place.PlaceHole.TheVariants as places
+use Rattle.litmus_conditions.specs.declared.place.PlaceExpectation.{PlaceExpectation}
+use Rattle.litmus_conditions.specs.declared.place.PlaceExpectation.TheVariants as places
 use Rattle.litmus_conditions.specs.declared.place.PlaceStep.{PlaceStep}
 use Rattle.litmus_conditions.specs.declared.place.PlaceStep.TheVariants as place_steps
 use Rattle.litmus_conditions.specs.PlaceMachine.{place_step, is_there}
@@ -23,40 +24,39 @@ use Rattle.litmus_conditions.specs.Grammar.{limits}
 use Rattle.litmus_values.specs.declared.test.Value as declared_value
 use Rattle.litmus_conditions.specs.PlaceMachine.{value_read}
 use Rattle.litmus_table.specs.Machine as table
-use Rattle.litmus_table.proofs.Tests.{both}
-use Rattle.litmus_grammar.specs.declared.parts.InitHole.{InitHole}
-use Rattle.litmus_grammar.specs.declared.parts.InitHole.TheVariants as holes
-use Rattle.litmus_grammar.specs.declared.parts.ItemHole.{ItemHole}
-use Rattle.litmus_grammar.specs.declared.parts.ItemHole.TheVariants as items
+use Rattle.litmus_grammar.specs.declared.parts.InitExpectation.{InitExpectation}
+use Rattle.litmus_grammar.specs.declared.parts.InitExpectation.TheVariants as expectations
+use Rattle.litmus_grammar.specs.declared.parts.ItemExpectation.{ItemExpectation}
+use Rattle.litmus_grammar.specs.declared.parts.ItemExpectation.TheVariants as items
 use Rattle.litmus_grammar.specs.declared.parts.TextKind.TheVariants as kinds
 use Rattle.litmus_grammar.specs.InitMachine as init
 use Rattle.litmus_grammar.specs.InitMachine.{Block}
 use Rattle.litmus_grammar.specs.TextMachine as text
-use Rattle.litmus_grammar.specs.TextMachine.{Part, Held, Next, State, placed, and_then, stepped, part_step, run}
+use Rattle.litmus_grammar.specs.TextMachine.{Part, Draft, Next, State, placed, and_then, stepped, part_step, run}
 use Rattle.litmus_grammar.proofs.Passing.{test_at}
 use Rattle.litmus_grammar.proofs.Threads.{Matches, IsMatched, step_matches}
 
 abbrev pub in_tail : Part → Bool
 in_tail text.WantsList = true
-in_tail (text.Item hole) = true
+in_tail (text.Item expected) = true
 in_tail text.WantsQuantifier = true
 in_tail text.AfterTilde = true
-in_tail (text.Proposition q fs used hole) = true
+in_tail (text.Proposition q fs used expected) = true
 in_tail text.Done = true
 in_tail p = false
 
 -- what stands in the rows of a table
-abbrev pub AgreesRows : Stage → Part → table.Hole → Type 0
+abbrev pub AgreesRows : Stage → Part → table.Expectation → Type 0
 AgreesRows g text.Rows h = Matches g h
 AgreesRows g p h = ⊥
 
 -- the part where the reader stands, and that of the tokens, with where the table stands
-abbrev pub Agrees : Stage → Part → table.Hole → Type 0
+abbrev pub Agrees : Stage → Part → table.Expectation → Type 0
 Agrees stages.Magic text.Magic h = h ≡ table.Begins
 Agrees stages.Title text.Title h = h ≡ table.Begins
 Agrees stages.TitleEnd text.TitleEnd h = h ≡ table.Begins
 Agrees stages.Head (text.Head b) h = h ≡ table.Begins
-Agrees (stages.Init false x) (text.Init hole) h = h ≡ table.Begins
+Agrees (stages.Init false x) (text.Init expected) h = h ≡ table.Begins
 Agrees (stages.Header k) text.WantsColumn h = h ≡ table.Begins
 Agrees (stages.Header k) text.HasColumn h = h ≡ table.Begins
 Agrees stages.CellBegins p h = AgreesRows stages.CellBegins p h
@@ -66,15 +66,15 @@ Agrees g p h = ⊥
 
 abbrev pub NextAgrees : Stage → Option Next → Type 0
 NextAgrees g None = Unit {0}
-NextAgrees g (Some n) = Agrees g n.part n.held.table.hole
+NextAgrees g (Some n) = Agrees g n.part n.draft.table.expected
 
 -- ---- before the init block
 
-module _ (h : Held) (m : h.table.hole ≡ table.Begins) where
-  magic_agrees : (t : Token) → NextAgrees stages.Title (text.leads h (text.magic_read t))
+module _ (h : Draft) (m : h.table.expected ≡ table.Begins) where
+  magic_agrees : (t : Token) → NextAgrees stages.Title (text.next_at h (text.magic_read t))
   magic_agrees (tokens.Word w) = choose (bytes_eq w (codes "PPC"))
     where
-      choose : (b : Bool) → NextAgrees stages.Title (text.leads h (if b then Some text.Title else None))
+      choose : (b : Bool) → NextAgrees stages.Title (text.next_at h (if b then Some text.Title else None))
       choose true = m
       choose false = tt
   magic_agrees t = tt
@@ -87,11 +87,11 @@ module _ (h : Held) (m : h.table.hole ≡ table.Begins) where
       choose false = tt
   title_agrees t = tt
 
-  title_end_agrees : (t : Token) → NextAgrees stages.Head (text.leads h (text.title_ended t))
+  title_end_agrees : (t : Token) → NextAgrees stages.Head (text.next_at h (text.title_ended t))
   title_end_agrees tokens.LineEnd = m
   title_end_agrees t = tt
 
-  head_agrees : (b : Bool) (t : Token) → NextAgrees (after stages.Head t) (text.leads h (text.head_read b t))
+  head_agrees : (b : Bool) (t : Token) → NextAgrees (after stages.Head t) (text.next_at h (text.head_read b t))
   head_agrees true tokens.Text = m
   head_agrees false tokens.Text = tt
   head_agrees b tokens.Keyline = m
@@ -100,78 +100,78 @@ module _ (h : Held) (m : h.table.hole ≡ table.Begins) where
 
   -- ---- the init block
 
-  goes_agrees : (x : Bool) (b : Option Block) (s : Option PlaceStep) → NextAgrees (stages.Init false x) (text.init_went kinds.Test h (init.and_place b s))
+  goes_agrees : (x : Bool) (b : Option Block) (s : Option PlaceStep) → NextAgrees (stages.Init false x) (text.init_result kinds.Test h (init.and_place b s))
   goes_agrees x None s = tt
   goes_agrees x (Some b) None = tt
-  goes_agrees x (Some b) (Some (place_steps.Goes hole)) = m
+  goes_agrees x (Some b) (Some (place_steps.Goes expected)) = m
   goes_agrees x (Some b) (Some (place_steps.Ends w)) = m
 
-  stops_agrees : (g : Stage) (b : Option Block) → NextAgrees g (text.init_went kinds.Test h (init.and_place b None))
+  stops_agrees : (g : Stage) (b : Option Block) → NextAgrees g (text.init_result kinds.Test h (init.and_place b None))
   stops_agrees g None = tt
   stops_agrees g (Some b) = tt
 
-  no_close : (hole : PlaceHole) → place_step hole (tokens.Mark marks.CloseBrace) ≡ None
+  no_close : (expected : PlaceExpectation) → place_step expected (tokens.Mark marks.CloseBrace) ≡ None
   no_close places.Begins = refl
   no_close places.WantsName = refl
   no_close (places.WantsBracket n) = refl
   no_close (places.WantsColon n) = refl
   no_close (places.WantsRegister n) = refl
 
-  within_agrees : (b : Block) (x : Bool) (hole : PlaceHole) (t : Token) → NextAgrees (after (stages.Init false x) t) (text.init_went kinds.Test h (init.place_read b hole t))
-  within_agrees b x hole (tokens.Mark marks.CloseBrace) =
-      let c = init.added_if b (init.token_key hole (tokens.Mark marks.CloseBrace)) in
-      subst (λ (o : Option PlaceStep). NextAgrees (stages.Header 8) (text.init_went kinds.Test h (init.and_place c o))) (sym (no_close hole)) (stops_agrees (stages.Header 8) c)
-  within_agrees b x hole (tokens.Word w) = goes_agrees true (init.added_if b (init.token_key hole (tokens.Word w))) (place_step hole (tokens.Word w))
-  within_agrees b x hole t = goes_agrees false (init.added_if b (init.token_key hole t)) (place_step hole t)
+  within_agrees : (b : Block) (x : Bool) (expected : PlaceExpectation) (t : Token) → NextAgrees (after (stages.Init false x) t) (text.init_result kinds.Test h (init.place_read b expected t))
+  within_agrees b x expected (tokens.Mark marks.CloseBrace) =
+      let c = init.added_if b (init.token_key expected (tokens.Mark marks.CloseBrace)) in
+      subst (λ (o : Option PlaceStep). NextAgrees (stages.Header 8) (text.init_result kinds.Test h (init.and_place c o))) (sym (no_close expected)) (stops_agrees (stages.Header 8) c)
+  within_agrees b x expected (tokens.Word w) = goes_agrees true (init.added_if b (init.token_key expected (tokens.Word w))) (place_step expected (tokens.Word w))
+  within_agrees b x expected t = goes_agrees false (init.added_if b (init.token_key expected t)) (place_step expected t)
 
-  entry_agrees : (b : Block) (x : Bool) (t : Token) (place : ℕ) → NextAgrees (after (stages.Init false x) t) (text.init_went kinds.Test h (init.entry_read b t place))
-  entry_agrees b x (tokens.Mark marks.CloseBrace) place = m
-  entry_agrees b x t place = within_agrees (init.begun_at b place) x places.Begins t
+  entry_agrees : (b : Block) (x : Bool) (t : Token) (offset : ℕ) → NextAgrees (after (stages.Init false x) t) (text.init_result kinds.Test h (init.entry_read b t offset))
+  entry_agrees b x (tokens.Mark marks.CloseBrace) offset = m
+  entry_agrees b x t offset = within_agrees (init.with_start b offset) x places.Begins t
 
-  open_agrees : (b : Block) (x : Bool) (t : Token) → NextAgrees (after (stages.Init false x) t) (text.init_went kinds.Test h (init.open_read b t))
+  open_agrees : (b : Block) (x : Bool) (t : Token) → NextAgrees (after (stages.Init false x) t) (text.init_result kinds.Test h (init.open_read b t))
   open_agrees b x (tokens.Mark marks.OpenBrace) = m
   open_agrees b x t = tt
 
-  equals_agrees : (b : Block) (x : Bool) (p : Place) (t : Token) → NextAgrees (after (stages.Init false x) t) (text.init_went kinds.Test h (init.equals_read b p t))
+  equals_agrees : (b : Block) (x : Bool) (p : Place) (t : Token) → NextAgrees (after (stages.Init false x) t) (text.init_result kinds.Test h (init.equals_read b p t))
   equals_agrees b x p (tokens.Mark marks.Equals) = m
   equals_agrees b x p t = tt
 
-  valued_agrees : (b : Block) (x : Bool) (p : Place) (o : Option declared_value.Value) → NextAgrees (stages.Init false x) (text.init_went kinds.Test h (init.valued b p o))
+  valued_agrees : (b : Block) (x : Bool) (p : Place) (o : Option declared_value.Value) → NextAgrees (stages.Init false x) (text.init_result kinds.Test h (init.valued b p o))
   valued_agrees b x p (Some v) = m
   valued_agrees b x p None = tt
 
-  value_agrees : (b : Block) (x : Bool) (p : Place) (t : Token) → NextAgrees (after (stages.Init false x) t) (text.init_went kinds.Test h (init.valued b p (value_read t)))
+  value_agrees : (b : Block) (x : Bool) (p : Place) (t : Token) → NextAgrees (after (stages.Init false x) t) (text.init_result kinds.Test h (init.valued b p (value_read t)))
   value_agrees b x p (tokens.Word w) = m
   value_agrees b x p (tokens.Number negative ds) = valued_agrees b false p (value_read (tokens.Number negative ds))
   value_agrees b x p t = tt
 
-  behind_agrees : (b : Block) (x : Bool) (t : Token) → NextAgrees (after (stages.Init false x) t) (text.init_went kinds.Test h (init.behind b t))
+  behind_agrees : (b : Block) (x : Bool) (t : Token) → NextAgrees (after (stages.Init false x) t) (text.init_result kinds.Test h (init.behind b t))
   behind_agrees b x (tokens.Mark marks.Semicolon) = m
   behind_agrees b x (tokens.Mark marks.CloseBrace) = m
   behind_agrees b x t = tt
 
-  init_agrees : (x : Bool) (hole : InitHole) (t : Token) (place : ℕ) → NextAgrees (after (stages.Init false x) t) (text.init_went kinds.Test h (init.step h.init hole t place))
-  init_agrees x holes.WantsOpen t place = open_agrees h.init x t
-  init_agrees x holes.WantsEntry t place = entry_agrees h.init x t place
-  init_agrees x (holes.InPlace hole) t place = within_agrees h.init x hole t
-  init_agrees x (holes.WantsEquals p) t place = equals_agrees h.init x p t
-  init_agrees x (holes.WantsValue p) t place = value_agrees h.init x p t
-  init_agrees x holes.HasEntry t place = behind_agrees h.init x t
+  init_agrees : (x : Bool) (expected : InitExpectation) (t : Token) (offset : ℕ) → NextAgrees (after (stages.Init false x) t) (text.init_result kinds.Test h (init.step h.init expected t offset))
+  init_agrees x expectations.WantsOpen t offset = open_agrees h.init x t
+  init_agrees x expectations.WantsEntry t offset = entry_agrees h.init x t offset
+  init_agrees x (expectations.InPlace expected) t offset = within_agrees h.init x expected t
+  init_agrees x (expectations.WantsEquals p) t offset = equals_agrees h.init x p t
+  init_agrees x (expectations.WantsValue p) t offset = value_agrees h.init x p t
+  init_agrees x expectations.HasEntry t offset = behind_agrees h.init x t
 
   -- ---- the header
 
-  column_agrees : (k : ℕ) (t : Token) → NextAgrees (after (stages.Header k) t) (text.table_went h text.HasColumn (table.named h.table t))
+  column_agrees : (k : ℕ) (t : Token) → NextAgrees (after (stages.Header k) t) (text.table_result h text.HasColumn (table.named h.table t))
   column_agrees k (tokens.Word w) = choose (names_column (length h.table.threads) w)
     where
-      choose : (b : Bool) → NextAgrees (stages.Header k) (text.table_went h text.HasColumn (if b then Some (table.widened h.table) else None))
+      choose : (b : Bool) → NextAgrees (stages.Header k) (text.table_result h text.HasColumn (if b then Some (table.widened h.table) else None))
       choose true = m
       choose false = tt
   column_agrees k t = tt
 
-  rows_begin_so : Matches stages.CellBegins h.table.hole
+  rows_begin_so : Matches stages.CellBegins h.table.expected
   rows_begin_so = subst (Matches stages.CellBegins) (sym m) tt
 
-  ended_agrees : (k : ℕ) (t : Token) → NextAgrees (after (stages.Header k) t) (text.leads h (text.column_ended t))
+  ended_agrees : (k : ℕ) (t : Token) → NextAgrees (after (stages.Header k) t) (text.next_at h (text.column_ended t))
   ended_agrees k (tokens.Mark marks.Bar) = m
   ended_agrees k (tokens.Mark marks.Semicolon) = rows_begin_so
   ended_agrees k t = tt
@@ -182,8 +182,8 @@ abbrev AllTail : Option Part → Type 0
 AllTail None = Unit {0}
 AllTail (Some p) = in_tail p ≡ true
 
-module _ (h : Held) where
-  leads_tail : (o : Option Part) → AllTail o → NextAgrees stages.Tail (text.leads h o)
+module _ (h : Draft) where
+  leads_tail : (o : Option Part) → AllTail o → NextAgrees stages.Tail (text.next_at h o)
   leads_tail None i = tt
   leads_tail (Some p) i = i
 
@@ -208,8 +208,8 @@ module _ (h : Held) where
       choose false = tt
   exists_tail t = tt
 
-  begun_tail : (t : Token) → AllTail (text.tail_begun t)
-  begun_tail t = choose (text.is_list_word t)
+  start_tail : (t : Token) → AllTail (text.tail_start t)
+  start_tail t = choose (text.is_list_word t)
     where
       choose : (a : Bool) → AllTail (if a then Some text.WantsList else text.quantifier_read t)
       choose true = refl
@@ -219,60 +219,60 @@ module _ (h : Held) where
   opened_tail (tokens.Mark marks.OpenBracket) = refl
   opened_tail t = tt
 
-  item_went_tail : (o : Option PlaceStep) → NextAgrees stages.Tail (text.item_went h o)
-  item_went_tail (Some (place_steps.Goes hole)) = refl
-  item_went_tail (Some (place_steps.Ends w)) = refl
-  item_went_tail None = tt
+  item_result_tail : (o : Option PlaceStep) → NextAgrees stages.Tail (text.item_result h o)
+  item_result_tail (Some (place_steps.Goes expected)) = refl
+  item_result_tail (Some (place_steps.Ends w)) = refl
+  item_result_tail None = tt
 
-  item_begun_tail : (n : ℕ) (t : Token) → NextAgrees stages.Tail (text.item_begun n h t)
-  item_begun_tail n t = choose (is_there n t)
+  item_start_tail : (n : ℕ) (t : Token) → NextAgrees stages.Tail (text.item_start n h t)
+  item_start_tail n t = choose (is_there n t)
     where
-      choose : (b : Bool) → NextAgrees stages.Tail (if b then text.item_went h (place_step places.Begins t) else None)
-      choose true = item_went_tail (place_step places.Begins t)
+      choose : (b : Bool) → NextAgrees stages.Tail (if b then text.item_result h (place_step places.Begins t) else None)
+      choose true = item_result_tail (place_step places.Begins t)
       choose false = tt
 
   next_item_tail : (n : ℕ) (t : Token) → NextAgrees stages.Tail (text.next_item kinds.Test n h t)
   next_item_tail n (tokens.Mark marks.CloseBracket) = refl
-  next_item_tail n t = item_begun_tail n t
+  next_item_tail n t = item_start_tail n t
 
   item_ended_tail : (t : Token) → AllTail (text.item_ended kinds.Test t)
   item_ended_tail (tokens.Mark marks.Semicolon) = refl
   item_ended_tail (tokens.Mark marks.CloseBracket) = refl
   item_ended_tail t = tt
 
-  item_tail : (n : ℕ) (hole : ItemHole) (t : Token) → NextAgrees stages.Tail (text.item_read kinds.Test n h hole t)
-  item_tail n items.WantsFirst t = item_begun_tail n t
+  item_tail : (n : ℕ) (expected : ItemExpectation) (t : Token) → NextAgrees stages.Tail (text.item_read kinds.Test n h expected t)
+  item_tail n items.WantsFirst t = item_start_tail n t
   item_tail n items.WantsNext t = next_item_tail n t
-  item_tail n (items.Within hole) t = item_went_tail (place_step hole t)
+  item_tail n (items.Within expected) t = item_result_tail (place_step expected t)
   item_tail n items.HasItem t = leads_tail (text.item_ended kinds.Test t) (item_ended_tail t)
 
-  fed_tail : (q : Quantifier) (f : condition.Fed) → NextAgrees stages.Tail (text.fed h q f)
-  fed_tail q (condition.Goes fs used hole) = refl
-  fed_tail q (condition.Ends a) = refl
-  fed_tail q condition.Refuses = tt
+  proposition_tail : (q : Quantifier) (f : condition.StepResult) → NextAgrees stages.Tail (text.proposition_result h q f)
+  proposition_tail q (condition.Goes fs used expected) = refl
+  proposition_tail q (condition.Ends a) = refl
+  proposition_tail q condition.Refuses = tt
 
-  tail_agrees : (p : Part) (t : Token) (place : ℕ) → in_tail p ≡ true → NextAgrees stages.Tail (part_step kinds.Test 0 h p t place)
-  tail_agrees text.WantsList t place i = leads_tail (text.list_opened t) (opened_tail t)
-  tail_agrees (text.Item hole) t place i = item_tail (text.threads_in kinds.Test 0 h) hole t
-  tail_agrees text.WantsQuantifier t place i = leads_tail (text.quantifier_read t) (quantifier_tail t)
-  tail_agrees text.AfterTilde t place i = leads_tail (text.exists_read t) (exists_tail t)
-  tail_agrees (text.Proposition q fs used hole) t place i = fed_tail q (condition.feed limits (text.threads_in kinds.Test 0 h) fs used hole t)
-  tail_agrees text.Done t place i = tt
-  tail_agrees p t place i = absurd cc
+  tail_agrees : (p : Part) (t : Token) (offset : ℕ) → in_tail p ≡ true → NextAgrees stages.Tail (part_step kinds.Test 0 h p t offset)
+  tail_agrees text.WantsList t offset i = leads_tail (text.list_opened t) (opened_tail t)
+  tail_agrees (text.Item expected) t offset i = item_tail (text.threads_in kinds.Test 0 h) expected t
+  tail_agrees text.WantsQuantifier t offset i = leads_tail (text.quantifier_read t) (quantifier_tail t)
+  tail_agrees text.AfterTilde t offset i = leads_tail (text.exists_read t) (exists_tail t)
+  tail_agrees (text.Proposition q fs used expected) t offset i = proposition_tail q (condition.proposition_step limits (text.threads_in kinds.Test 0 h) fs used expected t)
+  tail_agrees text.Done t offset i = tt
+  tail_agrees p t offset i = absurd cc
 
   -- ---- the rows
 
-  taken_agrees : (g : Stage) (o : Option table.State) → IsMatched g o → NextAgrees g (text.table_went h text.Rows o)
+  taken_agrees : (g : Stage) (o : Option table.State) → IsMatched g o → NextAgrees g (text.table_result h text.Rows o)
   taken_agrees g None m = tt
   taken_agrees stages.CellBegins (Some u) m = m
   taken_agrees stages.InCell (Some u) m = m
   taken_agrees g (Some u) m = absurd m
 
-  begins_at : (x : table.Hole) → table.is_begin x ≡ true → x ≡ table.Begins
+  begins_at : (x : table.Expectation) → table.is_begin x ≡ true → x ≡ table.Begins
   begins_at table.Begins e = refl
   begins_at x e = absurd cc
 
-  only_begins : (g : Stage) (x : table.Hole) → Matches g x → x ≡ table.Begins → g ≡ stages.CellBegins
+  only_begins : (g : Stage) (x : table.Expectation) → Matches g x → x ≡ table.Begins → g ≡ stages.CellBegins
   only_begins stages.CellBegins table.Begins m e = refl
   only_begins stages.InCell table.Labelled m e = absurd cc
   only_begins stages.InCell (table.Within p) m e = absurd cc
@@ -285,51 +285,51 @@ module _ (h : Held) where
   to_tail (tokens.Mark marks.Tilde) e = refl
   to_tail t e = absurd cc
 
-  row_agrees : (g : Stage) (t : Token) (place : ℕ) → Matches g h.table.hole → NextAgrees (after g t) (text.row_read h t place)
-  row_agrees g t place m = choose (table.is_row_start h.table && begins_tail t) refl
+  row_agrees : (g : Stage) (t : Token) (offset : ℕ) → Matches g h.table.expected → NextAgrees (after g t) (text.row_read h t offset)
+  row_agrees g t offset m = choose (table.is_row_start h.table && begins_tail t) refl
     where
-      choose : (b : Bool) → (table.is_row_start h.table && begins_tail t) ≡ b → NextAgrees (after g t) (if b then text.leads h (text.tail_begun t) else text.table_went h text.Rows (table.step h.table t place))
+      choose : (b : Bool) → (table.is_row_start h.table && begins_tail t) ≡ b → NextAgrees (after g t) (if b then text.next_at h (text.tail_start t) else text.table_result h text.Rows (table.step h.table t offset))
       choose true e =
-          let x = both (table.is_row_start h.table) (begins_tail t) e in
-          let y = both (h.table.column == 0) (table.is_begin h.table.hole) x.0 in
-          let first : g ≡ stages.CellBegins = only_begins g h.table.hole m (begins_at h.table.hole y.1) in
-          subst (λ (f : Stage). NextAgrees f (text.leads h (text.tail_begun t))) (sym (ap (λ (f : Stage). after f t) first ∙ to_tail t x.1)) (leads_tail (text.tail_begun t) (begun_tail t))
-      choose false e = taken_agrees (after g t) (table.step h.table t place) (step_matches h.table.threads h.table.column place g h.table.hole t m)
+          let x = and_parts (table.is_row_start h.table) (begins_tail t) e in
+          let y = and_parts (h.table.column == 0) (table.is_begin h.table.expected) x.0 in
+          let first : g ≡ stages.CellBegins = only_begins g h.table.expected m (begins_at h.table.expected y.1) in
+          subst (λ (f : Stage). NextAgrees f (text.next_at h (text.tail_start t))) (sym (ap (λ (f : Stage). after f t) first ∙ to_tail t x.1)) (leads_tail (text.tail_start t) (start_tail t))
+      choose false e = taken_agrees (after g t) (table.step h.table t offset) (step_matches h.table.threads h.table.column offset g h.table.expected t m)
 
 -- ---- each token keeps it so
 
-rows_agree : (g : Stage) (h : Held) (p : Part) (t : Token) (place : ℕ) → AgreesRows g p h.table.hole → NextAgrees (after g t) (part_step kinds.Test 0 h p t place)
-rows_agree g h text.Rows t place a = row_agrees h g t place a
-rows_agree g h p t place a = absurd a
+rows_agree : (g : Stage) (h : Draft) (p : Part) (t : Token) (offset : ℕ) → AgreesRows g p h.table.expected → NextAgrees (after g t) (part_step kinds.Test 0 h p t offset)
+rows_agree g h text.Rows t offset a = row_agrees h g t offset a
+rows_agree g h p t offset a = absurd a
 
-pub step_agrees : (g : Stage) (p : Part) (h : Held) (t : Token) (place : ℕ) → Agrees g p h.table.hole → NextAgrees (after g t) (part_step kinds.Test 0 h p t place)
-step_agrees stages.Magic text.Magic h t place a = magic_agrees h a t
-step_agrees stages.Title text.Title h t place a = title_agrees h a t
-step_agrees stages.TitleEnd text.TitleEnd h t place a = title_end_agrees h a t
-step_agrees stages.Head (text.Head b) h t place a = head_agrees h a b t
-step_agrees (stages.Init false x) (text.Init hole) h t place a = init_agrees h a x hole t place
-step_agrees (stages.Header k) text.WantsColumn h t place a = column_agrees h a k t
-step_agrees (stages.Header k) text.HasColumn h t place a = ended_agrees h a k t
-step_agrees stages.CellBegins p h t place a = rows_agree stages.CellBegins h p t place a
-step_agrees stages.InCell p h t place a = rows_agree stages.InCell h p t place a
-step_agrees stages.Tail p h t place a = tail_agrees h p t place a
-step_agrees g p h t place a = absurd a
+pub step_agrees : (g : Stage) (p : Part) (h : Draft) (t : Token) (offset : ℕ) → Agrees g p h.table.expected → NextAgrees (after g t) (part_step kinds.Test 0 h p t offset)
+step_agrees stages.Magic text.Magic h t offset a = magic_agrees h a t
+step_agrees stages.Title text.Title h t offset a = title_agrees h a t
+step_agrees stages.TitleEnd text.TitleEnd h t offset a = title_end_agrees h a t
+step_agrees stages.Head (text.Head b) h t offset a = head_agrees h a b t
+step_agrees (stages.Init false x) (text.Init expected) h t offset a = init_agrees h a x expected t offset
+step_agrees (stages.Header k) text.WantsColumn h t offset a = column_agrees h a k t
+step_agrees (stages.Header k) text.HasColumn h t offset a = ended_agrees h a k t
+step_agrees stages.CellBegins p h t offset a = rows_agree stages.CellBegins h p t offset a
+step_agrees stages.InCell p h t offset a = rows_agree stages.InCell h p t offset a
+step_agrees stages.Tail p h t offset a = tail_agrees h p t offset a
+step_agrees g p h t offset a = absurd a
 
 -- where the reader of a test stands behind some tokens
 pub record Stood (g : Stage) (s : State) : Type 0 where
   pub part : Part
-  pub held : Held
-  pub same : s ≡ test_at g part held
-  pub agrees : Agrees g part held.table.hole
+  pub draft : Draft
+  pub same : s ≡ test_at g part draft
+  pub agrees : Agrees g part draft.table.expected
 
-stood_on : (ps : List Placed) (g : Stage) (p : Part) (h : Held) (s : State) → Agrees g p h.table.hole → run (test_at g p h) ps ≡ Ok s → Stood (stage_after g (tokens_of ps)) s
+stood_on : (ps : List Placed) (g : Stage) (p : Part) (h : Draft) (s : State) → Agrees g p h.table.expected → run (test_at g p h) ps ≡ Ok s → Stood (stage_after g (tokens_of ps)) s
 stood_on [] g p h s a e =
     let same : test_at g p h ≡ s = cc in
-    record { part = p; held = h; same = sym same; agrees = a }
-stood_on (q ∷ ps) g p h s a e = by_next (part_step kinds.Test 0 h p q.token q.place) (step_agrees g p h q.token q.place a) e (λ n x k. stood_on ps (after g q.token) n.part n.held s x k)
+    record { part = p; draft = h; same = sym same; agrees = a }
+stood_on (q ∷ ps) g p h s a e = by_next (part_step kinds.Test 0 h p q.token q.offset) (step_agrees g p h q.token q.offset a) e (λ n x k. stood_on ps (after g q.token) n.part n.draft s x k)
   where
-    by_next : (o : Option Next) → NextAgrees (after g q.token) o → and_then (placed q.place (stepped (test_at g p h) q.token o)) (λ x. run x ps) ≡ Ok s
-        → ((n : Next) → Agrees (after g q.token) n.part n.held.table.hole → run (test_at (after g q.token) n.part n.held) ps ≡ Ok s → Stood (stage_after (after g q.token) (tokens_of ps)) s) → Stood (stage_after g (tokens_of (q ∷ ps))) s
+    by_next : (o : Option Next) → NextAgrees (after g q.token) o → and_then (placed q.offset (stepped (test_at g p h) q.token o)) (λ x. run x ps) ≡ Ok s
+        → ((n : Next) → Agrees (after g q.token) n.part n.draft.table.expected → run (test_at (after g q.token) n.part n.draft) ps ≡ Ok s → Stood (stage_after (after g q.token) (tokens_of ps)) s) → Stood (stage_after g (tokens_of (q ∷ ps))) s
     by_next None x k later = absurd cc
     by_next (Some n) x k later = later n x k
 

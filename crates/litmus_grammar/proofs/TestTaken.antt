@@ -12,18 +12,18 @@ use Rattle.litmus_tokens.specs.Texts.{Placed, tokens_of, stage_after}
 use Rattle.litmus_tokens.specs.Words.{column_name, is_test_name}
 use Rattle.litmus_tokens.specs.Faults.{CanFollow}
 use Rattle.litmus_conditions.specs.Grammar.{limits}
-use Rattle.litmus_conditions.specs.declared.place.PlaceHole.{PlaceHole}
-use Rattle.litmus_conditions.specs.declared.place.PlaceHole.TheVariants as places
+use Rattle.litmus_conditions.specs.declared.place.PlaceExpectation.{PlaceExpectation}
+use Rattle.litmus_conditions.specs.declared.place.PlaceExpectation.TheVariants as places
 use Rattle.litmus_table.specs.Grammar.{spelled_header, spelled_names, spelled_rows}
 use Rattle.litmus_table.specs.Laws.{columns}
 use Rattle.litmus_table.specs.Machine as table
-use Rattle.litmus_grammar.specs.declared.parts.InitHole.{InitHole}
-use Rattle.litmus_grammar.specs.declared.parts.InitHole.TheVariants as holes
+use Rattle.litmus_grammar.specs.declared.parts.InitExpectation.{InitExpectation}
+use Rattle.litmus_grammar.specs.declared.parts.InitExpectation.TheVariants as expectations
 use Rattle.litmus_grammar.specs.declared.parts.TextKind.TheVariants as kinds
 use Rattle.litmus_grammar.specs.Grammar.{spelled_init, members, AreEntries, TestTree, spelled_head, spelled_observed, spelled_condition, spelled_test, IsTest, IsTestText}
 use Rattle.litmus_grammar.specs.InitMachine as init
 use Rattle.litmus_grammar.specs.TextMachine as text
-use Rattle.litmus_grammar.specs.TextMachine.{Part, Held, Next, State, Ran, placed, and_then, stepped, part_step, start, run, rule_at}
+use Rattle.litmus_grammar.specs.TextMachine.{Part, Draft, Next, State, Ran, placed, and_then, stepped, part_step, start, run, rule_at}
 use Rattle.litmus_grammar.specs.Texts.{spelled_colon, is_init, IsBrokenOff, IsStart, IsWhole, BreaksOff}
 use Rattle.litmus_grammar.proofs.Blocks.{brace_at, block_at, entries_led}
 use Rattle.litmus_grammar.proofs.Bodies.{header_at, rows_at, name_step, names_led}
@@ -38,8 +38,8 @@ use Rattle.litmus_grammar.proofs.TestParts.{Agrees, stood}
 abbrev bracket : Token
 bracket = tokens.Mark marks.OpenBracket
 
-abbrev begun : State
-begun = start kinds.Test 0
+abbrev first_draft : State
+first_draft = start kinds.Test 0
 
 -- ---- lists
 
@@ -86,9 +86,9 @@ body_front : (t : TestTree) (g : Stage) (may : Bool) (before behind : List Place
 body_front t g may [] behind fine e k = absurd cc
 body_front t g may (p ∷ q) [] fine e k = absurd cc
 body_front t g may (p ∷ q) (w ∷ b) fine e k =
-    let n = p.place in
+    let n = p.offset in
     let brace : p.token ≡ tokens.Mark marks.OpenBrace = cc in
-    let is_brace : p ≡ brace_at n = ap (λ (x : Token). record { token = x; place = p.place }) brace in
+    let is_brace : p ≡ brace_at n = ap (λ (x : Token). record { token = x; offset = p.offset }) brace in
     let same : tokens_of (brace_at n ∷ q) ≡ spelled_init t.init [] = ap (λ (x : Placed). tokens_of (x ∷ q)) (sym is_brace) ∙ e in
     let first : w.token ≡ tokens.Word (column_name 0) = cc in
     let others : tokens_of b ≡ spelled_names 1 t.others [] = cc in
@@ -100,20 +100,20 @@ body_front t g may (p ∷ q) (w ∷ b) fine e k =
       there,
       ap (λ (y : Placed). run (in_head t.name g (text.Head may)) (y ∷ (q ++ w ∷ b))) is_brace
           ∙ run-append (block_at t.name g1) (header_at t.name x.block false x.stage 0) q (w ∷ b) x.by
-          ∙ ap (λ (y : Token). run (header_at t.name x.block false x.stage 0) (record { token = y; place = w.place } ∷ b)) first
-          ∙ name_step t.name x.block 0 w.place b x.stage
+          ∙ ap (λ (y : Token). run (header_at t.name x.block false x.stage 0) (record { token = y; offset = w.offset } ∷ b)) first
+          ∙ name_step t.name x.block 0 w.offset b x.stage
           ∙ ap (run (header_at t.name x.block true g2 0)) l.whole
           ∙ run-append (header_at t.name x.block true g2 0) there l.before l.left l.by
           ∙ ap (run there) (none_left l.left l.are_left),
     )
 
-front_led : (t : TestTree) (ps : List Placed) → is_test_name t.name ≡ true → AreEntries [] (members t.init) → tokens_of ps ≡ front_of t → (s : State) × (run begun ps ≡ Ok s)
+front_led : (t : TestTree) (ps : List Placed) → is_test_name t.name ≡ true → AreEntries [] (members t.init) → tokens_of ps ≡ front_of t → (s : State) × (run first_draft ps ≡ Ok s)
 front_led t ps i fine e =
     let h = head_led t.name t.text t.keylines ps (spelled_init t.init (header_of t)) i e in
     let cut = split h.left (spelled_init t.init []) (header_of t) (h.are_left ∙ sym (init-append t.init [] (header_of t))) in
     let r = body_front t h.stage h.may cut.before cut.behind fine cut.are_before cut.are_behind in (
       r.0,
-      ap (run begun) h.whole ∙ run-append begun (in_head t.name h.stage (text.Head h.may)) h.before h.left h.by
+      ap (run first_draft) h.whole ∙ run-append first_draft (in_head t.name h.stage (text.Head h.may)) h.before h.left h.by
           ∙ ap (run (in_head t.name h.stage (text.Head h.may))) cut.whole ∙ r.1,
     )
 
@@ -137,13 +137,13 @@ front_length t =
     ap (λ (l : List Token). length l) (sym (head-append t (spelled_init t.init (header_of t)))) ∙ length-append (spelled_head t []) (spelled_init t.init (header_of t)) in
     omega (arith, many, a, b)
 
-pub prefix_taken : (t : TestTree) → IsTest limits t → (ps : List Placed) (rest : List Token) → length ps < 18446744073709551616 → tokens_of ps ++ rest ≡ spelled_test t → (s : State) × (run begun ps ≡ Ok s)
+pub prefix_taken : (t : TestTree) → IsTest limits t → (ps : List Placed) (rest : List Token) → length ps < 18446744073709551616 → tokens_of ps ++ rest ≡ spelled_test t → (s : State) × (run first_draft ps ≡ Ok s)
 prefix_taken t fine ps rest few e = choose (cases_lt (t.others + 1) 18446744073709551616)
   where
-    through : (more : List Token) (z : State) → run begun (ps ++ anywhere more) ≡ Ok z → (s : State) × (run begun ps ≡ Ok s)
-    through more z k = let r = part_run begun ps (anywhere more) z k in (r.0, r.1)
+    through : (more : List Token) (z : State) → run first_draft (ps ++ anywhere more) ≡ Ok z → (s : State) × (run first_draft ps ≡ Ok s)
+    through more z k = let r = part_run first_draft ps (anywhere more) z k in (r.0, r.1)
 
-    choose : (t.others + 1 < 18446744073709551616) ⊎ (18446744073709551616 ≤ t.others + 1) → (s : State) × (run begun ps ≡ Ok s)
+    choose : (t.others + 1 < 18446744073709551616) ⊎ (18446744073709551616 ≤ t.others + 1) → (s : State) × (run first_draft ps ≡ Ok s)
     choose (inl lt) = let r = test_led t fine lt (ps ++ anywhere rest) (with_rest ps rest ∙ e) in through rest _ r.by
     choose (inr ge) =
         let long = front_length t in
@@ -159,90 +159,90 @@ IsText = IsTestText limits
 abbrev pub IsBegun : List Token → Type 0
 IsBegun = IsStart IsText stages.Magic
 
-text_taken : (ps : List Placed) (rest : List Token) → length ps < 18446744073709551616 → IsText (tokens_of ps ++ rest) → (s : State) × (run begun ps ≡ Ok s)
+text_taken : (ps : List Placed) (rest : List Token) → length ps < 18446744073709551616 → IsText (tokens_of ps ++ rest) → (s : State) × (run first_draft ps ≡ Ok s)
 text_taken ps rest few x = prefix_taken x.tree x.fine ps rest few x.whole
 
 -- ---- a register's beginning, where an entry may begin
 
-in_init_part : (g : Stage) (p : Part) (x : table.Hole) → is_init g ≡ true → Agrees g p x → (hole : InitHole) × (p ≡ text.Init hole)
-in_init_part (stages.Init false y) (text.Init hole) x i a = (hole, refl)
+in_init_part : (g : Stage) (p : Part) (x : table.Expectation) → is_init g ≡ true → Agrees g p x → (expected : InitExpectation) × (p ≡ text.Init expected)
+in_init_part (stages.Init false y) (text.Init expected) x i a = (expected, refl)
 in_init_part (stages.Init b y) p x i a = absurd a
 in_init_part g p x i a = absurd cc
 
-abbrev in_init_at : Stage → InitHole → Held → State
-in_init_at g hole h = test_at g (text.Init hole) h
+abbrev in_init_at : Stage → InitExpectation → Draft → State
+in_init_at g expected h = test_at g (text.Init expected) h
 
-colon_taken : (g : Stage) (d : List ℕ) (h : Held) (colon : Bool) (qs : List Placed) (rest : List Token) → tokens_of qs ++ rest ≡ spelled_colon colon → (s : State) × (run (in_init_at g (holes.InPlace (places.WantsColon d)) h) qs ≡ Ok s)
-colon_taken g d h colon [] rest e = (in_init_at g (holes.InPlace (places.WantsColon d)) h, refl)
+colon_taken : (g : Stage) (d : List ℕ) (h : Draft) (colon : Bool) (qs : List Placed) (rest : List Token) → tokens_of qs ++ rest ≡ spelled_colon colon → (s : State) × (run (in_init_at g (expectations.InPlace (places.WantsColon d)) h) qs ≡ Ok s)
+colon_taken g d h colon [] rest e = (in_init_at g (expectations.InPlace (places.WantsColon d)) h, refl)
 colon_taken g d h false (q ∷ qs) rest e = absurd cc
 colon_taken g d h true (q ∷ []) rest e =
     let same : q.token ≡ tokens.Mark marks.Colon = cc in
-    (_, ap (λ (x : Token). run (in_init_at g (holes.InPlace (places.WantsColon d)) h) (record { token = x; place = q.place } ∷ [])) same)
+    (_, ap (λ (x : Token). run (in_init_at g (expectations.InPlace (places.WantsColon d)) h) (record { token = x; offset = q.offset } ∷ [])) same)
 colon_taken g d h true (q ∷ r ∷ qs) rest e = absurd cc
 
-entry_taken : (g : Stage) (d : List ℕ) (h : Held) (colon : Bool) (qs : List Placed) (rest : List Token) → tokens_of qs ++ rest ≡ tokens.Number false d ∷ spelled_colon colon → (s : State) × (run (in_init_at g holes.WantsEntry h) qs ≡ Ok s)
-entry_taken g d h colon [] rest e = (in_init_at g holes.WantsEntry h, refl)
+entry_taken : (g : Stage) (d : List ℕ) (h : Draft) (colon : Bool) (qs : List Placed) (rest : List Token) → tokens_of qs ++ rest ≡ tokens.Number false d ∷ spelled_colon colon → (s : State) × (run (in_init_at g expectations.WantsEntry h) qs ≡ Ok s)
+entry_taken g d h colon [] rest e = (in_init_at g expectations.WantsEntry h, refl)
 entry_taken g d h colon (q ∷ qs) rest e =
     let same : q.token ≡ tokens.Number false d = cc in
     let others : tokens_of qs ++ rest ≡ spelled_colon colon = cc in
-    let r = colon_taken (after g (tokens.Number false d)) d (text.with_init h (init.begun_at h.init q.place)) colon qs rest others in
-    (r.0, ap (λ (x : Token). run (in_init_at g holes.WantsEntry h) (record { token = x; place = q.place } ∷ qs)) same ∙ r.1)
+    let r = colon_taken (after g (tokens.Number false d)) d (text.with_init h (init.with_start h.init q.offset)) colon qs rest others in
+    (r.0, ap (λ (x : Token). run (in_init_at g expectations.WantsEntry h) (record { token = x; offset = q.offset } ∷ qs)) same ∙ r.1)
 
-place_taken : (g : Stage) (d : List ℕ) (h : Held) (colon : Bool) (qs : List Placed) (rest : List Token) → tokens_of qs ++ rest ≡ tokens.Number false d ∷ spelled_colon colon → (s : State) × (run (in_init_at g (holes.InPlace places.Begins) h) qs ≡ Ok s)
-place_taken g d h colon [] rest e = (in_init_at g (holes.InPlace places.Begins) h, refl)
+place_taken : (g : Stage) (d : List ℕ) (h : Draft) (colon : Bool) (qs : List Placed) (rest : List Token) → tokens_of qs ++ rest ≡ tokens.Number false d ∷ spelled_colon colon → (s : State) × (run (in_init_at g (expectations.InPlace places.Begins) h) qs ≡ Ok s)
+place_taken g d h colon [] rest e = (in_init_at g (expectations.InPlace places.Begins) h, refl)
 place_taken g d h colon (q ∷ qs) rest e =
     let same : q.token ≡ tokens.Number false d = cc in
     let others : tokens_of qs ++ rest ≡ spelled_colon colon = cc in
     let r = colon_taken (after g (tokens.Number false d)) d (text.with_init h h.init) colon qs rest others in
-    (r.0, ap (λ (x : Token). run (in_init_at g (holes.InPlace places.Begins) h) (record { token = x; place = q.place } ∷ qs)) same ∙ r.1)
+    (r.0, ap (λ (x : Token). run (in_init_at g (expectations.InPlace places.Begins) h) (record { token = x; offset = q.offset } ∷ qs)) same ∙ r.1)
 
-number_taken : (g : Stage) (hole : InitHole) (h : Held) (z : State) → run (in_init_at g hole h) (record { token = bracket; place = 0 } ∷ []) ≡ Ok z → (d : List ℕ) (colon : Bool) (qs : List Placed) (rest : List Token) → tokens_of qs ++ rest ≡ tokens.Number false d ∷ spelled_colon colon
-    → (s : State) × (run (in_init_at g hole h) qs ≡ Ok s)
-number_taken g holes.WantsOpen h z k d colon qs rest e = absurd cc
-number_taken g holes.WantsEntry h z k d colon qs rest e = entry_taken g d h colon qs rest e
-number_taken g (holes.InPlace hole) h z k d colon qs rest e = by_place hole k
+number_taken : (g : Stage) (expected : InitExpectation) (h : Draft) (z : State) → run (in_init_at g expected h) (record { token = bracket; offset = 0 } ∷ []) ≡ Ok z → (d : List ℕ) (colon : Bool) (qs : List Placed) (rest : List Token) → tokens_of qs ++ rest ≡ tokens.Number false d ∷ spelled_colon colon
+    → (s : State) × (run (in_init_at g expected h) qs ≡ Ok s)
+number_taken g expectations.WantsOpen h z k d colon qs rest e = absurd cc
+number_taken g expectations.WantsEntry h z k d colon qs rest e = entry_taken g d h colon qs rest e
+number_taken g (expectations.InPlace expected) h z k d colon qs rest e = by_place expected k
   where
-    by_place : (hole : PlaceHole) → run (in_init_at g (holes.InPlace hole) h) (record { token = bracket; place = 0 } ∷ []) ≡ Ok z → (s : State) × (run (in_init_at g (holes.InPlace hole) h) qs ≡ Ok s)
+    by_place : (expected : PlaceExpectation) → run (in_init_at g (expectations.InPlace expected) h) (record { token = bracket; offset = 0 } ∷ []) ≡ Ok z → (s : State) × (run (in_init_at g (expectations.InPlace expected) h) qs ≡ Ok s)
     by_place places.Begins j = place_taken g d h colon qs rest e
     by_place places.WantsName j = absurd cc
     by_place (places.WantsBracket n) j = absurd cc
     by_place (places.WantsColon n) j = absurd cc
     by_place (places.WantsRegister n) j = absurd cc
-number_taken g (holes.WantsEquals p) h z k d colon qs rest e = absurd cc
-number_taken g (holes.WantsValue p) h z k d colon qs rest e = absurd cc
-number_taken g holes.HasEntry h z k d colon qs rest e = absurd cc
+number_taken g (expectations.WantsEquals p) h z k d colon qs rest e = absurd cc
+number_taken g (expectations.WantsValue p) h z k d colon qs rest e = absurd cc
+number_taken g expectations.HasEntry h z k d colon qs rest e = absurd cc
 
 -- ---- what begins a text that is broken off is taken
 
-broken_taken : (ps : List Placed) (rest : List Token) → length ps < 18446744073709551616 → IsBrokenOff IsText stages.Magic (tokens_of ps ++ rest) → (s : State) × (run begun ps ≡ Ok s)
+broken_taken : (ps : List Placed) (rest : List Token) → length ps < 18446744073709551616 → IsBrokenOff IsText stages.Magic (tokens_of ps ++ rest) → (s : State) × (run first_draft ps ≡ Ok s)
 broken_taken ps rest few x = choose (cases_lt (length x.before) (length (tokens_of ps)))
   where
     number : List Token
     number = tokens.Number false x.thread ∷ spelled_colon x.colon
 
-    within : (more : List Token) → tokens_of ps ++ more ≡ x.before → (s : State) × (run begun ps ≡ Ok s)
+    within : (more : List Token) → tokens_of ps ++ more ≡ x.before → (s : State) × (run first_draft ps ≡ Ok s)
     within more e =
         let us = more ++ (bracket ∷ x.entry.rest) in
         let same : (x.before ++ bracket ∷ []) ++ x.entry.rest ≡ tokens_of ps ++ us =
         append_assoc x.before (bracket ∷ []) x.entry.rest ∙ ap (λ (l : List Token). l ++ (bracket ∷ x.entry.rest)) (sym e) ∙ append_assoc (tokens_of ps) more (bracket ∷ x.entry.rest) in
         text_taken ps us few (subst IsText same x.entry.text)
 
-    behind : (front back : List Placed) → ps ≡ front ++ back → tokens_of front ≡ x.before → tokens_of back ++ rest ≡ number → length front + 1 < 18446744073709551616 → (s : State) × (run begun ps ≡ Ok s)
+    behind : (front back : List Placed) → ps ≡ front ++ back → tokens_of front ≡ x.before → tokens_of back ++ rest ≡ number → length front + 1 < 18446744073709551616 → (s : State) × (run first_draft ps ≡ Ok s)
     behind front back whole are_front are_back short =
-        let one : List Placed = record { token = bracket; place = 0 } ∷ [] in
+        let one : List Placed = record { token = bracket; offset = 0 } ∷ [] in
         let same : (x.before ++ bracket ∷ []) ++ x.entry.rest ≡ tokens_of (front ++ one) ++ x.entry.rest =
         ap (λ (l : List Token). (l ++ bracket ∷ []) ++ x.entry.rest) (sym are_front) ∙ ap (λ (l : List Token). l ++ x.entry.rest) (sym (tokens_of-append front one)) in
         let many : length (front ++ one) ≡ length front + length one = length-append front one in
         let r = text_taken (front ++ one) x.entry.rest (let h : length (front ++ one) < 18446744073709551616 = omega (arith, many, short) in h) (subst IsText same x.entry.text) in
-        let p = part_run begun front one r.0 r.1 in
+        let p = part_run first_draft front one r.0 r.1 in
         let y = stood front p.0 p.1 in
         let i : is_init (stage_after stages.Magic (tokens_of front)) ≡ true = ap (λ (l : List Token). is_init (stage_after stages.Magic l)) are_front ∙ x.in_init in
-        let q = in_init_part _ y.part y.held.table.hole i y.agrees in
-        let there : p.0 ≡ in_init_at (stage_after stages.Magic (tokens_of front)) q.0 y.held = y.same ∙ ap (λ (z : Part). test_at (stage_after stages.Magic (tokens_of front)) z y.held) q.1 in
-        let n = number_taken (stage_after stages.Magic (tokens_of front)) q.0 y.held r.0 (ap (λ (z : State). run z one) (sym there) ∙ p.2) x.thread x.colon back rest are_back in
-        (n.0, ap (run begun) whole ∙ run-append begun p.0 front back p.1 ∙ ap (λ (z : State). run z back) there ∙ n.1)
+        let q = in_init_part _ y.part y.draft.table.expected i y.agrees in
+        let there : p.0 ≡ in_init_at (stage_after stages.Magic (tokens_of front)) q.0 y.draft = y.same ∙ ap (λ (z : Part). test_at (stage_after stages.Magic (tokens_of front)) z y.draft) q.1 in
+        let n = number_taken (stage_after stages.Magic (tokens_of front)) q.0 y.draft r.0 (ap (λ (z : State). run z one) (sym there) ∙ p.2) x.thread x.colon back rest are_back in
+        (n.0, ap (run first_draft) whole ∙ run-append first_draft p.0 front back p.1 ∙ ap (λ (z : State). run z back) there ∙ n.1)
 
-    choose : (length x.before < length (tokens_of ps)) ⊎ (length (tokens_of ps) ≤ length x.before) → (s : State) × (run begun ps ≡ Ok s)
+    choose : (length x.before < length (tokens_of ps)) ⊎ (length (tokens_of ps) ≤ length x.before) → (s : State) × (run first_draft ps ≡ Ok s)
     choose (inr le) = let c = shorter (tokens_of ps) rest x.before number x.whole le in within c.0 c.1
     choose (inl lt) =
         let same = length-tokens ps in
@@ -252,16 +252,16 @@ broken_taken ps rest few x = choose (cases_lt (length x.before) (length (tokens_
         let front : length cut.before ≡ length x.before = sym (length-tokens cut.before) ∙ ap (λ (l : List Token). length l) cut.are_before in
         behind cut.before cut.behind cut.whole cut.are_before (ap (λ (l : List Token). l ++ rest) cut.are_behind ∙ left) (let h : length cut.before + 1 < 18446744073709551616 = omega (arith, front, lt, same, few) in h)
 
-start_taken : (ps : List Placed) (rest : List Token) → length ps < 18446744073709551616 → IsBegun (tokens_of ps ++ rest) → (s : State) × (run begun ps ≡ Ok s)
+start_taken : (ps : List Placed) (rest : List Token) → length ps < 18446744073709551616 → IsBegun (tokens_of ps ++ rest) → (s : State) × (run first_draft ps ≡ Ok s)
 start_taken ps rest few (IsWhole x) = text_taken ps rest few x
 start_taken ps rest few (BreaksOff x) = broken_taken ps rest few x
 
 -- a token that is refused cannot follow
-pub test_refused : (before : List Placed) (s : State) (p : Placed) → length before + 1 < 18446744073709551616 → run begun before ≡ Ok s → part_step s.kind s.threads s.held s.part p.token p.place ≡ None → CanFollow IsBegun (tokens_of before) p.token → ⊥
+pub test_refused : (before : List Placed) (s : State) (p : Placed) → length before + 1 < 18446744073709551616 → run first_draft before ≡ Ok s → part_step s.kind s.threads s.draft s.part p.token p.offset ≡ None → CanFollow IsBegun (tokens_of before) p.token → ⊥
 test_refused before s p few reached none c =
     let qs = before ++ p ∷ [] in
     let many : length qs ≡ length before + 1 = length-append before (p ∷ []) in
     let same : tokens_of before ++ p.token ∷ [] ≡ tokens_of qs = sym (tokens_of-append before (p ∷ [])) in
     let r = start_taken qs c.rest (let h : length qs < 18446744073709551616 = omega (arith, many, few) in h) (subst (λ (l : List Token). IsBegun (l ++ c.rest)) same c.text) in
-    let stops : run s (p ∷ []) ≡ Err (rule_at s.kind s.held.table s.stage p.token, p.place) = ap (λ (o : Option Next). and_then (placed p.place (stepped s p.token o)) (λ x. run x [])) none in
-    not_both (rule_at s.kind s.held.table s.stage p.token, p.place) r.0 (sym stops ∙ sym (run-append begun s before (p ∷ []) reached) ∙ r.1)
+    let stops : run s (p ∷ []) ≡ Err (rule_at s.kind s.draft.table s.stage p.token, p.offset) = ap (λ (o : Option Next). and_then (placed p.offset (stepped s p.token o)) (λ x. run x [])) none in
+    not_both (rule_at s.kind s.draft.table s.stage p.token, p.offset) r.0 (sym stops ∙ sym (run-append first_draft s before (p ∷ []) reached) ∙ r.1)

@@ -9,7 +9,6 @@ use Rattle.litmus_values.specs.declared.test.InitEntry.{InitEntry}
 use Rattle.litmus_values.specs.declared.test.Quantifier.{Quantifier}
 use Rattle.litmus_values.specs.Value.{Content}
 use Rattle.litmus_conditions.specs.declared.place.WrittenPlace.{WrittenPlace}
-use Rattle.litmus_conditions.specs.declared.place.WrittenPlace.TheVariants as written
 use Rattle.litmus_conditions.specs.Grammar.{PlaceTree, ValueTree, spelled_place, spelled_value, place_meaning, value_meaning, IsPlace, HasThread, IsValue, FormulaTree, spelled, meaning, Limits, IsFormula, spelled_quantifier, written_place}
 use Rattle.litmus_table.specs.Grammar.{RowTree, ThreadTree, AreCells, AreRows, spelled_header, spelled_rows, spelled_thread, columns_meaning}
 

@@ -13,13 +13,13 @@ use Rattle.litmus_values.specs.declared.test.Place.{Place}
 use Rattle.litmus_values.specs.declared.test.Place.TheVariants as whole_places
 use Rattle.litmus_values.specs.declared.test.Value as declared_value
 use Rattle.litmus_values.specs.declared.test.InitEntry.{InitEntry}
-use Rattle.litmus_conditions.specs.declared.place.PlaceHole.{PlaceHole}
-use Rattle.litmus_conditions.specs.declared.place.PlaceHole.TheVariants as places
+use Rattle.litmus_conditions.specs.declared.place.PlaceExpectation.{PlaceExpectation}
+use Rattle.litmus_conditions.specs.declared.place.PlaceExpectation.TheVariants as places
 use Rattle.litmus_conditions.specs.declared.place.PlaceStep.{PlaceStep}
 use Rattle.litmus_conditions.specs.declared.place.PlaceStep.TheVariants as place_steps
 use Rattle.litmus_conditions.specs.PlaceMachine.{place_step, place_of, value_read}
-use Rattle.litmus_grammar.specs.declared.parts.InitHole.{InitHole}
-use Rattle.litmus_grammar.specs.declared.parts.InitHole.TheVariants as holes
+use Rattle.litmus_grammar.specs.declared.parts.InitExpectation.{InitExpectation}
+use Rattle.litmus_grammar.specs.declared.parts.InitExpectation.TheVariants as expectations
 use Rattle.litmus_grammar.specs.declared.parts.InitStep.{InitStep}
 use Rattle.litmus_grammar.specs.declared.parts.InitStep.TheVariants as steps
 
@@ -46,14 +46,14 @@ known_key t (Some r) = Some (register_key t r)
 known_key t None = None
 
 -- the key of the place that a word names
-abbrev pub word_key : PlaceHole → List ℕ → Option (List ℕ)
+abbrev pub word_key : PlaceExpectation → List ℕ → Option (List ℕ)
 word_key places.Begins w = Some (location_key w)
 word_key places.WantsName w = Some (location_key w)
 word_key (places.WantsBracket n) w = None
 word_key (places.WantsColon t) w = None
 word_key (places.WantsRegister t) w = known_key t (register_of w)
 
-abbrev pub token_key : PlaceHole → Token → Option (List ℕ)
+abbrev pub token_key : PlaceExpectation → Token → Option (List ℕ)
 token_key h (tokens.Word w) = word_key h w
 token_key h t = None
 
@@ -78,62 +78,62 @@ pub record Did : Type 0 where
   pub step : InitStep
   pub block : Block
 
-abbrev pub goes : Block → InitHole → Option Did
+abbrev pub goes : Block → InitExpectation → Option Did
 goes b h = Some (record { step = steps.Goes h; block = b })
 
 abbrev pub ends : Block → Option Did
 ends b = Some (record { step = steps.Ends; block = b })
 
-abbrev pub place_went : Block → Option PlaceStep → Option Did
-place_went b (Some (place_steps.Goes h)) = goes b (holes.InPlace h)
-place_went b (Some (place_steps.Ends w)) = goes b (holes.WantsEquals (place_of w))
-place_went b None = None
+abbrev pub place_result : Block → Option PlaceStep → Option Did
+place_result b (Some (place_steps.Goes h)) = goes b (expectations.InPlace h)
+place_result b (Some (place_steps.Ends w)) = goes b (expectations.WantsEquals (place_of w))
+place_result b None = None
 
 abbrev pub and_place : Option Block → Option PlaceStep → Option Did
-and_place (Some b) s = place_went b s
+and_place (Some b) s = place_result b s
 and_place None s = None
 
 -- a token of a place that no entry before has
-abbrev pub place_read : Block → PlaceHole → Token → Option Did
+abbrev pub place_read : Block → PlaceExpectation → Token → Option Did
 place_read b h t = and_place (added_if b (token_key h t)) (place_step h t)
 
-abbrev pub begun_at : Block → ℕ → Block
-begun_at b place = record { entries = b.entries; starts = b.starts ++ place ∷ []; named = b.named }
+abbrev pub with_start : Block → ℕ → Block
+with_start b offset = record { entries = b.entries; starts = b.starts ++ offset ∷ []; named = b.named }
 
 abbrev pub open_read : Block → Token → Option Did
-open_read b (tokens.Mark marks.OpenBrace) = goes b holes.WantsEntry
+open_read b (tokens.Mark marks.OpenBrace) = goes b expectations.WantsEntry
 open_read b t = None
 
 -- where an entry may begin
 abbrev pub entry_read : Block → Token → ℕ → Option Did
-entry_read b (tokens.Mark marks.CloseBrace) place = ends b
-entry_read b t place = place_read (begun_at b place) places.Begins t
+entry_read b (tokens.Mark marks.CloseBrace) offset = ends b
+entry_read b t offset = place_read (with_start b offset) places.Begins t
 
 abbrev pub equals_read : Block → Place → Token → Option Did
-equals_read b p (tokens.Mark marks.Equals) = goes b (holes.WantsValue p)
+equals_read b p (tokens.Mark marks.Equals) = goes b (expectations.WantsValue p)
 equals_read b p t = None
 
 abbrev pub with_entry : Block → Place → declared_value.Value → Block
 with_entry b p v = record { entries = b.entries ++ record { place = p; value = v } ∷ []; starts = b.starts; named = b.named }
 
 abbrev pub valued : Block → Place → Option declared_value.Value → Option Did
-valued b p (Some v) = goes (with_entry b p v) holes.HasEntry
+valued b p (Some v) = goes (with_entry b p v) expectations.HasEntry
 valued b p None = None
 
 -- behind an entry
 abbrev pub behind : Block → Token → Option Did
-behind b (tokens.Mark marks.Semicolon) = goes b holes.WantsEntry
+behind b (tokens.Mark marks.Semicolon) = goes b expectations.WantsEntry
 behind b (tokens.Mark marks.CloseBrace) = ends b
 behind b t = None
 
 -- a token that stands at this byte
-abbrev pub step : Block → InitHole → Token → ℕ → Option Did
-step b holes.WantsOpen t place = open_read b t
-step b holes.WantsEntry t place = entry_read b t place
-step b (holes.InPlace h) t place = place_read b h t
-step b (holes.WantsEquals p) t place = equals_read b p t
-step b (holes.WantsValue p) t place = valued b p (value_read t)
-step b holes.HasEntry t place = behind b t
+abbrev pub step : Block → InitExpectation → Token → ℕ → Option Did
+step b expectations.WantsOpen t offset = open_read b t
+step b expectations.WantsEntry t offset = entry_read b t offset
+step b (expectations.InPlace h) t offset = place_read b h t
+step b (expectations.WantsEquals p) t offset = equals_read b p t
+step b (expectations.WantsValue p) t offset = valued b p (value_read t)
+step b expectations.HasEntry t offset = behind b t
 
 -- ---- the check that is made once the whole text is read
 

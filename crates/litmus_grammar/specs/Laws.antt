@@ -15,16 +15,16 @@ use Rattle.litmus_table.specs.Late.{thread_notes, columns_notes}
 use Rattle.litmus_table.specs.Laws.{steps_of, AreNoted}
 use Rattle.litmus_grammar.specs.declared.parts.TextKind.{TextKind}
 use Rattle.litmus_grammar.specs.Grammar.{EntryTree, spelled_entry, members, TestTree}
-use Rattle.litmus_grammar.specs.TextMachine.{Held, State, start, run}
+use Rattle.litmus_grammar.specs.TextMachine.{Draft, State, start, run}
 use Rattle.litmus_grammar.specs.Texts.{before_entries, before_rows}
 
 -- The machine takes these tokens, and what it holds then is this.
-pub record Takes (kind : TextKind) (threads : ℕ) (ps : List Placed) (Holds : Held → Type 0) : Type 0 where
+pub record Takes (kind : TextKind) (threads : ℕ) (ps : List Placed) (Holds : Draft → Type 0) : Type 0 where
   pub after : State
   pub by : run (start kind threads) ps ≡ Ok after
-  pub holds : Holds after.held
+  pub holds : Holds after.draft
 
--- ---- what is held
+-- ---- what the draft says
 
 -- an entry, for a thread that may not be there
 abbrev pub entry_kept : EntryTree → InitEntry
@@ -37,26 +37,26 @@ AreStarts all before (e ∷ es) (s ∷ ss) = StandsAt all before s × AreStarts 
 AreStarts all before es ss = ⊥
 
 -- a condition,
-pub record HoldsCondition (quantifier : Quantifier) (formula : Formula) (h : Held) : Type 0 where
+pub record HoldsCondition (quantifier : Quantifier) (formula : Formula) (h : Draft) : Type 0 where
   pub quantifier_is : h.quantifier ≡ quantifier
   pub formula_is : h.formula ≡ formula
 
 -- a list of places,
-abbrev pub HoldsPlaces : List Place → Held → Type 0
+abbrev pub HoldsPlaces : List Place → Draft → Type 0
 HoldsPlaces ps h = h.observed ≡ ps
 
 -- the entries of an init block, with the byte that each begins at,
-pub record HoldsEntries (ps : List Placed) (before : List Token) (es : List EntryTree) (h : Held) : Type 0 where
+pub record HoldsEntries (ps : List Placed) (before : List Token) (es : List EntryTree) (h : Draft) : Type 0 where
   pub entries : h.init.entries ≡ map entry_kept es
   pub stand : AreStarts ps before es h.init.starts
 
 -- a thread, with the bytes of its labels,
-pub record HoldsThread (ps : List Placed) (t : ThreadTree) (h : Held) : Type 0 where
+pub record HoldsThread (ps : List Placed) (t : ThreadTree) (h : Draft) : Type 0 where
   pub meant : steps_of h.table.threads ≡ thread_meaning t ∷ []
   pub noted : AreNoted ps (thread_notes [] (t.first ∷ t.others) ∷ []) h.table.threads
 
 -- and a test.
-pub record HoldsTest (ps : List Placed) (t : TestTree) (h : Held) : Type 0 where
+pub record HoldsTest (ps : List Placed) (t : TestTree) (h : Draft) : Type 0 where
   pub name : h.name ≡ t.name
   pub init : HoldsEntries ps (before_entries t) (members t.init) h
   pub meant : steps_of h.table.threads ≡ columns_meaning 0 (t.others + 1) t.rows

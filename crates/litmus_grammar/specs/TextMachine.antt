@@ -15,7 +15,7 @@ use Rattle.litmus_values.specs.declared.test.Place.{Place}
 use Rattle.litmus_values.specs.declared.test.Quantifier.{Quantifier}
 use Rattle.litmus_values.specs.declared.test.Quantifier.TheVariants.{Exists, NotExists, Forall}
 use Rattle.litmus_values.specs.Value.{Formula, Constant}
-use Rattle.litmus_conditions.specs.declared.place.PlaceHole.TheVariants as place_holes
+use Rattle.litmus_conditions.specs.declared.place.PlaceExpectation.TheVariants as place_expectations
 use Rattle.litmus_conditions.specs.declared.place.PlaceStep.{PlaceStep}
 use Rattle.litmus_conditions.specs.declared.place.PlaceStep.TheVariants as place_steps
 use Rattle.litmus_conditions.specs.Grammar.{limits}
@@ -24,10 +24,10 @@ use Rattle.litmus_conditions.specs.ConditionMachine as condition
 use Rattle.litmus_table.specs.Machine as table
 use Rattle.litmus_grammar.specs.declared.parts.TextKind.{TextKind}
 use Rattle.litmus_grammar.specs.declared.parts.TextKind.TheVariants as kinds
-use Rattle.litmus_grammar.specs.declared.parts.ItemHole.{ItemHole}
-use Rattle.litmus_grammar.specs.declared.parts.ItemHole.TheVariants as items
-use Rattle.litmus_grammar.specs.declared.parts.InitHole.{InitHole}
-use Rattle.litmus_grammar.specs.declared.parts.InitHole.TheVariants as init_holes
+use Rattle.litmus_grammar.specs.declared.parts.ItemExpectation.{ItemExpectation}
+use Rattle.litmus_grammar.specs.declared.parts.ItemExpectation.TheVariants as items
+use Rattle.litmus_grammar.specs.declared.parts.InitExpectation.{InitExpectation}
+use Rattle.litmus_grammar.specs.declared.parts.InitExpectation.TheVariants as init_expectations
 use Rattle.litmus_grammar.specs.declared.parts.InitStep.{InitStep}
 use Rattle.litmus_grammar.specs.declared.parts.InitStep.TheVariants as init_steps
 use Rattle.litmus_grammar.specs.InitMachine as init
@@ -38,22 +38,22 @@ pub data Part : Type 0 where
   Title : Part
   TitleEnd : Part
   Head : (may_have_text : Bool) → Part
-  Init : (hole : InitHole) → Part
+  Init : (expected : InitExpectation) → Part
   WantsColumn : Part
   HasColumn : Part
   Rows : Part
   Cells : Part
   WantsList : Part
-  Item : (hole : ItemHole) → Part
+  Item : (expected : ItemExpectation) → Part
   WantsQuantifier : Part
   AfterTilde : Part
-  Proposition : (quantifier : Quantifier) (frames : List condition.Frame) (used : ℕ) (hole : condition.Hole) → Part
+  Proposition : (quantifier : Quantifier) (frames : List condition.Frame) (used : ℕ) (expected : condition.Expectation) → Part
   ListOrEnd : Part
   WantsEnd : Part
   Done : Part
 
 -- what was read so far
-pub record Held : Type 0 where
+pub record Draft : Type 0 where
   pub name : List ℕ
   pub init : init.Block
   pub table : table.State
@@ -63,31 +63,31 @@ pub record Held : Type 0 where
 
 pub record Next : Type 0 where
   pub part : Part
-  pub held : Held
+  pub draft : Draft
 
 -- ---- what was read, and more
 
-abbrev pub with_name : Held → List ℕ → Held
+abbrev pub with_name : Draft → List ℕ → Draft
 with_name h n = record { name = n; init = h.init; table = h.table; observed = h.observed; quantifier = h.quantifier; formula = h.formula }
 
-abbrev pub with_init : Held → init.Block → Held
+abbrev pub with_init : Draft → init.Block → Draft
 with_init h b = record { name = h.name; init = b; table = h.table; observed = h.observed; quantifier = h.quantifier; formula = h.formula }
 
-abbrev pub with_table : Held → table.State → Held
+abbrev pub with_table : Draft → table.State → Draft
 with_table h t = record { name = h.name; init = h.init; table = t; observed = h.observed; quantifier = h.quantifier; formula = h.formula }
 
-abbrev pub with_place : Held → Place → Held
+abbrev pub with_place : Draft → Place → Draft
 with_place h p = record { name = h.name; init = h.init; table = h.table; observed = h.observed ++ p ∷ []; quantifier = h.quantifier; formula = h.formula }
 
-abbrev pub with_condition : Held → Quantifier → Formula → Held
+abbrev pub with_condition : Draft → Quantifier → Formula → Draft
 with_condition h q a = record { name = h.name; init = h.init; table = h.table; observed = h.observed; quantifier = q; formula = a }
 
-abbrev pub at : Held → Part → Option Next
-at h p = Some (record { part = p; held = h })
+abbrev pub at : Draft → Part → Option Next
+at h p = Some (record { part = p; draft = h })
 
-abbrev pub leads : Held → Option Part → Option Next
-leads h (Some p) = at h p
-leads h None = None
+abbrev pub next_at : Draft → Option Part → Option Next
+next_at h (Some p) = at h p
+next_at h None = None
 
 -- ---- tokens that are looked at alone
 
@@ -109,7 +109,7 @@ abbrev pub magic_read : Token → Option Part
 magic_read (tokens.Word w) = if bytes_eq w (codes "PPC") then Some Title else None
 magic_read t = None
 
-abbrev pub title_read : Held → Token → Option Next
+abbrev pub title_read : Draft → Token → Option Next
 title_read h (tokens.Word w) = if is_test_name w then at (with_name h w) TitleEnd else None
 title_read h t = None
 
@@ -120,7 +120,7 @@ title_ended t = None
 abbrev pub head_read : Bool → Token → Option Part
 head_read may_have_text tokens.Text = if may_have_text then Some (Head false) else None
 head_read may_have_text tokens.Keyline = Some (Head false)
-head_read may_have_text (tokens.Mark marks.OpenBrace) = Some (Init init_holes.WantsEntry)
+head_read may_have_text (tokens.Mark marks.OpenBrace) = Some (Init init_expectations.WantsEntry)
 head_read may_have_text t = None
 
 -- ---- the init block
@@ -130,18 +130,18 @@ after_init kinds.Init = WantsEnd
 after_init kind = WantsColumn
 
 abbrev pub init_part : TextKind → InitStep → Part
-init_part kind (init_steps.Goes hole) = Init hole
+init_part kind (init_steps.Goes expected) = Init expected
 init_part kind init_steps.Ends = after_init kind
 
-abbrev pub init_went : TextKind → Held → Option init.Did → Option Next
-init_went kind h (Some d) = at (with_init h d.block) (init_part kind d.step)
-init_went kind h None = None
+abbrev pub init_result : TextKind → Draft → Option init.Did → Option Next
+init_result kind h (Some d) = at (with_init h d.block) (init_part kind d.step)
+init_result kind h None = None
 
 -- ---- the table
 
-abbrev pub table_went : Held → Part → Option table.State → Option Next
-table_went h p (Some t) = at (with_table h t) p
-table_went h p None = None
+abbrev pub table_result : Draft → Part → Option table.State → Option Next
+table_result h p (Some t) = at (with_table h t) p
+table_result h p None = None
 
 abbrev pub column_ended : Token → Option Part
 column_ended (tokens.Mark marks.Bar) = Some WantsColumn
@@ -168,10 +168,10 @@ abbrev pub exists_read : Token → Option Part
 exists_read (tokens.Word w) = if bytes_eq w (codes "exists") then Some (proposition NotExists) else None
 exists_read t = None
 
-abbrev pub fed : Held → Quantifier → condition.Fed → Option Next
-fed h q (condition.Goes fs used hole) = at h (Proposition q fs used hole)
-fed h q (condition.Ends a) = at (with_condition h q a) Done
-fed h q condition.Refuses = None
+abbrev pub proposition_result : Draft → Quantifier → condition.StepResult → Option Next
+proposition_result h q (condition.Goes fs used expected) = at h (Proposition q fs used expected)
+proposition_result h q (condition.Ends a) = at (with_condition h q a) Done
+proposition_result h q condition.Refuses = None
 
 -- ---- the list of places
 
@@ -183,78 +183,78 @@ abbrev pub after_list : TextKind → Part
 after_list kinds.Locations = WantsEnd
 after_list kind = WantsQuantifier
 
-abbrev pub item_went : Held → Option PlaceStep → Option Next
-item_went h (Some (place_steps.Goes hole)) = at h (Item (items.Within hole))
-item_went h (Some (place_steps.Ends written)) = at (with_place h (place_of written)) (Item items.HasItem)
-item_went h None = None
+abbrev pub item_result : Draft → Option PlaceStep → Option Next
+item_result h (Some (place_steps.Goes expected)) = at h (Item (items.Within expected))
+item_result h (Some (place_steps.Ends written)) = at (with_place h (place_of written)) (Item items.HasItem)
+item_result h None = None
 
-abbrev pub item_begun : ℕ → Held → Token → Option Next
-item_begun threads h t = if is_there threads t then item_went h (place_step place_holes.Begins t) else None
+abbrev pub item_start : ℕ → Draft → Token → Option Next
+item_start threads h t = if is_there threads t then item_result h (place_step place_expectations.Begins t) else None
 
-abbrev pub next_item : TextKind → ℕ → Held → Token → Option Next
+abbrev pub next_item : TextKind → ℕ → Draft → Token → Option Next
 next_item kind threads h (tokens.Mark marks.CloseBracket) = at h (after_list kind)
-next_item kind threads h t = item_begun threads h t
+next_item kind threads h t = item_start threads h t
 
 abbrev pub item_ended : TextKind → Token → Option Part
 item_ended kind (tokens.Mark marks.Semicolon) = Some (Item items.WantsNext)
 item_ended kind (tokens.Mark marks.CloseBracket) = Some (after_list kind)
 item_ended kind t = None
 
-abbrev pub item_read : TextKind → ℕ → Held → ItemHole → Token → Option Next
-item_read kind threads h items.WantsFirst t = item_begun threads h t
+abbrev pub item_read : TextKind → ℕ → Draft → ItemExpectation → Token → Option Next
+item_read kind threads h items.WantsFirst t = item_start threads h t
 item_read kind threads h items.WantsNext t = next_item kind threads h t
-item_read kind threads h (items.Within hole) t = item_went h (place_step hole t)
-item_read kind threads h items.HasItem t = leads h (item_ended kind t)
+item_read kind threads h (items.Within expected) t = item_result h (place_step expected t)
+item_read kind threads h items.HasItem t = next_at h (item_ended kind t)
 
 -- behind the table
-abbrev pub tail_begun : Token → Option Part
-tail_begun t = if is_list_word t then Some WantsList else quantifier_read t
+abbrev pub tail_start : Token → Option Part
+tail_start t = if is_list_word t then Some WantsList else quantifier_read t
 
 abbrev pub end_read : Token → Option Part
 end_read tokens.End = Some Done
 end_read t = None
 
 -- where the text of a list of places begins, or ends
-abbrev pub list_begun : Token → Option Part
-list_begun t = if is_list_word t then Some WantsList else end_read t
+abbrev pub list_start : Token → Option Part
+list_start t = if is_list_word t then Some WantsList else end_read t
 
 -- ---- all parts
 
 -- a token in a row, or behind the rows
-abbrev pub row_read : Held → Token → ℕ → Option Next
-row_read h t place =
-    if table.is_row_start h.table && begins_tail t then leads h (tail_begun t) else table_went h Rows (table.step h.table t place)
+abbrev pub row_read : Draft → Token → ℕ → Option Next
+row_read h t offset =
+    if table.is_row_start h.table && begins_tail t then next_at h (tail_start t) else table_result h Rows (table.step h.table t offset)
 
 -- a token in the text of a thread, which ends where a cell may
-abbrev pub cell_read : Held → Token → ℕ → Option Next
-cell_read h t place =
-    if table.can_end h.table.hole && is_end t then at h Done else table_went h Cells (table.step h.table t place)
+abbrev pub cell_read : Draft → Token → ℕ → Option Next
+cell_read h t offset =
+    if table.can_end h.table.expected && is_end t then at h Done else table_result h Cells (table.step h.table t offset)
 
 -- how many threads there are: behind the table of a test those of the table
-abbrev pub threads_in : TextKind → ℕ → Held → ℕ
+abbrev pub threads_in : TextKind → ℕ → Draft → ℕ
 threads_in kinds.Test given h = length h.table.threads
 threads_in kind given h = given
 
 -- a token that stands at this byte
-abbrev pub part_step : TextKind → ℕ → Held → Part → Token → ℕ → Option Next
-part_step kind given h Magic t place = leads h (magic_read t)
-part_step kind given h Title t place = title_read h t
-part_step kind given h TitleEnd t place = leads h (title_ended t)
-part_step kind given h (Head may_have_text) t place = leads h (head_read may_have_text t)
-part_step kind given h (Init hole) t place = init_went kind h (init.step h.init hole t place)
-part_step kind given h WantsColumn t place = table_went h HasColumn (table.named h.table t)
-part_step kind given h HasColumn t place = leads h (column_ended t)
-part_step kind given h Rows t place = row_read h t place
-part_step kind given h Cells t place = cell_read h t place
-part_step kind given h WantsList t place = leads h (list_opened t)
-part_step kind given h (Item hole) t place = item_read kind (threads_in kind given h) h hole t
-part_step kind given h WantsQuantifier t place = leads h (quantifier_read t)
-part_step kind given h AfterTilde t place = leads h (exists_read t)
-part_step kind given h (Proposition q fs used hole) t place =
-    fed h q (condition.feed limits (threads_in kind given h) fs used hole t)
-part_step kind given h ListOrEnd t place = leads h (list_begun t)
-part_step kind given h WantsEnd t place = leads h (end_read t)
-part_step kind given h Done t place = None
+abbrev pub part_step : TextKind → ℕ → Draft → Part → Token → ℕ → Option Next
+part_step kind given h Magic t offset = next_at h (magic_read t)
+part_step kind given h Title t offset = title_read h t
+part_step kind given h TitleEnd t offset = next_at h (title_ended t)
+part_step kind given h (Head may_have_text) t offset = next_at h (head_read may_have_text t)
+part_step kind given h (Init expected) t offset = init_result kind h (init.step h.init expected t offset)
+part_step kind given h WantsColumn t offset = table_result h HasColumn (table.named h.table t)
+part_step kind given h HasColumn t offset = next_at h (column_ended t)
+part_step kind given h Rows t offset = row_read h t offset
+part_step kind given h Cells t offset = cell_read h t offset
+part_step kind given h WantsList t offset = next_at h (list_opened t)
+part_step kind given h (Item expected) t offset = item_read kind (threads_in kind given h) h expected t
+part_step kind given h WantsQuantifier t offset = next_at h (quantifier_read t)
+part_step kind given h AfterTilde t offset = next_at h (exists_read t)
+part_step kind given h (Proposition q fs used expected) t offset =
+    proposition_result h q (condition.proposition_step limits (threads_in kind given h) fs used expected t)
+part_step kind given h ListOrEnd t offset = next_at h (list_start t)
+part_step kind given h WantsEnd t offset = next_at h (end_read t)
+part_step kind given h Done t offset = None
 
 -- ---- the rule that a refused token breaks
 
@@ -280,14 +280,14 @@ pub record State : Type 0 where
   pub threads : ℕ
   pub stage : Stage
   pub part : Part
-  pub held : Held
+  pub draft : Draft
 
 abbrev pub stepped : State → Token → Option Next → Result State LitmusRule
-stepped s t (Some n) = Ok (record { kind = s.kind; threads = s.threads; stage = after s.stage t; part = n.part; held = n.held })
-stepped s t None = Err (rule_at s.kind s.held.table s.stage t)
+stepped s t (Some n) = Ok (record { kind = s.kind; threads = s.threads; stage = after s.stage t; part = n.part; draft = n.draft })
+stepped s t None = Err (rule_at s.kind s.draft.table s.stage t)
 
 abbrev pub step : State → Token → ℕ → Result State LitmusRule
-step s t place = stepped s t (part_step s.kind s.threads s.held s.part t place)
+step s t offset = stepped s t (part_step s.kind s.threads s.draft s.part t offset)
 
 abbrev pub first_stage : TextKind → Stage
 first_stage kinds.Test = stages.Magic
@@ -299,7 +299,7 @@ first_stage kinds.Locations = stages.Tail
 abbrev pub first_part : TextKind → Part
 first_part kinds.Test = Magic
 first_part kinds.Thread = Cells
-first_part kinds.Init = Init init_holes.WantsOpen
+first_part kinds.Init = Init init_expectations.WantsOpen
 first_part kinds.Condition = WantsQuantifier
 first_part kinds.Locations = ListOrEnd
 
@@ -308,24 +308,24 @@ abbrev pub first_table : TextKind → table.State
 first_table kinds.Thread = table.widened table.start
 first_table kind = table.start
 
-abbrev pub nothing : TextKind → Held
+abbrev pub nothing : TextKind → Draft
 nothing kind = record { name = []; init = init.start; table = first_table kind; observed = []; quantifier = Exists; formula = Constant true }
 
 abbrev pub start : TextKind → ℕ → State
-start kind threads = record { kind = kind; threads = threads; stage = first_stage kind; part = first_part kind; held = nothing kind }
+start kind threads = record { kind = kind; threads = threads; stage = first_stage kind; part = first_part kind; draft = nothing kind }
 
 abbrev pub Ran : Type 0
 Ran = Result State (LitmusRule × ℕ)
 
 abbrev pub placed : ℕ → Result State LitmusRule → Ran
-placed place (Ok s) = Ok s
-placed place (Err r) = Err (r, place)
+placed offset (Ok s) = Ok s
+placed offset (Err r) = Err (r, offset)
 
 abbrev pub and_then : Ran → (State → Ran) → Ran
 and_then (Ok s) f = f s
 and_then (Err e) f = Err e
 
--- the tokens one after another, with the place of the first that is refused
+-- the tokens one after another, with the offset of the first that is refused
 abbrev pub run : State → List Placed → Ran
 run s [] = Ok s
-run s (p ∷ ps) = and_then (placed p.place (step s p.token p.place)) (λ s'. run s' ps)
+run s (p ∷ ps) = and_then (placed p.offset (step s p.token p.offset)) (λ s'. run s' ps)

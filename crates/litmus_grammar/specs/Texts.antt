@@ -93,18 +93,18 @@ pub record Reads {V : Type 0} (IsText : List Token → Type 0) (start : Stage) (
   pub in_time : late (tokens_of (lexed start bytes)) text ≡ None
   pub meant : value (tokens_of (lexed start bytes)) text ≡ v
 
-pub record IsLateFault (IsText : List Token → Type 0) (start : Stage) (late : (ts : List Token) → IsText ts → Option Late) (bytes : List ℕ) (rule : LitmusRule) (place : ℕ) : Type 0 where
+pub record IsLateFault (IsText : List Token → Type 0) (start : Stage) (late : (ts : List Token) → IsText ts → Option Late) (bytes : List ℕ) (rule : LitmusRule) (offset : ℕ) : Type 0 where
   pub text : IsText (tokens_of (lexed start bytes))
   pub found : Late
   pub is_found : late (tokens_of (lexed start bytes)) text ≡ Some found
   pub rule_is : found.rule ≡ rule
-  pub stands : StandsAt (lexed start bytes) found.before place
+  pub stands : StandsAt (lexed start bytes) found.before offset
 
 -- the fault of bytes: too long, else where they stop to begin a text, else the first of the later checks
-pub data IsFaultAt (IsText : List Token → Type 0) (start : Stage) (late : (ts : List Token) → IsText ts → Option Late) (bytes : List ℕ) (rule : LitmusRule) (place : ℕ) : Type 0 where
-  IsTooLong : most_bytes < length bytes → rule ≡ rules.TooLong → place ≡ most_bytes → IsFaultAt IsText start late bytes rule place
-  IsGrammar : length bytes ≤ most_bytes → IsFault IsText start (lexed start bytes) rule place → IsFaultAt IsText start late bytes rule place
-  IsLater : length bytes ≤ most_bytes → IsLateFault IsText start late bytes rule place → IsFaultAt IsText start late bytes rule place
+pub data IsFaultAt (IsText : List Token → Type 0) (start : Stage) (late : (ts : List Token) → IsText ts → Option Late) (bytes : List ℕ) (rule : LitmusRule) (offset : ℕ) : Type 0 where
+  IsTooLong : most_bytes < length bytes → rule ≡ rules.TooLong → offset ≡ most_bytes → IsFaultAt IsText start late bytes rule offset
+  IsGrammar : length bytes ≤ most_bytes → IsFault IsText start (lexed start bytes) rule offset → IsFaultAt IsText start late bytes rule offset
+  IsLater : length bytes ≤ most_bytes → IsLateFault IsText start late bytes rule offset → IsFaultAt IsText start late bytes rule offset
 
 -- ---- the five readers
 
@@ -112,28 +112,28 @@ abbrev pub ReadsTest : List ℕ → Content → Type 0
 ReadsTest bytes v = Reads (IsTestText limits) Magic late_of_test (λ ts t. test_meaning t.tree) bytes v
 
 abbrev pub IsTestFault : List ℕ → LitmusRule → ℕ → Type 0
-IsTestFault bytes rule place = IsFaultAt (IsStart (IsTestText limits) Magic) Magic (late_of_start late_of_test) bytes rule place
+IsTestFault bytes rule offset = IsFaultAt (IsStart (IsTestText limits) Magic) Magic (late_of_start late_of_test) bytes rule offset
 
 abbrev pub ReadsInit : ℕ → List ℕ → List InitEntry → Type 0
 ReadsInit threads bytes v = Reads IsInitText (Init true false) (late_of_init threads) (λ ts t. map entry_meaning (members t.entries)) bytes v
 
 abbrev pub IsInitFault : ℕ → List ℕ → LitmusRule → ℕ → Type 0
-IsInitFault threads bytes rule place = IsFaultAt (IsStart IsInitText (Init true false)) (Init true false) (late_of_start (late_of_init threads)) bytes rule place
+IsInitFault threads bytes rule offset = IsFaultAt (IsStart IsInitText (Init true false)) (Init true false) (late_of_start (late_of_init threads)) bytes rule offset
 
 abbrev pub ReadsThread : List ℕ → List Step → Type 0
 ReadsThread bytes v = Reads IsThreadText CellBegins late_of_thread (λ ts t. thread_meaning t.tree) bytes v
 
 abbrev pub IsThreadFault : List ℕ → LitmusRule → ℕ → Type 0
-IsThreadFault bytes rule place = IsFaultAt IsThreadText CellBegins late_of_thread bytes rule place
+IsThreadFault bytes rule offset = IsFaultAt IsThreadText CellBegins late_of_thread bytes rule offset
 
 abbrev pub ReadsCondition : ℕ → List ℕ → Quantifier × Formula → Type 0
 ReadsCondition threads bytes v = Reads (IsConditionText limits threads) Tail (λ ts t. None) (λ ts t. (t.quantifier, meaning t.condition)) bytes v
 
 abbrev pub IsConditionFault : ℕ → List ℕ → LitmusRule → ℕ → Type 0
-IsConditionFault threads bytes rule place = IsFaultAt (IsConditionText limits threads) Tail (λ ts t. None) bytes rule place
+IsConditionFault threads bytes rule offset = IsFaultAt (IsConditionText limits threads) Tail (λ ts t. None) bytes rule offset
 
 abbrev pub ReadsLocations : ℕ → List ℕ → List Place → Type 0
 ReadsLocations threads bytes v = Reads (IsLocationsText threads) Tail (λ ts t. None) (λ ts t. map place_meaning (members t.items)) bytes v
 
 abbrev pub IsLocationsFault : ℕ → List ℕ → LitmusRule → ℕ → Type 0
-IsLocationsFault threads bytes rule place = IsFaultAt (IsLocationsText threads) Tail (λ ts t. None) bytes rule place
+IsLocationsFault threads bytes rule offset = IsFaultAt (IsLocationsText threads) Tail (λ ts t. None) bytes rule offset

@@ -1,14 +1,10 @@
-//! What a text is read as, and where in its lists the reader stands.
+//! The kinds of texts, and what the reader expects in the lists of a text.
 
-ghost use Rattle.std.specs.Prelude.{◌≡◌};
-ghost use Rattle.litmus_grammar.specs.TextMachine.{is_thread, first_stage};
-
-use litmus_conditions::PlaceHole;
-use litmus_tokens::Stage;
+use litmus_conditions::PlaceExpectation;
 use litmus_values::Place;
 
-/// What a text is to be.
-#[derive(Clone, Copy, Debug)]
+/// The kind of a text.
+#[derive(Clone, Copy)]
 pub enum TextKind {
     /// A whole test.
     Test,
@@ -22,66 +18,41 @@ pub enum TextKind {
     Locations,
 }
 
-/// Where in the init block the reader stands.
-#[derive(Debug, Drop)]
-pub enum InitHole {
-    /// `{` is wanted.
+/// What the reader expects next in the init block.
+#[derive(Drop)]
+pub enum InitExpectation {
+    /// `{`.
     WantsOpen,
-    /// An entry or `}` is wanted.
+    /// An entry or `}`.
     WantsEntry,
-    /// Within the place of an entry.
-    InPlace(PlaceHole),
-    /// After a place, where `=` is wanted.
+    /// The next token of the observable of an entry.
+    InPlace(PlaceExpectation),
+    /// `=`, behind this observable.
     WantsEquals(Place),
-    /// After `=`, where a value is wanted.
+    /// The value of this observable, behind `=`.
     WantsValue(Place),
-    /// After an entry, where `;` or `}` is wanted.
+    /// `;` or `}`, behind an entry.
     HasEntry,
 }
 
-/// What a token of the init block did.
-#[derive(Debug, Drop)]
+/// The result of a step over a token of the init block.
+#[derive(Drop)]
 pub enum InitStep {
     /// The block goes on.
-    Goes(InitHole),
+    Goes(InitExpectation),
     /// The block has ended.
     Ends,
 }
 
-/// Where in the list of `locations` the reader stands.
-#[derive(Debug, Drop)]
-pub enum ItemHole {
-    /// After `[`, where a place is wanted.
+/// What the reader expects next in the list of `locations`.
+#[derive(Drop)]
+pub enum ItemExpectation {
+    /// An observable, behind `[`.
     WantsFirst,
-    /// After `;`, where a place or `]` is wanted.
+    /// An observable or `]`, behind `;`.
     WantsNext,
-    /// Within a place.
-    Within(PlaceHole),
-    /// After a place, where `;` or `]` is wanted.
+    /// The next token of an observable.
+    Within(PlaceExpectation),
+    /// `;` or `]`, behind an observable.
     HasItem,
-}
-
-impl TextKind {
-    /// Whether it is a thread alone.
-    pub fn is_thread(self) -> bool
-        ensures { result ≡ is_thread self }
-    {
-        match self {
-            TextKind::Thread => true,
-            _ => false,
-        }
-    }
-
-    /// The part that the bytes of such a text begin in.
-    pub fn first_stage(self) -> Stage
-        ensures { result ≡ first_stage self }
-    {
-        match self {
-            TextKind::Test => Stage::Magic,
-            TextKind::Thread => Stage::CellBegins,
-            TextKind::Init => Stage::Init(true, false),
-            TextKind::Condition => Stage::Tail,
-            TextKind::Locations => Stage::Tail,
-        }
-    }
 }

@@ -7,7 +7,7 @@ ghost use Rattle.litmus_printing.specs.Printing.{condition_text, printed};
 ghost use Rattle.litmus_grammar.specs.Texts.{ReadsCondition, ReadsTest};
 ghost use Rattle.litmus_laws.specs.Written.{IsFormula, IsTest, IsTextOfCondition, IsTextOfTest, IsWithinLimits};
 
-/// What is printed for a condition, in a test of so many threads, reads as that condition.
+/// The printed condition is read as that condition, in a test of `threads` threads.
 pub fn printed_condition_is_read()
     // The limits of length, nesting and number aside.
     ensures text { (threads : ℕ) (q : Quantifier) (f : Formula) → threads < 18446744073709551616 → IsFormula threads f → IsTextOfCondition threads (condition_text q f) q f }
@@ -15,7 +15,7 @@ pub fn printed_condition_is_read()
     ensures reads { (threads : ℕ) (q : Quantifier) (f : Formula) → threads < 18446744073709551616 → IsFormula threads f → IsWithinLimits (condition_text q f) f → ReadsCondition threads (condition_text q f) (q, f) }
 {}
 
-/// What is printed for a test reads as that test.
+/// The printed test is read as that test.
 pub fn printed_is_read()
     // The limits of length, nesting and number aside.
     ensures text { (v : Content) → IsTest v → IsTextOfTest (printed v) v }
@@ -23,7 +23,7 @@ pub fn printed_is_read()
     ensures reads { (v : Content) → IsTest v → IsWithinLimits (printed v) v.condition → ReadsTest (printed v) v }
 {}
 
-/// What the text of a condition means, in a test of so many threads, can be printed so.
+/// The meaning of each text of a condition, in a test of `threads` threads, can be printed so.
 pub fn read_condition_is_written()
     // The limits of length, nesting and number aside.
     ensures text { (threads : ℕ) (bytes : List ℕ) (q : Quantifier) (f : Formula) → IsTextOfCondition threads bytes q f → IsFormula threads f }
@@ -31,7 +31,7 @@ pub fn read_condition_is_written()
     ensures reads { (threads : ℕ) (bytes : List ℕ) (q : Quantifier) (f : Formula) → ReadsCondition threads bytes (q, f) → IsFormula threads f }
 {}
 
-/// What a text means that the later checks pass can be printed so.
+/// The meaning of each text of a test that passes the later checks can be printed so.
 pub fn read_is_written()
     // The limits of length, nesting and number aside.
     ensures text { (bytes : List ℕ) (v : Content) → IsTextOfTest bytes v → IsTest v }

@@ -12,21 +12,21 @@ part_of parts.Magic = machine.Magic
 part_of parts.Title = machine.Title
 part_of parts.TitleEnd = machine.TitleEnd
 part_of (parts.Head may_have_text) = machine.Head may_have_text
-part_of (parts.Init hole) = machine.Init hole
+part_of (parts.Init expected) = machine.Init expected
 part_of parts.WantsColumn = machine.WantsColumn
 part_of parts.HasColumn = machine.HasColumn
 part_of parts.Rows = machine.Rows
 part_of parts.Cells = machine.Cells
 part_of parts.WantsList = machine.WantsList
-part_of (parts.Item hole) = machine.Item hole
+part_of (parts.Item expected) = machine.Item expected
 part_of parts.WantsQuantifier = machine.WantsQuantifier
 part_of parts.AfterTilde = machine.AfterTilde
-part_of (parts.Proposition q frames used hole) = machine.Proposition q (condition.stack_of frames.items) used (condition.hole_of hole)
+part_of (parts.Proposition q frames used expected) = machine.Proposition q (condition.stack_of frames.items) used (condition.expectation_of expected)
 part_of parts.ListOrEnd = machine.ListOrEnd
 part_of parts.WantsEnd = machine.WantsEnd
 part_of parts.Done = machine.Done
 
 -- What a function returned is what the machine does, unless memory ran out.
-abbrev pub Leads : Result code_part.Part StepError → Option machine.Part → Type 0
-Leads (Ok p) made = made ≡ Some (part_of p)
-Leads (Err e) made = Refuses e made
+abbrev pub IsNextPart : Result code_part.Part StepError → Option machine.Part → Type 0
+IsNextPart (Ok p) made = made ≡ Some (part_of p)
+IsNextPart (Err e) made = Refuses e made

@@ -2,18 +2,20 @@
 
 ghost use Rattle.std.specs.Prelude.{◌≡◌, IfOk};
 ghost use Rattle.litmus_conditions.specs.PlaceMachine.{value_read};
-ghost use Rattle.litmus_grammar.specs.InitMachine.{start, location_key, register_key, added, added_if, token_key, word_key, open_read, entry_read, place_read, place_went, equals_read, with_entry, valued, behind, step, lacks_thread, missing};
+ghost use Rattle.litmus_grammar.specs.InitMachine.{start, location_key, register_key, added, added_if, token_key, word_key, open_read, entry_read, place_read, place_result, equals_read, with_entry, valued, behind, step, lacks_thread, missing};
 ghost use Rattle.litmus_parts.specs.InitReading.{block_of, Adds, Steps};
 
-use litmus_conditions::{PlaceHole, PlaceStep, StepError, place_step, register_of, value_read};
-use litmus_grammar::{InitHole, InitStep};
+use litmus_conditions::{
+    PlaceExpectation, PlaceStep, StepError, place_step, register_of, value_read,
+};
+use litmus_grammar::{InitExpectation, InitStep};
 use litmus_tokens::{Mark, Token};
 use litmus_values::{InitEntry, Place, Register};
 use source_text::Name;
 use std::alloc::{AllocError, Global};
 use std::collections::BTreeSet;
 
-/// The entries read so far.
+/// The entries that were read so far.
 #[derive(Drop)]
 pub struct InitBlock {
     alloc: Global,
@@ -56,7 +58,7 @@ fn lacks_thread(threads: usize, place: &Place) -> bool
 }
 
 impl InitBlock {
-    /// Nothing yet of a block.
+    /// A block of which nothing was read.
     pub fn new(alloc: Global) -> InitBlock
         ensures { block_of result ≡ start }
     {
@@ -68,31 +70,33 @@ impl InitBlock {
         }
     }
 
-    /// Takes a token that stands at this byte. After an `Err` the block takes no more. Errors: want
-    /// of memory, or the token cannot stand there.
+    /// The step over a token at this byte offset. Errors: out of memory, or the token is refused; the
+    /// block is then to be dropped.
     pub fn step(
         &mut self,
-        hole: InitHole,
+        expected: InitExpectation,
         token: Token,
-        place: usize,
+        offset: usize,
     ) -> Result<InitStep, StepError>
         // It does what the machine does.
-        ensures { Steps result self.new (step (block_of self.old) hole token place) }
+        ensures { Steps result self.new (step (block_of self.old) expected token offset) }
     {
-        match hole {
-            InitHole::WantsOpen => match token {
-                Token::Mark(Mark::OpenBrace) => Ok(InitStep::Goes(InitHole::WantsEntry)),
+        match expected {
+            InitExpectation::WantsOpen => match token {
+                Token::Mark(Mark::OpenBrace) => Ok(InitStep::Goes(InitExpectation::WantsEntry)),
                 _ => Err(StepError::Refused),
             },
-            InitHole::WantsEntry => self.entry_read(token, place),
-            InitHole::InPlace(within) => self.place_read(within, token),
-            InitHole::WantsEquals(target) => match token {
-                Token::Mark(Mark::Equals) => Ok(InitStep::Goes(InitHole::WantsValue(target))),
+            InitExpectation::WantsEntry => self.entry_read(token, offset),
+            InitExpectation::InPlace(within) => self.place_read(within, token),
+            InitExpectation::WantsEquals(target) => match token {
+                Token::Mark(Mark::Equals) => Ok(InitStep::Goes(InitExpectation::WantsValue(
+                    target,
+                ))),
                 _ => Err(StepError::Refused),
             },
-            InitHole::WantsValue(target) => self.value_read(target, token),
-            InitHole::HasEntry => match token {
-                Token::Mark(Mark::Semicolon) => Ok(InitStep::Goes(InitHole::WantsEntry)),
+            InitExpectation::WantsValue(target) => self.value_read(target, token),
+            InitExpectation::HasEntry => match token {
+                Token::Mark(Mark::Semicolon) => Ok(InitStep::Goes(InitExpectation::WantsEntry)),
                 Token::Mark(Mark::CloseBrace) => Ok(InitStep::Ends),
                 _ => Err(StepError::Refused),
             },
@@ -100,27 +104,27 @@ impl InitBlock {
     }
 
     // A token where an entry may begin.
-    fn entry_read(&mut self, token: Token, place: usize) -> Result<InitStep, StepError>
-        ensures { Steps result self.new (entry_read (block_of self.old) token place) }
+    fn entry_read(&mut self, token: Token, offset: usize) -> Result<InitStep, StepError>
+        ensures { Steps result self.new (entry_read (block_of self.old) token offset) }
     {
         match token {
             Token::Mark(Mark::CloseBrace) => Ok(InitStep::Ends),
             other => {
-                self.starts.push(place)?;
-                self.place_read(PlaceHole::Begins, other)
+                self.starts.push(offset)?;
+                self.place_read(PlaceExpectation::Begins, other)
             }
         }
     }
 
     // A token of a place that no entry before has.
-    fn place_read(&mut self, within: PlaceHole, token: Token) -> Result<InitStep, StepError>
+    fn place_read(&mut self, within: PlaceExpectation, token: Token) -> Result<InitStep, StepError>
         ensures { Steps result self.new (place_read (block_of self.old) within token) }
     {
         self.note(&within, &token)?;
         match place_step(within, token)? {
-            PlaceStep::Goes(hole) => Ok(InitStep::Goes(InitHole::InPlace(hole))),
+            PlaceStep::Goes(expected) => Ok(InitStep::Goes(InitExpectation::InPlace(expected))),
             PlaceStep::Ends(written) => {
-                Ok(InitStep::Goes(InitHole::WantsEquals(written.into_place())))
+                Ok(InitStep::Goes(InitExpectation::WantsEquals(written.into_place())))
             }
         }
     }
@@ -131,11 +135,11 @@ impl InitBlock {
     {
         let value = value_read(token)?;
         self.entries.push(InitEntry { place, value })?;
-        Ok(InitStep::Goes(InitHole::HasEntry))
+        Ok(InitStep::Goes(InitExpectation::HasEntry))
     }
 
     // Notes the place that a token names, if it names one, and refuses one that repeats.
-    fn note(&mut self, within: &PlaceHole, token: &Token) -> Result<(), StepError>
+    fn note(&mut self, within: &PlaceExpectation, token: &Token) -> Result<(), StepError>
         ensures { Adds result self.new (added_if (block_of self.old) (token_key within.now token.now)) }
     {
         match token {
@@ -145,15 +149,15 @@ impl InitBlock {
     }
 
     // Notes the place that a word names, if it names one.
-    fn note_word(&mut self, within: &PlaceHole, word: &Name) -> Result<(), StepError>
+    fn note_word(&mut self, within: &PlaceExpectation, word: &Name) -> Result<(), StepError>
         ensures { Adds result self.new (added_if (block_of self.old) (word_key within.now word.now)) }
     {
         match within {
-            PlaceHole::Begins => self.add(location_key(self.alloc, word)?),
-            PlaceHole::WantsName => self.add(location_key(self.alloc, word)?),
-            PlaceHole::WantsBracket(_) => Ok(()),
-            PlaceHole::WantsColon(_) => Ok(()),
-            PlaceHole::WantsRegister(thread) => match register_of(word.as_bytes()) {
+            PlaceExpectation::Begins => self.add(location_key(self.alloc, word)?),
+            PlaceExpectation::WantsName => self.add(location_key(self.alloc, word)?),
+            PlaceExpectation::WantsBracket(_) => Ok(()),
+            PlaceExpectation::WantsColon(_) => Ok(()),
+            PlaceExpectation::WantsRegister(thread) => match register_of(word.as_bytes()) {
                 Some(register) => self.add(register_key(self.alloc, thread, register)?),
                 None => Ok(()),
             },
@@ -171,7 +175,7 @@ impl InitBlock {
         }
     }
 
-    /// The byte that the first entry begins at whose thread is not one of so many.
+    /// The byte offset of the first entry for a thread that a test of `threads` threads does not have, or `None`.
     pub fn missing(&self, threads: usize) -> Option<usize>
         ensures { result ≡ missing threads (block_of self.now).entries (block_of self.now).starts }
     {

@@ -1,19 +1,19 @@
-//! The parts of a text, and the tokens that lead from one to the next.
+//! The parts of a text, and the steps from part to part.
 
 ghost use Rattle.std.specs.Prelude.{◌≡◌};
 ghost use Rattle.litmus_tokens.specs.Texts.{ends_line, is_end, begins_tail};
-ghost use Rattle.litmus_grammar.specs.TextMachine.{is_word, is_filter_word, is_list_word, magic_read, title_ended, head_read, column_ended, word_quantifier, quantifier_read, exists_read, proposition, list_opened, item_ended, tail_begun, end_read, list_begun, init_part, after_init, after_list, first_part};
-ghost use Rattle.litmus_parts.specs.PartReading.{part_of, Leads};
+ghost use Rattle.litmus_grammar.specs.TextMachine.{is_thread, first_stage, is_word, is_filter_word, is_list_word, magic_read, title_ended, head_read, column_ended, word_quantifier, quantifier_read, exists_read, proposition, list_opened, item_ended, tail_start, end_read, list_start, init_part, after_init, after_list, first_part};
+ghost use Rattle.litmus_parts.specs.PartReading.{part_of, IsNextPart};
 
-use litmus_conditions::{Frame, Hole, StepError};
-use litmus_grammar::{InitHole, InitStep, ItemHole, TextKind};
+use litmus_conditions::{Expectation, Frame, StepError};
+use litmus_grammar::{InitExpectation, InitStep, ItemExpectation, TextKind};
 use litmus_tokens::{Mark, Stage, Token, ends_table, is_filter};
 use litmus_values::Quantifier;
 use source_text::Name;
 use std::alloc::Global;
 
 /// Where in a text the reader stands.
-#[derive(Debug, Drop)]
+#[derive(Drop)]
 pub enum Part {
     /// The first word, `PPC`, is wanted.
     Magic,
@@ -24,7 +24,7 @@ pub enum Part {
     /// Before the init block, and whether a text in quotes may still stand.
     Head(bool),
     /// In the init block.
-    Init(InitHole),
+    Init(InitExpectation),
     /// The name of a column of the header is wanted.
     WantsColumn,
     /// After a column of the header.
@@ -36,14 +36,14 @@ pub enum Part {
     /// Behind the word `locations`.
     WantsList,
     /// In a list of locations.
-    Item(ItemHole),
+    Item(ItemExpectation),
     /// The condition's quantifier is wanted.
     WantsQuantifier,
     /// Behind the tilde of `~exists`.
     AfterTilde,
-    /// What is open, how many operators were read, and what was read last.
-    Proposition(Quantifier, Vec<Frame>, usize, Hole),
-    /// The text of a list of places, which may be empty.
+    /// In the proposition: the quantifier, the open frames, the number of operators so far, and what is expected.
+    Proposition(Quantifier, Vec<Frame>, usize, Expectation),
+    /// The list of `locations` as a text of its own, or the end of an empty text.
     ListOrEnd,
     /// The end of the text is wanted.
     WantsEnd,
@@ -52,25 +52,25 @@ pub enum Part {
 }
 
 impl Part {
-    /// Where the reader stands before a text of this kind.
+    /// The first part of a text of this kind.
     pub fn first(kind: TextKind) -> Part
         ensures { part_of result ≡ first_part kind }
     {
         match kind {
             TextKind::Test => Part::Magic,
             TextKind::Thread => Part::Cells,
-            TextKind::Init => Part::Init(InitHole::WantsOpen),
+            TextKind::Init => Part::Init(InitExpectation::WantsOpen),
             TextKind::Condition => Part::WantsQuantifier,
             TextKind::Locations => Part::ListOrEnd,
         }
     }
 
-    /// Where a token in the init block of a text of this kind leads to.
+    /// The part behind a step of the init block, in a text of this kind.
     pub fn after_init_step(kind: TextKind, step: InitStep) -> Part
         ensures { part_of result ≡ init_part kind step }
     {
         match step {
-            InitStep::Goes(hole) => Part::Init(hole),
+            InitStep::Goes(expected) => Part::Init(expected),
             InitStep::Ends => Part::after_init(kind),
         }
     }
@@ -84,7 +84,7 @@ impl Part {
         }
     }
 
-    /// What follows the list of places in a text of this kind.
+    /// The part behind the list of `locations`, in a text of this kind.
     pub fn after_list(kind: TextKind) -> Part
         ensures { part_of result ≡ after_list kind }
     {
@@ -92,6 +92,29 @@ impl Part {
             TextKind::Locations => Part::WantsEnd,
             _ => Part::WantsQuantifier,
         }
+    }
+}
+
+/// Whether a text of this kind is a thread alone.
+pub fn is_thread(kind: TextKind) -> bool
+    ensures { result ≡ is_thread kind }
+{
+    match kind {
+        TextKind::Thread => true,
+        _ => false,
+    }
+}
+
+/// The stage of the lexer at the first byte of a text of this kind.
+pub fn first_stage(kind: TextKind) -> Stage
+    ensures { result ≡ first_stage kind }
+{
+    match kind {
+        TextKind::Test => Stage::Magic,
+        TextKind::Thread => Stage::CellBegins,
+        TextKind::Init => Stage::Init(true, false),
+        TextKind::Condition => Stage::Tail,
+        TextKind::Locations => Stage::Tail,
     }
 }
 
@@ -144,7 +167,7 @@ fn is_list_word(token: &Token) -> bool
     }
 }
 
-/// Whether the token begins what stands behind the table.
+/// Whether the token begins the part behind the table.
 pub fn begins_tail(token: &Token) -> bool
     ensures { result ≡ begins_tail token.now }
 {
@@ -155,9 +178,9 @@ pub fn begins_tail(token: &Token) -> bool
     }
 }
 
-/// The first word of a test. Errors: the token cannot stand there.
+/// The step over the first word of a test. Errors: the token is refused.
 pub fn magic_read(token: &Token) -> Result<Part, StepError>
-    ensures { Leads result (magic_read token.now) }
+    ensures { IsNextPart result (magic_read token.now) }
 {
     match token {
         Token::Word(word) => {
@@ -171,9 +194,9 @@ pub fn magic_read(token: &Token) -> Result<Part, StepError>
     }
 }
 
-/// The end of the line that the test's name stands in. Errors: the token cannot stand there.
+/// The step over the end of the line of the test's name. Errors: the token is refused.
 pub fn title_ended(token: &Token) -> Result<Part, StepError>
-    ensures { Leads result (title_ended token.now) }
+    ensures { IsNextPart result (title_ended token.now) }
 {
     match token {
         Token::LineEnd => Ok(Part::Head(true)),
@@ -181,9 +204,9 @@ pub fn title_ended(token: &Token) -> Result<Part, StepError>
     }
 }
 
-/// A token before the init block. Errors: the token cannot stand there.
+/// The step over a token before the init block. Errors: the token is refused.
 pub fn head_read(may_have_text: bool, token: &Token) -> Result<Part, StepError>
-    ensures { Leads result (head_read may_have_text token.now) }
+    ensures { IsNextPart result (head_read may_have_text token.now) }
 {
     match token {
         Token::Text => {
@@ -194,14 +217,14 @@ pub fn head_read(may_have_text: bool, token: &Token) -> Result<Part, StepError>
             }
         }
         Token::Keyline => Ok(Part::Head(false)),
-        Token::Mark(Mark::OpenBrace) => Ok(Part::Init(InitHole::WantsEntry)),
+        Token::Mark(Mark::OpenBrace) => Ok(Part::Init(InitExpectation::WantsEntry)),
         _ => Err(StepError::Refused),
     }
 }
 
-/// A token behind the name of a column. Errors: the token cannot stand there.
+/// The step over the token behind the name of a column. Errors: the token is refused.
 pub fn column_ended(token: &Token) -> Result<Part, StepError>
-    ensures { Leads result (column_ended token.now) }
+    ensures { IsNextPart result (column_ended token.now) }
 {
     match token {
         Token::Mark(Mark::Bar) => Ok(Part::WantsColumn),
@@ -210,30 +233,30 @@ pub fn column_ended(token: &Token) -> Result<Part, StepError>
     }
 }
 
-/// A token behind the word `locations`. Errors: the token cannot stand there.
+/// The step over the token behind the word `locations`. Errors: the token is refused.
 pub fn list_opened(token: &Token) -> Result<Part, StepError>
-    ensures { Leads result (list_opened token.now) }
+    ensures { IsNextPart result (list_opened token.now) }
 {
     match token {
-        Token::Mark(Mark::OpenBracket) => Ok(Part::Item(ItemHole::WantsFirst)),
+        Token::Mark(Mark::OpenBracket) => Ok(Part::Item(ItemExpectation::WantsFirst)),
         _ => Err(StepError::Refused),
     }
 }
 
-/// A token behind a place of the list. Errors: the token cannot stand there.
+/// The step over the token behind an observable of the list. Errors: the token is refused.
 pub fn item_ended(kind: TextKind, token: &Token) -> Result<Part, StepError>
-    ensures { Leads result (item_ended kind token.now) }
+    ensures { IsNextPart result (item_ended kind token.now) }
 {
     match token {
-        Token::Mark(Mark::Semicolon) => Ok(Part::Item(ItemHole::WantsNext)),
+        Token::Mark(Mark::Semicolon) => Ok(Part::Item(ItemExpectation::WantsNext)),
         Token::Mark(Mark::CloseBracket) => Ok(Part::after_list(kind)),
         _ => Err(StepError::Refused),
     }
 }
 
-/// A token behind the table. Errors: the token cannot stand there.
-pub fn tail_begun(alloc: Global, token: &Token) -> Result<Part, StepError>
-    ensures { Leads result (tail_begun token.now) }
+/// The step over the first token behind the table. Errors: the token is refused.
+pub fn tail_start(alloc: Global, token: &Token) -> Result<Part, StepError>
+    ensures { IsNextPart result (tail_start token.now) }
 {
     if is_list_word(token) {
         return Ok(Part::WantsList);
@@ -241,10 +264,10 @@ pub fn tail_begun(alloc: Global, token: &Token) -> Result<Part, StepError>
     quantifier_read(alloc, token)
 }
 
-/// A token where the text of a list of places begins, or ends. Errors: the token cannot stand
-/// there.
-pub fn list_begun(token: &Token) -> Result<Part, StepError>
-    ensures { Leads result (list_begun token.now) }
+/// The step over the first token of a list of `locations` that is a text of its own. Errors: the
+/// token is refused.
+pub fn list_start(token: &Token) -> Result<Part, StepError>
+    ensures { IsNextPart result (list_start token.now) }
 {
     if is_list_word(token) {
         return Ok(Part::WantsList);
@@ -252,9 +275,9 @@ pub fn list_begun(token: &Token) -> Result<Part, StepError>
     end_read(token)
 }
 
-/// A token where the condition begins. Errors: the token cannot stand there.
+/// The step over the first token of the condition. Errors: the token is refused.
 pub fn quantifier_read(alloc: Global, token: &Token) -> Result<Part, StepError>
-    ensures { Leads result (quantifier_read token.now) }
+    ensures { IsNextPart result (quantifier_read token.now) }
 {
     match token {
         Token::Mark(Mark::Tilde) => Ok(Part::AfterTilde),
@@ -264,7 +287,7 @@ pub fn quantifier_read(alloc: Global, token: &Token) -> Result<Part, StepError>
 }
 
 fn word_quantifier(alloc: Global, word: &Name) -> Result<Part, StepError>
-    ensures { Leads result (word_quantifier word.now) }
+    ensures { IsNextPart result (word_quantifier word.now) }
 {
     if word.as_bytes() == b"exists".as_slice() {
         return Ok(proposition(alloc, Quantifier::Exists));
@@ -275,9 +298,9 @@ fn word_quantifier(alloc: Global, word: &Name) -> Result<Part, StepError>
     Err(StepError::Refused)
 }
 
-/// A token behind the tilde of `~exists`. Errors: the token cannot stand there.
+/// The step over the token behind the tilde of `~exists`. Errors: the token is refused.
 pub fn exists_read(alloc: Global, token: &Token) -> Result<Part, StepError>
-    ensures { Leads result (exists_read token.now) }
+    ensures { IsNextPart result (exists_read token.now) }
 {
     match token {
         Token::Word(word) => {
@@ -293,12 +316,12 @@ pub fn exists_read(alloc: Global, token: &Token) -> Result<Part, StepError>
 fn proposition(alloc: Global, quantifier: Quantifier) -> Part
     ensures { part_of result ≡ proposition quantifier }
 {
-    Part::Proposition(quantifier, Vec::new(alloc), 0, Hole::Wants)
+    Part::Proposition(quantifier, Vec::new(alloc), 0, Expectation::Wants)
 }
 
-/// The end of the text. Errors: the token cannot stand there.
+/// The step over the end of the text. Errors: the token is refused.
 pub fn end_read(token: &Token) -> Result<Part, StepError>
-    ensures { Leads result (end_read token.now) }
+    ensures { IsNextPart result (end_read token.now) }
 {
     match token {
         Token::End => Ok(Part::Done),

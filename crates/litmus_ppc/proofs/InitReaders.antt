@@ -103,7 +103,7 @@ module _ (threads : ℕ) (few : threads < 18446744073709551616) where
     made = run (start kinds.Init threads) text_tokens
 
     abbrev missing_in : State → Option ℕ
-    missing_in s = missing (threads_in s.kind s.threads s.held) s.held.init.entries s.held.init.starts
+    missing_in s = missing (threads_in s.kind s.threads s.draft) s.draft.init.entries s.draft.init.starts
 
     text_of : (s : State) → made ≡ Ok s → IsInitText (tokens_of text_tokens)
     text_of s e =
@@ -111,62 +111,62 @@ module _ (threads : ℕ) (few : threads < 18446744073709551616) where
         init_whole threads text_tokens s e (ends_done (start kinds.Init threads) s l.0 l.1 (ap (run (start kinds.Init threads)) (sym l.2) ∙ e))
 
     -- what the machine holds behind a text
-    holds : (s : State) → made ≡ Ok s → (x : IsInitText (tokens_of text_tokens)) → (s.held.init.entries ≡ map entry_kept (members x.entries)) × AreStarts text_tokens (tokens.Mark marks.OpenBrace ∷ []) (members x.entries) s.held.init.starts
+    holds : (s : State) → made ≡ Ok s → (x : IsInitText (tokens_of text_tokens)) → (s.draft.init.entries ≡ map entry_kept (members x.entries)) × AreStarts text_tokens (tokens.Mark marks.OpenBrace ∷ []) (members x.entries) s.draft.init.starts
     holds s e x =
         let t = init_taken threads x.entries text_tokens x.fine x.whole in
         let same : t.state ≡ s = same_state t.state s (sym t.by ∙ e) in
-        subst (λ (y : State). (y.held.init.entries ≡ map entry_kept (members x.entries)) × AreStarts text_tokens (tokens.Mark marks.OpenBrace ∷ []) (members x.entries) y.held.init.starts) same (t.entries, t.stand)
+        subst (λ (y : State). (y.draft.init.entries ≡ map entry_kept (members x.entries)) × AreStarts text_tokens (tokens.Mark marks.OpenBrace ∷ []) (members x.entries) y.draft.init.starts) same (t.entries, t.stand)
 
     matches : (s : State) → made ≡ Ok s → (x : IsInitText (tokens_of text_tokens)) → Matches text_tokens (late_of_init threads (tokens_of text_tokens) x) (missing_in s)
     matches s e x =
         let f = follows (start kinds.Init threads) s text_tokens e in
         let h = holds s e x in
-        let given : threads_in s.kind s.threads s.held ≡ threads = ap (λ (k : TextKind). threads_in k s.threads s.held) f.kind ∙ f.threads in
-        let same : missing_in s ≡ missing threads (map entry_kept (members x.entries)) s.held.init.starts
-        = ap (λ (n : ℕ). missing n s.held.init.entries s.held.init.starts) given ∙ ap (λ (es : List InitEntry). missing threads es s.held.init.starts) h.0 in
-        subst (Matches text_tokens (late_of_init threads (tokens_of text_tokens) x)) (sym same) (late_matches text_tokens (tokens.Mark marks.OpenBrace ∷ []) (members x.entries) s.held.init.starts h.1)
+        let given : threads_in s.kind s.threads s.draft ≡ threads = ap (λ (k : TextKind). threads_in k s.threads s.draft) f.kind ∙ f.threads in
+        let same : missing_in s ≡ missing threads (map entry_kept (members x.entries)) s.draft.init.starts
+        = ap (λ (n : ℕ). missing n s.draft.init.entries s.draft.init.starts) given ∙ ap (λ (es : List InitEntry). missing threads es s.draft.init.starts) h.0 in
+        subst (Matches text_tokens (late_of_init threads (tokens_of text_tokens) x)) (sym same) (late_matches text_tokens (tokens.Mark marks.OpenBrace ∷ []) (members x.entries) s.draft.init.starts h.1)
 
     in_time : (l : Option Late) (n : Option ℕ) → Matches text_tokens l n → n ≡ None → l ≡ None
     in_time None n m e = refl
     in_time (Some l) None m e = absurd m
     in_time (Some l) (Some n) m e = absurd cc
 
-    pub init_found : (s : State) → (length bytes ≤ 65536 → made ≡ Ok s) → (65536 < length bytes → ⊥) → missing_in s ≡ None → ReadsInit threads bytes s.held.init.entries
+    pub init_found : (s : State) → (length bytes ≤ 65536 → made ≡ Ok s) → (65536 < length bytes → ⊥) → missing_in s ≡ None → ReadsInit threads bytes s.draft.init.entries
     init_found s h bounded none =
         let le = is_short bytes bounded in
         let x = text_of s (h le) in
         let late = in_time (late_of_init threads (tokens_of text_tokens) x) (missing_in s) (matches s (h le) x) none in
         record { short = le; text = x; in_time = late; meant = sym (kept_means (tokens.Mark marks.OpenBrace ∷ []) (members x.entries) late) ∙ sym (holds s (h le) x).0 }
 
-    pub init_only : (s : State) → (length bytes ≤ 65536 → made ≡ Ok s) → (v : List InitEntry) → ReadsInit threads bytes v → s.held.init.entries ≡ v
+    pub init_only : (s : State) → (length bytes ≤ 65536 → made ≡ Ok s) → (v : List InitEntry) → ReadsInit threads bytes v → s.draft.init.entries ≡ v
     init_only s h v r = (holds s (h r.short) r.text).0 ∙ kept_means (tokens.Mark marks.OpenBrace ∷ []) (members r.text.entries) r.in_time ∙ r.meant
 
     pub init_only_memory : (d : LitmusFault) → (length bytes ≤ 65536 → FailsAt d made) → (v : List InitEntry) → ReadsInit threads bytes v → faults_of.IsMemory d
     init_only_memory (faults.OutOfMemory e) h v r = tt
-    init_only_memory (faults.Refused rule place) h v r = no_fault (texts.IsStart IsInitText (Init true false)) kinds.Init threads (init_reading threads) text_tokens rule place (texts.IsWhole r.text) (h r.short)
+    init_only_memory (faults.Refused rule offset) h v r = no_fault (texts.IsStart IsInitText (Init true false)) kinds.Init threads (init_reading threads) text_tokens rule offset (texts.IsWhole r.text) (h r.short)
 
     pub init_only_there : (s : State) (d : LitmusFault) → (length bytes ≤ 65536 → made ≡ Ok s) → faults_of.IsMissingFound (Err d) (missing_in s) → (v : List InitEntry) → ReadsInit threads bytes v → faults_of.IsMemory d
     init_only_there s (faults.OutOfMemory e) h found v r = absurd found
-    init_only_there s (faults.Refused rule place) h found v r =
+    init_only_there s (faults.Refused rule offset) h found v r =
         let m = subst (Matches text_tokens (late_of_init threads (tokens_of text_tokens) r.text)) found.1 (matches s (h r.short) r.text) in
-        subst (λ (l : Option Late). Matches text_tokens l (Some place)) r.in_time m
+        subst (λ (l : Option Late). Matches text_tokens l (Some offset)) r.in_time m
 
     pub init_fault : (d : LitmusFault) → (length bytes ≤ 65536 → FailsAt d made) → (65536 < length bytes → faults_of.IsTooLong d) → IsFaultOf (IsInitFault threads bytes) d
     init_fault (faults.OutOfMemory e) h long = tt
-    init_fault (faults.Refused rule place) h long = choose (cases_lt 65536 (length bytes))
+    init_fault (faults.Refused rule offset) h long = choose (cases_lt 65536 (length bytes))
       where
-        choose : (65536 < length bytes) ⊎ (length bytes ≤ 65536) → IsInitFault threads bytes rule place
+        choose : (65536 < length bytes) ⊎ (length bytes ≤ 65536) → IsInitFault threads bytes rule offset
         choose (inl lt) = texts.IsTooLong lt (long lt).0 (long lt).1
-        choose (inr le) = texts.IsGrammar le (fault_found (texts.IsStart IsInitText (Init true false)) kinds.Init threads (init_reading threads) text_tokens rule place (h le))
+        choose (inr le) = texts.IsGrammar le (fault_found (texts.IsStart IsInitText (Init true false)) kinds.Init threads (init_reading threads) text_tokens rule offset (h le))
 
-    later_fault : (x : IsInitText (tokens_of text_tokens)) (l : Option Late) (place : ℕ) → late_of_init threads (tokens_of text_tokens) x ≡ l → Matches text_tokens l (Some place) → texts.IsLateFault (texts.IsStart IsInitText (Init true false)) (Init true false) (texts.late_of_start (late_of_init threads)) bytes rules.Init place
-    later_fault x (Some l) place e m = record { text = texts.IsWhole x; found = l; is_found = e; rule_is = m.0; stands = m.1 }
-    later_fault x None place e m = absurd m
+    later_fault : (x : IsInitText (tokens_of text_tokens)) (l : Option Late) (offset : ℕ) → late_of_init threads (tokens_of text_tokens) x ≡ l → Matches text_tokens l (Some offset) → texts.IsLateFault (texts.IsStart IsInitText (Init true false)) (Init true false) (texts.late_of_start (late_of_init threads)) bytes rules.Init offset
+    later_fault x (Some l) offset e m = record { text = texts.IsWhole x; found = l; is_found = e; rule_is = m.0; stands = m.1 }
+    later_fault x None offset e m = absurd m
 
     pub init_missing : (s : State) (d : LitmusFault) → (length bytes ≤ 65536 → made ≡ Ok s) → (65536 < length bytes → ⊥) → faults_of.IsMissingFound (Err d) (missing_in s) → IsFaultOf (IsInitFault threads bytes) d
     init_missing s (faults.OutOfMemory e) h bounded found = tt
-    init_missing s (faults.Refused rule place) h bounded found =
+    init_missing s (faults.Refused rule offset) h bounded found =
         let le = is_short bytes bounded in
         let x = text_of s (h le) in
         let m = subst (Matches text_tokens (late_of_init threads (tokens_of text_tokens) x)) found.1 (matches s (h le) x) in
-        texts.IsLater le (subst (λ (r : _). texts.IsLateFault (texts.IsStart IsInitText (Init true false)) (Init true false) (texts.late_of_start (late_of_init threads)) bytes r place) (sym found.0) (later_fault x (late_of_init threads (tokens_of text_tokens) x) place refl m))
+        texts.IsLater le (subst (λ (r : _). texts.IsLateFault (texts.IsStart IsInitText (Init true false)) (Init true false) (texts.late_of_start (late_of_init threads)) bytes r offset) (sym found.0) (later_fault x (late_of_init threads (tokens_of text_tokens) x) offset refl m))

@@ -14,7 +14,7 @@ use Rattle.litmus_ppc.specs.declared.fault.LitmusFault.TheVariants as faults
 use Rattle.litmus_grammar.specs.declared.parts.TextKind.TheVariants as kinds
 use Rattle.litmus_grammar.specs.Grammar.{members, entry_meaning, TestTree, test_meaning, IsTestText}
 use Rattle.litmus_grammar.specs.InitMachine.{missing}
-use Rattle.litmus_grammar.specs.TextMachine.{Held, State, Ran, threads_in, run, start, first_stage}
+use Rattle.litmus_grammar.specs.TextMachine.{Draft, State, Ran, threads_in, run, start, first_stage}
 use Rattle.litmus_grammar.specs.TextMachine as text
 use Rattle.litmus_ppc.specs.TextReading.{FailsAt, test_of}
 use Rattle.litmus_grammar.specs.Texts as texts
@@ -33,11 +33,11 @@ use Rattle.litmus_grammar.proofs.TestFaults.{test_fault_where}
 use Rattle.litmus_grammar.proofs.Runs.{same_state}
 
 abbrev pub missing_in : State → Option ℕ
-missing_in s = missing (threads_in s.kind s.threads s.held) s.held.init.entries s.held.init.starts
+missing_in s = missing (threads_in s.kind s.threads s.draft) s.draft.init.entries s.draft.init.starts
 
 -- what the check of labels answered
 abbrev pub Answered : State → Result (Unit {0}) LitmusFault → Type 0
-Answered s r = (placed : List Placed) (notes : List (List Note)) → AreNoted placed notes s.held.table.threads → IsLateFound placed r (first_late notes)
+Answered s r = (placed : List Placed) (notes : List (List Note)) → AreNoted placed notes s.draft.table.threads → IsLateFound placed r (first_late notes)
 
 abbrev late_init : TestTree → Option Late
 late_init t = late_entries (t.others + 1) (before_entries t) (members t.init)
@@ -84,15 +84,15 @@ module _ (bytes : List ℕ) where
   text_of : (s : State) → length bytes ≤ 65536 → made ≡ Ok s → IsTestText limits (tokens_of ps)
   text_of s le e =
       let l = lexed_ends (first_stage kinds.Test) bytes in
-      let d = ends_done (start kinds.Test 0) s l.inner l.place (ap (run (start kinds.Test 0)) (sym l.split) ∙ e) in
+      let d = ends_done (start kinds.Test 0) s l.inner l.offset (ap (run (start kinds.Test 0)) (sym l.split) ∙ e) in
       let x = test_whole ps s (few_tokens le) e d in
       record { tree = x.tree; fine = x.fine; whole = x.whole }
 
   -- what the machine keeps of a test
   record Keeps (s : State) (t : TestTree) : Type 0 where
     matches : Matches ps (late_init t) (missing_in s)
-    labels : AreNoted ps (columns_notes 0 (t.others + 1) (before_rows t) t.rows) s.held.table.threads
-    content : late_init t ≡ None → test_of s.held ≡ test_meaning t
+    labels : AreNoted ps (columns_notes 0 (t.others + 1) (before_rows t) t.rows) s.draft.table.threads
+    content : late_init t ≡ None → test_of s.draft ≡ test_meaning t
 
   keeps_by : (t : TestTree) → t.others + 1 < 18446744073709551616 → (r : TakesTest ps t) → Keeps (test_at r.stage text.Done (with_all t.name r.block r.reached (map place_meaning (members t.observed)) t.quantifier (meaning t.condition))) t
   keeps_by t few r =
@@ -118,7 +118,7 @@ module _ (bytes : List ℕ) where
       let same = same_state _ s (sym r.by ∙ e) in
       subst (λ (y : State). Keeps y x.tree) same (keeps_by x.tree few r)
 
-  pub test_found : (s : State) (u : Unit {0}) → (length bytes ≤ 65536 → made ≡ Ok s) → (65536 < length bytes → ⊥) → missing_in s ≡ None → Answered s (Ok u) → ReadsTest bytes (test_of s.held)
+  pub test_found : (s : State) (u : Unit {0}) → (length bytes ≤ 65536 → made ≡ Ok s) → (65536 < length bytes → ⊥) → missing_in s ≡ None → Answered s (Ok u) → ReadsTest bytes (test_of s.draft)
   test_found s u h bounded none answered =
       let le = is_short bytes bounded in
       let x = text_of s le (h le) in
@@ -127,41 +127,41 @@ module _ (bytes : List ℕ) where
       let b = nothing_found ps (late_labels x.tree) (answered ps (columns_notes 0 (x.tree.others + 1) (before_rows x.tree) x.tree.rows) k.labels) in
       record { short = le; text = x; in_time = none_both (late_init x.tree) (late_labels x.tree) a b; meant = sym (k.content a) }
 
-  pub test_only : (s : State) → (length bytes ≤ 65536 → made ≡ Ok s) → (v : Content) → ReadsTest bytes v → test_of s.held ≡ v
+  pub test_only : (s : State) → (length bytes ≤ 65536 → made ≡ Ok s) → (v : Content) → ReadsTest bytes v → test_of s.draft ≡ v
   test_only s h v r = (keeps s r.short (h r.short) r.text).content (none_first (late_init r.text.tree) (late_labels r.text.tree) r.in_time) ∙ r.meant
 
   pub test_only_memory : (d : LitmusFault) → (length bytes ≤ 65536 → FailsAt d made) → (v : Content) → ReadsTest bytes v → IsMemory d
   test_only_memory (faults.OutOfMemory e) h v r = tt
-  test_only_memory (faults.Refused rule place) h v r =
+  test_only_memory (faults.Refused rule offset) h v r =
       let x = r.text in
       let t = test_led x.tree x.fine (few_of x.tree ps x.whole (few_tokens r.short)) ps x.whole in
-      absurd (not_both (rule, place) _ (sym (h r.short) ∙ t.by))
+      absurd (not_both (rule, offset) _ (sym (h r.short) ∙ t.by))
 
   pub test_only_missing : (s : State) (d : LitmusFault) → (length bytes ≤ 65536 → made ≡ Ok s) → IsMissingFound (Err d) (missing_in s) → (v : Content) → ReadsTest bytes v → IsMemory d
   test_only_missing s (faults.OutOfMemory e) h f v r = tt
-  test_only_missing s (faults.Refused rule place) h f v r =
-      not_there ps (late_init r.text.tree) (missing_in s) place (keeps s r.short (h r.short) r.text).matches f.1 (none_first (late_init r.text.tree) (late_labels r.text.tree) r.in_time)
+  test_only_missing s (faults.Refused rule offset) h f v r =
+      not_there ps (late_init r.text.tree) (missing_in s) offset (keeps s r.short (h r.short) r.text).matches f.1 (none_first (late_init r.text.tree) (late_labels r.text.tree) r.in_time)
 
   pub test_only_labels : (s : State) (d : LitmusFault) → (length bytes ≤ 65536 → made ≡ Ok s) → Answered s (Err d) → (v : Content) → ReadsTest bytes v → IsMemory d
   test_only_labels s (faults.OutOfMemory e) h answered v r = tt
-  test_only_labels s (faults.Refused rule place) h answered v r =
+  test_only_labels s (faults.Refused rule offset) h answered v r =
       let t = r.text.tree in
       let k = keeps s r.short (h r.short) r.text in
-      subst (IsFoundAt ps (Some (record { rule = rule; place = place }))) (none_second (late_init t) (late_labels t) r.in_time) (answered ps (columns_notes 0 (t.others + 1) (before_rows t) t.rows) k.labels)
+      subst (IsFoundAt ps (Some (record { rule = rule; offset = offset }))) (none_second (late_init t) (late_labels t) r.in_time) (answered ps (columns_notes 0 (t.others + 1) (before_rows t) t.rows) k.labels)
 
   -- ---- the fault
 
   pub test_fault : (d : LitmusFault) → (length bytes ≤ 65536 → FailsAt d made) → (65536 < length bytes → IsTooLong d) → IsFaultOf (IsTestFault bytes) d
   test_fault (faults.OutOfMemory e) h long = tt
-  test_fault (faults.Refused rule place) h long = choose (cases_lt 65536 (length bytes))
+  test_fault (faults.Refused rule offset) h long = choose (cases_lt 65536 (length bytes))
     where
-      choose : (65536 < length bytes) ⊎ (length bytes ≤ 65536) → IsTestFault bytes rule place
+      choose : (65536 < length bytes) ⊎ (length bytes ≤ 65536) → IsTestFault bytes rule offset
       choose (inl lt) = texts.IsTooLong lt (long lt).0 (long lt).1
-      choose (inr le) = texts.IsGrammar le (test_fault_where ps rule place (few_tokens le) (h le))
+      choose (inr le) = texts.IsGrammar le (test_fault_where ps rule offset (few_tokens le) (h le))
 
   pub test_fault_missing : (s : State) (d : LitmusFault) → (length bytes ≤ 65536 → made ≡ Ok s) → (65536 < length bytes → ⊥) → IsMissingFound (Err d) (missing_in s) → IsFaultOf (IsTestFault bytes) d
   test_fault_missing s (faults.OutOfMemory e) h bounded f = tt
-  test_fault_missing s (faults.Refused rule place) h bounded f = by_found (late_init x.tree) refl (subst (Matches ps (late_init x.tree)) f.1 (keeps s le (h le) x).matches)
+  test_fault_missing s (faults.Refused rule offset) h bounded f = by_found (late_init x.tree) refl (subst (Matches ps (late_init x.tree)) f.1 (keeps s le (h le) x).matches)
     where
       le : length bytes ≤ 65536
       le = is_short bytes bounded
@@ -169,13 +169,13 @@ module _ (bytes : List ℕ) where
       x : IsTestText limits (tokens_of ps)
       x = text_of s le (h le)
 
-      by_found : (o : Option Late) → late_init x.tree ≡ o → Matches ps o (Some place) → IsTestFault bytes rule place
+      by_found : (o : Option Late) → late_init x.tree ≡ o → Matches ps o (Some offset) → IsTestFault bytes rule offset
       by_found None e m = absurd m
       by_found (Some l) e m = texts.IsLater le (record { text = IsWhole x; found = l; is_found = ap (λ (o : Option Late). or_else o (late_labels x.tree)) e; rule_is = m.0 ∙ sym f.0; stands = m.1 })
 
   pub test_fault_labels : (s : State) (d : LitmusFault) → (length bytes ≤ 65536 → made ≡ Ok s) → (65536 < length bytes → ⊥) → missing_in s ≡ None → Answered s (Err d) → IsFaultOf (IsTestFault bytes) d
   test_fault_labels s (faults.OutOfMemory e) h bounded none answered = tt
-  test_fault_labels s (faults.Refused rule place) h bounded none answered =
+  test_fault_labels s (faults.Refused rule offset) h bounded none answered =
       let k = keeps s le (h le) x in
       by_found (no_late ps (late_init x.tree) (missing_in s) k.matches none) (late_labels x.tree) refl (answered ps (columns_notes 0 (x.tree.others + 1) (before_rows x.tree) x.tree.rows) k.labels)
     where
@@ -185,6 +185,6 @@ module _ (bytes : List ℕ) where
       x : IsTestText limits (tokens_of ps)
       x = text_of s le (h le)
 
-      by_found : late_init x.tree ≡ None → (o : Option Late) → late_labels x.tree ≡ o → IsFoundAt ps (Some (record { rule = rule; place = place })) o → IsTestFault bytes rule place
+      by_found : late_init x.tree ≡ None → (o : Option Late) → late_labels x.tree ≡ o → IsFoundAt ps (Some (record { rule = rule; offset = offset })) o → IsTestFault bytes rule offset
       by_found a None e f = absurd f
       by_found a (Some l) e f = texts.IsLater le (record { text = IsWhole x; found = l; is_found = ap (λ (o : Option Late). or_else o (late_labels x.tree)) a ∙ e; rule_is = sym f.0; stands = f.1 })

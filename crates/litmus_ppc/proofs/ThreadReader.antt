@@ -19,7 +19,7 @@ use Rattle.litmus_ppc.proofs.TextReaders.{text_found, text_only, text_only_memor
 use Rattle.litmus_grammar.proofs.Threads.{thread_taken, thread_whole, thread_reading}
 
 abbrev kept_steps : State → List Step
-kept_steps s = first_steps s.held.table.threads
+kept_steps s = first_steps s.draft.table.threads
 
 first_of_one : (ts : List table.Placed) (ss : List Step) → steps_of ts ≡ ss ∷ [] → first_steps ts ≡ ss
 first_of_one [] ss e = absurd cc
@@ -44,14 +44,14 @@ module _ (bytes : List ℕ) where
 
   -- what the check of labels answered
   abbrev Answered : State → Result (Unit {0}) LitmusFault → Type 0
-  Answered s r = (placed : List Placed) (notes : List (List Note)) → AreNoted placed notes s.held.table.threads → IsLateFound placed r (first_late notes)
+  Answered s r = (placed : List Placed) (notes : List (List Note)) → AreNoted placed notes s.draft.table.threads → IsLateFound placed r (first_late notes)
 
   finds : (s : State) (r : Result (Unit {0}) LitmusFault) → made ≡ Ok s → Answered s r → (x : IsThreadText (tokens_of ps)) → IsLateFound ps r (late_of_thread (tokens_of ps) x)
   finds s r e answered x =
       let t = thread_taken 1 ps x in
       let same = same_state _ s (sym t.by ∙ e) in
       let notes = thread_notes [] (x.tree.first ∷ x.tree.others) in
-      subst (IsLateFound ps r) (alone (late_notes [] notes)) (answered ps (notes ∷ []) (subst (λ (y : State). AreNoted ps (notes ∷ []) y.held.table.threads) same t.noted))
+      subst (IsLateFound ps r) (alone (late_notes [] notes)) (answered ps (notes ∷ []) (subst (λ (y : State). AreNoted ps (notes ∷ []) y.draft.table.threads) same t.noted))
 
   pub thread_found : (s : State) (u : Unit {0}) → (length bytes ≤ 65536 → made ≡ Ok s) → (65536 < length bytes → ⊥) → Answered s (Ok u) → ReadsThread bytes (kept_steps s)
   thread_found s u h bounded answered = text_found IsThreadText kinds.Thread 1 (List Step) late_of_thread (λ ts t. thread_meaning t.tree) (thread_reading 1) (thread_whole 1) kept_steps steps_hold bytes s u h bounded (λ le. finds s (Ok u) (h le) answered)

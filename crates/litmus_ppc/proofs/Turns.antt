@@ -19,7 +19,7 @@ use Rattle.litmus_ppc.specs.TextReading.{state_of, FailsAt, StepsAt}
 
 -- the part behind a token that was taken
 stage_after_step : (s s' : State) (t : Token) (p : ℕ) → placed p (step s t p) ≡ Ok s' → s'.stage ≡ after s.stage t
-stage_after_step s s' t p e = by_next (part_step s.kind s.threads s.held s.part t p) e
+stage_after_step s s' t p e = by_next (part_step s.kind s.threads s.draft s.part t p) e
   where
     by_next : (o : Option Next) → placed p (stepped s t o) ≡ Ok s' → s'.stage ≡ after s.stage t
     by_next (Some n) h = cc
@@ -43,7 +43,7 @@ module _ (bytes : List ℕ) (s : State) (fresh : Bool) (p n q : ℕ) (all : Ran)
 
   pub lexeme_fails : (f : Front) (t : Token) (d : LitmusFault) → p < length bytes → f ≡ front s.stage fresh (take (length bytes - p) (drop p bytes)) → f ≡ Lexeme t n → FailsAt d (placed p (step s t p)) → FailsAt d all
   lexeme_fails f t (faults.OutOfMemory x) lt e k fails = tt
-  lexeme_fails f t (faults.Refused rule place) lt e k fails =
+  lexeme_fails f t (faults.Refused rule offset) lt e k fails =
       let r = p + min (max n 1) (length bytes - p) in
       so_far ∙ ap (run s) (lexeme_turn bytes p n r lt refl s.stage fresh f t (whole_rest f e) k)
       ∙ ap (λ (y : Ran). and_then y (λ x. run x (tokens_from (after s.stage t) (ends_line t) 0 r (drop r bytes)))) fails
@@ -54,7 +54,7 @@ module _ (bytes : List ℕ) (s : State) (fresh : Bool) (p n q : ℕ) (all : Ran)
 
   end_fails : (d : LitmusFault) → length bytes ≤ p → FailsAt d (placed p (step s tokens.End p)) → FailsAt d all
   end_fails (faults.OutOfMemory x) high fails = tt
-  end_fails (faults.Refused rule place) high fails =
+  end_fails (faults.Refused rule offset) high fails =
       so_far ∙ ap (run s) (at_end s.stage fresh bytes p high) ∙ ap (λ (r : Ran). and_then r (λ x. Ok x)) fails
 
   pub end_steps : (r : Result (Unit {0}) LitmusFault) (now : Reader) → length bytes ≤ p → StepsAt r now (placed p (step s tokens.End p)) → StepsAt r now all

@@ -8,34 +8,34 @@ use Rattle.litmus_table.specs.Late.{Late}
 use Rattle.litmus_ppc.specs.declared.fault.LitmusFault.{LitmusFault}
 use Rattle.litmus_ppc.specs.declared.fault.LitmusFault.TheVariants.{Refused, OutOfMemory}
 
--- the place is at most this
+-- the offset is at most this
 abbrev pub IsWithin : ℕ → LitmusFault → Type 0
-IsWithin n (Refused rule place) = place ≤ n
+IsWithin n (Refused rule offset) = offset ≤ n
 IsWithin n (OutOfMemory e) = Unit {0}
 
 -- the text is longer than any may be
 abbrev pub IsTooLong : LitmusFault → Type 0
-IsTooLong (Refused rule place) = (rule ≡ TooLong) × (place ≡ 65536)
+IsTooLong (Refused rule offset) = (rule ≡ TooLong) × (offset ≡ 65536)
 IsTooLong (OutOfMemory e) = ⊥
 
 -- memory ran out
 abbrev pub IsMemory : LitmusFault → Type 0
-IsMemory (Refused rule place) = ⊥
+IsMemory (Refused rule offset) = ⊥
 IsMemory (OutOfMemory e) = Unit {0}
 
 -- what a refusal says is so, unless memory ran out
 abbrev pub IsFaultOf : (LitmusRule → ℕ → Type 0) → LitmusFault → Type 0
-IsFaultOf IsAt (Refused rule place) = IsAt rule place
+IsFaultOf IsAt (Refused rule offset) = IsAt rule offset
 IsFaultOf IsAt (OutOfMemory e) = Unit {0}
 
 -- What a later check answers is what is found, unless memory ran out: the entry that begins there,
 abbrev pub IsMissingFound : Result (Unit {0}) LitmusFault → Option ℕ → Type 0
 IsMissingFound (Ok u) found = found ≡ None
-IsMissingFound (Err (Refused rule place)) found = (rule ≡ Init) × (found ≡ Some place)
+IsMissingFound (Err (Refused rule offset)) found = (rule ≡ Init) × (found ≡ Some offset)
 IsMissingFound (Err (OutOfMemory e)) found = ⊥
 
 -- and the label or the branch.
 abbrev pub IsLateFound : List Placed → Result (Unit {0}) LitmusFault → Option Late → Type 0
 IsLateFound text (Ok u) found = IsFoundAt text None found
-IsLateFound text (Err (Refused rule place)) found = IsFoundAt text (Some (record { rule = rule; place = place })) found
+IsLateFound text (Err (Refused rule offset)) found = IsFoundAt text (Some (record { rule = rule; offset = offset })) found
 IsLateFound text (Err (OutOfMemory e)) found = Unit {0}

@@ -8,14 +8,14 @@ use Rattle.litmus_table.specs.Reading.{Refuses, table_of}
 use Rattle.litmus_ppc.specs.declared.fault.LitmusFault.{LitmusFault}
 use Rattle.litmus_ppc.specs.declared.fault.LitmusFault.TheVariants as faults
 use Rattle.litmus_parts.specs.declared.parts.Part as code_part
-use Rattle.litmus_ppc.specs.declared.held.Held as code_held
+use Rattle.litmus_ppc.specs.declared.draft.Draft as code_draft
 use Rattle.litmus_ppc.specs.declared.reader.Reader.{Reader}
 use Rattle.litmus_parts.specs.InitReading.{block_of}
 use Rattle.litmus_parts.specs.PartReading.{part_of}
 use Rattle.litmus_grammar.specs.TextMachine as machine
 
-abbrev pub held_of : code_held.Held → machine.Held
-held_of h = record {
+abbrev pub draft_of : code_draft.Draft → machine.Draft
+draft_of h = record {
   name = h.name;
   init = block_of h.init;
   table = table_of h.table;
@@ -24,23 +24,22 @@ held_of h = record {
   formula = formula_of h.condition.proposition;
 }
 
--- the test that is held
-abbrev pub test_of : machine.Held → Content
+-- the test of a draft
+abbrev pub test_of : machine.Draft → Content
 test_of h = record { name = h.name; init = h.init.entries; threads = steps_of h.table.threads; observed = h.observed; quantifier = h.quantifier; condition = h.formula }
 
 abbrev pub state_of : Reader → machine.State
-state_of r = record { kind = r.kind; threads = r.threads; stage = r.stage; part = part_of r.part; held = held_of r.held }
+state_of r = record { kind = r.kind; threads = r.threads; stage = r.stage; part = part_of r.part; draft = draft_of r.draft }
 
--- What a function returned is what the machine does, unless memory ran out: the part that a token leads to and what is
--- held there,
-abbrev pub LeadsTo : Result code_part.Part StepError → code_held.Held → Option machine.Next → Type 0
-LeadsTo (Ok p) h made = made ≡ Some (record { part = part_of p; held = held_of h })
-LeadsTo (Err e) h made = Refuses e made
+-- The step that a function returned is that of the machine, unless memory ran out: the next part and the next draft,
+abbrev pub StepsTo : Result code_part.Part StepError → code_draft.Draft → Option machine.Next → Type 0
+StepsTo (Ok p) h made = made ≡ Some (record { part = part_of p; draft = draft_of h })
+StepsTo (Err e) h made = Refuses e made
 
--- and the reader behind a token at a place.
+-- and the reader behind a token at an offset.
 abbrev pub FailsAt : {Y : Type 0} → LitmusFault → Result Y (LitmusRule × ℕ) → Type 0
 FailsAt (faults.OutOfMemory e) made = Unit {0}
-FailsAt (faults.Refused rule place) made = made ≡ Err (rule, place)
+FailsAt (faults.Refused rule offset) made = made ≡ Err (rule, offset)
 
 abbrev pub StepsAt : Result (Unit {0}) LitmusFault → Reader → machine.Ran → Type 0
 StepsAt (Ok u) r made = made ≡ Ok (state_of r)

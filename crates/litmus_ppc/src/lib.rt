@@ -1,8 +1,9 @@
-//! Litmus tests of Power: how they are read and printed.
+//! Litmus tests of Power: their readers and their printer. Read litmus_grammar/specs/Grammar.antt first (the texts and
+//! their meanings), then specs/Faults.antt (what a refusal says).
 #![tactic(auto)]
 
+mod draft;
 mod fault;
-mod held;
 mod read;
 mod reader;
 

@@ -11,8 +11,8 @@ ghost use Rattle.litmus_grammar.specs.TextMachine.{start, first_stage, run};
 ghost use Rattle.litmus_ppc.specs.TextReading.{state_of, Runs, StepsAt};
 ghost use Rattle.litmus_grammar.specs.Texts.{ReadsTest, IsTestFault, ReadsInit, IsInitFault, ReadsThread, IsThreadFault, ReadsCondition, IsConditionFault, ReadsLocations, IsLocationsFault};
 
+use crate::draft::Draft;
 use crate::fault::LitmusFault;
-use crate::held::Held;
 use crate::reader::Reader;
 use litmus_grammar::TextKind;
 use litmus_parts::is_line_end;
@@ -43,27 +43,27 @@ fn is_fresh_behind(is_fresh: bool, byte: u8) -> bool
 fn read_tokens(alloc: Global, bytes: &[u8], reader: &mut Reader) -> Result<(), LitmusFault>
     ensures { StepsAt result reader.new (run (state_of reader.old) (lexed (state_of reader.old).stage bytes.now)) }
 {
-    let mut place = 0;
+    let mut offset = 0;
     // Whether the line holds nothing but blanks so far.
     let mut is_fresh = false;
-    while place < bytes.len() {
-        let left = bytes.len() - place;
-        let first = bytes[place];
-        match front_at(alloc, reader.stage(), is_fresh, &bytes[place..])? {
+    while offset < bytes.len() {
+        let left = bytes.len() - offset;
+        let first = bytes[offset];
+        match front_at(alloc, reader.stage(), is_fresh, &bytes[offset..])? {
             Front::Layout(n) => {
                 is_fresh = is_fresh_behind(is_fresh, first);
-                place += n.max(1).min(left);
+                offset += n.max(1).min(left);
             }
             Front::Lexeme(token, n) => {
                 is_fresh = is_line_end(&token);
-                match reader.step(token, place) {
-                    Ok(()) => place += n.max(1).min(left),
+                match reader.step(token, offset) {
+                    Ok(()) => offset += n.max(1).min(left),
                     Err(fault) => return Err(fault),
                 }
             }
         }
     }
-    reader.step(Token::End, place)
+    reader.step(Token::End, offset)
 }
 
 // The reader behind the tokens of a text.
@@ -107,11 +107,11 @@ fn read_whole(
 
 /// Reads a test.
 ///
-/// A text of over 65,536 bytes is refused before all else. Otherwise the fault is at the first token
-/// that cannot stand where it stands, or at the text's length where it ends too early; and only a text
-/// without these is refused for an initial value of a thread that is not there, at its entry, or for a
-/// label, thread by thread. Errors: the first rule that the text breaks, with its byte, or want of
-/// memory.
+/// A text of over 65,536 bytes is refused first. Any other rejected text is blamed at the first token
+/// that no valid text could have there, which is the end of the text if it ends too early. A text that
+/// the grammar allows can still be refused for an initial value of a thread that it does not have, at
+/// the entry, and then for a label, thread by thread. Errors: the broken rule with its byte offset, or
+/// out of memory.
 pub fn read_test(alloc: Global, bytes: &[u8]) -> Result<Test, LitmusFault>
     // What is read is what the text means.
     ensures found { IfOk result (λ t. ReadsTest bytes.now (content_of t)) }
@@ -138,15 +138,15 @@ pub fn read_test(alloc: Global, bytes: &[u8]) -> Result<Test, LitmusFault>
         Ok(()) => {}
         Err(fault) => return Err(fault),
     }
-    let held = whole.into_held();
-    match held.into_test() {
+    let draft = whole.into_draft();
+    match draft.into_test() {
         Ok(test) => Ok(test),
         Err(error) => Err(LitmusFault::OutOfMemory(error)),
     }
 }
 
-/// Reads a thread: cells with semicolons between. Errors: the first rule that the text breaks, with
-/// its byte, or want of memory.
+/// Reads a thread: cells with semicolons between. Errors: the broken rule with its byte offset, or
+/// out of memory.
 pub fn read_thread(alloc: Global, bytes: &[u8]) -> Result<Thread, LitmusFault>
     // What is read is what the text means.
     ensures found { IfOk result (λ t. ReadsThread bytes.now t.steps.items) }
@@ -166,15 +166,15 @@ pub fn read_thread(alloc: Global, bytes: &[u8]) -> Result<Thread, LitmusFault>
     };
     match reader.check_labels() {
         Ok(()) => {
-            let held = reader.into_held();
-            Ok(held.into_thread())
+            let draft = reader.into_draft();
+            Ok(draft.into_thread())
         }
         Err(fault) => Err(fault),
     }
 }
 
-/// Reads the block of initial values, in braces, of a test of so many threads. Errors: the first
-/// rule that the text breaks, with its byte, or want of memory.
+/// Reads the block of initial values, in braces, of a test of `threads` threads. Errors: the broken
+/// rule with its byte offset, or out of memory.
 pub fn read_init(alloc: Global, bytes: &[u8], threads: usize) -> Result<Vec<InitEntry>, LitmusFault>
     // What is read is what the text means.
     ensures found { IfOk result (λ v. ReadsInit threads bytes.now v.items) }
@@ -194,15 +194,15 @@ pub fn read_init(alloc: Global, bytes: &[u8], threads: usize) -> Result<Vec<Init
     };
     match reader.check_init() {
         Ok(()) => {
-            let held = reader.into_held();
-            Ok(held.into_init())
+            let draft = reader.into_draft();
+            Ok(draft.into_init())
         }
         Err(fault) => Err(fault),
     }
 }
 
-/// Reads a quantifier and its proposition, of a test of so many threads. Errors: the first rule
-/// that the text breaks, with its byte, or want of memory.
+/// Reads a quantifier and its proposition, of a test of `threads` threads. Errors: the broken rule
+/// with its byte offset, or out of memory.
 pub fn read_cond(alloc: Global, bytes: &[u8], threads: usize) -> Result<Condition, LitmusFault>
     // What is read is what the text means.
     ensures found { IfOk result (λ c. ReadsCondition threads bytes.now (c.quantifier, formula_of c.proposition)) }
@@ -217,15 +217,15 @@ pub fn read_cond(alloc: Global, bytes: &[u8], threads: usize) -> Result<Conditio
 {
     match read_whole(alloc, bytes, TextKind::Condition, threads) {
         Ok(reader) => {
-            let held = reader.into_held();
-            Ok(held.condition)
+            let draft = reader.into_draft();
+            Ok(draft.condition)
         }
         Err(fault) => Err(fault),
     }
 }
 
-/// Reads the word `locations` and its list, of a test of so many threads. A text without tokens is an empty list.
-/// Errors: the first rule that the text breaks, with its byte, or want of memory.
+/// Reads the word `locations` and its list, of a test of `threads` threads. A text without tokens is an empty list.
+/// Errors: the broken rule with its byte offset, or out of memory.
 pub fn read_locations(
     alloc: Global,
     bytes: &[u8],
@@ -244,8 +244,8 @@ pub fn read_locations(
 {
     match read_whole(alloc, bytes, TextKind::Locations, threads) {
         Ok(reader) => {
-            let held = reader.into_held();
-            Ok(held.observed)
+            let draft = reader.into_draft();
+            Ok(draft.observed)
         }
         Err(fault) => Err(fault),
     }

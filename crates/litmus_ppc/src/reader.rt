@@ -1,4 +1,4 @@
-//! Takes the tokens of a text one after another.
+//! Reads the tokens of a text one after another.
 
 ghost use Rattle.std.specs.Prelude.{◌≡◌, ℕ, List, IfOk, IfErr};
 ghost use Rattle.litmus_tokens.specs.Texts.{Placed};
@@ -9,19 +9,19 @@ ghost use Rattle.litmus_grammar.specs.Kept.{AreKept};
 ghost use Rattle.litmus_ppc.specs.Faults.{IsWithin, IsMissingFound, IsLateFound};
 ghost use Rattle.litmus_grammar.specs.InitMachine.{missing};
 ghost use Rattle.litmus_grammar.specs.TextMachine.{start, placed, step, rule_at, stage_rule, threads_in};
-ghost use Rattle.litmus_ppc.specs.TextReading.{held_of, state_of, StepsAt};
+ghost use Rattle.litmus_ppc.specs.TextReading.{draft_of, state_of, StepsAt};
 
+use crate::draft::Draft;
 use crate::fault::LitmusFault;
-use crate::held::Held;
 use litmus_conditions::StepError;
 use litmus_grammar::TextKind;
-use litmus_parts::{Part, is_filter_word, is_word};
+use litmus_parts::{Part, first_stage, is_filter_word, is_thread, is_word};
 use litmus_table::LateFault;
 use litmus_tokens::{LitmusRule, Stage, Token};
 use std::alloc::{AllocError, Global};
 use std::mem;
 
-/// Takes tokens, and keeps what they mean.
+/// The state of the reader.
 #[derive(Drop)]
 pub struct Reader {
     alloc: Global,
@@ -29,7 +29,7 @@ pub struct Reader {
     threads: usize,
     stage: Stage,
     part: Part,
-    held: Held,
+    draft: Draft,
 }
 
 impl Reader {
@@ -41,9 +41,9 @@ impl Reader {
             alloc,
             kind,
             threads,
-            stage: kind.first_stage(),
+            stage: first_stage(kind),
             part: Part::first(kind),
-            held: Held::new(alloc, kind)?,
+            draft: Draft::new(alloc, kind)?,
         })
     }
 
@@ -54,31 +54,35 @@ impl Reader {
         self.stage
     }
 
-    /// Takes a token that stands at this byte. After an `Err` the reader takes no more.
-    pub fn step(&mut self, token: Token, place: usize) -> Result<(), LitmusFault>
+    /// The step over a token at this byte offset. Errors: out of memory, or the token is refused; the reader is then to
+    /// be dropped.
+    pub fn step(&mut self, token: Token, offset: usize) -> Result<(), LitmusFault>
         // It does what the machine does.
-        ensures { StepsAt result self.new (placed place (step (state_of self.old) token place)) }
+        ensures { StepsAt result self.new (placed offset (step (state_of self.old) token offset)) }
     {
         let rule = self.rule(&token);
         let next = self.stage.after(&token);
         let part = mem::replace(&mut self.part, Part::Done);
         match self
-            .held
-            .step(self.alloc, self.kind, self.threads, part, token, place)
+            .draft
+            .step(self.alloc, self.kind, self.threads, part, token, offset)
         {
             Ok(part) => {
                 self.part = part;
                 self.stage = next;
                 Ok(())
             }
-            Err(StepError::Refused) => Err(LitmusFault::Refused { rule, place }),
+            Err(StepError::Refused) => Err(LitmusFault::Refused {
+                rule,
+                place: offset,
+            }),
             Err(StepError::OutOfMemory) => Err(LitmusFault::OutOfMemory(AllocError)),
         }
     }
 
     // The rule that the token breaks if it cannot stand here.
     fn rule(&self, token: &Token) -> LitmusRule
-        ensures { result ≡ rule_at self.now.kind (table_of self.now.held.table) self.now.stage token.now }
+        ensures { result ≡ rule_at self.now.kind (table_of self.now.draft.table) self.now.stage token.now }
     {
         match token {
             Token::Broken(rule) => *rule,
@@ -88,53 +92,56 @@ impl Reader {
 
     // The rule that the token breaks in the part that it stands in.
     fn stage_rule(&self, token: &Token) -> LitmusRule
-        ensures { result ≡ stage_rule self.now.kind (table_of self.now.held.table) self.now.stage token.now }
+        ensures { result ≡ stage_rule self.now.kind (table_of self.now.draft.table) self.now.stage token.now }
     {
         match self.stage {
-            Stage::CellBegins => self.held.table.rule(self.kind.is_thread(), token),
-            Stage::InCell => self.held.table.rule(self.kind.is_thread(), token),
+            Stage::CellBegins => self.draft.table.rule(is_thread(self.kind), token),
+            Stage::InCell => self.draft.table.rule(is_thread(self.kind), token),
             Stage::Init(_, true) if is_word(token) => LitmusRule::TypedDeclaration,
             Stage::Tail if is_filter_word(token) => LitmusRule::Filter,
             stage => stage.rule(),
         }
     }
 
-    /// Refuses an initial value of a thread that is not there, which is looked for once the whole text is read.
+    /// Refuses an initial value of a thread that the test does not have. Called once the whole text is read.
     pub fn check_init(&self) -> Result<(), LitmusFault>
         // It answers the byte of the first such entry.
-        ensures found { IsMissingFound result (missing (threads_in (state_of self.now).kind (state_of self.now).threads (state_of self.now).held) (state_of self.now).held.init.entries (state_of self.now).held.init.starts) }
+        ensures found { IsMissingFound result (missing (threads_in (state_of self.now).kind (state_of self.now).threads (state_of self.now).draft) (state_of self.now).draft.init.entries (state_of self.now).draft.init.starts) }
         // A fault stands no further on than what is blamed.
-        ensures within { (n : ℕ) → AreKept n (state_of self.now).held → IfErr result (IsWithin n) }
+        ensures within { (n : ℕ) → AreKept n (state_of self.now).draft → IfErr result (IsWithin n) }
     {
-        let threads = self.held.threads(self.kind, self.threads);
-        match self.held.init.missing(threads) {
-            Some(place) => Err(LitmusFault::Refused {
+        let threads = self.draft.threads(self.kind, self.threads);
+        match self.draft.init.missing(threads) {
+            Some(offset) => Err(LitmusFault::Refused {
                 rule: LitmusRule::Init,
-                place,
+                place: offset,
             }),
             None => Ok(()),
         }
     }
 
-    /// Refuses a label that is defined twice and a branch to a label that stands before it or nowhere, which are
-    /// looked for once the whole text is read.
+    /// Refuses a label that is defined twice, and a branch to a label that stands before it or nowhere. Called once the
+    /// whole text is read.
     pub fn check_labels(&self) -> Result<(), LitmusFault>
         // It answers what the definitions find, thread by thread.
-        ensures found { (text : List Placed) (notes : List (List Note)) → AreNoted text notes (state_of self.now).held.table.threads → IsLateFound text result (first_late notes) }
+        ensures found { (text : List Placed) (notes : List (List Note)) → AreNoted text notes (state_of self.now).draft.table.threads → IsLateFound text result (first_late notes) }
         // A fault stands no further on than what is blamed.
-        ensures within { (n : ℕ) → AreKept n (state_of self.now).held → IfErr result (IsWithin n) }
+        ensures within { (n : ℕ) → AreKept n (state_of self.now).draft → IfErr result (IsWithin n) }
     {
-        match self.held.table.check_labels() {
-            Ok(Some(LateFault { rule, place })) => Err(LitmusFault::Refused { rule, place }),
+        match self.draft.table.check_labels() {
+            Ok(Some(LateFault { rule, offset })) => Err(LitmusFault::Refused {
+                rule,
+                place: offset,
+            }),
             Ok(None) => Ok(()),
             Err(error) => Err(LitmusFault::OutOfMemory(error)),
         }
     }
 
-    /// What was read.
-    pub fn into_held(self) -> Held
-        ensures { held_of result ≡ (state_of self).held }
+    /// The draft of the whole text.
+    pub fn into_draft(self) -> Draft
+        ensures { draft_of result ≡ (state_of self).draft }
     {
-        self.held
+        self.draft
     }
 }

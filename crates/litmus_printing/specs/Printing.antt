@@ -39,7 +39,7 @@ abbrev pub value_text : declared_value.Value → List ℕ
 value_text (values.Number n) = signed_decimal n
 value_text (values.Address x) = x
 
--- a location stands bare in the init block, and in brackets elsewhere
+-- a location stands without brackets in the init block, and in brackets elsewhere
 abbrev pub bare_text : Place → List ℕ
 bare_text (places.Location x) = x
 bare_text (places.Register t r) = decimal t ++ (codes ":" ++ register_text r)

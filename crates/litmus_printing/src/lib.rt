@@ -1,4 +1,5 @@
-//! How litmus tests of Power are printed.
+//! The printed texts of litmus tests of Power. Read specs/Printing.antt first; litmus_laws has the law that a printed
+//! test is read as the test that was printed.
 #![tactic(auto)]
 
 mod print;

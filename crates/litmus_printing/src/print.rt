@@ -1,4 +1,4 @@
-//! Prints places, instructions and conditions.
+//! Prints observables, instructions and conditions.
 
 ghost use Rattle.std.specs.Prelude.{◌≡◌, ◌++◌, ◌+◌, OnOk, IfOk, codes};
 ghost use Rattle.std.specs.Fmt.{decimal, signed_decimal};
@@ -13,7 +13,7 @@ use litmus_values::{
 use source_text::{put_bytes, put_decimal};
 use std::alloc::{AllocError, Global};
 
-/// Appends a place: `[x]` or `1:r1`. Errors: want of memory.
+/// Appends a location or a register: `[x]` or `1:r1`. Errors: out of memory.
 pub fn put_place(text: &mut Vec<u8>, place: &Place) -> Result<(), AllocError>
     ensures { OnOk result (text.new.items ≡ text.old.items ++ place_text place.now) }
 {
@@ -27,7 +27,7 @@ pub fn put_place(text: &mut Vec<u8>, place: &Place) -> Result<(), AllocError>
     }
 }
 
-/// Appends a value: a number with its sign, or a location's name. Errors: want of memory.
+/// Appends a value: a number with its sign, or a location's name. Errors: out of memory.
 pub fn put_value(text: &mut Vec<u8>, value: &Value) -> Result<(), AllocError>
     ensures { OnOk result (text.new.items ≡ text.old.items ++ value_text value.now) }
 {
@@ -65,7 +65,7 @@ fn put_thread_register(
     put_register(text, register)
 }
 
-/// Appends an entry, where a location stands bare.
+/// Appends an entry, a location without brackets.
 pub fn put_entry(text: &mut Vec<u8>, entry: &InitEntry) -> Result<(), AllocError>
     ensures { OnOk result (text.new.items ≡ text.old.items ++ line (entry_text entry.now)) }
 {
@@ -337,7 +337,7 @@ pub fn put_condition(text: &mut Vec<u8>, condition: &Condition) -> Result<(), Al
     put_bytes(text, b")")
 }
 
-/// The text of a condition: its quantifier, and its proposition in parentheses. Errors: want of
+/// The printed condition: its quantifier, and its proposition in parentheses. Errors: want of
 /// memory.
 pub fn print_condition(alloc: Global, condition: &Condition) -> Result<Vec<u8>, AllocError>
     ensures { IfOk result (λ v. v.items ≡ condition_text condition.now.quantifier (formula_of condition.now.proposition)) }

@@ -96,7 +96,7 @@ fn put_entries(text: &mut Vec<u8>, entries: &[InitEntry]) -> Result<(), AllocErr
 }
 
 /// The text of a test: a line with its name, the initial values, the table with a label in a cell of its own, the
-/// list of places, if any, and the condition. Errors: want of memory.
+/// `locations`, if there are any, and the condition. Errors: out of memory.
 pub fn print_test(alloc: Global, test: &Test) -> Result<Vec<u8>, AllocError>
     ensures { IfOk result (λ v. v.items ≡ printed (content_of test.now)) }
 {

@@ -2,6 +2,7 @@
 use Rattle.std.proofs.Common.{◌≡◌, ℕ, ◌+◌, Bool, true, false, List, [], ◌∷◌, ◌++◌, length, Option, Some, None, ℤ, pos, refl, sym, ap, ◌∙◌, subst, append_assoc, arith}
 use Rattle.std.specs.Prelude.{if◌then◌else◌}
 use Rattle.std.proofs.lemmas.List.{append-nil, length-append}
+use Rattle.std.proofs.lemmas.Bool.{and_parts}
 use Rattle.litmus_tokens.specs.declared.token.Token.{Token}
 use Rattle.litmus_tokens.specs.declared.token.Token.TheVariants as tokens
 use Rattle.litmus_tokens.specs.Texts as texts
@@ -19,14 +20,13 @@ use Rattle.litmus_table.specs.declared.opcode.Want.{Want}
 use Rattle.litmus_table.specs.Words.{opcode_of, data_form, fits, all_fit, is_label, takes, registers, immediate, data_meaning, branch_meaning}
 use Rattle.litmus_table.specs.Grammar.{InstructionTree, CellTree, spelled_label, spelled_instruction, spelled_cell, IsInstruction, label_steps, operation_steps, instruction_steps, cell_steps}
 use Rattle.litmus_table.specs.Late.{Note, Defines, Branches, branch_notes, instruction_notes, label_notes, cell_notes}
-use Rattle.litmus_table.specs.Machine.{Placed, noted, Pending, Hole, Begins, Labelled, Within, WantsLabel, Whole, State, kept, put_at, operation, operand, step, can_end}
+use Rattle.litmus_table.specs.Machine.{Placed, noted, Pending, Expectation, Begins, Labelled, Within, WantsLabel, Whole, State, pending_with, put_at, operation, operand, step, can_end}
 use Rattle.litmus_table.specs.Laws.{then_on, Mark, Defined, Branched, instruction_marks, step_marks, marks as marks_of, AreMarks}
 use Rattle.litmus_table.proofs.Finishes.{Wants, form_wants}
 use Rattle.litmus_table.proofs.Values.{registers-with, value_after, value_of}
-use Rattle.litmus_table.proofs.Tests.{both}
 
-abbrev pub stand : List Placed → ℕ → Hole → State
-stand threads c h = record { threads = threads; column = c; hole = h }
+abbrev pub stand : List Placed → ℕ → Expectation → State
+stand threads c h = record { threads = threads; column = c; expected = h }
 
 module _ (text : List texts.Placed) (whole : List Token) (byte : List Token → ℕ) (stands : (b : List Token) (t : Token) (ts : List Token) → whole ≡ b ++ (t ∷ ts) → StandsAt text b (byte b)) where
   -- where tokens lead, behind these before them
@@ -36,14 +36,14 @@ module _ (text : List texts.Placed) (whole : List Token) (byte : List Token → 
 
   -- a thread with these steps more
   pub record Adds (t t' : Placed) (ss : List Step) (ns : List Note) : Type 0 where
-    pub places : List ℕ
-    pub many : length ss ≡ length places
+    pub offsets : List ℕ
+    pub many : length ss ≡ length offsets
     pub steps_are : t'.steps ≡ t.steps ++ ss
-    pub places_are : t'.places ≡ t.places ++ places
-    pub marked : AreMarks text ns (marks_of ss places)
+    pub offsets_are : t'.offsets ≡ t.offsets ++ offsets
+    pub marked : AreMarks text ns (marks_of ss offsets)
 
   pub adds_none : (t : Placed) → Adds t t [] []
-  adds_none t = record { places = []; many = refl; steps_are = sym (append-nil t.steps); places_are = sym (append-nil t.places); marked = tt }
+  adds_none t = record { offsets = []; many = refl; steps_are = sym (append-nil t.steps); offsets_are = sym (append-nil t.offsets); marked = tt }
 
   marks-append : (ss rs : List Step) (ps qs : List ℕ) → length ss ≡ length ps → marks_of (ss ++ rs) (ps ++ qs) ≡ marks_of ss ps ++ marks_of rs qs
   marks-append [] rs [] qs e = refl
@@ -55,31 +55,31 @@ module _ (text : List texts.Placed) (whole : List Token) (byte : List Token → 
 
   are_marks-append : (ns os : List Note) (ms ls : List Mark) → AreMarks text ns ms → AreMarks text os ls → AreMarks text (ns ++ os) (ms ++ ls)
   are_marks-append [] os [] ls a z = z
-  are_marks-append (Defines w before ∷ ns) os (Defined v place ∷ ms) ls a z = (a.0, a.1, are_marks-append ns os ms ls a.2 z)
-  are_marks-append (Branches w before ∷ ns) os (Branched v place ∷ ms) ls a z = (a.0, a.1, are_marks-append ns os ms ls a.2 z)
+  are_marks-append (Defines w before ∷ ns) os (Defined v offset ∷ ms) ls a z = (a.0, a.1, are_marks-append ns os ms ls a.2 z)
+  are_marks-append (Branches w before ∷ ns) os (Branched v offset ∷ ms) ls a z = (a.0, a.1, are_marks-append ns os ms ls a.2 z)
   are_marks-append [] os (m ∷ ms) ls a z = absurd a
   are_marks-append (Defines w before ∷ ns) os [] ls a z = absurd a
   are_marks-append (Branches w before ∷ ns) os [] ls a z = absurd a
-  are_marks-append (Defines w before ∷ ns) os (Branched v place ∷ ms) ls a z = absurd a
-  are_marks-append (Branches w before ∷ ns) os (Defined v place ∷ ms) ls a z = absurd a
+  are_marks-append (Defines w before ∷ ns) os (Branched v offset ∷ ms) ls a z = absurd a
+  are_marks-append (Branches w before ∷ ns) os (Defined v offset ∷ ms) ls a z = absurd a
 
   pub adds_both : (t u v : Placed) (ss rs : List Step) (ns os : List Note) → Adds t u ss ns → Adds u v rs os → Adds t v (ss ++ rs) (ns ++ os)
   adds_both t u v ss rs ns os a z =
       let m = a.many in
       let k = z.many in
       record {
-        places = a.places ++ z.places;
-        many = length-append ss rs ∙ (let e : length ss + length rs ≡ length a.places + length z.places = omega arith in e) ∙ sym (length-append a.places z.places);
+        offsets = a.offsets ++ z.offsets;
+        many = length-append ss rs ∙ (let e : length ss + length rs ≡ length a.offsets + length z.offsets = omega arith in e) ∙ sym (length-append a.offsets z.offsets);
         steps_are = z.steps_are ∙ ap (λ (l : List Step). l ++ rs) a.steps_are ∙ append_assoc t.steps ss rs;
-        places_are = z.places_are ∙ ap (λ (l : List ℕ). l ++ z.places) a.places_are ∙ append_assoc t.places a.places z.places;
-        marked = subst (AreMarks text (ns ++ os)) (sym (marks-append ss rs a.places z.places a.many)) (are_marks-append ns os (marks_of ss a.places) (marks_of rs z.places) a.marked z.marked);
+        offsets_are = z.offsets_are ∙ ap (λ (l : List ℕ). l ++ z.offsets) a.offsets_are ∙ append_assoc t.offsets a.offsets z.offsets;
+        marked = subst (AreMarks text (ns ++ os)) (sym (marks-append ss rs a.offsets z.offsets a.many)) (are_marks-append ns os (marks_of ss a.offsets) (marks_of rs z.offsets) a.marked z.marked);
       }
 
   -- ---- the thread of a column
 
-  put-there : (done : List Placed) (s : Step) (place : ℕ) (t : Placed) (todo : List Placed) → put_at (length done) s place (done ++ t ∷ todo) ≡ done ++ noted s place t ∷ todo
-  put-there [] s place t todo = refl
-  put-there (d ∷ done) s place t todo = ap (λ (l : List Placed). d ∷ l) (put-there done s place t todo)
+  put-there : (done : List Placed) (s : Step) (offset : ℕ) (t : Placed) (todo : List Placed) → put_at (length done) s offset (done ++ t ∷ todo) ≡ done ++ noted s offset t ∷ todo
+  put-there [] s offset t todo = refl
+  put-there (d ∷ done) s offset t todo = ap (λ (l : List Placed). d ∷ l) (put-there done s offset t todo)
 
   -- ---- operands
 
@@ -88,23 +88,23 @@ module _ (text : List texts.Placed) (whole : List Token) (byte : List Token → 
     pending op ws rs v = record { opcode = op; wants = ws; registers = rs; value = v }
 
     abbrev with_data : DataOpcode → List ℕ → ℤ → ℕ → State
-    with_data op rs v place = stand (put_at c (steps.Instruction (data_meaning op rs v)) place threads) c Whole
+    with_data op rs v offset = stand (put_at c (steps.Instruction (data_meaning op rs v)) offset threads) c Whole
 
     operands_run : (op : DataOpcode) (w : Want) (ws : List Want) (rs : List ℕ) (v : ℤ) (b ops rest : List Token) → all_fit (w ∷ ws) ops ≡ true
-        → (place : ℕ) × (run_from b (stand threads c (Within (pending op (w ∷ ws) rs v))) (ops ++ rest) ≡ run_from (b ++ ops) (with_data op (rs ++ registers ops) (value_after v ops) place) rest)
+        → (offset : ℕ) × (run_from b (stand threads c (Within (pending op (w ∷ ws) rs v))) (ops ++ rest) ≡ run_from (b ++ ops) (with_data op (rs ++ registers ops) (value_after v ops) offset) rest)
     operands_run op w ws rs v b [] rest f = absurd cc
     operands_run op w [] rs v b (t ∷ []) rest f =
-        let fit = (both (fits w t) true f).0 in
-        let q = kept (pending op (w ∷ []) rs v) [] t in
+        let fit = (and_parts (fits w t) true f).0 in
+        let q = pending_with (pending op (w ∷ []) rs v) [] t in
         let regs : q.registers ≡ rs ++ registers (t ∷ []) = sym (append-nil q.registers) ∙ registers-with t [] rs in (
           byte b,
           ap (λ (x : Bool). then_on (λ u. run_from (b ++ t ∷ []) u rest) (operand threads c (if x then Some q else None) (byte b))) fit
               ∙ ap (λ (l : List ℕ). run_from (b ++ t ∷ []) (with_data op l q.value (byte b)) rest) regs,
         )
-    operands_run op w [] rs v b (t ∷ u ∷ ops) rest f = absurd (let e = (both (fits w t) false f).1 in cc)
+    operands_run op w [] rs v b (t ∷ u ∷ ops) rest f = absurd (let e = (and_parts (fits w t) false f).1 in cc)
     operands_run op w (w' ∷ ws) rs v b (t ∷ ops) rest f =
-        let k = both (fits w t) (all_fit (w' ∷ ws) ops) f in
-        let q = kept (pending op (w ∷ w' ∷ ws) rs v) (w' ∷ ws) t in
+        let k = and_parts (fits w t) (all_fit (w' ∷ ws) ops) f in
+        let q = pending_with (pending op (w ∷ w' ∷ ws) rs v) (w' ∷ ws) t in
         let r = operands_run op w' ws q.registers q.value (b ++ t ∷ []) ops rest k.1 in (
           r.0,
           ap (λ (x : Bool). then_on (λ u. run_from (b ++ t ∷ []) u (ops ++ rest)) (operand threads c (if x then Some q else None) (byte b))) k.0
@@ -114,7 +114,7 @@ module _ (text : List texts.Placed) (whole : List Token) (byte : List Token → 
         )
 
     form_run : (op : DataOpcode) (ws : List Want) (b ops rest : List Token) → data_form op ≡ ws → all_fit ws ops ≡ true
-        → (place : ℕ) × (run_from b (stand threads c (Within (pending op ws [] (pos 0)))) (ops ++ rest) ≡ run_from (b ++ ops) (with_data op (registers ops) (immediate ops) place) rest)
+        → (offset : ℕ) × (run_from b (stand threads c (Within (pending op ws [] (pos 0)))) (ops ++ rest) ≡ run_from (b ++ ops) (with_data op (registers ops) (immediate ops) offset) rest)
     form_run op [] b ops rest e f = absurd (subst Wants e (form_wants op))
     form_run op (w ∷ ws) b ops rest e f =
         let r = operands_run op w ws [] (pos 0) b ops rest f in
@@ -123,62 +123,62 @@ module _ (text : List texts.Placed) (whole : List Token) (byte : List Token → 
 
   -- ---- cells
 
-  abbrev starts : Hole → Type 0
+  abbrev starts : Expectation → Type 0
   starts Begins = Unit {0}
   starts Labelled = Unit {0}
   starts h = ⊥
 
   -- the cell of a column was read: these tokens led to where it may end
-  pub record CellRun (done : List Placed) (t : Placed) (todo : List Placed) (h : Hole) (b ts by rest : List Token) (ss : List Step) (ns : List Note) : Type 0 where
+  pub record CellRun (done : List Placed) (t : Placed) (todo : List Placed) (h : Expectation) (b ts by rest : List Token) (ss : List Step) (ns : List Note) : Type 0 where
     pub after : Placed
-    pub hole : Hole
-    pub ended : can_end hole ≡ true
+    pub expected : Expectation
+    pub ended : can_end expected ≡ true
     pub adds : Adds t after ss ns
-    pub leads : run_from b (stand (done ++ t ∷ todo) (length done) h) ts ≡ run_from (b ++ by) (stand (done ++ after ∷ todo) (length done) hole) rest
+    pub leads : run_from b (stand (done ++ t ∷ todo) (length done) h) ts ≡ run_from (b ++ by) (stand (done ++ after ∷ todo) (length done) expected) rest
 
   module _ (done : List Placed) (t : Placed) (todo : List Placed) where
-    abbrev here : Hole → State
+    abbrev here : Expectation → State
     here h = stand (done ++ t ∷ todo) (length done) h
 
-    abbrev with_step : Step → ℕ → Hole → State
-    with_step s place h = stand (done ++ noted s place t ∷ todo) (length done) h
+    abbrev with_step : Step → ℕ → Expectation → State
+    with_step s offset h = stand (done ++ noted s offset t ∷ todo) (length done) h
 
-    adds_step : (s : Step) (place : ℕ) (ns : List Note) → AreMarks text ns (step_marks s place ++ []) → Adds t (noted s place t) (s ∷ []) ns
-    adds_step s place ns m = record { places = place ∷ []; many = refl; steps_are = refl; places_are = refl; marked = m }
+    adds_step : (s : Step) (offset : ℕ) (ns : List Note) → AreMarks text ns (step_marks s offset ++ []) → Adds t (noted s offset t) (s ∷ []) ns
+    adds_step s offset ns m = record { offsets = offset ∷ []; many = refl; steps_are = refl; offsets_are = refl; marked = m }
 
-    put_run : (s : Step) (place : ℕ) (h : Hole) (b rest : List Token) → run_from b (stand (put_at (length done) s place (done ++ t ∷ todo)) (length done) h) rest ≡ run_from b (with_step s place h) rest
-    put_run s place h b rest = ap (λ (l : List Placed). run_from b (stand l (length done) h) rest) (put-there done s place t todo)
+    put_run : (s : Step) (offset : ℕ) (h : Expectation) (b rest : List Token) → run_from b (stand (put_at (length done) s offset (done ++ t ∷ todo)) (length done) h) rest ≡ run_from b (with_step s offset h) rest
+    put_run s offset h b rest = ap (λ (l : List Placed). run_from b (stand l (length done) h) rest) (put-there done s offset t todo)
 
-    word_first : (h : Hole) (w : List ℕ) (b ts : List Token) → starts h → run_from b (here h) (tokens.Word w ∷ ts) ≡ then_on (λ u. run_from (b ++ tokens.Word w ∷ []) u ts) (operation (done ++ t ∷ todo) (length done) (byte b) (opcode_of w))
+    word_first : (h : Expectation) (w : List ℕ) (b ts : List Token) → starts h → run_from b (here h) (tokens.Word w ∷ ts) ≡ then_on (λ u. run_from (b ++ tokens.Word w ∷ []) u ts) (operation (done ++ t ∷ todo) (length done) (byte b) (opcode_of w))
     word_first Begins w b ts o = refl
     word_first Labelled w b ts o = refl
     word_first (Within p) w b ts o = absurd o
     word_first (WantsLabel condition) w b ts o = absurd o
     word_first Whole w b ts o = absurd o
 
-    abbrev Operated : Hole → Opcode → List ℕ → List Token → List Token → List Token → Type 0
+    abbrev Operated : Expectation → Opcode → List ℕ → List Token → List Token → List Token → Type 0
     Operated h op w ops b rest = CellRun done t todo h b (tokens.Word w ∷ (ops ++ rest)) (tokens.Word w ∷ ops) rest (operation_steps (Some op) ops) (branch_notes (Some op) ops (b ++ tokens.Word w ∷ []))
 
-    no_marks : (d : DataOpcode) (rs : List ℕ) (v : ℤ) (place : ℕ) → AreMarks text [] (instruction_marks (data_meaning d rs v) place ++ [])
-    no_marks data_opcodes.LoadImmediate rs v place = tt
-    no_marks data_opcodes.Move rs v place = tt
-    no_marks data_opcodes.AddImmediate rs v place = tt
-    no_marks (data_opcodes.Compute o) rs v place = tt
-    no_marks data_opcodes.Load rs v place = tt
-    no_marks data_opcodes.LoadIndexed rs v place = tt
-    no_marks data_opcodes.Store rs v place = tt
-    no_marks data_opcodes.StoreIndexed rs v place = tt
-    no_marks data_opcodes.Compare rs v place = tt
-    no_marks data_opcodes.CompareImmediate rs v place = tt
+    no_marks : (d : DataOpcode) (rs : List ℕ) (v : ℤ) (offset : ℕ) → AreMarks text [] (instruction_marks (data_meaning d rs v) offset ++ [])
+    no_marks data_opcodes.LoadImmediate rs v offset = tt
+    no_marks data_opcodes.Move rs v offset = tt
+    no_marks data_opcodes.AddImmediate rs v offset = tt
+    no_marks (data_opcodes.Compute o) rs v offset = tt
+    no_marks data_opcodes.Load rs v offset = tt
+    no_marks data_opcodes.LoadIndexed rs v offset = tt
+    no_marks data_opcodes.Store rs v offset = tt
+    no_marks data_opcodes.StoreIndexed rs v offset = tt
+    no_marks data_opcodes.Compare rs v offset = tt
+    no_marks data_opcodes.CompareImmediate rs v offset = tt
 
-    data_run : (h : Hole) (op : DataOpcode) (w : List ℕ) (ops b rest : List Token) → starts h → opcode_of w ≡ Some (opcodes.Data op) → all_fit (data_form op) ops ≡ true → Operated h (opcodes.Data op) w ops b rest
+    data_run : (h : Expectation) (op : DataOpcode) (w : List ℕ) (ops b rest : List Token) → starts h → opcode_of w ≡ Some (opcodes.Data op) → all_fit (data_form op) ops ≡ true → Operated h (opcodes.Data op) w ops b rest
     data_run h op w ops b rest o e f =
         let b' = b ++ tokens.Word w ∷ [] in
         let r = form_run (done ++ t ∷ todo) (length done) op (data_form op) b' ops rest refl f in
         let i = data_meaning op (registers ops) (immediate ops) in
         record {
           after = noted (steps.Instruction i) r.0 t;
-          hole = Whole;
+          expected = Whole;
           ended = refl;
           adds = adds_step (steps.Instruction i) r.0 [] (no_marks op (registers ops) (immediate ops) r.0);
           leads =
@@ -193,13 +193,13 @@ module _ (text : List texts.Placed) (whole : List Token) (byte : List Token → 
     branch_marks (Some condition) l b e = (refl, e, tt)
     branch_marks None l b e = (refl, e, tt)
 
-    branch_run : (h : Hole) (condition : Option BranchCondition) (w : List ℕ) (ops b rest : List Token) → starts h → opcode_of w ≡ Some (opcodes.Branch condition) → is_label ops ≡ true → whole ≡ b ++ (tokens.Word w ∷ (ops ++ rest)) → Operated h (opcodes.Branch condition) w ops b rest
+    branch_run : (h : Expectation) (condition : Option BranchCondition) (w : List ℕ) (ops b rest : List Token) → starts h → opcode_of w ≡ Some (opcodes.Branch condition) → is_label ops ≡ true → whole ≡ b ++ (tokens.Word w ∷ (ops ++ rest)) → Operated h (opcodes.Branch condition) w ops b rest
     branch_run h condition w (tokens.Word l ∷ []) b rest o e f all =
         let b' = b ++ tokens.Word w ∷ [] in
         let i = branch_meaning condition l in
         record {
           after = noted (steps.Instruction i) (byte b') t;
-          hole = Whole;
+          expected = Whole;
           ended = refl;
           adds =
               adds_step (steps.Instruction i) (byte b') (Branches l b' ∷ []) (branch_marks condition l b' (
@@ -214,13 +214,13 @@ module _ (text : List texts.Placed) (whole : List Token) (byte : List Token → 
     branch_run h condition w (tokens.Word l ∷ u ∷ us) b rest o e f all = absurd cc
     branch_run h condition w (u ∷ us) b rest o e f all = absurd cc
 
-    fence_run : (h : Hole) (op : Opcode) (i : Instruction) (w : List ℕ) (b rest : List Token) → starts h → ((place : ℕ) → operation (done ++ t ∷ todo) (length done) place (opcode_of w) ≡ Some (stand (put_at (length done) (steps.Instruction i) place (done ++ t ∷ todo)) (length done) Whole))
+    fence_run : (h : Expectation) (op : Opcode) (i : Instruction) (w : List ℕ) (b rest : List Token) → starts h → ((offset : ℕ) → operation (done ++ t ∷ todo) (length done) offset (opcode_of w) ≡ Some (stand (put_at (length done) (steps.Instruction i) offset (done ++ t ∷ todo)) (length done) Whole))
         → operation_steps (Some op) [] ≡ steps.Instruction i ∷ [] → branch_notes (Some op) [] (b ++ tokens.Word w ∷ []) ≡ [] → instruction_marks i (byte b) ≡ [] → Operated h op w [] b rest
     fence_run h op i w b rest o e meant none unmarked =
         let b' = b ++ tokens.Word w ∷ [] in
         record {
           after = noted (steps.Instruction i) (byte b) t;
-          hole = Whole;
+          expected = Whole;
           ended = refl;
           adds =
               subst (λ (ss : List Step). Adds t (noted (steps.Instruction i) (byte b) t) ss (branch_notes (Some op) [] b')) (sym meant) (
@@ -229,23 +229,23 @@ module _ (text : List texts.Placed) (whole : List Token) (byte : List Token → 
           leads = word_first h w b rest o ∙ ap (then_on (λ u. run_from b' u rest)) (e (byte b)) ∙ put_run (steps.Instruction i) (byte b) Whole b' rest;
         }
 
-    operated : (h : Hole) (op : Opcode) (w : List ℕ) (ops b rest : List Token) → starts h → opcode_of w ≡ Some op → takes op ops ≡ true → whole ≡ b ++ (tokens.Word w ∷ (ops ++ rest)) → Operated h op w ops b rest
+    operated : (h : Expectation) (op : Opcode) (w : List ℕ) (ops b rest : List Token) → starts h → opcode_of w ≡ Some op → takes op ops ≡ true → whole ≡ b ++ (tokens.Word w ∷ (ops ++ rest)) → Operated h op w ops b rest
     operated h (opcodes.Data op) w ops b rest o e f all = data_run h op w ops b rest o e f
     operated h (opcodes.Branch condition) w ops b rest o e f all = branch_run h condition w ops b rest o e f all
     operated h (opcodes.Fence g) w [] b rest o e f all =
-        fence_run h (opcodes.Fence g) (instructions.Fence g) w b rest o (λ place. ap (operation (done ++ t ∷ todo) (length done) place) e) refl refl refl
+        fence_run h (opcodes.Fence g) (instructions.Fence g) w b rest o (λ offset. ap (operation (done ++ t ∷ todo) (length done) offset) e) refl refl refl
     operated h (opcodes.Fence g) w (u ∷ us) b rest o e f all = absurd cc
 
-    started : (h : Hole) → starts h → can_end h ≡ true
+    started : (h : Expectation) → starts h → can_end h ≡ true
     started Begins o = refl
     started Labelled o = refl
     started (Within p) o = absurd o
     started (WantsLabel condition) o = absurd o
     started Whole o = absurd o
 
-    instruction_run : (h : Hole) (i : Option InstructionTree) (b rest : List Token) → starts h → IsInstruction i → whole ≡ b ++ spelled_instruction i rest → CellRun done t todo h b (spelled_instruction i rest) (spelled_instruction i []) rest (instruction_steps i) (instruction_notes i b)
+    instruction_run : (h : Expectation) (i : Option InstructionTree) (b rest : List Token) → starts h → IsInstruction i → whole ≡ b ++ spelled_instruction i rest → CellRun done t todo h b (spelled_instruction i rest) (spelled_instruction i []) rest (instruction_steps i) (instruction_notes i b)
     instruction_run h None b rest o fine all =
-        record { after = t; hole = h; ended = started h o; adds = adds_none t; leads = ap (λ (l : List Token). run_from l (here h) rest) (sym (append-nil b)) }
+        record { after = t; expected = h; ended = started h o; adds = adds_none t; leads = ap (λ (l : List Token). run_from l (here h) rest) (sym (append-nil b)) }
     instruction_run h (Some i) b rest o fine all =
         let b' = b ++ tokens.Word i.word ∷ [] in
         let r = operated h fine.opcode i.word i.operands b rest o fine.known fine.fit all in
@@ -267,7 +267,7 @@ module _ (text : List texts.Placed) (whole : List Token) (byte : List Token → 
           let r = instruction_run done u todo Labelled c.instruction b1 rest tt fine (e ∙ sym (append_assoc b (tokens.Label l ∷ []) (spelled_instruction c.instruction rest))) in
           record {
             after = r.after;
-            hole = r.hole;
+            expected = r.expected;
             ended = r.ended;
             adds =
                 adds_both t u r.after (s ∷ []) (instruction_steps c.instruction) (Defines l b ∷ []) (instruction_notes c.instruction b1)
@@ -275,5 +275,5 @@ module _ (text : List texts.Placed) (whole : List Token) (byte : List Token → 
             leads =
                 put_run done t todo s (byte b) Labelled b1 (spelled_instruction c.instruction rest)
                 ∙ r.leads
-                ∙ ap (λ (z : List Token). run_from z (stand (done ++ r.after ∷ todo) (length done) r.hole) rest) (append_assoc b (tokens.Label l ∷ []) (spelled_instruction c.instruction []));
+                ∙ ap (λ (z : List Token). run_from z (stand (done ++ r.after ∷ todo) (length done) r.expected) rest) (append_assoc b (tokens.Label l ∷ []) (spelled_instruction c.instruction []));
           }

@@ -2,6 +2,7 @@
 use Rattle.std.proofs.Common.{◌≡◌, ℕ, zero, suc, ◌+◌, Bool, true, false, List, [], ◌∷◌, ◌++◌, length, Option, Some, None, refl, sym, ap, ◌∙◌, subst, append_assoc, arith}
 use Rattle.std.specs.Prelude.{if◌then◌else◌}
 use Rattle.std.proofs.lemmas.List.{append-nil, length-append}
+use Rattle.std.proofs.lemmas.Bool.{le-leb, lt-leb}
 use Rattle.litmus_tokens.specs.declared.token.Token.{Token}
 use Rattle.litmus_tokens.specs.declared.token.Token.TheVariants as tokens
 use Rattle.litmus_tokens.specs.declared.token.Mark as declared_mark
@@ -11,11 +12,10 @@ use Rattle.litmus_tokens.specs.Texts.{tokens_of, StandsAt}
 use Rattle.litmus_values.specs.declared.test.Step.{Step}
 use Rattle.litmus_table.specs.Grammar.{InstructionTree, CellTree, RowTree, spelled_label, spelled_instruction, spelled_cell, spelled_cells, spelled_rows, spelled_steps, AreCells, AreRows, cell_steps, cells_steps, nth_cell, column, columns_meaning}
 use Rattle.litmus_table.specs.Late.{Note, cell_notes, nth_notes, column_notes, thread_notes, columns_notes}
-use Rattle.litmus_table.specs.Machine.{Placed, fresh, Hole, Begins, State, at, is_last, hole_step, step, can_end}
+use Rattle.litmus_table.specs.Machine.{Placed, fresh, Expectation, Begins, State, at, is_last, expected_step, step, can_end}
 use Rattle.litmus_table.specs.Laws.{then_on, run, steps_of, AreMarks, IsNoted, AreNoted, marks as marks_of}
 use Rattle.litmus_table.proofs.Cells.{stand, run_from, Adds, adds_none, adds_both, cell_run}
 use Rattle.litmus_table.proofs.Finishes.{separator}
-use Rattle.litmus_table.proofs.Tests.{le_true, le_false}
 
 label-append : (l : Option (List ℕ)) (xs ys : List Token) → spelled_label l xs ++ ys ≡ spelled_label l (xs ++ ys)
 label-append None xs ys = refl
@@ -75,7 +75,7 @@ module _ (text : List texts.Placed) (whole : List Token) (byte : List Token → 
   all_length f g (t ∷ ts) [] a = absurd a
 
   -- a separator leads from the cell to where it leads from any that may end
-  separated : (threads : List Placed) (c : ℕ) (h : Hole) (b : List Token) (m : declared_mark.Mark) (after : State) (ts : List Token) → hole_step threads c h (tokens.Mark m) (byte b) ≡ Some after
+  separated : (threads : List Placed) (c : ℕ) (h : Expectation) (b : List Token) (m : declared_mark.Mark) (after : State) (ts : List Token) → expected_step threads c h (tokens.Mark m) (byte b) ≡ Some after
       → runs b (stand threads c h) (tokens.Mark m ∷ ts) ≡ runs (b ++ tokens.Mark m ∷ []) after ts
   separated threads c h b m after ts e = ap (then_on (λ u. runs (b ++ tokens.Mark m ∷ []) u ts)) e
 
@@ -91,14 +91,14 @@ module _ (text : List texts.Placed) (whole : List Token) (byte : List Token → 
   row_run c [] done t [] b rest fine size all =
       let r = cell_run text whole byte stands done t [] c b (tokens.Mark marks.Semicolon ∷ rest) fine.0 all in
       let threads = done ++ r.after ∷ [] in
-      let last : is_last threads (length done) ≡ true = le_true (length threads) (length done + 1) (omega (arith, length-append done (r.after ∷ []))) in
+      let last : is_last threads (length done) ≡ true = le-leb (length threads) (length done + 1) (omega (arith, length-append done (r.after ∷ []))) in
       record {
         after = r.after ∷ [];
         adds = (subst (λ (ss : List Step). Grows t r.after ss (cell_notes c b)) (sym (append-nil (cell_steps c))) r.adds, tt);
         leads =
             r.leads
-            ∙ separated threads (length done) r.hole (b ++ spelled_cell c []) marks.Semicolon (stand threads 0 Begins) rest
-            ((separator threads (length done) (byte (b ++ spelled_cell c [])) r.hole r.ended).0 ∙ ap (λ (x : Bool). if x then at threads 0 Begins else None) last)
+            ∙ separated threads (length done) r.expected (b ++ spelled_cell c []) marks.Semicolon (stand threads 0 Begins) rest
+            ((separator threads (length done) (byte (b ++ spelled_cell c [])) r.expected r.ended).0 ∙ ap (λ (x : Bool). if x then at threads 0 Begins else None) last)
             ∙ ap (λ (l : List Token). runs l (stand threads 0 Begins) rest) (closes b c (tokens.Mark marks.Semicolon));
       }
   row_run c (d ∷ cs) done t (u ∷ todo) b rest fine size all =
@@ -108,7 +108,7 @@ module _ (text : List texts.Placed) (whole : List Token) (byte : List Token → 
       let threads = done ++ r.after ∷ u ∷ todo in
       let done' = done ++ r.after ∷ [] in
       let b' = b ++ spelled_cell c (bar ∷ []) in
-      let further : is_last threads (length done) ≡ false = le_false (length threads) (length done + 1) (omega (arith, length-append done (r.after ∷ u ∷ todo))) in
+      let further : is_last threads (length done) ≡ false = lt-leb (length threads) (length done + 1) (omega (arith, length-append done (r.after ∷ u ∷ todo))) in
       let next : length done + 1 ≡ length done' = omega (arith, length-append done (r.after ∷ [])) in
       let split : threads ≡ done' ++ u ∷ todo = sym (append_assoc done (r.after ∷ []) (u ∷ todo)) in
       let fewer : length todo ≡ length cs = omega arith in
@@ -118,8 +118,8 @@ module _ (text : List texts.Placed) (whole : List Token) (byte : List Token → 
         adds = (subst (λ (ss : List Step). Grows t r.after ss (cell_notes c b)) (sym (append-nil (cell_steps c))) r.adds, q.adds);
         leads =
             r.leads
-            ∙ separated threads (length done) r.hole (b ++ spelled_cell c []) marks.Bar (stand threads (length done + 1) Begins) more
-            ((separator threads (length done) (byte (b ++ spelled_cell c [])) r.hole r.ended).1 ∙ ap (λ (x : Bool). if x then None else at threads (length done + 1) Begins) further)
+            ∙ separated threads (length done) r.expected (b ++ spelled_cell c []) marks.Bar (stand threads (length done + 1) Begins) more
+            ((separator threads (length done) (byte (b ++ spelled_cell c [])) r.expected r.ended).1 ∙ ap (λ (x : Bool). if x then None else at threads (length done + 1) Begins) further)
             ∙ ap (λ (l : List Token). runs l (stand threads (length done + 1) Begins) more) (closes b c bar)
             ∙ ap (λ (k : ℕ). runs b' (stand threads k Begins) more) next
             ∙ ap (λ (l : List Placed). runs b' (stand l (length done') Begins) more) split
@@ -149,8 +149,8 @@ module _ (text : List texts.Placed) (whole : List Token) (byte : List Token → 
       let q = row_run r.first r.others [] t todo b rest (fine.0, fine.1) many all in
       let b' = b ++ spelled_cell r.first (spelled_cells r.others []) in
       let same : b' ++ rest ≡ b ++ spelled_cell r.first (spelled_cells r.others rest) = row-append b r rest in
-      let kept : length q.after ≡ n + 1 = all_length (λ k. cells_steps (nth_cell k (r.first ∷ r.others))) (λ k. nth_notes k b (r.first ∷ r.others)) (t ∷ todo) q.after q.adds ∙ size in
-      let z = table_run n rs q.after b' fine.3 kept (all ∙ sym same) in
+      let pending_with : length q.after ≡ n + 1 = all_length (λ k. cells_steps (nth_cell k (r.first ∷ r.others))) (λ k. nth_notes k b (r.first ∷ r.others)) (t ∷ todo) q.after q.adds ∙ size in
+      let z = table_run n rs q.after b' fine.3 pending_with (all ∙ sym same) in
       record {
         after = z.after;
         adds =
@@ -172,8 +172,8 @@ module _ (text : List texts.Placed) (whole : List Token) (byte : List Token → 
   fresh_steps u ss ns a = (
     a.steps_are,
     record {
-      each = ap length a.steps_are ∙ a.many ∙ ap length (sym a.places_are);
-      marked = subst (λ (l : List Step). AreMarks text ns (marks_of l u.places)) (sym a.steps_are) (subst (λ (l : List ℕ). AreMarks text ns (marks_of ss l)) (sym a.places_are) a.marked);
+      each = ap length a.steps_are ∙ a.many ∙ ap length (sym a.offsets_are);
+      marked = subst (λ (l : List Step). AreMarks text ns (marks_of l u.offsets)) (sym a.steps_are) (subst (λ (l : List ℕ). AreMarks text ns (marks_of ss l)) (sym a.offsets_are) a.marked);
     },
   )
 
@@ -201,17 +201,17 @@ module _ (text : List texts.Placed) (whole : List Token) (byte : List Token → 
 
   pub record ThreadRun (t : Placed) (cells : List CellTree) (b ts : List Token) : Type 0 where
     pub after : Placed
-    pub hole : Hole
-    pub ended : can_end hole ≡ true
+    pub expected : Expectation
+    pub ended : can_end expected ≡ true
     pub adds : Grows t after (cells_steps cells) (thread_notes b cells)
-    pub leads : runs b (stand (t ∷ []) 0 Begins) ts ≡ Some (stand (after ∷ []) 0 hole)
+    pub leads : runs b (stand (t ∷ []) 0 Begins) ts ≡ Some (stand (after ∷ []) 0 expected)
 
   pub thread_run : (c : CellTree) (cs : List CellTree) (t : Placed) (b : List Token) → AreCells (c ∷ cs) → whole ≡ b ++ spelled_cell c (spelled_steps cs []) → ThreadRun t (c ∷ cs) b (spelled_cell c (spelled_steps cs []))
   thread_run c [] t b fine all =
       let r = cell_run text whole byte stands [] t [] c b [] fine.0 all in
       record {
         after = r.after;
-        hole = r.hole;
+        expected = r.expected;
         ended = r.ended;
         adds = adds_both text whole byte stands t r.after r.after (cell_steps c) [] (cell_notes c b) [] r.adds (adds_none text whole byte stands r.after);
         leads = r.leads;
@@ -224,12 +224,12 @@ module _ (text : List texts.Placed) (whole : List Token) (byte : List Token → 
       let q = thread_run d cs r.after b' fine.1 (all ∙ sym (passes b c semicolon more)) in
       record {
         after = q.after;
-        hole = q.hole;
+        expected = q.expected;
         ended = q.ended;
         adds = adds_both text whole byte stands t r.after q.after (cell_steps c) (cells_steps (d ∷ cs)) (cell_notes c b) (thread_notes b' (d ∷ cs)) r.adds q.adds;
         leads =
             r.leads
-            ∙ separated (r.after ∷ []) 0 r.hole (b ++ spelled_cell c []) marks.Semicolon (stand (r.after ∷ []) 0 Begins) more ((separator (r.after ∷ []) 0 (byte (b ++ spelled_cell c [])) r.hole r.ended).0)
+            ∙ separated (r.after ∷ []) 0 r.expected (b ++ spelled_cell c []) marks.Semicolon (stand (r.after ∷ []) 0 Begins) more ((separator (r.after ∷ []) 0 (byte (b ++ spelled_cell c [])) r.expected r.ended).0)
             ∙ ap (λ (l : List Token). runs l (stand (r.after ∷ []) 0 Begins) more) (closes b c semicolon)
             ∙ q.leads;
       }
@@ -238,7 +238,7 @@ module _ (text : List texts.Placed) (whole : List Token) (byte : List Token → 
 
   abbrev pub Bytes : List Token → List texts.Placed → Type 0
   Bytes b [] = Unit {0}
-  Bytes b (p ∷ ps) = (byte b ≡ p.place) × Bytes (b ++ p.token ∷ []) ps
+  Bytes b (p ∷ ps) = (byte b ≡ p.offset) × Bytes (b ++ p.token ∷ []) ps
 
   pub run_is : (ps : List texts.Placed) (b : List Token) (s : State) → Bytes b ps → run s ps ≡ runs b s (tokens_of ps)
   run_is [] b s h = refl
@@ -251,7 +251,7 @@ module _ (text : List texts.Placed) (whole : List Token) (byte : List Token → 
 -- the byte of the token behind these
 abbrev pub byte_at : List texts.Placed → List Token → ℕ
 byte_at [] b = 0
-byte_at (p ∷ ps) [] = p.place
+byte_at (p ∷ ps) [] = p.offset
 byte_at (p ∷ ps) (t ∷ b) = byte_at ps b
 
 pub tokens-append : (ps qs : List texts.Placed) → tokens_of (ps ++ qs) ≡ tokens_of ps ++ tokens_of qs
@@ -275,6 +275,6 @@ stands_at (p ∷ ps) rs (u ∷ b) t ts e =
       at_place = r.at_place;
     }
 
-pub byte_there : (qs : List texts.Placed) (p : texts.Placed) (zs : List texts.Placed) → byte_at (qs ++ p ∷ zs) (tokens_of qs) ≡ p.place
+pub byte_there : (qs : List texts.Placed) (p : texts.Placed) (zs : List texts.Placed) → byte_at (qs ++ p ∷ zs) (tokens_of qs) ≡ p.offset
 byte_there [] p zs = refl
 byte_there (q ∷ qs) p zs = byte_there qs p zs

@@ -1,6 +1,7 @@
 -- From each state that tokens lead to, some tokens end the row.
 use Rattle.std.proofs.Common.{◌≡◌, ℕ, zero, suc, ◌+◌, ◌≤◌, Bool, true, false, List, [], ◌∷◌, ◌++◌, length, Option, Some, None, ℤ, refl, sym, ap, ◌∙◌, subst, arith}
 use Rattle.std.specs.Prelude.{codes, if◌then◌else◌}
+use Rattle.std.proofs.lemmas.Bool.{le-leb}
 use Rattle.litmus_tokens.specs.declared.token.Token.{Token}
 use Rattle.litmus_tokens.specs.declared.token.Token.TheVariants as tokens
 use Rattle.litmus_tokens.specs.declared.token.Mark.TheVariants as marks
@@ -14,10 +15,9 @@ use Rattle.litmus_table.specs.declared.opcode.Opcode.TheVariants as opcodes
 use Rattle.litmus_table.specs.declared.opcode.Want.{Want}
 use Rattle.litmus_table.specs.declared.opcode.Want.TheVariants as wants
 use Rattle.litmus_table.specs.Words.{opcode_of, data_form, fits, branch_meaning}
-use Rattle.litmus_table.specs.Machine.{Placed, Pending, Hole, Begins, Labelled, Within, WantsLabel, Whole, State, first_of, kept, taken, instruction_of, put_at, at, is_last, ended, operation, begins, cell, goes_on, operand, target_read, hole_step, step, is_row_start, can_end}
+use Rattle.litmus_table.specs.Machine.{Placed, Pending, Expectation, Begins, Labelled, Within, WantsLabel, Whole, State, first_of, pending_with, pending_after, instruction_of, put_at, at, is_last, ended, operation, begins, cell, goes_on, operand, target_read, expected_step, step, is_row_start, can_end}
 use Rattle.litmus_table.specs.Laws.{then_on, run, columns, Finishes, is_whole}
-use Rattle.litmus_table.proofs.Sound.{columns-hole}
-use Rattle.litmus_table.proofs.Tests.{le_true}
+use Rattle.litmus_table.proofs.Sound.{columns-expected}
 
 -- ---- an instruction that is not whole wants a token
 
@@ -25,13 +25,13 @@ abbrev pub Wants : List Want → Type 0
 Wants [] = ⊥
 Wants (w ∷ ws) = Unit {0}
 
-abbrev IsOpen : Hole → Type 0
+abbrev IsOpen : Expectation → Type 0
 IsOpen (Within p) = Wants p.wants
 IsOpen h = Unit {0}
 
 abbrev IsOpenAt : Option State → Type 0
 IsOpenAt None = Unit {0}
-IsOpenAt (Some s) = IsOpen s.hole
+IsOpenAt (Some s) = IsOpen s.expected
 
 pub form_wants : (op : DataOpcode) → Wants (data_form op)
 form_wants data_opcodes.LoadImmediate = tt
@@ -45,7 +45,7 @@ form_wants data_opcodes.StoreIndexed = tt
 form_wants data_opcodes.Compare = tt
 form_wants data_opcodes.CompareImmediate = tt
 
-module _ (threads : List Placed) (c place : ℕ) where
+module _ (threads : List Placed) (c offset : ℕ) where
   either_way : (b : Bool) (a z : Option State) → IsOpenAt a → IsOpenAt z → IsOpenAt (if b then a else z)
   either_way true a z x y = x
   either_way false a z x y = y
@@ -55,54 +55,54 @@ module _ (threads : List Placed) (c place : ℕ) where
   open_end (tokens.Mark marks.Bar) = either_way (is_last threads c) None (at threads (c + 1) Begins) tt tt
   open_end t = tt
 
-  open_word : (o : Option Opcode) → IsOpenAt (operation threads c place o)
+  open_word : (o : Option Opcode) → IsOpenAt (operation threads c offset o)
   open_word (Some (opcodes.Data op)) = form_wants op
   open_word (Some (opcodes.Branch condition)) = tt
   open_word (Some (opcodes.Fence f)) = tt
   open_word None = tt
 
-  open_begin : (t : Token) → IsOpenAt (begins threads c t place)
+  open_begin : (t : Token) → IsOpenAt (begins threads c t offset)
   open_begin (tokens.Word w) = open_word (opcode_of w)
   open_begin t = open_end t
 
-  open_cell : (t : Token) → IsOpenAt (cell threads c t place)
+  open_cell : (t : Token) → IsOpenAt (cell threads c t offset)
   open_cell (tokens.Label w) = tt
   open_cell t = open_begin t
 
-  open_going : (op : DataOpcode) (ws : List Want) (rs : List ℕ) (v : ℤ) → let q : Pending = record { opcode = op; wants = ws; registers = rs; value = v } in IsOpenAt (goes_on threads c q (first_of ws) place)
+  open_going : (op : DataOpcode) (ws : List Want) (rs : List ℕ) (v : ℤ) → let q : Pending = record { opcode = op; wants = ws; registers = rs; value = v } in IsOpenAt (goes_on threads c q (first_of ws) offset)
   open_going op [] rs v = tt
   open_going op (w ∷ ws) rs v = tt
 
-  open_operand : (o : Option Pending) → IsOpenAt (operand threads c o place)
+  open_operand : (o : Option Pending) → IsOpenAt (operand threads c o offset)
   open_operand (Some q) = open_going q.opcode q.wants q.registers q.value
   open_operand None = tt
 
-  open_target : (condition : Option BranchCondition) (t : Token) → IsOpenAt (target_read threads c condition t place)
+  open_target : (condition : Option BranchCondition) (t : Token) → IsOpenAt (target_read threads c condition t offset)
   open_target condition (tokens.Word w) = tt
   open_target condition t = tt
 
-  open_hole : (h : Hole) (t : Token) → IsOpenAt (hole_step threads c h t place)
-  open_hole Begins t = open_cell t
-  open_hole Labelled t = open_begin t
-  open_hole (Within q) t = open_operand (taken q t)
-  open_hole (WantsLabel condition) t = open_target condition t
-  open_hole Whole t = open_end t
+  open_expectation : (h : Expectation) (t : Token) → IsOpenAt (expected_step threads c h t offset)
+  open_expectation Begins t = open_cell t
+  open_expectation Labelled t = open_begin t
+  open_expectation (Within q) t = open_operand (pending_after q t)
+  open_expectation (WantsLabel condition) t = open_target condition t
+  open_expectation Whole t = open_end t
 
-stays_open : (ps : List texts.Placed) (s f : State) → IsOpen s.hole → run s ps ≡ Some f → IsOpen f.hole
-stays_open [] s f o e = subst (λ (x : State). IsOpen x.hole) same o
+stays_open : (ps : List texts.Placed) (s f : State) → IsOpen s.expected → run s ps ≡ Some f → IsOpen f.expected
+stays_open [] s f o e = subst (λ (x : State). IsOpen x.expected) same o
   where
     same : s ≡ f
     same = cc
-stays_open (p ∷ ps) s f o e = by_step (step s p.token p.place) (open_hole s.threads s.column p.place s.hole p.token) e (λ u. stays_open ps u f)
+stays_open (p ∷ ps) s f o e = by_step (step s p.token p.offset) (open_expectation s.threads s.column p.offset s.expected p.token) e (λ u. stays_open ps u f)
   where
-    by_step : (x : Option State) → IsOpenAt x → then_on (λ u. run u ps) x ≡ Some f → ((u : State) → IsOpen u.hole → run u ps ≡ Some f → IsOpen f.hole) → IsOpen f.hole
+    by_step : (x : Option State) → IsOpenAt x → then_on (λ u. run u ps) x ≡ Some f → ((u : State) → IsOpen u.expected → run u ps ≡ Some f → IsOpen f.expected) → IsOpen f.expected
     by_step None k m later = absurd cc
     by_step (Some u) k m later = later u k m
 
 -- ---- to the end of the cell
 
 abbrev placed : Token → texts.Placed
-placed t = record { token = t; place = 0 }
+placed t = record { token = t; offset = 0 }
 
 abbrev filler : Want → Token
 filler wants.Register = tokens.Word (codes "r1")
@@ -122,16 +122,16 @@ filler_fits wants.Comma = refl
 filler_fits wants.Open = refl
 filler_fits wants.Close = refl
 
-abbrev stand : List Placed → ℕ → Hole → State
-stand threads c h = record { threads = threads; column = c; hole = h }
+abbrev stand : List Placed → ℕ → Expectation → State
+stand threads c h = record { threads = threads; column = c; expected = h }
 
 -- some tokens lead to a cell that may end
 record CellEnds (s : State) : Type 0 where
   by : List texts.Placed
   threads : List Placed
-  hole : Hole
-  ended : can_end hole ≡ true
-  leads : (rest : List texts.Placed) → run s (by ++ rest) ≡ run (stand threads s.column hole) rest
+  expected : Expectation
+  ended : can_end expected ≡ true
+  leads : (rest : List texts.Placed) → run s (by ++ rest) ≡ run (stand threads s.column expected) rest
 
 module _ (threads : List Placed) (c : ℕ) where
   abbrev pending : DataOpcode → List Want → List ℕ → ℤ → Pending
@@ -140,22 +140,22 @@ module _ (threads : List Placed) (c : ℕ) where
   filled : (op : DataOpcode) (w : Want) (ws : List Want) (rs : List ℕ) (v : ℤ) → CellEnds (stand threads c (Within (pending op (w ∷ ws) rs v)))
   filled op w [] rs v =
       let t = filler w in
-      let q = kept (pending op (w ∷ []) rs v) [] t in
+      let q = pending_with (pending op (w ∷ []) rs v) [] t in
       record {
         by = placed t ∷ [];
         threads = put_at c (steps.Instruction (instruction_of q)) 0 threads;
-        hole = Whole;
+        expected = Whole;
         ended = refl;
         leads = λ rest. ap (λ (b : Bool). then_on (λ u. run u rest) (operand threads c (if b then Some q else None) 0)) (filler_fits w);
       }
   filled op w (w' ∷ ws) rs v =
       let t = filler w in
-      let q = kept (pending op (w ∷ w' ∷ ws) rs v) (w' ∷ ws) t in
+      let q = pending_with (pending op (w ∷ w' ∷ ws) rs v) (w' ∷ ws) t in
       let r = filled op w' ws q.registers q.value in
       record {
         by = placed t ∷ r.by;
         threads = r.threads;
-        hole = r.hole;
+        expected = r.expected;
         ended = r.ended;
         leads = λ rest. ap (λ (b : Bool). then_on (λ u. run u (r.by ++ rest)) (operand threads c (if b then Some q else None) 0)) (filler_fits w) ∙ r.leads rest;
       }
@@ -164,34 +164,34 @@ module _ (threads : List Placed) (c : ℕ) where
   pending_ends op [] rs v o = absurd o
   pending_ends op (w ∷ ws) rs v o = filled op w ws rs v
 
-  at_once : (h : Hole) → can_end h ≡ true → CellEnds (stand threads c h)
-  at_once h e = record { by = []; threads = threads; hole = h; ended = e; leads = λ rest. refl }
+  at_once : (h : Expectation) → can_end h ≡ true → CellEnds (stand threads c h)
+  at_once h e = record { by = []; threads = threads; expected = h; ended = e; leads = λ rest. refl }
 
-  cell_ends : (h : Hole) → IsOpen h → CellEnds (stand threads c h)
+  cell_ends : (h : Expectation) → IsOpen h → CellEnds (stand threads c h)
   cell_ends Begins o = at_once Begins refl
   cell_ends Labelled o = at_once Labelled refl
   cell_ends (Within p) o = pending_ends p.opcode p.wants p.registers p.value o
   cell_ends (WantsLabel condition) o =
-      record { by = placed (tokens.Word (codes "r1")) ∷ []; threads = put_at c (steps.Instruction (branch_meaning condition (codes "r1"))) 0 threads; hole = Whole; ended = refl; leads = λ rest. refl }
+      record { by = placed (tokens.Word (codes "r1")) ∷ []; threads = put_at c (steps.Instruction (branch_meaning condition (codes "r1"))) 0 threads; expected = Whole; ended = refl; leads = λ rest. refl }
   cell_ends Whole o = at_once Whole refl
 
 -- ---- to the end of the row
 
-pub separator : (threads : List Placed) (c place : ℕ) (h : Hole) → can_end h ≡ true → (hole_step threads c h (tokens.Mark marks.Semicolon) place ≡ ended threads c (tokens.Mark marks.Semicolon)) × (hole_step threads c h (tokens.Mark marks.Bar) place ≡ ended threads c (tokens.Mark marks.Bar))
-separator threads c place Begins e = (refl, refl)
-separator threads c place Labelled e = (refl, refl)
-separator threads c place (Within p) e = absurd cc
-separator threads c place (WantsLabel condition) e = absurd cc
-separator threads c place Whole e = (refl, refl)
+pub separator : (threads : List Placed) (c offset : ℕ) (h : Expectation) → can_end h ≡ true → (expected_step threads c h (tokens.Mark marks.Semicolon) offset ≡ ended threads c (tokens.Mark marks.Semicolon)) × (expected_step threads c h (tokens.Mark marks.Bar) offset ≡ ended threads c (tokens.Mark marks.Bar))
+separator threads c offset Begins e = (refl, refl)
+separator threads c offset Labelled e = (refl, refl)
+separator threads c offset (Within p) e = absurd cc
+separator threads c offset (WantsLabel condition) e = absurd cc
+separator threads c offset Whole e = (refl, refl)
 
-row_ends : (left : ℕ) (threads : List Placed) (c : ℕ) (h : Hole) → can_end h ≡ true → length threads ≤ c + 1 + left → Finishes is_row_start (stand threads c h)
+row_ends : (left : ℕ) (threads : List Placed) (c : ℕ) (h : Expectation) → can_end h ≡ true → length threads ≤ c + 1 + left → Finishes is_row_start (stand threads c h)
 row_ends zero threads c h e le =
     record {
       rest = placed (tokens.Mark marks.Semicolon) ∷ [];
       after = stand threads 0 Begins;
       by =
           ap (then_on (λ u. run u [])) ((separator threads c 0 h e).0)
-          ∙ ap (λ (b : Bool). then_on (λ u. run u []) (if b then at threads 0 Begins else None)) (le_true (length threads) (c + 1) (omega arith));
+          ∙ ap (λ (b : Bool). then_on (λ u. run u []) (if b then at threads 0 Begins else None)) (le-leb (length threads) (c + 1) (omega arith));
       ended = refl;
     }
 row_ends (suc left) threads c h e le = choose (is_last threads c) refl (row_ends left threads (c + 1) Begins refl (omega arith))
@@ -213,16 +213,16 @@ row_ends (suc left) threads c h e le = choose (is_last threads c) refl (row_ends
       ended = later.ended;
     }
 
-columns_open : (n : ℕ) → IsOpen (columns n).hole
-columns_open n = subst IsOpen (sym (columns-hole n)) tt
+columns_open : (n : ℕ) → IsOpen (columns n).expected
+columns_open n = subst IsOpen (sym (columns-expected n)) tt
 
 pub table_finishes : (n : ℕ) (ps : List texts.Placed) (s : State) → run (columns n) ps ≡ Some s → Finishes is_row_start s
 table_finishes n ps s e =
-    let k = cell_ends s.threads s.column s.hole (stays_open ps (columns n) s (columns_open n) e) in
-    let r = row_ends (length k.threads) k.threads s.column k.hole k.ended (omega arith) in
+    let k = cell_ends s.threads s.column s.expected (stays_open ps (columns n) s (columns_open n) e) in
+    let r = row_ends (length k.threads) k.threads s.column k.expected k.ended (omega arith) in
     record { rest = k.by ++ r.rest; after = r.after; by = k.leads r.rest ∙ r.by; ended = r.ended }
 
 pub thread_finishes : (ps : List texts.Placed) (s : State) → run (columns 0) ps ≡ Some s → Finishes is_whole s
 thread_finishes ps s e =
-    let k = cell_ends s.threads s.column s.hole (stays_open ps (columns 0) s tt e) in
-    record { rest = k.by ++ []; after = stand k.threads s.column k.hole; by = k.leads []; ended = k.ended }
+    let k = cell_ends s.threads s.column s.expected (stays_open ps (columns 0) s tt e) in
+    record { rest = k.by ++ []; after = stand k.threads s.column k.expected; by = k.leads []; ended = k.ended }

@@ -1,10 +1,10 @@
 -- The checks of a thread's steps find what the definitions find in its notes.
 use Rattle.std.proofs.Common.{◌≡◌, ℕ, ◌+◌, ◌<◌, ◌≤◌, Bool, true, false, List, [], ◌∷◌, ◌++◌, length, Option, Some, None, refl, sym, ap, ◌∙◌, subst, append_assoc, arith}
-use Rattle.std.specs.Prelude.{◌||◌, nat_lt, if◌then◌else◌}
+use Rattle.std.specs.Prelude.{◌||◌, if◌then◌else◌}
 use Rattle.std.specs.Str.{bytes_eq}
-use Rattle.std.proofs.lemmas.Bool.Decides.{nat_tests}
 use Rattle.std.proofs.lemmas.List.{length-append}
 use Rattle.std.proofs.lemmas.Slice.Eq.{bytes_eq-Decides}
+use Rattle.std.proofs.lemmas.Bool.{lt-ltb, le-ltb}
 use Rattle.litmus_tokens.specs.declared.rule.LitmusRule.{LitmusRule}
 use Rattle.litmus_tokens.specs.declared.rule.LitmusRule.TheVariants as rules
 use Rattle.litmus_tokens.specs.declared.token.Token.{Token}
@@ -24,12 +24,6 @@ abbrev labels : List Step → List (List ℕ)
 labels [] = []
 labels (steps.Label w ∷ ss) = w ∷ labels ss
 labels (steps.Instruction i ∷ ss) = labels ss
-
-lt_true : (a b : ℕ) → a < b → nat_lt a b ≡ true
-lt_true a b h = grind (arith, nat_tests)
-
-lt_false : (a b : ℕ) → b ≤ a → nat_lt a b ≡ false
-lt_false a b h = grind (arith, nat_tests)
 
 is_same : (w : List ℕ) → bytes_eq w w ≡ true
 is_same w = (bytes_eq-Decides w w).1 refl
@@ -92,7 +86,7 @@ above_label w done ss = choose (is_in w (labels done)) refl
   where
     early : (o : Option ℕ) → IsWithin 0 (0 + length done) o → label_rule o (length done) ≡ Some rules.Label
     early None h = absurd h
-    early (Some k) h = ap (λ (b : Bool). if b then Some rules.Label else None) (lt_true k (length done) (omega (arith, h.1)))
+    early (Some k) h = ap (λ (b : Bool). if b then Some rules.Label else None) (lt-ltb k (length done) (omega (arith, h.1)))
 
     here : first_from w (0 + length done) (steps.Label w ∷ ss) ≡ Some (length done)
     here =
@@ -103,18 +97,18 @@ above_label w done ss = choose (is_in w (labels done)) refl
     choose true e = early (first_from w 0 (done ++ steps.Label w ∷ ss)) (first_in w 0 done (steps.Label w ∷ ss) e)
     choose false e =
         ap (λ (o : Option ℕ). label_rule o (length done)) (first_behind w 0 done (steps.Label w ∷ ss) e ∙ here)
-        ∙ ap (λ (b : Bool). if b then Some rules.Label else None) (lt_false (length done) (length done) (omega arith))
+        ∙ ap (λ (b : Bool). if b then Some rules.Label else None) (le-ltb (length done) (length done) (omega arith))
 
 above_target : (w : List ℕ) (done more : List Step) → target_rule (first_from w 0 (done ++ more)) (length done) ≡ (if is_in w (labels done) then Some rules.BackwardBranch else (if is_in w (labels more) then None else Some rules.Label))
 above_target w done more = choose (is_in w (labels done)) refl
   where
     early : (o : Option ℕ) → IsWithin 0 (0 + length done) o → target_rule o (length done) ≡ Some rules.BackwardBranch
     early None h = absurd h
-    early (Some k) h = ap (λ (b : Bool). if b then Some rules.BackwardBranch else None) (lt_true k (length done) (omega (arith, h.1)))
+    early (Some k) h = ap (λ (b : Bool). if b then Some rules.BackwardBranch else None) (lt-ltb k (length done) (omega (arith, h.1)))
 
     later : (o : Option ℕ) (high : ℕ) → IsWithin (0 + length done) high o → target_rule o (length done) ≡ None
     later None high h = absurd h
-    later (Some k) high h = ap (λ (b : Bool). if b then Some rules.BackwardBranch else None) (lt_false k (length done) (omega (arith, h.0)))
+    later (Some k) high h = ap (λ (b : Bool). if b then Some rules.BackwardBranch else None) (le-ltb k (length done) (omega (arith, h.0)))
 
     behind : (b : Bool) → is_in w (labels more) ≡ b → target_rule (first_from w (0 + length done) more) (length done) ≡ (if b then None else Some rules.Label)
     behind true e = later (first_from w (0 + length done) more) (0 + length done + length more) (subst (λ (l : List Step). IsWithin (0 + length done) (0 + length done + length more) (first_from w (0 + length done) l)) (append_none more) (first_in w (0 + length done) more [] e))
@@ -128,13 +122,13 @@ above_target w done more = choose (is_in w (labels done)) refl
 
 abbrev mark_labels : List Mark → List (List ℕ)
 mark_labels [] = []
-mark_labels (Defined w place ∷ ms) = w ∷ mark_labels ms
-mark_labels (Branched w place ∷ ms) = mark_labels ms
+mark_labels (Defined w offset ∷ ms) = w ∷ mark_labels ms
+mark_labels (Branched w offset ∷ ms) = mark_labels ms
 
-branches_define : (i : Instruction) (place : ℕ) (ms : List Mark) → mark_labels (instruction_marks i place ++ ms) ≡ mark_labels ms
-branches_define (instructions.BranchIf condition label) place ms = refl
-branches_define (instructions.Branch label) place ms = refl
-branches_define i place ms = refl
+branches_define : (i : Instruction) (offset : ℕ) (ms : List Mark) → mark_labels (instruction_marks i offset ++ ms) ≡ mark_labels ms
+branches_define (instructions.BranchIf condition label) offset ms = refl
+branches_define (instructions.Branch label) offset ms = refl
+branches_define i offset ms = refl
 
 marks_define : (ss : List Step) (ps : List ℕ) → length ss ≡ length ps → mark_labels (marks ss ps) ≡ labels ss
 marks_define [] ps e = refl

@@ -8,7 +8,6 @@ pub mod Places
 pub mod Rules
 pub mod Sound
 pub mod Tables
-pub mod Tests
 pub mod Threads
 pub mod Values
 pub mod Walk

@@ -9,7 +9,7 @@ use Rattle.litmus_table.specs.declared.opcode.DataOpcode.TheVariants as data_opc
 use Rattle.litmus_table.specs.declared.opcode.Want.{Want}
 use Rattle.litmus_table.specs.declared.opcode.Want.TheVariants as wants
 use Rattle.litmus_table.specs.Words.{data_form, fits}
-use Rattle.litmus_table.specs.Machine.{Pending, registers_with, value_with, first_of, rest_of, kept, taken_as, taken}
+use Rattle.litmus_table.specs.Machine.{Pending, registers_with, value_with, first_of, rest_of, pending_with, pending_as, pending_after}
 
 short : (op : DataOpcode) → length (data_form op) < 10
 short data_opcodes.LoadImmediate = omega arith
@@ -36,15 +36,15 @@ within ws k w e = choose (cases_lt k (length ws))
 abbrev pending : DataOpcode → List Want → List ℕ → ℤ → Pending
 pending op ws rs n = record { opcode = op; wants = ws; registers = rs; value = n }
 
-pub takes : (op : DataOpcode) (k m : ℕ) (rs rs' : List ℕ) (n n' : ℤ) (w : Want) (t : Token) → first_of (drop k (data_form op)) ≡ Some w → m ≡ min (k + 1) 18446744073709551615 → fits w t ≡ true → rs' ≡ registers_with t rs → n' ≡ value_with t n → taken (pending op (drop k (data_form op)) rs n) t ≡ Some (pending op (drop m (data_form op)) rs' n')
+pub takes : (op : DataOpcode) (k m : ℕ) (rs rs' : List ℕ) (n n' : ℤ) (w : Want) (t : Token) → first_of (drop k (data_form op)) ≡ Some w → m ≡ min (k + 1) 18446744073709551615 → fits w t ≡ true → rs' ≡ registers_with t rs → n' ≡ value_with t n → pending_after (pending op (drop k (data_form op)) rs n) t ≡ Some (pending op (drop m (data_form op)) rs' n')
 takes op k m rs rs' n n' w t first more fit registers value =
     let ws = drop k (data_form op) in
     let lt = within (data_form op) k w first in
     let few = short op in
     let next : k + 1 ≡ m = omega (arith, more, lt, few) in
     let rest : rest_of ws ≡ drop m (data_form op) = at_drop_more rest_of (data_form op) k wants.Comma lt ∙ ap (λ i. drop i (data_form op)) next in
-    ap (λ o. taken_as (pending op ws rs n) o t) first
-    ∙ ap (λ b. if b then Some (kept (pending op ws rs n) (rest_of ws) t) else None) fit
+    ap (λ o. pending_as (pending op ws rs n) o t) first
+    ∙ ap (λ b. if b then Some (pending_with (pending op ws rs n) (rest_of ws) t) else None) fit
     ∙ ap (λ us. Some (pending op us (registers_with t rs) (value_with t n))) rest
     ∙ ap (λ xs. Some (pending op (drop m (data_form op)) xs (value_with t n))) (sym registers)
     ∙ ap (λ x. Some (pending op (drop m (data_form op)) rs' x)) (sym value)

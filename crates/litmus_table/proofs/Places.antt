@@ -14,7 +14,7 @@ use Rattle.litmus_table.specs.declared.opcode.Opcode.TheVariants as opcodes
 use Rattle.litmus_table.specs.declared.opcode.Want.{Want}
 use Rattle.litmus_table.specs.declared.late.PlacedThread.{PlacedThread}
 use Rattle.litmus_table.specs.Words.{opcode_of, branch_meaning}
-use Rattle.litmus_table.specs.Machine.{Placed, fresh, Pending, Hole, Begins, Labelled, Within, WantsLabel, Whole, State, put_at, at, finished, is_last, ended, operation, begins, cell, first_of, goes_on, operand, taken, target_read, hole_step, instruction_of}
+use Rattle.litmus_table.specs.Machine.{Placed, fresh, Pending, Expectation, Begins, Labelled, Within, WantsLabel, Whole, State, put_at, at, finished, is_last, ended, operation, begins, cell, first_of, goes_on, operand, pending_after, target_read, expected_step, instruction_of}
 use Rattle.litmus_table.specs.Reading.{thread_of, threads_of}
 use Rattle.litmus_table.specs.Within.{AllAtMost, AreWithin}
 
@@ -28,7 +28,7 @@ pushed n p (q ∷ ps) le all (suc k) lt =
 
 put_within : (n k : ℕ) (s : Step) (p : ℕ) (ts : List Placed) → p ≤ n → AreWithin n ts → AreWithin n (put_at k s p ts)
 put_within n k s p [] le h = tt
-put_within n zero s p (t ∷ ts) le h = (pushed n p t.places le h.0, h.1)
+put_within n zero s p (t ∷ ts) le h = (pushed n p t.offsets le h.0, h.1)
 put_within n (suc k) s p (t ∷ ts) le h = (h.0, put_within n k s p ts le h.1)
 
 abbrev WithinSome : ℕ → Option State → Type 0
@@ -74,18 +74,18 @@ module _ (n p : ℕ) (le : p ≤ n) (ts : List Placed) (c : ℕ) (h : AreWithin 
   after_target condition (tokens.Word w) = done (branch_meaning condition w)
   after_target condition t = tt
 
-  after_hole : (o : Hole) (t : Token) → WithinSome n (hole_step ts c o t p)
-  after_hole Begins t = after_cell t
-  after_hole Labelled t = after_begin t
-  after_hole (Within q) t = after_operand (taken q t)
-  after_hole (WantsLabel condition) t = after_target condition t
-  after_hole Whole t = after_end t
+  after_expectation : (o : Expectation) (t : Token) → WithinSome n (expected_step ts c o t p)
+  after_expectation Begins t = after_cell t
+  after_expectation Labelled t = after_begin t
+  after_expectation (Within q) t = after_operand (pending_after q t)
+  after_expectation (WantsLabel condition) t = after_target condition t
+  after_expectation Whole t = after_end t
 
-pub hole_within : (n p : ℕ) → p ≤ n → (ts : List Placed) (c : ℕ) → AreWithin n ts → (o : Hole) (t : Token) (x : State) → hole_step ts c o t p ≡ Some x → AreWithin n x.threads
-hole_within n p le ts c h o t x e = subst (WithinSome n) e (after_hole n p le ts c h o t)
+pub expectation_within : (n p : ℕ) → p ≤ n → (ts : List Placed) (c : ℕ) → AreWithin n ts → (o : Expectation) (t : Token) (x : State) → expected_step ts c o t p ≡ Some x → AreWithin n x.threads
+expectation_within n p le ts c h o t x e = subst (WithinSome n) e (after_expectation n p le ts c h o t)
 
 -- a thread of the table
-pub thread_within : (n : ℕ) (ts : List PlacedThread) (k : ℕ) (d : PlacedThread) → AreWithin n (threads_of ts) → k < length ts → AllAtMost n (thread_of (get_or ts k d)).places
+pub thread_within : (n : ℕ) (ts : List PlacedThread) (k : ℕ) (d : PlacedThread) → AreWithin n (threads_of ts) → k < length ts → AllAtMost n (thread_of (get_or ts k d)).offsets
 thread_within n [] k d h lt = absurd (omega arith)
 thread_within n (t ∷ ts) zero d h lt = h.0
 thread_within n (t ∷ ts) (suc k) d h lt = let less : k < length ts = omega arith in thread_within n ts k d h.1 less

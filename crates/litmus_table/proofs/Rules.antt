@@ -3,6 +3,8 @@ use Rattle.std.proofs.Common.{◌≡◌, ℕ, ◌+◌, ◌⊎◌, inl, inr, Bool
 use Rattle.std.specs.Prelude.{◌==◌, ◌&&◌, ◌||◌, not, codes, if◌then◌else◌}
 use Rattle.std.specs.Str.{bytes_eq}
 use Rattle.std.proofs.lemmas.Slice.Eq.{bytes_eq-Decides}
+use Rattle.std.proofs.lemmas.Bool.{and_parts}
+use Rattle.std.proofs.Math.Bool.{and-true}
 use Rattle.litmus_tokens.specs.declared.rule.LitmusRule.{LitmusRule}
 use Rattle.litmus_tokens.specs.declared.rule.LitmusRule.TheVariants as rules
 use Rattle.litmus_tokens.specs.declared.stage.Stage.{Stage}
@@ -17,10 +19,9 @@ use Rattle.litmus_table.specs.declared.opcode.DataOpcode.{DataOpcode}
 use Rattle.litmus_table.specs.declared.opcode.Want.{Want}
 use Rattle.litmus_table.specs.declared.opcode.Want.TheVariants as wants
 use Rattle.litmus_table.specs.Words.{opcode_of, computing_of, accessing_of, fence_of, branch_of, fits}
-use Rattle.litmus_table.specs.Machine.{Placed, Pending, Hole, Begins, Labelled, Within, WantsLabel, Whole, State, first_of, kept, at, is_last, operation, operand, step, is_row_start, is_begin, can_end, wanted, is_base, is_zero, separator_rule, rule_at}
+use Rattle.litmus_table.specs.Machine.{Placed, Pending, Expectation, Begins, Labelled, Within, WantsLabel, Whole, State, first_of, pending_with, at, is_last, operation, operand, step, is_row_start, is_begin, can_end, wanted, is_base, is_zero, separator_rule, rule_at}
 use Rattle.litmus_table.specs.Laws.{is_whole, is_taken, ends_at, stands, IsInCell, GivesRules}
 use Rattle.litmus_tokens.specs.Texts.{begins_tail, is_end}
-use Rattle.litmus_table.proofs.Tests.{both}
 
 and_false : (a : Bool) → (a && false) ≡ false
 and_false true = refl
@@ -61,14 +62,14 @@ no_opcode_tail w e = first (either (bytes_eq w (codes "locations") || bytes_eq w
     first (inr k) = ap opcode_of (is_word w (codes "forall") k) ∙ no_opcode_forall
 
 -- what stands behind the rows begins none
-tail_refused : (threads : List Placed) (c place : ℕ) (h : Hole) (t : Token) → is_begin h ≡ true → begins_tail t ≡ true → step (record { threads = threads; column = c; hole = h }) t place ≡ None
-tail_refused threads c place Begins (tokens.Word w) b e = ap (operation threads c place) (no_opcode_tail w e)
-tail_refused threads c place Begins (tokens.Mark marks.Tilde) b e = refl
-tail_refused threads c place Begins t b e = absurd cc
-tail_refused threads c place h t b e = absurd cc
+tail_refused : (threads : List Placed) (c offset : ℕ) (h : Expectation) (t : Token) → is_begin h ≡ true → begins_tail t ≡ true → step (record { threads = threads; column = c; expected = h }) t offset ≡ None
+tail_refused threads c offset Begins (tokens.Word w) b e = ap (operation threads c offset) (no_opcode_tail w e)
+tail_refused threads c offset Begins (tokens.Mark marks.Tilde) b e = refl
+tail_refused threads c offset Begins t b e = absurd cc
+tail_refused threads c offset h t b e = absurd cc
 
-pub apart : (s : State) (t : Token) (place : ℕ) → is_row_start s ≡ true → begins_tail t ≡ true → step s t place ≡ None
-apart s t place b e = tail_refused s.threads s.column place s.hole t ((both (s.column == 0) (is_begin s.hole) b).1) e
+pub apart : (s : State) (t : Token) (offset : ℕ) → is_row_start s ≡ true → begins_tail t ≡ true → step s t offset ≡ None
+apart s t offset b e = tail_refused s.threads s.column offset s.expected t ((and_parts (s.column == 0) (is_begin s.expected) b).1) e
 
 -- ---- what can stand
 
@@ -94,8 +95,8 @@ abbrev Ruled : Bool → State → Token → LitmusRule → LitmusRule → Type 0
 Ruled alone s other n k = (Can alone s other × (k ≡ n)) ⊎ ((Can alone s other → ⊥) × (k ≡ rules.Instruction))
 
 module _ (alone : Bool) (threads : List Placed) (c : ℕ) where
-  abbrev here : Hole → State
-  here h = record { threads = threads; column = c; hole = h }
+  abbrev here : Expectation → State
+  here h = record { threads = threads; column = c; expected = h }
 
   -- ---- separators
 
@@ -115,7 +116,7 @@ module _ (alone : Bool) (threads : List Placed) (c : ℕ) where
   inside op ws rs v = here (Within (pending op ws rs v))
 
   unfit : (op : DataOpcode) (w : Want) (ws : List Want) (rs : List ℕ) (v : ℤ) (t : Token) → fits w t ≡ false → step (inside op (w ∷ ws) rs v) t 0 ≡ None
-  unfit op w ws rs v t out = ap (λ (b : Bool). operand threads c (if b then Some (kept (pending op (w ∷ ws) rs v) ws t) else None) 0) out
+  unfit op w ws rs v t out = ap (λ (b : Bool). operand threads c (if b then Some (pending_with (pending op (w ∷ ws) rs v) ws t) else None) 0) out
 
   going : (op : DataOpcode) (ws : List Want) (rs : List ℕ) (v : ℤ) → is_taken (operand threads c (Some (pending op ws rs v)) 0) ≡ true
   going op [] rs v = refl
@@ -123,14 +124,14 @@ module _ (alone : Bool) (threads : List Placed) (c : ℕ) where
 
   fit : (op : DataOpcode) (w : Want) (ws : List Want) (rs : List ℕ) (v : ℤ) (t : Token) → fits w t ≡ true → is_taken (step (inside op (w ∷ ws) rs v) t 0) ≡ true
   fit op w ws rs v t into =
-      let p = kept (pending op (w ∷ ws) rs v) ws t in
+      let p = pending_with (pending op (w ∷ ws) rs v) ws t in
       ap (λ (b : Bool). is_taken (operand threads c (if b then Some p else None) 0)) into ∙ going op ws p.registers p.value
 
   in_operands : (op : DataOpcode) (ws : List Want) (rs : List ℕ) (v : ℤ) (t : Token) → ((w : Want) → fits w t ≡ false) → step (inside op ws rs v) t 0 ≡ None
   in_operands op [] rs v t out = refl
   in_operands op (w ∷ ws) rs v t out = unfit op w ws rs v t (out w)
 
-  semicolon_ruled : (h : Hole) → stands alone (here h) (tokens.Mark marks.Semicolon) ≡ false → Ruled alone (here h) (tokens.Mark marks.Bar) rules.Columns (separator_rule h)
+  semicolon_ruled : (h : Expectation) → stands alone (here h) (tokens.Mark marks.Semicolon) ≡ false → Ruled alone (here h) (tokens.Mark marks.Bar) rules.Columns (separator_rule h)
   semicolon_ruled (Within p) out = inr (cannot alone (here (Within p)) (tokens.Mark marks.Bar) (in_operands p.opcode p.wants p.registers p.value (tokens.Mark marks.Bar) (λ w. (no_separator w).0)) (no_end alone (here (Within p)) (tokens.Mark marks.Bar) refl refl), refl)
   semicolon_ruled (WantsLabel condition) out = inr (cannot alone (here (WantsLabel condition)) (tokens.Mark marks.Bar) refl (no_end alone (here (WantsLabel condition)) (tokens.Mark marks.Bar) refl refl), refl)
   semicolon_ruled h out = inl (choose (is_last threads c) refl (refused alone (here h) (tokens.Mark marks.Semicolon) out), refl)
@@ -139,7 +140,7 @@ module _ (alone : Bool) (threads : List Placed) (c : ℕ) where
       choose true e k = absurd (k (ap (λ (b : Bool). is_taken (if b then at threads 0 Begins else None)) e))
       choose false e k = taken_stands alone (here h) (tokens.Mark marks.Bar) (ap (λ (b : Bool). is_taken (if b then None else at threads (c + 1) Begins)) e)
 
-  bar_ruled : (h : Hole) → stands alone (here h) (tokens.Mark marks.Bar) ≡ false → Ruled alone (here h) (tokens.Mark marks.Semicolon) rules.Columns (separator_rule h)
+  bar_ruled : (h : Expectation) → stands alone (here h) (tokens.Mark marks.Bar) ≡ false → Ruled alone (here h) (tokens.Mark marks.Semicolon) rules.Columns (separator_rule h)
   bar_ruled (Within p) out = inr (cannot alone (here (Within p)) (tokens.Mark marks.Semicolon) (in_operands p.opcode p.wants p.registers p.value (tokens.Mark marks.Semicolon) (λ w. (no_separator w).1)) (no_end alone (here (Within p)) (tokens.Mark marks.Semicolon) refl refl), refl)
   bar_ruled (WantsLabel condition) out = inr (cannot alone (here (WantsLabel condition)) (tokens.Mark marks.Semicolon) refl (no_end alone (here (WantsLabel condition)) (tokens.Mark marks.Semicolon) refl refl), refl)
   bar_ruled h out = inl (choose (is_last threads c) refl (refused alone (here h) (tokens.Mark marks.Bar) out), refl)
@@ -153,15 +154,15 @@ module _ (alone : Bool) (threads : List Placed) (c : ℕ) where
   abbrev zero_token : Token
   zero_token = tokens.Number false []
 
-  abbrev Claim : Hole → Type 0
+  abbrev Claim : Expectation → Type 0
   Claim g = Ruled alone (here g) zero_token rules.Offset (if is_zero (wanted g) && true then rules.Offset else rules.Instruction)
 
-  number_ruled : (h : Hole) (negative : Bool) (ds : List ℕ) → is_int negative ds ≡ true → stands alone (here h) (tokens.Number negative ds) ≡ false
+  number_ruled : (h : Expectation) (negative : Bool) (ds : List ℕ) → is_int negative ds ≡ true → stands alone (here h) (tokens.Number negative ds) ≡ false
       → Ruled alone (here h) zero_token rules.Offset (if is_zero (wanted h) && is_int negative ds then rules.Offset else rules.Instruction)
   number_ruled h negative ds int out =
-      subst (λ (b : Bool). Ruled alone (here h) zero_token rules.Offset (if is_zero (wanted h) && b then rules.Offset else rules.Instruction)) (sym int) (by_hole h out)
+      subst (λ (b : Bool). Ruled alone (here h) zero_token rules.Offset (if is_zero (wanted h) && b then rules.Offset else rules.Instruction)) (sym int) (by_expectation h out)
     where
-      not_here : (g : Hole) → step (here g) zero_token 0 ≡ None → Can alone (here g) zero_token → ⊥
+      not_here : (g : Expectation) → step (here g) zero_token 0 ≡ None → Can alone (here g) zero_token → ⊥
       not_here g none = cannot alone (here g) zero_token none (no_end alone (here g) zero_token refl refl)
 
       by_want : (op : DataOpcode) (ws : List Want) (rs : List ℕ) (v : ℤ) → stands alone (inside op ws rs v) (tokens.Number negative ds) ≡ false → Claim (Within (pending op ws rs v))
@@ -170,9 +171,9 @@ module _ (alone : Bool) (threads : List Placed) (c : ℕ) where
       by_want op (wants.Immediate ∷ ws) rs v k = absurd (refused alone (inside op (wants.Immediate ∷ ws) rs v) (tokens.Number negative ds) k (fit op wants.Immediate ws rs v (tokens.Number negative ds) int))
       by_want op (w ∷ ws) rs v k = inr (not_here (Within (pending op (w ∷ ws) rs v)) (unfit op w ws rs v zero_token refl), refl)
 
-      by_hole : (g : Hole) → stands alone (here g) (tokens.Number negative ds) ≡ false → Claim g
-      by_hole (Within p) k = by_want p.opcode p.wants p.registers p.value k
-      by_hole g k = inr (not_here g refl, refl)
+      by_expectation : (g : Expectation) → stands alone (here g) (tokens.Number negative ds) ≡ false → Claim g
+      by_expectation (Within p) k = by_want p.opcode p.wants p.registers p.value k
+      by_expectation g k = inr (not_here g refl, refl)
 
   -- ---- words
 
@@ -182,7 +183,7 @@ module _ (alone : Bool) (threads : List Placed) (c : ℕ) where
   abbrev tail_word : Token
   tail_word = tokens.Word (codes "exists")
 
-  not_one : (g : Hole) → step (here g) one 0 ≡ None → Can alone (here g) one → ⊥
+  not_one : (g : Expectation) → step (here g) one 0 ≡ None → Can alone (here g) one → ⊥
   not_one g none = cannot alone (here g) one none (no_end alone (here g) one refl refl)
 
   zero_want : (op : DataOpcode) (ws : List Want) (rs : List ℕ) (v : ℤ) → stands alone (inside op ws rs v) (tokens.Word (codes "r0")) ≡ false
@@ -193,7 +194,7 @@ module _ (alone : Bool) (threads : List Placed) (c : ℕ) where
   zero_want op (w ∷ ws) rs v k = inr (not_one (Within (pending op (w ∷ ws) rs v)) (unfit op w ws rs v one refl), refl)
 
   -- `r0`
-  zero_ruled : (h : Hole) → stands alone (here h) (tokens.Word (codes "r0")) ≡ false → Ruled alone (here h) one rules.ZeroBase (if is_base (wanted h) then rules.ZeroBase else rules.Instruction)
+  zero_ruled : (h : Expectation) → stands alone (here h) (tokens.Word (codes "r0")) ≡ false → Ruled alone (here h) one rules.ZeroBase (if is_base (wanted h) then rules.ZeroBase else rules.Instruction)
   zero_ruled (Within p) k = zero_want p.opcode p.wants p.registers p.value k
   zero_ruled (WantsLabel condition) k = absurd (refused alone (here (WantsLabel condition)) (tokens.Word (codes "r0")) k refl)
   zero_ruled Whole k = inr (not_one Whole refl, refl)
@@ -209,7 +210,7 @@ module _ (alone : Bool) (threads : List Placed) (c : ℕ) where
   no_exists wants.Open = refl
   no_exists wants.Close = refl
 
-  exists_refused : (h : Hole) (w : List ℕ) → stands alone (here h) (tokens.Word w) ≡ false → step (here h) tail_word 0 ≡ None
+  exists_refused : (h : Expectation) (w : List ℕ) → stands alone (here h) (tokens.Word w) ≡ false → step (here h) tail_word 0 ≡ None
   exists_refused (Within p) w k = in_operands p.opcode p.wants p.registers p.value tail_word no_exists
   exists_refused (WantsLabel condition) w k = absurd (refused alone (here (WantsLabel condition)) (tokens.Word w) k refl)
   exists_refused Whole w k = refl
@@ -227,12 +228,12 @@ module _ (alone : Bool) (threads : List Placed) (c : ℕ) where
   base_taken op (v' ∷ ws) rs v w e k = refl
 
   -- any other word
-  other_ruled : (h : Hole) (w : List ℕ) → bytes_eq w (codes "r0") ≡ false → stands alone (here h) (tokens.Word w) ≡ false → (if is_base (wanted h) && is_register w then rules.ZeroBase else rules.Instruction) ≡ rules.Instruction
+  other_ruled : (h : Expectation) (w : List ℕ) → bytes_eq w (codes "r0") ≡ false → stands alone (here h) (tokens.Word w) ≡ false → (if is_base (wanted h) && is_register w then rules.ZeroBase else rules.Instruction) ≡ rules.Instruction
   other_ruled (Within p) w e k = base_taken p.opcode p.wants p.registers p.value w e k
   other_ruled h w e k = refl
 
   -- the word `filter` or `final`
-  filter_ruled : (h : Hole) (w : List ℕ) → is_register w ≡ false → stands alone (here h) (tokens.Word w) ≡ false
+  filter_ruled : (h : Expectation) (w : List ℕ) → is_register w ≡ false → stands alone (here h) (tokens.Word w) ≡ false
       → Ruled alone (here h) tail_word rules.Filter (if is_row_start (here h) && not alone && true then rules.Filter else (if is_base (wanted h) && is_register w then rules.ZeroBase else rules.Instruction))
   filter_ruled h w e out = by_kind alone (exists_refused h w out) (if is_base (wanted h) && is_register w then rules.ZeroBase else rules.Instruction) (other e)
     where
@@ -258,7 +259,7 @@ module _ (alone : Bool) (threads : List Placed) (c : ℕ) where
       choose (inl k) = ap is_register (is_word w (codes "filter") k)
       choose (inr k) = ap is_register (is_word w (codes "final") k)
 
-  abbrev word_rule : Hole → List ℕ → Bool → LitmusRule
+  abbrev word_rule : Expectation → List ℕ → Bool → LitmusRule
   word_rule h w f = if is_row_start (here h) && not alone && f then rules.Filter else (if is_base (wanted h) && is_register w then rules.ZeroBase else rules.Instruction)
 
   not_filter : (a b : Bool) → (a && b && false) ≡ false
@@ -266,22 +267,18 @@ module _ (alone : Bool) (threads : List Placed) (c : ℕ) where
   not_filter true false = refl
   not_filter false b = refl
 
-  is_not_filter : (h : Hole) (w : List ℕ) → word_rule h w false ≡ (if is_base (wanted h) && is_register w then rules.ZeroBase else rules.Instruction)
+  is_not_filter : (h : Expectation) (w : List ℕ) → word_rule h w false ≡ (if is_base (wanted h) && is_register w then rules.ZeroBase else rules.Instruction)
   is_not_filter h w = ap (λ (b : Bool). if b then rules.Filter else (if is_base (wanted h) && is_register w then rules.ZeroBase else rules.Instruction)) (not_filter (is_row_start (here h)) (not alone))
 
-  and_true : (a : Bool) → (a && true) ≡ a
-  and_true true = refl
-  and_true false = refl
-
   module _ (stage : Stage) (inner : rule_of stage ≡ rules.Instruction) where
-    abbrev Ruling_says : Hole → Ruling → LitmusRule → Type 0
+    abbrev Ruling_says : Expectation → Ruling → LitmusRule → Type 0
     Ruling_says h r k = Says (λ u. stands alone (here h) u ≡ true) stage r k
 
-    says_where : (h : Hole) (other : Token) (n k : LitmusRule) → Ruled alone (here h) other n k → Ruling_says h (Where other n) k
+    says_where : (h : Expectation) (other : Token) (n k : LitmusRule) → Ruled alone (here h) other n k → Ruling_says h (Where other n) k
     says_where h other n k (inl r) = inl r
     says_where h other n k (inr r) = inr (r.0, r.1 ∙ sym inner)
 
-    words : (h : Hole) (w : List ℕ) → stands alone (here h) (tokens.Word w) ≡ false → Ruling_says h (cell_ruling stage (tokens.Word w)) (word_rule h w (is_filter w))
+    words : (h : Expectation) (w : List ℕ) → stands alone (here h) (tokens.Word w) ≡ false → Ruling_says h (cell_ruling stage (tokens.Word w)) (word_rule h w (is_filter w))
     words h w out = first (bytes_eq w (codes "r0")) refl
       where
         zero : w ≡ codes "r0" → Ruling_says h (Where one rules.ZeroBase) (word_rule h w (is_filter w))
@@ -289,7 +286,7 @@ module _ (alone : Bool) (threads : List Placed) (c : ℕ) where
             says_where h one rules.ZeroBase (word_rule h w (is_filter w)) (
             let r = zero_ruled h (subst (λ (x : List ℕ). stands alone (here h) (tokens.Word x) ≡ false) e out) in
             let same : word_rule h (codes "r0") (is_filter (codes "r0")) ≡ (if is_base (wanted h) then rules.ZeroBase else rules.Instruction)
-            = is_not_filter h (codes "r0") ∙ ap (λ (b : Bool). if b then rules.ZeroBase else rules.Instruction) (and_true (is_base (wanted h))) in
+            = is_not_filter h (codes "r0") ∙ ap (λ (b : Bool). if b then rules.ZeroBase else rules.Instruction) (and-true (is_base (wanted h))) in
             subst (λ (x : List ℕ). Ruled alone (here h) one rules.ZeroBase (word_rule h x (is_filter x))) (sym e) (subst (Ruled alone (here h) one rules.ZeroBase) (sym same) r))
 
         second : (f : Bool) → is_filter w ≡ f → bytes_eq w (codes "r0") ≡ false → Ruling_says h (if f then Where tail_word rules.Filter else Always (rule_of stage)) (word_rule h w f)
@@ -300,14 +297,14 @@ module _ (alone : Bool) (threads : List Placed) (c : ℕ) where
         first true e = zero (is_word w (codes "r0") e)
         first false e = second (is_filter w) refl e
 
-    numbers : (h : Hole) (negative : Bool) (ds : List ℕ) → stands alone (here h) (tokens.Number negative ds) ≡ false → Ruling_says h (cell_ruling stage (tokens.Number negative ds)) (rule_at alone (here h) (tokens.Number negative ds))
+    numbers : (h : Expectation) (negative : Bool) (ds : List ℕ) → stands alone (here h) (tokens.Number negative ds) ≡ false → Ruling_says h (cell_ruling stage (tokens.Number negative ds)) (rule_at alone (here h) (tokens.Number negative ds))
     numbers h negative ds out = choose (is_int negative ds) refl
       where
         choose : (b : Bool) → is_int negative ds ≡ b → Ruling_says h (if b then Where zero_token rules.Offset else Always (rule_of stage)) (if is_zero (wanted h) && is_int negative ds then rules.Offset else rules.Instruction)
         choose true e = says_where h zero_token rules.Offset (if is_zero (wanted h) && is_int negative ds then rules.Offset else rules.Instruction) (number_ruled h negative ds e out)
         choose false e = ap (λ (b : Bool). if is_zero (wanted h) && b then rules.Offset else rules.Instruction) e ∙ ap (λ (b : Bool). if b then rules.Offset else rules.Instruction) (and_false (is_zero (wanted h))) ∙ sym inner
 
-    ruled : (h : Hole) (t : Token) → stands alone (here h) t ≡ false → Ruling_says h (cell_ruling stage t) (rule_at alone (here h) t)
+    ruled : (h : Expectation) (t : Token) → stands alone (here h) t ≡ false → Ruling_says h (cell_ruling stage t) (rule_at alone (here h) t)
     ruled h (tokens.Mark marks.Semicolon) out = says_where h (tokens.Mark marks.Bar) rules.Columns (separator_rule h) (semicolon_ruled h out)
     ruled h (tokens.Mark marks.Bar) out = says_where h (tokens.Mark marks.Semicolon) rules.Columns (separator_rule h) (bar_ruled h out)
     ruled h (tokens.Word w) out = words h w out
@@ -320,4 +317,4 @@ in_a_cell stages.InCell i = refl
 in_a_cell stage i = absurd i
 
 pub rules_given : GivesRules
-rules_given alone s stage t i out = ruled alone s.threads s.column stage (in_a_cell stage i) s.hole t out
+rules_given alone s stage t i out = ruled alone s.threads s.column stage (in_a_cell stage i) s.expected t out

@@ -79,7 +79,7 @@ module _ (qs ps rs : List texts.Placed) where
       let r = thread_run text whole byte stands t.tree.first t.tree.others fresh b t.fine (tokens-append qs ps ∙ ap (λ (l : List Token). b ++ l) t.whole) in
       let h = fresh_steps text whole byte stands r.after _ _ r.adds in
       record {
-        after = stand (r.after ∷ []) 0 r.hole;
+        after = stand (r.after ∷ []) 0 r.expected;
         by = run_text (columns 0) (spelled_thread t.tree []) t.whole ∙ r.leads;
         ended = r.ended;
         meant = ap (λ (l : List Step). l ∷ []) h.0;
@@ -90,7 +90,7 @@ module _ (qs ps rs : List texts.Placed) where
 
 run-append : (ps qs : List texts.Placed) (s : State) → run s (ps ++ qs) ≡ then_on (λ u. run u qs) (run s ps)
 run-append [] qs s = refl
-run-append (p ∷ ps) qs s = by_step (step s p.token p.place) (run-append ps qs)
+run-append (p ∷ ps) qs s = by_step (step s p.token p.offset) (run-append ps qs)
   where
     by_step : (o : Option State) → ((u : State) → run u (ps ++ qs) ≡ then_on (λ v. run v qs) (run u ps)) → then_on (λ u. run u (ps ++ qs)) o ≡ then_on (λ u. run u qs) (then_on (λ u. run u ps) o)
     by_step None later = refl
@@ -108,7 +108,7 @@ taken_on s u f ps qs e m = run-append ps qs s ∙ ap (then_on (λ v. run v qs)) 
 
 abbrev unplaced : List Token → List texts.Placed
 unplaced [] = []
-unplaced (t ∷ ts) = record { token = t; place = 0 } ∷ unplaced ts
+unplaced (t ∷ ts) = record { token = t; offset = 0 } ∷ unplaced ts
 
 tokens-unplaced : (ts : List Token) → tokens_of (unplaced ts) ≡ ts
 tokens-unplaced [] = refl

@@ -1,6 +1,7 @@
 -- What an instruction has of the tokens that it took.
 use Rattle.std.proofs.Common.{◌≡◌, ℕ, Bool, true, false, List, [], ◌∷◌, ◌++◌, Some, None, ℤ, pos, refl, sym, ap, ◌∙◌}
 use Rattle.std.specs.Prelude.{if◌then◌else◌}
+use Rattle.std.proofs.lemmas.Bool.{and_parts}
 use Rattle.litmus_tokens.specs.declared.token.Token.{Token}
 use Rattle.litmus_tokens.specs.declared.token.Token.TheVariants as tokens
 use Rattle.litmus_tokens.specs.Words.{decimal, signed}
@@ -10,7 +11,6 @@ use Rattle.litmus_table.specs.declared.opcode.Want.{Want}
 use Rattle.litmus_table.specs.declared.opcode.Want.TheVariants as wants
 use Rattle.litmus_table.specs.Words.{data_form, fits, all_fit, registers, immediate}
 use Rattle.litmus_table.specs.Machine.{registers_with, or_value, value_with}
-use Rattle.litmus_table.proofs.Tests.{both}
 
 pub registers-with : (t : Token) (ts : List Token) (rs : List ℕ) → registers_with t rs ++ registers ts ≡ rs ++ registers (t ∷ ts)
 registers-with (tokens.Word w) ts [] = refl
@@ -82,7 +82,7 @@ none_after (wants.Immediate ∷ ws) ts v n f = absurd n
 none_after (wants.Zero ∷ ws) ts v n f = absurd n
 none_after (w ∷ ws) [] v n f = absurd cc
 none_after (w ∷ ws) (t ∷ ts) v n f =
-    let b = both (fits w t) (all_fit ws ts) f in
+    let b = and_parts (fits w t) (all_fit ws ts) f in
     let o = is_other w t refl b.0 in
     let r = none_after ws ts (value_with t v) n b.1 in
     (r.0 ∙ other_value t v o, other_immediate t ts o ∙ r.1)
@@ -106,13 +106,13 @@ one_after [] [] n f = refl
 one_after [] (t ∷ ts) n f = absurd cc
 one_after (w ∷ ws) [] n f = absurd cc
 one_after (wants.Immediate ∷ ws) (t ∷ ts) n f =
-    let b = both (fits wants.Immediate t) (all_fit ws ts) f in
+    let b = and_parts (fits wants.Immediate t) (all_fit ws ts) f in
     (none_after ws ts (value_with t (pos 0)) n b.1).0 ∙ immediate_value t (pos 0) ts b.0
 one_after (wants.Zero ∷ ws) (t ∷ ts) n f =
-    let b = both (fits wants.Zero t) (all_fit ws ts) f in
+    let b = and_parts (fits wants.Zero t) (all_fit ws ts) f in
     (none_after ws ts (value_with t (pos 0)) n b.1).0 ∙ zero_value t ts b.0
 one_after (w ∷ ws) (t ∷ ts) n f =
-    let b = both (fits w t) (all_fit ws ts) f in
+    let b = and_parts (fits w t) (all_fit ws ts) f in
     let o = is_other w t refl b.0 in
     ap (λ (v : ℤ). value_after v ts) (other_value t (pos 0) o) ∙ one_after ws ts n b.1 ∙ sym (other_immediate t ts o)
 

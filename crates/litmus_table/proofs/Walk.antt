@@ -13,7 +13,7 @@ use Rattle.litmus_table.proofs.Labels.{late_found}
 
 -- what the checks find in a thread
 abbrev pub found_in : Placed → Option LateFault
-found_in t = checked (λ w. first_from w 0 t.steps) 0 t.steps t.places
+found_in t = checked (λ w. first_from w 0 t.steps) 0 t.steps t.offsets
 
 module _ (text : List texts.Placed) where
   none_late : (found : Option LateFault) (late : Option Late) → found ≡ None → IsFoundAt text found late → late ≡ None
@@ -29,7 +29,7 @@ module _ (text : List texts.Placed) where
   -- a thread in which nothing is found
   pub passed : (nss : List (List Note)) (ts : List PlacedThread) (k : ℕ) (d : PlacedThread) → AreNoted text nss (threads_of ts) → k < length ts → found_in (thread_of (get_or ts k d)) ≡ None → first_late (drop k nss) ≡ first_late (drop (k + 1) nss)
   passed (ns ∷ nss) (t ∷ ts) zero d a lt e =
-      ap (λ (o : Option Late). or_else o (first_late nss)) (none_late (found_in (thread_of t)) (late_notes [] ns) e (late_found text t.steps.items [] t.places.items [] ns a.0.each a.0.marked (λ w. refl)))
+      ap (λ (o : Option Late). or_else o (first_late nss)) (none_late (found_in (thread_of t)) (late_notes [] ns) e (late_found text t.steps.items [] t.offsets.items [] ns a.0.each a.0.marked (λ w. refl)))
   passed (ns ∷ nss) (t ∷ ts) (suc k) d a lt e =
       let less : k < length ts = omega arith in
       let more : suc (k + 1) ≡ suc k + 1 = omega arith in
@@ -40,7 +40,7 @@ module _ (text : List texts.Placed) where
   -- the first in which something is found
   pub stopped : (nss : List (List Note)) (ts : List PlacedThread) (k : ℕ) (d : PlacedThread) (fault : LateFault) → AreNoted text nss (threads_of ts) → k < length ts → found_in (thread_of (get_or ts k d)) ≡ Some fault → IsFoundAt text (Some fault) (first_late (drop k nss))
   stopped (ns ∷ nss) (t ∷ ts) zero d fault a lt e =
-      some_late (found_in (thread_of t)) fault (late_notes [] ns) (first_late nss) e (late_found text t.steps.items [] t.places.items [] ns a.0.each a.0.marked (λ w. refl))
+      some_late (found_in (thread_of t)) fault (late_notes [] ns) (first_late nss) e (late_found text t.steps.items [] t.offsets.items [] ns a.0.each a.0.marked (λ w. refl))
   stopped (ns ∷ nss) (t ∷ ts) (suc k) d fault a lt e = let less : k < length ts = omega arith in stopped nss ts k d fault a.1 less e
   stopped [] (t ∷ ts) k d fault a lt e = absurd a
   stopped nss [] k d fault a lt e = absurd (omega arith)

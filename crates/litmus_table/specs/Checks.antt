@@ -46,17 +46,17 @@ step_rule first (steps.Label label) i = label_rule (first label) i
 step_rule first (steps.Instruction instruction) i = instruction_rule first instruction i
 
 abbrev pub or_later : Option LitmusRule → ℕ → Option LateFault → Option LateFault
-or_later None place later = later
-or_later (Some rule) place later = Some (record { rule = rule; place = place })
+or_later None offset later = later
+or_later (Some rule) offset later = Some (record { rule = rule; offset = offset })
 
 -- the first step from this number on that breaks a rule
 abbrev pub checked : (List ℕ → Option ℕ) → ℕ → List Step → List ℕ → Option LateFault
-checked first i [] places = None
+checked first i [] offsets = None
 checked first i (s ∷ ss) [] = None
 checked first i (s ∷ ss) (p ∷ ps) = or_later (step_rule first s i) p (checked first (i + 1) ss ps)
 
 -- what was found is what the definitions find, and its byte is where it stands
 abbrev pub IsFoundAt : List texts.Placed → Option LateFault → Option Late → Type 0
 IsFoundAt text None None = Unit {0}
-IsFoundAt text (Some fault) (Some late) = (fault.rule ≡ late.rule) × StandsAt text late.before fault.place
+IsFoundAt text (Some fault) (Some late) = (fault.rule ≡ late.rule) × StandsAt text late.before fault.offset
 IsFoundAt text found late = ⊥

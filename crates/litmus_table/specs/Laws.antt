@@ -3,7 +3,6 @@ use Rattle.std.specs.Prelude.{◌≡◌, ℕ, zero, suc, ◌+◌, List, [], ◌�
 use Rattle.litmus_tokens.specs.declared.stage.Stage.{Stage}
 use Rattle.litmus_tokens.specs.declared.stage.Stage.TheVariants.{CellBegins, InCell}
 use Rattle.litmus_tokens.specs.declared.token.Token.{Token}
-use Rattle.litmus_tokens.specs.declared.token.Token.TheVariants as tokens
 use Rattle.litmus_tokens.specs.Texts as texts
 use Rattle.litmus_tokens.specs.Texts.{tokens_of, StandsAt, is_end, begins_tail}
 use Rattle.litmus_tokens.specs.Faults.{Says, cell_ruling}
@@ -38,7 +37,7 @@ then_on later (Some s) = later s
 -- where these tokens lead
 abbrev pub run : State → List texts.Placed → Option State
 run s [] = Some s
-run s (p ∷ ps) = then_on (λ u. run u ps) (step s p.token p.place)
+run s (p ∷ ps) = then_on (λ u. run u ps) (step s p.token p.offset)
 
 -- a first column and so many others, before the first row
 abbrev pub columns : ℕ → State
@@ -57,7 +56,7 @@ pub record Finishes (may_end : State → Bool) (s : State) : Type 0 where
   pub ended : may_end after ≡ true
 
 abbrev pub is_whole : State → Bool
-is_whole s = can_end s.hole
+is_whole s = can_end s.expected
 
 -- ---- what is kept
 
@@ -66,33 +65,33 @@ steps_of ts = map (λ t. t.steps) ts
 
 -- a label that a step defines or branches to, and the byte that is kept for it
 pub data Mark : Type 0 where
-  Defined : (label : List ℕ) (place : ℕ) → Mark
-  Branched : (label : List ℕ) (place : ℕ) → Mark
+  Defined : (label : List ℕ) (offset : ℕ) → Mark
+  Branched : (label : List ℕ) (offset : ℕ) → Mark
 
 abbrev pub instruction_marks : Instruction → ℕ → List Mark
-instruction_marks (instructions.BranchIf condition label) place = Branched label place ∷ []
-instruction_marks (instructions.Branch label) place = Branched label place ∷ []
-instruction_marks i place = []
+instruction_marks (instructions.BranchIf condition label) offset = Branched label offset ∷ []
+instruction_marks (instructions.Branch label) offset = Branched label offset ∷ []
+instruction_marks i offset = []
 
 abbrev pub step_marks : Step → ℕ → List Mark
-step_marks (steps.Label label) place = Defined label place ∷ []
-step_marks (steps.Instruction i) place = instruction_marks i place
+step_marks (steps.Label label) offset = Defined label offset ∷ []
+step_marks (steps.Instruction i) offset = instruction_marks i offset
 
 abbrev pub marks : List Step → List ℕ → List Mark
-marks [] places = []
+marks [] offsets = []
 marks (s ∷ ss) [] = []
 marks (s ∷ ss) (p ∷ ps) = step_marks s p ++ marks ss ps
 
 -- these are the labels of these notes, and each byte is where the label stands in the text
 abbrev pub AreMarks : List texts.Placed → List Note → List Mark → Type 0
 AreMarks text [] [] = Unit {0}
-AreMarks text (Defines w before ∷ ns) (Defined v place ∷ ms) = (v ≡ w) × StandsAt text before place × AreMarks text ns ms
-AreMarks text (Branches w before ∷ ns) (Branched v place ∷ ms) = (v ≡ w) × StandsAt text before place × AreMarks text ns ms
+AreMarks text (Defines w before ∷ ns) (Defined v offset ∷ ms) = (v ≡ w) × StandsAt text before offset × AreMarks text ns ms
+AreMarks text (Branches w before ∷ ns) (Branched v offset ∷ ms) = (v ≡ w) × StandsAt text before offset × AreMarks text ns ms
 AreMarks text ns ms = ⊥
 
 pub record IsNoted (text : List texts.Placed) (ns : List Note) (t : Placed) : Type 0 where
-  pub each : length t.steps ≡ length t.places
-  pub marked : AreMarks text ns (marks t.steps t.places)
+  pub each : length t.steps ≡ length t.offsets
+  pub marked : AreMarks text ns (marks t.steps t.offsets)
 
 -- so for each thread
 abbrev pub AreNoted : List texts.Placed → List (List Note) → List Placed → Type 0

@@ -21,7 +21,7 @@ use Rattle.litmus_table.specs.Words.{opcode_of, data_form, fits, data_meaning, b
 -- the steps of a thread, with the byte of each label and of the label that each branch names
 pub record Placed : Type 0 where
   pub steps : List Step
-  pub places : List ℕ
+  pub offsets : List ℕ
 
 -- an instruction of which a part was read: what it still wants, and what it has
 pub record Pending : Type 0 where
@@ -31,23 +31,23 @@ pub record Pending : Type 0 where
   pub value : ℤ
 
 -- where in a cell the reader stands
-pub data Hole : Type 0 where
-  Begins : Hole
-  Labelled : Hole
-  Within : (pending : Pending) → Hole
-  WantsLabel : (condition : Option BranchCondition) → Hole
-  Whole : Hole
+pub data Expectation : Type 0 where
+  Begins : Expectation
+  Labelled : Expectation
+  Within : (pending : Pending) → Expectation
+  WantsLabel : (condition : Option BranchCondition) → Expectation
+  Whole : Expectation
 
 -- the threads so far, and the number of the one whose cell is read
 pub record State : Type 0 where
   pub threads : List Placed
   pub column : ℕ
-  pub hole : Hole
+  pub expected : Expectation
 
 -- ---- instructions
 
-abbrev pub begun : DataOpcode → Pending
-begun op = record { opcode = op; wants = data_form op; registers = []; value = pos 0 }
+abbrev pub empty_pending : DataOpcode → Pending
+empty_pending op = record { opcode = op; wants = data_form op; registers = []; value = pos 0 }
 
 abbrev pub registers_with : Token → List ℕ → List ℕ
 registers_with (tokens.Word w) rs = rs ++ or_zero (register_of w) ∷ []
@@ -61,8 +61,8 @@ abbrev pub value_with : Token → ℤ → ℤ
 value_with (tokens.Number negative ds) n = or_value (int_of negative ds) n
 value_with t n = n
 
-abbrev pub kept : Pending → List Want → Token → Pending
-kept p ws t = record { opcode = p.opcode; wants = ws; registers = registers_with t p.registers; value = value_with t p.value }
+abbrev pub pending_with : Pending → List Want → Token → Pending
+pending_with p ws t = record { opcode = p.opcode; wants = ws; registers = registers_with t p.registers; value = value_with t p.value }
 
 abbrev pub first_of : List Want → Option Want
 first_of [] = None
@@ -73,12 +73,12 @@ rest_of [] = []
 rest_of (w ∷ ws) = ws
 
 -- a token that an instruction wants
-abbrev pub taken_as : Pending → Option Want → Token → Option Pending
-taken_as p None t = None
-taken_as p (Some w) t = if fits w t then Some (kept p (rest_of p.wants) t) else None
+abbrev pub pending_as : Pending → Option Want → Token → Option Pending
+pending_as p None t = None
+pending_as p (Some w) t = if fits w t then Some (pending_with p (rest_of p.wants) t) else None
 
-abbrev pub taken : Pending → Token → Option Pending
-taken p t = taken_as p (first_of p.wants) t
+abbrev pub pending_after : Pending → Token → Option Pending
+pending_after p t = pending_as p (first_of p.wants) t
 
 abbrev pub instruction_of : Pending → Instruction
 instruction_of p = data_meaning p.opcode p.registers p.value
@@ -86,19 +86,19 @@ instruction_of p = data_meaning p.opcode p.registers p.value
 -- ---- cells
 
 abbrev pub noted : Step → ℕ → Placed → Placed
-noted s place t = record { steps = t.steps ++ s ∷ []; places = t.places ++ place ∷ [] }
+noted s offset t = record { steps = t.steps ++ s ∷ []; offsets = t.offsets ++ offset ∷ [] }
 
 -- a step more in the thread of this number
 abbrev pub put_at : ℕ → Step → ℕ → List Placed → List Placed
-put_at k s place [] = []
-put_at zero s place (t ∷ ts) = noted s place t ∷ ts
-put_at (suc k) s place (t ∷ ts) = t ∷ put_at k s place ts
+put_at k s offset [] = []
+put_at zero s offset (t ∷ ts) = noted s offset t ∷ ts
+put_at (suc k) s offset (t ∷ ts) = t ∷ put_at k s offset ts
 
-abbrev pub at : List Placed → ℕ → Hole → Option State
-at threads column hole = Some (record { threads = threads; column = column; hole = hole })
+abbrev pub at : List Placed → ℕ → Expectation → Option State
+at threads column expected = Some (record { threads = threads; column = column; expected = expected })
 
 abbrev pub finished : List Placed → ℕ → Instruction → ℕ → Option State
-finished threads column i place = at (put_at column (steps.Instruction i) place threads) column Whole
+finished threads column i offset = at (put_at column (steps.Instruction i) offset threads) column Whole
 
 abbrev pub is_last : List Placed → ℕ → Bool
 is_last threads column = nat_le (length threads) (column + 1)
@@ -110,53 +110,53 @@ ended threads column (tokens.Mark Bar) = if is_last threads column then None els
 ended threads column t = None
 
 abbrev pub operation : List Placed → ℕ → ℕ → Option Opcode → Option State
-operation threads column place (Some (opcodes.Data op)) = at threads column (Within (begun op))
-operation threads column place (Some (opcodes.Branch condition)) = at threads column (WantsLabel condition)
-operation threads column place (Some (opcodes.Fence f)) = finished threads column (instructions.Fence f) place
-operation threads column place None = None
+operation threads column offset (Some (opcodes.Data op)) = at threads column (Within (empty_pending op))
+operation threads column offset (Some (opcodes.Branch condition)) = at threads column (WantsLabel condition)
+operation threads column offset (Some (opcodes.Fence f)) = finished threads column (instructions.Fence f) offset
+operation threads column offset None = None
 
 -- a token where an instruction may begin, or the cell may end
 abbrev pub begins : List Placed → ℕ → Token → ℕ → Option State
-begins threads column (tokens.Word w) place = operation threads column place (opcode_of w)
-begins threads column t place = ended threads column t
+begins threads column (tokens.Word w) offset = operation threads column offset (opcode_of w)
+begins threads column t offset = ended threads column t
 
 -- a token where a cell begins
 abbrev pub cell : List Placed → ℕ → Token → ℕ → Option State
-cell threads column (tokens.Label w) place = at (put_at column (steps.Label w) place threads) column Labelled
-cell threads column t place = begins threads column t place
+cell threads column (tokens.Label w) offset = at (put_at column (steps.Label w) offset threads) column Labelled
+cell threads column t offset = begins threads column t offset
 
 -- an instruction ends with what it wants
 abbrev pub goes_on : List Placed → ℕ → Pending → Option Want → ℕ → Option State
-goes_on threads column p None place = finished threads column (instruction_of p) place
-goes_on threads column p (Some w) place = at threads column (Within p)
+goes_on threads column p None offset = finished threads column (instruction_of p) offset
+goes_on threads column p (Some w) offset = at threads column (Within p)
 
 abbrev pub operand : List Placed → ℕ → Option Pending → ℕ → Option State
-operand threads column (Some p) place = goes_on threads column p (first_of p.wants) place
-operand threads column None place = None
+operand threads column (Some p) offset = goes_on threads column p (first_of p.wants) offset
+operand threads column None offset = None
 
 -- the label that a branch names
 abbrev pub target_read : List Placed → ℕ → Option BranchCondition → Token → ℕ → Option State
-target_read threads column condition (tokens.Word w) place = finished threads column (branch_meaning condition w) place
-target_read threads column condition t place = None
+target_read threads column condition (tokens.Word w) offset = finished threads column (branch_meaning condition w) offset
+target_read threads column condition t offset = None
 
-abbrev pub hole_step : List Placed → ℕ → Hole → Token → ℕ → Option State
-hole_step threads column Begins t place = cell threads column t place
-hole_step threads column Labelled t place = begins threads column t place
-hole_step threads column (Within p) t place = operand threads column (taken p t) place
-hole_step threads column (WantsLabel condition) t place = target_read threads column condition t place
-hole_step threads column Whole t place = ended threads column t
+abbrev pub expected_step : List Placed → ℕ → Expectation → Token → ℕ → Option State
+expected_step threads column Begins t offset = cell threads column t offset
+expected_step threads column Labelled t offset = begins threads column t offset
+expected_step threads column (Within p) t offset = operand threads column (pending_after p t) offset
+expected_step threads column (WantsLabel condition) t offset = target_read threads column condition t offset
+expected_step threads column Whole t offset = ended threads column t
 
 -- a token that stands at this byte
 abbrev pub step : State → Token → ℕ → Option State
-step s t place = hole_step s.threads s.column s.hole t place
+step s t offset = expected_step s.threads s.column s.expected t offset
 
 -- ---- the header
 
 abbrev pub fresh : Placed
-fresh = record { steps = []; places = [] }
+fresh = record { steps = []; offsets = [] }
 
 abbrev pub widened : State → State
-widened s = record { threads = s.threads ++ fresh ∷ []; column = s.column; hole = s.hole }
+widened s = record { threads = s.threads ++ fresh ∷ []; column = s.column; expected = s.expected }
 
 -- the name of the next thread
 abbrev pub named : State → Token → Option State
@@ -165,14 +165,14 @@ named s t = None
 
 -- ---- where the reader stands, and the rule that a refused token breaks
 
-abbrev pub is_begin : Hole → Bool
+abbrev pub is_begin : Expectation → Bool
 is_begin Begins = true
 is_begin h = false
 
 abbrev pub is_row_start : State → Bool
-is_row_start s = s.column == 0 && is_begin s.hole
+is_row_start s = s.column == 0 && is_begin s.expected
 
-abbrev pub can_end : Hole → Bool
+abbrev pub can_end : Expectation → Bool
 can_end Begins = true
 can_end Labelled = true
 can_end (Within p) = false
@@ -180,7 +180,7 @@ can_end (WantsLabel condition) = false
 can_end Whole = true
 
 -- what is wanted within an instruction
-abbrev pub wanted : Hole → Option Want
+abbrev pub wanted : Expectation → Option Want
 wanted (Within p) = first_of p.wants
 wanted h = None
 
@@ -195,20 +195,20 @@ is_zero w = false
 abbrev pub rule_of_word : Bool → State → List ℕ → LitmusRule
 rule_of_word alone s w =
     if is_row_start s && not alone && is_filter w then rules.Filter else (
-    if is_base (wanted s.hole) && is_register w then rules.ZeroBase else rules.Instruction)
+    if is_base (wanted s.expected) && is_register w then rules.ZeroBase else rules.Instruction)
 
-abbrev pub separator_rule : Hole → LitmusRule
+abbrev pub separator_rule : Expectation → LitmusRule
 separator_rule h = if can_end h then rules.Columns else rules.Instruction
 
 -- the rule that a token breaks which cannot stand here, in a table or in the text of a thread alone
 abbrev pub rule_at : Bool → State → Token → LitmusRule
-rule_at alone s (tokens.Mark Semicolon) = separator_rule s.hole
-rule_at alone s (tokens.Mark Bar) = separator_rule s.hole
+rule_at alone s (tokens.Mark Semicolon) = separator_rule s.expected
+rule_at alone s (tokens.Mark Bar) = separator_rule s.expected
 rule_at alone s (tokens.Word w) = rule_of_word alone s w
-rule_at alone s (tokens.Number negative ds) = if is_zero (wanted s.hole) && is_int negative ds then rules.Offset else rules.Instruction
+rule_at alone s (tokens.Number negative ds) = if is_zero (wanted s.expected) && is_int negative ds then rules.Offset else rules.Instruction
 rule_at alone s t = rules.Instruction
 
 -- ---- a table of no thread
 
 abbrev pub start : State
-start = record { threads = []; column = 0; hole = Begins }
+start = record { threads = []; column = 0; expected = Begins }

@@ -12,7 +12,7 @@ use Rattle.litmus_table.specs.Words.{data_form}
 use Rattle.litmus_table.specs.Machine as machine
 
 abbrev pub thread_of : PlacedThread → machine.Placed
-thread_of t = record { steps = t.steps.items; places = t.places.items }
+thread_of t = record { steps = t.steps.items; offsets = t.offsets.items }
 
 abbrev pub threads_of : List PlacedThread → List machine.Placed
 threads_of ts = map thread_of ts
@@ -23,17 +23,17 @@ first_steps [] = []
 first_steps (t ∷ ts) = t.steps
 
 abbrev pub pending_of : code_pending.Pending → machine.Pending
-pending_of p = record { opcode = p.opcode; wants = drop p.taken (data_form p.opcode); registers = p.registers.items; value = p.value }
+pending_of p = record { opcode = p.opcode; wants = drop p.read_count (data_form p.opcode); registers = p.registers.items; value = p.value }
 
-abbrev pub hole_of : Cell → machine.Hole
-hole_of cells.Begins = machine.Begins
-hole_of cells.Labelled = machine.Labelled
-hole_of (cells.Within p) = machine.Within (pending_of p)
-hole_of (cells.WantsLabel condition) = machine.WantsLabel condition
-hole_of cells.Whole = machine.Whole
+abbrev pub expectation_of : Cell → machine.Expectation
+expectation_of cells.Begins = machine.Begins
+expectation_of cells.Labelled = machine.Labelled
+expectation_of (cells.Within p) = machine.Within (pending_of p)
+expectation_of (cells.WantsLabel condition) = machine.WantsLabel condition
+expectation_of cells.Whole = machine.Whole
 
 abbrev pub table_of : Table → machine.State
-table_of t = record { threads = threads_of t.threads.items; column = t.column; hole = hole_of t.cell }
+table_of t = record { threads = threads_of t.threads.items; column = t.column; expected = expectation_of t.cell }
 
 -- What a function returned, seen by view, is what the machine does, unless memory ran out.
 abbrev pub Refuses : {Y : Type 0} → StepError → Option Y → Type 0
@@ -46,7 +46,7 @@ Takes (Err e) made = Refuses e made
 
 -- the cell that a step leads to, beside the rest of the table
 abbrev pub Cells : Result Cell StepError → Table → Option machine.State → Type 0
-Cells (Ok cell) t made = made ≡ Some (record { threads = threads_of t.threads.items; column = t.column; hole = hole_of cell })
+Cells (Ok cell) t made = made ≡ Some (record { threads = threads_of t.threads.items; column = t.column; expected = expectation_of cell })
 Cells (Err e) t made = Refuses e made
 
 abbrev pub Steps : Result (Unit {0}) StepError → Table → Option machine.State → Type 0

@@ -4,14 +4,14 @@ use Rattle.litmus_table.specs.declared.late.LateFault.{LateFault}
 use Rattle.litmus_table.specs.Machine.{Placed}
 
 abbrev pub AllAtMost : ℕ → List ℕ → Type 0
-AllAtMost n places = (k : ℕ) → k < length places → slice_index places k ≤ n
+AllAtMost n offsets = (k : ℕ) → k < length offsets → slice_index offsets k ≤ n
 
--- every place of every thread is at most this
+-- every offset of every thread is at most this
 abbrev pub AreWithin : ℕ → List Placed → Type 0
 AreWithin n [] = Unit {0}
-AreWithin n (t ∷ ts) = AllAtMost n t.places × AreWithin n ts
+AreWithin n (t ∷ ts) = AllAtMost n t.offsets × AreWithin n ts
 
 -- a fault, if one was found, stands there too
 abbrev pub IsFoundWithin : ℕ → Option LateFault → Type 0
 IsFoundWithin n None = Unit {0}
-IsFoundWithin n (Some fault) = fault.place ≤ n
+IsFoundWithin n (Some fault) = fault.offset ≤ n

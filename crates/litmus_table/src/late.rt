@@ -16,20 +16,20 @@ use source_text::Name;
 use std::alloc::{AllocError, Global};
 use std::collections::BTreeMap;
 
-/// The rule that a text breaks which the grammar allows, and the byte place of the part that breaks it.
-#[derive(Clone, Copy, Debug)]
+/// A fault of a label in a text that the grammar allows.
+#[derive(Clone, Copy)]
 pub struct LateFault {
-    /// L10 or L11.
+    /// The broken rule, L10 or L11.
     pub rule: LitmusRule,
-    /// The byte of the label, from the beginning of the text.
-    pub place: usize,
+    /// The byte offset of the label.
+    pub offset: usize,
 }
 
-/// The steps of a thread, with the byte of each label and of the label that each branch names.
+/// The steps of a thread, each with a byte offset: of a label, or of the label that a branch names.
 #[derive(Drop)]
 pub struct PlacedThread {
     steps: Vec<Step>,
-    places: Vec<usize>,
+    offsets: Vec<usize>,
 }
 
 impl PlacedThread {
@@ -39,20 +39,20 @@ impl PlacedThread {
     {
         PlacedThread {
             steps: Vec::new(alloc),
-            places: Vec::new(alloc),
+            offsets: Vec::new(alloc),
         }
     }
 
-    /// Adds a step, with the byte of its label where it has one. Errors: want of memory.
-    pub fn push(&mut self, step: Step, place: usize) -> Result<(), AllocError>
-        ensures { IfOk result (λ _. thread_of self.new ≡ noted step place (thread_of self.old)) }
+    /// Adds a step with the offset of its label, if it has one. Errors: out of memory.
+    pub fn push(&mut self, step: Step, offset: usize) -> Result<(), AllocError>
+        ensures { IfOk result (λ _. thread_of self.new ≡ noted step offset (thread_of self.old)) }
     {
-        self.places.push(place)?;
+        self.offsets.push(offset)?;
         self.steps.push(step)?;
         Ok(())
     }
 
-    /// The thread without the bytes.
+    /// The thread without the offsets.
     pub fn into_thread(self) -> Thread
         ensures { result.steps.items ≡ (thread_of self).steps }
     {
@@ -70,21 +70,21 @@ impl PlacedThread {
         Ok(first)
     }
 
-    /// The first label that is defined twice, or the first branch to a label that stands before it or
-    /// nowhere in the thread.
+    /// The first step that defines a label again, or that branches to a label that stands before it or
+    /// nowhere in the thread; `None` if no step does.
     pub fn check_labels(&self, alloc: Global) -> Result<Option<LateFault>, AllocError>
-        ensures found { IfOk result (λ f. f ≡ checked (λ w. first_from w 0 self.now.steps.items) 0 self.now.steps.items self.now.places.items) }
-        ensures within { (n : ℕ) → AllAtMost n self.now.places.items → IfOk result (IsFoundWithin n) }
+        ensures found { IfOk result (λ f. f ≡ checked (λ w. first_from w 0 self.now.steps.items) 0 self.now.steps.items self.now.offsets.items) }
+        ensures within { (n : ℕ) → AllAtMost n self.now.offsets.items → IfOk result (IsFoundWithin n) }
     {
         let definitions = self.definitions(alloc)?;
         for (i, step) in self.steps.iter().enumerate() {
-            if i >= self.places.len() {
+            if i >= self.offsets.len() {
                 return Ok(None);
             }
             if let Some(rule) = step_rule(&definitions, step, i) {
                 return Ok(Some(LateFault {
                     rule,
-                    place: self.places[i],
+                    offset: self.offsets[i],
                 }));
             }
         }

@@ -19,7 +19,7 @@ pub fn takes_tables()
     // The tokens that it takes are those that begin some rows.
     ensures stops { (others : ℕ) (ps : List Placed) → Takes (columns others) ps ↔ Begins (IsTable others) (tokens_of ps) }
     // What stands behind the rows begins no row.
-    ensures apart { (s : State) (t : Token) (place : ℕ) → is_row_start s ≡ true → begins_tail t ≡ true → step s t place ≡ None }
+    ensures apart { (s : State) (t : Token) (offset : ℕ) → is_row_start s ≡ true → begins_tail t ≡ true → step s t offset ≡ None }
 {}
 
 /// The same for the text of a thread alone.

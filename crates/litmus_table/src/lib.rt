@@ -1,4 +1,5 @@
-//! Reads the table of threads of litmus tests, token by token.
+//! The reader of the table of threads, token by token, and the checks of its labels. Read specs/Grammar.antt first;
+//! `laws` says that the reader reads that grammar, and specs/Checks.antt what the checks of labels are.
 #![tactic(auto)]
 
 mod late;

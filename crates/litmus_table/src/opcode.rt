@@ -1,23 +1,23 @@
-//! Words that begin instructions.
+//! Mnemonics, and the tokens that each wants behind it.
 
 ghost use Rattle.std.specs.Prelude.{◌≡◌};
 ghost use Rattle.litmus_table.specs.Words.{computing_of, accessing_of, fence_of, branch_of, opcode_of, data_form};
 
 use litmus_values::{BranchCondition, Fence, Operation};
 
-/// The word that begins an instruction.
-#[derive(Clone, Copy, Debug, PartialEq, Eq)]
+/// The mnemonic of an instruction.
+#[derive(Clone, Copy, PartialEq, Eq)]
 pub enum Opcode {
-    /// The word of an instruction with registers and numbers.
+    /// The mnemonic of an instruction on registers and numbers.
     Data(DataOpcode),
     /// A branch to a label, with its condition if it has one.
     Branch(Option<BranchCondition>),
-    /// A barrier, which has no operands.
+    /// A fence, which has no operands.
     Fence(Fence),
 }
 
-/// The word of an instruction whose operands are registers and numbers.
-#[derive(Clone, Copy, Debug, PartialEq, Eq)]
+/// The mnemonic of an instruction whose operands are registers and numbers.
+#[derive(Clone, Copy, PartialEq, Eq)]
 pub enum DataOpcode {
     /// `li`
     LoadImmediate,
@@ -42,11 +42,11 @@ pub enum DataOpcode {
 }
 
 /// A token that an instruction wants.
-#[derive(Clone, Copy, Debug, PartialEq, Eq)]
+#[derive(Clone, Copy, PartialEq, Eq)]
 pub enum Want {
     /// A register.
     Register,
-    /// A register other than `r0`, which would mean zero.
+    /// A register other than `r0`, which Power reads as zero here.
     Base,
     /// A number of 32 bits.
     Immediate,
@@ -60,7 +60,7 @@ pub enum Want {
     Close,
 }
 
-/// The word's opcode, if it has one.
+/// The mnemonic that a word spells, or `None`.
 pub fn opcode_of(word: &[u8]) -> Option<Opcode>
     ensures { result ≡ opcode_of word.now }
 {
@@ -186,7 +186,7 @@ fn branch_of(word: &[u8]) -> Option<Option<BranchCondition>>
 }
 
 impl DataOpcode {
-    /// The tokens that follow the word.
+    /// The tokens that follow the mnemonic.
     pub fn form(self) -> &'static [Want]
         ensures { result.now ≡ data_form self }
     {

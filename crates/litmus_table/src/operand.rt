@@ -1,9 +1,9 @@
-//! What follows the word of an instruction.
+//! The operands of an instruction.
 
 ghost use Rattle.std.specs.Prelude.{◌≡◌, slice_index, IfOk};
 ghost use Rattle.litmus_tokens.specs.Words.{is_register, register_of, or_zero, is_int};
 ghost use Rattle.litmus_table.specs.Words.{fits};
-ghost use Rattle.litmus_table.specs.Machine.{begun, registers_with, value_with, taken, first_of, instruction_of};
+ghost use Rattle.litmus_table.specs.Machine.{empty_pending, registers_with, value_with, pending_after, first_of, instruction_of};
 ghost use Rattle.litmus_table.specs.Reading.{pending_of, Takes};
 
 use crate::opcode::{DataOpcode, Want};
@@ -12,44 +12,44 @@ use litmus_tokens::{Mark, Token, register_number, signed_number};
 use litmus_values::{Instruction, Register};
 use std::alloc::{AllocError, Global};
 
-/// An instruction of which a part was read.
-#[derive(Debug, Drop)]
+/// An instruction that is read in part.
+#[derive(Drop)]
 pub struct Pending {
     opcode: DataOpcode,
     // How many tokens were taken.
-    taken: usize,
+    read_count: usize,
     registers: Vec<Register>,
     value: i32,
 }
 
 impl Pending {
-    /// The instruction of this word, of which nothing more was read.
+    /// The instruction behind its mnemonic.
     pub fn new(alloc: Global, opcode: DataOpcode) -> Pending
-        ensures { pending_of result ≡ begun opcode }
+        ensures { pending_of result ≡ empty_pending opcode }
     {
         Pending {
             opcode,
-            taken: 0,
+            read_count: 0,
             registers: Vec::new(alloc),
             value: 0,
         }
     }
 
-    /// The token that is wanted, or none at the end.
+    /// The token that is wanted next, or `None` at the end.
     pub fn want(&self) -> Option<Want>
         ensures { result ≡ first_of (pending_of self.now).wants }
     {
         let form = self.opcode.form();
-        if self.taken < form.len() {
-            Some(form[self.taken])
+        if self.read_count < form.len() {
+            Some(form[self.read_count])
         } else {
             None
         }
     }
 
-    /// The instruction with a token more, if it is what is wanted.
+    /// The instruction behind one more token. Errors: the token is not the one that is wanted, or out of memory.
     pub fn take(self, token: &Token) -> Result<Pending, StepError>
-        ensures { Takes result (taken (pending_of self) token.now) }
+        ensures { Takes result (pending_after (pending_of self) token.now) }
     {
         match self.want() {
             Some(want) => {
@@ -61,14 +61,14 @@ impl Pending {
         }
         let Pending {
             opcode,
-            taken,
+            read_count,
             mut registers,
             value,
         } = self;
         keep_register(&mut registers, token)?;
         Ok(Pending {
             opcode,
-            taken: taken.saturating_add(1),
+            read_count: read_count.saturating_add(1),
             registers,
             value: value_with(value, token),
         })
@@ -85,7 +85,7 @@ impl Pending {
         }
     }
 
-    /// The instruction, once all its tokens were taken.
+    /// The instruction, once all its tokens are read.
     pub fn instruction(&self) -> Instruction
         ensures { result ≡ instruction_of (pending_of self.now) }
     {
@@ -184,7 +184,7 @@ pub fn is_register(word: &[u8]) -> bool
     }
 }
 
-/// Whether a sign and digits make a number of 32 bits.
+/// Whether a sign and digits spell a number of 32 bits.
 pub fn is_int(is_negative: bool, digits: &[u8]) -> bool
     ensures { result ≡ is_int is_negative digits.now }
 {

@@ -1,13 +1,13 @@
 //! Reads the table of threads.
 
 ghost use Rattle.std.specs.Prelude.{◌≡◌, ◌≤◌, ℕ, List, map, length, IfOk, OnOk, Some};
-ghost use Rattle.litmus_table.specs.Machine.{start, noted, put_at, is_last, ended, operation, begins, cell, operand, target_read, finished, goes_on, step, hole_step, widened, named, is_begin, is_row_start, can_end, wanted, rule_of_word, separator_rule, rule_at};
+ghost use Rattle.litmus_table.specs.Machine.{start, noted, put_at, is_last, ended, operation, begins, cell, operand, target_read, finished, goes_on, step, expected_step, widened, named, is_begin, is_row_start, can_end, wanted, rule_of_word, separator_rule, rule_at};
 ghost use Rattle.litmus_tokens.specs.Texts.{Placed};
 ghost use Rattle.litmus_table.specs.Checks.{IsFoundAt};
 ghost use Rattle.litmus_table.specs.Late.{Note, first_late};
 ghost use Rattle.litmus_table.specs.Laws.{AreNoted, steps_of};
 ghost use Rattle.litmus_table.specs.Within.{AreWithin, IsFoundWithin};
-ghost use Rattle.litmus_table.specs.Reading.{threads_of, pending_of, hole_of, table_of, first_steps, Cells, Steps};
+ghost use Rattle.litmus_table.specs.Reading.{threads_of, pending_of, expectation_of, table_of, first_steps, Cells, Steps};
 
 use crate::late::{LateFault, PlacedThread};
 use crate::opcode::{Opcode, Want, opcode_of};
@@ -18,8 +18,8 @@ use litmus_values::{BranchCondition, Instruction, Step, Thread};
 use std::alloc::{AllocError, Global};
 use std::mem;
 
-/// Where in a cell the reader stands.
-#[derive(Debug, Drop)]
+/// What the reader of a cell expects next.
+#[derive(Drop)]
 enum Cell {
     /// At its beginning.
     Begins,
@@ -45,7 +45,7 @@ pub struct Table {
 
 impl Cell {
     fn is_begin(&self) -> bool
-        ensures { result ≡ is_begin (hole_of self.now) }
+        ensures { result ≡ is_begin (expectation_of self.now) }
     {
         match self {
             Cell::Begins => true,
@@ -54,7 +54,7 @@ impl Cell {
     }
 
     fn can_end(&self) -> bool
-        ensures { result ≡ can_end (hole_of self.now) }
+        ensures { result ≡ can_end (expectation_of self.now) }
     {
         match self {
             Cell::Begins => true,
@@ -67,7 +67,7 @@ impl Cell {
 
     // What is wanted within an instruction.
     fn want(&self) -> Option<Want>
-        ensures { result ≡ wanted (hole_of self.now) }
+        ensures { result ≡ wanted (expectation_of self.now) }
     {
         match self {
             Cell::Within(pending) => pending.want(),
@@ -96,7 +96,7 @@ impl Table {
         self.threads.len()
     }
 
-    /// Adds a thread. Errors: want of memory.
+    /// Adds a thread. Errors: out of memory.
     pub fn add_thread(&mut self) -> Result<(), AllocError>
         ensures { IfOk result (λ _. table_of self.new ≡ widened (table_of self.old)) }
     {
@@ -104,8 +104,8 @@ impl Table {
         Ok(())
     }
 
-    /// Takes the name of the next thread. Errors: want of memory, or that the word is not that
-    /// name.
+    /// The step over the name of the next thread. Errors: out of memory, or the token is not
+    /// that name.
     pub fn name_read(&mut self, token: Token) -> Result<(), StepError>
         ensures steps { Steps result self.new (named (table_of self.old) token) }
         ensures within { (n : ℕ) → AreWithin n (table_of self.old).threads → OnOk result (AreWithin n (table_of self.new).threads) }
@@ -131,7 +131,7 @@ impl Table {
 
     /// Whether the cell can end here.
     pub fn is_cell_whole(&self) -> bool
-        ensures { result ≡ can_end (table_of self.now).hole }
+        ensures { result ≡ can_end (table_of self.now).expected }
     {
         self.cell.can_end()
     }
@@ -151,7 +151,7 @@ impl Table {
 
     // The rule that a separator breaks which cannot stand here.
     fn separator_rule(&self) -> LitmusRule
-        ensures { result ≡ separator_rule (table_of self.now).hole }
+        ensures { result ≡ separator_rule (table_of self.now).expected }
     {
         if self.cell.can_end() {
             return LitmusRule::Columns;
@@ -159,7 +159,7 @@ impl Table {
         LitmusRule::Instruction
     }
 
-    /// The rule that a token breaks which cannot stand here, in a table or in the text of a thread alone.
+    /// The rule that a misplaced token breaks, in a table or in the text of a thread alone.
     pub fn rule(&self, is_alone: bool, token: &Token) -> LitmusRule
         ensures { result ≡ rule_at is_alone (table_of self.now) token.now }
     {
@@ -177,76 +177,77 @@ impl Table {
         }
     }
 
-    /// Takes a token that stands at this byte. After an `Err` the table takes no more.
-    pub fn step(&mut self, token: Token, place: usize) -> Result<(), StepError>
+    /// The step over a token at this byte offset. Errors: out of memory, or the token is refused; the table is then
+    /// to be dropped.
+    pub fn step(&mut self, token: Token, offset: usize) -> Result<(), StepError>
         // It does what the machine does.
-        ensures steps { Steps result self.new (step (table_of self.old) token place) }
+        ensures steps { Steps result self.new (step (table_of self.old) token offset) }
         // What it keeps of this token stands at this byte.
-        ensures within { (n : ℕ) → place ≤ n → AreWithin n (table_of self.old).threads → OnOk result (AreWithin n (table_of self.new).threads) }
+        ensures within { (n : ℕ) → offset ≤ n → AreWithin n (table_of self.old).threads → OnOk result (AreWithin n (table_of self.new).threads) }
     {
         let cell = mem::replace(&mut self.cell, Cell::Whole);
-        self.cell = self.cell_after(cell, token, place)?;
+        self.cell = self.cell_after(cell, token, offset)?;
         Ok(())
     }
 
     // The cell after a token.
-    fn cell_after(&mut self, cell: Cell, token: Token, place: usize) -> Result<Cell, StepError>
-        ensures { Cells result self.new (hole_step (threads_of self.old.threads.items) self.old.column (hole_of cell) token place) }
+    fn cell_after(&mut self, cell: Cell, token: Token, offset: usize) -> Result<Cell, StepError>
+        ensures { Cells result self.new (expected_step (threads_of self.old.threads.items) self.old.column (expectation_of cell) token offset) }
     {
         match cell {
-            Cell::Begins => self.cell_begun(token, place),
-            Cell::Labelled => self.instruction_begun(token, place),
+            Cell::Begins => self.cell_start(token, offset),
+            Cell::Labelled => self.instruction_start(token, offset),
             Cell::Within(pending) => {
                 let pending = pending.take(&token)?;
-                self.operand_read(pending, place)
+                self.operand_read(pending, offset)
             }
-            Cell::WantsLabel(condition) => self.target_read(condition, token, place),
+            Cell::WantsLabel(condition) => self.target_read(condition, token, offset),
             Cell::Whole => self.cell_ended(&token),
         }
     }
 
     // A token where a cell begins.
-    fn cell_begun(&mut self, token: Token, place: usize) -> Result<Cell, StepError>
-        ensures { Cells result self.new (cell (threads_of self.old.threads.items) self.old.column token place) }
+    fn cell_start(&mut self, token: Token, offset: usize) -> Result<Cell, StepError>
+        ensures { Cells result self.new (cell (threads_of self.old.threads.items) self.old.column token offset) }
     {
         match token {
             Token::Label(name) => {
-                self.put(Step::Label(name), place)?;
+                self.put(Step::Label(name), offset)?;
                 Ok(Cell::Labelled)
             }
-            other => self.instruction_begun(other, place),
+            other => self.instruction_start(other, offset),
         }
     }
 
     // A token where an instruction may begin, or the cell may end.
-    fn instruction_begun(&mut self, token: Token, place: usize) -> Result<Cell, StepError>
-        ensures { Cells result self.new (begins (threads_of self.old.threads.items) self.old.column token place) }
+    fn instruction_start(&mut self, token: Token, offset: usize) -> Result<Cell, StepError>
+        ensures { Cells result self.new (begins (threads_of self.old.threads.items) self.old.column token offset) }
     {
         match token {
-            Token::Word(word) => self.word_read(opcode_of(word.as_bytes()), place),
+            Token::Word(word) => self.word_read(opcode_of(word.as_bytes()), offset),
             other => self.cell_ended(&other),
         }
     }
 
     // The word of an instruction.
-    fn word_read(&mut self, opcode: Option<Opcode>, place: usize) -> Result<Cell, StepError>
-        ensures { Cells result self.new (operation (threads_of self.old.threads.items) self.old.column place opcode) }
+    fn word_read(&mut self, opcode: Option<Opcode>, offset: usize) -> Result<Cell, StepError>
+        ensures { Cells result self.new (operation (threads_of self.old.threads.items) self.old.column offset opcode) }
     {
         match opcode {
             Some(Opcode::Data(opcode)) => Ok(Cell::Within(Pending::new(self.alloc, opcode))),
             Some(Opcode::Branch(condition)) => Ok(Cell::WantsLabel(condition)),
-            Some(Opcode::Fence(fence)) => self.finish(Instruction::Fence(fence), place),
+            Some(Opcode::Fence(fence)) => self.finish(Instruction::Fence(fence), offset),
             None => Err(StepError::Refused),
         }
     }
 
     // An instruction with a token more, which ends with what it wants.
-    fn operand_read(&mut self, pending: Pending, place: usize) -> Result<Cell, StepError>
-        ensures { Cells result self.new (operand (threads_of self.old.threads.items) self.old.column (Some (pending_of pending)) place) }
+    fn operand_read(&mut self, pending: Pending, offset: usize) -> Result<Cell, StepError>
+        ensures { Cells result self.new (operand (threads_of self.old.threads.items) self.old.column (Some (pending_of pending)) offset) }
     {
         match pending.want() {
             Some(_) => Ok(Cell::Within(pending)),
-            None => self.finish(pending.instruction(), place),
+            None => self.finish(pending.instruction(), offset),
         }
     }
 
@@ -255,9 +256,9 @@ impl Table {
         &mut self,
         condition: Option<BranchCondition>,
         token: Token,
-        place: usize,
+        offset: usize,
     ) -> Result<Cell, StepError>
-        ensures { Cells result self.new (target_read (threads_of self.old.threads.items) self.old.column condition token place) }
+        ensures { Cells result self.new (target_read (threads_of self.old.threads.items) self.old.column condition token offset) }
     {
         match token {
             Token::Word(label) => {
@@ -265,26 +266,26 @@ impl Table {
                     Some(condition) => Instruction::BranchIf { condition, label },
                     None => Instruction::Branch { label },
                 };
-                self.finish(branch, place)
+                self.finish(branch, offset)
             }
             _ => Err(StepError::Refused),
         }
     }
 
-    fn finish(&mut self, instruction: Instruction, place: usize) -> Result<Cell, StepError>
-        ensures { Cells result self.new (finished (threads_of self.old.threads.items) self.old.column instruction place) }
+    fn finish(&mut self, instruction: Instruction, offset: usize) -> Result<Cell, StepError>
+        ensures { Cells result self.new (finished (threads_of self.old.threads.items) self.old.column instruction offset) }
     {
-        self.put(Step::Instruction(instruction), place)?;
+        self.put(Step::Instruction(instruction), offset)?;
         Ok(Cell::Whole)
     }
 
     // Adds a step to the thread whose cell is read.
-    fn put(&mut self, step: Step, place: usize) -> Result<(), AllocError>
-        ensures threads { IfOk result (λ _. threads_of self.new.threads.items ≡ put_at self.old.column step place (threads_of self.old.threads.items)) }
+    fn put(&mut self, step: Step, offset: usize) -> Result<(), AllocError>
+        ensures threads { IfOk result (λ _. threads_of self.new.threads.items ≡ put_at self.old.column step offset (threads_of self.old.threads.items)) }
         ensures column { self.new.column ≡ self.old.column }
     {
         if self.column < self.threads.len() {
-            self.threads[self.column].push(step, place)?;
+            self.threads[self.column].push(step, offset)?;
         }
         Ok(())
     }
@@ -319,7 +320,7 @@ impl Table {
         }
     }
 
-    /// Makes the later checks, thread by thread. Errors: want of memory.
+    /// The first fault of a label, thread by thread, or `None`. Errors: out of memory.
     pub fn check_labels(&self) -> Result<Option<LateFault>, AllocError>
         // The byte is one of those that were kept.
         ensures within { (n : ℕ) → AreWithin n (table_of self.now).threads → IfOk result (IsFoundWithin n) }
@@ -334,7 +335,7 @@ impl Table {
         Ok(None)
     }
 
-    /// The threads, without their places. Errors: want of memory.
+    /// The threads, without their offsets. Errors: out of memory.
     pub fn into_threads(self) -> Result<Vec<Thread>, AllocError>
         ensures { IfOk result (λ ts. map (λ t. t.steps.items) ts.items ≡ steps_of (table_of self).threads) }
     {
@@ -345,7 +346,7 @@ impl Table {
         Ok(threads)
     }
 
-    /// The first thread, without its places: the only one of a thread's text alone.
+    /// The first thread, without its offsets. A text of a thread alone has no other.
     pub fn into_thread(self) -> Thread
         ensures { result.steps.items ≡ first_steps (table_of self).threads }
     {

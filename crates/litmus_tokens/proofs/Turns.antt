@@ -73,7 +73,7 @@ skipped zero n l le = ap (λ k. gap_from 0 k l) (omega arith)
 skipped (suc s) n [] le = absurd (omega arith)
 skipped (suc s) n (b ∷ bs) le = skipped s (n + 1) bs (omega arith) ∙ ap (λ k. gap_from 0 k (drop s bs)) (omega arith)
 
--- the bytes from a place on, as the code slices them
+-- the bytes from an offset on, as the code slices them
 from_here : (text : List ℕ) (n : ℕ) → n ≤ length text → take (length text - n) (drop n text) ≡ drop n text
 from_here text n le = take_all (length text - n) (drop n text) (simp length-drop (omega arith))
 

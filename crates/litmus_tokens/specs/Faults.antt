@@ -57,15 +57,15 @@ abbrev pub Says : (Token → Type 0) → Stage → Ruling → LitmusRule → Typ
 Says CanStand s (Always n) k = k ≡ n
 Says CanStand s (Where other n) k = (CanStand other × (k ≡ n)) ⊎ ((CanStand other → ⊥) × (k ≡ rule_of s))
 
--- The tokens before the place begin some text, and with the token at the place they begin none.
-pub record IsFault (IsText : List Token → Type 0) (start : Stage) (ps : List Placed) (rule : LitmusRule) (place : ℕ) : Type 0 where
+-- The tokens before the offset begin some text, and with the token at the offset they begin none.
+pub record IsFault (IsText : List Token → Type 0) (start : Stage) (ps : List Placed) (rule : LitmusRule) (offset : ℕ) : Type 0 where
   pub before : List Placed
   pub here : Placed
   pub behind : List Placed
   pub split : ps ≡ before ++ here ∷ behind
   pub begins : Begins IsText (tokens_of before)
   pub ends : CanFollow IsText (tokens_of before) here.token → ⊥
-  pub at_place : here.place ≡ place
+  pub at_place : here.offset ≡ offset
   pub number :
       let s = stage_after start (tokens_of before) in
       Says (CanFollow IsText (tokens_of before)) s (ruling s here.token) rule

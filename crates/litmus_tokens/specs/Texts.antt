@@ -1,4 +1,4 @@
--- The tokens of a text, with their places.
+-- The tokens of a text, with their offsets.
 use Rattle.std.specs.Prelude.{◌≡◌, ℕ, zero, suc, ◌+◌, ◌-◌, List, [], ◌∷◌, ◌++◌, Bool, true, false, ◌||◌, ◌&&◌}
 use Rattle.source_text.specs.Layout.{is_blank, is_line_end}
 use Rattle.litmus_tokens.specs.declared.stage.Stage.{Stage}
@@ -14,7 +14,7 @@ use Rattle.litmus_tokens.specs.Words.{ends_table}
 -- a token and the byte that it begins at
 pub record Placed : Type 0 where
   pub token : Token
-  pub place : ℕ
+  pub offset : ℕ
 
 abbrev pub tokens_of : List Placed → List Token
 tokens_of [] = []
@@ -49,24 +49,24 @@ abbrev pub fresh_after : Bool → ℕ → Bool
 fresh_after fresh b = is_line_end b || (fresh && is_blank b)
 
 abbrev pub after_front : Stage → Bool → ℕ → ℕ → Front → (Stage → Bool → ℕ → List Placed) → List Placed
-after_front s fresh place b (Layout n) later = later s (fresh_after fresh b) (n - 1)
-after_front s fresh place b (Lexeme t n) later = record { token = t; place = place } ∷ later (after s t) (ends_line t) (n - 1)
+after_front s fresh offset b (Layout n) later = later s (fresh_after fresh b) (n - 1)
+after_front s fresh offset b (Lexeme t n) later = record { token = t; offset = offset } ∷ later (after s t) (ends_line t) (n - 1)
 
--- the tokens of a text that begins in a part, at a place, once skip bytes are passed over, and its end
+-- the tokens of a text that begins in a part, at an offset, once skip bytes are passed over, and its end
 unfoldable pub tokens_from : Stage → Bool → ℕ → ℕ → List ℕ → List Placed
-tokens_from s fresh skip place [] = record { token = tokens.End; place = place } ∷ []
-tokens_from s fresh (suc skip) place (b ∷ bs) = tokens_from s fresh skip (place + 1) bs
-tokens_from s fresh zero place (b ∷ bs) =
-    after_front s fresh place b (front s fresh (b ∷ bs)) (λ s' fresh' skip. tokens_from s' fresh' skip (place + 1) bs)
+tokens_from s fresh skip offset [] = record { token = tokens.End; offset = offset } ∷ []
+tokens_from s fresh (suc skip) offset (b ∷ bs) = tokens_from s fresh skip (offset + 1) bs
+tokens_from s fresh zero offset (b ∷ bs) =
+    after_front s fresh offset b (front s fresh (b ∷ bs)) (λ s' fresh' skip. tokens_from s' fresh' skip (offset + 1) bs)
 
 abbrev pub lexed : Stage → List ℕ → List Placed
 lexed s bytes = tokens_from s false 0 0 bytes
 
--- the token behind these stands at this place
-pub record StandsAt (ps : List Placed) (ts : List Token) (place : ℕ) : Type 0 where
+-- the token behind these stands at this offset
+pub record StandsAt (ps : List Placed) (ts : List Token) (offset : ℕ) : Type 0 where
   pub before : List Placed
   pub here : Placed
   pub behind : List Placed
   pub split : ps ≡ before ++ here ∷ behind
   pub same : tokens_of before ≡ ts
-  pub at_place : here.place ≡ place
+  pub at_place : here.offset ≡ offset

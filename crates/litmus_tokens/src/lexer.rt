@@ -14,12 +14,12 @@ use source_text::{
 };
 use std::alloc::{AllocError, Global};
 
-/// What a text begins with, and how many bytes it takes.
-#[derive(Debug, Drop)]
+/// The front of a text: layout or a token, with its length in bytes.
+#[derive(Drop)]
 pub enum Front {
-    /// Blanks, line ends or a comment, of so many bytes.
+    /// Blanks, line ends or a comment: the length.
     Layout(usize),
-    /// A token, of so many bytes.
+    /// A token and its length.
     Lexeme(Token, usize),
 }
 
@@ -298,8 +298,8 @@ fn head_front(alloc: Global, is_fresh: bool, text: &[u8]) -> Result<Front, Alloc
     plain_front(alloc, Stage::Head, text)
 }
 
-/// What the text begins with. What its bytes begin depends on the part that they stand in, and before the init
-/// block on whether the line holds nothing but blanks so far. Errors: want of memory.
+/// The front of the text. It depends on the stage, and before the init block on whether the line has only blanks
+/// so far. Errors: out of memory.
 #[tactic(auto, unfolding(crate::specs::Lexer::front))]
 pub fn front_of(
     alloc: Global,

@@ -1,4 +1,5 @@
-//! The tokens of litmus tests, which depend on the part of the text that they stand in.
+//! The tokens of litmus tests, which depend on the part of the text that they stand in. Read specs/Texts.antt first
+//! (the tokens of a text), then specs/Faults.antt (where a rejected text is blamed, and by which rule).
 #![tactic(auto)]
 
 mod lexer;

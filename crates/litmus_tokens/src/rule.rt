@@ -1,4 +1,4 @@
-//! The rules that a text may break.
+//! The rules that a text can break.
 
 ghost use Rattle.std.specs.Prelude.{◌≡◌};
 ghost use Rattle.litmus_tokens.specs.Numbers.{number_of};
@@ -10,8 +10,8 @@ pub enum LitmusRule {
     NotPpc,
     /// L2: the name of the test, through the line end behind it.
     Name,
-    /// L3: what stands from there through the `}` of the init block; a second entry for one place;
-    /// an entry for a thread that is not there.
+    /// L3: from there through the `}` of the init block; a second entry for a location or a register;
+    /// an entry for a thread that the test does not have.
     Init,
     /// L4: a word right after a word in the init block, as in `int x`.
     TypedDeclaration,
@@ -19,20 +19,20 @@ pub enum LitmusRule {
     Header,
     /// L6: a `;` where a `|` could stand, or a `|` where a `;` could.
     Columns,
-    /// L7: the rows, and an end after the header or after whole rows.
+    /// L7: the rows; an end of the text right behind the header or behind a whole row.
     Instruction,
-    /// L8: `r0` as the first address register, where it would mean zero.
+    /// L8: `r0` as the first address register, where Power reads it as zero.
     ZeroBase,
     /// L9: an offset that is not 0.
     Offset,
-    /// L10: a label that its thread defines twice, or a branch to none of its thread's.
+    /// L10: a label that its thread defines twice, or a branch to a label that its thread does not define.
     Label,
     /// L11: a branch to a label that stands before it.
     BackwardBranch,
-    /// L12: what stands from `locations` or the condition on; a thread there that the test has not;
+    /// L12: `locations` and the condition; a thread there that the test does not have;
     /// too deep or too many operators.
     Condition,
-    /// L13: `filter` or `final`, which are not read here.
+    /// L13: `filter` or `final`, which are not supported.
     Filter,
     /// L14: a comment that does not end.
     OpenComment,

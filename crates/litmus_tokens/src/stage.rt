@@ -1,4 +1,4 @@
-//! The parts of a text.
+//! The stages of a text: the parts that its tokens stand in.
 
 ghost use Rattle.std.specs.Prelude.{◌≡◌, Bool};
 ghost use Rattle.litmus_tokens.specs.Stage.{rule_of, after};
@@ -11,9 +11,9 @@ use crate::word::ends_table;
 // The most threads that a test has.
 const MAX_THREADS: usize = 8;
 
-/// The part of a text that the next token stands in. How bytes are read rests on it, and so does
-/// the number of a fault.
-#[derive(Clone, Copy, Debug, PartialEq, Eq)]
+/// The part of a text that the next token stands in. It decides how bytes are cut into tokens, and
+/// which rule a misplaced token breaks.
+#[derive(Clone, Copy, PartialEq, Eq)]
 pub enum Stage {
     /// The first word, `PPC`.
     Magic,
@@ -23,9 +23,9 @@ pub enum Stage {
     TitleEnd,
     /// The string and the keylines, up to `{`.
     Head,
-    /// Whether the block is a text of its own, and whether a word was read last.
+    /// The init block: whether it is a text of its own, and whether a word was read last.
     Init(bool, bool),
-    /// How many threads may still follow.
+    /// The header: how many threads can still follow.
     Header(usize),
     /// The table, where a cell begins.
     CellBegins,
@@ -36,7 +36,7 @@ pub enum Stage {
 }
 
 impl Stage {
-    /// The rule that a fault in this part breaks, where no other rule names one.
+    /// The rule that a misplaced token breaks here, unless another rule names it.
     pub fn rule(self) -> LitmusRule
         ensures { result ≡ rule_of self }
     {
@@ -53,7 +53,7 @@ impl Stage {
         }
     }
 
-    /// The part after this token: each part ends at a token of its own.
+    /// The stage behind this token. Each stage ends at a token of its own.
     pub fn after(self, token: &Token) -> Stage
         ensures { result ≡ after self token.now }
     {

@@ -3,8 +3,8 @@
 use crate::rule::LitmusRule;
 use source_text::Name;
 
-/// A token of signs alone.
-#[derive(Clone, Copy, Debug, PartialEq, Eq)]
+/// A punctuation token.
+#[derive(Clone, Copy, PartialEq, Eq)]
 pub enum Mark {
     /// `{`
     OpenBrace,
@@ -38,12 +38,12 @@ pub enum Mark {
     Implies,
 }
 
-/// A token, the end of the text, or what stands where no token begins.
-#[derive(Debug, Drop)]
+/// A token, the end of the text, or a byte or text at which no token begins.
+#[derive(Drop)]
 pub enum Token {
     /// A name, a keyword or a register.
     Word(Name),
-    /// Whether it is negative, and its digits without leading zeros.
+    /// A number: whether it is negative, and its digits without leading zeros.
     Number(bool, Name),
     /// A label and its colon.
     Label(Name),
@@ -53,12 +53,12 @@ pub enum Token {
     Keyline,
     /// The line end behind the name of the test.
     LineEnd,
-    /// A token of signs.
+    /// Punctuation.
     Mark(Mark),
     /// The end of the text.
     End,
     /// An ASCII byte that begins no token.
     Bad,
-    /// What breaks a rule of its own.
+    /// A text that breaks this rule wherever it stands.
     Broken(LitmusRule),
 }

@@ -1,11 +1,11 @@
-//! What words and digits stand for.
+//! The meanings of words and of digits.
 
 ghost use Rattle.std.specs.Prelude.{◌≡◌, ◌<◌, min, IfSome};
 ghost use Rattle.litmus_tokens.specs.Words.{decimal, int_of, are_digits, is_plain, register_of, is_filter, ends_table, names_column, is_printable, are_printable, is_test_name};
 
 use source_text::is_digit;
 
-/// The number that decimal digits make, or the greatest that fits.
+/// The number that decimal digits spell, or the greatest `usize` if that number is greater.
 pub fn decimal(digits: &[u8]) -> usize
     ensures { result ≡ min (decimal digits.now) 18446744073709551615 }
 {
@@ -18,7 +18,7 @@ pub fn decimal(digits: &[u8]) -> usize
     n
 }
 
-/// The number of 32 bits that a sign and digits make, if it is one.
+/// The signed number of 32 bits that a sign and digits spell, or `None` if it does not fit.
 pub fn signed_number(is_negative: bool, digits: &[u8]) -> Option<i32>
     ensures { result ≡ int_of is_negative digits.now }
 {
@@ -36,7 +36,7 @@ pub fn signed_number(is_negative: bool, digits: &[u8]) -> Option<i32>
     }
 }
 
-/// The number of the register that a word names, from `r0` to `r31` without leading zeros.
+/// The number, from 0 to 31, of the register that a word names: `r0` to `r31` without leading zeros.
 pub fn register_number(word: &[u8]) -> Option<u8>
     ensures value { result ≡ register_of word.now }
     ensures bound { IfSome result (λ n. n < 32) }
@@ -54,7 +54,7 @@ pub fn register_number(word: &[u8]) -> Option<u8>
     }
 }
 
-// Whether these are digits that no zero leads, or a zero.
+// Whether these are decimal digits without a leading zero; `0` alone counts.
 fn is_plain(digits: &[u8]) -> bool
     ensures { result ≡ is_plain digits.now }
 {
@@ -75,14 +75,14 @@ fn are_digits(bytes: &[u8]) -> bool
     true
 }
 
-/// Whether the word begins a part of herd7's format that is not read here.
+/// Whether the word is `filter` or `final`, which begin parts of herd7's format that are not supported.
 pub fn is_filter(word: &[u8]) -> bool
     ensures { result ≡ is_filter word.now }
 {
     word == b"filter".as_slice() || word == b"final".as_slice()
 }
 
-/// Whether the word names the column of this number.
+/// Whether the word is the name of the column of this number, as `P0`.
 pub fn is_column(word: &[u8], number: usize) -> bool
     ensures { result ≡ names_column number word.now }
 {
@@ -109,14 +109,14 @@ fn are_printable(bytes: &[u8]) -> bool
     true
 }
 
-/// Whether bytes can name a test: at most 255 printable ones.
+/// Whether the bytes can name a test: 1 to 255 printable ASCII bytes, none of them a space.
 pub fn is_test_name(word: &[u8]) -> bool
     ensures { result ≡ is_test_name word.now }
 {
     !word.is_empty() && word.len() <= 255 && are_printable(word)
 }
 
-/// Whether the word begins what stands behind the table.
+/// Whether the word begins the part behind the table: `locations`, `exists` or `forall`.
 pub fn ends_table(word: &[u8]) -> bool
     ensures { result ≡ ends_table word.now }
 {

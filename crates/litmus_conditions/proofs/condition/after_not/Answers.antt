@@ -1,7 +1,7 @@
 use Rattle.std.proofs.Common.{◌≡◌, ap, ◌∙◌, sym, false, arith}
 use Rattle.litmus_conditions.specs.ConditionMachine.{open_count, is_equals}
 use Rattle.litmus_conditions.specs.Reading.{stack_of}
-use Rattle.litmus_conditions.proofs.Stack.{not_fed}
+use Rattle.litmus_conditions.proofs.Stack.{not_result}
 use Rattle.litmus_conditions.proofs.condition.after_not.Goals as goal
 
 pub returns : goal.returns
@@ -9,4 +9,4 @@ returns c =
     let n : c.open_frames.result ≡ open_count (stack_of c.args.frames.items) = c.open_frames.ensures ∙ ap (λ fs. open_count (stack_of fs)) c.deref.ensures.value in
     let f = c.if-open_frames-ge-MAX_NESTING.false in
     let other : is_equals c.args.token ≡ false = sym c.is_equals.ensures ∙ c.if-is_equals.false in
-    not_fed c.args.threads c.args.frames.items c.push.new.self.items c.args.operators c.args.token c.operand.result other c.in_ok-push.ensures.items (omega arith) c.operand.ensures
+    not_result c.args.threads c.args.frames.items c.push.new.self.items c.args.operators c.args.token c.operand.result other c.in_ok-push.ensures.items (omega arith) c.operand.ensures

@@ -13,5 +13,5 @@ returns-clause-taken c = λ threads ps x few.
     record { after = t.0; by = t.1; holds = record { quantifier_is = t.2; formula_is = t.3 } }
 
 pub returns-clause-fault : goal.returns-clause-fault
-returns-clause-fault c = λ threads ps rule place few e.
-    fault_found (IsConditionText limits threads) kinds.Condition threads (condition_reading threads few) ps rule place e
+returns-clause-fault c = λ threads ps rule offset few e.
+    fault_found (IsConditionText limits threads) kinds.Condition threads (condition_reading threads few) ps rule offset e

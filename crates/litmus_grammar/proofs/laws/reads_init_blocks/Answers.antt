@@ -18,5 +18,5 @@ returns-clause-taken c = λ threads ps x.
     record { after = t.state; by = t.by; holds = record { entries = t.entries; stand = t.stand } }
 
 pub returns-clause-fault : goal.returns-clause-fault
-returns-clause-fault c = λ threads ps rule place e.
-    fault_found (IsStart IsInitText (stages.Init true false)) kinds.Init threads (init_reading threads) ps rule place e
+returns-clause-fault c = λ threads ps rule offset e.
+    fault_found (IsStart IsInitText (stages.Init true false)) kinds.Init threads (init_reading threads) ps rule offset e

@@ -16,5 +16,5 @@ returns-clause-taken c = λ threads ps x few.
     record { after = t.0; by = t.1; holds = t.2 }
 
 pub returns-clause-fault : goal.returns-clause-fault
-returns-clause-fault c = λ threads ps rule place few e.
-    fault_found (IsLocationsText threads) kinds.Locations threads (list_reading threads few) ps rule place e
+returns-clause-fault c = λ threads ps rule offset few e.
+    fault_found (IsLocationsText threads) kinds.Locations threads (list_reading threads few) ps rule offset e

@@ -25,4 +25,4 @@ returns-clause-taken c = λ ps x few.
     }
 
 pub returns-clause-fault : goal.returns-clause-fault
-returns-clause-fault c = λ ps rule place few e. test_fault_where ps rule place few e
+returns-clause-fault c = λ ps rule offset few e. test_fault_where ps rule offset few e

@@ -16,5 +16,5 @@ returns-clause-taken c = λ threads ps x.
     record { after = _; by = t.by; holds = record { meant = t.meant; noted = t.noted } }
 
 pub returns-clause-fault : goal.returns-clause-fault
-returns-clause-fault c = λ threads bytes rule place e.
-    fault_where AreInner IsThreadText kinds.Thread threads (thread_reading threads) (lexed CellBegins bytes) (lexed_inner CellBegins bytes) rule place e
+returns-clause-fault c = λ threads bytes rule offset e.
+    fault_where AreInner IsThreadText kinds.Thread threads (thread_reading threads) (lexed CellBegins bytes) (lexed_inner CellBegins bytes) rule offset e

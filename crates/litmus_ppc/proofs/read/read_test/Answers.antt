@@ -38,8 +38,8 @@ returns-in-Err-check_labels-clause-within c =
 
 pub returns-in-Ok-into_test-clause-found : goal.returns-in-Ok-into_test-clause-found
 returns-in-Ok-into_test-clause-found c =
-    subst (ReadsTest c.args.bytes.now) (sym (c.in-Ok-into_test.ensures ∙ ap test_of c.into_held-held.ensures))
+    subst (ReadsTest c.args.bytes.now) (sym (c.in-Ok-into_test.ensures ∙ ap test_of c.into_draft-draft.ensures))
     (test_found c.args.bytes.now (state_of c.in-Ok.reader) tt c.in-Ok.ensures.runs c.in-Ok.ensures.too_long c.in-Ok-check_init.ensures.found c.in-Ok-check_labels.ensures.found)
 
 pub returns-in-Ok-into_test-clause-only : goal.returns-in-Ok-into_test-clause-only
-returns-in-Ok-into_test-clause-only c = λ v r. c.in-Ok-into_test.ensures ∙ ap test_of c.into_held-held.ensures ∙ test_only c.args.bytes.now (state_of c.in-Ok.reader) c.in-Ok.ensures.runs v r
+returns-in-Ok-into_test-clause-only c = λ v r. c.in-Ok-into_test.ensures ∙ ap test_of c.into_draft-draft.ensures ∙ test_only c.args.bytes.now (state_of c.in-Ok.reader) c.in-Ok.ensures.runs v r

@@ -4,9 +4,9 @@ use Rattle.litmus_grammar.specs.TextMachine.{run}
 use Rattle.litmus_ppc.specs.TextReading.{state_of}
 use Rattle.litmus_ppc.proofs.read.read_tokens.Given as goal
 
-abbrev pub invariant-loop-place : goal.invariant-loop-place
-invariant-loop-place l =
-    record { within : l.place ≤ length l.bytes; ran : run (state_of l.initial.reader) (lexed (state_of l.initial.reader).stage l.bytes) ≡ run (state_of l.reader) (tokens_from (state_of l.reader).stage l.is_fresh 0 l.place (drop l.place l.bytes)) }
+abbrev pub invariant-loop-offset : goal.invariant-loop-offset
+invariant-loop-offset l =
+    record { within : l.offset ≤ length l.bytes; ran : run (state_of l.initial.reader) (lexed (state_of l.initial.reader).stage l.bytes) ≡ run (state_of l.reader) (tokens_from (state_of l.reader).stage l.is_fresh 0 l.offset (drop l.offset l.bytes)) }
 
-abbrev pub decreases-loop-place : goal.decreases-loop-place
-decreases-loop-place l = length l.bytes - l.place
+abbrev pub decreases-loop-offset : goal.decreases-loop-offset
+decreases-loop-offset l = length l.bytes - l.offset

@@ -17,4 +17,4 @@ pub returns-clause-stops : goal.returns-clause-stops
 returns-clause-stops c = λ others ps. (table_begins others ps, table_taken others ps)
 
 pub returns-clause-apart : goal.returns-clause-apart
-returns-clause-apart c = λ s t place b e. apart s t place b e
+returns-clause-apart c = λ s t offset b e. apart s t offset b e

@@ -10,7 +10,7 @@ use Rattle.litmus_table.proofs.late.PlacedThread.check_labels.Goals as goal
 pub loop-i-preserved : goal.loop-i-preserved
 loop-i-preserved c =
     let ss = c.args.self.now.steps.items in
-    let ps = c.args.self.now.places.items in
+    let ps = c.args.self.now.offsets.items in
     let i = c.loop-i.i in
     let d = c.step-item.result in
     let f : List ℕ → Option ℕ = λ w. first_from w 0 ss in

@@ -16,7 +16,7 @@ returns-in-Some-clause-within c = λ n h.
     let there : AreWithin n (threads_of ts) = subst (λ (us : List PlacedThread). AreWithin n (threads_of us)) (sym same) h in
     let lt : i < length ts = omega arith in
     let item : c.thread-item.result ≡ get_or ts i c.thread-item.result = c.thread-item.is in
-    let here : AllAtMost n c.thread-item.result.places.items = subst (λ (t : PlacedThread). AllAtMost n t.places.items) (sym item) (thread_within n ts i c.thread-item.result there lt) in
+    let here : AllAtMost n c.thread-item.result.offsets.items = subst (λ (t : PlacedThread). AllAtMost n t.offsets.items) (sym item) (thread_within n ts i c.thread-item.result there lt) in
     subst (IsFoundWithin n) c.in-Some.is (c.in_ok-fault.ensures.within n here)
 
 pub returns-in-Some-clause-found : goal.returns-in-Some-clause-found

@@ -1,7 +1,7 @@
-use Rattle.litmus_table.specs.Reading.{threads_of, hole_of}
-use Rattle.litmus_table.proofs.Places.{hole_within}
+use Rattle.litmus_table.specs.Reading.{threads_of, expectation_of}
+use Rattle.litmus_table.proofs.Places.{expectation_within}
 use Rattle.litmus_table.proofs.table.Table.step.Goals as goal
 
 pub returns-clause-within : goal.returns-clause-within
 returns-clause-within c = λ n le h.
-    hole_within n c.args.place le (threads_of c.args.self.now.threads.items) c.args.self.now.column h (hole_of c.replace-cell.result) c.args.token _ c.in_ok-self.ensures
+    expectation_within n c.args.offset le (threads_of c.args.self.now.threads.items) c.args.self.now.column h (expectation_of c.replace-cell.result) c.args.token _ c.in_ok-self.ensures

@@ -1,26 +1,28 @@
-//! What was read of a text so far.
+//! The draft of a test.
 
 ghost use Rattle.std.specs.Prelude.{◌≡◌, ℕ, length, IfOk};
-ghost use Rattle.litmus_conditions.specs.ConditionMachine.{feed};
+ghost use Rattle.litmus_conditions.specs.ConditionMachine.{proposition_step};
 ghost use Rattle.litmus_conditions.specs.Grammar.{limits};
 ghost use Rattle.litmus_conditions.specs.PlaceMachine.{place_step};
-ghost use Rattle.litmus_conditions.specs.Reading.{stack_of, hole_of};
+ghost use Rattle.litmus_conditions.specs.Reading.{stack_of, expectation_of};
 ghost use Rattle.litmus_values.specs.Value.{content_of};
 ghost use Rattle.litmus_table.specs.Machine.{named};
 ghost use Rattle.litmus_table.specs.Reading.{table_of, first_steps};
 ghost use Rattle.litmus_grammar.specs.InitMachine.{step as init_step};
 ghost use Rattle.litmus_parts.specs.InitReading.{block_of};
-ghost use Rattle.litmus_grammar.specs.TextMachine.{HasColumn, part_step, nothing, title_read, init_went, table_went, row_read, cell_read, item_begun, item_went, next_item, item_read, fed, threads_in};
+ghost use Rattle.litmus_grammar.specs.TextMachine.{HasColumn, part_step, nothing, title_read, init_result, table_result, row_read, cell_read, item_start, item_result, next_item, item_read, proposition_result, threads_in};
 ghost use Rattle.litmus_parts.specs.PartReading.{part_of};
-ghost use Rattle.litmus_ppc.specs.TextReading.{held_of, test_of, LeadsTo};
+ghost use Rattle.litmus_ppc.specs.TextReading.{draft_of, test_of, StepsTo};
 
 use litmus_conditions::{
-    Fed, Frame, Hole, PlaceHole, PlaceStep, StepError, feed, is_there, place_step,
+    Expectation, Frame, PlaceExpectation, PlaceStep, PropositionStep, StepError, is_there,
+    place_step, proposition_step,
 };
-use litmus_grammar::{InitHole, ItemHole, TextKind};
+use litmus_grammar::{InitExpectation, ItemExpectation, TextKind};
 use litmus_parts::{
     InitBlock, Part, begins_tail, column_ended, end_read, exists_read, head_read, is_end,
-    item_ended, list_begun, list_opened, magic_read, quantifier_read, tail_begun, title_ended,
+    is_thread, item_ended, list_opened, list_start, magic_read, quantifier_read, tail_start,
+    title_ended,
 };
 use litmus_table::Table;
 use litmus_tokens::{Mark, Token, is_test_name};
@@ -28,31 +30,31 @@ use litmus_values::{Condition, InitEntry, Place, Proposition, Quantifier, Test, 
 use source_text::Name;
 use std::alloc::{AllocError, Global};
 
-/// What was read of a text so far.
+/// The draft of a test: what was read of a text so far.
 #[derive(Drop)]
-pub struct Held {
+pub struct Draft {
     /// The name of the test.
     pub name: Name,
     /// The init block.
     pub init: InitBlock,
     /// The threads.
     pub table: Table,
-    /// The places of `locations`.
+    /// The observables of `locations`.
     pub observed: Vec<Place>,
     /// The condition, once it is read.
     pub condition: Condition,
 }
 
-impl Held {
-    /// Nothing yet of a text of this kind.
-    pub fn new(alloc: Global, kind: TextKind) -> Result<Held, AllocError>
-        ensures { IfOk result (λ h. held_of h ≡ nothing kind) }
+impl Draft {
+    /// The draft before a text of this kind.
+    pub fn new(alloc: Global, kind: TextKind) -> Result<Draft, AllocError>
+        ensures { IfOk result (λ h. draft_of h ≡ nothing kind) }
     {
         let mut table = Table::new(alloc);
-        if kind.is_thread() {
+        if is_thread(kind) {
             table.add_thread()?;
         }
-        Ok(Held {
+        Ok(Draft {
             name: Name::new(alloc, b"")?,
             init: InitBlock::new(alloc),
             table,
@@ -64,9 +66,9 @@ impl Held {
         })
     }
 
-    /// How many threads there are, where so many are given: behind the table of a test those of the table.
+    /// The number of threads: in a test those of its table, in another text the given number.
     pub fn threads(&self, kind: TextKind, given: usize) -> usize
-        ensures { result ≡ threads_in kind given (held_of self.now) }
+        ensures { result ≡ threads_in kind given (draft_of self.now) }
     {
         match kind {
             TextKind::Test => self.table.width(),
@@ -74,8 +76,8 @@ impl Held {
         }
     }
 
-    /// Takes a token that stands at this byte, in a text of this kind, where the reader stands at this part and so
-    /// many threads are given. After an `Err` no more is taken.
+    /// The step over a token at this byte offset, in this part of a text of this kind, with the given number of threads.
+    /// Errors: out of memory, or the token is refused; the draft is then to be dropped.
     pub fn step(
         &mut self,
         alloc: Global,
@@ -83,33 +85,35 @@ impl Held {
         given: usize,
         part: Part,
         token: Token,
-        place: usize,
+        offset: usize,
     ) -> Result<Part, StepError>
         // It does what the machine does.
-        ensures { LeadsTo result self.new (part_step kind given (held_of self.old) (part_of part) token place) }
+        ensures { StepsTo result self.new (part_step kind given (draft_of self.old) (part_of part) token offset) }
     {
         match part {
             Part::Magic => magic_read(&token),
             Part::Title => self.title_read(token),
             Part::TitleEnd => title_ended(&token),
             Part::Head(may_have_text) => head_read(may_have_text, &token),
-            Part::Init(hole) => self.init_read(kind, hole, token, place),
+            Part::Init(expected) => self.init_read(kind, expected, token, offset),
             Part::WantsColumn => self.column_read(token),
             Part::HasColumn => column_ended(&token),
-            Part::Rows => self.row_read(alloc, token, place),
-            Part::Cells => self.cell_read(token, place),
+            Part::Rows => self.row_read(alloc, token, offset),
+            Part::Cells => self.cell_read(token, offset),
             Part::WantsList => list_opened(&token),
-            Part::Item(hole) => {
+            Part::Item(expected) => {
                 let threads = self.threads(kind, given);
-                self.item_read(kind, threads, hole, token)
+                self.item_read(kind, threads, expected, token)
             }
             Part::WantsQuantifier => quantifier_read(alloc, &token),
             Part::AfterTilde => exists_read(alloc, &token),
-            Part::Proposition(quantifier, frames, operators, hole) => {
+            Part::Proposition(quantifier, frames, operators, expected) => {
                 let threads = self.threads(kind, given);
-                self.proposition_read(alloc, threads, quantifier, frames, operators, hole, token)
+                self.proposition_read(
+                    alloc, threads, quantifier, frames, operators, expected, token,
+                )
             }
-            Part::ListOrEnd => list_begun(&token),
+            Part::ListOrEnd => list_start(&token),
             Part::WantsEnd => end_read(&token),
             Part::Done => Err(StepError::Refused),
         }
@@ -117,7 +121,7 @@ impl Held {
 
     // The name of the test.
     fn title_read(&mut self, token: Token) -> Result<Part, StepError>
-        ensures { LeadsTo result self.new (title_read (held_of self.old) token) }
+        ensures { StepsTo result self.new (title_read (draft_of self.old) token) }
     {
         match token {
             Token::Word(name) => {
@@ -135,43 +139,43 @@ impl Held {
     fn init_read(
         &mut self,
         kind: TextKind,
-        hole: InitHole,
+        expected: InitExpectation,
         token: Token,
-        place: usize,
+        offset: usize,
     ) -> Result<Part, StepError>
-        ensures { LeadsTo result self.new (init_went kind (held_of self.old) (init_step (block_of self.old.init) hole token place)) }
+        ensures { StepsTo result self.new (init_result kind (draft_of self.old) (init_step (block_of self.old.init) expected token offset)) }
     {
-        let step = self.init.step(hole, token, place)?;
+        let step = self.init.step(expected, token, offset)?;
         Ok(Part::after_init_step(kind, step))
     }
 
     // The name of a column.
     fn column_read(&mut self, token: Token) -> Result<Part, StepError>
-        ensures { LeadsTo result self.new (table_went (held_of self.old) HasColumn (named (table_of self.old.table) token)) }
+        ensures { StepsTo result self.new (table_result (draft_of self.old) HasColumn (named (table_of self.old.table) token)) }
     {
         self.table.name_read(token)?;
         Ok(Part::HasColumn)
     }
 
     // A token in a row, or behind the rows.
-    fn row_read(&mut self, alloc: Global, token: Token, place: usize) -> Result<Part, StepError>
-        ensures { LeadsTo result self.new (row_read (held_of self.old) token place) }
+    fn row_read(&mut self, alloc: Global, token: Token, offset: usize) -> Result<Part, StepError>
+        ensures { StepsTo result self.new (row_read (draft_of self.old) token offset) }
     {
         if self.table.is_row_start() && begins_tail(&token) {
-            return tail_begun(alloc, &token);
+            return tail_start(alloc, &token);
         }
-        self.table.step(token, place)?;
+        self.table.step(token, offset)?;
         Ok(Part::Rows)
     }
 
     // A token in the text of a thread, which ends where a cell may.
-    fn cell_read(&mut self, token: Token, place: usize) -> Result<Part, StepError>
-        ensures { LeadsTo result self.new (cell_read (held_of self.old) token place) }
+    fn cell_read(&mut self, token: Token, offset: usize) -> Result<Part, StepError>
+        ensures { StepsTo result self.new (cell_read (draft_of self.old) token offset) }
     {
         if self.table.is_cell_whole() && is_end(&token) {
             return Ok(Part::Done);
         }
-        self.table.step(token, place)?;
+        self.table.step(token, offset)?;
         Ok(Part::Cells)
     }
 
@@ -180,48 +184,48 @@ impl Held {
         &mut self,
         kind: TextKind,
         threads: usize,
-        hole: ItemHole,
+        expected: ItemExpectation,
         token: Token,
     ) -> Result<Part, StepError>
-        ensures { LeadsTo result self.new (item_read kind threads (held_of self.old) hole token) }
+        ensures { StepsTo result self.new (item_read kind threads (draft_of self.old) expected token) }
     {
-        match hole {
-            ItemHole::WantsFirst => self.item_begun(threads, token),
-            ItemHole::WantsNext => self.next_item(kind, threads, token),
-            ItemHole::Within(within) => self.item_place(within, token),
-            ItemHole::HasItem => item_ended(kind, &token),
+        match expected {
+            ItemExpectation::WantsFirst => self.item_start(threads, token),
+            ItemExpectation::WantsNext => self.next_item(kind, threads, token),
+            ItemExpectation::Within(within) => self.item_place(within, token),
+            ItemExpectation::HasItem => item_ended(kind, &token),
         }
     }
 
     // A place of the list, or its end.
     fn next_item(&mut self, kind: TextKind, threads: usize, token: Token) -> Result<Part, StepError>
-        ensures { LeadsTo result self.new (next_item kind threads (held_of self.old) token) }
+        ensures { StepsTo result self.new (next_item kind threads (draft_of self.old) token) }
     {
         match token {
             Token::Mark(Mark::CloseBracket) => Ok(Part::after_list(kind)),
-            other => self.item_begun(threads, other),
+            other => self.item_start(threads, other),
         }
     }
 
     // The first token of a place of the list.
-    fn item_begun(&mut self, threads: usize, token: Token) -> Result<Part, StepError>
-        ensures { LeadsTo result self.new (item_begun threads (held_of self.old) token) }
+    fn item_start(&mut self, threads: usize, token: Token) -> Result<Part, StepError>
+        ensures { StepsTo result self.new (item_start threads (draft_of self.old) token) }
     {
         if !is_there(threads, &token) {
             return Err(StepError::Refused);
         }
-        self.item_place(PlaceHole::Begins, token)
+        self.item_place(PlaceExpectation::Begins, token)
     }
 
     // A token of a place of the list.
-    fn item_place(&mut self, within: PlaceHole, token: Token) -> Result<Part, StepError>
-        ensures { LeadsTo result self.new (item_went (held_of self.old) (place_step within token)) }
+    fn item_place(&mut self, within: PlaceExpectation, token: Token) -> Result<Part, StepError>
+        ensures { StepsTo result self.new (item_result (draft_of self.old) (place_step within token)) }
     {
         match place_step(within, token)? {
-            PlaceStep::Goes(hole) => Ok(Part::Item(ItemHole::Within(hole))),
+            PlaceStep::Goes(expected) => Ok(Part::Item(ItemExpectation::Within(expected))),
             PlaceStep::Ends(written) => {
                 self.observed.push(written.into_place())?;
-                Ok(Part::Item(ItemHole::HasItem))
+                Ok(Part::Item(ItemExpectation::HasItem))
             }
         }
     }
@@ -234,16 +238,16 @@ impl Held {
         quantifier: Quantifier,
         frames: Vec<Frame>,
         operators: usize,
-        hole: Hole,
+        expected: Expectation,
         token: Token,
     ) -> Result<Part, StepError>
-        ensures { LeadsTo result self.new (fed (held_of self.old) quantifier (feed limits threads (stack_of frames.items) operators (hole_of hole) token)) }
+        ensures { StepsTo result self.new (proposition_result (draft_of self.old) quantifier (proposition_step limits threads (stack_of frames.items) operators (expectation_of expected) token)) }
     {
-        match feed(alloc, threads, frames, operators, hole, token)? {
-            Fed::Goes(frames, operators, hole) => {
-                Ok(Part::Proposition(quantifier, frames, operators, hole))
+        match proposition_step(alloc, threads, frames, operators, expected, token)? {
+            PropositionStep::Goes(frames, operators, expected) => {
+                Ok(Part::Proposition(quantifier, frames, operators, expected))
             }
-            Fed::Ends(proposition) => {
+            PropositionStep::Ends(proposition) => {
                 self.condition = Condition {
                     quantifier,
                     proposition,
@@ -255,7 +259,7 @@ impl Held {
 
     /// The test that was read.
     pub fn into_test(self) -> Result<Test, AllocError>
-        ensures { IfOk result (λ t. content_of t ≡ test_of (held_of self)) }
+        ensures { IfOk result (λ t. content_of t ≡ test_of (draft_of self)) }
     {
         Ok(Test {
             name: self.name,
@@ -268,14 +272,14 @@ impl Held {
 
     /// The thread that was read.
     pub fn into_thread(self) -> Thread
-        ensures { result.steps.items ≡ first_steps (held_of self).table.threads }
+        ensures { result.steps.items ≡ first_steps (draft_of self).table.threads }
     {
         self.table.into_thread()
     }
 
     /// The initial values that were read.
     pub fn into_init(self) -> Vec<InitEntry>
-        ensures { result.items ≡ (held_of self).init.entries }
+        ensures { result.items ≡ (draft_of self).init.entries }
     {
         self.init.into_entries()
     }
