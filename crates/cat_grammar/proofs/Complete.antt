@@ -1,7 +1,7 @@
 -- The machine takes the expression that a tree spells.
 use Rattle.std.proofs.Common.{◌≡◌, ℕ, ◌+◌, ◌<◌, ◌≤◌, Bool, true, false, List, [], ◌∷◌, ◌++◌, Option, None, Result, Ok, Err, length, refl, sym, ap, ◌∙◌, arith}
-use Rattle.std.specs.Prelude.{nat_le, nat_lt, if◌then◌else◌}
-use Rattle.std.proofs.lemmas.Bool.Decides.{nat_tests}
+use Rattle.std.specs.Prelude.{if◌then◌else◌}
+use Rattle.std.proofs.lemmas.Bool.{le-leb, lt-leb, lt-ltb}
 use Rattle.cat_tokens.specs.declared.rule.CatRule.{CatRule}
 use Rattle.cat_tokens.specs.declared.rule.CatRule.TheVariants as rules
 use Rattle.cat_values.specs.declared.model.CheckWord.{CheckWord}
@@ -16,9 +16,9 @@ use Rattle.cat_values.specs.declared.model.Postfix.{Postfix}
 use Rattle.cat_values.specs.declared.model.Postfix.TheVariants as postfix
 use Rattle.cat_values.specs.Value.{Term, Terms, Clause, Atom, AllEvents, EmptyRelation, EmptySet, Join, Mark, Not, On, Apply, OneMore, NoTerm, gathered}
 use Rattle.cat_grammar.specs.Grammar.{Tree, Word, Underscore, Zero, Braces, Pair, Post, Prefix, Group, Square, Application, Trees, Last, More, infix_token, postfix_token, spelled, spelled_arguments, meaning, meanings, level, left_level, right_level, tightness, IsGrouped, AreGrouped, depth, depths, operators, operators_of, Limits}
-use Rattle.cat_grammar.specs.Machine.{Frame, InGroup, InSquare, InPrefix, LeftOf, InArguments, Hole, Wants, HasName, Has, HasStar, HasStarTilde, Fed, Goes, Ends, EndsTilde, Refuses, open_count, fold_to, is_outermost, opened, left_frames, infix_at, ended, closed, square_closed, comma_read, star_tilde}
+use Rattle.cat_grammar.specs.Machine.{Frame, InGroup, InSquare, InPrefix, LeftOf, InArguments, Expectation, Wants, HasName, Has, HasStar, HasStarTilde, StepResult, Goes, Ends, EndsTilde, Refuses, open_count, fold_to, is_outermost, opened, left_frames, infix_at, ended, closed, square_closed, comma_read, star_tilde}
 use Rattle.cat_grammar.specs.ItemMachine.{Head, Body, AfterTilde, Fault, State, begin_check, excess, unless, unless_before, item_or_end, finished, at, added, goes_on}
-use Rattle.cat_grammar.proofs.Runs.{◌>>=◌, taken}
+use Rattle.cat_grammar.proofs.Runs.{◌>>=◌, run_over}
 use Rattle.cat_grammar.proofs.Branches.{right_level-le, IsOutermost, is_outermost-true}
 
 -- what stands open, and the operand, once a tree is read
@@ -41,15 +41,6 @@ wanted (InSquare ∷ fs) = 0
 wanted (InArguments n args ∷ fs) = 0
 wanted (InPrefix ∷ fs) = 6
 wanted (LeftOf op a ∷ fs) = right_level op
-
-pub le_true : (l n : ℕ) → l ≤ n → nat_le l n ≡ true
-le_true l n h = grind (arith, nat_tests)
-
-gt_false : (l n : ℕ) → n < l → nat_le l n ≡ false
-gt_false l n h = grind (arith, nat_tests)
-
-pub lt_is_true : (l n : ℕ) → l < n → nat_lt l n ≡ true
-lt_is_true l n h = grind (arith, nat_tests)
 
 level-le : (op : Infix) → level op ≤ 5
 level-le Union = omega arith
@@ -117,7 +108,7 @@ fold_pending (Square a) fs l g h = refl
 fold_pending (Application n arguments) fs l g h = refl
 fold_pending (Pair op a b) fs l g h =
     let r = level-le-right op in
-    let e = le_true l (level op) h in
+    let e = le-leb l (level op) h in
     fold_pending b (LeftOf op (meaning a) ∷ fs) l g.3 (omega (arith, g.1)) ∙ ap (λ (x : Bool). if x then fold_to l fs (Join op (meaning a) (meaning b)) else (LeftOf op (meaning a) ∷ fs, meaning b)) e
 fold_pending (Post op a) fs l g h = refl
 fold_pending (Prefix a) fs l g h = fold_pending a (InPrefix ∷ fs) l g.1 (omega (arith, g.0))
@@ -143,7 +134,7 @@ fold_stays op (InSquare ∷ fs) v h = refl
 fold_stays op (InArguments n args ∷ fs) v h = refl
 fold_stays op (InPrefix ∷ fs) v h = let e = level-le op in absurd (omega arith)
 fold_stays op (LeftOf o a ∷ fs) v h =
-    ap (λ (x : Bool). if x then fold_to (left_level op) fs (Join o a v) else (LeftOf o a ∷ fs, v)) (gt_false (left_level op) (level o) (stays op o h))
+    ap (λ (x : Bool). if x then fold_to (left_level op) fs (Join o a v) else (LeftOf o a ∷ fs, v)) (lt-leb (left_level op) (level o) (stays op o h))
 
 infix_pending : (op : Infix) (a : Tree) (fs : List Frame) → IsGrouped a → left_level op ≤ tightness a → wanted fs ≤ level op → infix_at op (pending a fs).0 (pending a fs).1 ≡ LeftOf op (meaning a) ∷ fs
 infix_pending op a fs g h w = ap (left_frames op) (fold_pending a fs (left_level op) g h ∙ fold_stays op fs (meaning a) w)
@@ -156,7 +147,7 @@ outer (InArguments n args ∷ fs) v h = absurd h
 outer (InPrefix ∷ fs) v h = outer fs (Not v) h
 outer (LeftOf op a ∷ fs) v h =
     let r = outer fs (Join op a v) h in
-    let e = le_true 0 (level op) (omega arith) in
+    let e = le-leb 0 (level op) (omega arith) in
     (r.0, ap (λ (x : Bool). if x then fold_to 0 fs (Join op a v) else (LeftOf op a ∷ fs, v)) e ∙ r.1)
 
 abbrev pub BeginsWithCheck : List Token → Type 0
@@ -202,11 +193,11 @@ appended-push [] v others = refl
 appended-push (d ∷ ds) v others = ap (OneMore d) (appended-push ds v others)
 
 module _ (most : Limits) (form : Form) (cs : List Clause) (h : Head) where
-  abbrev pub body : List Frame → ℕ → Hole → State
-  body fs used hole = record { items = cs; part = Body h fs used hole }
+  abbrev pub body : List Frame → ℕ → Expectation → State
+  body fs used expected = record { items = cs; part = Body h fs used expected }
 
-  abbrev pub from : Fed → Token → List Token → Result State Fault
-  from x t ts = goes_on most form cs h t x >>= λ s. taken most form s ts
+  abbrev pub from : StepResult → Token → List Token → Result State Fault
+  from x t ts = goes_on most form cs h t x >>= λ s. run_over most form s ts
 
   -- no bracket is open, and one more item may begin
   abbrev pub MayEnd : List Frame → Type 0
@@ -214,19 +205,19 @@ module _ (most : Limits) (form : Form) (cs : List Clause) (h : Head) where
 
   -- an item that ends before a tilde, by one token or by two
   by_tilde : (r : Result Clause Fault) (w : CheckWord) (ts : List Token) → excess most form (length cs + 1) ≡ None
-      → (added cs r (λ n. item_or_end most form n tokens.Tilde) >>= λ s. taken most form s (tokens.Check w ∷ ts)) ≡ (added cs r (λ n. unless_before (excess most form n) (begin_check false true w)) >>= λ s. taken most form s ts)
+      → (added cs r (λ n. item_or_end most form n tokens.Tilde) >>= λ s. run_over most form s (tokens.Check w ∷ ts)) ≡ (added cs r (λ n. unless_before (excess most form n) (begin_check false true w)) >>= λ s. run_over most form s ts)
   by_tilde (Err d) w ts e = refl
   by_tilde (Ok c) w ts e =
-      ap (λ (o : Option CatRule). at (cs ++ c ∷ []) (unless o (Ok (AfterTilde false))) >>= λ s. taken most form s (tokens.Check w ∷ ts)) e
-      ∙ sym (ap (λ (o : Option CatRule). at (cs ++ c ∷ []) (unless_before o (begin_check false true w)) >>= λ s. taken most form s ts) e)
+      ap (λ (o : Option CatRule). at (cs ++ c ∷ []) (unless o (Ok (AfterTilde false))) >>= λ s. run_over most form s (tokens.Check w ∷ ts)) e
+      ∙ sym (ap (λ (o : Option CatRule). at (cs ++ c ∷ []) (unless_before o (begin_check false true w)) >>= λ s. run_over most form s ts) e)
 
   -- a star before what can follow is postfix
-  star_drop : (fs : List Frame) (used : ℕ) (v : Term) (ts : List Token) → CanFollow (MayEnd fs) ts → taken most form (body fs used (HasStar v)) ts ≡ taken most form (body fs used (Has (Mark postfix.Closure v))) ts
+  star_drop : (fs : List Frame) (used : ℕ) (v : Term) (ts : List Token) → CanFollow (MayEnd fs) ts → run_over most form (body fs used (HasStar v)) ts ≡ run_over most form (body fs used (Has (Mark postfix.Closure v))) ts
   star_drop fs used v (tokens.Tilde ∷ tokens.Check w ∷ ts) c =
       let b = outer fs (Mark postfix.Closure v) c.0.0 in
-      let left : taken most form (body fs used (HasStar v)) (tokens.Tilde ∷ tokens.Check w ∷ ts) ≡ from (EndsTilde ((fold_to 0 fs (Mark postfix.Closure v)).1)) (tokens.Check w) ts
+      let left : run_over most form (body fs used (HasStar v)) (tokens.Tilde ∷ tokens.Check w ∷ ts) ≡ from (EndsTilde ((fold_to 0 fs (Mark postfix.Closure v)).1)) (tokens.Check w) ts
       = ap (λ (x : Bool). from (star_tilde most fs used v x) tokens.Tilde (tokens.Check w ∷ ts)) (is_outermost-true fs c.0.0) in
-      let right : taken most form (body fs used (Has (Mark postfix.Closure v))) (tokens.Tilde ∷ tokens.Check w ∷ ts) ≡ from (Ends b.0) tokens.Tilde (tokens.Check w ∷ ts)
+      let right : run_over most form (body fs used (Has (Mark postfix.Closure v))) (tokens.Tilde ∷ tokens.Check w ∷ ts) ≡ from (Ends b.0) tokens.Tilde (tokens.Check w ∷ ts)
       = ap (λ (p : List Frame × Term). from (ended tokens.Tilde p) tokens.Tilde (tokens.Check w ∷ ts)) b.1 in
       left ∙ ap (λ (p : List Frame × Term). from (EndsTilde p.1) (tokens.Check w) ts) b.1 ∙ sym (right ∙ by_tilde (finished h b.0 rules.Syntax) w ts c.0.1)
   star_drop fs used v (tokens.Tilde ∷ ts) c = absurd c.1
@@ -240,17 +231,17 @@ module _ (most : Limits) (form : Form) (cs : List Clause) (h : Head) where
   star_drop fs used v (_ ∷ ts) c = refl
 
   -- a name before what can follow is no function's
-  name_drop : (fs : List Frame) (used : ℕ) (n : List ℕ) (ts : List Token) → CanFollow (MayEnd fs) ts → taken most form (body fs used (HasName n)) ts ≡ taken most form (body fs used (Has (Atom n))) ts
+  name_drop : (fs : List Frame) (used : ℕ) (n : List ℕ) (ts : List Token) → CanFollow (MayEnd fs) ts → run_over most form (body fs used (HasName n)) ts ≡ run_over most form (body fs used (Has (Atom n))) ts
   name_drop fs used n [] c = absurd c
   name_drop fs used n (tokens.Open ∷ ts) c = absurd c
   name_drop fs used n (_ ∷ ts) c = refl
 
-  opened_run : (f : Frame) (t : Token) (fs : List Frame) (used : ℕ) (ts : List Token) → open_count fs < most.nesting → from (opened most fs used f) t ts ≡ taken most form (body (f ∷ fs) used Wants) ts
-  opened_run f t fs used ts lt = ap (λ (x : Bool). from (if x then Goes (f ∷ fs) used Wants else Refuses rules.TooDeep) t ts) (lt_is_true _ _ lt)
+  opened_run : (f : Frame) (t : Token) (fs : List Frame) (used : ℕ) (ts : List Token) → open_count fs < most.nesting → from (opened most fs used f) t ts ≡ run_over most form (body (f ∷ fs) used Wants) ts
+  opened_run f t fs used ts lt = ap (λ (x : Bool). from (if x then Goes (f ∷ fs) used Wants else Refuses rules.TooDeep) t ts) (lt-ltb _ _ lt)
 
   -- a tilde after a star, before an operand
   tilde_operand : (fs : List Frame) (used : ℕ) (v : Term) (b : Tree) (rest : List Token)
-      → taken most form (body fs used (HasStarTilde v)) (spelled b rest) ≡ taken most form (body (InPrefix ∷ infix_at Product fs v) used Wants) (spelled b rest)
+      → run_over most form (body fs used (HasStarTilde v)) (spelled b rest) ≡ run_over most form (body (InPrefix ∷ infix_at Product fs v) used Wants) (spelled b rest)
   tilde_operand fs used v (Word n) rest = refl
   tilde_operand fs used v Underscore rest = refl
   tilde_operand fs used v Zero rest = refl
@@ -264,7 +255,7 @@ module _ (most : Limits) (form : Form) (cs : List Clause) (h : Head) where
 
   -- a star before an operand is infix
   star_operand : (fs : List Frame) (used : ℕ) (v : Term) (b : Tree) (rest : List Token) → open_count (infix_at Product fs v) + depth b ≤ most.nesting
-      → taken most form (body fs used (HasStar v)) (spelled b rest) ≡ taken most form (body (infix_at Product fs v) used Wants) (spelled b rest)
+      → run_over most form (body fs used (HasStar v)) (spelled b rest) ≡ run_over most form (body (infix_at Product fs v) used Wants) (spelled b rest)
   star_operand fs used v (Word n) rest d = refl
   star_operand fs used v Underscore rest d = refl
   star_operand fs used v Zero rest d = refl
@@ -282,44 +273,44 @@ module _ (most : Limits) (form : Form) (cs : List Clause) (h : Head) where
 
   -- an infix operator after an operand
   infix_run : (op : Infix) (fs : List Frame) (used : ℕ) (v : Term) (b : Tree) (rest : List Token) → used < most.operators → open_count (infix_at op fs v) + depth b ≤ most.nesting
-      → taken most form (body fs used (Has v)) (infix_token op ∷ spelled b rest) ≡ taken most form (body (infix_at op fs v) (used + 1) Wants) (spelled b rest)
-  infix_run Union fs used v b rest lt d = ap (λ (x : Bool). from (if x then Goes (infix_at Union fs v) (used + 1) Wants else Refuses rules.TooDeep) (tokens.Sign Bar) (spelled b rest)) (lt_is_true _ _ lt)
-  infix_run Sequence fs used v b rest lt d = ap (λ (x : Bool). from (if x then Goes (infix_at Sequence fs v) (used + 1) Wants else Refuses rules.TooDeep) (tokens.Sign Semicolon) (spelled b rest)) (lt_is_true _ _ lt)
-  infix_run Difference fs used v b rest lt d = ap (λ (x : Bool). from (if x then Goes (infix_at Difference fs v) (used + 1) Wants else Refuses rules.TooDeep) (tokens.Sign Backslash) (spelled b rest)) (lt_is_true _ _ lt)
-  infix_run Intersection fs used v b rest lt d = ap (λ (x : Bool). from (if x then Goes (infix_at Intersection fs v) (used + 1) Wants else Refuses rules.TooDeep) (tokens.Sign Ampersand) (spelled b rest)) (lt_is_true _ _ lt)
+      → run_over most form (body fs used (Has v)) (infix_token op ∷ spelled b rest) ≡ run_over most form (body (infix_at op fs v) (used + 1) Wants) (spelled b rest)
+  infix_run Union fs used v b rest lt d = ap (λ (x : Bool). from (if x then Goes (infix_at Union fs v) (used + 1) Wants else Refuses rules.TooDeep) (tokens.Sign Bar) (spelled b rest)) (lt-ltb _ _ lt)
+  infix_run Sequence fs used v b rest lt d = ap (λ (x : Bool). from (if x then Goes (infix_at Sequence fs v) (used + 1) Wants else Refuses rules.TooDeep) (tokens.Sign Semicolon) (spelled b rest)) (lt-ltb _ _ lt)
+  infix_run Difference fs used v b rest lt d = ap (λ (x : Bool). from (if x then Goes (infix_at Difference fs v) (used + 1) Wants else Refuses rules.TooDeep) (tokens.Sign Backslash) (spelled b rest)) (lt-ltb _ _ lt)
+  infix_run Intersection fs used v b rest lt d = ap (λ (x : Bool). from (if x then Goes (infix_at Intersection fs v) (used + 1) Wants else Refuses rules.TooDeep) (tokens.Sign Ampersand) (spelled b rest)) (lt-ltb _ _ lt)
   infix_run Product fs used v b rest lt d =
-      ap (λ (x : Bool). from (if x then Goes fs (used + 1) (HasStar v) else Refuses rules.TooDeep) tokens.Star (spelled b rest)) (lt_is_true _ _ lt) ∙ star_operand fs (used + 1) v b rest d
+      ap (λ (x : Bool). from (if x then Goes fs (used + 1) (HasStar v) else Refuses rules.TooDeep) tokens.Star (spelled b rest)) (lt-ltb _ _ lt) ∙ star_operand fs (used + 1) v b rest d
 
   -- a postfix operator after an operand
   postfix_run : (op : Postfix) (fs : List Frame) (used : ℕ) (v : Term) (rest : List Token) → used < most.operators → CanFollow (MayEnd fs) rest
-      → taken most form (body fs used (Has v)) (postfix_token op ∷ rest) ≡ taken most form (body fs (used + 1) (Has (Mark op v))) rest
-  postfix_run postfix.Transitive fs used v rest lt c = ap (λ (x : Bool). from (if x then Goes fs (used + 1) (Has (Mark postfix.Transitive v)) else Refuses rules.TooDeep) (tokens.Mark Plus) rest) (lt_is_true _ _ lt)
-  postfix_run postfix.Reflexive fs used v rest lt c = ap (λ (x : Bool). from (if x then Goes fs (used + 1) (Has (Mark postfix.Reflexive v)) else Refuses rules.TooDeep) (tokens.Mark Question) rest) (lt_is_true _ _ lt)
-  postfix_run postfix.Inverse fs used v rest lt c = ap (λ (x : Bool). from (if x then Goes fs (used + 1) (Has (Mark postfix.Inverse v)) else Refuses rules.TooDeep) (tokens.Mark Inverse) rest) (lt_is_true _ _ lt)
+      → run_over most form (body fs used (Has v)) (postfix_token op ∷ rest) ≡ run_over most form (body fs (used + 1) (Has (Mark op v))) rest
+  postfix_run postfix.Transitive fs used v rest lt c = ap (λ (x : Bool). from (if x then Goes fs (used + 1) (Has (Mark postfix.Transitive v)) else Refuses rules.TooDeep) (tokens.Mark Plus) rest) (lt-ltb _ _ lt)
+  postfix_run postfix.Reflexive fs used v rest lt c = ap (λ (x : Bool). from (if x then Goes fs (used + 1) (Has (Mark postfix.Reflexive v)) else Refuses rules.TooDeep) (tokens.Mark Question) rest) (lt-ltb _ _ lt)
+  postfix_run postfix.Inverse fs used v rest lt c = ap (λ (x : Bool). from (if x then Goes fs (used + 1) (Has (Mark postfix.Inverse v)) else Refuses rules.TooDeep) (tokens.Mark Inverse) rest) (lt-ltb _ _ lt)
   postfix_run postfix.Closure fs used v rest lt c =
-      ap (λ (x : Bool). from (if x then Goes fs (used + 1) (HasStar v) else Refuses rules.TooDeep) tokens.Star rest) (lt_is_true _ _ lt) ∙ star_drop fs (used + 1) v rest c
+      ap (λ (x : Bool). from (if x then Goes fs (used + 1) (HasStar v) else Refuses rules.TooDeep) tokens.Star rest) (lt-ltb _ _ lt) ∙ star_drop fs (used + 1) v rest c
 
   mutual
     pub tree_run : (t : Tree) (fs : List Frame) (used all : ℕ) (rest : List Token) → IsGrouped t → wanted fs ≤ tightness t → open_count fs + depth t ≤ most.nesting → used + operators t ≡ all → all ≤ most.operators → CanFollow (MayEnd fs) rest
-        → taken most form (body fs used Wants) (spelled t rest) ≡ taken most form (body (pending t fs).0 all (Has (pending t fs).1)) rest
-    tree_run (Word n) fs used all rest g w d u m c = let e : used ≡ all = omega arith in name_drop fs used n rest c ∙ ap (λ (k : ℕ). taken most form (body fs k (Has (Atom n))) rest) e
-    tree_run Underscore fs used all rest g w d u m c = let e : used ≡ all = omega arith in ap (λ (k : ℕ). taken most form (body fs k (Has AllEvents)) rest) e
-    tree_run Zero fs used all rest g w d u m c = let e : used ≡ all = omega arith in ap (λ (k : ℕ). taken most form (body fs k (Has EmptyRelation)) rest) e
-    tree_run Braces fs used all rest g w d u m c = let e : used ≡ all = omega arith in ap (λ (k : ℕ). taken most form (body fs k (Has EmptySet)) rest) e
+        → run_over most form (body fs used Wants) (spelled t rest) ≡ run_over most form (body (pending t fs).0 all (Has (pending t fs).1)) rest
+    tree_run (Word n) fs used all rest g w d u m c = let e : used ≡ all = omega arith in name_drop fs used n rest c ∙ ap (λ (k : ℕ). run_over most form (body fs k (Has (Atom n))) rest) e
+    tree_run Underscore fs used all rest g w d u m c = let e : used ≡ all = omega arith in ap (λ (k : ℕ). run_over most form (body fs k (Has AllEvents)) rest) e
+    tree_run Zero fs used all rest g w d u m c = let e : used ≡ all = omega arith in ap (λ (k : ℕ). run_over most form (body fs k (Has EmptyRelation)) rest) e
+    tree_run Braces fs used all rest g w d u m c = let e : used ≡ all = omega arith in ap (λ (k : ℕ). run_over most form (body fs k (Has EmptySet)) rest) e
     tree_run (Pair op a b) fs used all rest g w d u m c =
         let left = level-le-left op in
         let p = pending a fs in
         tree_run a fs used (used + operators a) (infix_token op ∷ spelled b rest) g.2 (omega (arith, g.0)) (omega arith) refl (omega arith) (infix_follows (MayEnd fs) op (spelled b rest))
         ∙ infix_run op p.0 (used + operators a) p.1 b rest (omega arith) (rw (infix_pending op a fs g.2 g.0 w) (omega arith))
-        ∙ ap (λ (gs : List Frame). taken most form (body gs (used + operators a + 1) Wants) (spelled b rest)) (infix_pending op a fs g.2 g.0 w)
+        ∙ ap (λ (gs : List Frame). run_over most form (body gs (used + operators a + 1) Wants) (spelled b rest)) (infix_pending op a fs g.2 g.0 w)
         ∙ tree_run b (LeftOf op (meaning a) ∷ fs) (used + operators a + 1) all rest g.3 g.1 (omega arith) (omega arith) m c
     tree_run (Post op a) fs used all rest g w d u m c =
         let low = wanted-le fs in
         let e : used + operators a + 1 ≡ all = omega arith in
         tree_run a fs used (used + operators a) (postfix_token op ∷ rest) g.1 (omega (arith, g.0)) d refl (omega arith) (postfix_follows (MayEnd fs) op rest)
-        ∙ ap (λ (p : List Frame × Term). taken most form (body p.0 (used + operators a) (Has p.1)) (postfix_token op ∷ rest)) (tight_pending a fs g.0)
+        ∙ ap (λ (p : List Frame × Term). run_over most form (body p.0 (used + operators a) (Has p.1)) (postfix_token op ∷ rest)) (tight_pending a fs g.0)
         ∙ postfix_run op fs (used + operators a) (meaning a) rest (omega arith) c
-        ∙ ap (λ (k : ℕ). taken most form (body fs k (Has (Mark op (meaning a)))) rest) e
+        ∙ ap (λ (k : ℕ). run_over most form (body fs k (Has (Mark op (meaning a)))) rest) e
     tree_run (Prefix a) fs used all rest g w d u m c =
         opened_run InPrefix tokens.Tilde fs used (spelled a rest) (omega arith)
         ∙ tree_run a (InPrefix ∷ fs) used all rest g.1 g.0 (omega arith) u m c
@@ -336,13 +327,13 @@ module _ (most : Limits) (form : Form) (cs : List Clause) (h : Head) where
         ∙ arguments_run arguments n [] fs used all rest g (omega arith) u m
 
     arguments_run : (args : Trees) (n : List ℕ) (ds : List Term) (fs : List Frame) (used all : ℕ) (rest : List Token) → AreGrouped args → open_count fs + 1 + depths args ≤ most.nesting → used + operators_of args ≡ all → all ≤ most.operators
-        → taken most form (body (InArguments n ds ∷ fs) used Wants) (spelled_arguments args rest) ≡ taken most form (body fs all (Has (Apply n (appended ds (meanings args))))) rest
+        → run_over most form (body (InArguments n ds ∷ fs) used Wants) (spelled_arguments args rest) ≡ run_over most form (body fs all (Has (Apply n (appended ds (meanings args))))) rest
     arguments_run (Last a) n ds fs used all rest g d u m =
         tree_run a (InArguments n ds ∷ fs) used all (tokens.Close ∷ rest) g (omega arith) (omega arith) u m tt
         ∙ ap (λ (p : List Frame × Term). from (closed all p) tokens.Close rest) (fold_pending a (InArguments n ds ∷ fs) 0 g (omega arith))
-        ∙ ap (λ (x : Terms). taken most form (body fs all (Has (Apply n x))) rest) (gathered-push ds (meaning a))
+        ∙ ap (λ (x : Terms). run_over most form (body fs all (Has (Apply n x))) rest) (gathered-push ds (meaning a))
     arguments_run (More a others) n ds fs used all rest g d u m =
         tree_run a (InArguments n ds ∷ fs) used (used + operators a) (tokens.Comma ∷ spelled_arguments others rest) g.0 (omega arith) (omega arith) refl (omega arith) tt
         ∙ ap (λ (p : List Frame × Term). from (comma_read (used + operators a) p) tokens.Comma (spelled_arguments others rest)) (fold_pending a (InArguments n ds ∷ fs) 0 g.0 (omega arith))
         ∙ arguments_run others n (ds ++ meaning a ∷ []) fs (used + operators a) all rest g.1 (omega arith) (omega arith) m
-        ∙ ap (λ (x : Terms). taken most form (body fs all (Has (Apply n x))) rest) (appended-push ds (meaning a) (meanings others))
+        ∙ ap (λ (x : Terms). run_over most form (body fs all (Has (Apply n x))) rest) (appended-push ds (meaning a) (meanings others))

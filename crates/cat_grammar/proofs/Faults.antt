@@ -2,7 +2,7 @@
 use Rattle.std.proofs.Common.{◌≡◌, ℕ, ◌+◌, ◌<◌, ◌≤◌, Bool, true, false, List, [], ◌∷◌, ◌++◌, Result, Ok, Err, length, refl, sym, ap, ◌∙◌, subst, arith, append_assoc, ◌⊎◌, inl, inr}
 use Rattle.std.proofs.lemmas.List.{append-nil}
 use Rattle.std.specs.Prelude.{nat_lt, ◌&&◌, if◌then◌else◌}
-use Rattle.std.proofs.lemmas.Bool.Decides.{nat_tests}
+use Rattle.std.proofs.lemmas.Bool.{ltb-true, ltb-false, lt-ltb}
 use Rattle.cat_tokens.specs.declared.rule.CatRule.{CatRule}
 use Rattle.cat_tokens.specs.declared.rule.CatRule.TheVariants as rules
 use Rattle.cat_grammar.specs.declared.form.Form.{Form}
@@ -10,21 +10,14 @@ use Rattle.cat_grammar.specs.declared.form.Form.TheVariants as forms
 use Rattle.cat_tokens.specs.declared.token.Token.{Token}
 use Rattle.cat_tokens.specs.declared.token.Token.TheVariants as tokens
 use Rattle.cat_values.specs.Value.{Clause}
-use Rattle.cat_grammar.specs.Grammar.{Limits, Begins, SameCounts, SameDepths, IsSeparator, CanStand, BeginsText, BeforeAName, last_two, last_place, is_tilde, is_check, IsRefusal, Nowhere, TooMany, TooDeep, Plain, IsFault}
+use Rattle.cat_grammar.specs.Grammar.{Limits, Begins, SameCounts, SameDepths, IsSeparator, CanStand, BeginsText, BeforeAName, last_two, last_offset, is_tilde, is_check, IsRefusal, Nowhere, TooMany, TooDeep, Plain, IsFault}
 use Rattle.cat_tokens.specs.Tokens.{Placed, tokens_of}
 use Rattle.cat_grammar.specs.ItemMachine as items
 use Rattle.cat_grammar.specs.ItemMachine.{And, Parameter, Part, InLet, Fault, Here, Before, State, step, start}
 use Rattle.cat_grammar.specs.Running.{Ran, placed, and_then, run}
-use Rattle.cat_grammar.proofs.Runs.{◌>>=◌, taken, taken-append}
-use Rattle.cat_grammar.proofs.Complete.{lt_is_true}
-use Rattle.cat_grammar.proofs.Finishes.{has_place, begins, takes}
+use Rattle.cat_grammar.proofs.Runs.{◌>>=◌, run_over, run_over-append}
+use Rattle.cat_grammar.proofs.Finishes.{has_offset, begins, takes}
 use Rattle.cat_grammar.proofs.Shapes.{KnowsPart, Broke, Plainly, Gate, Nest, Operate, Count, Names, Takes, passes, many_fault, gate_fault, StepShape, Always, Where, step_shape}
-
-lt_true : (l n : ℕ) → nat_lt l n ≡ true → l < n
-lt_true l n h = grind (arith, nat_tests)
-
-ge_false : (l n : ℕ) → nat_lt l n ≡ false → n ≤ l
-ge_false l n h = grind (arith, nat_tests)
 
 -- ---- wider limits
 
@@ -37,7 +30,7 @@ record Wider (a b : Limits) : Type 0 where
   parameters : a.parameters ≤ b.parameters
 
 test_wider : (n a b : ℕ) → a ≤ b → nat_lt n a ≡ true → nat_lt n b ≡ true
-test_wider n a b w e = let h = lt_true n a e in lt_is_true n b (omega arith)
+test_wider n a b w e = let h = ltb-true n a e in lt-ltb n b (omega arith)
 
 passes_wider : (g : Gate) (a b : Limits) → Wider a b → passes g a ≡ true → passes g b ≡ true
 passes_wider (Nest n) a b w e = test_wider n a.nesting b.nesting w.nesting e
@@ -68,11 +61,11 @@ gate_limits (Names n) = record { nesting = 0; operators = 0; items = 0; names = 
 gate_limits (Takes n) = record { nesting = 0; operators = 0; items = 0; names = 0; parameters = n + 1 }
 
 gate_passes : (most : Limits) (g : Gate) → passes g (joined most (gate_limits g)) ≡ true
-gate_passes most (Nest n) = lt_is_true _ _ (omega arith)
-gate_passes most (Operate n) = lt_is_true _ _ (omega arith)
-gate_passes most (Count n) = lt_is_true _ _ (omega arith)
-gate_passes most (Names n) = lt_is_true _ _ (omega arith)
-gate_passes most (Takes n) = lt_is_true _ _ (omega arith)
+gate_passes most (Nest n) = lt-ltb _ _ (omega arith)
+gate_passes most (Operate n) = lt-ltb _ _ (omega arith)
+gate_passes most (Count n) = lt-ltb _ _ (omega arith)
+gate_passes most (Names n) = lt-ltb _ _ (omega arith)
+gate_passes most (Takes n) = lt-ltb _ _ (omega arith)
 
 -- the limits under which the name that is wanted here may stand
 abbrev wide_part : Part → Limits
@@ -80,10 +73,10 @@ wide_part (InLet (And g)) = record { nesting = 0; operators = 0; items = 0; name
 wide_part (InLet (Parameter n ps)) = record { nesting = 0; operators = 0; items = 0; names = 0; parameters = length ps + 1 }
 wide_part _ = record { nesting = 0; operators = 0; items = 0; names = 0; parameters = 0 }
 
-wide_has_place : (most : Limits) (p : Part) → has_place (joined most (wide_part p)) p ≡ true
-wide_has_place most (InLet (And g)) = lt_is_true _ _ (omega arith)
-wide_has_place most (InLet (Parameter n ps)) = lt_is_true _ _ (omega arith)
-wide_has_place most _ = refl
+wide_has_offset : (most : Limits) (p : Part) → has_offset (joined most (wide_part p)) p ≡ true
+wide_has_offset most (InLet (And g)) = lt-ltb _ _ (omega arith)
+wide_has_offset most (InLet (Parameter n ps)) = lt-ltb _ _ (omega arith)
+wide_has_offset most _ = refl
 
 wide_depths : (most : Limits) (p : Part) → SameDepths most (joined most (wide_part p))
 wide_depths most (InLet (And g)) = (omega arith, omega arith)
@@ -91,42 +84,42 @@ wide_depths most (InLet (Parameter n ps)) = (omega arith, omega arith)
 wide_depths most _ = (omega arith, omega arith)
 
 -- a state without a place for its name takes no token
-place_before : (most : Limits) (form : Form) (cs : List Clause) (p : Part) (t : Token) (s : State) → items.step_part most form cs p t ≡ Ok s → has_place most p ≡ true
-place_before most form cs (InLet (And g)) (tokens.Name n) s e = choose (nat_lt (length g.bindings) most.names) e
+offset_before : (most : Limits) (form : Form) (cs : List Clause) (p : Part) (t : Token) (s : State) → items.step_part most form cs p t ≡ Ok s → has_offset most p ≡ true
+offset_before most form cs (InLet (And g)) (tokens.Name n) s e = choose (nat_lt (length g.bindings) most.names) e
   where
     choose : (b : Bool) → items.at cs (if b then Ok (InLet (items.Bound g n)) else Err (Here rules.TooMany)) ≡ Ok s → b ≡ true
     choose true e = refl
     choose false e = absurd cc
-place_before most form cs (InLet (And g)) _ s e = absurd cc
-place_before most form cs (InLet (Parameter n ps)) (tokens.Name m) s e = choose (nat_lt (length ps) most.parameters) e
+offset_before most form cs (InLet (And g)) _ s e = absurd cc
+offset_before most form cs (InLet (Parameter n ps)) (tokens.Name m) s e = choose (nat_lt (length ps) most.parameters) e
   where
     choose : (b : Bool) → items.at cs (if b then Ok (InLet (items.AfterParameter n (ps ++ m ∷ []))) else Err (Here rules.TooMany)) ≡ Ok s → b ≡ true
     choose true e = refl
     choose false e = absurd cc
-place_before most form cs (InLet (Parameter n ps)) _ s e = absurd cc
-place_before most form cs _ t s e = refl
+offset_before most form cs (InLet (Parameter n ps)) _ s e = absurd cc
+offset_before most form cs _ t s e = refl
 
 -- what such a state comes after
-separated : (most : Limits) (p : Token × Token) (q : Part) → 0 < most.names → 0 < most.parameters → KnowsPart p q → has_place most q ≡ false → IsSeparator p.1
+separated : (most : Limits) (p : Token × Token) (q : Part) → 0 < most.names → 0 < most.parameters → KnowsPart p q → has_offset most q ≡ false → IsSeparator p.1
 separated most p (InLet (And g)) one two k e = choose k.2
   where
     choose : IsSeparator p.1 ⊎ (length g.bindings ≡ 0) → IsSeparator p.1
     choose (inl h) = h
-    choose (inr h) = let low = ge_false _ _ e in absurd (omega arith)
+    choose (inr h) = let low = ltb-false _ _ e in absurd (omega arith)
 separated most p (InLet (Parameter n ps)) one two k e = choose k.1
   where
     choose : IsSeparator p.1 ⊎ (length ps ≡ 0) → IsSeparator p.1
     choose (inl h) = h
-    choose (inr h) = let low = ge_false _ _ e in absurd (omega arith)
+    choose (inr h) = let low = ltb-false _ _ e in absurd (omega arith)
 separated most p _ one two k e = absurd cc
 
 last_two-push : (a b : Token) (ts : List Token) (t : Token) → last_two a b (ts ++ t ∷ []) ≡ ((last_two a b ts).1, t)
 last_two-push a b [] t = refl
 last_two-push a b (u ∷ ts) t = last_two-push b u ts t
 
-last_place-push : (n : ℕ) (ps : List Placed) (p : Placed) → last_place n (ps ++ p ∷ []) ≡ p.place
-last_place-push n [] p = refl
-last_place-push n (q ∷ ps) p = last_place-push q.place ps p
+last_offset-push : (n : ℕ) (ps : List Placed) (p : Placed) → last_offset n (ps ++ p ∷ []) ≡ p.offset
+last_offset-push n [] p = refl
+last_offset-push n (q ∷ ps) p = last_offset-push q.offset ps p
 
 pub tokens_of-append : (ps qs : List Placed) → tokens_of (ps ++ qs) ≡ tokens_of ps ++ tokens_of qs
 tokens_of-append [] qs = refl
@@ -152,10 +145,10 @@ module _ (form : Form) where
       by_form forms.Model = (((refl, refl), refl), refl)
       by_form forms.Item = (((refl, refl), refl), refl)
 
-  start_has_place : (most : Limits) → has_place most (start form).part ≡ true
-  start_has_place most = by_form form
+  start_has_offset : (most : Limits) → has_offset most (start form).part ≡ true
+  start_has_offset most = by_form form
     where
-      by_form : (f : Form) → has_place most (start f).part ≡ true
+      by_form : (f : Form) → has_offset most (start f).part ≡ true
       by_form forms.Model = refl
       by_form forms.Item = refl
 
@@ -169,7 +162,7 @@ module _ (form : Form) where
       by_shape : StepShape p t (λ x. step x form s t) → (step b form s t ≡ Ok s') × KnowsPart (p.1, t) s'.part
       by_shape (Always (Ok x) q known) = by_result (Ok x) q (λ y h. subst (λ (z : State). KnowsPart (p.1, t) z.part) (kept_is x y h) known)
       by_shape (Always (Err d) q known) = by_result (Err d) q (λ y h. absurd (not_both d y h))
-      by_shape (Where g x q own known place) = by_test (passes g a) refl
+      by_shape (Where g x q own known offset) = by_test (passes g a) refl
         where
           by_test : (y : Bool) → passes g a ≡ y → (step b form s t ≡ Ok s') × KnowsPart (p.1, t) s'.part
           by_test true h =
@@ -177,60 +170,60 @@ module _ (form : Form) where
               (q b ∙ ap (λ (z : Bool). gated z x (gate_fault g (is_check t && is_tilde p.1))) (passes_wider g a b w h) ∙ same, subst (λ (z : State). KnowsPart (p.1, t) z.part) (kept_is x s' same) known)
           by_test false h = absurd (not_both (gate_fault g (is_check t && is_tilde p.1)) s' (sym (ap (λ (z : Bool). gated z x (gate_fault g (is_check t && is_tilde p.1))) h) ∙ sym (q a) ∙ e))
 
-  taken_wider : (a b : Limits) (p : Token × Token) (s : State) (ts : List Token) (s' : State) → KnowsPart p s.part → Wider a b → taken a form s ts ≡ Ok s' → (taken b form s ts ≡ Ok s') × KnowsPart (last_two p.0 p.1 ts) s'.part
+  taken_wider : (a b : Limits) (p : Token × Token) (s : State) (ts : List Token) (s' : State) → KnowsPart p s.part → Wider a b → run_over a form s ts ≡ Ok s' → (run_over b form s ts ≡ Ok s') × KnowsPart (last_two p.0 p.1 ts) s'.part
   taken_wider a b p s [] s' k w e = (e, subst (λ (z : State). KnowsPart p z.part) (kept_is s s' e) k)
   taken_wider a b p s (t ∷ ts) s' k w e = by_step (step a form s t) refl e (λ x j h. taken_wider a b (p.1, t) x ts s' j w h)
     where
-      by_step : (r : Result State Fault) → step a form s t ≡ r → (r >>= λ x. taken a form x ts) ≡ Ok s' → ((x : State) → KnowsPart (p.1, t) x.part → taken a form x ts ≡ Ok s' → (taken b form x ts ≡ Ok s') × KnowsPart (last_two p.1 t ts) s'.part) → ((step b form s t >>= λ x. taken b form x ts) ≡ Ok s') × KnowsPart (last_two p.1 t ts) s'.part
+      by_step : (r : Result State Fault) → step a form s t ≡ r → (r >>= λ x. run_over a form x ts) ≡ Ok s' → ((x : State) → KnowsPart (p.1, t) x.part → run_over a form x ts ≡ Ok s' → (run_over b form x ts ≡ Ok s') × KnowsPart (last_two p.1 t ts) s'.part) → ((step b form s t >>= λ x. run_over b form x ts) ≡ Ok s') × KnowsPart (last_two p.1 t ts) s'.part
       by_step (Ok x) q h f =
           let n = step_wider a b p s t x k w q in
           let r = f x n.1 h in
-          (ap (λ (z : Result State Fault). z >>= λ y. taken b form y ts) n.0 ∙ r.0, r.1)
+          (ap (λ (z : Result State Fault). z >>= λ y. run_over b form y ts) n.0 ∙ r.0, r.1)
       by_step (Err d) q h f = absurd (not_both d s' h)
 
   -- tokens that were taken
-  module _ (most : Limits) (ts : List Token) (s : State) (reached : taken most form (start form) ts ≡ Ok s) where
+  module _ (most : Limits) (ts : List Token) (s : State) (reached : run_over most form (start form) ts ≡ Ok s) where
     abbrev ends : Token × Token
     ends = last_two tokens.End tokens.End ts
 
-    under : (b : Limits) → Wider most b → taken b form (start form) ts ≡ Ok s
+    under : (b : Limits) → Wider most b → run_over b form (start form) ts ≡ Ok s
     under b w = (taken_wider most b (tokens.End, tokens.End) (start form) ts s start_knows w reached).0
 
     known : KnowsPart ends s.part
     known = (taken_wider most most (tokens.End, tokens.End) (start form) ts s start_knows (record { nesting = omega arith; operators = omega arith; items = omega arith; names = omega arith; parameters = omega arith }) reached).1
 
-    pushed : (b : Limits) (t : Token) → Wider most b → taken b form (start form) (ts ++ t ∷ []) ≡ (step b form s t >>= λ x. Ok x)
-    pushed b t w = taken-append b form (start form) s ts (t ∷ []) (under b w)
+    pushed : (b : Limits) (t : Token) → Wider most b → run_over b form (start form) (ts ++ t ∷ []) ≡ (step b form s t >>= λ x. Ok x)
+    pushed b t w = run_over-append b form (start form) s ts (t ∷ []) (under b w)
 
     same_limits : Wider most most
     same_limits = record { nesting = omega arith; operators = omega arith; items = omega arith; names = omega arith; parameters = omega arith }
 
     module _ (some : 0 < most.nesting) (one : 0 < most.names) (two : 0 < most.parameters) (t : Token) where
       -- a token that is taken can stand
-      stands : (s' : State) → step most form s t ≡ Ok s' → (taken most form (start form) (ts ++ t ∷ []) ≡ Ok s') × CanStand most form (ts ++ t ∷ [])
-      stands s' e = (all, choose (has_place most s'.part) refl)
+      stands : (s' : State) → step most form s t ≡ Ok s' → (run_over most form (start form) (ts ++ t ∷ []) ≡ Ok s') × CanStand most form (ts ++ t ∷ [])
+      stands s' e = (all, choose (has_offset most s'.part) refl)
         where
-          all : taken most form (start form) (ts ++ t ∷ []) ≡ Ok s'
+          all : run_over most form (start form) (ts ++ t ∷ []) ≡ Ok s'
           all = pushed most t same_limits ∙ ap (λ (r : Result State Fault). r >>= λ x. Ok x) e
 
           after : KnowsPart (ends.1, t) s'.part
           after = (step_wider most most ends s t s' known same_limits e).1
 
-          choose : (b : Bool) → has_place most s'.part ≡ b → CanStand most form (ts ++ t ∷ [])
-          choose true place = BeginsText (begins most form (ts ++ t ∷ []) s' some one all place)
-          choose false place =
+          choose : (b : Bool) → has_offset most s'.part ≡ b → CanStand most form (ts ++ t ∷ [])
+          choose true offset = BeginsText (begins most form (ts ++ t ∷ []) s' some one all offset)
+          choose false offset =
               let wide = joined most (wide_part s'.part) in
               let w = wider_left most (wide_part s'.part) in
-              let now : taken wide form (start form) (ts ++ t ∷ []) ≡ Ok s' = pushed wide t w ∙ ap (λ (r : Result State Fault). r >>= λ x. Ok x) (step_wider most wide ends s t s' known w e).0 in
+              let now : run_over wide form (start form) (ts ++ t ∷ []) ≡ Ok s' = pushed wide t w ∙ ap (λ (r : Result State Fault). r >>= λ x. Ok x) (step_wider most wide ends s t s' known w e).0 in
               BeforeAName (record {
                 earlier = ts;
                 separator = t;
-                is_one = separated most (ends.1, t) s'.part one two after place;
+                is_one = separated most (ends.1, t) s'.part one two after offset;
                 split = refl;
-                begins = begins most form ts s some one reached (place_before most form s.items s.part t s' e);
+                begins = begins most form ts s some one reached (offset_before most form s.items s.part t s' e);
                 wider = wide;
                 same = wide_depths most s'.part;
-                more = begins wide form (ts ++ t ∷ []) s' (let h = w.nesting in omega arith) (let h = w.names in omega arith) now (wide_has_place most s'.part);
+                more = begins wide form (ts ++ t ∷ []) s' (let h = w.nesting in omega arith) (let h = w.names in omega arith) now (wide_has_offset most s'.part);
               })
 
       -- where no limits help, no text begins so
@@ -249,12 +242,12 @@ module _ (form : Form) where
           not_both d r.0 (ap (λ (y : Result State Fault). y >>= λ x. Ok x) (sym e) ∙ q)
 
       -- wider limits help where a limit refused
-      wider_text : (g : Gate) (x : State) (d : Fault) → ((b : Limits) → step b form s t ≡ gated (passes g b) x d) → ((b : Limits) → has_place b x.part ≡ true) → Begins (joined most (gate_limits g)) form (ts ++ t ∷ [])
-      wider_text g x d q place =
+      wider_text : (g : Gate) (x : State) (d : Fault) → ((b : Limits) → step b form s t ≡ gated (passes g b) x d) → ((b : Limits) → has_offset b x.part ≡ true) → Begins (joined most (gate_limits g)) form (ts ++ t ∷ [])
+      wider_text g x d q offset =
           let c = joined most (gate_limits g) in
           let w = wider_left most (gate_limits g) in
-          let e : taken c form (start form) (ts ++ t ∷ []) ≡ Ok x = pushed c t w ∙ ap (λ (y : Result State Fault). y >>= λ z. Ok z) (q c ∙ ap (λ (y : Bool). gated y x d) (gate_passes most g)) in
-          begins c form (ts ++ t ∷ []) x (let h = w.nesting in omega arith) (let h = w.names in omega arith) e (place c)
+          let e : run_over c form (start form) (ts ++ t ∷ []) ≡ Ok x = pushed c t w ∙ ap (λ (y : Result State Fault). y >>= λ z. Ok z) (q c ∙ ap (λ (y : Bool). gated y x d) (gate_passes most g)) in
+          begins c form (ts ++ t ∷ []) x (let h = w.nesting in omega arith) (let h = w.names in omega arith) e (offset c)
 
       -- a token that is refused cannot stand
       cannot_stand : (d : Fault) → step most form s t ≡ Err d → CanStand most form (ts ++ t ∷ []) → ⊥
@@ -267,22 +260,22 @@ module _ (form : Form) where
           by_shape : StepShape ends t (λ b. step b form s t) → ⊥
           by_shape (Always (Ok x) q k) = not_both d x (sym e ∙ q most)
           by_shape (Always (Err f) q k) = no_wider f q a.wider a.more
-          by_shape (Where g x q own k place) = own.no_separator (subst IsSeparator (sym same) a.is_one)
+          by_shape (Where g x q own k offset) = own.no_separator (subst IsSeparator (sym same) a.is_one)
 
 -- ---- the first fault
 
--- what a step's fault says of the token at a place, after these
+-- what a step's fault says of the token at an offset, after these
 abbrev pub RefusedAs : Limits → Form → List Placed → Placed → Fault → Type 0
-RefusedAs most form before here (Here r) = IsRefusal most form before here r here.place
-RefusedAs most form before here (Before r) = IsRefusal most form before here r (last_place 0 before)
+RefusedAs most form before here (Here r) = IsRefusal most form before here r here.offset
+RefusedAs most form before here (Before r) = IsRefusal most form before here r (last_offset 0 before)
 
-module _ (most : Limits) (form : Form) (some : 0 < most.nesting) (one : 0 < most.names) (two : 0 < most.parameters) (before : List Placed) (s : State) (reached : taken most form (start form) (tokens_of before) ≡ Ok s) (here : Placed) where
+module _ (most : Limits) (form : Form) (some : 0 < most.nesting) (one : 0 < most.names) (two : 0 < most.parameters) (before : List Placed) (s : State) (reached : run_over most form (start form) (tokens_of before) ≡ Ok s) (here : Placed) where
   abbrev two_before : Token × Token
   two_before = last_two tokens.End tokens.End (tokens_of before)
 
   too_many : (wider : Limits) → SameDepths most wider → Begins wider form (tokens_of before ++ here.token ∷ []) → (b : Bool) → (is_check here.token && is_tilde two_before.1) ≡ b → RefusedAs most form before here (many_fault b)
-  too_many wider same text true e = TooMany wider same text refl (sym (ap (λ (b : Bool). if b then last_place 0 before else here.place) e))
-  too_many wider same text false e = TooMany wider same text refl (sym (ap (λ (b : Bool). if b then last_place 0 before else here.place) e))
+  too_many wider same text true e = TooMany wider same text refl (sym (ap (λ (b : Bool). if b then last_offset 0 before else here.offset) e))
+  too_many wider same text false e = TooMany wider same text refl (sym (ap (λ (b : Bool). if b then last_offset 0 before else here.offset) e))
 
   too_deep : (wider : Limits) → SameCounts most wider → Begins wider form (tokens_of before ++ here.token ∷ []) → RefusedAs most form before here (Here rules.TooDeep)
   too_deep wider same text = TooDeep wider same text refl refl
@@ -306,33 +299,33 @@ module _ (most : Limits) (form : Form) (some : 0 < most.nesting) (one : 0 < most
       by_shape (Always (Err (Here r)) q (Broke b)) = subst (RefusedAs most form before here) (same_fault (Here r) d (sym (q most) ∙ e)) (Nowhere b refl)
       by_shape (Always (Err (Here r)) q (Plainly own b)) =
           subst (RefusedAs most form before here) (same_fault (Here r) d (sym (q most) ∙ e)) (Plain (no_wider form most (tokens_of before) s reached some one two here.token (Here r) q) own b refl)
-      by_shape (Where g x q own k place) = by_test (passes g most) refl
+      by_shape (Where g x q own k offset) = by_test (passes g most) refl
         where
           by_test : (y : Bool) → passes g most ≡ y → RefusedAs most form before here d
           by_test true h = absurd (not_both d x (sym e ∙ q most ∙ ap (λ (z : Bool). gated z x (gate_fault g (is_check here.token && is_tilde two_before.1))) h))
           by_test false h =
               subst (RefusedAs most form before here) (same_fault (gate_fault g (is_check here.token && is_tilde two_before.1)) d (sym (ap (λ (z : Bool). gated z x (gate_fault g (is_check here.token && is_tilde two_before.1))) h) ∙ sym (q most) ∙ e))
-              (gate_refusal g (wider_text form most (tokens_of before) s reached some one two here.token g x (gate_fault g (is_check here.token && is_tilde two_before.1)) q place))
+              (gate_refusal g (wider_text form most (tokens_of before) s reached some one two here.token g x (gate_fault g (is_check here.token && is_tilde two_before.1)) q offset))
 
 -- the text that was taken, or the fault
 abbrev pub Outcome : Limits → Form → List Placed → Ran → Type 0
-Outcome most form ps (Ok s) = taken most form (start form) (tokens_of ps) ≡ Ok s
+Outcome most form ps (Ok s) = run_over most form (start form) (tokens_of ps) ≡ Ok s
 Outcome most form ps (Err e) = IsFault most form ps e.0 e.1
 
 pub outcome : (most : Limits) (form : Form) (ps : List Placed) → 0 < most.nesting → 0 < most.names → 0 < most.parameters → Outcome most form ps (run most form 0 (start form) ps)
-outcome most form ps some one two = go [] 0 refl (start form) ps refl (BeginsText (begins most form [] (start form) some one refl (start_has_place form most)))
+outcome most form ps some one two = go [] 0 refl (start form) ps refl (BeginsText (begins most form [] (start form) some one refl (start_has_offset form most)))
   where
-    go : (before : List Placed) (n : ℕ) → last_place 0 before ≡ n → (s : State) (rest : List Placed) → taken most form (start form) (tokens_of before) ≡ Ok s → CanStand most form (tokens_of before) → Outcome most form (before ++ rest) (run most form n s rest)
+    go : (before : List Placed) (n : ℕ) → last_offset 0 before ≡ n → (s : State) (rest : List Placed) → run_over most form (start form) (tokens_of before) ≡ Ok s → CanStand most form (tokens_of before) → Outcome most form (before ++ rest) (run most form n s rest)
     go before n at_n s [] reached stand = rw append-nil reached
     go before n at_n s (p ∷ rest) reached stand =
         by_step (step most form s p.token) refl
-        (λ x h. rw (← append_assoc before (p ∷ []) rest) (go (before ++ p ∷ []) p.place (last_place-push 0 before p) x rest (rw (tokens_of-append before (p ∷ [])) h.0) (rw (tokens_of-append before (p ∷ [])) h.1)))
+        (λ x h. rw (← append_assoc before (p ∷ []) rest) (go (before ++ p ∷ []) p.offset (last_offset-push 0 before p) x rest (rw (tokens_of-append before (p ∷ [])) h.0) (rw (tokens_of-append before (p ∷ [])) h.1)))
       where
-        fault : (r : CatRule) (place : ℕ) → (d : Fault) → step most form s p.token ≡ Err d → IsRefusal most form before p r place → IsFault most form (before ++ p ∷ rest) r place
-        fault r place d e h =
+        fault : (r : CatRule) (offset : ℕ) → (d : Fault) → step most form s p.token ≡ Err d → IsRefusal most form before p r offset → IsFault most form (before ++ p ∷ rest) r offset
+        fault r offset d e h =
             record { before = before; here = p; after = rest; split = refl; stand = stand; ends = cannot_stand form most (tokens_of before) s reached some one two p.token d e; refusal = h }
 
-        by_step : (r : Result State Fault) → step most form s p.token ≡ r → ((x : State) → (taken most form (start form) (tokens_of before ++ p.token ∷ []) ≡ Ok x) × CanStand most form (tokens_of before ++ p.token ∷ []) → Outcome most form (before ++ p ∷ rest) (run most form p.place x rest)) → Outcome most form (before ++ p ∷ rest) (and_then (placed n p.place r) (λ x. run most form p.place x rest))
+        by_step : (r : Result State Fault) → step most form s p.token ≡ r → ((x : State) → (run_over most form (start form) (tokens_of before ++ p.token ∷ []) ≡ Ok x) × CanStand most form (tokens_of before ++ p.token ∷ []) → Outcome most form (before ++ p ∷ rest) (run most form p.offset x rest)) → Outcome most form (before ++ p ∷ rest) (and_then (placed n p.offset r) (λ x. run most form p.offset x rest))
         by_step (Ok x) e f = f x (stands form most (tokens_of before) s reached some one two p.token x e)
-        by_step (Err (Here r)) e f = fault r p.place (Here r) e (refusal most form some one two before s reached p (Here r) e)
+        by_step (Err (Here r)) e f = fault r p.offset (Here r) e (refusal most form some one two before s reached p (Here r) e)
         by_step (Err (Before r)) e f = fault r n (Before r) e (subst (IsRefusal most form before p r) at_n (refusal most form some one two before s reached p (Before r) e))

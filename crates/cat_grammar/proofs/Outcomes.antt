@@ -11,11 +11,11 @@ use Rattle.cat_tokens.specs.declared.token.Token.TheVariants as tokens
 use Rattle.cat_values.specs.Value.{Term, Clause, Atom, Mark}
 use Rattle.cat_grammar.specs.Grammar.{Limits, limits, Means, BeginsText, IsFault}
 use Rattle.cat_tokens.specs.Tokens.{Placed, tokens_of}
-use Rattle.cat_grammar.specs.Machine.{Frame, Hole, Wants, HasBrace, HasName, Has, HasStar, HasStarTilde, fold_to, ended, feed}
+use Rattle.cat_grammar.specs.Machine.{Frame, Expectation, Wants, HasBrace, HasName, Has, HasStar, HasStarTilde, fold_to, ended, expression_step}
 use Rattle.cat_grammar.specs.ItemMachine as items
 use Rattle.cat_grammar.specs.ItemMachine.{Keyword, Named, And, Parameter, AfterParameter, Parameters, Head, Part, Start, InLet, AfterFlag, AfterTilde, Body, Label, ShowLabel, AfterShowLabel, AfterInclude, Done, Fault, Here, Before, State, end_of, item_or_end, finished, shown_clause, at, added, goes_on, step_part, step, start}
 use Rattle.cat_grammar.specs.Running.{Ran, run, items_of}
-use Rattle.cat_grammar.proofs.Runs.{◌>>=◌, taken}
+use Rattle.cat_grammar.proofs.Runs.{◌>>=◌, run_over}
 use Rattle.cat_grammar.proofs.SoundItems.{sound}
 use Rattle.cat_grammar.proofs.CompleteItems.{complete}
 use Rattle.cat_grammar.proofs.Faults.{Outcome, outcome, tokens_of-append}
@@ -45,7 +45,7 @@ ended_done most form cs h (f ∷ fs) v = tt
 folded_done : (most : Limits) (form : Form) (cs : List Clause) (h : Head) (p : List Frame × Term) → IsDone (goes_on most form cs h tokens.End (ended tokens.End p))
 folded_done most form cs h (fs, v) = ended_done most form cs h fs v
 
-body_done : (most : Limits) (form : Form) (cs : List Clause) (h : Head) (fs : List Frame) (used : ℕ) (hole : Hole) → IsDone (goes_on most form cs h tokens.End (feed most fs used hole tokens.End))
+body_done : (most : Limits) (form : Form) (cs : List Clause) (h : Head) (fs : List Frame) (used : ℕ) (expected : Expectation) → IsDone (goes_on most form cs h tokens.End (expression_step most fs used expected tokens.End))
 body_done most form cs h fs used Wants = tt
 body_done most form cs h fs used HasBrace = tt
 body_done most form cs h fs used (HasName n) = folded_done most form cs h (fold_to 0 fs (Atom n))
@@ -68,7 +68,7 @@ part_done most form cs Start = end_done form cs (length cs)
 part_done most form cs (InLet q) = let_done most cs q
 part_done most form cs AfterFlag = tt
 part_done most form cs (AfterTilde flagged) = tt
-part_done most form cs (Body h fs used hole) = body_done most form cs h fs used hole
+part_done most form cs (Body h fs used expected) = body_done most form cs h fs used expected
 part_done most form cs (Label h v) = tt
 part_done most form cs (ShowLabel s v) = tt
 part_done most form cs (AfterShowLabel s) = added_done most form cs (Ok (shown_clause s))
@@ -79,15 +79,15 @@ abbrev part_in : Result State Fault → Part
 part_in (Ok y) = y.part
 part_in (Err k) = Done
 
-taken_done : (most : Limits) (form : Form) (s : State) (ts : List Token) (s' : State) → taken most form s (ts ++ tokens.End ∷ []) ≡ Ok s' → s'.part ≡ Done
-taken_done most form s [] s' e = by_end (step most form s tokens.End) (part_done most form s.items s.part) e
+run_over_done : (most : Limits) (form : Form) (s : State) (ts : List Token) (s' : State) → run_over most form s (ts ++ tokens.End ∷ []) ≡ Ok s' → s'.part ≡ Done
+run_over_done most form s [] s' e = by_end (step most form s tokens.End) (part_done most form s.items s.part) e
   where
     by_end : (r : Result State Fault) → IsDone r → (r >>= λ x. Ok x) ≡ Ok s' → s'.part ≡ Done
     by_end (Ok x) d h = sym (ap part_in h) ∙ d
     by_end (Err k) d h = absurd cc
-taken_done most form s (t ∷ ts) s' e = by_step (step most form s t) e (λ x k. taken_done most form x ts s' k)
+run_over_done most form s (t ∷ ts) s' e = by_step (step most form s t) e (λ x k. run_over_done most form x ts s' k)
   where
-    by_step : (r : Result State Fault) → (r >>= λ x. taken most form x (ts ++ tokens.End ∷ [])) ≡ Ok s' → ((x : State) → taken most form x (ts ++ tokens.End ∷ []) ≡ Ok s' → s'.part ≡ Done) → s'.part ≡ Done
+    by_step : (r : Result State Fault) → (r >>= λ x. run_over most form x (ts ++ tokens.End ∷ [])) ≡ Ok s' → ((x : State) → run_over most form x (ts ++ tokens.End ∷ []) ≡ Ok s' → s'.part ≡ Done) → s'.part ≡ Done
     by_step (Ok x) k f = f x k
     by_step (Err d) k f = absurd cc
 
@@ -135,8 +135,8 @@ module _ (form : Form) (ps : List Placed) where
         by_run : (x : Ran) → made ≡ x → items_of x ≡ Ok cs → Means limits form (tokens_of ps) cs
         by_run (Ok s) q h =
             let all = is_outcome (Ok s) q in
-            let last : s.part ≡ Done = taken_done limits form (start form) ts s (ap (taken limits form (start form)) (sym ends) ∙ all) in
-            let whole : taken limits form (start form) (tokens_of ps) ≡ Ok (record { items = cs; part = Done }) = all ∙ ap (λ (p : Part). Ok (record { items = s.items; part = p })) last ∙ ap (λ (x : List Clause). Ok (record { items = x; part = Done })) (kept_is s.items cs h) in
+            let last : s.part ≡ Done = run_over_done limits form (start form) ts s (ap (run_over limits form (start form)) (sym ends) ∙ all) in
+            let whole : run_over limits form (start form) (tokens_of ps) ≡ Ok (record { items = cs; part = Done }) = all ∙ ap (λ (p : Part). Ok (record { items = s.items; part = p })) last ∙ ap (λ (x : List Clause). Ok (record { items = x; part = Done })) (kept_is s.items cs h) in
             sound limits form (tokens_of ps) cs (omega arith) (omega arith) whole
         by_run (Err d) q h = absurd (not_both d cs h)
 

@@ -11,14 +11,14 @@ abbrev pub ◌>>=◌ : {A B : Type 0} → Result A Fault → (A → Result B Fau
 (Err e) >>= f = Err e
 
 -- the tokens one after another
-abbrev pub taken : Limits → Form → State → List Token → Result State Fault
-taken most form s [] = Ok s
-taken most form s (t ∷ ts) = step most form s t >>= λ s'. taken most form s' ts
+abbrev pub run_over : Limits → Form → State → List Token → Result State Fault
+run_over most form s [] = Ok s
+run_over most form s (t ∷ ts) = step most form s t >>= λ s'. run_over most form s' ts
 
-pub taken-append : (most : Limits) (form : Form) (s s' : State) (ts us : List Token) → taken most form s ts ≡ Ok s' → taken most form s (ts ++ us) ≡ taken most form s' us
-taken-append most form s s' [] us e = ap (λ (r : Result State Fault). r >>= λ x. taken most form x us) e
-taken-append most form s s' (t ∷ ts) us e = by_step (step most form s t) e (λ x k. taken-append most form x s' ts us k)
+pub run_over-append : (most : Limits) (form : Form) (s s' : State) (ts us : List Token) → run_over most form s ts ≡ Ok s' → run_over most form s (ts ++ us) ≡ run_over most form s' us
+run_over-append most form s s' [] us e = ap (λ (r : Result State Fault). r >>= λ x. run_over most form x us) e
+run_over-append most form s s' (t ∷ ts) us e = by_step (step most form s t) e (λ x k. run_over-append most form x s' ts us k)
   where
-    by_step : (r : Result State Fault) → (r >>= λ x. taken most form x ts) ≡ Ok s' → ((x : State) → taken most form x ts ≡ Ok s' → taken most form x (ts ++ us) ≡ taken most form s' us) → (r >>= λ x. taken most form x (ts ++ us)) ≡ taken most form s' us
+    by_step : (r : Result State Fault) → (r >>= λ x. run_over most form x ts) ≡ Ok s' → ((x : State) → run_over most form x ts ≡ Ok s' → run_over most form x (ts ++ us) ≡ run_over most form s' us) → (r >>= λ x. run_over most form x (ts ++ us)) ≡ run_over most form s' us
     by_step (Ok x) k f = f x k
     by_step (Err d) k f = absurd cc

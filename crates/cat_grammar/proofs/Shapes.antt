@@ -13,11 +13,11 @@ use Rattle.cat_tokens.specs.declared.token.Token.{Token}
 use Rattle.cat_tokens.specs.declared.token.Token.TheVariants as tokens
 use Rattle.cat_values.specs.Value.{Term, Clause, Atom, AllEvents, EmptyRelation, Mark, Checking, Including}
 use Rattle.cat_grammar.specs.Grammar.{Limits, IsSeparator, broken_rule, is_include, is_name, is_rec_or_and, is_tilde, is_check, plain_rule, has_no_effect}
-use Rattle.cat_grammar.specs.Machine.{Frame, InGroup, InSquare, InPrefix, LeftOf, InArguments, Hole, Wants, HasBrace, HasName, Has, HasStar, HasStarTilde, Fed, Goes, Ends, EndsTilde, Refuses, open_count, fold_to, is_outermost, operand, after_brace, infix_at, ended, closed, square_closed, comma_read, after, after_name, star_tilde, star_then, after_star, after_star_tilde, feed}
+use Rattle.cat_grammar.specs.Machine.{Frame, InGroup, InSquare, InPrefix, LeftOf, InArguments, Expectation, Wants, HasBrace, HasName, Has, HasStar, HasStarTilde, StepResult, Goes, Ends, EndsTilde, Refuses, open_count, fold_to, is_outermost, operand, after_brace, infix_at, ended, closed, square_closed, comma_read, after, after_name, star_tilde, star_then, after_star, after_star_tilde, expression_step}
 use Rattle.cat_tokens.specs.Tokens.{rule_of, begins_operand, infix_of, postfix_of}
 use Rattle.cat_grammar.specs.ItemMachine as items
-use Rattle.cat_grammar.specs.ItemMachine.{Group, Keyword, Named, And, Parameter, AfterParameter, Parameters, Head, BoundHead, FunctionHead, CheckedHead, ShownHead, Part, Start, InLet, AfterFlag, AfterTilde, Body, Label, ShowLabel, AfterShowLabel, AfterInclude, Done, Fault, Here, Before, State, begin_body, begin_check, begin_show, begin_item, excess, unless, unless_before, end_of, item_or_end, after_title, after_tilde, after_flag, fresh, extended, after_keyword, bound_name, parameter_read, after_parameter, after_let_name, after_bound, after_parameters, after_let, checked, shown_also, shown_clause, finished, at, added, item_ended, item_ended_by_tilde, and_read, label_begun, shown_on, after_body, labelled, after_as, after_show_as, after_show_label, after_include, goes_on, step_part, step, start}
-use Rattle.cat_grammar.proofs.Finishes.{has_place}
+use Rattle.cat_grammar.specs.ItemMachine.{Group, Keyword, Named, And, Parameter, AfterParameter, Parameters, Head, BoundHead, FunctionHead, CheckedHead, ShownHead, Part, Start, InLet, AfterFlag, AfterTilde, Body, Label, ShowLabel, AfterShowLabel, AfterInclude, Done, Fault, Here, Before, State, begin_body, begin_check, begin_show, begin_item, excess, unless, unless_before, end_of, item_or_end, after_title, after_tilde, after_flag, fresh, extended, after_keyword, bound_name, parameter_read, after_parameter, after_let_name, after_bound, after_parameters, after_let, checked, shown_also, shown_clause, finished, at, added, item_ended, item_ended_by_tilde, and_read, label_start, shown_on, after_body, labelled, after_as, after_show_as, after_show_label, after_include, goes_on, step_part, step, start}
+use Rattle.cat_grammar.proofs.Finishes.{has_offset}
 
 -- ---- what the last two tokens say of the state
 
@@ -31,13 +31,13 @@ Settled p = Quiet p × (is_rec_or_and p.1 ≡ false)
 abbrev pub Calm : Token × Token → Type 0
 Calm p = Settled p × (is_tilde p.1 ≡ false)
 
-abbrev KnowsHole : Token × Token → Hole → Type 0
-KnowsHole p Wants = Settled p
-KnowsHole p HasBrace = Calm p
-KnowsHole p (HasName n) = Calm p
-KnowsHole p (Has v) = Calm p
-KnowsHole p (HasStar v) = Calm p
-KnowsHole p (HasStarTilde v) = p.1 ≡ tokens.Tilde
+abbrev KnowsExpectation : Token × Token → Expectation → Type 0
+KnowsExpectation p Wants = Settled p
+KnowsExpectation p HasBrace = Calm p
+KnowsExpectation p (HasName n) = Calm p
+KnowsExpectation p (Has v) = Calm p
+KnowsExpectation p (HasStar v) = Calm p
+KnowsExpectation p (HasStarTilde v) = p.1 ≡ tokens.Tilde
 
 abbrev KnowsLet : Token × Token → items.LetPart → Type 0
 KnowsLet p (And g) = ((is_include p.1 ≡ false) × (is_name p.1 ≡ false)) × (is_rec_or_and p.1 ≡ true) × (IsSeparator p.1 ⊎ (length g.bindings ≡ 0))
@@ -54,7 +54,7 @@ KnowsPart p Start = Calm p
 KnowsPart p (InLet q) = KnowsLet p q
 KnowsPart p AfterFlag = Calm p
 KnowsPart p (AfterTilde flagged) = Settled p
-KnowsPart p (Body h fs used hole) = KnowsHole p hole
+KnowsPart p (Body h fs used expected) = KnowsExpectation p expected
 KnowsPart p (Label h v) = Calm p
 KnowsPart p (ShowLabel s v) = Calm p
 KnowsPart p (AfterShowLabel s) = Calm p
@@ -122,22 +122,22 @@ IsPlainResult p t (Err (Before k)) = ⊥
 -- what a token does is the same under all limits, or a limit decides whether it goes on
 pub data StepShape (p : Token × Token) (t : Token) (f : Limits → Result State Fault) : Type 0 where
   Always : (r : Result State Fault) → ((b : Limits) → f b ≡ r) → IsPlainResult p t r → StepShape p t f
-  Where : (g : Gate) (s : State) → ((b : Limits) → f b ≡ (if passes g b then Ok s else Err (gate_fault g (is_check t && is_tilde p.1)))) → IsGated t → KnowsPart (p.1, t) s.part → ((b : Limits) → has_place b s.part ≡ true) → StepShape p t f
+  Where : (g : Gate) (s : State) → ((b : Limits) → f b ≡ (if passes g b then Ok s else Err (gate_fault g (is_check t && is_tilde p.1)))) → IsGated t → KnowsPart (p.1, t) s.part → ((b : Limits) → has_offset b s.part ≡ true) → StepShape p t f
 
 -- ---- within an expression
 
-abbrev IsPlain : Token × Token → Token → Fed → Type 0
-IsPlain p t (Goes fs used hole) = KnowsHole (p.1, t) hole
+abbrev IsPlain : Token × Token → Token → StepResult → Type 0
+IsPlain p t (Goes fs used expected) = KnowsExpectation (p.1, t) expected
 IsPlain p t (Ends v) = Calm p
 IsPlain p t (EndsTilde v) = p.1 ≡ tokens.Tilde
 IsPlain p t (Refuses k) = k ≡ rule_of t
 
-data FedShape (p : Token × Token) (t : Token) (f : Limits → Fed) : Type 0 where
-  Plain : (x : Fed) → ((b : Limits) → f b ≡ x) → IsPlain p t x → FedShape p t f
-  Gated : (g : Gate) (fs : List Frame) (used : ℕ) (hole : Hole) → gate_fault g (is_check t && is_tilde p.1) ≡ Here rules.TooDeep → ((b : Limits) → f b ≡ (if passes g b then Goes fs used hole else Refuses rules.TooDeep)) → IsGated t → KnowsHole (p.1, t) hole → FedShape p t f
+data ResultShape (p : Token × Token) (t : Token) (f : Limits → StepResult) : Type 0 where
+  Plain : (x : StepResult) → ((b : Limits) → f b ≡ x) → IsPlain p t x → ResultShape p t f
+  Gated : (g : Gate) (fs : List Frame) (used : ℕ) (expected : Expectation) → gate_fault g (is_check t && is_tilde p.1) ≡ Here rules.TooDeep → ((b : Limits) → f b ≡ (if passes g b then Goes fs used expected else Refuses rules.TooDeep)) → IsGated t → KnowsExpectation (p.1, t) expected → ResultShape p t f
 
 module _ (p : Token × Token) where
-  operand_shape : (fs : List Frame) (used : ℕ) (t : Token) → Settled p → FedShape p t (λ b. operand b fs used t)
+  operand_shape : (fs : List Frame) (used : ℕ) (t : Token) → Settled p → ResultShape p t (λ b. operand b fs used t)
   operand_shape fs used (tokens.Name n) k = Plain (Goes fs used (HasName n)) (λ b. refl) (calm_name p n k.1)
   operand_shape fs used tokens.Underscore k = Plain (Goes fs used (Has AllEvents)) (λ b. refl) (((refl, refl), refl), refl)
   operand_shape fs used tokens.Zero k = Plain (Goes fs used (Has EmptyRelation)) (λ b. refl) (((refl, refl), refl), refl)
@@ -147,7 +147,7 @@ module _ (p : Token × Token) where
   operand_shape fs used tokens.OpenSquare k = Gated (Nest (open_count fs)) (InSquare ∷ fs) used Wants refl (λ b. refl) (record { own = refl; no_separator = λ x. absurd x }) ((refl, refl), refl)
   operand_shape fs used t k = Plain (Refuses (rule_of t)) (λ b. refl) refl
 
-  brace_shape : (fs : List Frame) (used : ℕ) (t : Token) → FedShape p t (λ b. after_brace fs used t)
+  brace_shape : (fs : List Frame) (used : ℕ) (t : Token) → ResultShape p t (λ b. after_brace fs used t)
   brace_shape fs used tokens.CloseBrace = Plain (after_brace fs used tokens.CloseBrace) (λ b. refl) (((refl, refl), refl), refl)
   brace_shape fs used t = Plain (Refuses (rule_of t)) (λ b. refl) refl
 
@@ -179,10 +179,10 @@ module _ (p : Token × Token) where
   ended_plain t [] v k = k
   ended_plain t (f ∷ fs) v k = refl
 
-  ended_shape : (fs : List Frame) (v : Term) (t : Token) → Calm p → FedShape p t (λ b. ended t (fold_to 0 fs v))
+  ended_shape : (fs : List Frame) (v : Term) (t : Token) → Calm p → ResultShape p t (λ b. ended t (fold_to 0 fs v))
   ended_shape fs v t k = let q = fold_to 0 fs v in Plain (ended t q) (λ b. refl) (ended_plain t q.0 q.1 k)
 
-  after_shape : (fs : List Frame) (used : ℕ) (v : Term) (t : Token) → Calm p → FedShape p t (λ b. after b fs used v t)
+  after_shape : (fs : List Frame) (used : ℕ) (v : Term) (t : Token) → Calm p → ResultShape p t (λ b. after b fs used v t)
   after_shape fs used v (tokens.Sign s) k = Gated (Operate used) (infix_at (infix_of s) fs v) (used + 1) Wants refl (λ b. refl) (record { own = refl; no_separator = λ x. absurd x }) ((refl, refl), refl)
   after_shape fs used v (tokens.Mark m) k = Gated (Operate used) fs (used + 1) (Has (Mark (postfix_of m) v)) refl (λ b. refl) (record { own = refl; no_separator = λ x. absurd x }) (((refl, refl), refl), refl)
   after_shape fs used v tokens.Star k = Gated (Operate used) fs (used + 1) (HasStar v) refl (λ b. refl) (record { own = refl; no_separator = λ x. absurd x }) (((refl, refl), refl), refl)
@@ -191,33 +191,33 @@ module _ (p : Token × Token) where
   after_shape fs used v tokens.Comma k = let q = fold_to 0 fs v in Plain (comma_read used q) (λ b. refl) (comma_plain used q.0 q.1 k)
   after_shape fs used v t k = ended_shape fs v t k
 
-  name_shape : (fs : List Frame) (used : ℕ) (n : List ℕ) (t : Token) → Calm p → FedShape p t (λ b. after_name b fs used n t)
+  name_shape : (fs : List Frame) (used : ℕ) (n : List ℕ) (t : Token) → Calm p → ResultShape p t (λ b. after_name b fs used n t)
   name_shape fs used n tokens.Open k = Gated (Nest (open_count fs)) (InArguments n [] ∷ fs) used Wants refl (λ b. refl) (record { own = refl; no_separator = λ x. absurd x }) ((refl, refl), refl)
   name_shape fs used n t k = after_shape fs used (Atom n) t k
 
-  star_tilde_shape : (fs : List Frame) (used : ℕ) (v : Term) (x : Bool) → Calm p → FedShape p tokens.Tilde (λ b. star_tilde b fs used v x)
+  star_tilde_shape : (fs : List Frame) (used : ℕ) (v : Term) (x : Bool) → Calm p → ResultShape p tokens.Tilde (λ b. star_tilde b fs used v x)
   star_tilde_shape fs used v true k = Plain (Goes fs used (HasStarTilde v)) (λ b. refl) refl
   star_tilde_shape fs used v false k = operand_shape (infix_at Product fs v) used tokens.Tilde k.0
 
-  star_then_shape : (fs : List Frame) (used : ℕ) (v : Term) (t : Token) (x : Bool) → Calm p → FedShape p t (λ b. star_then b fs used v t x)
+  star_then_shape : (fs : List Frame) (used : ℕ) (v : Term) (t : Token) (x : Bool) → Calm p → ResultShape p t (λ b. star_then b fs used v t x)
   star_then_shape fs used v t true k = operand_shape (infix_at Product fs v) used t k.0
   star_then_shape fs used v t false k = after_shape fs used (Mark postfix.Closure v) t k
 
-  star_shape : (fs : List Frame) (used : ℕ) (v : Term) (t : Token) → Calm p → FedShape p t (λ b. after_star b fs used v t)
+  star_shape : (fs : List Frame) (used : ℕ) (v : Term) (t : Token) → Calm p → ResultShape p t (λ b. after_star b fs used v t)
   star_shape fs used v tokens.Tilde k = star_tilde_shape fs used v (is_outermost fs) k
   star_shape fs used v t k = star_then_shape fs used v t (begins_operand t) k
 
-  tilde_shape : (fs : List Frame) (used : ℕ) (v : Term) (t : Token) → p.1 ≡ tokens.Tilde → FedShape p t (λ b. after_star_tilde b fs used v t)
+  tilde_shape : (fs : List Frame) (used : ℕ) (v : Term) (t : Token) → p.1 ≡ tokens.Tilde → ResultShape p t (λ b. after_star_tilde b fs used v t)
   tilde_shape fs used v (tokens.Check w) k = Plain (EndsTilde ((fold_to 0 fs (Mark postfix.Closure v)).1)) (λ b. refl) k
   tilde_shape fs used v t k = operand_shape (InPrefix ∷ infix_at Product fs v) used t (tilde_settled p k)
 
-  feed_shape : (fs : List Frame) (used : ℕ) (hole : Hole) (t : Token) → KnowsHole p hole → FedShape p t (λ b. feed b fs used hole t)
-  feed_shape fs used Wants t k = operand_shape fs used t k
-  feed_shape fs used HasBrace t k = brace_shape fs used t
-  feed_shape fs used (HasName n) t k = name_shape fs used n t k
-  feed_shape fs used (Has v) t k = after_shape fs used v t k
-  feed_shape fs used (HasStar v) t k = star_shape fs used v t k
-  feed_shape fs used (HasStarTilde v) t k = tilde_shape fs used v t k
+  expression_shape : (fs : List Frame) (used : ℕ) (expected : Expectation) (t : Token) → KnowsExpectation p expected → ResultShape p t (λ b. expression_step b fs used expected t)
+  expression_shape fs used Wants t k = operand_shape fs used t k
+  expression_shape fs used HasBrace t k = brace_shape fs used t
+  expression_shape fs used (HasName n) t k = name_shape fs used n t k
+  expression_shape fs used (Has v) t k = after_shape fs used v t k
+  expression_shape fs used (HasStar v) t k = star_shape fs used v t k
+  expression_shape fs used (HasStarTilde v) t k = tilde_shape fs used v t k
 
 -- ---- items
 
@@ -226,11 +226,11 @@ module _ (form : Form) (p : Token × Token) where
   unless_of cs n x f b = at cs (unless (excess b f n) (Ok x))
 
   -- the first token of an item
-  opens_shape : (cs : List Clause) (n : ℕ) (t : Token) (x : Part) → IsGated t → rule_of t ≡ rules.Syntax → plain_rule p t ≡ rules.Syntax → (is_check t && is_tilde p.1) ≡ false → KnowsPart (p.1, t) x → ((b : Limits) → has_place b x ≡ true) → StepShape p t (λ b. at cs (unless (excess b form n) (Ok x)))
-  opens_shape cs n t x gated rule plain first knows place = by_form form
+  opens_shape : (cs : List Clause) (n : ℕ) (t : Token) (x : Part) → IsGated t → rule_of t ≡ rules.Syntax → plain_rule p t ≡ rules.Syntax → (is_check t && is_tilde p.1) ≡ false → KnowsPart (p.1, t) x → ((b : Limits) → has_offset b x ≡ true) → StepShape p t (λ b. at cs (unless (excess b form n) (Ok x)))
+  opens_shape cs n t x gated rule plain first knows offset = by_form form
     where
       by_form : (f : Form) → StepShape p t (unless_of cs n x f)
-      by_form forms.Model = Where (Count n) (record { items = cs; part = x }) (λ b. choose (nat_lt n b.items) ∙ ap (λ (z : Bool). if nat_lt n b.items then Ok (record { items = cs; part = x }) else Err (many_fault z)) (sym first)) gated knows place
+      by_form forms.Model = Where (Count n) (record { items = cs; part = x }) (λ b. choose (nat_lt n b.items) ∙ ap (λ (z : Bool). if nat_lt n b.items then Ok (record { items = cs; part = x }) else Err (many_fault z)) (sym first)) gated knows offset
         where
           choose : (y : Bool) → at cs (unless (if y then None else Some rules.TooMany) (Ok x)) ≡ (if y then Ok (record { items = cs; part = x }) else Err (Here rules.TooMany))
           choose true = refl
@@ -402,7 +402,7 @@ module _ (form : Form) (p : Token × Token) where
   and_shape cs (CheckedHead h) v = Always (Err (Here rules.Syntax)) (λ b. refl) (Plainly refl refl)
   and_shape cs (ShownHead s) v = Always (Err (Here rules.Syntax)) (λ b. refl) (Plainly refl refl)
 
-  label_shape : (cs : List Clause) (h : Head) (v : Term) → StepShape p tokens.As (λ b. at cs (label_begun h v))
+  label_shape : (cs : List Clause) (h : Head) (v : Term) → StepShape p tokens.As (λ b. at cs (label_start h v))
   label_shape cs (BoundHead g n) v = Always (Err (Here rules.Syntax)) (λ b. refl) (Plainly refl refl)
   label_shape cs (FunctionHead n ps) v = Always (Err (Here rules.Syntax)) (λ b. refl) (Plainly refl refl)
   label_shape cs (CheckedHead h) v = ok_shape cs tokens.As (Label h v) (((refl, refl), refl), refl)
@@ -424,33 +424,33 @@ module _ (form : Form) (p : Token × Token) where
   tilde_ended_shape cs h v (tokens.Check w) k = tilde_added_shape cs w (finished h v rules.Syntax) (is_finished h v rules.Syntax) k
   tilde_ended_shape cs h v t k = err_shape t (plainly p t (tilde_settled p k).0)
 
-  fed_shape : (cs : List Clause) (h : Head) (t : Token) (x : Fed) → Quiet p → IsPlain p t x → StepShape p t (λ b. goes_on b form cs h t x)
-  fed_shape cs h t (Goes fs used hole) q k = ok_shape cs t (Body h fs used hole) k
-  fed_shape cs h t (Ends v) q k = after_body_shape cs h v t k
-  fed_shape cs h t (EndsTilde v) q k = tilde_ended_shape cs h v t k
-  fed_shape cs h t (Refuses r) q k = Always (Err (Here r)) (λ b. refl) (subst (RuleIs p t) (sym k) (plainly p t q))
+  result_shape : (cs : List Clause) (h : Head) (t : Token) (x : StepResult) → Quiet p → IsPlain p t x → StepShape p t (λ b. goes_on b form cs h t x)
+  result_shape cs h t (Goes fs used expected) q k = ok_shape cs t (Body h fs used expected) k
+  result_shape cs h t (Ends v) q k = after_body_shape cs h v t k
+  result_shape cs h t (EndsTilde v) q k = tilde_ended_shape cs h v t k
+  result_shape cs h t (Refuses r) q k = Always (Err (Here r)) (λ b. refl) (subst (RuleIs p t) (sym k) (plainly p t q))
 
   -- the same step
   same_shape : (t : Token) (f g : Limits → Result State Fault) → ((b : Limits) → f b ≡ g b) → StepShape p t g → StepShape p t f
   same_shape t f g e (Always r q k) = Always r (λ b. e b ∙ q b) k
-  same_shape t f g e (Where gate s q own k place) = Where gate s (λ b. e b ∙ q b) own k place
+  same_shape t f g e (Where gate s q own k offset) = Where gate s (λ b. e b ∙ q b) own k offset
 
-  body_shape : (cs : List Clause) (h : Head) (t : Token) (f : Limits → Fed) → Quiet p → FedShape p t f → StepShape p t (λ b. goes_on b form cs h t (f b))
-  body_shape cs h t f q (Plain x e k) = same_shape t (λ b. goes_on b form cs h t (f b)) (λ b. goes_on b form cs h t x) (λ b. ap (goes_on b form cs h t) (e b)) (fed_shape cs h t x q k)
-  body_shape cs h t f q (Gated g fs used hole deep e own k) =
-      Where g (record { items = cs; part = Body h fs used hole }) (λ b. ap (goes_on b form cs h t) (e b) ∙ choose b (passes g b) ∙ ap (λ (d : Fault). if passes g b then Ok (record { items = cs; part = Body h fs used hole }) else Err d) (sym deep)) own k (λ b. refl)
+  body_shape : (cs : List Clause) (h : Head) (t : Token) (f : Limits → StepResult) → Quiet p → ResultShape p t f → StepShape p t (λ b. goes_on b form cs h t (f b))
+  body_shape cs h t f q (Plain x e k) = same_shape t (λ b. goes_on b form cs h t (f b)) (λ b. goes_on b form cs h t x) (λ b. ap (goes_on b form cs h t) (e b)) (result_shape cs h t x q k)
+  body_shape cs h t f q (Gated g fs used expected deep e own k) =
+      Where g (record { items = cs; part = Body h fs used expected }) (λ b. ap (goes_on b form cs h t) (e b) ∙ choose b (passes g b) ∙ ap (λ (d : Fault). if passes g b then Ok (record { items = cs; part = Body h fs used expected }) else Err d) (sym deep)) own k (λ b. refl)
     where
-      choose : (b : Limits) (y : Bool) → goes_on b form cs h t (if y then Goes fs used hole else Refuses rules.TooDeep) ≡ (if y then Ok (record { items = cs; part = Body h fs used hole }) else Err (Here rules.TooDeep))
+      choose : (b : Limits) (y : Bool) → goes_on b form cs h t (if y then Goes fs used expected else Refuses rules.TooDeep) ≡ (if y then Ok (record { items = cs; part = Body h fs used expected }) else Err (Here rules.TooDeep))
       choose b true = refl
       choose b false = refl
 
-  hole_quiet : (hole : Hole) → KnowsHole p hole → Quiet p
-  hole_quiet Wants k = k.0
-  hole_quiet HasBrace k = k.0.0
-  hole_quiet (HasName n) k = k.0.0
-  hole_quiet (Has v) k = k.0.0
-  hole_quiet (HasStar v) k = k.0.0
-  hole_quiet (HasStarTilde v) k = (tilde_settled p k).0
+  expectation_quiet : (expected : Expectation) → KnowsExpectation p expected → Quiet p
+  expectation_quiet Wants k = k.0
+  expectation_quiet HasBrace k = k.0.0
+  expectation_quiet (HasName n) k = k.0.0
+  expectation_quiet (Has v) k = k.0.0
+  expectation_quiet (HasStar v) k = k.0.0
+  expectation_quiet (HasStarTilde v) k = (tilde_settled p k).0
 
   as_shape : (cs : List Clause) (h : CheckHead) (v : Term) (t : Token) → Calm p → StepShape p t (λ b. after_as cs h v t)
   as_shape cs h v (tokens.Name n) k = ok_shape (cs ++ labelled h v n ∷ []) (tokens.Name n) Start (calm_name p n k.0.1)
@@ -480,7 +480,7 @@ module _ (form : Form) (p : Token × Token) where
   part_shape cs (InLet q) t k = let_shape cs q t k
   part_shape cs AfterFlag t k = flag_shape cs t k
   part_shape cs (AfterTilde flagged) t k = tilde_then_shape cs flagged t k
-  part_shape cs (Body h fs used hole) t k = body_shape cs h t (λ b. feed b fs used hole t) (hole_quiet hole k) (feed_shape p fs used hole t k)
+  part_shape cs (Body h fs used expected) t k = body_shape cs h t (λ b. expression_step b fs used expected t) (expectation_quiet expected k) (expression_shape p fs used expected t k)
   part_shape cs (Label h v) t k = as_shape cs h v t k
   part_shape cs (ShowLabel s v) t k = show_as_shape cs s v t k
   part_shape cs (AfterShowLabel s) t k = show_label_shape cs s t k

@@ -2,6 +2,7 @@
 use Rattle.std.proofs.Common.{◌≡◌, ℕ, ◌+◌, ◌<◌, ◌≤◌, Bool, true, false, List, [], ◌∷◌, ◌++◌, refl, sym, ap, ◌∙◌, subst, arith}
 use Rattle.std.specs.Prelude.{nat_le, nat_lt, if◌then◌else◌}
 use Rattle.std.proofs.lemmas.Bool.Decides.{nat_tests}
+use Rattle.std.proofs.lemmas.Bool.{ltb-true}
 use Rattle.cat_tokens.specs.declared.rule.CatRule.TheVariants as rules
 use Rattle.cat_tokens.specs.declared.token.Sign.{Sign}
 use Rattle.cat_tokens.specs.declared.token.Sign.TheVariants.{Bar, Semicolon, Backslash, Ampersand}
@@ -15,7 +16,7 @@ use Rattle.cat_values.specs.declared.model.Postfix.{Postfix}
 use Rattle.cat_values.specs.declared.model.Postfix.TheVariants as postfix
 use Rattle.cat_values.specs.Value.{Term, Atom, EmptySet, Join, Mark, Not, Apply}
 use Rattle.cat_grammar.specs.Grammar.{Tree, Word, Underscore, Zero, Braces, Post, Group, Square, Application, infix_token, postfix_token, spelled, meaning, level, left_level, tightness, IsGrouped, depth, operators, Limits, IsExpression}
-use Rattle.cat_grammar.specs.Machine.{Frame, InGroup, InSquare, InPrefix, LeftOf, InArguments, Hole, Wants, HasBrace, HasName, Has, HasStar, HasStarTilde, Fed, Goes, Ends, EndsTilde, Refuses, open_count, fold_to, is_outermost, opened, operand, after_brace, left_frames, infix_at, counted, ended, closed, square_closed, comma_read, after, after_name, star_tilde, star_then, after_star, after_star_tilde, feed}
+use Rattle.cat_grammar.specs.Machine.{Frame, InGroup, InSquare, InPrefix, LeftOf, InArguments, Expectation, Wants, HasBrace, HasName, Has, HasStar, HasStarTilde, StepResult, Goes, Ends, EndsTilde, Refuses, open_count, fold_to, is_outermost, opened, operand, after_brace, left_frames, infix_at, counted, ended, closed, square_closed, comma_read, after, after_name, star_tilde, star_then, after_star, after_star_tilde, expression_step}
 use Rattle.cat_tokens.specs.Tokens.{begins_operand, infix_of, postfix_of}
 use Rattle.cat_grammar.proofs.Branches.{Branch, BGroup, BSquare, BPrefix, BLeft, BArguments, frame, frames, before, need, opens, count, Fine, Stops, open_count-frames, right_level-le, left_level-le, need-le, opens-le, meets, Folded, folded, IsOutermost, outermost, arguments_of, spelled-arguments_of, meanings-arguments_of, grouped-arguments_of, depths-arguments_of, operators-arguments_of, before_arguments-push, values-push, sum_operators-push, arguments_fine-push}
 
@@ -49,7 +50,7 @@ pub record Starred (most : Limits) (whole rest : List Token) (fs : List Frame) (
   pub short : used ≤ most.operators
   pub full : Full most whole (tokens.Star ∷ rest) fs less v
 
-abbrev pub Stands : Limits → List Token → List Token → List Frame → ℕ → Hole → Type 0
+abbrev pub Stands : Limits → List Token → List Token → List Frame → ℕ → Expectation → Type 0
 Stands most whole rest fs used Wants = Open most whole rest fs used
 Stands most whole rest fs used HasBrace = Open most whole (tokens.OpenBrace ∷ rest) fs used
 Stands most whole rest fs used (HasName n) = Open most whole (tokens.Name n ∷ rest) fs used
@@ -64,14 +65,11 @@ pub record Ended (most : Limits) (whole rest : List Token) (v : Term) : Type 0 w
   pub means : meaning t ≡ v
   pub whole_is : whole ≡ spelled t rest
 
-abbrev pub FedStands : Limits → List Token → Token → List Token → Fed → Type 0
-FedStands most whole t rest (Goes fs used hole) = Stands most whole rest fs used hole
-FedStands most whole t rest (Ends v) = Ended most whole (t ∷ rest) v
-FedStands most whole t rest (EndsTilde v) = Ended most whole (tokens.Tilde ∷ t ∷ rest) v
-FedStands most whole t rest (Refuses k) = Unit {0}
-
-lt_true : (l n : ℕ) → nat_lt l n ≡ true → l < n
-lt_true l n h = grind (arith, nat_tests)
+abbrev pub ExpressionStands : Limits → List Token → Token → List Token → StepResult → Type 0
+ExpressionStands most whole t rest (Goes fs used expected) = Stands most whole rest fs used expected
+ExpressionStands most whole t rest (Ends v) = Ended most whole (t ∷ rest) v
+ExpressionStands most whole t rest (EndsTilde v) = Ended most whole (tokens.Tilde ∷ t ∷ rest) v
+ExpressionStands most whole t rest (Refuses k) = Unit {0}
 
 infix_token-of : (s : Sign) → infix_token (infix_of s) ≡ tokens.Sign s
 infix_token-of Bar = refl
@@ -138,13 +136,13 @@ none_open most (BLeft op a ∷ bs) f o n = let l = level-le op in none_open most
 
 module _ (most : Limits) (whole : List Token) (some : 0 < most.nesting) where
   opened_stands : (t : Token) (rest : List Token) (used : ℕ) (bs : List Branch) (f : Frame) (b : Branch) → frame b ≡ f → Fine most bs → count (b ∷ bs) ≡ used → used ≤ most.operators
-      → (opens bs < most.nesting → Fine most (b ∷ bs)) → whole ≡ before (b ∷ bs) rest → FedStands most whole t rest (opened most (frames bs) used f)
+      → (opens bs < most.nesting → Fine most (b ∷ bs)) → whole ≡ before (b ∷ bs) rest → ExpressionStands most whole t rest (opened most (frames bs) used f)
   opened_stands t rest used bs f b e fine counted short grown is =
       choose (nat_lt (open_count (frames bs)) most.nesting) refl
     where
-      choose : (x : Bool) → nat_lt (open_count (frames bs)) most.nesting ≡ x → FedStands most whole t rest (if x then Goes (f ∷ frames bs) used Wants else Refuses rules.TooDeep)
+      choose : (x : Bool) → nat_lt (open_count (frames bs)) most.nesting ≡ x → ExpressionStands most whole t rest (if x then Goes (f ∷ frames bs) used Wants else Refuses rules.TooDeep)
       choose true h =
-          let lt = lt_true _ _ h in
+          let lt = ltb-true _ _ h in
           let few : opens bs < most.nesting = rw (open_count-frames bs) at lt in
           record { bs = b ∷ bs; is = ap (λ (g : Frame). g ∷ frames bs) e; fine = grown few; counted = counted; short = short; whole_is = is }
       choose false h = tt
@@ -155,7 +153,7 @@ module _ (most : Limits) (whole : List Token) (some : 0 < most.nesting) where
       let deep = opens-le most bs fine in
       record { bs = bs; t = t; is = refl; means = refl; fine = fine; grouped = grouped; tight = tight; shallow = omega arith; counted = omega arith; short = short; whole_is = is }
 
-  operand_at : (t : Token) (rest : List Token) (used : ℕ) (bs : List Branch) → Fine most bs → count bs ≡ used → used ≤ most.operators → whole ≡ before bs (t ∷ rest) → FedStands most whole t rest (operand most (frames bs) used t)
+  operand_at : (t : Token) (rest : List Token) (used : ℕ) (bs : List Branch) → Fine most bs → count bs ≡ used → used ≤ most.operators → whole ≡ before bs (t ∷ rest) → ExpressionStands most whole t rest (operand most (frames bs) used t)
   operand_at (tokens.Name n) rest used bs fine counted short is = record { bs = bs; is = refl; fine = fine; counted = counted; short = short; whole_is = is }
   operand_at tokens.OpenBrace rest used bs fine counted short is = record { bs = bs; is = refl; fine = fine; counted = counted; short = short; whole_is = is }
   operand_at tokens.Underscore rest used bs fine counted short is = atom_full Underscore rest used bs tt (omega arith) refl refl fine counted short is
@@ -165,7 +163,7 @@ module _ (most : Limits) (whole : List Token) (some : 0 < most.nesting) where
   operand_at tokens.OpenSquare rest used bs fine counted short is = opened_stands tokens.OpenSquare rest used bs InSquare BSquare refl fine counted short (λ h. (h, fine)) is
   operand_at _ rest used bs fine counted short is = tt
 
-  after_brace_stands : (t : Token) (rest : List Token) (fs : List Frame) (used : ℕ) → Open most whole (tokens.OpenBrace ∷ t ∷ rest) fs used → FedStands most whole t rest (after_brace fs used t)
+  after_brace_stands : (t : Token) (rest : List Token) (fs : List Frame) (used : ℕ) → Open most whole (tokens.OpenBrace ∷ t ∷ rest) fs used → ExpressionStands most whole t rest (after_brace fs used t)
   after_brace_stands tokens.CloseBrace rest fs used o =
       subst (λ (g : List Frame). Full most whole rest g used EmptySet) o.is (atom_full Braces rest used o.bs tt (omega arith) refl refl o.fine o.counted o.short o.whole_is)
   after_brace_stands _ rest fs used o = tt
@@ -175,9 +173,9 @@ module _ (most : Limits) (whole : List Token) (some : 0 < most.nesting) where
   named_full n rest fs used o =
       subst (λ (g : List Frame). Full most whole rest g used (Atom n)) o.is (atom_full (Word n) rest used o.bs tt (omega arith) refl refl o.fine o.counted o.short o.whole_is)
 
-  pub operand_stands : (t : Token) (rest : List Token) (fs : List Frame) (used : ℕ) → Open most whole (t ∷ rest) fs used → FedStands most whole t rest (operand most fs used t)
+  pub operand_stands : (t : Token) (rest : List Token) (fs : List Frame) (used : ℕ) → Open most whole (t ∷ rest) fs used → ExpressionStands most whole t rest (operand most fs used t)
   operand_stands t rest fs used o =
-      subst (λ (g : List Frame). FedStands most whole t rest (operand most g used t)) o.is (operand_at t rest used o.bs o.fine o.counted o.short o.whole_is)
+      subst (λ (g : List Frame). ExpressionStands most whole t rest (operand most g used t)) o.is (operand_at t rest used o.bs o.fine o.counted o.short o.whole_is)
 
   -- what is open once everything that binds this tightly is joined
   folded_full : (l : ℕ) (rest : List Token) (fs : List Frame) (used : ℕ) (v : Term) → l ≤ 6 → Full most whole rest fs used v → Folded most l whole rest (fold_to l fs v) used
@@ -196,19 +194,19 @@ module _ (most : Limits) (whole : List Token) (some : 0 < most.nesting) where
   ended_is rest used v t grouped shallow counted short means is =
       record { t = t; is = record { grouped = grouped; shallow = shallow; short = omega arith }; means = means; whole_is = is }
 
-  ended_at : (t : Token) (rest : List Token) (used : ℕ) (p : List Frame × Term) → used ≤ most.operators → Folded most 0 whole (t ∷ rest) p used → FedStands most whole t rest (ended t p)
+  ended_at : (t : Token) (rest : List Token) (used : ℕ) (p : List Frame × Term) → used ≤ most.operators → Folded most 0 whole (t ∷ rest) p used → ExpressionStands most whole t rest (ended t p)
   ended_at t rest used p short d =
-      subst (λ (q : List Frame × Term). FedStands most whole t rest (ended t q)) (sym d.is) (by_branches d.bs d.shallow d.counted d.whole_is)
+      subst (λ (q : List Frame × Term). ExpressionStands most whole t rest (ended t q)) (sym d.is) (by_branches d.bs d.shallow d.counted d.whole_is)
     where
-      by_branches : (bs : List Branch) → opens bs + depth d.t ≤ most.nesting → count bs + operators d.t ≡ used → whole ≡ before bs (spelled d.t (t ∷ rest)) → FedStands most whole t rest (ended t (frames bs, meaning d.t))
+      by_branches : (bs : List Branch) → opens bs + depth d.t ≤ most.nesting → count bs + operators d.t ≡ used → whole ≡ before bs (spelled d.t (t ∷ rest)) → ExpressionStands most whole t rest (ended t (frames bs, meaning d.t))
       by_branches [] shallow counted is = ended_is (t ∷ rest) used (meaning d.t) d.t d.grouped (omega arith) (omega arith) short refl is
       by_branches (b ∷ bs) shallow counted is = tt
 
-  closed_at : (rest : List Token) (used : ℕ) (p : List Frame × Term) → used ≤ most.operators → Folded most 0 whole (tokens.Close ∷ rest) p used → FedStands most whole tokens.Close rest (closed used p)
+  closed_at : (rest : List Token) (used : ℕ) (p : List Frame × Term) → used ≤ most.operators → Folded most 0 whole (tokens.Close ∷ rest) p used → ExpressionStands most whole tokens.Close rest (closed used p)
   closed_at rest used p short d =
-      subst (λ (q : List Frame × Term). FedStands most whole tokens.Close rest (closed used q)) (sym d.is) (by_branches d.bs d.fine d.shallow d.counted d.whole_is)
+      subst (λ (q : List Frame × Term). ExpressionStands most whole tokens.Close rest (closed used q)) (sym d.is) (by_branches d.bs d.fine d.shallow d.counted d.whole_is)
     where
-      by_branches : (bs : List Branch) → Fine most bs → opens bs + depth d.t ≤ most.nesting → count bs + operators d.t ≡ used → whole ≡ before bs (spelled d.t (tokens.Close ∷ rest)) → FedStands most whole tokens.Close rest (closed used (frames bs, meaning d.t))
+      by_branches : (bs : List Branch) → Fine most bs → opens bs + depth d.t ≤ most.nesting → count bs + operators d.t ≡ used → whole ≡ before bs (spelled d.t (tokens.Close ∷ rest)) → ExpressionStands most whole tokens.Close rest (closed used (frames bs, meaning d.t))
       by_branches [] fine shallow counted is = ended_is (tokens.Close ∷ rest) used (meaning d.t) d.t d.grouped (omega arith) (omega arith) short refl is
       by_branches (BGroup ∷ bs) fine shallow counted is =
           record { bs = bs; t = Group d.t; is = refl; means = refl; fine = fine.1; grouped = d.grouped; tight = omega arith; shallow = omega arith; counted = counted; short = short; whole_is = is }
@@ -232,11 +230,11 @@ module _ (most : Limits) (whole : List Token) (some : 0 < most.nesting) where
       by_branches (BPrefix ∷ bs) fine shallow counted is = tt
       by_branches (BLeft op a ∷ bs) fine shallow counted is = tt
 
-  square_closed_at : (rest : List Token) (used : ℕ) (p : List Frame × Term) → used ≤ most.operators → Folded most 0 whole (tokens.CloseSquare ∷ rest) p used → FedStands most whole tokens.CloseSquare rest (square_closed used p)
+  square_closed_at : (rest : List Token) (used : ℕ) (p : List Frame × Term) → used ≤ most.operators → Folded most 0 whole (tokens.CloseSquare ∷ rest) p used → ExpressionStands most whole tokens.CloseSquare rest (square_closed used p)
   square_closed_at rest used p short d =
-      subst (λ (q : List Frame × Term). FedStands most whole tokens.CloseSquare rest (square_closed used q)) (sym d.is) (by_branches d.bs d.fine d.shallow d.counted d.whole_is)
+      subst (λ (q : List Frame × Term). ExpressionStands most whole tokens.CloseSquare rest (square_closed used q)) (sym d.is) (by_branches d.bs d.fine d.shallow d.counted d.whole_is)
     where
-      by_branches : (bs : List Branch) → Fine most bs → opens bs + depth d.t ≤ most.nesting → count bs + operators d.t ≡ used → whole ≡ before bs (spelled d.t (tokens.CloseSquare ∷ rest)) → FedStands most whole tokens.CloseSquare rest (square_closed used (frames bs, meaning d.t))
+      by_branches : (bs : List Branch) → Fine most bs → opens bs + depth d.t ≤ most.nesting → count bs + operators d.t ≡ used → whole ≡ before bs (spelled d.t (tokens.CloseSquare ∷ rest)) → ExpressionStands most whole tokens.CloseSquare rest (square_closed used (frames bs, meaning d.t))
       by_branches [] fine shallow counted is = ended_is (tokens.CloseSquare ∷ rest) used (meaning d.t) d.t d.grouped (omega arith) (omega arith) short refl is
       by_branches (BSquare ∷ bs) fine shallow counted is =
           record { bs = bs; t = Square d.t; is = refl; means = refl; fine = fine.1; grouped = d.grouped; tight = omega arith; shallow = omega arith; counted = counted; short = short; whole_is = is }
@@ -245,11 +243,11 @@ module _ (most : Limits) (whole : List Token) (some : 0 < most.nesting) where
       by_branches (BPrefix ∷ bs) fine shallow counted is = tt
       by_branches (BLeft op a ∷ bs) fine shallow counted is = tt
 
-  comma_at : (rest : List Token) (used : ℕ) (p : List Frame × Term) → used ≤ most.operators → Folded most 0 whole (tokens.Comma ∷ rest) p used → FedStands most whole tokens.Comma rest (comma_read used p)
+  comma_at : (rest : List Token) (used : ℕ) (p : List Frame × Term) → used ≤ most.operators → Folded most 0 whole (tokens.Comma ∷ rest) p used → ExpressionStands most whole tokens.Comma rest (comma_read used p)
   comma_at rest used p short d =
-      subst (λ (q : List Frame × Term). FedStands most whole tokens.Comma rest (comma_read used q)) (sym d.is) (by_branches d.bs d.fine d.shallow d.counted d.whole_is)
+      subst (λ (q : List Frame × Term). ExpressionStands most whole tokens.Comma rest (comma_read used q)) (sym d.is) (by_branches d.bs d.fine d.shallow d.counted d.whole_is)
     where
-      by_branches : (bs : List Branch) → Fine most bs → opens bs + depth d.t ≤ most.nesting → count bs + operators d.t ≡ used → whole ≡ before bs (spelled d.t (tokens.Comma ∷ rest)) → FedStands most whole tokens.Comma rest (comma_read used (frames bs, meaning d.t))
+      by_branches : (bs : List Branch) → Fine most bs → opens bs + depth d.t ≤ most.nesting → count bs + operators d.t ≡ used → whole ≡ before bs (spelled d.t (tokens.Comma ∷ rest)) → ExpressionStands most whole tokens.Comma rest (comma_read used (frames bs, meaning d.t))
       by_branches [] fine shallow counted is = ended_is (tokens.Comma ∷ rest) used (meaning d.t) d.t d.grouped (omega arith) (omega arith) short refl is
       by_branches (BArguments n args ∷ bs) fine shallow counted is =
           let few = sum_operators-push args d.t in
@@ -267,11 +265,11 @@ module _ (most : Limits) (whole : List Token) (some : 0 < most.nesting) where
       by_branches (BLeft op a ∷ bs) fine shallow counted is = tt
 
   -- a counted operator
-  counted_at : (t : Token) (rest : List Token) (used : ℕ) (next : Fed) → (used < most.operators → FedStands most whole t rest next) → FedStands most whole t rest (counted most used next)
+  counted_at : (t : Token) (rest : List Token) (used : ℕ) (next : StepResult) → (used < most.operators → ExpressionStands most whole t rest next) → ExpressionStands most whole t rest (counted most used next)
   counted_at t rest used next h = choose (nat_lt used most.operators) refl
     where
-      choose : (x : Bool) → nat_lt used most.operators ≡ x → FedStands most whole t rest (if x then next else Refuses rules.TooDeep)
-      choose true e = h (lt_true _ _ e)
+      choose : (x : Bool) → nat_lt used most.operators ≡ x → ExpressionStands most whole t rest (if x then next else Refuses rules.TooDeep)
+      choose true e = h (ltb-true _ _ e)
       choose false e = tt
 
   -- a postfix operator was read
@@ -279,7 +277,7 @@ module _ (most : Limits) (whole : List Token) (some : 0 < most.nesting) where
   marked op rest fs used v short f =
       record { bs = f.bs; t = Post op f.t; is = f.is; means = ap (Mark op) f.means; fine = f.fine; grouped = (f.tight, f.grouped); tight = omega arith; shallow = f.shallow; counted = (let h = f.counted in omega arith); short = short; whole_is = f.whole_is }
 
-  after_stands : (t : Token) (rest : List Token) (fs : List Frame) (used : ℕ) (v : Term) → Full most whole (t ∷ rest) fs used v → FedStands most whole t rest (after most fs used v t)
+  after_stands : (t : Token) (rest : List Token) (fs : List Frame) (used : ℕ) (v : Term) → Full most whole (t ∷ rest) fs used v → ExpressionStands most whole t rest (after most fs used v t)
   after_stands (tokens.Sign s) rest fs used v f =
       counted_at (tokens.Sign s) rest used _ (λ h. infix_open (infix_of s) rest fs used v (omega arith) (subst (λ (x : Token). Full most whole (x ∷ rest) fs used v) (sym (infix_token-of s)) f))
   after_stands (tokens.Mark m) rest fs used v f =
@@ -291,9 +289,9 @@ module _ (most : Limits) (whole : List Token) (some : 0 < most.nesting) where
   after_stands tokens.Comma rest fs used v f = comma_at rest used (fold_to 0 fs v) f.short (folded_full 0 (tokens.Comma ∷ rest) fs used v (omega arith) f)
   after_stands t rest fs used v f = ended_at t rest used (fold_to 0 fs v) f.short (folded_full 0 (t ∷ rest) fs used v (omega arith) f)
 
-  after_name_stands : (n : List ℕ) (t : Token) (rest : List Token) (fs : List Frame) (used : ℕ) → Open most whole (tokens.Name n ∷ t ∷ rest) fs used → FedStands most whole t rest (after_name most fs used n t)
+  after_name_stands : (n : List ℕ) (t : Token) (rest : List Token) (fs : List Frame) (used : ℕ) → Open most whole (tokens.Name n ∷ t ∷ rest) fs used → ExpressionStands most whole t rest (after_name most fs used n t)
   after_name_stands n tokens.Open rest fs used o =
-      subst (λ (g : List Frame). FedStands most whole tokens.Open rest (opened most g used (InArguments n []))) o.is
+      subst (λ (g : List Frame). ExpressionStands most whole tokens.Open rest (opened most g used (InArguments n []))) o.is
       (opened_stands tokens.Open rest used o.bs (InArguments n []) (BArguments n []) refl o.fine (let c = o.counted in omega arith) o.short (λ h. (h, tt, o.fine)) o.whole_is)
   after_name_stands n t rest fs used o = after_stands t rest fs used (Atom n) (named_full n (t ∷ rest) fs used o)
 
@@ -308,15 +306,15 @@ module _ (most : Limits) (whole : List Token) (some : 0 < most.nesting) where
       let e = f.one_more in
       subst (λ (n : ℕ). Full most whole rest fs n (Mark postfix.Closure v)) e (marked postfix.Closure rest fs f.less v (let h = f.short in omega arith) f.full)
 
-  star_tilde_at : (rest : List Token) (fs : List Frame) (used : ℕ) (v : Term) → Starred most whole (tokens.Tilde ∷ rest) fs used v → (x : Bool) → is_outermost fs ≡ x → FedStands most whole tokens.Tilde rest (star_tilde most fs used v x)
+  star_tilde_at : (rest : List Token) (fs : List Frame) (used : ℕ) (v : Term) → Starred most whole (tokens.Tilde ∷ rest) fs used v → (x : Bool) → is_outermost fs ≡ x → ExpressionStands most whole tokens.Tilde rest (star_tilde most fs used v x)
   star_tilde_at rest fs used v f true e = (f, outermost fs e)
   star_tilde_at rest fs used v f false e = operand_stands tokens.Tilde rest (infix_at Product fs v) used (product_open (tokens.Tilde ∷ rest) fs used v f)
 
-  star_then_at : (t : Token) (rest : List Token) (fs : List Frame) (used : ℕ) (v : Term) → Starred most whole (t ∷ rest) fs used v → (x : Bool) → FedStands most whole t rest (star_then most fs used v t x)
+  star_then_at : (t : Token) (rest : List Token) (fs : List Frame) (used : ℕ) (v : Term) → Starred most whole (t ∷ rest) fs used v → (x : Bool) → ExpressionStands most whole t rest (star_then most fs used v t x)
   star_then_at t rest fs used v f true = operand_stands t rest (infix_at Product fs v) used (product_open (t ∷ rest) fs used v f)
   star_then_at t rest fs used v f false = after_stands t rest fs used (Mark postfix.Closure v) (closure_full (t ∷ rest) fs used v f)
 
-  after_star_stands : (t : Token) (rest : List Token) (fs : List Frame) (used : ℕ) (v : Term) → Starred most whole (t ∷ rest) fs used v → FedStands most whole t rest (after_star most fs used v t)
+  after_star_stands : (t : Token) (rest : List Token) (fs : List Frame) (used : ℕ) (v : Term) → Starred most whole (t ∷ rest) fs used v → ExpressionStands most whole t rest (after_star most fs used v t)
   after_star_stands tokens.Tilde rest fs used v f = star_tilde_at rest fs used v f (is_outermost fs) refl
   after_star_stands t rest fs used v f = star_then_at t rest fs used v f (begins_operand t)
 
@@ -332,7 +330,7 @@ module _ (most : Limits) (whole : List Token) (some : 0 < most.nesting) where
       let shallow : opens [] + depth d.t ≤ most.nesting = subst (λ (bs : List Branch). opens bs + depth d.t ≤ most.nesting) e d.shallow in
       ended_is rest used p.1 d.t d.grouped (omega arith) (omega arith) short (sym (ap (λ (q : List Frame × Term). q.1) d.is)) (subst (λ (bs : List Branch). whole ≡ before bs (spelled d.t rest)) e d.whole_is)
 
-  after_star_tilde_stands : (t : Token) (rest : List Token) (fs : List Frame) (used : ℕ) (v : Term) → Starred most whole (tokens.Tilde ∷ t ∷ rest) fs used v → IsOutermost fs → FedStands most whole t rest (after_star_tilde most fs used v t)
+  after_star_tilde_stands : (t : Token) (rest : List Token) (fs : List Frame) (used : ℕ) (v : Term) → Starred most whole (tokens.Tilde ∷ t ∷ rest) fs used v → IsOutermost fs → ExpressionStands most whole t rest (after_star_tilde most fs used v t)
   after_star_tilde_stands (tokens.Check w) rest fs used v f out =
       let c = closure_full (tokens.Tilde ∷ tokens.Check w ∷ rest) fs used v f in
       ended_tilde (tokens.Tilde ∷ tokens.Check w ∷ rest) used (fold_to 0 fs (Mark postfix.Closure v)) f.short (all_folded fs (Mark postfix.Closure v) out) (folded_full 0 (tokens.Tilde ∷ tokens.Check w ∷ rest) fs used (Mark postfix.Closure v) (omega arith) c)
@@ -349,10 +347,10 @@ module _ (most : Limits) (whole : List Token) (some : 0 < most.nesting) where
       right_need (BPrefix ∷ bs) e = absurd cc
       right_need (BLeft op a ∷ bs) e = right_level-le op
 
-  pub feed_stands : (t : Token) (rest : List Token) (fs : List Frame) (used : ℕ) (hole : Hole) → Stands most whole (t ∷ rest) fs used hole → FedStands most whole t rest (feed most fs used hole t)
-  feed_stands t rest fs used Wants h = operand_stands t rest fs used h
-  feed_stands t rest fs used HasBrace h = after_brace_stands t rest fs used h
-  feed_stands t rest fs used (HasName n) h = after_name_stands n t rest fs used h
-  feed_stands t rest fs used (Has v) h = after_stands t rest fs used v h
-  feed_stands t rest fs used (HasStar v) h = after_star_stands t rest fs used v h
-  feed_stands t rest fs used (HasStarTilde v) h = after_star_tilde_stands t rest fs used v h.0 h.1
+  pub step_stands : (t : Token) (rest : List Token) (fs : List Frame) (used : ℕ) (expected : Expectation) → Stands most whole (t ∷ rest) fs used expected → ExpressionStands most whole t rest (expression_step most fs used expected t)
+  step_stands t rest fs used Wants h = operand_stands t rest fs used h
+  step_stands t rest fs used HasBrace h = after_brace_stands t rest fs used h
+  step_stands t rest fs used (HasName n) h = after_name_stands n t rest fs used h
+  step_stands t rest fs used (Has v) h = after_stands t rest fs used v h
+  step_stands t rest fs used (HasStar v) h = after_star_stands t rest fs used v h
+  step_stands t rest fs used (HasStarTilde v) h = after_star_tilde_stands t rest fs used v h.0 h.1

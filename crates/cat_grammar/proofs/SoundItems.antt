@@ -2,6 +2,7 @@
 use Rattle.std.proofs.Common.{◌≡◌, ℕ, ◌+◌, ◌<◌, ◌≤◌, Bool, true, false, List, [], ◌∷◌, ◌++◌, Option, Some, None, Result, Ok, Err, length, refl, sym, ap, ◌∙◌, subst, arith}
 use Rattle.std.specs.Prelude.{nat_lt, ◌==◌, if◌then◌else◌}
 use Rattle.std.proofs.lemmas.Bool.Decides.{nat_tests}
+use Rattle.std.proofs.lemmas.Bool.{ltb-true}
 use Rattle.cat_tokens.specs.declared.rule.CatRule.{CatRule}
 use Rattle.cat_tokens.specs.declared.rule.CatRule.TheVariants as rules
 use Rattle.cat_values.specs.declared.model.CheckWord.{CheckWord}
@@ -13,16 +14,13 @@ use Rattle.cat_tokens.specs.declared.token.Token.TheVariants as tokens
 use Rattle.cat_values.specs.Value.{Term, Clause, Binding, Function, Checking, Flagging, Showing, Including}
 use Rattle.cat_grammar.specs.Grammar as grammar
 use Rattle.cat_grammar.specs.Grammar.{Tree, spelled, meaning, Limits, IsExpression, Bound, CheckTree, Shown, ItemTree, spelled_rec, spelled_tilde, show_token, spelled_bound, spelled_one, spelled_group, spelled_parameters, spelled_shown, spelled_check, spelled_item, group_meaning, shown_meaning, item_meaning, items_meaning, AreBound, AreShown, has_no_effect, IsItem, AreItems, Title, NoTitle, NameTitle, StringTitle, spelled_title, spelled_items, IsText, Means}
-use Rattle.cat_grammar.specs.Machine.{Frame, Hole, Fed, Goes, Ends, EndsTilde, Refuses, feed}
+use Rattle.cat_grammar.specs.Machine.{Frame, Expectation, StepResult, Goes, Ends, EndsTilde, Refuses, expression_step}
 use Rattle.cat_tokens.specs.Tokens.{rule_of}
 use Rattle.cat_grammar.specs.ItemMachine as items
-use Rattle.cat_grammar.specs.ItemMachine.{LetPart, Keyword, Named, And, Parameter, AfterParameter, Parameters, Head, BoundHead, FunctionHead, CheckedHead, ShownHead, Part, InLet, AfterFlag, AfterTilde, Body, Label, ShowLabel, AfterShowLabel, AfterInclude, Done, Fault, Here, Before, State, begin_body, begin_check, begin_item, excess, unless, end_of, item_or_end, after_title, after_tilde, after_flag, fresh, extended, after_keyword, bound_name, parameter_read, after_parameter, after_let_name, after_bound, after_parameters, after_let, checked, shown_also, group_clause, shown_clause, finished, at, added, item_ended, unless_before, item_ended_by_tilde, and_read, label_begun, shown_on, after_body, labelled, after_as, after_show_as, after_show_label, after_include, goes_on, step_part, step, start}
-use Rattle.cat_grammar.proofs.Runs.{◌>>=◌, taken}
+use Rattle.cat_grammar.specs.ItemMachine.{LetPart, Keyword, Named, And, Parameter, AfterParameter, Parameters, Head, BoundHead, FunctionHead, CheckedHead, ShownHead, Part, InLet, AfterFlag, AfterTilde, Body, Label, ShowLabel, AfterShowLabel, AfterInclude, Done, Fault, Here, Before, State, begin_body, begin_check, begin_item, excess, unless, end_of, item_or_end, after_title, after_tilde, after_flag, fresh, extended, after_keyword, bound_name, parameter_read, after_parameter, after_let_name, after_bound, after_parameters, after_let, checked, shown_also, group_clause, shown_clause, finished, at, added, item_ended, unless_before, item_ended_by_tilde, and_read, label_start, shown_on, after_body, labelled, after_as, after_show_as, after_show_label, after_include, goes_on, step_part, step, start}
+use Rattle.cat_grammar.proofs.Runs.{◌>>=◌, run_over}
 use Rattle.cat_grammar.proofs.Groups.{before_group, before_parameters, before_shown, spelled_group-push, before_group-push, group_meaning-push, length-group_meaning, AreBound-push, spelled_parameters-push, spelled_parameters-comma, spelled_shown-push, spelled_shown-comma, shown_meaning-push, AreShown-push, length-push, spelled_items-push, items_meaning-push, length-items_meaning, AreItems-push}
-use Rattle.cat_grammar.proofs.Sound.{Stands, Ended, FedStands, feed_stands}
-
-lt_true : (l n : ℕ) → nat_lt l n ≡ true → l < n
-lt_true l n h = grind (arith, nat_tests)
+use Rattle.cat_grammar.proofs.Sound.{Stands, Ended, ExpressionStands, step_stands}
 
 abbrev pub spelled_flag : Bool → List Token → List Token
 spelled_flag true rest = tokens.Flag ∷ rest
@@ -75,13 +73,13 @@ pub record InGroup (most : Limits) (whole rest : List Token) (title : Title) (is
   pub whole_is : whole ≡ text title is (tokens.Let ∷ spelled_rec g.recursive (before_group bs rest))
 
 -- an item whose expression is read
-pub record InBody (most : Limits) (whole rest : List Token) (title : Title) (is : List ItemTree) (h : Head) (fs : List Frame) (used : ℕ) (hole : Hole) : Type 0 where
+pub record InBody (most : Limits) (whole rest : List Token) (title : Title) (is : List ItemTree) (h : Head) (fs : List Frame) (used : ℕ) (expected : Expectation) : Type 0 where
   pub tree : HeadTree
   pub head_is : head_of tree ≡ h
   pub fine : HeadFine most tree
   pub own : List Token
   pub whole_is : whole ≡ text title is (spelled_head tree own)
-  pub stands : Stands most own rest fs used hole
+  pub stands : Stands most own rest fs used expected
 
 -- a check whose label is read
 pub record InLabel (most : Limits) (whole rest : List Token) (title : Title) (is : List ItemTree) (h : CheckHead) (v : Term) : Type 0 where
@@ -124,7 +122,7 @@ PartStands most form whole rest title is n items.Start = Fits form most n × (wh
 PartStands most form whole rest title is n (InLet p) = Fits form most (n + 1) × LetStands most whole rest title is p
 PartStands most form whole rest title is n AfterFlag = Fits form most (n + 1) × (whole ≡ text title is (tokens.Flag ∷ rest))
 PartStands most form whole rest title is n (AfterTilde flagged) = Fits form most (n + 1) × (whole ≡ text title is (spelled_flag flagged (tokens.Tilde ∷ rest)))
-PartStands most form whole rest title is n (Body h fs used hole) = Fits form most (n + 1) × InBody most whole rest title is h fs used hole
+PartStands most form whole rest title is n (Body h fs used expected) = Fits form most (n + 1) × InBody most whole rest title is h fs used expected
 PartStands most form whole rest title is n (Label h v) = Fits form most (n + 1) × InLabel most whole rest title is h v
 PartStands most form whole rest title is n (ShowLabel s v) = Fits form most (n + 1) × InShowLabel most whole rest title is s v
 PartStands most form whole rest title is n (AfterShowLabel s) = Fits form most (n + 1) × InShow most whole rest title is s
@@ -174,20 +172,20 @@ module _ (most : Limits) (form : Form) (whole : List Token) (some : 0 < most.nes
   stands : (cs : List Clause) (rest w : List Token) (p : Part) → (r : Read cs w) → PartStands most form whole rest r.title r.is (length cs) p → StateStands most form whole rest (record { items = cs; part = p })
   stands cs rest w p r h = record { title = r.title; is = r.is; title_is = r.title_is; each = r.each; meant = r.meant; part = h }
 
-  body_begun : (cs : List Clause) (tree : HeadTree) (rest : List Token) → Fits form most (length cs + 1) → HeadFine most tree → Read cs (spelled_head tree rest) → StateStands most form whole rest (record { items = cs; part = begin_body (head_of tree) })
-  body_begun cs tree rest fits fine r =
+  body_start : (cs : List Clause) (tree : HeadTree) (rest : List Token) → Fits form most (length cs + 1) → HeadFine most tree → Read cs (spelled_head tree rest) → StateStands most form whole rest (record { items = cs; part = begin_body (head_of tree) })
+  body_start cs tree rest fits fine r =
       stands cs rest (spelled_head tree rest) (begin_body (head_of tree)) r (fits, record { tree = tree; head_is = refl; fine = fine; own = rest; whole_is = r.whole_is; stands = record { bs = []; is = refl; fine = tt; counted = refl; short = omega arith; whole_is = refl } })
 
-  check_begun : (cs : List Clause) (flagged negated : Bool) (w : CheckWord) (rest : List Token) → Fits form most (length cs + 1) → Read cs (spelled_flag flagged (spelled_tilde negated (tokens.Check w ∷ rest))) → StateStands most form whole rest (record { items = cs; part = begin_check flagged negated w })
-  check_begun cs flagged negated w rest fits r = body_begun cs (CheckedTree (record { flagged = flagged; negated = negated; word = w })) rest fits tt r
+  check_start : (cs : List Clause) (flagged negated : Bool) (w : CheckWord) (rest : List Token) → Fits form most (length cs + 1) → Read cs (spelled_flag flagged (spelled_tilde negated (tokens.Check w ∷ rest))) → StateStands most form whole rest (record { items = cs; part = begin_check flagged negated w })
+  check_start cs flagged negated w rest fits r = body_start cs (CheckedTree (record { flagged = flagged; negated = negated; word = w })) rest fits tt r
 
   begin_item_stands : (cs : List Clause) (t : Token) (rest : List Token) → Read cs (t ∷ rest) → Fits form most (length cs + 1) → Result' rest (at cs (begin_item t))
   begin_item_stands cs tokens.Let rest r fits = stands cs rest (tokens.Let ∷ rest) (InLet Keyword) r (fits, r.whole_is)
   begin_item_stands cs tokens.Flag rest r fits = stands cs rest (tokens.Flag ∷ rest) AfterFlag r (fits, r.whole_is)
   begin_item_stands cs tokens.Tilde rest r fits = stands cs rest (tokens.Tilde ∷ rest) (AfterTilde false) r (fits, r.whole_is)
-  begin_item_stands cs (tokens.Check w) rest r fits = check_begun cs false false w rest fits r
-  begin_item_stands cs tokens.Show rest r fits = body_begun cs (ShownTree false []) rest fits tt r
-  begin_item_stands cs tokens.Unshow rest r fits = body_begun cs (ShownTree true []) rest fits tt r
+  begin_item_stands cs (tokens.Check w) rest r fits = check_start cs false false w rest fits r
+  begin_item_stands cs tokens.Show rest r fits = body_start cs (ShownTree false []) rest fits tt r
+  begin_item_stands cs tokens.Unshow rest r fits = body_start cs (ShownTree true []) rest fits tt r
   begin_item_stands cs tokens.Include rest r fits = stands cs rest (tokens.Include ∷ rest) AfterInclude r (fits, r.whole_is)
   begin_item_stands cs _ rest r fits = tt
 
@@ -199,12 +197,12 @@ module _ (most : Limits) (form : Form) (whole : List Token) (some : 0 < most.nes
       by_form forms.Model holds fails = choose (nat_lt n most.items) refl
         where
           choose : (b : Bool) → nat_lt n most.items ≡ b → A
-          choose true e = let h = lt_true n most.items e in holds (omega arith) (ap (λ (x : Bool). if x then None else Some rules.TooMany) e)
+          choose true e = let h = ltb-true n most.items e in holds (omega arith) (ap (λ (x : Bool). if x then None else Some rules.TooMany) e)
           choose false e = fails rules.TooMany (ap (λ (x : Bool). if x then None else Some rules.TooMany) e)
       by_form forms.Item holds fails = choose (nat_lt n 1) refl
         where
           choose : (b : Bool) → nat_lt n 1 ≡ b → A
-          choose true e = let h = lt_true n 1 e in holds (omega arith) (ap (λ (x : Bool). if x then None else Some rules.Syntax) e)
+          choose true e = let h = ltb-true n 1 e in holds (omega arith) (ap (λ (x : Bool). if x then None else Some rules.Syntax) e)
           choose false e = fails rules.Syntax (ap (λ (x : Bool). if x then None else Some rules.Syntax) e)
 
   unless_stands : (cs : List Clause) (rest : List Token) (n : ℕ) (x : Result Part Fault) → (Fits form most (n + 1) → Result' rest (at cs x)) → Result' rest (at cs (unless (excess most form n) x))
@@ -254,12 +252,12 @@ module _ (most : Limits) (form : Form) (whole : List Token) (some : 0 < most.nes
       by_token t w = item_or_end_stands [] t rest (record { title = NoTitle; is = []; title_is = title_fits NoTitle; each = tt; meant = refl; whole_is = w }) none_fit
 
   after_tilde_stands : (cs : List Clause) (flagged : Bool) (t : Token) (rest : List Token) → Read cs (spelled_flag flagged (tokens.Tilde ∷ t ∷ rest)) → Fits form most (length cs + 1) → Result' rest (at cs (after_tilde flagged t))
-  after_tilde_stands cs flagged (tokens.Check w) rest r fits = check_begun cs flagged true w rest fits r
+  after_tilde_stands cs flagged (tokens.Check w) rest r fits = check_start cs flagged true w rest fits r
   after_tilde_stands cs flagged _ rest r fits = tt
 
   after_flag_stands : (cs : List Clause) (t : Token) (rest : List Token) → Read cs (tokens.Flag ∷ t ∷ rest) → Fits form most (length cs + 1) → Result' rest (at cs (after_flag t))
   after_flag_stands cs tokens.Tilde rest r fits = stands cs rest (tokens.Flag ∷ tokens.Tilde ∷ rest) (AfterTilde true) r (fits, r.whole_is)
-  after_flag_stands cs (tokens.Check w) rest r fits = check_begun cs true false w rest fits r
+  after_flag_stands cs (tokens.Check w) rest r fits = check_start cs true false w rest fits r
   after_flag_stands cs _ rest r fits = tt
 
   -- ---- let
@@ -275,7 +273,7 @@ module _ (most : Limits) (form : Form) (whole : List Token) (some : 0 < most.nes
     bound_name_stands g (tokens.Name n) rest h = choose (nat_lt (length g.bindings) most.names) refl
       where
         choose : (b : Bool) → nat_lt (length g.bindings) most.names ≡ b → Result' rest (at cs (if b then Ok (InLet (items.Bound g n)) else Err (Here rules.TooMany)))
-        choose true e = in_let rest (items.Bound g n) (lt_true _ _ e, h)
+        choose true e = in_let rest (items.Bound g n) (ltb-true _ _ e, h)
         choose false e = tt
     bound_name_stands g _ rest h = tt
 
@@ -284,7 +282,7 @@ module _ (most : Limits) (form : Form) (whole : List Token) (some : 0 < most.nes
       where
         choose : (b : Bool) → nat_lt (length ps) most.parameters ≡ b → Result' rest (at cs (if b then Ok (InLet (AfterParameter n (ps ++ p ∷ []))) else Err (Here rules.TooMany)))
         choose true e =
-            let lt = lt_true _ _ e in
+            let lt = ltb-true _ _ e in
             let l = length-push ps p in
             in_let rest (AfterParameter n (ps ++ p ∷ [])) (omega arith, omega arith, h ∙ ap (λ (ts : List Token). text title is (tokens.Let ∷ tokens.Name n ∷ tokens.Open ∷ ts)) (sym (spelled_parameters-push ps p rest)))
         choose false e = tt
@@ -297,7 +295,7 @@ module _ (most : Limits) (form : Form) (whole : List Token) (some : 0 < most.nes
     after_parameter_stands n ps _ rest one few h = tt
 
     after_parameters_stands : (n : List ℕ) (ps : List (List ℕ)) (t : Token) (rest : List Token) → 0 < length ps → length ps ≤ most.parameters → whole ≡ text title is (tokens.Let ∷ tokens.Name n ∷ tokens.Open ∷ spelled_parameters ps (tokens.Close ∷ t ∷ rest)) → Result' rest (at cs (after_parameters n ps t))
-    after_parameters_stands n ps tokens.Equals rest one few h = body_begun cs (FunctionTree n ps) rest fits (one, few) (read (spelled_head (FunctionTree n ps) rest) h)
+    after_parameters_stands n ps tokens.Equals rest one few h = body_start cs (FunctionTree n ps) rest fits (one, few) (read (spelled_head (FunctionTree n ps) rest) h)
     after_parameters_stands n ps _ rest one few h = tt
 
     after_keyword_stands : (t : Token) (rest : List Token) → whole ≡ text title is (tokens.Let ∷ t ∷ rest) → Result' rest (at cs (after_keyword t))
@@ -306,7 +304,7 @@ module _ (most : Limits) (form : Form) (whole : List Token) (some : 0 < most.nes
     after_keyword_stands _ rest h = tt
 
     after_let_name_stands : 0 < most.names → (n : List ℕ) (t : Token) (rest : List Token) → whole ≡ text title is (tokens.Let ∷ tokens.Name n ∷ t ∷ rest) → Result' rest (at cs (after_let_name n t))
-    after_let_name_stands one n tokens.Equals rest h = body_begun cs (BoundTree false [] n) rest fits (one, tt) (read (spelled_head (BoundTree false [] n) rest) h)
+    after_let_name_stands one n tokens.Equals rest h = body_start cs (BoundTree false [] n) rest fits (one, tt) (read (spelled_head (BoundTree false [] n) rest) h)
     after_let_name_stands one n tokens.Open rest h = in_let rest (Parameter n []) (omega arith, h)
     after_let_name_stands one n _ rest h = tt
 
@@ -314,7 +312,7 @@ module _ (most : Limits) (form : Form) (whole : List Token) (some : 0 < most.nes
     bound_head : (g : items.Group) (n : List ℕ) (rest : List Token) → length g.bindings < most.names → InGroup most whole (tokens.Name n ∷ tokens.Equals ∷ rest) title is g → StateStands most form whole rest (record { items = cs; part = begin_body (BoundHead g n) })
     bound_head g n rest lt h =
         let few : length h.bs < most.names = (let l = length-group_meaning h.bs in let e = ap length h.bindings_are in omega arith) in
-        let s = body_begun cs (BoundTree g.recursive h.bs n) rest fits (few, h.each) (read (spelled_head (BoundTree g.recursive h.bs n) rest) h.whole_is) in
+        let s = body_start cs (BoundTree g.recursive h.bs n) rest fits (few, h.each) (read (spelled_head (BoundTree g.recursive h.bs n) rest) h.whole_is) in
         subst (λ (bindings : List (List ℕ × Term)). StateStands most form whole rest (record { items = cs; part = begin_body (BoundHead (record { recursive = g.recursive; bindings = bindings }) n) })) h.bindings_are s
 
     after_bound_stands : (g : items.Group) (n : List ℕ) (t : Token) (rest : List Token) → length g.bindings < most.names → InGroup most whole (tokens.Name n ∷ t ∷ rest) title is g → Result' rest (at cs (after_bound g n t))
@@ -380,7 +378,7 @@ module _ (most : Limits) (form : Form) (whole : List Token) (some : 0 < most.nes
     in_part : (rest : List Token) (p : Part) → PartStands most form whole rest title is (length cs) p → StateStands most form whole rest (record { items = cs; part = p })
     in_part rest p h = record { title = title; is = is; title_is = title_is; each = each; meant = meant; part = h }
 
-    label_stands : (tree : HeadTree) (v : Term) (rest own : List Token) → HeadFine most tree → whole ≡ text title is (spelled_head tree own) → Ended most own (tokens.As ∷ rest) v → Result' rest (at cs (label_begun (head_of tree) v))
+    label_stands : (tree : HeadTree) (v : Term) (rest own : List Token) → HeadFine most tree → whole ≡ text title is (spelled_head tree own) → Ended most own (tokens.As ∷ rest) v → Result' rest (at cs (label_start (head_of tree) v))
     label_stands (BoundTree recursive bs n) v rest own fine e x = tt
     label_stands (FunctionTree n ps) v rest own fine e x = tt
     label_stands (CheckedTree h) v rest own fine e x = in_part rest (Label h v) (fits, record { own = own; whole_is = e; ended = x })
@@ -388,9 +386,9 @@ module _ (most : Limits) (form : Form) (whole : List Token) (some : 0 < most.nes
         in_part rest (ShowLabel (record { hidden = hidden; terms = shown_meaning ss }) v) (fits, record { ss = ss; terms_are = refl; each = fine; own = own; whole_is = e; ended = x })
 
     -- the next expression of a show
-    show_begun : (hidden : Bool) (ss : List Shown) (terms : List (Term × Option (List ℕ))) (rest : List Token) → shown_meaning ss ≡ terms → AreShown most ss → whole ≡ text title is (show_token hidden ∷ before_shown ss rest) → StateStands most form whole rest (record { items = cs; part = begin_body (ShownHead (record { hidden = hidden; terms = terms })) })
-    show_begun hidden ss terms rest e fine w =
-        subst (λ (x : List (Term × Option (List ℕ))). StateStands most form whole rest (record { items = cs; part = begin_body (ShownHead (record { hidden = hidden; terms = x })) })) e (body_begun cs (ShownTree hidden ss) rest fits fine (read (spelled_head (ShownTree hidden ss) rest) w))
+    show_start : (hidden : Bool) (ss : List Shown) (terms : List (Term × Option (List ℕ))) (rest : List Token) → shown_meaning ss ≡ terms → AreShown most ss → whole ≡ text title is (show_token hidden ∷ before_shown ss rest) → StateStands most form whole rest (record { items = cs; part = begin_body (ShownHead (record { hidden = hidden; terms = terms })) })
+    show_start hidden ss terms rest e fine w =
+        subst (λ (x : List (Term × Option (List ℕ))). StateStands most form whole rest (record { items = cs; part = begin_body (ShownHead (record { hidden = hidden; terms = x })) })) e (body_start cs (ShownTree hidden ss) rest fits fine (read (spelled_head (ShownTree hidden ss) rest) w))
 
     shown_on_stands : (tree : HeadTree) (v : Term) (rest own : List Token) → HeadFine most tree → whole ≡ text title is (spelled_head tree own) → Ended most own (tokens.Comma ∷ rest) v → Result' rest (at cs (shown_on (head_of tree) v))
     shown_on_stands (BoundTree recursive bs n) v rest own fine e x = tt
@@ -399,7 +397,7 @@ module _ (most : Limits) (form : Form) (whole : List Token) (some : 0 < most.nes
     shown_on_stands (ShownTree hidden ss) v rest own fine e x =
         let s : Shown = record { body = x.t; label = None } in
         let l = length-push ss s in
-        show_begun hidden (ss ++ s ∷ []) (shown_meaning ss ++ (v, None) ∷ []) rest (shown_meaning-push ss s ∙ ap (λ (w : Term). shown_meaning ss ++ (w, None) ∷ []) x.means) (AreShown-push most ss s fine x.is)
+        show_start hidden (ss ++ s ∷ []) (shown_meaning ss ++ (v, None) ∷ []) rest (shown_meaning-push ss s ∙ ap (λ (w : Term). shown_meaning ss ++ (w, None) ∷ []) x.means) (AreShown-push most ss s fine x.is)
         (e ∙ ap (λ (w : List Token). text title is (spelled_head (ShownTree hidden ss) w)) x.whole_is ∙ ap (λ (w : List Token). text title is (show_token hidden ∷ w)) (sym (spelled_shown-push ss s (tokens.Comma ∷ rest)) ∙ spelled_shown-comma (ss ++ s ∷ []) rest (omega arith)))
 
     after_body_stands : (tree : HeadTree) (v : Term) (t : Token) (rest own : List Token) → HeadFine most tree → whole ≡ text title is (spelled_head tree own) → Ended most own (t ∷ rest) v → Result' rest (after_body most form cs (head_of tree) v t)
@@ -419,23 +417,23 @@ module _ (most : Limits) (form : Form) (whole : List Token) (some : 0 < most.nes
     unless_before_stands : (c : Clause) (rest : List Token) (w : CheckWord) → Read (cs ++ c ∷ []) (tokens.Tilde ∷ tokens.Check w ∷ rest) → Result' rest (at (cs ++ c ∷ []) (unless_before (excess most form (length cs + 1)) (begin_check false true w)))
     unless_before_stands c rest w r =
         room (length cs + 1) (Result' rest (before_made c w (excess most form (length cs + 1))))
-        (λ more e. subst (λ (o : Option CatRule). Result' rest (before_made c w o)) (sym e) (check_begun (cs ++ c ∷ []) false true w rest (subst (λ (n : ℕ). Fits form most (n + 1)) (sym (length-push cs c)) more) r))
+        (λ more e. subst (λ (o : Option CatRule). Result' rest (before_made c w o)) (sym e) (check_start (cs ++ c ∷ []) false true w rest (subst (λ (n : ℕ). Fits form most (n + 1)) (sym (length-push cs c)) more) r))
         (λ k e. subst (λ (o : Option CatRule). Result' rest (before_made c w o)) (sym e) (before_refused c w rest k))
 
     tilde_stands : (tree : HeadTree) (v : Term) (w : CheckWord) (rest own : List Token) → HeadFine most tree → whole ≡ text title is (spelled_head tree own) → Ended most own (tokens.Tilde ∷ tokens.Check w ∷ rest) v → Result' rest (item_ended_by_tilde most form cs (head_of tree) v w)
     tilde_stands tree v w rest own fine e x =
         added_stands tree v rules.Syntax (tokens.Tilde ∷ tokens.Check w ∷ rest) rest own (λ n. unless_before (excess most form n) (begin_check false true w)) fine e x (λ c r. unless_before_stands c rest w r)
 
-    goes_on_stands : (tree : HeadTree) (t : Token) (x : Fed) (rest own : List Token) → HeadFine most tree → whole ≡ text title is (spelled_head tree own) → FedStands most own t rest x → Result' rest (goes_on most form cs (head_of tree) t x)
-    goes_on_stands tree t (Goes fs used hole) rest own fine e s = in_part rest (Body (head_of tree) fs used hole) (fits, record { tree = tree; head_is = refl; fine = fine; own = own; whole_is = e; stands = s })
+    goes_on_stands : (tree : HeadTree) (t : Token) (x : StepResult) (rest own : List Token) → HeadFine most tree → whole ≡ text title is (spelled_head tree own) → ExpressionStands most own t rest x → Result' rest (goes_on most form cs (head_of tree) t x)
+    goes_on_stands tree t (Goes fs used expected) rest own fine e s = in_part rest (Body (head_of tree) fs used expected) (fits, record { tree = tree; head_is = refl; fine = fine; own = own; whole_is = e; stands = s })
     goes_on_stands tree t (Ends v) rest own fine e s = after_body_stands tree v t rest own fine e s
     goes_on_stands tree (tokens.Check w) (EndsTilde v) rest own fine e s = tilde_stands tree v w rest own fine e s
     goes_on_stands tree _ (EndsTilde v) rest own fine e s = tt
     goes_on_stands tree t (Refuses k) rest own fine e s = tt
 
-    body_stands : (h : Head) (fs : List Frame) (used : ℕ) (hole : Hole) (t : Token) (rest : List Token) → InBody most whole (t ∷ rest) title is h fs used hole → Result' rest (goes_on most form cs h t (feed most fs used hole t))
-    body_stands h fs used hole t rest b =
-        subst (λ (k : Head). Result' rest (goes_on most form cs k t (feed most fs used hole t))) b.head_is (goes_on_stands b.tree t (feed most fs used hole t) rest b.own b.fine b.whole_is (feed_stands most b.own some t rest fs used hole b.stands))
+    body_stands : (h : Head) (fs : List Frame) (used : ℕ) (expected : Expectation) (t : Token) (rest : List Token) → InBody most whole (t ∷ rest) title is h fs used expected → Result' rest (goes_on most form cs h t (expression_step most fs used expected t))
+    body_stands h fs used expected t rest b =
+        subst (λ (k : Head). Result' rest (goes_on most form cs k t (expression_step most fs used expected t))) b.head_is (goes_on_stands b.tree t (expression_step most fs used expected t) rest b.own b.fine b.whole_is (step_stands most b.own some t rest fs used expected b.stands))
 
     ended_item : (i : ItemTree) (c : Clause) (rest : List Token) → IsItem most i → item_meaning i ≡ c → whole ≡ text title is (spelled_item i rest) → StateStands most form whole rest (record { items = cs ++ c ∷ []; part = items.Start })
     ended_item i c rest h e w =
@@ -473,7 +471,7 @@ module _ (most : Limits) (form : Form) (whole : List Token) (some : 0 < most.nes
 
     after_show_label_stands : (s : items.Shown) (t : Token) (rest : List Token) → InShow most whole (t ∷ rest) title is s → Result' rest (after_show_label most form cs s t)
     after_show_label_stands s tokens.Comma rest b =
-        show_begun s.hidden b.ss s.terms rest b.terms_are b.each (b.whole_is ∙ ap (λ (w : List Token). text title is (show_token s.hidden ∷ w)) (spelled_shown-comma b.ss rest b.some))
+        show_start s.hidden b.ss s.terms rest b.terms_are b.each (b.whole_is ∙ ap (λ (w : List Token). text title is (show_token s.hidden ∷ w)) (spelled_shown-comma b.ss rest b.some))
     after_show_label_stands s t rest b =
         item_or_end_at cs (shown_clause s) t rest (pushed cs title is (grammar.Show s.hidden b.ss) (shown_clause s) (t ∷ rest) title_is each meant (b.some, b.each) (ap (Showing s.hidden) b.terms_are) b.whole_is) fits
 
@@ -493,18 +491,18 @@ module _ (most : Limits) (form : Form) (whole : List Token) (some : 0 < most.nes
   step_part_stands one cs (InLet p) t rest title is title_is each meant h = after_let_stands cs title is title_is each meant h.0 one p t rest h.1
   step_part_stands one cs AfterFlag t rest title is title_is each meant h = after_flag_stands cs t rest (record { title = title; is = is; title_is = title_is; each = each; meant = meant; whole_is = h.1 }) h.0
   step_part_stands one cs (AfterTilde flagged) t rest title is title_is each meant h = after_tilde_stands cs flagged t rest (record { title = title; is = is; title_is = title_is; each = each; meant = meant; whole_is = h.1 }) h.0
-  step_part_stands one cs (Body k fs used hole) t rest title is title_is each meant h = body_stands cs title is title_is each meant h.0 k fs used hole t rest h.1
+  step_part_stands one cs (Body k fs used expected) t rest title is title_is each meant h = body_stands cs title is title_is each meant h.0 k fs used expected t rest h.1
   step_part_stands one cs (Label k v) t rest title is title_is each meant h = after_as_stands cs title is title_is each meant h.0 k v t rest h.1
   step_part_stands one cs (ShowLabel s v) t rest title is title_is each meant h = after_show_as_stands cs title is title_is each meant h.0 s v t rest h.1
   step_part_stands one cs (AfterShowLabel s) t rest title is title_is each meant h = after_show_label_stands cs title is title_is each meant h.0 s t rest h.1
   step_part_stands one cs AfterInclude t rest title is title_is each meant h = after_include_stands cs title is title_is each meant h.0 t rest h.1
   step_part_stands one cs Done t rest title is title_is each meant h = tt
 
-  pub run_stands : 0 < most.names → (s : State) (ts : List Token) → StateStands most form whole ts s → Result' [] (taken most form s ts)
+  pub run_stands : 0 < most.names → (s : State) (ts : List Token) → StateStands most form whole ts s → Result' [] (run_over most form s ts)
   run_stands one s [] h = h
   run_stands one s (t ∷ ts) h = then_run (step most form s t) (step_part_stands one s.items s.part t ts h.title h.is h.title_is h.each h.meant h.part) (λ s'. run_stands one s' ts)
     where
-      then_run : (r : Result State Fault) → Result' ts r → ((s' : State) → StateStands most form whole ts s' → Result' [] (taken most form s' ts)) → Result' [] (r >>= λ s'. taken most form s' ts)
+      then_run : (r : Result State Fault) → Result' ts r → ((s' : State) → StateStands most form whole ts s' → Result' [] (run_over most form s' ts)) → Result' [] (r >>= λ s'. run_over most form s' ts)
       then_run (Ok s') x k = k s' x
       then_run (Err e) x k = tt
 
@@ -516,7 +514,7 @@ module _ (most : Limits) (form : Form) (whole : List Token) (some : 0 < most.nes
       by_form forms.Item e = record { title = NoTitle; is = []; title_is = subst (λ (g : Form). TitleFits g NoTitle) (sym e) refl; each = tt; meant = refl; part = (subst (λ (g : Form). Fits g most 0) (sym e) (omega arith), refl) }
 
 -- what the machine takes to its end is a text that means the items
-pub sound : (most : Limits) (form : Form) (ts : List Token) (cs : List Clause) → 0 < most.nesting → 0 < most.names → taken most form (start form) ts ≡ Ok (record { items = cs; part = Done }) → Means most form ts cs
+pub sound : (most : Limits) (form : Form) (ts : List Token) (cs : List Clause) → 0 < most.nesting → 0 < most.names → run_over most form (start form) ts ≡ Ok (record { items = cs; part = Done }) → Means most form ts cs
 sound most form ts cs some one e =
     let h : StateStands most form ts [] (record { items = cs; part = Done }) = subst (λ (r : Result State Fault). ResultStands most form ts [] r) e (run_stands most form ts some one (start form) ts (start_stands most form ts some)) in
     record { title = h.title; items = h.is; form_is = h.part.0; each = h.each; whole = h.part.1; meant = h.meant }

@@ -125,7 +125,7 @@ tightness (Square a) = 8
 tightness (Application n arguments) = 8
 
 abbrev mutual
-  -- each operand is as tight as its place wants, or stands in brackets
+  -- each operand is as tight as its operator wants, or stands in brackets
   pub IsGrouped : Tree → Type 0
   IsGrouped (Word n) = Unit {0}
   IsGrouped Underscore = Unit {0}
@@ -395,9 +395,9 @@ abbrev pub last_two : Token → Token → List Token → Token × Token
 last_two a b [] = (a, b)
 last_two a b (t ∷ ts) = last_two b t ts
 
-abbrev pub last_place : ℕ → List Placed → ℕ
-last_place n [] = n
-last_place n (p ∷ ps) = last_place p.place ps
+abbrev pub last_offset : ℕ → List Placed → ℕ
+last_offset n [] = n
+last_offset n (p ∷ ps) = last_offset p.offset ps
 
 -- the rule of what stands nowhere
 abbrev pub broken_rule : Token → Option CatRule
@@ -432,28 +432,28 @@ plain_rule p (tokens.Quoted path) = if is_include p.1 then rules.Include else ru
 plain_rule p tokens.Open = if is_name p.1 && is_rec_or_and p.0 then rules.Unsupported else rules.Syntax
 plain_rule p _ = rules.Syntax
 
--- the place of the first token of an item that this token is seen to begin, or to go on with after `~`
-abbrev pub first_place : List Placed → Placed → ℕ
-first_place before here =
-    if is_check here.token && is_tilde ((last_two tokens.End tokens.End (tokens_of before)).1) then last_place 0 before else here.place
+-- the offset of the first token of an item that this token is seen to begin, or to go on with after `~`
+abbrev pub first_offset : List Placed → Placed → ℕ
+first_offset before here =
+    if is_check here.token && is_tilde ((last_two tokens.End tokens.End (tokens_of before)).1) then last_offset 0 before else here.offset
 
--- The rule that a token breaks, and the place that is at fault.
-pub data IsRefusal (most : Limits) (form : Form) (before : List Placed) (here : Placed) (rule : CatRule) (place : ℕ) : Type 0 where
+-- The rule that a token breaks, and the offset that is at fault.
+pub data IsRefusal (most : Limits) (form : Form) (before : List Placed) (here : Placed) (rule : CatRule) (offset : ℕ) : Type 0 where
   -- it stands nowhere
-  Nowhere : broken_rule here.token ≡ Some rule → place ≡ here.place → IsRefusal most form before here rule place
+  Nowhere : broken_rule here.token ≡ Some rule → offset ≡ here.offset → IsRefusal most form before here rule offset
   -- it can stand if there may be more items, names or parameters: the first token of what is too many is at fault
-  TooMany : (wider : Limits) → SameDepths most wider → Begins wider form (tokens_of before ++ here.token ∷ []) → rule ≡ rules.TooMany → place ≡ first_place before here → IsRefusal most form before here rule place
+  TooMany : (wider : Limits) → SameDepths most wider → Begins wider form (tokens_of before ++ here.token ∷ []) → rule ≡ rules.TooMany → offset ≡ first_offset before here → IsRefusal most form before here rule offset
   -- it can stand if more may be open or joined
-  TooDeep : (wider : Limits) → SameCounts most wider → Begins wider form (tokens_of before ++ here.token ∷ []) → rule ≡ rules.TooDeep → place ≡ here.place → IsRefusal most form before here rule place
+  TooDeep : (wider : Limits) → SameCounts most wider → Begins wider form (tokens_of before ++ here.token ∷ []) → rule ≡ rules.TooDeep → offset ≡ here.offset → IsRefusal most form before here rule offset
   -- it can stand under no limits
-  Plain : ((wider : Limits) → Begins wider form (tokens_of before ++ here.token ∷ []) → ⊥) → broken_rule here.token ≡ None → rule ≡ plain_rule (last_two tokens.End tokens.End (tokens_of before)) here.token → place ≡ here.place → IsRefusal most form before here rule place
+  Plain : ((wider : Limits) → Begins wider form (tokens_of before ++ here.token ∷ []) → ⊥) → broken_rule here.token ≡ None → rule ≡ plain_rule (last_two tokens.End tokens.End (tokens_of before)) here.token → offset ≡ here.offset → IsRefusal most form before here rule offset
 
--- The tokens before some token can stand, and with it they cannot: this rule is broken, at this place.
-pub record IsFault (most : Limits) (form : Form) (ps : List Placed) (rule : CatRule) (place : ℕ) : Type 0 where
+-- The tokens before some token can stand, and with it they cannot: this rule is broken, at this offset.
+pub record IsFault (most : Limits) (form : Form) (ps : List Placed) (rule : CatRule) (offset : ℕ) : Type 0 where
   pub before : List Placed
   pub here : Placed
   pub after : List Placed
   pub split : ps ≡ before ++ here ∷ after
   pub stand : CanStand most form (tokens_of before)
   pub ends : CanStand most form (tokens_of before ++ here.token ∷ []) → ⊥
-  pub refusal : IsRefusal most form before here rule place
+  pub refusal : IsRefusal most form before here rule offset

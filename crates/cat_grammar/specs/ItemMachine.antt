@@ -45,7 +45,7 @@ pub data Part : Type 0 where
   InLet : (part : LetPart) → Part
   AfterFlag : Part
   AfterTilde : (flagged : Bool) → Part
-  Body : (head : Head) (frames : List machine.Frame) (used : ℕ) (hole : machine.Hole) → Part
+  Body : (head : Head) (frames : List machine.Frame) (used : ℕ) (expected : machine.Expectation) → Part
   Label : (check : CheckHead) (body : Term) → Part
   ShowLabel : (shown : Shown) (body : Term) → Part
   AfterShowLabel : (shown : Shown) → Part
@@ -214,10 +214,10 @@ abbrev pub and_read : Head → Term → Result Part Fault
 and_read (BoundHead g n) v = Ok (InLet (And (extended g n v)))
 and_read h v = Err (Here rules.Syntax)
 
-abbrev pub label_begun : Head → Term → Result Part Fault
-label_begun (CheckedHead h) v = Ok (Label h v)
-label_begun (ShownHead s) v = Ok (ShowLabel s v)
-label_begun h v = Err (Here rules.Syntax)
+abbrev pub label_start : Head → Term → Result Part Fault
+label_start (CheckedHead h) v = Ok (Label h v)
+label_start (ShownHead s) v = Ok (ShowLabel s v)
+label_start h v = Err (Here rules.Syntax)
 
 abbrev pub shown_on : Head → Term → Result Part Fault
 shown_on (ShownHead s) v = Ok (begin_body (ShownHead (shown_also s v None)))
@@ -225,7 +225,7 @@ shown_on h v = Err (Here rules.Syntax)
 
 abbrev pub after_body : Limits → Form → List Clause → Head → Term → Token → Result State Fault
 after_body most form is h v tokens.And = at is (and_read h v)
-after_body most form is h v tokens.As = at is (label_begun h v)
+after_body most form is h v tokens.As = at is (label_start h v)
 after_body most form is h v tokens.Comma = at is (shown_on h v)
 after_body most form is h v t = item_ended most form is h v t
 
@@ -252,8 +252,8 @@ after_include is t = refuses t
 -- ---- the whole step
 
 -- what a token did to the expression of an item
-abbrev pub goes_on : Limits → Form → List Clause → Head → Token → machine.Fed → Result State Fault
-goes_on most form is h t (machine.Goes fs used hole) = at is (Ok (Body h fs used hole))
+abbrev pub goes_on : Limits → Form → List Clause → Head → Token → machine.StepResult → Result State Fault
+goes_on most form is h t (machine.Goes fs used expected) = at is (Ok (Body h fs used expected))
 goes_on most form is h t (machine.Ends v) = after_body most form is h v t
 goes_on most form is h (tokens.Check w) (machine.EndsTilde v) = item_ended_by_tilde most form is h v w
 goes_on most form is h t (machine.EndsTilde v) = refuses t
@@ -265,7 +265,7 @@ step_part most form is Start t = at is (item_or_end most form (length is) t)
 step_part most form is (InLet p) t = at is (after_let most p t)
 step_part most form is AfterFlag t = at is (after_flag t)
 step_part most form is (AfterTilde flagged) t = at is (after_tilde flagged t)
-step_part most form is (Body h fs used hole) t = goes_on most form is h t (machine.feed most fs used hole t)
+step_part most form is (Body h fs used expected) t = goes_on most form is h t (machine.expression_step most fs used expected t)
 step_part most form is (Label h v) t = after_as is h v t
 step_part most form is (ShowLabel s v) t = at is (after_show_as s v t)
 step_part most form is (AfterShowLabel s) t = after_show_label most form is s t

@@ -20,20 +20,20 @@ pub data Frame : Type 0 where
   InArguments : (name : List ℕ) (arguments : List Term) → Frame
 
 -- what was read last: nothing, a brace, a name, an operand, an operand and a star, or that and a tilde
-pub data Hole : Type 0 where
-  Wants : Hole
-  HasBrace : Hole
-  HasName : (name : List ℕ) → Hole
-  Has : (a : Term) → Hole
-  HasStar : (a : Term) → Hole
-  HasStarTilde : (a : Term) → Hole
+pub data Expectation : Type 0 where
+  Wants : Expectation
+  HasBrace : Expectation
+  HasName : (name : List ℕ) → Expectation
+  Has : (a : Term) → Expectation
+  HasStar : (a : Term) → Expectation
+  HasStarTilde : (a : Term) → Expectation
 
 -- what a token does to an expression
-pub data Fed : Type 0 where
-  Goes : (frames : List Frame) (used : ℕ) (hole : Hole) → Fed
-  Ends : (a : Term) → Fed
-  EndsTilde : (a : Term) → Fed
-  Refuses : (kind : CatRule) → Fed
+pub data StepResult : Type 0 where
+  Goes : (frames : List Frame) (used : ℕ) (expected : Expectation) → StepResult
+  Ends : (a : Term) → StepResult
+  EndsTilde : (a : Term) → StepResult
+  Refuses : (kind : CatRule) → StepResult
 
 abbrev pub open_count : List Frame → ℕ
 open_count [] = 0
@@ -61,11 +61,11 @@ is_outermost (InPrefix ∷ fs) = is_outermost fs
 is_outermost (LeftOf op a ∷ fs) = is_outermost fs
 is_outermost (InArguments n args ∷ fs) = false
 
-abbrev pub opened : Limits → List Frame → ℕ → Frame → Fed
+abbrev pub opened : Limits → List Frame → ℕ → Frame → StepResult
 opened most fs used f = if nat_lt (open_count fs) most.nesting then Goes (f ∷ fs) used Wants else Refuses TooDeep
 
 -- a token where an operand is wanted
-abbrev pub operand : Limits → List Frame → ℕ → Token → Fed
+abbrev pub operand : Limits → List Frame → ℕ → Token → StepResult
 operand most fs used (tokens.Name n) = Goes fs used (HasName n)
 operand most fs used tokens.Underscore = Goes fs used (Has AllEvents)
 operand most fs used tokens.Zero = Goes fs used (Has EmptyRelation)
@@ -76,7 +76,7 @@ operand most fs used tokens.OpenSquare = opened most fs used InSquare
 operand most fs used t = Refuses (rule_of t)
 
 -- a token after an opening brace
-abbrev pub after_brace : List Frame → ℕ → Token → Fed
+abbrev pub after_brace : List Frame → ℕ → Token → StepResult
 after_brace fs used tokens.CloseBrace = Goes fs used (Has EmptySet)
 after_brace fs used t = Refuses (rule_of t)
 
@@ -86,32 +86,32 @@ left_frames op p = LeftOf op p.1 ∷ p.0
 abbrev pub infix_at : Infix → List Frame → Term → List Frame
 infix_at op fs v = left_frames op (fold_to (left_level op) fs v)
 
-abbrev pub counted : Limits → ℕ → Fed → Fed
+abbrev pub counted : Limits → ℕ → StepResult → StepResult
 counted most used next = if nat_lt used most.operators then next else Refuses TooDeep
 
 -- an expression that ends before a token, or the fault that it does not
-abbrev pub ended : Token → List Frame × Term → Fed
+abbrev pub ended : Token → List Frame × Term → StepResult
 ended t ([], v) = Ends v
 ended t (f ∷ fs, v) = Refuses (rule_of t)
 
-abbrev pub closed : ℕ → List Frame × Term → Fed
+abbrev pub closed : ℕ → List Frame × Term → StepResult
 closed used ([], v) = Ends v
 closed used (InGroup ∷ fs, v) = Goes fs used (Has v)
 closed used (InArguments n args ∷ fs, v) = Goes fs used (Has (Apply n (gathered (args ++ v ∷ []))))
 closed used (f ∷ fs, v) = Refuses Syntax
 
-abbrev pub square_closed : ℕ → List Frame × Term → Fed
+abbrev pub square_closed : ℕ → List Frame × Term → StepResult
 square_closed used ([], v) = Ends v
 square_closed used (InSquare ∷ fs, v) = Goes fs used (Has (On v))
 square_closed used (f ∷ fs, v) = Refuses Syntax
 
-abbrev pub comma_read : ℕ → List Frame × Term → Fed
+abbrev pub comma_read : ℕ → List Frame × Term → StepResult
 comma_read used ([], v) = Ends v
 comma_read used (InArguments n args ∷ fs, v) = Goes (InArguments n (args ++ v ∷ []) ∷ fs) used Wants
 comma_read used (f ∷ fs, v) = Refuses Syntax
 
 -- a token after an operand
-abbrev pub after : Limits → List Frame → ℕ → Term → Token → Fed
+abbrev pub after : Limits → List Frame → ℕ → Term → Token → StepResult
 after most fs used v (tokens.Sign s) = counted most used (Goes (infix_at (infix_of s) fs v) (used + 1) Wants)
 after most fs used v (tokens.Mark m) = counted most used (Goes fs (used + 1) (Has (Mark (postfix_of m) v)))
 after most fs used v tokens.Star = counted most used (Goes fs (used + 1) (HasStar v))
@@ -121,34 +121,34 @@ after most fs used v tokens.Comma = comma_read used (fold_to 0 fs v)
 after most fs used v t = ended t (fold_to 0 fs v)
 
 -- a token after a name, which is a function where a parenthesis follows
-abbrev pub after_name : Limits → List Frame → ℕ → List ℕ → Token → Fed
+abbrev pub after_name : Limits → List Frame → ℕ → List ℕ → Token → StepResult
 after_name most fs used n tokens.Open = opened most fs used (InArguments n [])
 after_name most fs used n t = after most fs used (Atom n) t
 
 -- a tilde after a star: at the outermost level it may begin the next item
-abbrev pub star_tilde : Limits → List Frame → ℕ → Term → Bool → Fed
+abbrev pub star_tilde : Limits → List Frame → ℕ → Term → Bool → StepResult
 star_tilde most fs used v true = Goes fs used (HasStarTilde v)
 star_tilde most fs used v false = operand most (infix_at Product fs v) used tokens.Tilde
 
 -- another token after a star: the star is infix where an operand follows
-abbrev pub star_then : Limits → List Frame → ℕ → Term → Token → Bool → Fed
+abbrev pub star_then : Limits → List Frame → ℕ → Term → Token → Bool → StepResult
 star_then most fs used v t true = operand most (infix_at Product fs v) used t
 star_then most fs used v t false = after most fs used (Mark postfix.Closure v) t
 
 -- a token after an operand and a star
-abbrev pub after_star : Limits → List Frame → ℕ → Term → Token → Fed
+abbrev pub after_star : Limits → List Frame → ℕ → Term → Token → StepResult
 after_star most fs used v tokens.Tilde = star_tilde most fs used v (is_outermost fs)
 after_star most fs used v t = star_then most fs used v t (begins_operand t)
 
 -- a token after an operand, a star and a tilde, at the outermost level
-abbrev pub after_star_tilde : Limits → List Frame → ℕ → Term → Token → Fed
+abbrev pub after_star_tilde : Limits → List Frame → ℕ → Term → Token → StepResult
 after_star_tilde most fs used v (tokens.Check w) = EndsTilde ((fold_to 0 fs (Mark postfix.Closure v)).1)
 after_star_tilde most fs used v t = operand most (InPrefix ∷ infix_at Product fs v) used t
 
-abbrev pub feed : Limits → List Frame → ℕ → Hole → Token → Fed
-feed most fs used Wants t = operand most fs used t
-feed most fs used HasBrace t = after_brace fs used t
-feed most fs used (HasName n) t = after_name most fs used n t
-feed most fs used (Has v) t = after most fs used v t
-feed most fs used (HasStar v) t = after_star most fs used v t
-feed most fs used (HasStarTilde v) t = after_star_tilde most fs used v t
+abbrev pub expression_step : Limits → List Frame → ℕ → Expectation → Token → StepResult
+expression_step most fs used Wants t = operand most fs used t
+expression_step most fs used HasBrace t = after_brace fs used t
+expression_step most fs used (HasName n) t = after_name most fs used n t
+expression_step most fs used (Has v) t = after most fs used v t
+expression_step most fs used (HasStar v) t = after_star most fs used v t
+expression_step most fs used (HasStarTilde v) t = after_star_tilde most fs used v t

@@ -10,20 +10,20 @@ use Rattle.cat_grammar.specs.ItemMachine.{Fault, Here, Before, State, step}
 abbrev pub Ran : Type 0
 Ran = Result State (CatRule × ℕ)
 
--- a fault of a token at a place, after one at the place before
+-- the fault of a token at an offset, where the token before it began at `before`
 abbrev pub placed : ℕ → ℕ → Result State Fault → Ran
-placed before place (Ok s) = Ok s
-placed before place (Err (Here r)) = Err (r, place)
-placed before place (Err (Before r)) = Err (r, before)
+placed before offset (Ok s) = Ok s
+placed before offset (Err (Here r)) = Err (r, offset)
+placed before offset (Err (Before r)) = Err (r, before)
 
 abbrev pub and_then : Ran → (State → Ran) → Ran
 and_then (Ok s) f = f s
 and_then (Err e) f = Err e
 
--- the tokens one after another, with the place of the first fault
+-- the tokens one after another, with the offset of the first fault
 abbrev pub run : Limits → Form → ℕ → State → List Placed → Ran
 run most form before s [] = Ok s
-run most form before s (p ∷ ps) = and_then (placed before p.place (step most form s p.token)) (λ s'. run most form p.place s' ps)
+run most form before s (p ∷ ps) = and_then (placed before p.offset (step most form s p.token)) (λ s'. run most form p.offset s' ps)
 
 abbrev pub items_of : Ran → Result (List Clause) (CatRule × ℕ)
 items_of (Ok s) = Ok s.items

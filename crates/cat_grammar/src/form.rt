@@ -1,4 +1,4 @@
-//! What a text is read as, and how a check begins.
+//! The kinds of texts, and the head of a check.
 
 ghost use Rattle.std.specs.Prelude.{◌≡◌};
 ghost use Rattle.cat_values.specs.Values.{term_of, check_of};
@@ -6,8 +6,8 @@ ghost use Rattle.cat_grammar.specs.ItemMachine.{checked};
 
 use cat_values::{Check, CheckWord, Expression};
 
-/// What the text is read as (the herd7 manual, chapter on cat).
-#[derive(Clone, Copy, Debug, PartialEq, Eq)]
+/// The kind of a text (the herd7 manual, chapter on cat).
+#[derive(Clone, Copy, PartialEq, Eq)]
 pub enum Form {
     /// A model: an optional title, and items.
     Model,
@@ -15,19 +15,19 @@ pub enum Form {
     Item,
 }
 
-/// A check whose expression is read.
-#[derive(Clone, Copy, Debug, PartialEq, Eq)]
+/// The head of a check, in front of its expression.
+#[derive(Clone, Copy, PartialEq, Eq)]
 pub struct CheckHead {
-    /// Whether it is a flag's.
+    /// Whether `flag` stands before it.
     pub flagged: bool,
     /// Whether `~` stands before the word.
     pub negated: bool,
-    /// What is asked.
+    /// The property that is asked for.
     pub word: CheckWord,
 }
 
 impl CheckHead {
-    /// The check with its expression.
+    /// The check of this expression.
     pub fn with(self, body: Expression) -> Check
         ensures { check_of result ≡ checked self (term_of body) }
     {

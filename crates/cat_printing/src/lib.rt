@@ -1,4 +1,5 @@
-//! How models in the cat language are printed.
+//! The printed texts of models in the cat language. Read specs/Printing.antt first; `laws` has the law that a printed
+//! model is read as the model that was printed.
 #![tactic(auto)]
 
 pub mod laws;

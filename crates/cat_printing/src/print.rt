@@ -294,9 +294,9 @@ fn put_item(text: &mut Vec<u8>, item: &Item) -> Result<(), AllocError>
     }
 }
 
-/// The text of an item: one space round infix operators and `=`, after words and after commas; an infix operand of an
-/// infix operator in parentheses, and so an operand of `~` that is infix and one of a postfix operator that is no atom.
-/// Errors: want of memory.
+/// The printed item. One space stands around infix operators and `=`, after words and after commas. Parentheses stand
+/// around an infix operand of an infix operator or of `~`, and around each operand of a postfix operator but an atom.
+/// Errors: out of memory.
 pub fn print_item(alloc: Global, item: &Item) -> Result<Vec<u8>, AllocError>
     ensures { IfOk result (λ v. v.items ≡ printed_item (clause_of item.now)) }
 {
@@ -305,7 +305,7 @@ pub fn print_item(alloc: Global, item: &Item) -> Result<Vec<u8>, AllocError>
     Ok(text)
 }
 
-/// The text of a model: its items, one a line, each ended by a line feed. Errors: want of memory.
+/// The printed model: its items, one on each line, each with a line feed at its end. Errors: out of memory.
 pub fn print_model(alloc: Global, model: &ModelText) -> Result<Vec<u8>, AllocError>
     ensures { IfOk result (λ v. v.items ≡ printed_model (clauses_of model.now.items.items)) }
 {

@@ -27,13 +27,13 @@ use Rattle.cat_grammar.proofs.Groups.{length-items_meaning}
 use Rattle.cat_grammar.proofs.Outcomes.{no_fault, fault_found, items_found, items_only}
 
 -- the last token of a text is its end
-ends_last : (skip place : ℕ) (bytes : List ℕ) → (ts : List Token) × (tokens_of (tokens_from skip place bytes) ≡ ts ++ End ∷ [])
+ends_last : (skip offset : ℕ) (bytes : List ℕ) → (ts : List Token) × (tokens_of (tokens_from skip offset bytes) ≡ ts ++ End ∷ [])
 unfolding tokens_from
-ends_last skip place [] = ([], refl)
-ends_last (suc skip) place (b ∷ bs) = ends_last skip (place + 1) bs
-ends_last zero place (b ∷ bs) = by_front (front (b ∷ bs)) (λ skip. ends_last skip (place + 1) bs)
+ends_last skip offset [] = ([], refl)
+ends_last (suc skip) offset (b ∷ bs) = ends_last skip (offset + 1) bs
+ends_last zero offset (b ∷ bs) = by_front (front (b ∷ bs)) (λ skip. ends_last skip (offset + 1) bs)
   where
-    by_front : (f : Front) → ((skip : ℕ) → (ts : List Token) × (tokens_of (tokens_from skip (place + 1) bs) ≡ ts ++ End ∷ [])) → (ts : List Token) × (tokens_of (after_front place f (λ skip. tokens_from skip (place + 1) bs)) ≡ ts ++ End ∷ [])
+    by_front : (f : Front) → ((skip : ℕ) → (ts : List Token) × (tokens_of (tokens_from skip (offset + 1) bs) ≡ ts ++ End ∷ [])) → (ts : List Token) × (tokens_of (after_front offset f (λ skip. tokens_from skip (offset + 1) bs)) ≡ ts ++ End ∷ [])
     by_front (Layout n) k = k (n - 1)
     by_front (Lexeme t n) k = let r = k (n - 1) in (t ∷ r.0, ap (λ (us : List Token). t ∷ us) r.1)
 
@@ -63,18 +63,18 @@ module _ (form : Form) (bytes : List ℕ) where
   pub only : (r : Result (Vec Item Global) CatFault) → ReadsTo r (reading form bytes) → (v : List Clause) → Reads form bytes v → MatchResult r (λ w. clauses_of w.items ≡ v) IsMemory
   only (Ok w) h v m = items_only form (lexed bytes) (clauses_of w.items) v (sym (fits form bytes m.short) ∙ h) m.means
   only (Err (faults.OutOfMemory e)) h v m = tt
-  only (Err (faults.Refused rule place)) h v m = no_fault form (lexed bytes) v rule place m.means (fault_found form (lexed bytes) rule place (sym (fits form bytes m.short) ∙ h))
+  only (Err (faults.Refused rule offset)) h v m = no_fault form (lexed bytes) v rule offset m.means (fault_found form (lexed bytes) rule offset (sym (fits form bytes m.short) ∙ h))
 
   pub fault : (r : Result (Vec Item Global) CatFault) → ReadsTo r (reading form bytes) → IfErr r (IsFaultOf form bytes)
   fault (Ok v) h = tt
   fault (Err (faults.OutOfMemory e)) h = tt
-  fault (Err (faults.Refused rule place)) h = by_length (cases_lt 65536 (length bytes))
+  fault (Err (faults.Refused rule offset)) h = by_length (cases_lt 65536 (length bytes))
     where
-      by_length : (65536 < length bytes) ⊎ (length bytes ≤ 65536) → FaultAt form bytes rule place
+      by_length : (65536 < length bytes) ⊎ (length bytes ≤ 65536) → FaultAt form bytes rule offset
       by_length (inl long) =
-          let e : (rule, place) ≡ (TooLong, 65536) = refused_is (rule, place) (TooLong, 65536) (sym h ∙ too_long form bytes long) in
+          let e : (rule, offset) ≡ (TooLong, 65536) = refused_is (rule, offset) (TooLong, 65536) (sym h ∙ too_long form bytes long) in
           IsLong long (ap (λ (p : CatRule × ℕ). p.0) e) (ap (λ (p : CatRule × ℕ). p.1) e)
-      by_length (inr le) = InText le (fault_found form (lexed bytes) rule place (sym (fits form bytes le) ∙ h))
+      by_length (inr le) = InText le (fault_found form (lexed bytes) rule offset (sym (fits form bytes le) ∙ h))
 
 -- ---- one item
 

@@ -1,9 +1,9 @@
 -- The loop over a text.
 use Rattle.std.proofs.Common.{◌≡◌, ℕ, ◌+◌, ◌-◌, ◌<◌, ◌≤◌, List, length, take, drop, Result, Ok, Err, refl, ap, subst, ◌∙◌, arith, min}
-use Rattle.std.specs.Prelude.{max, nat_lt, Bool, true, false, if◌then◌else◌}
-use Rattle.std.proofs.lemmas.Bool.Decides.{nat_tests}
+use Rattle.std.specs.Prelude.{max, Bool, if◌then◌else◌}
 use Rattle.std.proofs.lemmas.List.{length-drop}
 use Rattle.std.proofs.lemmas.List.{take_all}
+use Rattle.std.proofs.lemmas.Bool.{lt-ltb, le-ltb}
 use Rattle.cat_syntax.specs.declared.fault.CatFault.{CatFault}
 use Rattle.cat_syntax.specs.declared.fault.CatFault.TheVariants as faults
 use Rattle.cat_tokens.specs.declared.rule.CatRule.{CatRule}
@@ -23,16 +23,16 @@ use Rattle.cat_syntax.specs.ReadingTexts.{reading, FailsAt}
 use Rattle.cat_tokens.proofs.Lexed.{layout_turn, lexeme_turn, at_end}
 use Rattle.cat_grammar.specs.Running.{Ran, placed, and_then, run, items_of}
 
--- one token, at its place or at the place before
-module _ (before place : ℕ) (made : Result State Fault) where
-  pub step_goes : (s : State) → made ≡ Ok s → placed before place made ≡ Ok s
-  step_goes s e = ap (placed before place) e
+-- one token, at its offset or at the offset before
+module _ (before offset : ℕ) (made : Result State Fault) where
+  pub step_goes : (s : State) → made ≡ Ok s → placed before offset made ≡ Ok s
+  step_goes s e = ap (placed before offset) e
 
-  pub step_fails : (e : StepError) (rule : CatRule) → e ≡ errors.Refused rule → Fails e made → placed before place made ≡ Err (rule, place)
-  step_fails e rule is h = ap (placed before place) (subst (λ (x : StepError). Fails x made) is h)
+  pub step_fails : (e : StepError) (rule : CatRule) → e ≡ errors.Refused rule → Fails e made → placed before offset made ≡ Err (rule, offset)
+  step_fails e rule is h = ap (placed before offset) (subst (λ (x : StepError). Fails x made) is h)
 
-  pub step_fails_before : (e : StepError) (rule : CatRule) → e ≡ errors.RefusedBefore rule → Fails e made → placed before place made ≡ Err (rule, before)
-  step_fails_before e rule is h = ap (placed before place) (subst (λ (x : StepError). Fails x made) is h)
+  pub step_fails_before : (e : StepError) (rule : CatRule) → e ≡ errors.RefusedBefore rule → Fails e made → placed before offset made ≡ Err (rule, before)
+  step_fails_before e rule is h = ap (placed before offset) (subst (λ (x : StepError). Fails x made) is h)
 
 -- the reader's turns
 module _ (most : Limits) (form : Form) (bytes : List ℕ) (before : ℕ) (s : State) (p n q : ℕ) (all : Ran) (so_far : all ≡ run most form before s (tokens_from 0 p (drop p bytes))) where
@@ -48,7 +48,7 @@ module _ (most : Limits) (form : Form) (bytes : List ℕ) (before : ℕ) (s : St
 
   pub lexeme_fails : (f : Front) (t : Token) (d : CatFault) → p < length bytes → f ≡ front (take (length bytes - p) (drop p bytes)) → f ≡ Lexeme t n → FailsAt d (placed before p (step most form s t)) → FailsAt d all
   lexeme_fails f t (faults.OutOfMemory x) lt e k fails = tt
-  lexeme_fails f t (faults.Refused rule place) lt e k fails =
+  lexeme_fails f t (faults.Refused rule offset) lt e k fails =
       let r = p + min (max n 1) (length bytes - p) in
       so_far ∙ ap (run most form before s) (lexeme_turn bytes p n r lt refl f t (e ∙ whole_rest) k) ∙ ap (λ (y : Ran). and_then y (λ z. run most form p z (tokens_from 0 r (drop r bytes)))) fails
 
@@ -58,26 +58,20 @@ module _ (most : Limits) (form : Form) (bytes : List ℕ) (before : ℕ) (s : St
 
   pub end_fails : (d : CatFault) → p ≤ length bytes → length bytes ≤ p → FailsAt d (placed before p (step most form s tokens.End)) → FailsAt d all
   end_fails (faults.OutOfMemory x) low high fails = tt
-  end_fails (faults.Refused rule place) low high fails =
+  end_fails (faults.Refused rule offset) low high fails =
       so_far ∙ ap (run most form before s) (at_end bytes p low high) ∙ ap (λ (r : Ran). and_then r (λ x. Ok x)) fails
 
 -- the length is looked at first
-lt_true : (l n : ℕ) → l < n → nat_lt l n ≡ true
-lt_true l n h = grind (arith, nat_tests)
-
-ge_false : (l n : ℕ) → n ≤ l → nat_lt l n ≡ false
-ge_false l n h = grind (arith, nat_tests)
-
 pub too_long : (form : Form) (bytes : List ℕ) → 65536 < length bytes → reading form bytes ≡ Err (TooLong, 65536)
 unfolding reading
 too_long form bytes lt =
-    ap (λ (b : Bool). if b then Err (TooLong, 65536) else items_of (run limits form 0 (start form) (lexed bytes))) (lt_true 65536 (length bytes) lt)
+    ap (λ (b : Bool). if b then Err (TooLong, 65536) else items_of (run limits form 0 (start form) (lexed bytes))) (lt-ltb 65536 (length bytes) lt)
 
 pub fits : (form : Form) (bytes : List ℕ) → length bytes ≤ 65536 → reading form bytes ≡ items_of (run limits form 0 (start form) (lexed bytes))
 unfolding reading
 fits form bytes le =
-    ap (λ (b : Bool). if b then Err (TooLong, 65536) else items_of (run limits form 0 (start form) (lexed bytes))) (ge_false 65536 (length bytes) le)
+    ap (λ (b : Bool). if b then Err (TooLong, 65536) else items_of (run limits form 0 (start form) (lexed bytes))) (le-ltb 65536 (length bytes) le)
 
 pub refused : (form : Form) (bytes : List ℕ) (d : CatFault) → length bytes ≤ 65536 → FailsAt d (run limits form 0 (start form) (lexed bytes)) → FailsAt d (reading form bytes)
 refused form bytes (faults.OutOfMemory x) le fails = tt
-refused form bytes (faults.Refused rule place) le fails = fits form bytes le ∙ ap items_of fails
+refused form bytes (faults.Refused rule offset) le fails = fits form bytes le ∙ ap items_of fails

@@ -2,8 +2,8 @@
 use Rattle.std.specs.Prelude.{◌≡◌, List, map, Result, Ok, Err}
 use Rattle.cat_terms.specs.declared.frames.StepError.{StepError}
 use Rattle.cat_terms.specs.declared.frames.StepError.TheVariants as errors
-use Rattle.cat_terms.specs.declared.frames.Fed.{Fed}
-use Rattle.cat_terms.specs.declared.frames.Fed.TheVariants as feds
+use Rattle.cat_terms.specs.declared.frames.ExpressionStep.{ExpressionStep}
+use Rattle.cat_terms.specs.declared.frames.ExpressionStep.TheVariants as code_steps
 use Rattle.cat_tokens.specs.declared.token.Token.{Token}
 use Rattle.cat_tokens.specs.declared.token.Token.TheVariants as tokens
 use Rattle.cat_values.specs.declared.model.Item.{Item}
@@ -18,7 +18,7 @@ use Rattle.cat_syntax.specs.declared.parts.Part.TheVariants as parts
 use Rattle.cat_grammar.specs.Machine as terms
 use Rattle.cat_grammar.specs.ItemMachine as machine
 use Rattle.cat_values.specs.Values.{term_of, binding_of, shown_of, clauses_of}
-use Rattle.cat_terms.specs.Reading.{stack_of, hole_of}
+use Rattle.cat_terms.specs.Reading.{stack_of, expectation_of}
 
 abbrev pub group_of : code_group.Group → machine.Group
 group_of g = record { recursive = g.recursive; bindings = map binding_of g.bindings.items }
@@ -47,7 +47,7 @@ part_of parts.Start = machine.Start
 part_of (parts.Let p) = machine.InLet (let_of p)
 part_of parts.AfterFlag = machine.AfterFlag
 part_of (parts.AfterTilde flagged) = machine.AfterTilde flagged
-part_of (parts.Body h fs used hole) = machine.Body (head_of h) (stack_of fs.items) used (hole_of hole)
+part_of (parts.Body h fs used expected) = machine.Body (head_of h) (stack_of fs.items) used (expectation_of expected)
 part_of (parts.Label h v) = machine.Label h (term_of v)
 part_of (parts.ShowLabel s v) = machine.ShowLabel (show_of s) (term_of v)
 part_of (parts.AfterShowLabel s) = machine.AfterShowLabel (show_of s)
@@ -69,13 +69,13 @@ abbrev pub Steps : Result code_part.Part StepError → List Item → Result mach
 Steps (Ok p) is made = made ≡ Ok (record { items = clauses_of is; part = part_of p })
 Steps (Err e) is made = Fails e made
 
-abbrev pub fed_of : Fed → terms.Fed
-fed_of (feds.Goes fs used hole) = terms.Goes (stack_of fs.items) used (hole_of hole)
-fed_of (feds.Ends v t) = terms.Ends (term_of v)
-fed_of (feds.EndsTilde v w) = terms.EndsTilde (term_of v)
+abbrev pub result_of : ExpressionStep → terms.StepResult
+result_of (code_steps.Goes fs used expected) = terms.Goes (stack_of fs.items) used (expectation_of expected)
+result_of (code_steps.Ends v t) = terms.Ends (term_of v)
+result_of (code_steps.EndsTilde v w) = terms.EndsTilde (term_of v)
 
 -- the token that came back
-abbrev pub token_of : Fed → Token
-token_of (feds.Goes fs used hole) = tokens.End
-token_of (feds.Ends v t) = t
-token_of (feds.EndsTilde v w) = tokens.Check w
+abbrev pub token_of : ExpressionStep → Token
+token_of (code_steps.Goes fs used expected) = tokens.End
+token_of (code_steps.Ends v t) = t
+token_of (code_steps.EndsTilde v w) = tokens.Check w

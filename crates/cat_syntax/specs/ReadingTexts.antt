@@ -26,7 +26,7 @@ reading form bytes =
 
 abbrev pub FailsAt : {Y : Type 0} → CatFault → Result Y (CatRule × ℕ) → Type 0
 FailsAt (faults.OutOfMemory e) made = Unit {0}
-FailsAt (faults.Refused rule place) made = made ≡ Err (rule, place)
+FailsAt (faults.Refused rule offset) made = made ≡ Err (rule, offset)
 
 abbrev pub StepsAt : Result (Unit {0}) CatFault → Parser → Ran → Type 0
 StepsAt (Ok _) p made = made ≡ Ok (state_of p)

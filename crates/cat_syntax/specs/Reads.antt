@@ -16,11 +16,11 @@ pub record Reads (form : Form) (bytes : List ℕ) (v : List Clause) : Type 0 whe
   pub means : Means limits form (tokens_of (lexed bytes)) v
 
 -- the length is looked at first, and then the tokens
-pub data FaultAt (form : Form) (bytes : List ℕ) (rule : CatRule) (place : ℕ) : Type 0 where
-  IsLong : 65536 < length bytes → rule ≡ TooLong → place ≡ 65536 → FaultAt form bytes rule place
-  InText : length bytes ≤ 65536 → IsFault limits form (lexed bytes) rule place → FaultAt form bytes rule place
+pub data FaultAt (form : Form) (bytes : List ℕ) (rule : CatRule) (offset : ℕ) : Type 0 where
+  IsLong : 65536 < length bytes → rule ≡ TooLong → offset ≡ 65536 → FaultAt form bytes rule offset
+  InText : length bytes ≤ 65536 → IsFault limits form (lexed bytes) rule offset → FaultAt form bytes rule offset
 
 -- a refusal is the text's
 abbrev pub IsFaultOf : Form → List ℕ → CatFault → Type 0
-IsFaultOf form bytes (Refused rule place) = FaultAt form bytes rule place
+IsFaultOf form bytes (Refused rule offset) = FaultAt form bytes rule offset
 IsFaultOf form bytes (OutOfMemory e) = Unit {0}

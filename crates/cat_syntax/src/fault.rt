@@ -4,13 +4,13 @@ use cat_tokens::CatRule;
 use std::alloc::AllocError;
 use thiserror::Error;
 
-/// Why no model was read.
+/// Why a text is not read.
 #[derive(Debug, Drop, Error)]
 pub enum CatFault {
-    /// The rule that the text breaks, and the byte place of the first token that cannot stand.
+    /// The rule that the text breaks, and the byte offset of the first token that cannot stand.
     #[error("the text is refused at byte {place}")]
     Refused { rule: CatRule, place: usize },
-    /// A growth was refused.
+    /// Memory ran out.
     #[error("out of memory")]
     OutOfMemory(#[from(alloc)] AllocError),
 }

@@ -1,25 +1,25 @@
-//! Reads items, a token after the other.
+//! Reads items, token by token.
 
 ghost use Rattle.std.specs.Prelude.{◌≡◌};
 ghost use Rattle.cat_grammar.specs.Grammar.{limits, has_no_effect};
 ghost use Rattle.cat_values.specs.Values.{term_of, clause_of, clauses_of};
-ghost use Rattle.cat_grammar.specs.ItemMachine.{begin_item, excess, unless, item_or_end, after_title, after_tilde, after_flag, after_include, finished, item_ended, item_ended_by_tilde, after_body, and_read, label_begun, shown_on, after_as, after_show_as, after_show_label, goes_on, step_part, start, step};
-ghost use Rattle.cat_syntax.specs.ReadingItems.{show_of, head_of, part_of, Gives, Steps, fed_of, token_of};
+ghost use Rattle.cat_grammar.specs.ItemMachine.{begin_item, excess, unless, item_or_end, after_title, after_tilde, after_flag, after_include, finished, item_ended, item_ended_by_tilde, after_body, and_read, label_start, shown_on, after_as, after_show_as, after_show_label, goes_on, step_part, start, step};
+ghost use Rattle.cat_syntax.specs.ReadingItems.{show_of, head_of, part_of, Gives, Steps, result_of, token_of};
 
 use crate::lets::{LetPart, after_let};
-use crate::parts::{Head, Part, ShowHead, body_begun, check_body, show_body};
+use crate::parts::{Head, Part, ShowHead, body_start, check_body, show_body};
 use cat_grammar::{CheckHead, Form};
-use cat_terms::{Fed, StepError, feed};
+use cat_terms::{ExpressionStep, StepError, expression_step};
 use cat_tokens::{CatRule, Token};
 use cat_values::{CheckWord, Expression, Item};
 use std::alloc::Global;
 use std::mem;
 
-/// How many items a model may have.
+/// The greatest number of items of a model.
 pub const MAX_ITEMS: usize = 256;
 
 // The first token of an item.
-fn item_begun(alloc: Global, token: Token) -> Result<Part, StepError>
+fn item_start(alloc: Global, token: Token) -> Result<Part, StepError>
     ensures { Gives part_of result (begin_item token) }
 {
     match token {
@@ -78,7 +78,7 @@ fn item_or_end(alloc: Global, form: Form, count: usize, token: Token) -> Result<
             Ok(Part::Done)
         }
         other => {
-            let part = item_begun(alloc, other)?;
+            let part = item_start(alloc, other)?;
             unless_excess(form, count, part)
         }
     }
@@ -213,7 +213,7 @@ fn body_read(
 {
     match token {
         Token::And => and_read(head, body),
-        Token::As => label_begun(head, body),
+        Token::As => label_start(head, body),
         Token::Comma => comma_read(alloc, head, body),
         other => item_ended(alloc, form, items, head, body, other),
     }
@@ -230,8 +230,8 @@ fn and_read(head: Head, body: Expression) -> Result<Part, StepError>
     }
 }
 
-fn label_begun(head: Head, body: Expression) -> Result<Part, StepError>
-    ensures { Gives part_of result (label_begun (head_of head) (term_of body)) }
+fn label_start(head: Head, body: Expression) -> Result<Part, StepError>
+    ensures { Gives part_of result (label_start (head_of head) (term_of body)) }
 {
     match head {
         Head::Check(head) => Ok(Part::Label(head, body)),
@@ -247,7 +247,7 @@ fn comma_read(alloc: Global, head: Head, body: Expression) -> Result<Part, StepE
     match head {
         Head::Show(head) => {
             let head = head.with(body, None)?;
-            Ok(body_begun(alloc, Head::Show(head)))
+            Ok(body_start(alloc, Head::Show(head)))
         }
         Head::Bound(_, _) => Err(StepError::Refused(CatRule::Syntax)),
         Head::Function(_, _) => Err(StepError::Refused(CatRule::Syntax)),
@@ -303,7 +303,7 @@ fn after_show_label(
     ensures { Steps result items.new.items (after_show_label limits form (clauses_of items.old.items) (show_of head) token) }
 {
     match token {
-        Token::Comma => Ok(body_begun(alloc, Head::Show(head))),
+        Token::Comma => Ok(body_start(alloc, Head::Show(head))),
         other => {
             items.push(head.into_item())?;
             item_or_end(alloc, form, items.len(), other)
@@ -312,19 +312,23 @@ fn after_show_label(
 }
 
 // What a token did to the item's expression.
-fn fed(
+fn after_expression_step(
     alloc: Global,
     form: Form,
     items: &mut Vec<Item>,
     head: Head,
-    fed: Fed,
+    outcome: ExpressionStep,
 ) -> Result<Part, StepError>
-    ensures { Steps result items.new.items (goes_on limits form (clauses_of items.old.items) (head_of head) (token_of fed) (fed_of fed)) }
+    ensures { Steps result items.new.items (goes_on limits form (clauses_of items.old.items) (head_of head) (token_of outcome) (result_of outcome)) }
 {
-    match fed {
-        Fed::Goes(frames, operators, hole) => Ok(Part::Body(head, frames, operators, hole)),
-        Fed::Ends(body, token) => body_read(alloc, form, items, head, body, token),
-        Fed::EndsTilde(body, word) => item_ended_by_tilde(alloc, form, items, head, body, word),
+    match outcome {
+        ExpressionStep::Goes(frames, operators, expected) => Ok(Part::Body(
+            head, frames, operators, expected,
+        )),
+        ExpressionStep::Ends(body, token) => body_read(alloc, form, items, head, body, token),
+        ExpressionStep::EndsTilde(body, word) => item_ended_by_tilde(
+            alloc, form, items, head, body, word,
+        ),
     }
 }
 
@@ -344,9 +348,9 @@ fn part_after(
         Part::Let(part) => after_let(alloc, part, token),
         Part::AfterFlag => flag_read(alloc, token),
         Part::AfterTilde(flagged) => tilde_read(alloc, flagged, token),
-        Part::Body(head, frames, operators, hole) => {
-            let step = feed(alloc, frames, operators, hole, token)?;
-            fed(alloc, form, items, head, step)
+        Part::Body(head, frames, operators, expected) => {
+            let step = expression_step(alloc, frames, operators, expected, token)?;
+            after_expression_step(alloc, form, items, head, step)
         }
         Part::Label(head, body) => label_read(items, head, body, token),
         Part::ShowLabel(head, body) => show_label_read(head, body, token),
@@ -356,7 +360,7 @@ fn part_after(
     }
 }
 
-/// Reads tokens one after another.
+/// The state of the reader.
 #[derive(Drop)]
 pub struct Parser {
     alloc: Global,
@@ -368,7 +372,7 @@ pub struct Parser {
 impl Parser {
     ghost use Rattle.cat_syntax.specs.ParserState.{state_of, AreSteps};
 
-    /// A reader that has taken no token.
+    /// The reader before a text of this form.
     pub fn new(alloc: Global, form: Form) -> Parser
         ensures start { state_of result ≡ start form }
         ensures form { result.form ≡ form }
@@ -385,7 +389,8 @@ impl Parser {
         }
     }
 
-    /// Takes a token. After an `Err` the parser takes no more.
+    /// The step over a token. Errors: out of memory, or the rule that this token or the one before it breaks; the
+    /// parser is then to be dropped.
     pub fn step(&mut self, token: Token) -> Result<(), StepError>
         ensures steps { AreSteps result self.new (step limits self.old.form (state_of self.old) token) }
         ensures form { self.new.form ≡ self.old.form }

@@ -1,4 +1,4 @@
-//! Reads what stands before the expressions of a `let`.
+//! Reads the heads of a `let`.
 
 ghost use Rattle.std.specs.Prelude.{◌≡◌, [], IfOk};
 ghost use Rattle.cat_grammar.specs.Grammar.{limits};
@@ -6,29 +6,26 @@ ghost use Rattle.cat_values.specs.Values.{term_of, clause_of};
 ghost use Rattle.cat_grammar.specs.ItemMachine.{fresh, extended, group_clause, after_keyword, bound_name, parameter_read, after_parameter, after_let_name, after_bound, after_parameters, after_let};
 ghost use Rattle.cat_syntax.specs.ReadingItems.{group_of, let_of, part_of, Gives};
 
-use crate::parts::{Head, Part, body_begun};
+use crate::parts::{Head, Part, body_start};
 use cat_terms::StepError;
 use cat_tokens::{CatRule, Token};
-use cat_values::{Binding, Expression, Item};
+use cat_values::{Binding, Expression, Item, MAX_PARAMETERS};
 use source_text::Name;
 use std::alloc::{AllocError, Global};
 
-/// How many names a group may have.
+/// The greatest number of names in a group.
 pub const MAX_NAMES: usize = 64;
-
-/// How many parameters a function may have.
-pub const MAX_PARAMETERS: usize = 8;
 
 /// The bindings of a `let` so far.
 #[derive(Drop)]
 pub struct Group {
     /// Whether `rec` was read.
     pub recursive: bool,
-    /// Those whose expressions are read, in the order of the text.
+    /// The bindings whose expressions are read, in the order of the text.
     pub bindings: Vec<Binding>,
 }
 
-/// Where in the head of a `let` the reader stands.
+/// The position of the reader in the head of a `let`.
 #[derive(Drop)]
 pub enum LetPart {
     /// After `let`.
@@ -37,7 +34,7 @@ pub enum LetPart {
     Named(Name),
     /// After `let rec` or `and`.
     And(Group),
-    /// After a name that is no function's.
+    /// After a name that is not a function's.
     Bound(Group, Name),
     /// Where a parameter is wanted.
     Parameter(Name, Vec<Name>),
@@ -57,7 +54,7 @@ impl Group {
         }
     }
 
-    /// One more binding.
+    /// The group with one more binding. Errors: out of memory.
     pub fn with(self, name: Name, body: Expression) -> Result<Group, AllocError>
         ensures { IfOk result (λ g. group_of g ≡ extended (group_of self) name (term_of body)) }
     {
@@ -144,7 +141,7 @@ fn after_name(alloc: Global, name: Name, token: Token) -> Result<Part, StepError
     ensures { Gives part_of result (after_let_name name token) }
 {
     match token {
-        Token::Equals => Ok(body_begun(alloc, Head::Bound(Group::new(alloc, false), name))),
+        Token::Equals => Ok(body_start(alloc, Head::Bound(Group::new(alloc, false), name))),
         Token::Open => Ok(Part::Let(LetPart::Parameter(name, Vec::new(alloc)))),
         other => Err(StepError::Refused(other.rule())),
     }
@@ -155,7 +152,7 @@ fn after_bound(alloc: Global, group: Group, name: Name, token: Token) -> Result<
     ensures { Gives part_of result (after_bound (group_of group) name token) }
 {
     match token {
-        Token::Equals => Ok(body_begun(alloc, Head::Bound(group, name))),
+        Token::Equals => Ok(body_start(alloc, Head::Bound(group, name))),
         Token::Open => Err(StepError::Refused(CatRule::Unsupported)),
         other => Err(StepError::Refused(other.rule())),
     }
@@ -170,12 +167,12 @@ fn after_parameters(
     ensures { Gives part_of result (after_parameters name parameters.items token) }
 {
     match token {
-        Token::Equals => Ok(body_begun(alloc, Head::Function(name, parameters))),
+        Token::Equals => Ok(body_start(alloc, Head::Function(name, parameters))),
         other => Err(StepError::Refused(other.rule())),
     }
 }
 
-/// A token in the head of a `let`.
+/// The step over a token in the head of a `let`. Errors: out of memory, or the rule that the token breaks.
 pub fn after_let(alloc: Global, part: LetPart, token: Token) -> Result<Part, StepError>
     ensures { Gives part_of result (after_let limits (let_of part) token) }
 {

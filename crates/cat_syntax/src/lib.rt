@@ -1,4 +1,5 @@
-//! Models in the cat language: how they are read and printed.
+//! Models in the cat language: their reader and their printer. Read cat_grammar/specs/Grammar.antt first (the texts and
+//! their meanings), then specs/Reads.antt (what the reader answers).
 #![tactic(auto)]
 
 mod fault;

@@ -1,4 +1,4 @@
-//! Where in an item the reader stands.
+//! The position of the reader in an item.
 
 ghost use Rattle.std.specs.Prelude.{◌≡◌, IfOk};
 ghost use Rattle.cat_values.specs.Values.{term_of, check_of, clause_of};
@@ -7,7 +7,7 @@ ghost use Rattle.cat_syntax.specs.ReadingItems.{show_of, head_of, part_of};
 
 use crate::lets::{Group, LetPart};
 use cat_grammar::CheckHead;
-use cat_terms::{Frame, Hole};
+use cat_terms::{Expectation, Frame};
 use cat_values::{CheckWord, Expression, Item, ShownExpression};
 use source_text::Name;
 use std::alloc::{AllocError, Global};
@@ -34,7 +34,7 @@ pub enum Head {
     Show(ShowHead),
 }
 
-/// Where the reader stands.
+/// The position of the reader.
 #[derive(Drop)]
 pub enum Part {
     /// Where a title may stand.
@@ -47,9 +47,9 @@ pub enum Part {
     AfterFlag,
     /// After `~`, with whether the check is a flag's.
     AfterTilde(bool),
-    /// In an item's expression: what stands open, how many operators there are, and what was read
-    /// last.
-    Body(Head, Vec<Frame>, usize, Hole),
+    /// In an item's expression: the open frames, the number of operators so far, and what is
+    /// expected.
+    Body(Head, Vec<Frame>, usize, Expectation),
     /// After a check's `as`.
     Label(CheckHead, Expression),
     /// After the `as` of a shown expression.
@@ -63,10 +63,10 @@ pub enum Part {
 }
 
 /// Where an item's expression begins.
-pub fn body_begun(alloc: Global, head: Head) -> Part
+pub fn body_start(alloc: Global, head: Head) -> Part
     ensures { part_of result ≡ begin_body (head_of head) }
 {
-    Part::Body(head, Vec::new(alloc), 0, Hole::Wants)
+    Part::Body(head, Vec::new(alloc), 0, Expectation::Wants)
 }
 
 /// Where the expression of a check begins.
@@ -78,7 +78,7 @@ pub fn check_body(alloc: Global, flagged: bool, negated: bool, word: CheckWord) 
         negated,
         word,
     };
-    body_begun(alloc, Head::Check(head))
+    body_start(alloc, Head::Check(head))
 }
 
 /// Where the first expression of a `show` begins.
@@ -89,11 +89,11 @@ pub fn show_body(alloc: Global, hidden: bool) -> Part
         hidden,
         shown: Vec::new(alloc),
     };
-    body_begun(alloc, Head::Show(head))
+    body_start(alloc, Head::Show(head))
 }
 
 impl ShowHead {
-    /// One more expression.
+    /// The list with one more expression. Errors: out of memory.
     pub fn with(self, body: Expression, label: Option<Name>) -> Result<ShowHead, AllocError>
         ensures { IfOk result (λ s. show_of s ≡ shown_also (show_of self) (term_of body) label) }
     {

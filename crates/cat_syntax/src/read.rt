@@ -21,16 +21,19 @@ use cat_values::{Item, ModelText};
 use source_text::MAX_BYTES;
 use std::alloc::{AllocError, Global};
 
-// A token at a place, after the one that began at the place before.
-fn step_at(parser: &mut Parser, token: Token, before: usize, place: usize) -> Result<(), CatFault>
-    ensures steps { StepsAt result parser.new (placed before place (step limits parser.old.form (state_of parser.old) token)) }
+// A token at an offset; the token before it began at `before`.
+fn step_at(parser: &mut Parser, token: Token, before: usize, offset: usize) -> Result<(), CatFault>
+    ensures steps { StepsAt result parser.new (placed before offset (step limits parser.old.form (state_of parser.old) token)) }
     ensures form { parser.new.form ≡ parser.old.form }
-    ensures within { IfErr result (λ e. (n : ℕ) → before ≤ n → place ≤ n → IsWithin n e) }
+    ensures within { IfErr result (λ e. (n : ℕ) → before ≤ n → offset ≤ n → IsWithin n e) }
 {
     match parser.step(token) {
         Ok(()) => Ok(()),
         Err(StepError::OutOfMemory) => Err(CatFault::OutOfMemory(AllocError)),
-        Err(StepError::Refused(rule)) => Err(CatFault::Refused { rule, place }),
+        Err(StepError::Refused(rule)) => Err(CatFault::Refused {
+            rule,
+            place: offset,
+        }),
         Err(StepError::RefusedBefore(rule)) => Err(CatFault::Refused {
             rule,
             place: before,
@@ -63,21 +66,21 @@ fn read_all(alloc: Global, bytes: &[u8], form: Form) -> Result<Vec<Item>, CatFau
     }
     let mut parser = Parser::new(alloc, form);
     let mut before = 0;
-    let mut place = 0;
-    while place < bytes.len() {
-        let left = bytes.len() - place;
-        match front_at(alloc, &bytes[place..])? {
-            Front::Layout(n) => place += n.max(1).min(left),
-            Front::Lexeme(token, n) => match step_at(&mut parser, token, before, place) {
+    let mut offset = 0;
+    while offset < bytes.len() {
+        let left = bytes.len() - offset;
+        match front_at(alloc, &bytes[offset..])? {
+            Front::Layout(n) => offset += n.max(1).min(left),
+            Front::Lexeme(token, n) => match step_at(&mut parser, token, before, offset) {
                 Ok(()) => {
-                    before = place;
-                    place += n.max(1).min(left);
+                    before = offset;
+                    offset += n.max(1).min(left);
                 }
                 Err(fault) => return Err(fault),
             },
         }
     }
-    match step_at(&mut parser, Token::End, before, place) {
+    match step_at(&mut parser, Token::End, before, offset) {
         Ok(()) => Ok(parser.into_items()),
         Err(fault) => Err(fault),
     }
@@ -94,9 +97,9 @@ fn read_text(alloc: Global, bytes: &[u8], form: Form) -> Result<Vec<Item>, CatFa
     read_all(alloc, bytes, form)
 }
 
-/// The model that a text means: an optional title, and its items. A refusal names the rule that the text breaks and
-/// the place of the first token that cannot stand, which is the text's length where it ends too early.
-/// Errors: such a refusal, or want of memory.
+/// The model of a text: an optional title, and items. A rejected text is blamed at the first token that no valid
+/// text could have there, which is the end of the text if it ends too early. Errors: the broken rule with its byte
+/// offset, or out of memory.
 pub fn read_model(alloc: Global, bytes: &[u8]) -> Result<ModelText, CatFault>
     // What is read is what the text means.
     ensures found { IfOk result (λ m. Reads Form.Model bytes.now (clauses_of m.items.items)) }
@@ -115,8 +118,8 @@ pub fn read_model(alloc: Global, bytes: &[u8]) -> Result<ModelText, CatFault>
     }
 }
 
-/// The one item that a text means, which has no title. Errors: the first rule that the text breaks,
-/// with its byte, or want of memory.
+/// The item of a text that is one item, without a title. Errors: the broken rule with its byte
+/// offset, or out of memory.
 pub fn read_item(alloc: Global, bytes: &[u8]) -> Result<Item, CatFault>
     // What is read is the item that the text means.
     ensures found { IfOk result (λ item. Reads Form.Item bytes.now (clause_of item ∷ [])) }

@@ -1,30 +1,31 @@
 -- The stack of frames as a list.
 use Rattle.std.proofs.Common.{◌≡◌, ℕ, ◌+◌, ◌<◌, ◌≤◌, Bool, true, false, cond, List, [], ◌∷◌, ◌++◌, map, Result, refl, sym, ap, subst, ◌∙◌, arith}
-use Rattle.std.specs.Prelude.{nat_le, nat_lt, if◌then◌else◌, count_by, ◌&&◌}
+use Rattle.std.specs.Prelude.{if◌then◌else◌, count_by, ◌&&◌}
 use Rattle.std.specs.List.{list_all}
-use Rattle.std.proofs.lemmas.Bool.Decides.{nat_tests}
 use Rattle.std.proofs.lemmas.List.{map-append}
 use Rattle.std.proofs.lemmas.List.Sums.{sum_by-cons}
 use Rattle.cat_terms.specs.declared.frames.Frame.TheVariants as frames
 use Rattle.std.proofs.Common.{Vec, Global}
+use Rattle.std.proofs.Math.Bool.{and-false, and-true}
+use Rattle.std.proofs.lemmas.Bool.{le-leb, lt-leb, lt-ltb}
 use Rattle.cat_values.specs.declared.model.Expression.{Expression}
 use Rattle.cat_values.specs.declared.model.Expression.TheVariants as expressions
 use Rattle.cat_values.specs.declared.model.Expression.TheVariants.{Applied'}
 use Rattle.cat_values.specs.declared.model.Infix.{Infix}
 use Rattle.cat_values.specs.declared.model.Infix.TheVariants.{Product}
-use Rattle.cat_tokens.specs.declared.rule.CatRule.TheVariants.{TooDeep}
-use Rattle.cat_terms.specs.declared.frames.Fed as code_fed
+use Rattle.cat_tokens.specs.declared.rule.CatRule.TheVariants.{TooDeep, Syntax}
+use Rattle.cat_terms.specs.declared.frames.ExpressionStep as code_step
 use Rattle.cat_terms.specs.declared.frames.StepError.{StepError}
 use Rattle.cat_values.specs.declared.model.CheckWord.{CheckWord}
 use Rattle.cat_tokens.specs.declared.token.Token.{Token}
 use Rattle.cat_tokens.specs.declared.token.Token.TheVariants as tokens
-use Rattle.cat_values.specs.Value.{Term, Join, Not, Apply, gathered}
+use Rattle.cat_values.specs.Value.{Term, Join, Not, On, Apply, gathered}
 use Rattle.cat_terms.specs.declared.frames.Frame as code_frame
 use Rattle.cat_grammar.specs.Machine as machine
 use Rattle.cat_grammar.specs.Grammar.{level, limits}
 use Rattle.cat_values.specs.Values.{term_of}
 use Rattle.cat_values.proofs.Arguments.{applied_term}
-use Rattle.cat_terms.specs.Reading.{frame_of, stacked, stack_of, is_open, is_no_bracket, Feeds}
+use Rattle.cat_terms.specs.Reading.{frame_of, stacked, stack_of, is_open, is_square, is_no_bracket, StepsTo}
 
 pub stacked-push : (fs : List code_frame.Frame) (f : code_frame.Frame) (below : List machine.Frame) → stacked (fs ++ f ∷ []) below ≡ frame_of f ∷ stacked fs below
 stacked-push [] f below = refl
@@ -32,12 +33,6 @@ stacked-push (g ∷ fs) f below = stacked-push fs f (frame_of g ∷ below)
 
 pub stack_of-push : (fs : List code_frame.Frame) (f : code_frame.Frame) → stack_of (fs ++ f ∷ []) ≡ frame_of f ∷ stack_of fs
 stack_of-push fs f = stacked-push fs f []
-
-le_true : (l n : ℕ) → l ≤ n → nat_le l n ≡ true
-le_true l n h = grind (arith, nat_tests)
-
-gt_false : (l n : ℕ) → n < l → nat_le l n ≡ false
-gt_false l n h = grind (arith, nat_tests)
 
 -- one turn of joining: the frame that was popped decides
 module _ (l : ℕ) (start : List machine.Frame × Term) (items rest : List code_frame.Frame) (v : Term) (so_far : start ≡ machine.fold_to l (stack_of items) v) where
@@ -51,14 +46,14 @@ module _ (l : ℕ) (start : List machine.Frame × Term) (items rest : List code_
   pub popped_left : (f : code_frame.Frame) → items ≡ rest ++ f ∷ [] → (op : Infix) (a a' w : Expression) → f ≡ frames.Left op a → a' ≡ a → term_of w ≡ v → l ≤ level op → start ≡ machine.fold_to l (stack_of rest) (Join op (term_of a') (term_of w))
   popped_left f e op a a' w is left same le =
       popped f e ∙ ap (λ (g : code_frame.Frame). machine.fold_to l (frame_of g ∷ stack_of rest) v) is
-      ∙ ap (λ (x : Bool). if x then machine.fold_to l (stack_of rest) (Join op (term_of a) v) else (machine.LeftOf op (term_of a) ∷ stack_of rest, v)) (le_true l (level op) le)
+      ∙ ap (λ (x : Bool). if x then machine.fold_to l (stack_of rest) (Join op (term_of a) v) else (machine.LeftOf op (term_of a) ∷ stack_of rest, v)) (le-leb l (level op) le)
       ∙ ap (λ (x : Term). machine.fold_to l (stack_of rest) (Join op (term_of a) x)) (sym same)
       ∙ ap (λ (x : Expression). machine.fold_to l (stack_of rest) (Join op (term_of x) (term_of w))) (sym left)
 
   pub popped_stays : (f : code_frame.Frame) → items ≡ rest ++ f ∷ [] → (op : Infix) (a : Expression) (after : List code_frame.Frame) → f ≡ frames.Left op a → level op < l → after ≡ rest ++ frames.Left op a ∷ [] → start ≡ (stack_of after, v)
   popped_stays f e op a after is lt pushed =
       popped f e ∙ ap (λ (g : code_frame.Frame). machine.fold_to l (frame_of g ∷ stack_of rest) v) is
-      ∙ ap (λ (x : Bool). if x then machine.fold_to l (stack_of rest) (Join op (term_of a) v) else (machine.LeftOf op (term_of a) ∷ stack_of rest, v)) (gt_false l (level op) lt)
+      ∙ ap (λ (x : Bool). if x then machine.fold_to l (stack_of rest) (Join op (term_of a) v) else (machine.LeftOf op (term_of a) ∷ stack_of rest, v)) (lt-leb l (level op) lt)
       ∙ sym (ap (λ (fs : List machine.Frame). (fs, v)) (ap stack_of pushed ∙ stack_of-push rest (frames.Left op a)))
 
   -- a bracket stays
@@ -78,46 +73,50 @@ open_count-stacked (frames.Applied name args ∷ fs) below = let n = sum_by-cons
 pub open_count-stack : (fs : List code_frame.Frame) → machine.open_count (stack_of fs) ≡ count_by is_open fs
 open_count-stack fs = let h = open_count-stacked fs [] in omega arith
 
-both_false : (x : Bool) → (x && false) ≡ false
-both_false true = refl
-both_false false = refl
-
 is_outermost-stacked : (fs : List code_frame.Frame) (below : List machine.Frame) → machine.is_outermost (stacked fs below) ≡ (list_all is_no_bracket fs && machine.is_outermost below)
 is_outermost-stacked [] below = refl
-is_outermost-stacked (frames.Group ∷ fs) below = is_outermost-stacked fs (machine.InGroup ∷ below) ∙ both_false (list_all is_no_bracket fs)
-is_outermost-stacked (frames.Square ∷ fs) below = is_outermost-stacked fs (machine.InSquare ∷ below) ∙ both_false (list_all is_no_bracket fs)
+is_outermost-stacked (frames.Group ∷ fs) below = is_outermost-stacked fs (machine.InGroup ∷ below) ∙ and-false (list_all is_no_bracket fs)
+is_outermost-stacked (frames.Square ∷ fs) below = is_outermost-stacked fs (machine.InSquare ∷ below) ∙ and-false (list_all is_no_bracket fs)
 is_outermost-stacked (frames.Prefix ∷ fs) below = is_outermost-stacked fs (machine.InPrefix ∷ below)
 is_outermost-stacked (frames.Left op a ∷ fs) below = is_outermost-stacked fs (machine.LeftOf op (term_of a) ∷ below)
-is_outermost-stacked (frames.Applied name args ∷ fs) below = is_outermost-stacked fs (machine.InArguments name (map term_of args.items) ∷ below) ∙ both_false (list_all is_no_bracket fs)
+is_outermost-stacked (frames.Applied name args ∷ fs) below = is_outermost-stacked fs (machine.InArguments name (map term_of args.items) ∷ below) ∙ and-false (list_all is_no_bracket fs)
 
 pub is_outermost-stack : (fs : List code_frame.Frame) → machine.is_outermost (stack_of fs) ≡ list_all is_no_bracket fs
-is_outermost-stack fs = is_outermost-stacked fs [] ∙ and_true (list_all is_no_bracket fs)
-  where
-    and_true : (x : Bool) → (x && true) ≡ x
-    and_true true = refl
-    and_true false = refl
+is_outermost-stack fs = is_outermost-stacked fs [] ∙ and-true (list_all is_no_bracket fs)
 
 -- the outermost of what is open, once everything is joined
 pub popped_of : (p : List machine.Frame × Term) (all rest : List code_frame.Frame) (f : code_frame.Frame) (v : Term) → p ≡ (stack_of all, v) → all ≡ rest ++ f ∷ [] → p ≡ (frame_of f ∷ stack_of rest, v)
 popped_of p all rest f v e split = e ∙ ap (λ (fs : List machine.Frame). (fs, v)) (ap stack_of split ∙ stack_of-push rest f)
 
-lt_true : (l n : ℕ) → l < n → nat_lt l n ≡ true
-lt_true l n h = grind (arith, nat_tests)
+-- `]` closes the innermost frame if that is `[`, and is refused if it is another
+pub square_refused : (used : ℕ) (f : code_frame.Frame) (fs : List machine.Frame) (v : Term) → is_square f ≡ false → machine.square_closed used (frame_of f ∷ fs, v) ≡ machine.Refuses Syntax
+square_refused used frames.Group fs v e = refl
+square_refused used frames.Square fs v e = absurd cc
+square_refused used frames.Prefix fs v e = refl
+square_refused used (frames.Left op a) fs v e = refl
+square_refused used (frames.Applied n args) fs v e = refl
+
+pub square_matched : (used : ℕ) (f : code_frame.Frame) (fs : List machine.Frame) (v : Term) → is_square f ≡ true → machine.square_closed used (frame_of f ∷ fs, v) ≡ machine.Goes fs used (machine.Has (On v))
+square_matched used frames.Group fs v e = absurd cc
+square_matched used frames.Square fs v e = refl
+square_matched used frames.Prefix fs v e = absurd cc
+square_matched used (frames.Left op a) fs v e = absurd cc
+square_matched used (frames.Applied n args) fs v e = absurd cc
 
 -- one more frame, where it may be opened
 pub opened_below : (fs all : List code_frame.Frame) (f : code_frame.Frame) (used : ℕ) → all ≡ fs ++ f ∷ [] → machine.open_count (stack_of fs) < 64 → machine.opened limits (stack_of fs) used (frame_of f) ≡ machine.Goes (stack_of all) used machine.Wants
 opened_below fs all f used e lt =
-    ap (λ (x : Bool). if x then machine.Goes (frame_of f ∷ stack_of fs) used machine.Wants else machine.Refuses TooDeep) (lt_true _ _ lt)
+    ap (λ (x : Bool). if x then machine.Goes (frame_of f ∷ stack_of fs) used machine.Wants else machine.Refuses TooDeep) (lt-ltb _ _ lt)
     ∙ ap (λ (gs : List machine.Frame). machine.Goes gs used machine.Wants) (sym (ap stack_of e ∙ stack_of-push fs f))
 
 -- an operand after a star and a tilde
-pub star_tilde_other : (fs gs all : List code_frame.Frame) (used : ℕ) (left : Expression) (t : Token) (r : Result code_fed.Fed StepError) → ((w : CheckWord) → t ≡ tokens.Check w → ⊥)
-    → stack_of gs ≡ machine.infix_at Product (stack_of fs) (term_of left) → all ≡ gs ++ frames.Prefix ∷ [] → Feeds t r (machine.operand limits (stack_of all) used t) → Feeds t r (machine.after_star_tilde limits (stack_of fs) used (term_of left) t)
+pub star_tilde_other : (fs gs all : List code_frame.Frame) (used : ℕ) (left : Expression) (t : Token) (r : Result code_step.ExpressionStep StepError) → ((w : CheckWord) → t ≡ tokens.Check w → ⊥)
+    → stack_of gs ≡ machine.infix_at Product (stack_of fs) (term_of left) → all ≡ gs ++ frames.Prefix ∷ [] → StepsTo t r (machine.operand limits (stack_of all) used t) → StepsTo t r (machine.after_star_tilde limits (stack_of fs) used (term_of left) t)
 star_tilde_other fs gs all used left t r other e pushed h =
     let same : stack_of all ≡ machine.InPrefix ∷ machine.infix_at Product (stack_of fs) (term_of left) = ap stack_of pushed ∙ stack_of-push gs frames.Prefix ∙ ap (λ (xs : List machine.Frame). machine.InPrefix ∷ xs) e in
-    by_token t other (subst (λ (xs : List machine.Frame). Feeds t r (machine.operand limits xs used t)) same h)
+    by_token t other (subst (λ (xs : List machine.Frame). StepsTo t r (machine.operand limits xs used t)) same h)
   where
-    by_token : (u : Token) → ((w : CheckWord) → u ≡ tokens.Check w → ⊥) → Feeds t r (machine.operand limits (machine.InPrefix ∷ machine.infix_at Product (stack_of fs) (term_of left)) used u) → Feeds t r (machine.after_star_tilde limits (stack_of fs) used (term_of left) u)
+    by_token : (u : Token) → ((w : CheckWord) → u ≡ tokens.Check w → ⊥) → StepsTo t r (machine.operand limits (machine.InPrefix ∷ machine.infix_at Product (stack_of fs) (term_of left)) used u) → StepsTo t r (machine.after_star_tilde limits (stack_of fs) used (term_of left) u)
     by_token (tokens.Check w) n k = absurd (n w refl)
     by_token _ n k = k
 

@@ -4,10 +4,10 @@ use Rattle.cat_terms.specs.declared.frames.StepError.{StepError}
 use Rattle.cat_terms.specs.declared.frames.StepError.TheVariants as errors
 use Rattle.cat_terms.specs.declared.frames.Frame as code_frame
 use Rattle.cat_terms.specs.declared.frames.Frame.TheVariants as frames
-use Rattle.cat_terms.specs.declared.frames.Hole as code_hole
-use Rattle.cat_terms.specs.declared.frames.Hole.TheVariants as holes
-use Rattle.cat_terms.specs.declared.frames.Fed as code_fed
-use Rattle.cat_terms.specs.declared.frames.Fed.TheVariants as fed
+use Rattle.cat_terms.specs.declared.frames.Expectation as code_expectation
+use Rattle.cat_terms.specs.declared.frames.Expectation.TheVariants as expectations
+use Rattle.cat_terms.specs.declared.frames.ExpressionStep as code_step
+use Rattle.cat_terms.specs.declared.frames.ExpressionStep.TheVariants as code_steps
 use Rattle.cat_tokens.specs.declared.token.Token.{Token}
 use Rattle.cat_tokens.specs.declared.token.Token.TheVariants as tokens
 use Rattle.cat_values.specs.Values.{term_of}
@@ -28,22 +28,22 @@ stacked (f ∷ fs) below = stacked fs (frame_of f ∷ below)
 abbrev pub stack_of : List code_frame.Frame → List machine.Frame
 stack_of fs = stacked fs []
 
-abbrev pub hole_of : code_hole.Hole → machine.Hole
-hole_of holes.Wants = machine.Wants
-hole_of holes.Brace = machine.HasBrace
-hole_of (holes.Named n) = machine.HasName n
-hole_of (holes.Has a) = machine.Has (term_of a)
-hole_of (holes.HasStar a) = machine.HasStar (term_of a)
-hole_of (holes.HasStarTilde a) = machine.HasStarTilde (term_of a)
+abbrev pub expectation_of : code_expectation.Expectation → machine.Expectation
+expectation_of expectations.Wants = machine.Wants
+expectation_of expectations.Brace = machine.HasBrace
+expectation_of (expectations.Named n) = machine.HasName n
+expectation_of (expectations.Has a) = machine.Has (term_of a)
+expectation_of (expectations.HasStar a) = machine.HasStar (term_of a)
+expectation_of (expectations.HasStarTilde a) = machine.HasStarTilde (term_of a)
 
 -- what a token did to an expression, read before this token, is what the machine does, unless memory ran out
-abbrev pub Feeds : Token → Result code_fed.Fed StepError → machine.Fed → Type 0
-Feeds t (Ok (fed.Goes fs used hole)) made = made ≡ machine.Goes (stack_of fs.items) used (hole_of hole)
-Feeds t (Ok (fed.Ends v back)) made = (made ≡ machine.Ends (term_of v)) × (back ≡ t)
-Feeds t (Ok (fed.EndsTilde v w)) made = (made ≡ machine.EndsTilde (term_of v)) × (t ≡ tokens.Check w)
-Feeds t (Err errors.OutOfMemory) made = Unit {0}
-Feeds t (Err (errors.Refused k)) made = made ≡ machine.Refuses k
-Feeds t (Err (errors.RefusedBefore k)) made = ⊥
+abbrev pub StepsTo : Token → Result code_step.ExpressionStep StepError → machine.StepResult → Type 0
+StepsTo t (Ok (code_steps.Goes fs used expected)) made = made ≡ machine.Goes (stack_of fs.items) used (expectation_of expected)
+StepsTo t (Ok (code_steps.Ends v back)) made = (made ≡ machine.Ends (term_of v)) × (back ≡ t)
+StepsTo t (Ok (code_steps.EndsTilde v w)) made = (made ≡ machine.EndsTilde (term_of v)) × (t ≡ tokens.Check w)
+StepsTo t (Err errors.OutOfMemory) made = Unit {0}
+StepsTo t (Err (errors.Refused k)) made = made ≡ machine.Refuses k
+StepsTo t (Err (errors.RefusedBefore k)) made = ⊥
 
 abbrev pub is_open : code_frame.Frame → Bool
 is_open frames.Group = true
@@ -51,6 +51,13 @@ is_open frames.Square = true
 is_open frames.Prefix = true
 is_open (frames.Left op a) = false
 is_open (frames.Applied n args) = true
+
+abbrev pub is_square : code_frame.Frame → Bool
+is_square frames.Group = false
+is_square frames.Square = true
+is_square frames.Prefix = false
+is_square (frames.Left op a) = false
+is_square (frames.Applied n args) = false
 
 abbrev pub is_no_bracket : code_frame.Frame → Bool
 is_no_bracket frames.Group = false

@@ -1,10 +1,10 @@
-//! What stands open within an expression.
+//! The open brackets and operators of an expression.
 
 ghost use Rattle.std.specs.Prelude.{◌≡◌, ◌+◌, IfOk};
 ghost use Rattle.cat_grammar.specs.Machine.{open_count, is_outermost, fold_to, opened, infix_at};
 ghost use Rattle.cat_grammar.specs.Grammar.{limits, level, left_level};
 ghost use Rattle.cat_values.specs.Values.{term_of};
-ghost use Rattle.cat_terms.specs.Reading.{frame_of, stack_of, Feeds};
+ghost use Rattle.cat_terms.specs.Reading.{frame_of, stack_of, StepsTo};
 ghost use Rattle.cat_tokens.specs.declared.token.Token.{Token};
 ghost use Rattle.cat_terms.specs.declared.frames.StepError.TheVariants.{OutOfMemory};
 
@@ -13,14 +13,14 @@ use cat_values::{CheckWord, Expression, Infix};
 use source_text::Name;
 use std::alloc::{AllocError, AllocFailed, Global};
 
-/// Why a token was not taken.
+/// Why a step over a token failed.
 #[derive(Drop)]
 pub enum StepError {
-    /// A growth was refused.
+    /// Memory ran out.
     OutOfMemory,
     /// The token breaks a rule.
     Refused(CatRule),
-    /// The token before this one breaks a rule, as this one shows.
+    /// The token before this one breaks a rule, which shows only now.
     RefusedBefore(CatRule),
 }
 
@@ -40,7 +40,7 @@ impl<T: Drop> From<AllocFailed<T>> for StepError {
     }
 }
 
-/// What stands open to the left of a place in an expression.
+/// What is open to the left of a token.
 #[derive(Drop)]
 pub enum Frame {
     /// `(`
@@ -55,38 +55,38 @@ pub enum Frame {
     Applied(Name, Vec<Expression>),
 }
 
-/// What was read last.
+/// What the reader expects next, with what it read last.
 #[derive(Drop)]
-pub enum Hole {
-    /// An operand is wanted.
+pub enum Expectation {
+    /// An operand.
     Wants,
-    /// `{`
+    /// The `}` behind `{`.
     Brace,
-    /// A name, which is a function where `(` follows.
+    /// The token behind a name, which is a function if that token is `(`.
     Named(Name),
-    /// A whole operand.
+    /// The token behind an operand.
     Has(Expression),
-    /// An operand and `*`.
+    /// The token behind an operand and `*`.
     HasStar(Expression),
-    /// An operand, `*` and `~`, outside all brackets.
+    /// The token behind an operand, `*` and `~`, outside all brackets.
     HasStarTilde(Expression),
 }
 
-/// What a token did.
+/// The result of a step over a token.
 #[derive(Drop)]
-pub enum Fed {
-    /// The expression goes on.
-    Goes(Vec<Frame>, usize, Hole),
+pub enum ExpressionStep {
+    /// The expression goes on: the open frames, the number of operators so far, and what is expected.
+    Goes(Vec<Frame>, usize, Expectation),
     /// The expression ended before this token.
     Ends(Expression, Token),
     /// The expression ended before the `~` that stands before this check word.
     EndsTilde(Expression, CheckWord),
 }
 
-/// How many brackets and prefixes may be open at once.
+/// The greatest number of brackets and prefixes that are open at once.
 pub const MAX_NESTING: usize = 64;
 
-/// How many infix and postfix operators an expression may have.
+/// The greatest number of infix and postfix operators of an expression.
 pub const MAX_OPERATORS: usize = 1024;
 
 // How tightly the operator binds.
@@ -116,7 +116,7 @@ fn left_level(op: Infix) -> usize
 }
 
 impl Frame {
-    ghost use Rattle.cat_terms.specs.Reading.{is_open, is_no_bracket};
+    ghost use Rattle.cat_terms.specs.Reading.{is_open, is_square, is_no_bracket};
 
     // Whether it counts as open.
     fn is_open(&self) -> bool
@@ -127,6 +127,19 @@ impl Frame {
             Frame::Square => true,
             Frame::Prefix => true,
             Frame::Applied(_, _) => true,
+            Frame::Left(_, _) => false,
+        }
+    }
+
+    // Whether it is `[`.
+    pub(crate) fn is_square(&self) -> bool
+        ensures { result ≡ is_square self.now }
+    {
+        match self {
+            Frame::Group => false,
+            Frame::Square => true,
+            Frame::Prefix => false,
+            Frame::Applied(_, _) => false,
             Frame::Left(_, _) => false,
         }
     }
@@ -145,7 +158,7 @@ impl Frame {
     }
 }
 
-/// Joins the operand with what binds at least this tightly to its left.
+/// Joins the operand with the open operators to its left that bind at least this tightly.
 pub fn joined(
     alloc: Global,
     least: usize,
@@ -205,15 +218,19 @@ pub fn are_outermost(frames: &[Frame]) -> bool
 }
 
 /// Opens a bracket or a prefix.
-pub fn opened(frames: Vec<Frame>, operators: usize, frame: Frame) -> Result<Fed, StepError>
-    ensures { (t : Token) → Feeds t result (opened limits (stack_of frames.items) operators (frame_of frame)) }
+pub fn opened(
+    frames: Vec<Frame>,
+    operators: usize,
+    frame: Frame,
+) -> Result<ExpressionStep, StepError>
+    ensures { (t : Token) → StepsTo t result (opened limits (stack_of frames.items) operators (frame_of frame)) }
 {
     let mut frames = frames;
     if open_frames(&frames) >= MAX_NESTING {
         return Err(StepError::Refused(CatRule::TooDeep));
     }
     frames.push(frame)?;
-    Ok(Fed::Goes(frames, operators, Hole::Wants))
+    Ok(ExpressionStep::Goes(frames, operators, Expectation::Wants))
 }
 
 /// The frames after an infix operator whose left operand was read.

@@ -1,14 +1,15 @@
-//! Reads an expression, a token after the other.
+//! Reads an expression, token by token.
 
 ghost use Rattle.std.specs.Prelude.{◌≡◌, ◌+◌};
-ghost use Rattle.cat_grammar.specs.Machine.{fold_to, operand, after_brace, ended, closed, square_closed, comma_read, after, after_name, after_star, after_star_tilde, feed};
+ghost use Rattle.cat_grammar.specs.Machine.{fold_to, operand, after_brace, ended, closed, square_closed, comma_read, after, after_name, after_star, after_star_tilde, expression_step};
 ghost use Rattle.cat_grammar.specs.Grammar.{limits};
 ghost use Rattle.cat_values.specs.Values.{term_of};
-ghost use Rattle.cat_terms.specs.Reading.{stack_of, hole_of, Feeds};
+ghost use Rattle.cat_terms.specs.Reading.{stack_of, expectation_of, StepsTo};
 ghost use Rattle.cat_tokens.specs.declared.token.Token.TheVariants.{Close, CloseSquare, Comma};
 
 use crate::frames::{
-    Fed, Frame, Hole, MAX_OPERATORS, StepError, are_outermost, infix_after, joined, opened,
+    Expectation, ExpressionStep, Frame, MAX_OPERATORS, StepError, are_outermost, infix_after,
+    joined, opened,
 };
 use cat_tokens::{CatRule, Token};
 use cat_values::{Expression, Infix, Postfix};
@@ -16,14 +17,22 @@ use source_text::Name;
 use std::alloc::Global;
 
 // A token where an operand is wanted.
-fn operand(frames: Vec<Frame>, operators: usize, token: Token) -> Result<Fed, StepError>
-    ensures { Feeds token result (operand limits (stack_of frames.items) operators token) }
+fn operand(frames: Vec<Frame>, operators: usize, token: Token) -> Result<ExpressionStep, StepError>
+    ensures { StepsTo token result (operand limits (stack_of frames.items) operators token) }
 {
     match token {
-        Token::Name(name) => Ok(Fed::Goes(frames, operators, Hole::Named(name))),
-        Token::Underscore => Ok(Fed::Goes(frames, operators, Hole::Has(Expression::Everything))),
-        Token::Zero => Ok(Fed::Goes(frames, operators, Hole::Has(Expression::NoPairs))),
-        Token::OpenBrace => Ok(Fed::Goes(frames, operators, Hole::Brace)),
+        Token::Name(name) => Ok(ExpressionStep::Goes(frames, operators, Expectation::Named(name))),
+        Token::Underscore => Ok(ExpressionStep::Goes(
+            frames,
+            operators,
+            Expectation::Has(Expression::Everything),
+        )),
+        Token::Zero => Ok(ExpressionStep::Goes(
+            frames,
+            operators,
+            Expectation::Has(Expression::NoPairs),
+        )),
+        Token::OpenBrace => Ok(ExpressionStep::Goes(frames, operators, Expectation::Brace)),
         Token::Tilde => opened(frames, operators, Frame::Prefix),
         Token::Open => opened(frames, operators, Frame::Group),
         Token::OpenSquare => opened(frames, operators, Frame::Square),
@@ -32,11 +41,19 @@ fn operand(frames: Vec<Frame>, operators: usize, token: Token) -> Result<Fed, St
 }
 
 // A token after `{`.
-fn after_brace(frames: Vec<Frame>, operators: usize, token: Token) -> Result<Fed, StepError>
-    ensures { Feeds token result (after_brace (stack_of frames.items) operators token) }
+fn after_brace(
+    frames: Vec<Frame>,
+    operators: usize,
+    token: Token,
+) -> Result<ExpressionStep, StepError>
+    ensures { StepsTo token result (after_brace (stack_of frames.items) operators token) }
 {
     match token {
-        Token::CloseBrace => Ok(Fed::Goes(frames, operators, Hole::Has(Expression::NoEvents))),
+        Token::CloseBrace => Ok(ExpressionStep::Goes(
+            frames,
+            operators,
+            Expectation::Has(Expression::NoEvents),
+        )),
         other => Err(StepError::Refused(other.rule())),
     }
 }
@@ -47,19 +64,23 @@ fn closed(
     frames: Vec<Frame>,
     operators: usize,
     operand: Expression,
-) -> Result<Fed, StepError>
-    ensures { Feeds Close result (closed operators (fold_to 0 (stack_of frames.items) (term_of operand))) }
+) -> Result<ExpressionStep, StepError>
+    ensures { StepsTo Close result (closed operators (fold_to 0 (stack_of frames.items) (term_of operand))) }
 {
     let mut frames = frames;
     let operand = joined(alloc, 0, &mut frames, operand)?;
     match frames.pop() {
-        None => Ok(Fed::Ends(operand, Token::Close)),
-        Some(Frame::Group) => Ok(Fed::Goes(frames, operators, Hole::Has(operand))),
+        None => Ok(ExpressionStep::Ends(operand, Token::Close)),
+        Some(Frame::Group) => Ok(ExpressionStep::Goes(
+            frames,
+            operators,
+            Expectation::Has(operand),
+        )),
         Some(Frame::Applied(name, arguments)) => {
             let mut arguments = arguments;
             arguments.push(operand)?;
             let applied = Expression::Applied(name, arguments);
-            Ok(Fed::Goes(frames, operators, Hole::Has(applied)))
+            Ok(ExpressionStep::Goes(frames, operators, Expectation::Has(applied)))
         }
         Some(Frame::Square) => Err(StepError::Refused(CatRule::Syntax)),
         Some(Frame::Prefix) => Err(StepError::Refused(CatRule::Syntax)),
@@ -73,22 +94,19 @@ fn square_closed(
     frames: Vec<Frame>,
     operators: usize,
     operand: Expression,
-) -> Result<Fed, StepError>
-    ensures { Feeds CloseSquare result (square_closed operators (fold_to 0 (stack_of frames.items) (term_of operand))) }
+) -> Result<ExpressionStep, StepError>
+    ensures { StepsTo CloseSquare result (square_closed operators (fold_to 0 (stack_of frames.items) (term_of operand))) }
 {
     let mut frames = frames;
     let operand = joined(alloc, 0, &mut frames, operand)?;
-    match frames.pop() {
-        None => Ok(Fed::Ends(operand, Token::CloseSquare)),
-        Some(Frame::Square) => {
-            let identity = Expression::Identity(Box::new(alloc, operand)?);
-            Ok(Fed::Goes(frames, operators, Hole::Has(identity)))
-        }
-        Some(Frame::Group) => Err(StepError::Refused(CatRule::Syntax)),
-        Some(Frame::Applied(_, _)) => Err(StepError::Refused(CatRule::Syntax)),
-        Some(Frame::Prefix) => Err(StepError::Refused(CatRule::Syntax)),
-        Some(Frame::Left(_, _)) => Err(StepError::Refused(CatRule::Syntax)),
+    let Some(frame) = frames.pop() else {
+        return Ok(ExpressionStep::Ends(operand, Token::CloseSquare));
+    };
+    if !frame.is_square() {
+        return Err(StepError::Refused(CatRule::Syntax));
     }
+    let identity = Expression::Identity(Box::new(alloc, operand)?);
+    Ok(ExpressionStep::Goes(frames, operators, Expectation::Has(identity)))
 }
 
 // A `,` after an operand.
@@ -97,18 +115,18 @@ fn comma_read(
     frames: Vec<Frame>,
     operators: usize,
     operand: Expression,
-) -> Result<Fed, StepError>
-    ensures { Feeds Comma result (comma_read operators (fold_to 0 (stack_of frames.items) (term_of operand))) }
+) -> Result<ExpressionStep, StepError>
+    ensures { StepsTo Comma result (comma_read operators (fold_to 0 (stack_of frames.items) (term_of operand))) }
 {
     let mut frames = frames;
     let operand = joined(alloc, 0, &mut frames, operand)?;
     match frames.pop() {
-        None => Ok(Fed::Ends(operand, Token::Comma)),
+        None => Ok(ExpressionStep::Ends(operand, Token::Comma)),
         Some(Frame::Applied(name, arguments)) => {
             let mut arguments = arguments;
             arguments.push(operand)?;
             frames.push(Frame::Applied(name, arguments))?;
-            Ok(Fed::Goes(frames, operators, Hole::Wants))
+            Ok(ExpressionStep::Goes(frames, operators, Expectation::Wants))
         }
         Some(Frame::Group) => Err(StepError::Refused(CatRule::Syntax)),
         Some(Frame::Square) => Err(StepError::Refused(CatRule::Syntax)),
@@ -123,13 +141,13 @@ fn ended(
     frames: Vec<Frame>,
     operand: Expression,
     token: Token,
-) -> Result<Fed, StepError>
-    ensures { Feeds token result (ended token (fold_to 0 (stack_of frames.items) (term_of operand))) }
+) -> Result<ExpressionStep, StepError>
+    ensures { StepsTo token result (ended token (fold_to 0 (stack_of frames.items) (term_of operand))) }
 {
     let mut frames = frames;
     let operand = joined(alloc, 0, &mut frames, operand)?;
     match frames.pop() {
-        None => Ok(Fed::Ends(operand, token)),
+        None => Ok(ExpressionStep::Ends(operand, token)),
         Some(_) => Err(StepError::Refused(token.rule())),
     }
 }
@@ -141,8 +159,8 @@ fn after(
     operators: usize,
     operand: Expression,
     token: Token,
-) -> Result<Fed, StepError>
-    ensures { Feeds token result (after limits (stack_of frames.items) operators (term_of operand) token) }
+) -> Result<ExpressionStep, StepError>
+    ensures { StepsTo token result (after limits (stack_of frames.items) operators (term_of operand) token) }
 {
     match token {
         Token::Sign(sign) => {
@@ -150,20 +168,20 @@ fn after(
                 return Err(StepError::Refused(CatRule::TooDeep));
             }
             let frames = infix_after(alloc, frames, sign.infix(), operand)?;
-            Ok(Fed::Goes(frames, operators + 1, Hole::Wants))
+            Ok(ExpressionStep::Goes(frames, operators + 1, Expectation::Wants))
         }
         Token::Mark(mark) => {
             if operators >= MAX_OPERATORS {
                 return Err(StepError::Refused(CatRule::TooDeep));
             }
             let marked = Expression::Marked(mark.postfix(), Box::new(alloc, operand)?);
-            Ok(Fed::Goes(frames, operators + 1, Hole::Has(marked)))
+            Ok(ExpressionStep::Goes(frames, operators + 1, Expectation::Has(marked)))
         }
         Token::Star => {
             if operators >= MAX_OPERATORS {
                 return Err(StepError::Refused(CatRule::TooDeep));
             }
-            Ok(Fed::Goes(frames, operators + 1, Hole::HasStar(operand)))
+            Ok(ExpressionStep::Goes(frames, operators + 1, Expectation::HasStar(operand)))
         }
         Token::Close => closed(alloc, frames, operators, operand),
         Token::CloseSquare => square_closed(alloc, frames, operators, operand),
@@ -179,8 +197,8 @@ fn after_name(
     operators: usize,
     name: Name,
     token: Token,
-) -> Result<Fed, StepError>
-    ensures { Feeds token result (after_name limits (stack_of frames.items) operators name token) }
+) -> Result<ExpressionStep, StepError>
+    ensures { StepsTo token result (after_name limits (stack_of frames.items) operators name token) }
 {
     match token {
         Token::Open => opened(frames, operators, Frame::Applied(name, Vec::new(alloc))),
@@ -195,13 +213,13 @@ fn after_star(
     operators: usize,
     left: Expression,
     token: Token,
-) -> Result<Fed, StepError>
-    ensures { Feeds token result (after_star limits (stack_of frames.items) operators (term_of left) token) }
+) -> Result<ExpressionStep, StepError>
+    ensures { StepsTo token result (after_star limits (stack_of frames.items) operators (term_of left) token) }
 {
     match token {
         Token::Tilde => {
             if are_outermost(&frames) {
-                return Ok(Fed::Goes(frames, operators, Hole::HasStarTilde(left)));
+                return Ok(ExpressionStep::Goes(frames, operators, Expectation::HasStarTilde(left)));
             }
             let frames = infix_after(alloc, frames, Infix::Product, left)?;
             operand(frames, operators, Token::Tilde)
@@ -224,15 +242,15 @@ fn after_star_tilde(
     operators: usize,
     left: Expression,
     token: Token,
-) -> Result<Fed, StepError>
-    ensures { Feeds token result (after_star_tilde limits (stack_of frames.items) operators (term_of left) token) }
+) -> Result<ExpressionStep, StepError>
+    ensures { StepsTo token result (after_star_tilde limits (stack_of frames.items) operators (term_of left) token) }
 {
     match token {
         Token::Check(word) => {
             let mut frames = frames;
             let closure = Expression::Marked(Postfix::Closure, Box::new(alloc, left)?);
             let whole = joined(alloc, 0, &mut frames, closure)?;
-            Ok(Fed::EndsTilde(whole, word))
+            Ok(ExpressionStep::EndsTilde(whole, word))
         }
         other => {
             let mut frames = infix_after(alloc, frames, Infix::Product, left)?;
@@ -242,23 +260,23 @@ fn after_star_tilde(
     }
 }
 
-/// A token within an expression, of which these frames are open and this many operators were read.
-/// Errors: want of memory, or the rule that this token, or the one before it, breaks.
-pub fn feed(
+/// The step over a token of an expression: `frames` are open, the innermost last, and `operators` counts the
+/// operators so far. Errors: out of memory, or the rule that this token breaks.
+pub fn expression_step(
     alloc: Global,
     frames: Vec<Frame>,
     operators: usize,
-    hole: Hole,
+    expected: Expectation,
     token: Token,
-) -> Result<Fed, StepError>
-    ensures { Feeds token result (feed limits (stack_of frames.items) operators (hole_of hole) token) }
+) -> Result<ExpressionStep, StepError>
+    ensures { StepsTo token result (expression_step limits (stack_of frames.items) operators (expectation_of expected) token) }
 {
-    match hole {
-        Hole::Wants => operand(frames, operators, token),
-        Hole::Brace => after_brace(frames, operators, token),
-        Hole::Named(name) => after_name(alloc, frames, operators, name, token),
-        Hole::Has(left) => after(alloc, frames, operators, left, token),
-        Hole::HasStar(left) => after_star(alloc, frames, operators, left, token),
-        Hole::HasStarTilde(left) => after_star_tilde(alloc, frames, operators, left, token),
+    match expected {
+        Expectation::Wants => operand(frames, operators, token),
+        Expectation::Brace => after_brace(frames, operators, token),
+        Expectation::Named(name) => after_name(alloc, frames, operators, name, token),
+        Expectation::Has(left) => after(alloc, frames, operators, left, token),
+        Expectation::HasStar(left) => after_star(alloc, frames, operators, left, token),
+        Expectation::HasStarTilde(left) => after_star_tilde(alloc, frames, operators, left, token),
     }
 }

@@ -11,19 +11,19 @@ use Rattle.cat_tokens.specs.Tokens.{Placed}
 use Rattle.cat_tokens.specs.Lexer.{front, after_front, tokens_from}
 
 -- passing over bytes
-pub tokens_skip : (k place : ℕ) (bs : List ℕ) → k ≤ length bs → tokens_from k place bs ≡ tokens_from 0 (place + k) (drop k bs)
+pub tokens_skip : (k offset : ℕ) (bs : List ℕ) → k ≤ length bs → tokens_from k offset bs ≡ tokens_from 0 (offset + k) (drop k bs)
 unfolding tokens_from
-tokens_skip zero place bs h = ap (λ n. tokens_from 0 n bs) (omega arith)
-tokens_skip (suc k) place [] h = absurd (omega arith)
-tokens_skip (suc k) place (b ∷ bs) h =
-    tokens_skip k (place + 1) bs (omega arith) ∙ ap (λ n. tokens_from 0 n (drop k bs)) (omega arith)
+tokens_skip zero offset bs h = ap (λ n. tokens_from 0 n bs) (omega arith)
+tokens_skip (suc k) offset [] h = absurd (omega arith)
+tokens_skip (suc k) offset (b ∷ bs) h =
+    tokens_skip k (offset + 1) bs (omega arith) ∙ ap (λ n. tokens_from 0 n (drop k bs)) (omega arith)
 
-pub tokens_past : (k place : ℕ) (bs : List ℕ) → length bs ≤ k → tokens_from k place bs ≡ tokens_from 0 (place + length bs) []
+pub tokens_past : (k offset : ℕ) (bs : List ℕ) → length bs ≤ k → tokens_from k offset bs ≡ tokens_from 0 (offset + length bs) []
 unfolding tokens_from
-tokens_past zero place [] h = ap (λ n. record { token = tokens.End; place = n } ∷ []) (omega arith)
-tokens_past zero place (b ∷ bs) h = absurd (omega arith)
-tokens_past (suc k) place [] h = ap (λ n. record { token = tokens.End; place = n } ∷ []) (omega arith)
-tokens_past (suc k) place (b ∷ bs) h = tokens_past k (place + 1) bs (omega arith) ∙ ap (λ n. tokens_from 0 n []) (omega arith)
+tokens_past zero offset [] h = ap (λ n. record { token = tokens.End; offset = n } ∷ []) (omega arith)
+tokens_past zero offset (b ∷ bs) h = absurd (omega arith)
+tokens_past (suc k) offset [] h = ap (λ n. record { token = tokens.End; offset = n } ∷ []) (omega arith)
+tokens_past (suc k) offset (b ∷ bs) h = tokens_past k (offset + 1) bs (omega arith) ∙ ap (λ n. tokens_from 0 n []) (omega arith)
 
 -- one token, or what stands between tokens
 module _ (bytes : List ℕ) (p n q : ℕ) (lt : p < length bytes) (is : q ≡ p + min (max n 1) (length bytes - p)) where
@@ -50,10 +50,10 @@ module _ (bytes : List ℕ) (p n q : ℕ) (lt : p < length bytes) (is : q ≡ p 
   pub layout_turn : (f : Front) → f ≡ front (drop p bytes) → f ≡ Layout n → tokens_from 0 p (drop p bytes) ≡ tokens_from 0 q (drop q bytes)
   layout_turn f e k = opens_with f e ∙ ap (λ (g : Front). after_front p g (λ skip. tokens_from skip (p + 1) (drop (p + 1) bytes))) k ∙ next
 
-  pub lexeme_turn : (f : Front) (t : Token) → f ≡ front (drop p bytes) → f ≡ Lexeme t n → tokens_from 0 p (drop p bytes) ≡ record { token = t; place = p } ∷ tokens_from 0 q (drop q bytes)
+  pub lexeme_turn : (f : Front) (t : Token) → f ≡ front (drop p bytes) → f ≡ Lexeme t n → tokens_from 0 p (drop p bytes) ≡ record { token = t; offset = p } ∷ tokens_from 0 q (drop q bytes)
   lexeme_turn f t e k =
-      opens_with f e ∙ ap (λ (g : Front). after_front p g (λ skip. tokens_from skip (p + 1) (drop (p + 1) bytes))) k ∙ ap (λ (ps : List Placed). record { token = t; place = p } ∷ ps) next
+      opens_with f e ∙ ap (λ (g : Front). after_front p g (λ skip. tokens_from skip (p + 1) (drop (p + 1) bytes))) k ∙ ap (λ (ps : List Placed). record { token = t; offset = p } ∷ ps) next
 
-pub at_end : (bytes : List ℕ) (p : ℕ) → p ≤ length bytes → length bytes ≤ p → tokens_from 0 p (drop p bytes) ≡ record { token = tokens.End; place = p } ∷ []
+pub at_end : (bytes : List ℕ) (p : ℕ) → p ≤ length bytes → length bytes ≤ p → tokens_from 0 p (drop p bytes) ≡ record { token = tokens.End; offset = p } ∷ []
 unfolding tokens_from
 at_end bytes p low high = ap (tokens_from 0 p) (drop_all p bytes high)

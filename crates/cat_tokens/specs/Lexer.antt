@@ -1,5 +1,5 @@
 -- The tokens of a text, each with the byte that it begins at.
-use Rattle.std.specs.Prelude.{ℕ, zero, suc, ◌+◌, ◌-◌, List, [], ◌∷◌, Bool, ◌||◌, ◌&&◌, ◌==◌, nat_le, not, Option, Some, None, length, take, drop, slice_index, if◌then◌else◌}
+use Rattle.std.specs.Prelude.{ℕ, zero, suc, ◌+◌, ◌-◌, List, [], ◌∷◌, Bool, ◌||◌, ◌&&◌, ◌==◌, not, Option, Some, None, length, take, drop, slice_index, if◌then◌else◌}
 use Rattle.std.specs.List.{position_or_len}
 use Rattle.cat_tokens.specs.Words.{word_token}
 use Rattle.cat_tokens.specs.Tokens.{Placed}
@@ -75,14 +75,14 @@ front bs =
 -- ---- all tokens of a text
 
 abbrev pub after_front : ℕ → Front → (ℕ → List Placed) → List Placed
-after_front place (Layout n) later = later (n - 1)
-after_front place (Lexeme t n) later = record { token = t; place = place } ∷ later (n - 1)
+after_front offset (Layout n) later = later (n - 1)
+after_front offset (Lexeme t n) later = record { token = t; offset = offset } ∷ later (n - 1)
 
--- the tokens of a text that begins at a place, once skip bytes are passed over, and its end
+-- the tokens of a text that begins at an offset, once skip bytes are passed over, and its end
 unfoldable pub tokens_from : ℕ → ℕ → List ℕ → List Placed
-tokens_from skip place [] = record { token = tokens.End; place = place } ∷ []
-tokens_from (suc skip) place (b ∷ bs) = tokens_from skip (place + 1) bs
-tokens_from zero place (b ∷ bs) = after_front place (front (b ∷ bs)) (λ skip. tokens_from skip (place + 1) bs)
+tokens_from skip offset [] = record { token = tokens.End; offset = offset } ∷ []
+tokens_from (suc skip) offset (b ∷ bs) = tokens_from skip (offset + 1) bs
+tokens_from zero offset (b ∷ bs) = after_front offset (front (b ∷ bs)) (λ skip. tokens_from skip (offset + 1) bs)
 
 abbrev pub lexed : List ℕ → List Placed
 lexed bytes = tokens_from 0 0 bytes

@@ -50,7 +50,7 @@ postfix_of Inverse = postfix.Inverse
 -- a token and the byte that it begins at
 pub record Placed : Type 0 where
   pub token : Token
-  pub place : ℕ
+  pub offset : ℕ
 
 abbrev pub tokens_of : List Placed → List Token
 tokens_of [] = []

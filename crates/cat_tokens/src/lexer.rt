@@ -13,12 +13,12 @@ use source_text::{
 };
 use std::alloc::{AllocError, Global};
 
-/// What a text begins with, and how many bytes it takes.
-#[derive(Debug, Drop)]
+/// The front of a text: layout or a token, with its length in bytes.
+#[derive(Drop)]
 pub enum Front {
-    /// Blanks, line ends or a comment, of so many bytes.
+    /// Blanks, line ends or a comment: the length.
     Layout(usize),
-    /// A token, of so many bytes.
+    /// A token and its length.
     Lexeme(Token, usize),
 }
 
@@ -108,7 +108,7 @@ fn mark_or_sign(text: &[u8]) -> Front
     Front::Lexeme(sign_token(byte), 1)
 }
 
-/// What the text begins with. Errors: want of memory.
+/// The front of the text. Errors: out of memory.
 #[tactic(auto, unfolding(crate::specs::Lexer::front))]
 pub fn front_of(alloc: Global, text: &[u8]) -> Result<Front, AllocError>
     requires { 0 < length text.now }

@@ -1,4 +1,5 @@
-//! The tokens of models in the cat language.
+//! The tokens of models in the cat language. Read specs/Lexer.antt first: `lexed` is the list of the tokens of a text
+//! with their offsets.
 #![tactic(auto)]
 
 mod lexer;

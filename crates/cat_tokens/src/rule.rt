@@ -8,12 +8,12 @@ ghost use Rattle.cat_tokens.specs.Tokens.{number_of};
 pub enum CatRule {
     /// C1: a byte that begins no token.
     Token,
-    /// C2: a token that cannot stand there, where no other rule says so; a comment or a string that
-    /// does not end; an early end.
+    /// C2: a misplaced token, unless another rule names it; a comment or a string that does not end;
+    /// a text that ends too early.
     Syntax,
     /// C3: an `include` of another file than `cos.cat` and `stdlib.cat`.
     Include,
-    /// C4: a keyword of what is not read here, the token `++`, or `(` after a name that follows
+    /// C4: a keyword that is not supported, the token `++`, or `(` after a name that follows
     /// `let rec` or `and`.
     Unsupported,
     /// C5: the 257th item, the 65th name of a group or the ninth parameter.

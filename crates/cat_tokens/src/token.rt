@@ -8,7 +8,7 @@ use cat_values::{CheckWord, Infix, Postfix};
 use source_text::Name;
 
 /// An infix operator of one sign that is never postfix.
-#[derive(Clone, Copy, Debug, PartialEq, Eq)]
+#[derive(Clone, Copy, PartialEq, Eq)]
 pub enum Sign {
     /// `|`
     Bar,
@@ -21,7 +21,7 @@ pub enum Sign {
 }
 
 /// A postfix operator that is never infix.
-#[derive(Clone, Copy, Debug, PartialEq, Eq)]
+#[derive(Clone, Copy, PartialEq, Eq)]
 pub enum Mark {
     /// `+`
     Plus,
@@ -31,8 +31,8 @@ pub enum Mark {
     Inverse,
 }
 
-/// A token, the end of the text, or what stands where no token begins.
-#[derive(Debug, Drop)]
+/// A token, the end of the text, or a text that is no token.
+#[derive(Drop)]
 pub enum Token {
     /// A name, which is no keyword.
     Name(Name),
@@ -86,7 +86,7 @@ pub enum Token {
     Include,
     /// The end of the text.
     End,
-    /// What stands nowhere, with the rule that it breaks.
+    /// A text that breaks this rule wherever it stands.
     Broken(CatRule),
 }
 
@@ -118,7 +118,7 @@ impl Mark {
 }
 
 impl Token {
-    /// The rule that the token breaks where it cannot stand.
+    /// The rule that the token breaks where it is misplaced.
     pub fn rule(&self) -> CatRule
         ensures { result ≡ rule_of self.now }
     {
@@ -128,7 +128,7 @@ impl Token {
         }
     }
 
-    /// Whether an operand begins with the token, the prefix `~` aside.
+    /// Whether an operand can begin with the token; `~` does not count.
     pub fn begins_operand(&self) -> bool
         ensures { result ≡ begins_operand self.now }
     {

@@ -1,4 +1,4 @@
-//! The words of the language, which are no names.
+//! The words of the language that are not names.
 
 ghost use Rattle.std.specs.Prelude.{◌≡◌, IfOk};
 ghost use Rattle.cat_tokens.specs.Words.{item_word, part_word, is_definition_word, is_other_word, word_token};
@@ -131,7 +131,7 @@ fn part_word(text: &[u8]) -> Option<Token>
     None
 }
 
-/// The token that a word is: a word of the grammar, one that is not supported, or a name.
+/// The token of a word: a keyword, a keyword that is not supported, or a name.
 pub fn word_token(alloc: Global, text: &[u8]) -> Result<Token, AllocError>
     ensures { IfOk result (λ t. t ≡ word_token text.now) }
 {

@@ -1,4 +1,5 @@
-//! Models in the cat language: what the text of a model means, and the predefined names.
+//! Models in the cat language as values, and the predefined names. Read specs/Value.antt first: it says
+//! what an item and an expression mean. Other crates cite proofs/Arguments.antt.
 #![tactic(auto)]
 
 mod model;
@@ -6,6 +7,7 @@ mod predefined;
 mod same;
 
 pub use model::{
-    Binding, Check, CheckWord, Expression, Infix, Item, ModelText, Postfix, ShownExpression,
+    Binding, Check, CheckWord, Expression, Infix, Item, MAX_PARAMETERS, ModelText, Postfix,
+    ShownExpression,
 };
 pub use predefined::{PREDEFINED, PREDEFINED_COUNT, Predefined};

@@ -2,6 +2,9 @@
 
 use source_text::Name;
 
+/// The greatest number of parameters of a function.
+pub const MAX_PARAMETERS: usize = 8;
+
 /// An infix operator.
 #[derive(Clone, Copy, Debug, PartialEq, Eq)]
 pub enum Infix {
@@ -30,8 +33,8 @@ pub enum Postfix {
     Closure,
 }
 
-/// An expression (the herd7 manual, chapter on cat). Grouping brackets are not kept.
-#[derive(Debug, Drop)]
+/// An expression (the herd7 manual, chapter on cat). The value does not show which operands stood in parentheses.
+#[derive(Drop)]
 pub enum Expression {
     /// A name.
     Named(Name),
@@ -53,8 +56,8 @@ pub enum Expression {
     Applied(Name, Vec<Expression>),
 }
 
-/// What a check asks of its expression.
-#[derive(Clone, Copy, Debug, PartialEq, Eq)]
+/// The property that a check asks for.
+#[derive(Clone, Copy, PartialEq, Eq)]
 pub enum CheckWord {
     /// `acyclic`: the relation has no cycle.
     Acyclic,
@@ -65,36 +68,36 @@ pub enum CheckWord {
 }
 
 /// `["~"] ("acyclic" | "irreflexive" | "empty") e`
-#[derive(Debug, Drop)]
+#[derive(Drop)]
 pub struct Check {
     /// Whether `~` stands before the word.
     pub negated: bool,
-    /// What is asked.
+    /// The property.
     pub word: CheckWord,
-    /// Of what it is asked.
+    /// The set or the relation that is to have the property.
     pub body: Expression,
 }
 
 /// One name of a group, with its body.
-#[derive(Debug, Drop)]
+#[derive(Drop)]
 pub struct Binding {
-    /// What is bound.
+    /// The name.
     pub name: Name,
-    /// What it stands for.
+    /// Its meaning.
     pub body: Expression,
 }
 
 /// One expression of a `show` or an `unshow`.
-#[derive(Debug, Drop)]
+#[derive(Drop)]
 pub struct ShownExpression {
-    /// What is shown.
+    /// The expression.
     pub body: Expression,
     /// The name after `as`, if there is one.
     pub label: Option<Name>,
 }
 
-/// An item of a model: an instruction of cat, in the words of the herd7 manual, chapter on cat.
-#[derive(Debug, Drop)]
+/// An item of a model: an instruction of cat (the herd7 manual, chapter on cat).
+#[derive(Drop)]
 pub enum Item {
     /// `let` or `let rec`, with one binding or more.
     Let {
@@ -107,12 +110,12 @@ pub enum Item {
         parameters: Vec<Name>,
         body: Expression,
     },
-    /// A check that executions are kept by.
+    /// A check: an execution that fails it is forbidden.
     Check {
         check: Check,
         label: Option<Name>,
     },
-    /// A check whose name is raised.
+    /// A flag: an execution that passes the check raises the label.
     Flag {
         check: Check,
         label: Name,
@@ -127,8 +130,8 @@ pub enum Item {
 }
 
 /// A model: its items in the order of the text. The title is not kept.
-#[derive(Debug, Drop)]
+#[derive(Drop)]
 pub struct ModelText {
-    /// At most 256 where a text was read.
+    /// The items. A model that was read from a text has at most 256.
     pub items: Vec<Item>,
 }

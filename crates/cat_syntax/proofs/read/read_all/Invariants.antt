@@ -6,9 +6,9 @@ use Rattle.cat_tokens.specs.Lexer.{lexed, tokens_from}
 use Rattle.cat_grammar.specs.Running.{run}
 use Rattle.cat_syntax.proofs.read.read_all.Given as goal
 
-abbrev pub invariant-loop-place : goal.invariant-loop-place
-invariant-loop-place l =
-    record { before : l.before ≤ l.place; within : l.place ≤ length l.bytes; form : l.parser.form ≡ l.fn.form; ran : run limits l.fn.form 0 (start l.fn.form) (lexed l.bytes) ≡ run limits l.fn.form l.before (state_of l.parser) (tokens_from 0 l.place (drop l.place l.bytes)) }
+abbrev pub invariant-loop-offset : goal.invariant-loop-offset
+invariant-loop-offset l =
+    record { before : l.before ≤ l.offset; within : l.offset ≤ length l.bytes; form : l.parser.form ≡ l.fn.form; ran : run limits l.fn.form 0 (start l.fn.form) (lexed l.bytes) ≡ run limits l.fn.form l.before (state_of l.parser) (tokens_from 0 l.offset (drop l.offset l.bytes)) }
 
-abbrev pub decreases-loop-place : goal.decreases-loop-place
-decreases-loop-place l = length l.bytes - l.place
+abbrev pub decreases-loop-offset : goal.decreases-loop-offset
+decreases-loop-offset l = length l.bytes - l.offset

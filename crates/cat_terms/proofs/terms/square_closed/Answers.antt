@@ -1,34 +1,18 @@
-use Rattle.std.proofs.Common.{ap, sym, ◌∙◌, ◌∷◌}
+use Rattle.std.proofs.Common.{ap, sym, ◌∙◌}
 use Rattle.cat_grammar.specs.Machine.{square_closed, Goes, Has}
 use Rattle.cat_values.specs.Value.{Term, On}
-use Rattle.cat_terms.specs.Reading.{frame_of, stack_of}
+use Rattle.cat_terms.specs.Reading.{stack_of}
 use Rattle.cat_values.specs.Values.{term_of}
-use Rattle.cat_terms.specs.declared.frames.Frame as code_frame
-use Rattle.cat_terms.proofs.Stack.{popped_of}
+use Rattle.cat_terms.proofs.Stack.{popped_of, square_refused, square_matched}
 use Rattle.cat_terms.proofs.terms.square_closed.Goals as goal
 
-pub returns-in-Some-Group : goal.returns-in-Some-Group
-returns-in-Some-Group c =
-    ap (square_closed c.args.operators) (popped_of _ _ _ _ _ c.in_ok-operand.ensures c.in-Some-Group.ensures.items)
-    ∙ ap (λ (f : code_frame.Frame). square_closed c.args.operators (frame_of f ∷ stack_of c.pop.new.self.items, term_of c.in_ok-operand.operand)) c.in-Some-Group.field-0-is
+pub returns-then-not-is_square : goal.returns-then-not-is_square
+returns-then-not-is_square c =
+    ap (square_closed c.args.operators) (popped_of _ _ _ _ _ c.in_ok-operand.ensures c.in-Some.ensures.items)
+    ∙ square_refused c.args.operators c.in-Some.frame _ _ (sym c.is_square.ensures ∙ c.if-not-is_square.true)
 
-pub returns-in-Some-Applied : goal.returns-in-Some-Applied
-returns-in-Some-Applied c =
-    ap (square_closed c.args.operators) (popped_of _ _ _ _ _ c.in_ok-operand.ensures c.in-Some-Applied.ensures.items)
-    ∙ ap (λ (f : code_frame.Frame). square_closed c.args.operators (frame_of f ∷ stack_of c.pop.new.self.items, term_of c.in_ok-operand.operand)) c.in-Some-Applied.field-0-is
-
-pub returns-in-Some-Prefix : goal.returns-in-Some-Prefix
-returns-in-Some-Prefix c =
-    ap (square_closed c.args.operators) (popped_of _ _ _ _ _ c.in_ok-operand.ensures c.in-Some-Prefix.ensures.items)
-    ∙ ap (λ (f : code_frame.Frame). square_closed c.args.operators (frame_of f ∷ stack_of c.pop.new.self.items, term_of c.in_ok-operand.operand)) c.in-Some-Prefix.field-0-is
-
-pub returns-in-Some-Left : goal.returns-in-Some-Left
-returns-in-Some-Left c =
-    ap (square_closed c.args.operators) (popped_of _ _ _ _ _ c.in_ok-operand.ensures c.in-Some-Left.ensures.items)
-    ∙ ap (λ (f : code_frame.Frame). square_closed c.args.operators (frame_of f ∷ stack_of c.pop.new.self.items, term_of c.in_ok-operand.operand)) c.in-Some-Left.field-0-is
-
-pub returns-in_ok-new-in-Some-Square : goal.returns-in_ok-new-in-Some-Square
-returns-in_ok-new-in-Some-Square c =
-    ap (square_closed c.args.operators) (popped_of _ _ _ _ _ c.in_ok-operand.ensures c.in-Some-Square.ensures.items)
-    ∙ ap (λ (f : code_frame.Frame). square_closed c.args.operators (frame_of f ∷ stack_of c.pop.new.self.items, term_of c.in_ok-operand.operand)) c.in-Some-Square.field-0-is
-    ∙ ap (λ (t : Term). Goes (stack_of c.pop.new.self.items) c.args.operators (Has (On t))) (sym (ap term_of c.in_ok-new-in-Some-Square.ensures.ok))
+pub returns : goal.returns
+returns c =
+    ap (square_closed c.args.operators) (popped_of _ _ _ _ _ c.in_ok-operand.ensures c.in-Some.ensures.items)
+    ∙ square_matched c.args.operators c.in-Some.frame _ _ (sym c.is_square.ensures ∙ c.if-not-is_square.false)
+    ∙ ap (λ (t : Term). Goes (stack_of c.pop.new.self.items) c.args.operators (Has (On t))) (sym (ap term_of c.in_ok-new.ensures.ok))
