@@ -19,7 +19,7 @@ use Rattle.ppc_semantics.specs.declared.fault.SpaceFault.{SpaceFault}
 use Rattle.ppc_semantics.specs.declared.fault.SpaceFault.TheVariants.{Refused, OutOfMemory}
 use Rattle.thread_runs.specs.Machine.{is_load}
 use Rattle.thread_runs.specs.Runs.{Thread, StoresFreely}
-use Rattle.thread_runs.specs.AllRuns.{thread_of, all_from, begun, whole}
+use Rattle.thread_runs.specs.AllRuns.{thread_of, all_from, beginning_at, whole}
 use Rattle.thread_runs.specs.FreeRuns.{HasFreeRuns}
 use Rattle.thread_runs.specs.ValueSet.{IsOne, IsSet}
 use Rattle.thread_runs.specs.FreeWalks.{AreAdded}
@@ -148,11 +148,11 @@ few_loads p =
     omega (arith, all_of)
 
 -- the combinations
-pub has_runs : (t : Thread) (V : List Value) (lines : List Line) (first : State) (n : ℕ) → IsSet V → lines ≡ t.lines → first ≡ t.first → n ≡ length (all_from V lines (begun first)) → HasRuns t V n
+pub has_runs : (t : Thread) (V : List Value) (lines : List Line) (first : State) (n : ℕ) → IsSet V → lines ≡ t.lines → first ≡ t.first → n ≡ length (all_from V lines (beginning_at first)) → HasRuns t V n
 has_runs t V lines first n set e f g = (
-  map whole (all_from V t.lines (begun t.first)),
+  map whole (all_from V t.lines (beginning_at t.first)),
   are_runs t V set.rising,
-  length-map (all_from V t.lines (begun t.first)) whole ∙ sym (g ∙ ap (λ (ls : List Line). length (all_from V ls (begun first))) e ∙ ap (λ (s : State). length (all_from V t.lines (begun s))) f),
+  length-map (all_from V t.lines (beginning_at t.first)) whole ∙ sym (g ∙ ap (λ (ls : List Line). length (all_from V ls (beginning_at first))) e ∙ ap (λ (s : State). length (all_from V t.lines (beginning_at s))) f),
 )
 
 combinations_push : (ts : List Thread) (t : Thread) (V : List Value) (m c : ℕ) → HasCombinations ts V m → HasRuns t V c → HasCombinations (ts ++ t ∷ []) V (m * c)

@@ -43,7 +43,7 @@ IsBefore a b = name_cmp a b ≡ how.Less
 pub record Adds (names old new : List (List ℕ)) : Type 0 where
   pub exact : (n : List ℕ) → Contains new n ↔ (Contains old n ⊎ Contains names n)
 
--- the number of a name: its place, or how many there are where it is not among them
+-- the index of a name, or the count of the names if it is not among them
 abbrev pub number_of : List (List ℕ) → List ℕ → ℕ
 number_of [] name = zero
 number_of (n ∷ names) name = if is_eq (name_cmp n name) then zero else suc (number_of names name)
@@ -107,7 +107,7 @@ formula_names (Join op a b) = formula_names a ++ formula_names b
 abbrev pub test_names : Test → List (List ℕ)
 test_names t = (flat_map entry_names t.init.items ++ formula_names (formula_of t.condition.proposition)) ++ flat_map place_names t.observed.items
 
--- the entry is the last that names the place
+-- the entry is the last that names the observable
 pub record IsLastEntry (init : List InitEntry) (p : Place) (e : InitEntry) : Type 0 where
   pub before : List InitEntry
   pub behind : List InitEntry
@@ -115,7 +115,7 @@ pub record IsLastEntry (init : List InitEntry) (p : Place) (e : InitEntry) : Typ
   pub place : e.place ≡ p
   pub last : All (λ f. f.place ≡ p → ⊥) behind
 
--- what a place holds at the start: what its entry says, the last if there are more, and 0 if there is none
+-- the initial value of an observable: what its entry says, the last if there are more, and 0 if there is none
 abbrev pub Starts : List InitEntry → Place → List (List ℕ) → Value → Type 0
 Starts init p names v =
     ((e : InitEntry) × IsLastEntry init p e × (v ≡ value_of names e.value))

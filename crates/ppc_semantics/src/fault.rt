@@ -6,25 +6,25 @@ ghost use Rattle.ppc_semantics.specs.Numbers.{number};
 use std::alloc::AllocError;
 use thiserror::Error;
 
-/// A bound that a test passes, or an access to no location.
+/// A limit that a test exceeds, or an access to an address that no location has.
 #[derive(Clone, Copy, Debug, PartialEq, Eq)]
 pub enum EvalRefusal {
     /// E1: over 128 locations, loads, stores and fences by text.
     TooManyEvents,
-    /// E2: over 16 values that loads may take.
+    /// E2: over 16 values that loads can read.
     TooManyValues,
     /// E3: over 4,096 free runs of a thread.
     TooManyRuns,
     /// E4: over 16,384 candidates.
     TooManyCandidates,
-    /// E5: some candidate holds a run that stopped at a fault.
+    /// E5: a candidate has a run that stopped at a fault.
     AddressFault,
     /// E6: over 1,048,576 combinations of a run of each thread.
     TooManyCombinations,
 }
 
 impl EvalRefusal {
-    /// The number that it is printed with, from 1 to 6.
+    /// The number of the printed refusal, from 1 to 6.
     pub fn number(self) -> u8
         ensures { result ≡ number self }
     {
@@ -45,7 +45,7 @@ pub enum SpaceFault {
     /// The test is refused.
     #[error("refused")]
     Refused(EvalRefusal),
-    /// A growth was refused.
+    /// Memory ran out.
     #[error("out of memory")]
     OutOfMemory(#[from(alloc)] AllocError),
 }

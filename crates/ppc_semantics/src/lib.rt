@@ -1,4 +1,5 @@
-//! What a test means: its program, the domain of values, and the runs of its threads.
+//! The semantics of a test: its program, the domain of values, and the runs of its threads. Read specs/Domain.antt
+//! first (`IsDomain`), then specs/Lowering.antt (the program of a test).
 #![tactic(auto)]
 
 mod fault;
@@ -6,9 +7,10 @@ mod lowering;
 mod rounds;
 mod test_runs;
 
+pub use bit_relations::MAX_EVENTS;
 pub use fault::{EvalRefusal, SpaceFault};
 pub use lowering::program;
-pub use rounds::{MAX_COMBINATIONS, MAX_EVENTS, domain, domain_of};
+pub use rounds::{MAX_COMBINATIONS, domain, domain_of};
 pub use test_runs::runs;
 pub use thread_runs::{
     Comparison, Domain, Event, Instruction, Line, Program, Run, RunStep, State, Value, cancels,

@@ -1,4 +1,4 @@
-//! From the text of a test to numbers.
+//! From a test to its program.
 ghost use Rattle.std.specs.Prelude.{◌≡◌, ◌++◌, ◌∷◌, [], IfOk, OnOk, length, replicate};
 ghost use Rattle.std.specs.List.{AllPairs, flat_map};
 ghost use Rattle.std.specs.List.Sorted.{IsBinarySearchResult, IsSearchInRange};
@@ -12,15 +12,15 @@ use std::alloc::{AllocError, Global};
 use std::cmp::Ordering;
 use thread_runs::{Instruction, Line, Program, Value};
 
-/// How two names stand in the order of their bytes.
+/// The order of two names by their bytes.
 fn compare(left: &Name, right: &Name) -> Ordering
     ensures { result ≡ low.name_cmp left.now right.now }
 {
     left.as_bytes().cmp(right.as_bytes())
 }
 
-/// Where the name stands among names in the order of their bytes, or the place where it is missing.
-fn place_of(names: &[Name], name: &Name) -> Result<usize, usize>
+/// `Ok` of the index of the name among names sorted by their bytes, or `Err` of the index where it belongs.
+fn index_of_name(names: &[Name], name: &Name) -> Result<usize, usize>
     ensures bound { IsSearchInRange result (length names.now) }
     ensures position { IsBinarySearchResult (λ other. low.name_cmp other name.now) names.now result }
 {
@@ -31,34 +31,34 @@ fn place_of(names: &[Name], name: &Name) -> Result<usize, usize>
     )
 }
 
-/// Adds the name at its place in the order, if it is not there.
+/// Adds the name to sorted names, which stay sorted. A name that is there is not added again.
 fn note(alloc: Global, names: &mut Vec<Name>, name: &Name) -> Result<(), AllocError>
     requires { AllPairs low.IsBefore names.old.items }
     ensures rising { AllPairs low.IsBefore names.new.items }
     ensures noted { OnOk result (low.Adds (name.now ∷ []) names.old.items names.new.items) }
 {
-    match place_of(names, name) {
+    match index_of_name(names, name) {
         Ok(_) => Ok(()),
-        Err(place) => {
+        Err(index) => {
             let copy = name.copied(alloc)?;
-            names.insert(place, copy)?;
+            names.insert(index, copy)?;
             Ok(())
         }
     }
 }
 
-/// The number of a name: its place, or how many there are where it is not among them.
+/// The index of a name among sorted names, or their count if the name is not among them.
 fn number_of(names: &[Name], name: &Name) -> usize
     requires { AllPairs low.IsBefore names.now }
     ensures { result ≡ low.number_of names.now name.now }
 {
-    match place_of(names, name) {
-        Ok(place) => place,
+    match index_of_name(names, name) {
+        Ok(index) => index,
         Err(_) => names.len(),
     }
 }
 
-/// Adds the location that the place is, if it is one.
+/// Adds the name of a location; a register adds nothing.
 fn note_place(alloc: Global, names: &mut Vec<Name>, place: &Place) -> Result<(), AllocError>
     requires { AllPairs low.IsBefore names.old.items }
     ensures rising { AllPairs low.IsBefore names.new.items }
@@ -86,7 +86,7 @@ fn note_value(
     }
 }
 
-/// Adds the locations of a place and of the value that it holds.
+/// Adds the names of the locations that an observable and a value name.
 fn note_both(
     alloc: Global,
     names: &mut Vec<Name>,
@@ -135,7 +135,7 @@ fn note_init(alloc: Global, names: &mut Vec<Name>, init: &[InitEntry]) -> Result
     Ok(())
 }
 
-/// Adds those of the places that are locations.
+/// Adds the names of those observables that are locations.
 fn note_places(alloc: Global, names: &mut Vec<Name>, places: &[Place]) -> Result<(), AllocError>
     requires { AllPairs low.IsBefore names.old.items }
     ensures rising { AllPairs low.IsBefore names.new.items }
@@ -147,7 +147,7 @@ fn note_places(alloc: Global, names: &mut Vec<Name>, places: &[Place]) -> Result
     Ok(())
 }
 
-/// All locations of the test, as places and as values.
+/// The names of all locations of the test, those that occur as addresses among them.
 fn locations_of(alloc: Global, test: &Test) -> Result<Vec<Name>, AllocError>
     ensures { IfOk result (λ v. low.AreNames (low.test_names test.now) v.items) }
 {
@@ -185,7 +185,7 @@ fn put_location(locations: &[Name], entry: &InitEntry, initial: &mut Vec<Value>)
     }
 }
 
-/// What the locations hold at the start.
+/// The initial values of the locations.
 fn initial_of(
     alloc: Global,
     init: &[InitEntry],
@@ -228,7 +228,7 @@ fn blank_files(alloc: Global, threads: usize) -> Result<Vec<[Value; 32]>, AllocE
     Ok(registers)
 }
 
-/// What the registers of so many threads hold at the start.
+/// The initial values of the registers of so many threads.
 fn registers_of(
     alloc: Global,
     init: &[InitEntry],
@@ -348,8 +348,8 @@ fn threads_of(alloc: Global, threads: &[Thread]) -> Result<Vec<Vec<Line>>, Alloc
     Ok(made)
 }
 
-/// The test by numbers: its locations sorted by name bytes, and the labels of each thread
-/// likewise. What the test does not mention starts at 0. Errors: want of memory.
+/// The program of a test. Locations are numbered in the order of their name bytes, and so are the
+/// labels of each thread. Locations and registers without an entry start at 0. Errors: out of memory.
 pub fn program(alloc: Global, test: &Test) -> Result<Program, AllocError>
     ensures program { IfOk result (λ p. low.IsProgram test.now p) }
     ensures proper { IfOk result (λ p. AreProper p) }

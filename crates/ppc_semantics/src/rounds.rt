@@ -1,4 +1,4 @@
-//! The values that loads may take, and the bounds of a test.
+//! The domain of values that loads can read, and the limits of a test.
 
 ghost use Rattle.std.specs.Prelude.{ℕ, ◌≡◌, ◌≤◌, ◌<◌, ◌+◌, ◌↔◌, ◌-◌, ◌^◌, IfOk, IfErr, OnOk, List, Contains, min, length, vec_len};
 ghost use Rattle.std.specs.List.{AllPairs, count_by};
@@ -13,15 +13,13 @@ ghost use Rattle.ppc_semantics.specs.Lowering as low;
 
 use crate::fault::{EvalRefusal, SpaceFault};
 use crate::lowering::program;
+use bit_relations::MAX_EVENTS;
 use litmus_values::Test;
 use std::alloc::{AllocError, Global};
 use thread_runs::{
     Domain, Instruction, Line, MANY, MAX_VALUES, Program, State, Value, add_stored, add_value,
     free_count, is_load, run_count,
 };
-
-/// The greatest number of events of a test.
-pub const MAX_EVENTS: usize = 128;
 
 /// The greatest number of combinations of runs.
 pub const MAX_COMBINATIONS: u64 = 1_048_576;
@@ -76,7 +74,7 @@ fn loads_in(lines: &[Line]) -> usize
     count
 }
 
-/// How many locations, loads, stores and fences the text has.
+/// The number of locations, loads, stores and fences of the program.
 fn event_count(program: &Program) -> usize
     ensures { result ≡ min (dom.event_total program.now) (2 ^ 64 - 1) }
 {
@@ -87,7 +85,7 @@ fn event_count(program: &Program) -> usize
     count
 }
 
-/// How many loads the text has.
+/// The number of loads of the program.
 fn load_count(program: &Program) -> usize
     ensures { result ≡ min (dom.load_total program.now) (2 ^ 64 - 1) }
 {
@@ -98,7 +96,7 @@ fn load_count(program: &Program) -> usize
     count
 }
 
-/// The values that locations hold at the start.
+/// The initial values of the locations.
 fn initial_values(alloc: Global, program: &Program) -> Result<Vec<Value>, AllocError>
     ensures set { IfOk result (λ v. IsSet v.items) }
     ensures values { IfOk result (λ v. (u : Value) → Contains v.items u ↔ (Contains program.now.initial.items u × IsOne u)) }
@@ -266,13 +264,14 @@ fn last_round(alloc: Global, program: &Program) -> Result<Vec<Value>, SpaceFault
     Ok(values)
 }
 
-/// The values that loads may take: those that locations hold at the start, and, for as many
-/// rounds as the text has loads, those that some free run over the values so far stores. A free
-/// run takes each conditional branch or not, each load any value, and stops at no fault.
+/// The values that loads can read: the initial values of the locations and, for as many domain
+/// rounds as the program has loads, the values that some free run over the values so far stores. In
+/// a free run each conditional branch is taken or not, each load reads any value, and no access is a
+/// fault.
 ///
-/// Refuses a test of over 128 locations, loads, stores and fences; then, before the first round
-/// and after each, over 16 values and then over 4,096 free runs of a thread; then over 1,048,576
-/// combinations of runs. Errors: the first of these refusals, or want of memory.
+/// Limits, in this order: 128 locations, loads, stores and fences together; before the first round
+/// and after each round 16 values, then 4,096 free runs of a thread; 1,048,576 combinations of runs.
+/// Errors: the first limit that is exceeded, or out of memory.
 pub fn domain_of(alloc: Global, program: &Program) -> Result<Domain, SpaceFault>
     ensures set { IfOk result (λ d. IsSet d.values.items) }
     ensures domain { IfOk result (λ d. dom.AreProper program.now → dom.IsDomain program.now d.values.items) }
@@ -286,8 +285,7 @@ pub fn domain_of(alloc: Global, program: &Program) -> Result<Domain, SpaceFault>
     Ok(Domain { values })
 }
 
-/// The domain of a test, or its refusal: those of its program. Errors: the first refusal that
-/// applies, or want of memory.
+/// The domain of a test: that of its program. Errors: the refusal of its program, or out of memory.
 pub fn domain(alloc: Global, test: &Test) -> Result<Domain, SpaceFault>
     ensures set { IfOk result (λ d. IsSet d.values.items) }
     ensures domain { IfOk result (λ d. low.IsTestDomain test.now d.values.items) }

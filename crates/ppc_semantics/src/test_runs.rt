@@ -9,8 +9,8 @@ use litmus_values::Test;
 use std::alloc::{AllocError, Global};
 use thread_runs::{Domain, Run, runs_of};
 
-/// The runs of a thread of the test over the domain, in lexicographic order of their value
-/// lists. A thread that is not there has none. Errors: want of memory.
+/// The runs of a thread of the test over the domain, in lexicographic order of their lists of
+/// loaded values. A thread that the test does not have has no runs. Errors: out of memory.
 pub fn runs(
     alloc: Global,
     test: &Test,

@@ -204,12 +204,12 @@ module _ (V : List Value) (xs : List Line) (i : Instruction) (w : FreeWalk) wher
   moves false true (b ∷ bs) vs f only within e = (b, NoValue, refl, bs, vs, within, e)
   moves false false bs vs f only within e = (false, NoValue, (refl, refl), bs, vs, within, e)
 
-  moved : (ld br : Bool) (b : Bool) (u : Value) (cs : List Bool) (us : List Value) (f : Outcome) → (br ≡ true → ld ≡ false) → IsMove ld br V b u → All (Contains V) us → free_from xs (advanced i b u (fresh w)) cs us ≡ Some f
+  one_move : (ld br : Bool) (b : Bool) (u : Value) (cs : List Bool) (us : List Value) (f : Outcome) → (br ≡ true → ld ≡ false) → IsMove ld br V b u → All (Contains V) us → free_from xs (advanced i b u (fresh w)) cs us ≡ Some f
       → (bs : List Bool) × (vs : List Value) × All (Contains V) vs × (free_does ld br i (free_from xs) (fresh w) bs vs ≡ Some f)
-  moved true true b u cs us f only m within e = absurd (let n = only refl in cc)
-  moved true false b u cs us f only m within e = (cs, u ∷ us, All-cons (Contains V) u us m.0 within, subst (λ (c : Bool). free_from xs (advanced i c u (fresh w)) cs us ≡ Some f) m.1 e)
-  moved false true b u cs us f only m within e = (b ∷ cs, us, within, subst (λ (v : Value). free_from xs (advanced i b v (fresh w)) cs us ≡ Some f) m e)
-  moved false false b u cs us f only m within e = (cs, us, within, subst (λ (c : Bool). free_from xs (advanced i c NoValue (fresh w)) cs us ≡ Some f) m.1 (subst (λ (v : Value). free_from xs (advanced i b v (fresh w)) cs us ≡ Some f) m.0 e))
+  one_move true true b u cs us f only m within e = absurd (let n = only refl in cc)
+  one_move true false b u cs us f only m within e = (cs, u ∷ us, All-cons (Contains V) u us m.0 within, subst (λ (c : Bool). free_from xs (advanced i c u (fresh w)) cs us ≡ Some f) m.1 e)
+  one_move false true b u cs us f only m within e = (b ∷ cs, us, within, subst (λ (v : Value). free_from xs (advanced i b v (fresh w)) cs us ≡ Some f) m e)
+  one_move false false b u cs us f only m within e = (cs, us, within, subst (λ (c : Bool). free_from xs (advanced i c NoValue (fresh w)) cs us ≡ Some f) m.1 (subst (λ (v : Value). free_from xs (advanced i b v (fresh w)) cs us ≡ Some f) m.0 e))
 
   -- the moves are those of the list, where free runs go on
   listed : (ld br on there : Bool) (b : Bool) (u : Value) → IsMove ld br V b u → (b ≡ false → br ≡ true → on ≡ true) → (b ≡ true → there ≡ true) → Contains (does_next ld br V on there i w) (walked i b u w)
@@ -265,7 +265,7 @@ module _ (V : List Value) (i : Instruction) (xs : List Line) (w : FreeWalk) (on 
       → (bs : List Bool) × (vs : List Value) × All (Contains V) vs × (f : Outcome) × (free_obeyed (is_branch i) i (free_from xs) (fresh w) bs vs ≡ Some f) × (a : Value) × Contains f.walk.events (Writes a v)
   keeps_does v b u m k =
       let (cs, us, inside, f, d, a, found) = k in
-      let (bs, vs, within, e) = moved V xs i w (is_load i) (is_branch i) b u cs us f (branch_no_load i) m inside d in
+      let (bs, vs, within, e) = one_move V xs i w (is_load i) (is_branch i) b u cs us f (branch_no_load i) m inside d in
       (bs, vs, within, f, same_does (is_branch i) i (free_from xs) (fresh w) bs vs ∙ e, a, found)
 
   does_later : (v : Value) (n : FreeWalk) → Contains (does_next (is_load i) (is_branch i) V on there i w) n → Keeps V xs (fresh n) v

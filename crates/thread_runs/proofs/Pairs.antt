@@ -13,7 +13,7 @@ pairs_tail R x xs h i j d lt below = h (suc i) (suc j) d (omega arith) (omega ar
 pub pairs_none : {A : Type 0} (R : A → A → Type 0) → AllPairs R []
 pairs_none R i j d lt below = absurd (omega arith)
 
--- an element at its place among others
+-- an element at its index among others
 module _ {A : Type 0} (R : A → A → Type 0) (less_less : (x y z : A) → R x y → R y z → R x z) where
   above_all : (xs : List A) (y d : A) → AllPairs R xs → (0 < length xs → R y (get_or xs 0 d)) → All (R y) xs
   above_all [] y d rising h = All-nil (R y)

@@ -15,7 +15,7 @@ use Rattle.thread_runs.specs.declared.state.State.{State}
 use Rattle.thread_runs.specs.Machine.{is_load, is_fault, goes}
 use Rattle.thread_runs.specs.Runs.{Walk, Run, Outcome, Thread, ended, ends, advanced, passed, supplied, obeyed, one, run_from, run_of, IsBefore, IsLess, IsRun, AreRuns}
 use Rattle.thread_runs.specs.declared.run.Run as made
-use Rattle.thread_runs.specs.AllRuns.{Beginning, begun, gone_over, over_line, over_instruction, goes_on, with_load, spread, next, all_from, whole, shown, shown_of, shown_whole, ShowsRuns}
+use Rattle.thread_runs.specs.AllRuns.{Beginning, beginning_at, gone_over, over_line, over_instruction, goes_on, with_load, spread, next, all_from, whole, shown, shown_of, shown_whole, ShowsRuns}
 use Rattle.thread_runs.proofs.Pairs.{pairs_head, pairs_tail, pairs_none}
 
 -- elements
@@ -338,19 +338,19 @@ map_twice g f [] = refl
 map_twice g f (x ∷ xs) = ap (λ (ys : List _). g (f x) ∷ ys) (map_twice g f xs)
 
 -- all beginnings that are whole, as runs
-pub are_runs : (t : Thread) (V : List Value) → AllPairs IsLess V → AreRuns t (Contains V) (map whole (all_from V t.lines (begun t.first)))
+pub are_runs : (t : Thread) (V : List Value) → AllPairs IsLess V → AreRuns t (Contains V) (map whole (all_from V t.lines (beginning_at t.first)))
 are_runs t V rising = record {
-  rising = pairs_map (λ r s. IsBefore IsLess r.values s.values) whole (all_from V t.lines (begun t.first)) (rises V rising t.lines (begun t.first) refl);
+  rising = pairs_map (λ r s. IsBefore IsLess r.values s.values) whole (all_from V t.lines (beginning_at t.first)) (rises V rising t.lines (beginning_at t.first) refl);
   exact = λ r. (forth r, back r);
 }
   where
     bs : List Beginning
-    bs = all_from V t.lines (begun t.first)
+    bs = all_from V t.lines (beginning_at t.first)
 
     forth : (r : Run) → Contains (map whole bs) r → IsRun t (Contains V) r
     forth r h =
         let (b, within, e) = map_contains whole bs r h in
-        let x = (exact V t.lines (begun t.first) b refl).0 within in
+        let x = (exact V t.lines (beginning_at t.first) b refl).0 within in
         subst (λ (s : Run). IsRun t (Contains V) s) e (
           subst (λ (vs : List Value). All (Contains V) vs) (sym x.values) x.allowed,
           subst (λ (vs : List Value). run_of t.lines t.first vs ≡ Some (ended b.stopped b.walk)) (sym x.values) x.run,
@@ -358,14 +358,14 @@ are_runs t V rising = record {
 
     back : (r : Run) → IsRun t (Contains V) r → Contains (map whole bs) r
     back r h = contains_map whole bs (record { values = r.values; stopped = r.outcome.faulted; walk = r.outcome.walk })
-        ((exact V t.lines (begun t.first) (record { values = r.values; stopped = r.outcome.faulted; walk = r.outcome.walk }) refl).1
+        ((exact V t.lines (beginning_at t.first) (record { values = r.values; stopped = r.outcome.faulted; walk = r.outcome.walk }) refl).1
         (record { further = r.values; allowed = h.0; values = refl; run = h.1 }))
 
-pub shows_runs : (t : Thread) (V : List Value) (runs : List made.Run) → AllPairs IsLess V → map shown runs ≡ map shown_whole (all_from V t.lines (begun t.first)) → ShowsRuns t V runs
-shows_runs t V runs rising e = (map whole (all_from V t.lines (begun t.first)), are_runs t V rising, e ∙ sym (map_twice shown_of whole (all_from V t.lines (begun t.first))))
+pub shows_runs : (t : Thread) (V : List Value) (runs : List made.Run) → AllPairs IsLess V → map shown runs ≡ map shown_whole (all_from V t.lines (beginning_at t.first)) → ShowsRuns t V runs
+shows_runs t V runs rising e = (map whole (all_from V t.lines (beginning_at t.first)), are_runs t V rising, e ∙ sym (map_twice shown_of whole (all_from V t.lines (beginning_at t.first))))
 
 pub shows_from : (t : Thread) (V U : List Value) (lines : List Line) (s : State) (runs : List made.Run) (bs : List Beginning) → AllPairs IsLess V
-    → map shown runs ≡ map shown_whole bs → bs ≡ all_from U lines (begun s) → U ≡ V → lines ≡ t.lines → s ≡ t.first → ShowsRuns t V runs
+    → map shown runs ≡ map shown_whole bs → bs ≡ all_from U lines (beginning_at s) → U ≡ V → lines ≡ t.lines → s ≡ t.first → ShowsRuns t V runs
 shows_from t V U lines s runs bs rising e f p q r = shows_runs t V runs rising
-    (e ∙ ap (map shown_whole) f ∙ ap (λ (vs : List Value). map shown_whole (all_from vs lines (begun s))) p
-    ∙ ap (λ (ls : List Line). map shown_whole (all_from V ls (begun s))) q ∙ ap (λ (x : State). map shown_whole (all_from V t.lines (begun x))) r)
+    (e ∙ ap (map shown_whole) f ∙ ap (λ (vs : List Value). map shown_whole (all_from vs lines (beginning_at s))) p
+    ∙ ap (λ (ls : List Line). map shown_whole (all_from V ls (beginning_at s))) q ∙ ap (λ (x : State). map shown_whole (all_from V t.lines (beginning_at x))) r)

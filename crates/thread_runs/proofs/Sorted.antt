@@ -1,11 +1,11 @@
--- A value at its place among others.
+-- A value at its index among others.
 use Rattle.std.proofs.Common.{ℕ, ◌≡◌, inl, inr, true, false, List, sym, ap, subst, ◌∙◌, arith}
 use Rattle.std.specs.List.{insert}
 use Rattle.thread_runs.specs.declared.value.Value.{Value}
 use Rattle.thread_runs.specs.declared.value.Value.TheVariants.{Number, Address, NoValue}
 use Rattle.thread_runs.specs.Machine.{is_value}
 use Rattle.thread_runs.specs.Runs.{IsLess}
-use Rattle.thread_runs.specs.ValueSet.{IsOne, IsSet, IsAdded, IsPlaceOf}
+use Rattle.thread_runs.specs.ValueSet.{IsOne, IsSet, IsAdded, IsIndexOf}
 use Rattle.thread_runs.proofs.Pairs.{inserted_rises, inserted_all, contains_inserted}
 
 pub less_less : (u v w : Value) → IsLess u v → IsLess v w → IsLess u w
@@ -26,9 +26,9 @@ less_less NoValue v w p q = absurd p
 one_is : (v : Value) → is_value v ≡ true → IsOne v
 one_is v e n = let f : is_value v ≡ false = ap is_value n in let t : true ≡ false = sym e ∙ f in absurd cc
 
-pub inserted_set : (vs us ws : List Value) (i : ℕ) (v : Value) → IsSet vs → is_value v ≡ true → us ≡ vs → IsPlaceOf v us i → ws ≡ insert vs i v → IsSet ws
+pub inserted_set : (vs us ws : List Value) (i : ℕ) (v : Value) → IsSet vs → is_value v ≡ true → us ≡ vs → IsIndexOf v us i → ws ≡ insert vs i v → IsSet ws
 inserted_set vs us ws i v s one e p new =
-    let q = subst (λ (xs : List Value). IsPlaceOf v xs i) e p in
+    let q = subst (λ (xs : List Value). IsIndexOf v xs i) e p in
     subst (λ (xs : List Value). IsSet xs) (sym new) (record {
       rising = inserted_rises IsLess less_less vs i v v q.within s.rising q.before q.behind;
       proper = inserted_all IsOne vs i v s.proper (one_is v one);

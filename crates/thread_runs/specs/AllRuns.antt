@@ -22,8 +22,8 @@ pub record Beginning : Type 0 where
   pub stopped : Bool
   pub walk : Walk
 
-abbrev pub begun : State → Beginning
-begun s = record { values = []; stopped = false; walk = started s }
+abbrev pub beginning_at : State → Beginning
+beginning_at s = record { values = []; stopped = false; walk = started s }
 
 -- an instruction that is no load
 abbrev pub over_instruction : Bool → Instruction → Beginning → Beginning

@@ -47,6 +47,6 @@ count_free size (x ∷ xs) seeking = count_one size seeking x (count_free size x
 abbrev pub capped : ℕ → ℕ
 capped n = min n 4097
 
--- the counts of what goes on from each place, from a place on
+-- the counts of what goes on from each index, from an index on
 abbrev pub AreCounts : List Line → ℕ → List ℕ → ℕ → Type 0
 AreCounts lines size counts from = (k : ℕ) → from ≤ k → k ≤ length lines → slice_index_or counts k 0 ≡ capped (count_free size (drop k lines) None)

@@ -121,7 +121,7 @@ InDomain initial threads zero v = Contains initial v
 InDomain initial threads (suc k) v =
     InDomain initial threads k v ⊎ (StoresFreely threads (InDomain initial threads k) v × (v ≡ NoValue → ⊥))
 
--- the instruction at a place, and the value that it loaded
+-- the instruction at an index, and the value that it loaded
 abbrev pub nothing : RunStep
 nothing = record { instruction = Jump 0; loaded = NoValue }
 

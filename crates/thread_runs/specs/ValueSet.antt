@@ -18,8 +18,8 @@ pub record IsSet (values : List Value) : Type 0 where
 abbrev pub IsAdded : Value → List Value → List Value → Type 0
 IsAdded value old new = (v : Value) → Contains new v ↔ (Contains old v ⊎ ((v ≡ value) × IsOne value))
 
--- the values before the place are less than the value, and it is less than the one there
-pub record IsPlaceOf (value : Value) (values : List Value) (place : ℕ) : Type 0 where
-  pub within : place ≤ length values
-  pub before : (k : ℕ) → k < place → IsLess (slice_index_or values k value) value
-  pub behind : place < length values → IsLess value (slice_index_or values place value)
+-- the values before the index are less than the value, and it is less than the one there
+pub record IsIndexOf (value : Value) (values : List Value) (index : ℕ) : Type 0 where
+  pub within : index ≤ length values
+  pub before : (k : ℕ) → k < index → IsLess (slice_index_or values k value) value
+  pub behind : index < length values → IsLess value (slice_index_or values index value)

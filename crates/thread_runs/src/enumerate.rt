@@ -32,7 +32,7 @@ impl Model for Beginning {
 
 impl Beginning {
     fn new(alloc: Global, first: State) -> Beginning
-        ensures { result ≡ all.begun first }
+        ensures { result ≡ all.beginning_at first }
     {
         Beginning {
             values: Vec::new(alloc),
@@ -233,7 +233,7 @@ fn beginnings_of(
     first: State,
     values: &[Value],
 ) -> Result<Vec<Beginning>, AllocError>
-    ensures { IfOk result (λ v. v.items ≡ all.all_from values.now lines.now (all.begun first)) }
+    ensures { IfOk result (λ v. v.items ≡ all.all_from values.now lines.now (all.beginning_at first)) }
 {
     let mut beginnings = Vec::new(alloc);
     beginnings.push(Beginning::new(alloc, first))?;
@@ -250,7 +250,7 @@ pub fn run_count(
     first: State,
     values: &[Value],
 ) -> Result<usize, AllocError>
-    ensures { IfOk result (λ n. n ≡ length (all.all_from values.now lines.now (all.begun first))) }
+    ensures { IfOk result (λ n. n ≡ length (all.all_from values.now lines.now (all.beginning_at first))) }
 {
     Ok(beginnings_of(alloc, lines, first, values)?.len())
 }
@@ -265,8 +265,8 @@ fn shown_runs(alloc: Global, beginnings: Vec<Beginning>) -> Result<Vec<Run>, All
     Ok(runs)
 }
 
-/// The runs of the thread over the domain, in lexicographic order of their value lists. A
-/// thread that is not there has none. Errors: want of memory.
+/// The runs of a thread over the domain, in lexicographic order of their lists of loaded values. A
+/// thread that the program does not have has no runs. Errors: out of memory.
 pub fn runs_of(
     alloc: Global,
     program: &Program,

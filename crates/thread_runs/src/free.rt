@@ -15,7 +15,7 @@ use crate::value::Value;
 use crate::value_set::add_value;
 use std::alloc::{AllocError, Global};
 
-/// One more than the greatest number of free runs of a thread: counts stop here.
+/// One more than the greatest number of free runs of a thread. Counts stop here.
 pub const MANY: u32 = 4_097;
 
 /// The greatest number of values of a domain.
@@ -31,16 +31,16 @@ fn is_label(line: Line, label: usize) -> bool
     }
 }
 
-/// The place of the first label line with this number, from a place on, or of the end.
-fn label_place(lines: &[Line], from: usize, label: usize) -> usize
+/// The index of the first label line with this number, from an index on, or of the end.
+fn label_index(lines: &[Line], from: usize, label: usize) -> usize
     requires { from ≤ length lines.now }
     ensures within { from ≤ result }
     ensures bound { result ≤ length lines.now }
     ensures count { (size : ℕ) → count_free size (drop from lines.now) (Some label) ≡ count_free size (drop result lines.now) None }
 {
-    for place in from..lines.len() {
-        if is_label(lines[place], label) {
-            return place;
+    for index in from..lines.len() {
+        if is_label(lines[index], label) {
+            return index;
         }
     }
     lines.len()
@@ -59,17 +59,17 @@ fn capped_product(a: u32, size: usize) -> u32
     a.saturating_mul(size).min(MANY)
 }
 
-/// The count at a place of the list, and nothing past its end.
-fn count_at(counts: &[u32], place: usize) -> u32
-    ensures { result ≡ slice_index_or counts.now place 0 }
+/// The count at an index of the list, and nothing past its end.
+fn count_at(counts: &[u32], index: usize) -> u32
+    ensures { result ≡ slice_index_or counts.now index 0 }
 {
-    match counts.get(place) {
+    match counts.get(index) {
         Some(count) => *count,
         None => 0,
     }
 }
 
-/// How many free runs go on from the place, where the thread looks for the label if there is one.
+/// How many free runs go on from the index, where the thread looks for the label if there is one.
 fn count_on(lines: &[Line], counts: &[u32], size: usize, from: usize, seeking: Option<usize>) -> u32
     requires within { from ≤ length lines.now }
     requires counted { AreCounts lines.now size counts.now from }
@@ -77,12 +77,12 @@ fn count_on(lines: &[Line], counts: &[u32], size: usize, from: usize, seeking: O
 {
     let _size = size;
     match seeking {
-        Some(label) => count_at(counts, label_place(lines, from, label)),
+        Some(label) => count_at(counts, label_index(lines, from, label)),
         None => count_at(counts, from),
     }
 }
 
-/// How many free runs go on from the instruction before the place, whose counts stand.
+/// How many free runs go on from the instruction before the index, whose counts stand.
 fn count_does(
     lines: &[Line],
     counts: &[u32],
@@ -105,34 +105,34 @@ fn count_does(
     }
 }
 
-/// How many free runs go on from the line at the place, whose later counts stand.
-fn count_from(lines: &[Line], counts: &[u32], size: usize, place: usize) -> u32
-    requires within { place < length lines.now }
-    requires counted { AreCounts lines.now size counts.now (place + 1) }
-    ensures { result ≡ capped (count_free size (drop place lines.now) None) }
+/// How many free runs go on from the line at the index, whose later counts stand.
+fn count_from(lines: &[Line], counts: &[u32], size: usize, index: usize) -> u32
+    requires within { index < length lines.now }
+    requires counted { AreCounts lines.now size counts.now (index + 1) }
+    ensures { result ≡ capped (count_free size (drop index lines.now) None) }
 {
-    match lines[place] {
-        Line::Label(_) => count_at(counts, place + 1),
-        Line::Does(instruction) => count_does(lines, counts, size, place + 1, instruction),
+    match lines[index] {
+        Line::Label(_) => count_at(counts, index + 1),
+        Line::Does(instruction) => count_does(lines, counts, size, index + 1, instruction),
     }
 }
 
-/// For each place of the thread, and for its end, how many free runs over so many values go on
+/// For each index of the thread, and for its end, how many free runs over so many values go on
 /// from there.
 fn free_counts(alloc: Global, lines: &[Line], size: usize) -> Result<Vec<u32>, AllocError>
     ensures { IfOk result (λ v. AreCounts lines.now size v.items 0) }
 {
     let mut counts = vec![in alloc; 1; lines.len() + 1]?;
-    let mut place = lines.len();
-    while place > 0 {
-        place -= 1;
-        let count = count_from(lines, &counts, size, place);
-        counts[place] = count;
+    let mut index = lines.len();
+    while index > 0 {
+        index -= 1;
+        let count = count_from(lines, &counts, size, index);
+        counts[index] = count;
     }
     Ok(counts)
 }
 
-/// How many free runs the thread has over so many values, or 4,097 if there are more.
+/// The number of free runs of the thread over so many values, or 4,097 if there are more.
 pub fn free_count(alloc: Global, lines: &[Line], size: usize) -> Result<u32, AllocError>
     ensures counted { IfOk result (λ n. n ≡ capped (count_free size lines.now None)) }
     ensures runs { IfOk result (λ n. (first : State) → (V : List Value) → AllPairs IsLess V → length V ≡ size → (m : ℕ) × HasFreeRuns (record { lines = lines.now; first = first }) V m × (n ≡ capped m)) }
@@ -382,8 +382,8 @@ fn goes_by(
     }
 }
 
-/// Adds what the free runs of the thread over the values store, until there are more values than
-/// a domain may have.
+/// Adds the values that the free runs of the thread over the values store, until there are more
+/// values than a domain can have.
 pub fn add_stored(
     alloc: Global,
     lines: &[Line],
@@ -405,11 +405,11 @@ pub fn add_stored(
         state: first,
         seeking: None,
     })?;
-    for place in 0..lines.len() {
-        let line = lines[place];
+    for index in 0..lines.len() {
+        let line = lines[index];
         note_all(&walks, line, stored)?;
-        let on = goes_by(lines, &counts, size, place + 1, line, false);
-        let there = goes_by(lines, &counts, size, place + 1, line, true);
+        let on = goes_by(lines, &counts, size, index + 1, line, false);
+        let there = goes_by(lines, &counts, size, index + 1, line, true);
         walks = go_on(alloc, walks, line, values, on, there)?;
     }
     Ok(())

@@ -1,20 +1,19 @@
-//! Threads with their locations and labels by number.
+//! Programs: threads whose locations and labels are numbers.
 
 use crate::value::Value;
 use litmus_values::{BranchCondition, Fence, Operation};
 use source_text::Name;
 
-/// One instruction (Power ISA, books I and II). The first register is the one that is written, or
-/// stored.
+/// An instruction (Power ISA, books I and II). Its first register is the one that it writes, or stores.
 #[derive(Clone, Copy)]
 pub enum Instruction {
-    /// `li`: the register is that number.
+    /// `li`: the register becomes the number.
     Immediate(u8, u32),
-    /// `mr`: the first is what the second holds.
+    /// `mr`: the first becomes the second.
     Move(u8, u8),
-    /// `addi`: the first is the sum of the second and the number.
+    /// `addi`: the first becomes the sum of the second and the number.
     AddImmediate(u8, u8, u32),
-    /// `add`, `subf`, `xor`, `or` or `and` of the second and the third.
+    /// `add`, `subf`, `xor`, `or` or `and`: the first becomes the result on the second and the third.
     Operate(Operation, u8, u8, u8),
     /// `lwz`: the first is loaded from the address in the second.
     Load(u8, u8),
@@ -24,9 +23,9 @@ pub enum Instruction {
     Store(u8, u8),
     /// `stwx`: the first is stored at the sum of the others.
     StoreIndexed(u8, u8, u8),
-    /// `cmpw`: CR0 is how the first compares with the second.
+    /// `cmpw`: CR0 becomes the comparison of the first with the second.
     Compare(u8, u8),
-    /// `cmpwi`: CR0 is how the register compares with the number.
+    /// `cmpwi`: CR0 becomes the comparison of the register with the number.
     CompareImmediate(u8, u32),
     /// A conditional branch to a label.
     Branch(BranchCondition, usize),
@@ -39,26 +38,26 @@ pub enum Instruction {
 /// A line of a thread: a label by its number, or an instruction.
 #[derive(Clone, Copy)]
 pub enum Line {
-    /// A label, by its place among those of its thread, sorted by name bytes.
+    /// A label, by its index among those of its thread, sorted by name bytes.
     Label(usize),
     /// An instruction.
     Does(Instruction),
 }
 
-/// A test with its locations, labels and initial values by number.
+/// A test whose locations and labels are numbers.
 #[derive(Drop)]
 pub struct Program {
     /// All locations of the test, sorted by name bytes, each once.
     pub locations: Vec<Name>,
-    /// What each location holds at the start.
+    /// The initial value of each location.
     pub initial: Vec<Value>,
     /// The lines of each thread.
     pub threads: Vec<Vec<Line>>,
-    /// What the registers of each thread hold at the start.
+    /// The initial values of the registers of each thread.
     pub registers: Vec<[Value; 32]>,
 }
 
-/// What an access or a fence did: the address and the value, or the kind of fence.
+/// An event: an access with its address and its value, or a fence.
 #[derive(Clone, Copy)]
 pub enum Event {
     /// A load: its address and the value that it loads.
@@ -72,9 +71,9 @@ pub enum Event {
 /// An instruction that was executed, with the value that it loaded if it is a load.
 #[derive(Clone, Copy)]
 pub struct RunStep {
-    /// What was executed.
+    /// The instruction.
     pub instruction: Instruction,
-    /// No value where it is no load.
+    /// The loaded value, or no value if it is not a load.
     pub loaded: Value,
 }
 

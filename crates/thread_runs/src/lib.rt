@@ -1,4 +1,5 @@
-//! What one thread does: its machine, its runs over a list of values, and its free runs.
+//! One thread: its machine, its runs over a domain of values, and its free runs. Read specs/Machine.antt first, then
+//! specs/Runs.antt (`AreRuns`).
 #![tactic(auto)]
 
 mod enumerate;

@@ -4,14 +4,14 @@ use crate::instruction::{Event, RunStep};
 use crate::value::Value;
 use arrayvec::ArrayVec;
 
-/// The values that some store may store, numbers first, rising, then addresses.
+/// The domain of values that loads can read: numbers first, rising, then addresses.
 #[derive(Drop)]
 pub struct Domain {
-    /// At most 16, each once.
+    /// At most 16 values, each once.
     pub values: Vec<Value>,
 }
 
-/// What a thread does where its i-th executed load takes the i-th value.
+/// A run of a thread: its i-th executed load reads the i-th value.
 #[derive(Drop)]
 pub struct Run {
     /// The values of the executed loads.
@@ -20,8 +20,8 @@ pub struct Run {
     pub steps: Vec<RunStep>,
     /// The accesses and fences in program order.
     pub events: ArrayVec<Event, 128>,
-    /// What the registers hold at the end.
+    /// The final values of the registers.
     pub registers: [Value; 32],
-    /// Whether it stopped at a fault.
+    /// Whether the run stopped at a fault.
     pub faulted: bool,
 }

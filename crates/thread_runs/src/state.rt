@@ -12,9 +12,9 @@ use litmus_values::{BranchCondition, Operation};
 /// The registers and CR0.
 #[derive(Clone, Copy)]
 pub struct State {
-    /// What `r0` to `r31` hold.
+    /// The values of `r0` to `r31`.
     pub registers: [Value; 32],
-    /// What CR0 says.
+    /// The last comparison, in CR0.
     pub compared: Comparison,
 }
 
@@ -48,7 +48,7 @@ fn outcome(operation: Operation, v: Value, w: Value) -> Value
     }
 }
 
-/// Whether the operation of two registers has always the same value, as they are one.
+/// Whether the operation gives the same value whatever its registers hold, as both are the same register.
 pub fn cancels(operation: Operation, a: u8, b: u8) -> bool
     ensures { result ≡ machine.cancels operation a b }
 {
@@ -83,7 +83,7 @@ fn is_senseless(condition: BranchCondition, compared: Comparison) -> bool
     }
 }
 
-/// What the register of this number holds.
+/// The value of the register of this number.
 pub fn register(state: &State, r: u8) -> Value
     ensures { result ≡ machine.register state.now r }
 {
@@ -111,7 +111,7 @@ fn operated(operation: Operation, a: u8, b: u8, state: &State) -> Value
     }
 }
 
-/// Does the instruction, which has loaded the value if it is a load.
+/// The step of the instruction, which has loaded the value if it is a load.
 pub fn apply(instruction: Instruction, loaded: Value, state: &mut State)
     ensures { state.new ≡ machine.after instruction loaded state.old }
 {
@@ -210,7 +210,7 @@ pub fn goes(instruction: Instruction, state: &State) -> bool
     }
 }
 
-/// The label at which the thread goes on, if not at the next line.
+/// The label at which the thread goes on, or `None` if it goes on at the next line.
 pub fn target(instruction: Instruction, taken: bool) -> Option<usize>
     ensures { result ≡ machine.target instruction taken }
 {

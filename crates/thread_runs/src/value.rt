@@ -1,22 +1,20 @@
-//! What registers and words of memory hold.
+//! The values of registers and of locations.
 ghost use Rattle.std.specs.Prelude.{◌≡◌};
 ghost use Rattle.thread_runs.specs.Machine as machine;
 
-/// A number of 32 bits, the address of a location by its place among the test's locations
-/// sorted by name bytes, or what an operation gives that has no value.
+/// A number of 32 bits, the address of a location, or the result of an operation that has no value.
 #[derive(Clone, Copy, Debug, PartialEq, Eq)]
 pub enum Value {
     /// A number.
     Number(u32),
-    /// The address of the location at this place.
+    /// The address of a location, by its index among the locations of the test, sorted by name bytes.
     Address(usize),
     /// No value.
     NoValue,
 }
 
-/// How the last comparison came out, as CR0 keeps it (Power ISA, book I, compare instructions).
-/// `Unlike` is an address beside something else.
-#[derive(Clone, Copy, Debug, PartialEq, Eq)]
+/// The result of the last comparison, in CR0 (Power ISA, book I, compare instructions).
+#[derive(Clone, Copy, PartialEq, Eq)]
 pub enum Comparison {
     /// The first is less, as a signed number.
     Less,
@@ -24,11 +22,11 @@ pub enum Comparison {
     Equal,
     /// The first is greater, as a signed number.
     Greater,
-    /// An address, and what is not the same address.
+    /// One of the two is an address, and the other is not the same address.
     Unlike,
 }
 
-/// What `add` gives: numbers wrap, and an address takes 0 alone.
+/// The result of `add`: of numbers modulo 2^32; of an address and 0 the address; of others no value.
 pub fn sum(v: Value, w: Value) -> Value
     ensures { result ≡ machine.sum_of v w }
 {
@@ -52,7 +50,7 @@ pub fn sum(v: Value, w: Value) -> Value
     }
 }
 
-/// What `subf` gives: the second less the first, and 0 for equal addresses.
+/// The result of `subf`: the second less the first, and 0 for equal addresses.
 pub fn difference(v: Value, w: Value) -> Value
     ensures { result ≡ machine.difference_of v w }
 {
@@ -69,7 +67,7 @@ pub fn difference(v: Value, w: Value) -> Value
     }
 }
 
-/// What `xor` gives: of numbers bit by bit, and 0 for equal addresses.
+/// The result of `xor`: bitwise on numbers, and 0 for equal addresses.
 pub fn exclusive(v: Value, w: Value) -> Value
     ensures { result ≡ machine.exclusive_of v w }
 {
@@ -86,7 +84,7 @@ pub fn exclusive(v: Value, w: Value) -> Value
     }
 }
 
-/// What `or` gives: of numbers bit by bit.
+/// The result of `or`: bitwise on numbers.
 pub fn disjunction(v: Value, w: Value) -> Value
     ensures { result ≡ machine.disjunction_of v w }
 {
@@ -96,7 +94,7 @@ pub fn disjunction(v: Value, w: Value) -> Value
     }
 }
 
-/// What `and` gives: of numbers bit by bit.
+/// The result of `and`: bitwise on numbers.
 pub fn conjunction(v: Value, w: Value) -> Value
     ensures { result ≡ machine.conjunction_of v w }
 {
@@ -118,7 +116,7 @@ fn compare_numbers(m: u32, n: u32) -> Comparison
     }
 }
 
-/// How the first compares with the second.
+/// The comparison of the first with the second.
 pub fn compare(v: Value, w: Value) -> Comparison
     ensures { result ≡ machine.comparison_of v w }
 {

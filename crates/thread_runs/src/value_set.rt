@@ -3,13 +3,13 @@ ghost use Rattle.std.specs.Prelude.{◌≡◌, ◌≤◌, ◌↔◌, OnOk, lengt
 ghost use Rattle.std.specs.declared.cmp.Ordering.TheVariants.{Less, Equal, Greater};
 ghost use Rattle.thread_runs.specs.Machine as machine;
 ghost use Rattle.thread_runs.specs.Runs.{IsLess};
-ghost use Rattle.thread_runs.specs.ValueSet.{IsOne, IsSet, IsAdded, IsPlaceOf};
+ghost use Rattle.thread_runs.specs.ValueSet.{IsOne, IsSet, IsAdded, IsIndexOf};
 
 use crate::value::{Value, is_value};
 use std::alloc::AllocError;
 use std::cmp::Ordering;
 
-/// The place of a number among the signed numbers.
+/// The index of a number among the signed numbers.
 fn offset(n: u32) -> u32
     ensures { result ≡ machine.offset n }
 {
@@ -44,24 +44,24 @@ fn order(v: Value, w: Value) -> Ordering
     }
 }
 
-/// The place in the order where the value is missing, and none where it is among the values.
-fn missing_place(values: &[Value], value: Value) -> Option<usize>
+/// The index at which a missing value belongs in sorted values, or `None` if it is among them.
+fn missing_index(values: &[Value], value: Value) -> Option<usize>
     requires one { IsOne value }
     requires proper { All IsOne values.now }
     ensures there { result ≡ None → Contains values.now value }
-    ensures missing { IfSome result (λ place. IsPlaceOf value values.now place) }
+    ensures missing { IfSome result (λ index. IsIndexOf value values.now index) }
 {
-    for place in 0..values.len() {
-        match order(values[place], value) {
+    for index in 0..values.len() {
+        match order(values[index], value) {
             Ordering::Less => {}
             Ordering::Equal => return None,
-            Ordering::Greater => return Some(place),
+            Ordering::Greater => return Some(index),
         }
     }
     Some(values.len())
 }
 
-/// Adds the value, if it is one, at its place in the order.
+/// Adds a value to sorted values, which stay sorted. No value, or one that is there, adds nothing.
 pub fn add_value(values: &mut Vec<Value>, value: Value) -> Result<(), AllocError>
     requires { IsSet values.old.items }
     ensures set { IsSet values.new.items }
@@ -72,8 +72,8 @@ pub fn add_value(values: &mut Vec<Value>, value: Value) -> Result<(), AllocError
     if !is_value(value) {
         return Ok(());
     }
-    if let Some(place) = missing_place(values, value) {
-        values.insert(place, value)?;
+    if let Some(index) = missing_index(values, value) {
+        values.insert(index, value)?;
     }
     Ok(())
 }

@@ -1,4 +1,4 @@
-//! A thread on its way through its lines.
+//! The walk of a thread through its lines.
 ghost use Rattle.std.specs.Prelude.{◌≡◌, IfOk, OnOk};
 ghost use Rattle.thread_runs.specs.Runs as runs;
 
@@ -38,7 +38,7 @@ impl Walk {
         }
     }
 
-    /// The walk once more.
+    /// A copy of the walk. Errors: out of memory.
     pub fn copied(&self, alloc: Global) -> Result<Walk, AllocError>
         ensures { IfOk result (λ w. w ≡ self.now) }
     {
@@ -102,7 +102,7 @@ impl Walk {
         goes(instruction, &self.state)
     }
 
-    /// What the registers hold now.
+    /// The values of the registers now.
     pub fn registers(&self) -> [Value; 32]
         ensures { result ≡ self.now.state.registers }
     {

@@ -7,7 +7,7 @@ use Rattle.verdict.specs.Kept.{holds_at}
 use Rattle.verdict.specs.Order.{is_state}
 use Rattle.verdict.specs.declared.answer.FinalValue.{FinalValue}
 
--- how many of a list pass a test and have true at their place in another
+-- how many of a list pass a test and have true at their index in another
 unfoldable pub count_kept : {X : Type 0} → (X → Bool) → List Bool → List X → ℕ
 count_kept test kept [] = 0
 count_kept test kept (x ∷ xs) = (if holds_at 0 kept && test x then 1 else 0) + count_kept test (drop 1 kept) xs

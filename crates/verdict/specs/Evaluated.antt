@@ -27,7 +27,7 @@ use Rattle.verdict.specs.Order.{state_cmp, is_state}
 use Rattle.verdict.specs.Shown.{AreShown}
 use Rattle.verdict.specs.Text.{state_text}
 
--- the candidates that the checks keep, each with its place
+-- the candidates that the checks keep, each with its index
 abbrev pub kept_of : Space → List (Vec Bool Global) → List (ℕ × Candidate)
 kept_of space checks = kept checks (candidates_in space.combinations.items)
 

@@ -5,23 +5,23 @@ use Rattle.std.specs.declared.alloc.Global.{Global}
 use Rattle.verdict.specs.Names.{is_name}
 use Rattle.verdict.specs.declared.judgement.Raised.{Raised}
 
--- whether a check that has these answers holds on the candidate at this place
+-- whether a check that has these answers holds on the candidate at this index
 abbrev pub holds_at : ℕ → List Bool → Bool
-holds_at place answers = slice_index_or answers place false
+holds_at index answers = slice_index_or answers index false
 
--- a candidate is kept where all checks hold on it
+-- a candidate is kept if all checks hold on it
 abbrev pub is_kept : List (Vec Bool Global) → ℕ → Bool
-is_kept checks place = list_all (λ answers. holds_at place answers.items) checks
+is_kept checks index = list_all (λ answers. holds_at index answers.items) checks
 
--- the candidates that are kept, each with its place
+-- the candidates that are kept, each with its index
 abbrev pub kept : {X : Type 0} → List (Vec Bool Global) → List X → List (ℕ × X)
 kept checks candidates = filter (λ x. is_kept checks x.0) (enumerate_from 0 candidates)
 
--- whether two lists of answers are both true at some place
+-- whether two lists of answers are both true at some index
 abbrev pub holds_on_some : List Bool → List Bool → Bool
 holds_on_some kept answers = list_any (λ x. x.0 && x.1) (zip kept answers)
 
--- a flag is raised where its check holds on some kept candidate
+-- a flag is raised if its check holds on some kept candidate
 abbrev pub is_raised : {X : Type 0} → List (ℕ × X) → Raised → Bool
 is_raised candidates flag = list_any (λ x. holds_at x.0 flag.holds.now) candidates
 

@@ -15,7 +15,7 @@ use Rattle.verdict.specs.declared.answer.FinalValue.TheVariants as values
 use Rattle.verdict.specs.declared.shown_place.ShownPlace.{ShownPlace}
 use Rattle.verdict.specs.declared.shown_place.ShownPlace.TheVariants as shown
 
--- the place of a name among the locations of a test
+-- the index of a name among the locations of a test
 abbrev pub location_of : List (List ℕ) → List ℕ → Option ℕ
 location_of locations name = position (is_name name) locations
 

@@ -28,7 +28,7 @@ value_cmp NoValue (Number n) = Greater
 value_cmp NoValue (Address l) = Greater
 value_cmp NoValue NoValue = Equal
 
--- by the first place at which two states differ
+-- by the first index at which two states differ
 abbrev pub state_cmp : List FinalValue → List FinalValue → Ordering
 state_cmp = slice_cmp value_cmp
 

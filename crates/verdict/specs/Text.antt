@@ -11,7 +11,7 @@ use Rattle.verdict.specs.declared.answer.FinalValue.TheVariants as values
 use Rattle.verdict.specs.declared.shown_place.ShownPlace.{ShownPlace}
 use Rattle.verdict.specs.declared.shown_place.ShownPlace.TheVariants as shown
 
--- the name of the location at this place among those of the test
+-- the name of the location of this index among those of the test
 abbrev pub name_at : List (List ℕ) → ℕ → List ℕ
 name_at locations location = slice_index_or locations location []
 

@@ -1,89 +1,89 @@
-//! Outcomes.
+//! The outcome of a test under a model.
 
 use binding_graph::ModelFault;
 use litmus_values::Quantifier;
 use ppc_semantics::EvalRefusal;
 use source_text::Name;
 
-/// What a register or a location holds at the end. Numbers come first, rising, then addresses, by
-/// the places of their locations among those of the test, sorted by name bytes.
-#[derive(Clone, Copy, Debug, PartialEq, Eq, PartialOrd, Ord)]
+/// The final value of a register or a location. Their order: numbers, rising; then addresses, by the
+/// names of their locations; then no value.
+#[derive(Clone, Copy, PartialEq, Eq, PartialOrd, Ord)]
 pub enum FinalValue {
     /// A number of 32 bits.
     Number(i32),
-    /// The address of a location, by its place.
+    /// The address of a location, by its index among the locations of the test, sorted by name bytes.
     Address(usize),
-    /// What an operation gives that has no value.
+    /// The result of an operation that has no value, such as the sum of two addresses.
     NoValue,
 }
 
-/// A final state, with the number of kept candidates that end in it.
-#[derive(Debug, Drop)]
+/// A final state of kept candidates.
+#[derive(Drop)]
 pub struct CountedState {
-    /// What each shown place holds: registers by thread and number, then locations by name.
+    /// The values of the observables: registers by thread and number, then locations by name.
     pub values: Vec<FinalValue>,
-    /// The state as it is printed, as `1:r1=0; [x]=1;`.
+    /// The printed state, as `1:r1=0; [x]=1;`.
     pub text: Vec<u8>,
-    /// At least 1.
+    /// The number of kept candidates that end in the state, at least 1.
     pub count: u64,
-    /// Whether it satisfies the proposition of the test's condition.
+    /// Whether the state satisfies the proposition of the condition.
     pub holds: bool,
 }
 
-/// How often the proposition holds.
+/// In how many kept candidates the proposition holds.
 #[derive(Clone, Copy, Debug, PartialEq, Eq)]
 pub enum Observation {
-    /// In no kept candidate.
+    /// In none.
     Never,
-    /// In some kept candidate, and not in all.
+    /// In some, but not in all.
     Sometimes,
-    /// In all kept candidates, of which there are some.
+    /// In all; there is at least one.
     Always,
 }
 
-/// What the kept candidates say.
-#[derive(Debug, Drop)]
+/// The evaluation of a condition on the candidates that the checks keep.
+#[derive(Drop)]
 pub struct Evaluation {
     /// The final states, rising by their values.
     pub states: Vec<CountedState>,
-    /// How many kept candidates satisfy the proposition.
+    /// The number of kept candidates that satisfy the proposition.
     pub positive: u64,
-    /// How many kept candidates do not.
+    /// The number of kept candidates that do not.
     pub negative: u64,
-    /// How often the proposition holds.
+    /// Never, sometimes or always, by the two numbers.
     pub observation: Observation,
-    /// Whether the condition is met.
+    /// Whether the condition holds.
     pub ok: bool,
-    /// The names that are raised, each at the first flag that raises it.
+    /// The raised flags, in the order of the items that raise them first, each name once.
     pub flags: Vec<Name>,
 }
 
 /// Why a test has no evaluation under a model.
-#[derive(Clone, Copy, Debug, PartialEq, Eq)]
+#[derive(Clone, Copy, PartialEq, Eq)]
 pub enum Refusal {
     /// A fault of the model.
     Model(ModelFault),
-    /// A bound that the test passes, or an access to no location.
+    /// A limit that the test exceeds, or an access to an address that no location has.
     Space(EvalRefusal),
 }
 
 /// An evaluation, or the reason that there is none.
-#[derive(Debug, Drop)]
+#[derive(Drop)]
 pub enum OutcomeResult {
     /// The model has a fault, or the test is refused.
     Refused(Refusal),
-    /// What the kept candidates say.
+    /// The evaluation.
     Evaluated(Evaluation),
 }
 
-/// What one test says under one model: what herd7 prints (the herd7 manual, chapter on litmus
+/// The outcome of a test under a model, as herd7 reports it (the herd7 manual, chapter on litmus
 /// tests).
-#[derive(Debug, Drop)]
+#[derive(Drop)]
 pub struct Outcome {
     /// The quantifier of the test's condition.
     pub kind: Quantifier,
-    /// The condition as it is printed.
+    /// The printed condition.
     pub condition: Vec<u8>,
-    /// What is said of it.
+    /// The evaluation or the refusal.
     pub result: OutcomeResult,
 }

@@ -15,7 +15,7 @@ use ppc_semantics::Value;
 use std::alloc::{AllocError, Global};
 use std::collections::BTreeMap;
 
-/// How many candidates end in each state.
+/// The number of candidates that end in each state.
 pub type StateCounts = BTreeMap<Vec<FinalValue>, u64>;
 
 fn final_value(value: Value) -> FinalValue
@@ -96,20 +96,20 @@ fn final_state(
     Ok(state)
 }
 
-fn is_kept_at(kept: &[bool], place: usize) -> bool
-    ensures { result ≡ holds_at place kept.now }
+fn is_kept_at(kept: &[bool], index: usize) -> bool
+    ensures { result ≡ holds_at index kept.now }
 {
-    match kept.get(place) {
+    match kept.get(index) {
         Some(keep) => *keep,
         None => false,
     }
 }
 
-// What stands from a place on.
-fn kept_from(kept: &[bool], place: usize) -> &[bool]
-    ensures { result.now ≡ drop place kept.now }
+// The answers from an index on.
+fn kept_from(kept: &[bool], index: usize) -> &[bool]
+    ensures { result.now ≡ drop index kept.now }
 {
-    match kept.get(place..) {
+    match kept.get(index..) {
         Some(rest) => rest,
         None => &[],
     }
@@ -184,8 +184,8 @@ fn kept_after<'k>(kept: &'k [bool], combination: &Combination) -> &'k [bool]
     kept_from(kept, combination.candidate_count().min(kept.len()))
 }
 
-/// The final states of the kept candidates over these places, each with the number of kept
-/// candidates that end in it.
+/// The final states of the kept candidates over these observables, each with the number of kept
+/// candidates that end in it. Errors: out of memory.
 pub fn final_states(
     alloc: Global,
     space: &Space,

@@ -13,16 +13,16 @@ use litmus_values::{Connective, Place, Proposition, Value};
 use source_text::Name;
 use std::alloc::{AllocError, Global};
 
-/// A proposition whose places are places of a state.
+/// A proposition whose observables are indices of a state.
 #[derive(Drop)]
 pub enum Formula {
-    /// It holds in each state, or in none.
+    /// `true` or `false`.
     Constant(bool),
-    /// What the state holds at this place.
+    /// The state has this value at this index.
     Holds(usize, FinalValue),
-    /// The formula does not hold.
+    /// The negation.
     Not(Box<Formula>),
-    /// What the operator says of the two.
+    /// Two formulas, joined by an operator.
     Joined(Connective, Box<Formula>, Box<Formula>),
 }
 
@@ -65,7 +65,7 @@ fn atom(places: &[ShownPlace], locations: &[Name], place: &Place, value: &Value)
     }
 }
 
-/// The proposition over states of these places.
+/// The proposition over states of these observables. Errors: out of memory.
 pub fn formula_over(
     alloc: Global,
     places: &[ShownPlace],

@@ -29,12 +29,12 @@ pub struct Raised<'a> {
     pub holds: &'a [bool],
 }
 
-// Takes out what the check does not hold on.
+// Drops the candidates on which the check does not hold.
 fn keep_where(kept: &mut [bool], holds: &[bool])
     ensures { (k : ℕ) → k < length kept.old → slice_index_or kept.new k false ≡ (slice_index_or kept.old k false && holds_at k holds.now) }
 {
-    for (place, keep) in kept.iter_mut().enumerate() {
-        *keep = *keep && holds.get(place).copied() == Some(true);
+    for (index, keep) in kept.iter_mut().enumerate() {
+        *keep = *keep && holds.get(index).copied() == Some(true);
     }
 }
 
@@ -181,8 +181,8 @@ fn evaluation(
     })
 }
 
-/// What the candidates on which all checks hold say of the condition. `checks` and `flags` stand in
-/// the order of the text, each with one answer for each candidate of the space. Errors: want of
+/// The outcome of a condition on the candidates on which all checks hold. `checks` and `flags` are in
+/// the order of the model, each with one answer for each candidate of the space. Errors: out of
 /// memory.
 pub fn outcome(
     alloc: Global,

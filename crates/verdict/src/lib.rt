@@ -1,4 +1,5 @@
-//! What the candidates that a model keeps say of a test: final states, counts and words.
+//! The outcome of a test: the final states of the candidates that a model keeps, their counts and the observation. Read
+//! specs/Evaluated.antt first (`IsEvaluation`), then specs/Meaning.antt (when a state satisfies a proposition).
 #![tactic(auto)]
 
 mod answer;

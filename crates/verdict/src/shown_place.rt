@@ -1,4 +1,4 @@
-//! The registers and locations that a state shows.
+//! The observables of a state.
 
 ghost use Rattle.std.specs.Prelude.{◌≡◌, ◌++◌, [], ◌∷◌, IfOk, OnOk};
 ghost use Rattle.litmus_values.specs.Value.{formula_of};
@@ -10,16 +10,16 @@ use source_text::Name;
 use std::alloc::{AllocError, Global};
 use std::collections::BTreeSet;
 
-/// A register, by its thread and number, or a location, by its place among those of the test.
+/// An observable of a state: a register by its thread and number, or a location by its index among those of the test.
 #[derive(Clone, Copy, PartialEq, Eq, PartialOrd, Ord)]
 pub enum ShownPlace {
     /// A register, by its thread and its number.
     Register(usize, u8),
-    /// A location, by its place.
+    /// A location, by its index.
     Location(usize),
 }
 
-/// The place of a name among the locations.
+/// The index of a name among the locations, or `None`.
 pub fn location_of(locations: &[Name], name: &Name) -> Option<usize>
     ensures { result ≡ location_of locations.now name.now }
 {
@@ -31,7 +31,7 @@ pub fn location_of(locations: &[Name], name: &Name) -> Option<usize>
     None
 }
 
-/// What is shown for a place of the text.
+/// The observable of a state for one of the text, or `None` if its location is not one of the test.
 pub fn shown_place(locations: &[Name], place: &Place) -> Option<ShownPlace>
     ensures { result ≡ known_place locations.now place.now }
 {
@@ -77,8 +77,8 @@ fn add_proposition(
     }
 }
 
-/// The places of the proposition and the observed ones, each once: registers by thread and number,
-/// then locations by name.
+/// The observables of the proposition and of `locations`, each once: registers by thread and number,
+/// then locations by name. Errors: out of memory.
 pub fn shown_places(
     alloc: Global,
     locations: &[Name],

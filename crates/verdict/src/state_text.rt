@@ -1,4 +1,4 @@
-//! States as they are printed.
+//! The printed states.
 
 ghost use Rattle.std.specs.Prelude.{◌≡◌, ◌++◌, IfOk, OnOk, codes};
 ghost use Rattle.litmus_printing.specs.Printing.{place_text};
@@ -67,7 +67,7 @@ fn put_held(
     put_bytes(text, b";")
 }
 
-/// The state, as `1:r1=0; [x]=1;`.
+/// The printed state, as `1:r1=0; [x]=1;`. Errors: out of memory.
 pub fn state_text(
     alloc: Global,
     locations: &[Name],

@@ -8,8 +8,8 @@ returns-then-count_at-eq0-clause-added c =
     let counted = c.in_ok-counts.ensures 0 (omega arith) (omega arith) in
     no_way c.args.lines.now c.args.first c.args.values.now _ (omega (arith, here, counted))
 
-pub loop-place-init : goal.loop-place-init
-loop-place-init c =
+pub loop-index-init : goal.loop-index-init
+loop-index-init c =
     let here : c.count_at.result ≡ get_or c.in_ok-counts.counts.items 0 0 = c.count_at.ensures ∙ ap (λ (ns : List ℕ). get_or ns 0 0) c.deref.ensures.value in
     let counted = c.in_ok-counts.ensures 0 (omega arith) (omega arith) in
     record {
@@ -17,13 +17,13 @@ loop-place-init c =
       way = rw (c.in_ok-push.ensures.items, c.new-walks.ensures.items) (under_way c.args.lines.now c.args.first c.args.values.now _ (omega (arith, here, counted)));
     }
 
-pub loop-place-preserved : goal.loop-place-preserved
-loop-place-preserved c = record {
+pub loop-index-preserved : goal.loop-index-preserved
+loop-index-preserved c = record {
   rising = c.note_all.ensures.set;
   way =
-      way_on c.args.lines.now c.args.first c.args.values.now c.loop-place.place _ _ _ _ _ _ _ _ c.loop-place-test.true c.goes_by-on.ensures c.goes_by-there.ensures c.loop-place.invariant.way
-      (rw c.deref-in-loop-place.ensures.value at c.in_ok-note_all.ensures.added) c.in_ok-walks.ensures;
+      way_on c.args.lines.now c.args.first c.args.values.now c.loop-index.index _ _ _ _ _ _ _ _ c.loop-index-test.true c.goes_by-on.ensures c.goes_by-there.ensures c.loop-index.invariant.way
+      (rw c.deref-in-loop-index.ensures.value at c.in_ok-note_all.ensures.added) c.in_ok-walks.ensures;
 }
 
 pub returns-clause-added : goal.returns-clause-added
-returns-clause-added c = way_ends c.args.lines.now c.args.first c.args.values.now c.loop-place.place _ _ _ (omega arith) c.loop-place.invariant.way
+returns-clause-added c = way_ends c.args.lines.now c.args.first c.args.values.now c.loop-index.index _ _ _ (omega arith) c.loop-index.invariant.way
