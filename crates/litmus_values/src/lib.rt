@@ -8,6 +8,3 @@ pub use instruction::{BranchCondition, Fence, Instruction, Operation, Register};
 pub use test::{
     Condition, Connective, InitEntry, Place, Proposition, Quantifier, Step, Test, Thread, Value,
 };
-
-#[cfg(test)]
-mod tests;
