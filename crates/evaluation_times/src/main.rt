@@ -1,6 +1,10 @@
 //! Prints how long one evaluation takes, from the two texts to the log, for each pair of a model's
-//! file and a test's file that its words name.
+//! file and a test's file that its words name. With the word `relations` it prints how long the
+//! operations on relations take beside plain loops, and without words whether both give the same.
 #![tactic(auto)]
+
+mod plain;
+mod relations;
 
 use litmusbench::eval;
 use std::alloc::{AllocError, Global};
@@ -60,8 +64,13 @@ fn words_of<R: Env + AllocGlobal>(rt: &R) -> io::Result<Vec<String>> {
 
 fn run<R: Files + Env + Clock + Print + AllocGlobal>(rt: &R) -> io::Result<()> {
     let words = words_of(rt)?;
+    if words.len() == 2 && words[1].as_str() == "relations" {
+        return relations::show_all(rt, true);
+    }
     if words.len() < 3 {
-        return println!(rt; "evaluation_times MODEL TEST MODEL TEST ..");
+        println!(rt; "evaluation_times MODEL TEST MODEL TEST ..")?;
+        println!(rt; "evaluation_times relations")?;
+        return relations::show_all(rt, false);
     }
     for pair in words[1..].chunks_exact(2) {
         if let [model, test] = pair {

@@ -1,10 +1,11 @@
+//! The closure of a chain, and of the ring that one more pair makes of it.
 ghost use Rattle.std.specs.Prelude.{◌≡◌, ◌≤◌};
 
+use crate::digest::show_relation;
 use bit_relations::Rel;
-use std::process::Abort;
-use std::test::Fail;
+use std::io;
 
-const SIZES: [usize; 9] = [1, 7, 8, 9, 63, 64, 65, 127, 128];
+const COUNTS: [usize; 9] = [1, 7, 8, 9, 63, 64, 65, 127, 128];
 
 /// The relation of each event to the next.
 fn chain(count: usize) -> Rel
@@ -18,42 +19,26 @@ fn chain(count: usize) -> Rel
     made
 }
 
-fn pairs(r: &Rel) -> usize {
-    let mut sum: usize = 0;
-    for a in 0..r.count() {
-        for b in 0..r.count() {
-            if r.contains(a, b) {
-                sum = sum.wrapping_add(1);
-            }
-        }
-    }
-    sum
-}
-
-fn row_by_row(a: &impl Abort, n: usize)
-    requires { n ≤ 128 }
+fn show_chain<R: Print>(rt: &R, count: usize) -> io::Result<()>
+    requires { count ≤ 128 }
 {
-    let mut r = chain(n);
-    let plus = r.plus();
-    assert_eq!(a; pairs(&plus), n * n.saturating_sub(1) / 2, "at {n}");
-    assert!(a; r.is_acyclic(), "at {n}");
-    if n > 0 {
-        r.insert(n - 1, 0);
+    let mut relation = chain(count);
+    show_relation(rt, "chain", &relation.plus())?;
+    println!(rt; "acyclic {}", relation.is_acyclic())?;
+    if count > 0 {
+        relation.insert(count - 1, 0);
     }
-    assert_eq!(a; pairs(&r.plus()), n * n, "with the last pair at {n}");
-    assert!(a; !r.is_acyclic(), "with the last pair at {n}");
+    show_relation(rt, "ring", &relation.plus())?;
+    println!(rt; "acyclic {}", relation.is_acyclic())
 }
 
-#[test]
-fn paths_along_a_chain(rt: HostRuntime) -> Result<(), Fail> {
-    for n in SIZES {
-        if n <= 128 {
-            row_by_row(&rt, n);
+/// Prints both at each count.
+pub fn show<R: Print>(rt: &R) -> io::Result<()> {
+    for count in COUNTS {
+        if count <= 128 {
+            println!(rt; "== chain of {count} events")?;
+            show_chain(rt, count)?;
         }
     }
-    assert_eq!(rt; pairs(&chain(64).plus()), 2016);
-    assert_eq!(rt; pairs(&chain(65).plus()), 2080);
-    assert_eq!(rt; pairs(&chain(127).plus()), 8001);
-    assert_eq!(rt; pairs(&chain(128).plus()), 8128);
     Ok(())
 }

@@ -1,28 +1,18 @@
-//! Tests of packed lists.
+//! Packed lists of relations.
 ghost use Rattle.std.specs.Prelude.{◌≤◌};
 
+use crate::digest::show_relation;
 use bit_relations::{PackedRelations, Rel};
 use std::alloc::{AllocError, Global};
-use std::process::Abort;
-use std::test::Fail;
+use std::io;
 
-const SIZES: [usize; 6] = [0, 1, 63, 64, 65, 128];
+const COUNTS: [usize; 6] = [0, 1, 63, 64, 65, 128];
 
 /// Each event with each other.
 fn others(count: usize) -> Rel
     requires { count ≤ 128 }
 {
     Rel::identity(count).complement()
-}
-
-fn reads_back(a: &impl Abort, list: &PackedRelations, k: usize, wanted: &Rel) {
-    let mut place = Rel::identity(100);
-    assert!(a; k < list.len());
-    if k < list.len() {
-        assert_eq!(a; list.count_at(k), wanted.count());
-        list.read_into(k, &mut place);
-    }
-    assert!(a; place.is_same(wanted), "at {k}");
 }
 
 /// The relation of each other event, then one on 5 events, then the identity.
@@ -36,38 +26,44 @@ fn three(alloc: Global, count: usize) -> Result<PackedRelations, AllocError>
     Ok(list)
 }
 
-fn comes_back(a: &impl Abort, alloc: Global, count: usize) -> Result<(), AllocError>
-    requires { count ≤ 128 }
-{
-    let mut list = three(alloc, count)?;
-    assert_eq!(a; list.len(), 3);
-    reads_back(a, &list, 0, &others(count));
-    reads_back(a, &list, 1, &others(5));
-    reads_back(a, &list, 2, &Rel::identity(count));
-    let again = three(alloc, count)?;
-    assert!(a; list.is_same(&again), "at {count}");
-    list.push(&Rel::empty(count))?;
-    assert!(a; !list.is_same(&again), "longer at {count}");
-    Ok(())
-}
-
-#[test]
-fn relations_come_back(rt: HostRuntime) -> Result<(), Fail> {
-    for count in SIZES {
-        if count <= 128 {
-            comes_back(&rt, rt.alloc(), count)?;
-        }
+/// Prints each relation of a list, read over another of 100 events.
+fn show_list<R: Print>(rt: &R, list: &PackedRelations) -> io::Result<()> {
+    for k in 0..list.len() {
+        let mut place = Rel::identity(100);
+        list.read_into(k, &mut place);
+        println!(rt; "{k}: {} events", list.count_at(k))?;
+        show_relation(rt, "read", &place)?;
     }
     Ok(())
 }
 
-#[test]
-fn lists_without_words(rt: HostRuntime) -> Result<(), Fail> {
+fn show_three<R: Print + AllocGlobal>(rt: &R, count: usize) -> io::Result<()>
+    requires { count ≤ 128 }
+{
+    let mut list = three(rt.alloc(), count)?;
+    show_list(rt, &list)?;
+    let again = three(rt.alloc(), count)?;
+    println!(rt; "same {}", list.is_same(&again))?;
+    list.push(&Rel::empty(count))?;
+    println!(rt; "same with one more {}", list.is_same(&again))
+}
+
+fn show_wordless<R: Print + AllocGlobal>(rt: &R) -> io::Result<()> {
     let mut list = PackedRelations::new(rt.alloc());
     let none = PackedRelations::new(rt.alloc());
-    assert!(rt; list.is_empty());
+    println!(rt; "empty {}", list.is_empty())?;
     list.push(&Rel::empty(0))?;
-    assert!(rt; !list.is_empty());
-    assert!(rt; !list.is_same(&none));
-    Ok(())
+    println!(rt; "empty {}, same {}", list.is_empty(), list.is_same(&none))
+}
+
+/// Prints lists of relations at each count, and a list of a relation that takes no words.
+pub fn show<R: Print + AllocGlobal>(rt: &R) -> io::Result<()> {
+    for count in COUNTS {
+        if count <= 128 {
+            println!(rt; "== list of {count} events")?;
+            show_three(rt, count)?;
+        }
+    }
+    println!(rt; "== list without words")?;
+    show_wordless(rt)
 }

@@ -30,13 +30,22 @@ fn example_of(line: &str) -> Option<Example<'_>> {
     })
 }
 
+/// Whether a line tells the outcome.
+fn tells_outcome(line: &str) -> bool {
+    line.starts_with("Observation ") || line.starts_with("Refused ")
+}
+
+fn put_line(text: &mut String, line: &str) -> Result<(), AllocError> {
+    text.push_str(line)?;
+    text.push_str("\n")
+}
+
 /// The lines of a log that are printed.
 fn printed(alloc: Global, log: &str, whole: bool) -> Result<String, AllocError> {
     let mut text = String::new(alloc);
     for line in log.lines() {
-        if whole || line.starts_with("Observation ") || line.starts_with("Refused ") {
-            text.push_str(line)?;
-            text.push_str("\n")?;
+        if whole || tells_outcome(line) {
+            put_line(&mut text, line)?;
         }
     }
     Ok(text)

@@ -1,5 +1,0 @@
-//! Tests of what models mean.
-#![tactic(auto)]
-
-#[cfg(test)]
-mod tests;

@@ -1,5 +1,0 @@
-//! Tests of the reader of propositions.
-#![tactic(auto)]
-
-#[cfg(test)]
-mod tests;

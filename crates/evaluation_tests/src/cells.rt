@@ -1,0 +1,75 @@
+//! One cell of `memo_graph`, and the words of the command line.
+
+use crate::outcomes::put_counts;
+use cat_syntax::read_model;
+use litmus_ppc::{Quantifier, read_test};
+use litmusbench::{Form, form_of};
+use memo_graph::eval_cell;
+use source_text::{put_bytes, put_decimal};
+use std::alloc::{AllocError, Global};
+use verdict::{Outcome, OutcomeResult};
+
+fn put_outcome(answer: &mut Vec<u8>, outcome: &Outcome) -> Result<(), AllocError> {
+    let kind = match outcome.kind {
+        Quantifier::Exists => b"Exists ".as_slice(),
+        Quantifier::NotExists => b"NotExists ",
+        Quantifier::Forall => b"Forall ",
+    };
+    put_bytes(answer, kind)?;
+    put_bytes(answer, &outcome.condition)?;
+    put_bytes(answer, b"\n")?;
+    match &outcome.result {
+        OutcomeResult::Evaluated(found) => {
+            put_decimal(answer, found.states.len() as u64)?;
+            put_bytes(answer, b" states, ")?;
+            put_counts(answer, found)
+        }
+        OutcomeResult::Refused(_) => put_bytes(answer, b"refused"),
+    }
+}
+
+/// Appends the outcome of a test under a model.
+pub fn put_cell(
+    alloc: Global,
+    answer: &mut Vec<u8>,
+    model: &[u8],
+    test: &[u8],
+) -> Result<(), AllocError> {
+    match (read_model(alloc, model), read_test(alloc, test)) {
+        (Ok(model), Ok(test)) => match eval_cell(alloc, &test, &model) {
+            Ok(outcome) => put_outcome(answer, &outcome),
+            Err(_) => Err(AllocError),
+        },
+        _ => put_bytes(answer, b"refused"),
+    }
+}
+
+/// The words of a text.
+fn words_of(alloc: Global, text: &str) -> Result<Vec<&str>, AllocError> {
+    let mut words = Vec::new(alloc);
+    for word in text.split_whitespace() {
+        words.push(word)?;
+    }
+    Ok(words)
+}
+
+fn put_form_of(alloc: Global, answer: &mut Vec<u8>, words: &[&str]) -> Result<(), AllocError> {
+    match form_of(alloc, words) {
+        Ok(Form::Stream) => put_bytes(answer, b"stream"),
+        Ok(Form::Eval { model, test }) => {
+            put_bytes(answer, b"eval ")?;
+            put_bytes(answer, model.as_bytes())?;
+            put_bytes(answer, b" ")?;
+            put_bytes(answer, test.as_bytes())
+        }
+        Err(_) => put_bytes(answer, b"usage"),
+    }
+}
+
+/// Appends what the words of a text ask for.
+pub fn put_form(alloc: Global, answer: &mut Vec<u8>, text: &[u8]) -> Result<(), AllocError> {
+    match str::from_utf8(text) {
+        Ok(text) => put_form_of(alloc, answer, &words_of(alloc, text)?),
+        Err(_) => put_bytes(answer, b"no text"),
+    }
+}

@@ -1,0 +1,13 @@
+//! Values of `litmus_values` whose parts are known.
+
+use litmus_values::{Connective, Register};
+use std::io;
+
+/// Prints the number of the last register, and how tightly each connective binds.
+pub fn show<R: Print>(rt: &R) -> io::Result<()> {
+    let number = Register::new(31).number();
+    let and = Connective::And.level();
+    let or = Connective::Or.level();
+    let implies = Connective::Implies.level();
+    println!(rt; "register 31 is {number}; levels {and} {or} {implies}")
+}

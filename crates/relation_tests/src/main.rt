@@ -1,0 +1,22 @@
+//! Applies the operations of `bit_relations` to known relations and sets, and prints how many pairs or
+//! events each result has, and a number that depends on each of them. `tests/plain-relations`, a plain
+//! program over sets of pairs, prints what is wanted.
+#![tactic(auto)]
+
+mod chains;
+mod digest;
+mod operations;
+mod packed;
+mod random;
+
+use std::io;
+
+fn run<R: Print + AllocGlobal>(rt: &R) -> io::Result<()> {
+    operations::show(rt)?;
+    chains::show(rt)?;
+    packed::show(rt)
+}
+
+fn main(rt: HostRuntime) -> io::Result<()> {
+    run(&rt)
+}

@@ -1,5 +1,0 @@
-//! Tests of what tests say.
-#![tactic(auto)]
-
-#[cfg(test)]
-mod tests;
