@@ -51,7 +51,7 @@ outcome_is : {o p : Outcome} → Some o ≡ Some p → o ≡ p
 outcome_is e = cc
 
 -- what is left of the text adds so many
-abbrev Adds : List Line → ℕ → Type 0
+abbrev pub Adds : List Line → ℕ → Type 0
 Adds xs n = (w : Walk) (vs : List Value) (o : Outcome) → run_from xs w vs ≡ Some o → length o.walk.events ≤ length w.events + n
 
 ends_few : (f : Bool) (w : Walk) (vs : List Value) (o : Outcome) (n : ℕ) → ends f w vs ≡ Some o → length o.walk.events ≤ length w.events + n
@@ -78,7 +78,7 @@ module _ (xs : List Line) (n : ℕ) (rest : Adds xs n) where
   one_few None (Label m) w vs o e = let a : length o.walk.events ≤ length w.events + n = rest w vs o e in omega (arith, a)
   one_few None (Does i) w vs o e = obeyed_few (is_fault i w.state) i w vs o e
 
-run_few : (xs : List Line) → Adds xs (count_by has_event xs)
+pub run_few : (xs : List Line) → Adds xs (count_by has_event xs)
 run_few [] w vs o e = ends_few false w vs o 0 e
 run_few (x ∷ xs) w vs o e =
     let a : length o.walk.events ≤ length w.events + (cond (has_event x) 1 0 + count_by has_event xs) = one_few xs (count_by has_event xs) (run_few xs) w.seeking x w vs o e in

@@ -13,6 +13,7 @@ ghost use Rattle.candidates.specs.Space.{seen, ordered};
 ghost use Rattle.candidates.specs.Candidates.{AreSmall, HasEnds, IsAnswer, IsReady, IsTestSpace, IsTestRefusal};
 
 mod candidate;
+pub mod executions;
 mod keys;
 mod layout;
 mod orders;
