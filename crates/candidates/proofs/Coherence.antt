@@ -7,7 +7,8 @@ use Rattle.candidates.proofs.Products.{FilteredEach, filter_of_products, filter_
 use Rattle.candidates.proofs.ReadsFrom.{tuples_are}
 use Rattle.candidates.specs.Executions.{IsOrder, product, rows, stores_at}
 use Rattle.candidates.specs.Lists.{tuples, IsFiltered, none, kept, left}
-use Rattle.candidates.specs.Orders.{has_store, AreDistinct, are_distinct, orders_of}
+use Rattle.candidates.specs.Events.{has_store, AreDistinct}
+use Rattle.candidates.specs.Orders.{are_distinct, orders_of}
 use Rattle.candidates.specs.declared.candidate.Event.{Event}
 
 true_false : true ≡ false → ⊥

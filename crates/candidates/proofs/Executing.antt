@@ -14,9 +14,9 @@ use Rattle.candidates.proofs.ReadsFrom.{reads_found}
 use Rattle.candidates.specs.Executions.{Execution, IsExecution, IsDependency, IsOrder, MayRead, product, maps, rows, orders, over_runs, loads, stores_at, locations_from, events, events_from}
 use Rattle.candidates.specs.Listed.{ChoosesApart, IsReadsFrom, IsCoherence}
 use Rattle.candidates.specs.Lists.{IsFiltered}
-use Rattle.candidates.specs.Orders.{numbers, has_store, orders_of, writes_to, is_thread_store}
-use Rattle.candidates.specs.Parts.{part_events, with_action, action_in, initial_from}
-use Rattle.candidates.specs.Ways.{AreWays, ReadsFrom, accesses_in}
+use Rattle.candidates.specs.Events.{numbers, has_store, writes_to, thread_events, with_action, action_in, initial_stores, ReadsFrom}
+use Rattle.candidates.specs.Orders.{orders_of, is_thread_store}
+use Rattle.candidates.specs.Ways.{AreWays, accesses_in}
 use Rattle.candidates.specs.declared.candidate.Action.{Action}
 use Rattle.candidates.specs.declared.candidate.Event.{Event}
 
@@ -33,13 +33,13 @@ in_thread : (t : ℕ) (a : Option Action) → InThreads (with_action t a)
 in_thread t None = tt
 in_thread t (Some a) = ((t, refl), tt)
 
-part_in_threads : (t : ℕ) (es : List run.Event) → InThreads (part_events t es)
+part_in_threads : (t : ℕ) (es : List run.Event) → InThreads (thread_events t es)
 part_in_threads t [] = tt
-part_in_threads t (e ∷ es) = in_threads_both (with_action t (action_in e)) (part_events t es) (in_thread t (action_in e)) (part_in_threads t es)
+part_in_threads t (e ∷ es) = in_threads_both (with_action t (action_in e)) (thread_events t es) (in_thread t (action_in e)) (part_in_threads t es)
 
 runs_in_threads : (t : ℕ) (rs : List Run) → InThreads (events_from t rs)
 runs_in_threads t [] = tt
-runs_in_threads t (r ∷ rs) = in_threads_both (part_events t r.outcome.walk.events) (events_from (t + 1) rs) (part_in_threads t r.outcome.walk.events) (runs_in_threads (t + 1) rs)
+runs_in_threads t (r ∷ rs) = in_threads_both (thread_events t r.outcome.walk.events) (events_from (t + 1) rs) (part_in_threads t r.outcome.walk.events) (runs_in_threads (t + 1) rs)
 
 -- of these all stores are stores of threads
 abbrev stores_from : ℕ → ℕ → List Event → List ℕ
@@ -52,7 +52,7 @@ thread_stores l at (e ∷ es) h =
     ∙ ap (λ (o : Option ℕ). cond (is_some o && writes_to l e.action) (at ∷ numbers (is_thread_store l) (at + 1) es) (numbers (is_thread_store l) (at + 1) es)) (sym h.0.1)
 
 -- the initial stores are none
-past_initial : (l at n : ℕ) (vs : List Value) (es : List Event) → n ≡ at + length vs → numbers (is_thread_store l) at (initial_from at vs ++ es) ≡ numbers (is_thread_store l) n es
+past_initial : (l at n : ℕ) (vs : List Value) (es : List Event) → n ≡ at + length vs → numbers (is_thread_store l) at (initial_stores at vs ++ es) ≡ numbers (is_thread_store l) n es
 past_initial l at n [] es e = let z : at ≡ n = omega (arith, e) in ap (λ (k : ℕ). numbers (is_thread_store l) k es) z
 past_initial l at n (v ∷ vs) es e = past_initial l (at + 1) n vs es (omega (arith, e))
 
@@ -64,21 +64,21 @@ unlike a b differ = go (nat_eq a b) refl
     go false e = refl
 
 -- each location has its initial store, which has the number of the location
-later_stores : (l at n : ℕ) (vs : List Value) (es : List Event) → l < at → n ≡ at + length vs → InThreads es → stores_from l at (initial_from at vs ++ es) ≡ numbers (is_thread_store l) n es
+later_stores : (l at n : ℕ) (vs : List Value) (es : List Event) → l < at → n ≡ at + length vs → InThreads es → stores_from l at (initial_stores at vs ++ es) ≡ numbers (is_thread_store l) n es
 later_stores l at n [] es lt e h = let z : at ≡ n = omega (arith, e) in thread_stores l at es h ∙ ap (λ (k : ℕ). numbers (is_thread_store l) k es) z
 later_stores l at n (v ∷ vs) es lt e h =
-    ap (λ (b : Bool). cond b (at ∷ stores_from l (at + 1) (initial_from (at + 1) vs ++ es)) (stores_from l (at + 1) (initial_from (at + 1) vs ++ es))) (unlike at l (λ s. omega (arith, s, lt)))
+    ap (λ (b : Bool). cond b (at ∷ stores_from l (at + 1) (initial_stores (at + 1) vs ++ es)) (stores_from l (at + 1) (initial_stores (at + 1) vs ++ es))) (unlike at l (λ s. omega (arith, s, lt)))
     ∙ later_stores l (at + 1) n vs es (omega (arith, lt)) (omega (arith, e)) h
 
-own_stores : (l at n : ℕ) (vs : List Value) (es : List Event) → at ≤ l → l < n → n ≡ at + length vs → InThreads es → stores_from l at (initial_from at vs ++ es) ≡ l ∷ numbers (is_thread_store l) n es
+own_stores : (l at n : ℕ) (vs : List Value) (es : List Event) → at ≤ l → l < n → n ≡ at + length vs → InThreads es → stores_from l at (initial_stores at vs ++ es) ≡ l ∷ numbers (is_thread_store l) n es
 own_stores l at n [] es le lt e h = absurd (omega (arith, le, lt, e))
 own_stores l at n (v ∷ vs) es le lt e h = elim (cases_eq at l) [
   | inl s ↦
-      ap (λ (b : Bool). cond b (at ∷ stores_from l (at + 1) (initial_from (at + 1) vs ++ es)) (stores_from l (at + 1) (initial_from (at + 1) vs ++ es))) (eq-eqb at l s)
+      ap (λ (b : Bool). cond b (at ∷ stores_from l (at + 1) (initial_stores (at + 1) vs ++ es)) (stores_from l (at + 1) (initial_stores (at + 1) vs ++ es))) (eq-eqb at l s)
       ∙ ap (λ (ns : List ℕ). at ∷ ns) (later_stores l (at + 1) n vs es (omega (arith, s)) (omega (arith, e)) h)
       ∙ ap (λ (k : ℕ). k ∷ numbers (is_thread_store l) n es) s
   | inr d ↦
-      ap (λ (b : Bool). cond b (at ∷ stores_from l (at + 1) (initial_from (at + 1) vs ++ es)) (stores_from l (at + 1) (initial_from (at + 1) vs ++ es))) (unlike at l d)
+      ap (λ (b : Bool). cond b (at ∷ stores_from l (at + 1) (initial_stores (at + 1) vs ++ es)) (stores_from l (at + 1) (initial_stores (at + 1) vs ++ es))) (unlike at l d)
       ∙ own_stores l (at + 1) n vs es (omega (arith, le, d)) lt (omega (arith, e)) h
 ]
 

@@ -17,7 +17,7 @@ use Rattle.candidates.proofs.Choosing.{runs_in}
 use Rattle.candidates.proofs.Small.{run_few}
 use Rattle.candidates.specs.Executions.{product, events_from}
 use Rattle.candidates.specs.Layouts.{AreAllRuns, chosen_events}
-use Rattle.candidates.specs.Parts.{part_events}
+use Rattle.candidates.specs.Events.{thread_events}
 use Rattle.candidates.specs.declared.candidate.Event.{Event}
 
 -- a run as it is kept, and the run
@@ -93,8 +93,8 @@ same_events V [] thread (m ∷ ms) rs h = absurd h
 same_events V (t ∷ ts) thread [] rs h = absurd h
 same_events V (t ∷ ts) thread (m ∷ ms) [] h = absurd h
 same_events V (t ∷ ts) thread (m ∷ ms) (r ∷ rs) h =
-    ap (λ (es : List run.Event). part_events thread es ++ chosen_events (thread + 1) ms) h.0.0.events
-    ∙ ap (λ (es : List Event). part_events thread r.outcome.walk.events ++ es) (same_events V ts (thread + 1) ms rs h.1)
+    ap (λ (es : List run.Event). thread_events thread es ++ chosen_events (thread + 1) ms) h.0.0.events
+    ∙ ap (λ (es : List Event). thread_events thread r.outcome.walk.events ++ es) (same_events V ts (thread + 1) ms rs h.1)
 
 -- what a run of a thread shows, of which there are at most 128 events
 zipped : (P : Run → Type 0) (ms : List made.Run) (rs : List Run) → map shown ms ≡ map shown_of rs → ((r : Run) → Contains rs r → P r × (length r.outcome.walk.events ≤ 128)) → AllZip (λ m r. Same m r × P r) ms rs

@@ -16,10 +16,10 @@ use Rattle.candidates.specs.Candidates.{AreCombinations, nothing_left, with_ways
 use Rattle.candidates.specs.Executions.{Execution, IsExecution, IsDependency, IsOrder, MayRead, product, maps, orders, over_runs, loads, locations_from, events, events_from}
 use Rattle.candidates.specs.Layouts.{chosen_events, CannotRead}
 use Rattle.candidates.specs.Lists.{IsFiltered, none, left}
-use Rattle.candidates.specs.Parts.{initial_from}
+use Rattle.candidates.specs.Events.{initial_stores, ReadsFrom}
 use Rattle.candidates.specs.Search.{Begun, with_run, start}
 use Rattle.candidates.specs.Space.{Seen, ordered}
-use Rattle.candidates.specs.Ways.{AreWays, ReadsFrom, accesses_in}
+use Rattle.candidates.specs.Ways.{AreWays, accesses_in}
 use Rattle.candidates.specs.declared.candidate.Event.{Event}
 
 -- the events of a combination are those of its runs
@@ -65,13 +65,13 @@ none_executed initial threads V rs are stuck =
 pub record AreTheirs (initial : List Value) (threads : List Thread) (V : List Value) (ms : List made.Run) (rs : List Run) : Type 0 where
   pub runs : AllZip (λ t r. IsRun t (Contains V) r) threads rs
   pub same : chosen_events 0 ms ≡ events_from 0 rs
-  pub needed : (b : Begun) → GoesOnWith 0 (start (initial_from 0 initial)) ms b → (x y : ℕ) → IsDependency IsNeed initial rs x y → (accesses_in (events initial rs) b.needs).Need x y
-  pub needs : (b : Begun) → GoesOnWith 0 (start (initial_from 0 initial)) ms b → (x y : ℕ) → (accesses_in (events initial rs) b.needs).Need x y → IsDependency IsNeed initial rs x y
+  pub needed : (b : Begun) → GoesOnWith 0 (start (initial_stores 0 initial)) ms b → (x y : ℕ) → IsDependency IsNeed initial rs x y → (accesses_in (events initial rs) b.needs).Need x y
+  pub needs : (b : Begun) → GoesOnWith 0 (start (initial_stores 0 initial)) ms b → (x y : ℕ) → (accesses_in (events initial rs) b.needs).Need x y → IsDependency IsNeed initial rs x y
 
 -- the executions are those of these combinations, one after another: each way to read with each order of the stores
 pub data AreListed (n : ℕ) (initial : List Value) : List Seen → List Execution → Type 0 where
   no_more : AreListed n initial [] []
-  one_more : {cs : List Seen} {xs : List Execution} (ms : List made.Run) (rs : List Run) (b : Begun) (ways : List (List ℕ)) → GoesOnWith 0 (start (initial_from 0 initial)) ms b → b.seen.events ≡ events initial rs → AreListed n initial cs xs → AreListed n initial (ordered n (record b.seen { sources = ways }) ∷ cs) (flat_map (λ way. map (executed_so initial rs way) (product (orders_at (events initial rs) initial))) ways ++ xs)
+  one_more : {cs : List Seen} {xs : List Execution} (ms : List made.Run) (rs : List Run) (b : Begun) (ways : List (List ℕ)) → GoesOnWith 0 (start (initial_stores 0 initial)) ms b → b.seen.events ≡ events initial rs → AreListed n initial cs xs → AreListed n initial (ordered n (record b.seen { sources = ways }) ∷ cs) (flat_map (λ way. map (executed_so initial rs way) (product (orders_at (events initial rs) initial))) ways ++ xs)
 
 -- all executions
 pub record Listing (n : ℕ) (initial : List Value) (threads : List Thread) (V : List Value) (cs : List Seen) (rss : List (List Run)) : Type 0 where
@@ -79,7 +79,7 @@ pub record Listing (n : ℕ) (initial : List Value) (threads : List Thread) (V :
   pub executions : IsFiltered (IsExecution initial threads (Contains V)) (flat_map (over_runs initial) rss) all
   pub listed : AreListed n initial cs all
 
-pub all_listed : (n : ℕ) (initial : List Value) (threads : List Thread) (V : List Value) (mss : List (List made.Run)) (rss : List (List Run)) (bs : List Begun) (cs : List Seen) → AllZip (AreTheirs initial threads V) mss rss → AreChoices 0 (start (initial_from 0 initial)) mss bs → AreCombinations n bs cs → Listing n initial threads V cs rss
+pub all_listed : (n : ℕ) (initial : List Value) (threads : List Thread) (V : List Value) (mss : List (List made.Run)) (rss : List (List Run)) (bs : List Begun) (cs : List Seen) → AllZip (AreTheirs initial threads V) mss rss → AreChoices 0 (start (initial_stores 0 initial)) mss bs → AreCombinations n bs cs → Listing n initial threads V cs rss
 all_listed n initial threads V [] [] bs cs same over nothing_left = record { all = []; executions = none; listed = no_more }
 all_listed n initial threads V [] (rs ∷ rss) bs cs same h k = absurd same
 all_listed n initial threads V (ms ∷ mss) [] bs cs same h k = absurd same
@@ -87,12 +87,12 @@ all_listed n initial threads V (ms ∷ mss) (rs ∷ rss) bs cs same (skipped stu
     let rest : Listing n initial threads V cs rss = all_listed n initial threads V mss rss bs cs same.1 h k in
     record {
       all = rest.all;
-      executions = IsFiltered-append (IsExecution initial threads (Contains V)) (over_runs initial rs) [] (flat_map (over_runs initial) rss) rest.all (none_executed initial threads V rs same.0.runs (subst (λ (es : List Event). CannotRead (initial_from 0 initial ++ es)) same.0.same stuck)) rest.executions;
+      executions = IsFiltered-append (IsExecution initial threads (Contains V)) (over_runs initial rs) [] (flat_map (over_runs initial) rss) rest.all (none_executed initial threads V rs same.0.runs (subst (λ (es : List Event). CannotRead (initial_stores 0 initial ++ es)) same.0.same stuck)) rest.executions;
       listed = rest.listed;
     }
 all_listed n initial threads V (ms ∷ mss) (rs ∷ rss) (b ∷ bs) cs same (next g h) (with_ways {cs = ds} {way = way} {ways = ways} are k) =
     let rest : Listing n initial threads V ds rss = all_listed n initial threads V mss rss bs ds same.1 h k in
-    let es : b.seen.events ≡ events initial rs = events_are 0 (start (initial_from 0 initial)) b ms g ∙ ap (λ (l : List Event). initial_from 0 initial ++ l) same.0.same in
+    let es : b.seen.events ≡ events initial rs = events_are 0 (start (initial_stores 0 initial)) b ms g ∙ ap (λ (l : List Event). initial_stores 0 initial ++ l) same.0.same in
     let own : List Execution = flat_map (λ w. map (executed_so initial rs w) (product (orders_at (events initial rs) initial))) (way ∷ ways) in
     let here : IsFiltered (IsExecution initial threads (Contains V)) (over_runs initial rs) own = executions_found initial rs threads V b.needs same.0.runs (same.0.needed b g) (same.0.needs b g) (way ∷ ways) (subst (λ (l : List Event). AreWays l b.needs (way ∷ ways)) es are) in
     record {
@@ -102,7 +102,7 @@ all_listed n initial threads V (ms ∷ mss) (rs ∷ rss) (b ∷ bs) cs same (nex
     }
 all_listed n initial threads V (ms ∷ mss) (rs ∷ rss) (b ∷ bs) cs same (next g h) (without are k) =
     let rest : Listing n initial threads V cs rss = all_listed n initial threads V mss rss bs cs same.1 h k in
-    let es : b.seen.events ≡ events initial rs = events_are 0 (start (initial_from 0 initial)) b ms g ∙ ap (λ (l : List Event). initial_from 0 initial ++ l) same.0.same in
+    let es : b.seen.events ≡ events initial rs = events_are 0 (start (initial_stores 0 initial)) b ms g ∙ ap (λ (l : List Event). initial_stores 0 initial ++ l) same.0.same in
     let here : IsFiltered (IsExecution initial threads (Contains V)) (over_runs initial rs) [] = executions_found initial rs threads V b.needs same.0.runs (same.0.needed b g) (same.0.needs b g) [] (subst (λ (l : List Event). AreWays l b.needs []) es are) in
     record {
       all = rest.all;

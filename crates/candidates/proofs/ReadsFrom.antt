@@ -9,8 +9,8 @@ use Rattle.candidates.proofs.Counting.{eq_true}
 use Rattle.candidates.proofs.Products.{FilteredEach, filter_of_products, filter_twice, filter_as}
 use Rattle.candidates.specs.Executions.{MayRead, product, maps, loads, stores}
 use Rattle.candidates.specs.Lists.{tuples, IsFiltered, none, kept, left}
-use Rattle.candidates.specs.Orders.{numbers}
-use Rattle.candidates.specs.Ways.{AreWays, IsWay, ReadsFrom, accesses_in, sources_of, may_read, same_value, reads, writes, is_load, is_store}
+use Rattle.candidates.specs.Events.{numbers, ReadsFrom, reads, writes, is_load, is_store}
+use Rattle.candidates.specs.Ways.{AreWays, IsWay, accesses_in, sources_of, may_read, same_value}
 use Rattle.candidates.specs.declared.candidate.Action.{Action}
 use Rattle.candidates.specs.declared.candidate.Action.TheVariants.{Read, Write, Fence}
 use Rattle.candidates.specs.declared.candidate.Event.{Event}

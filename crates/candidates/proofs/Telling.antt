@@ -22,7 +22,7 @@ use Rattle.candidates.specs.Executions.{Execution, IsDependency, product, events
 use Rattle.candidates.specs.Layouts.{IsLaidOut}
 use Rattle.candidates.specs.Listed.{AreTestExecutions}
 use Rattle.candidates.specs.Orders.{all_orders}
-use Rattle.candidates.specs.Parts.{initial_from}
+use Rattle.candidates.specs.Events.{initial_stores}
 use Rattle.candidates.specs.Search.{Begun, start, all_combinations, location_count}
 use Rattle.candidates.specs.Space.{Seen, seen}
 use Rattle.candidates.specs.declared.candidate.Space.{Space}
@@ -33,7 +33,7 @@ use Rattle.candidates.specs.declared.layout.Layout.{Layout}
 -- THE BRIDGE THAT IS LEFT: the need pairs of a combination are just the facts of need of its runs
 abbrev pub NeedsAreFacts : List Value → List Thread → List Value → Type 0
 NeedsAreFacts V threads initial =
-    (ms : List made.Run) (rs : List Run) → AreOne V threads ms rs → (b : Begun) → GoesOnWith 0 (start (initial_from 0 initial)) ms b
+    (ms : List made.Run) (rs : List Run) → AreOne V threads ms rs → (b : Begun) → GoesOnWith 0 (start (initial_stores 0 initial)) ms b
     → (x y : ℕ) → IsDependency IsNeed initial rs x y ↔ (accesses_in (events initial rs) b.needs).Need x y
 
 theirs : (V : List Value) (threads : List Thread) (initial : List Value) → NeedsAreFacts V threads initial → (mss : List (List made.Run)) (rss : List (List Run)) → AllZip (AreOne V threads) mss rss → AllZip (AreTheirs initial threads V) mss rss
@@ -63,7 +63,7 @@ layout_told t l cs h needs found =
     let runs : List (Vec made.Run Global) = h.2 in
     let o : IsLaidOut p runs l = h.6 in
     let k : (rss : List (List Run)) × AreKept V (threads_of p) runs rss = all_kept p V runs h.4 h.5 in
-    let choices : AreChoices 0 (start (initial_from 0 p.initial.items)) (product (runs_in runs)) (all_combinations l) =
+    let choices : AreChoices 0 (start (initial_stores 0 p.initial.items)) (product (runs_in runs)) (all_combinations l) =
     subst (λ (es : List Event). AreChoices 0 (start es) (product (runs_in runs)) (all_combinations l)) o.initial (layout_choices p runs l o) in
     let all : Listing (location_count l) p.initial.items (threads_of p) V cs (product k.0) =
     all_listed (location_count l) p.initial.items (threads_of p) V (product (runs_in runs)) (product k.0) (all_combinations l) cs
@@ -106,7 +106,7 @@ as_many n initial (c ∷ cs) xs e (one_more {xs = ys} ms rs b ways g es h) few =
     let rest : length ys ≡ candidate_total cs = as_many n initial cs ys e h few.1 in
     a ∙ ap (λ (k : ℕ). k + length ys) (r ∙ m) ∙ ap (λ (k : ℕ). length ways * length (all_orders b.seen.events n) + k) rest
 
-initial_long : (at : ℕ) (vs : List Value) → length (initial_from at vs) ≡ length vs
+initial_long : (at : ℕ) (vs : List Value) → length (initial_stores at vs) ≡ length vs
 initial_long at [] = refl
 initial_long at (v ∷ vs) = ap (λ (n : ℕ). suc n) (initial_long (at + 1) vs)
 
@@ -115,7 +115,7 @@ locations_counted : (t : Test) (l : Layout) (h : HasLayout t l) → location_cou
 locations_counted t l h =
     let d : IsDomain h.0 h.1 = h.4 in
     let o : IsLaidOut h.0 h.2 l = h.6 in
-    let a : length l.initial.items ≡ length (initial_from 0 h.0.initial.items) = ap (λ (es : List Event). length es) o.initial in
+    let a : length l.initial.items ≡ length (initial_stores 0 h.0.initial.items) = ap (λ (es : List Event). length es) o.initial in
     let b : length h.0.initial.items ≡ length h.0.locations.items = h.3.initial.each_one in
     omega (arith, a, b, initial_long 0 h.0.initial.items, d.events)
 

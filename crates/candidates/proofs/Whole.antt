@@ -12,7 +12,7 @@ use Rattle.thread_runs.specs.declared.instruction.Line.TheVariants.{Label, Does}
 use Rattle.thread_runs.specs.declared.state.State.{State}
 use Rattle.thread_runs.specs.Machine.{register, sum_of, is_load, is_fault, is_address, goes, event_of}
 use Rattle.thread_runs.specs.Runs.{Walk, Outcome, started, advanced, passed, ends, supplied, obeyed, one, run_from, run_of}
-use Rattle.candidates.specs.Parts.{action_in, with_action, part_events}
+use Rattle.candidates.specs.Events.{action_in, with_action, thread_events}
 use Rattle.candidates.specs.declared.candidate.Action.{Action}
 use Rattle.candidates.specs.declared.candidate.Action.TheVariants.{Read, Write, Fence}
 
@@ -86,14 +86,14 @@ run_located (x ∷ xs) w vs o e h = one_located xs (run_located xs) w.seeking x 
 one_each : (thread : ℕ) (e : run.Event) (a : Action) → action_in e ≡ Some a → length (with_action thread (action_in e)) ≡ 1
 one_each thread e a is = ap (λ (o : Option Action). length (with_action thread o)) is
 
-located_all : (thread : ℕ) (es : List run.Event) → AreLocated es → length (part_events thread es) ≡ length es
+located_all : (thread : ℕ) (es : List run.Event) → AreLocated es → length (thread_events thread es) ≡ length es
 located_all thread [] h = refl
 located_all thread (e ∷ es) h =
-    let a : length (with_action thread (action_in e) ++ part_events thread es) ≡ length (with_action thread (action_in e)) + length (part_events thread es) = length-append (with_action thread (action_in e)) (part_events thread es) in
+    let a : length (with_action thread (action_in e) ++ thread_events thread es) ≡ length (with_action thread (action_in e)) + length (thread_events thread es) = length-append (with_action thread (action_in e)) (thread_events thread es) in
     let b : length (with_action thread (action_in e)) ≡ 1 = one_each thread e h.0.0 h.0.1 in
-    let c : length (part_events thread es) ≡ length es = located_all thread es h.1 in
+    let c : length (thread_events thread es) ≡ length es = located_all thread es h.1 in
     omega (arith, a, b, c)
 
 -- no event of a run is left out
-pub none_left_out : (thread : ℕ) (lines : List Line) (s : State) (vs : List Value) (o : Outcome) → run_of lines s vs ≡ Some o → length (part_events thread o.walk.events) ≡ length o.walk.events
+pub none_left_out : (thread : ℕ) (lines : List Line) (s : State) (vs : List Value) (o : Outcome) → run_of lines s vs ≡ Some o → length (thread_events thread o.walk.events) ≡ length o.walk.events
 none_left_out thread lines s vs o e = located_all thread o.walk.events (run_located lines (started s) vs o e tt)

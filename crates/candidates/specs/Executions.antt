@@ -8,9 +8,7 @@ use Rattle.thread_runs.specs.declared.value.Value.{Value}
 use Rattle.thread_runs.specs.Runs.{Thread, Run, IsRun, AreRuns, executed}
 use Rattle.dataflow.specs.Chains.{Executed, IsNeed, event_place}
 use Rattle.candidates.specs.Lists.{IsFiltered}
-use Rattle.candidates.specs.Orders.{numbers, writes_to, AreDistinct}
-use Rattle.candidates.specs.Parts.{part_events, initial_from}
-use Rattle.candidates.specs.Ways.{is_load, is_store, ReadsFrom}
+use Rattle.candidates.specs.Events.{numbers, writes_to, AreDistinct, thread_events, initial_stores, is_load, is_store, ReadsFrom}
 use Rattle.candidates.specs.declared.candidate.Action.{Action}
 use Rattle.candidates.specs.declared.candidate.Action.TheVariants.{Read, Write}
 use Rattle.candidates.specs.declared.candidate.Event.{Event}
@@ -26,10 +24,10 @@ pub record Execution : Type 0 where
 -- is its place in this list
 abbrev pub events_from : ℕ → List Run → List Event
 events_from thread [] = []
-events_from thread (r ∷ rs) = part_events thread r.outcome.walk.events ++ events_from (thread + 1) rs
+events_from thread (r ∷ rs) = thread_events thread r.outcome.walk.events ++ events_from (thread + 1) rs
 
 abbrev pub events : List Value → List Run → List Event
-events initial runs = initial_from 0 initial ++ events_from 0 runs
+events initial runs = initial_stores 0 initial ++ events_from 0 runs
 
 abbrev pub loads : List Event → List ℕ
 loads es = numbers is_load 0 es

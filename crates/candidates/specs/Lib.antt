@@ -1,4 +1,5 @@
 pub mod Candidates
+pub mod Events
 pub mod Executions
 pub mod Keys
 pub mod Layouts

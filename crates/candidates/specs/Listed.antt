@@ -14,8 +14,7 @@ use Rattle.thread_runs.specs.Runs.{Thread, Run, IsRun, run_of}
 use Rattle.candidates.specs.Executions.{Execution, IsExecution, AreExecutions, HasFault, IsDependency, IsOrder, MayRead, events, loads, maps, orders, locations_from, over_runs}
 use Rattle.candidates.specs.Layouts.{CannotRead}
 use Rattle.candidates.specs.Lists.{IsFiltered}
-use Rattle.candidates.specs.Parts.{part_events}
-use Rattle.candidates.specs.Ways.{ReadsFrom}
+use Rattle.candidates.specs.Events.{thread_events, ReadsFrom}
 use Rattle.bit_relations.specs.Pairs.{Union, IsAcyclic}
 use Rattle.candidates.specs.Space.{IsExecution as IsShownAt, candidates_in}
 use Rattle.candidates.specs.declared.candidate.Execution as shown
@@ -108,4 +107,4 @@ ChoosesApart initial threads V runs =
 
 -- no event of a run of a thread is left out of the events of an execution
 abbrev pub DropsNoEvent : Thread → Run → Type 0
-DropsNoEvent t r = (thread : ℕ) → run_of t.lines t.first r.values ≡ Some r.outcome → length (part_events thread r.outcome.walk.events) ≡ length r.outcome.walk.events
+DropsNoEvent t r = (thread : ℕ) → run_of t.lines t.first r.values ≡ Some r.outcome → length (thread_events thread r.outcome.walk.events) ≡ length r.outcome.walk.events

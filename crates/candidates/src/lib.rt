@@ -7,7 +7,7 @@ ghost use Rattle.std.specs.Prelude.{ℕ, ◌≡◌, List, Option, map, IfOk, IfE
 ghost use Rattle.thread_runs.specs.declared.value.Value.{Value};
 ghost use Rattle.ppc_semantics.specs.Lowering.{IsTestFault};
 ghost use Rattle.candidates.specs.Keys.{IsKeyed};
-ghost use Rattle.candidates.specs.Parts.{initial_from};
+ghost use Rattle.candidates.specs.Events.{initial_stores};
 ghost use Rattle.candidates.specs.Search.{all_combinations, location_count};
 ghost use Rattle.candidates.specs.Space.{seen, ordered};
 ghost use Rattle.candidates.specs.Candidates.{AreSmall, HasEnds, IsAnswer, IsReady, IsTestSpace, IsTestRefusal};
@@ -52,7 +52,7 @@ fn space_with(
 
 /// The space of a layout, or why it has none.
 fn space_of(alloc: Global, layout: Layout) -> Result<Result<Space, EvalRefusal>, AllocError>
-    ensures { (key : ℕ → Value → Option (ℕ × ℕ)) (initial : List Value) → IsKeyed key layout → layout.initial.items ≡ initial_from 0 initial → AreSmall (all_combinations layout) → IfOk result (λ r. IsAnswer layout r) }
+    ensures { (key : ℕ → Value → Option (ℕ × ℕ)) (initial : List Value) → IsKeyed key layout → layout.initial.items ≡ initial_stores 0 initial → AreSmall (all_combinations layout) → IfOk result (λ r. IsAnswer layout r) }
 {
     match search(alloc, &layout)? {
         None => Ok(Err(EvalRefusal::TooManyCandidates)),
