@@ -15,31 +15,34 @@ use Rattle.candidates.specs.declared.layout.ThreadParts.{ThreadParts}
 use Rattle.candidates.specs.declared.part.Part.{Part}
 use Rattle.candidates.proofs.Searching.{going_on}
 
--- the combination goes on from another one with parts of these runs, of the threads from this one on
-abbrev pub GoesOnWith : ℕ → Begun → List Run → Begun → Type 0
-GoesOnWith thread b [] c = c ≡ b
-GoesOnWith thread b (r ∷ rs) c = (at : ℕ) × (p : Part) × IsPartOf thread r p × GoesOnWith (thread + 1) (with_run at p b) rs c
+-- the combination goes on from another one with parts of these runs, which stand among those of the threads from this
+-- one on
+abbrev pub GoesOnWith : ℕ → Begun → List ThreadParts → List Run → Begun → Type 0
+GoesOnWith thread b [] [] c = c ≡ b
+GoesOnWith thread b [] (r ∷ rs) c = ⊥
+GoesOnWith thread b (t ∷ ts) [] c = ⊥
+GoesOnWith thread b (t ∷ ts) (r ∷ rs) c = (at : ℕ) × (p : Part) × ((slice_get t.parts.items at ≡ Some p) × IsPartOf thread r p) × GoesOnWith (thread + 1) (with_run at p b) ts rs c
 
 -- each choice of runs in turn is that of the next combination, or it has a load that no store serves
-pub data AreChoices (thread : ℕ) (b : Begun) : List (List Run) → List Begun → Type 0 where
-  over : AreChoices thread b [] []
-  next : {rs : List Run} {rss : List (List Run)} {c : Begun} {cs : List Begun} → GoesOnWith thread b rs c → AreChoices thread b rss cs → AreChoices thread b (rs ∷ rss) (c ∷ cs)
-  skipped : {rs : List Run} {rss : List (List Run)} {cs : List Begun} → CannotRead (b.seen.events ++ chosen_events thread rs) → AreChoices thread b rss cs → AreChoices thread b (rs ∷ rss) cs
+pub data AreChoices (thread : ℕ) (b : Begun) (ts : List ThreadParts) : List (List Run) → List Begun → Type 0 where
+  over : AreChoices thread b ts [] []
+  next : {rs : List Run} {rss : List (List Run)} {c : Begun} {cs : List Begun} → GoesOnWith thread b ts rs c → AreChoices thread b ts rss cs → AreChoices thread b ts (rs ∷ rss) (c ∷ cs)
+  skipped : {rs : List Run} {rss : List (List Run)} {cs : List Begun} → CannotRead (b.seen.events ++ chosen_events thread rs) → AreChoices thread b ts rss cs → AreChoices thread b ts (rs ∷ rss) cs
 
-choices_append : (thread : ℕ) (b : Begun) (xs us : List (List Run)) (cs ds : List Begun) → AreChoices thread b xs cs → AreChoices thread b us ds → AreChoices thread b (xs ++ us) (cs ++ ds)
-choices_append thread b [] us cs ds over k = k
-choices_append thread b (x ∷ xs) us cs ds (next {cs = es} g h) k = next g (choices_append thread b xs us es ds h k)
-choices_append thread b (x ∷ xs) us cs ds (skipped n h) k = skipped n (choices_append thread b xs us cs ds h k)
+choices_append : (thread : ℕ) (b : Begun) (ts : List ThreadParts) (xs us : List (List Run)) (cs ds : List Begun) → AreChoices thread b ts xs cs → AreChoices thread b ts us ds → AreChoices thread b ts (xs ++ us) (cs ++ ds)
+choices_append thread b ts [] us cs ds over k = k
+choices_append thread b ts (x ∷ xs) us cs ds (next {cs = es} g h) k = next g (choices_append thread b ts xs us es ds h k)
+choices_append thread b ts (x ∷ xs) us cs ds (skipped n h) k = skipped n (choices_append thread b ts xs us cs ds h k)
 
 -- with a part of a run before them
 events_with : (thread at : ℕ) (b : Begun) (r : Run) (p : Part) (rs : List Run) → IsPartOf thread r p → (with_run at p b).seen.events ++ chosen_events (thread + 1) rs ≡ b.seen.events ++ chosen_events thread (r ∷ rs)
 events_with thread at b r p rs is =
     append_assoc b.seen.events p.events.items (chosen_events (thread + 1) rs) ∙ ap (λ (es : List Event). b.seen.events ++ (es ++ chosen_events (thread + 1) rs)) is.events
 
-with_part : (thread at : ℕ) (b : Begun) (r : Run) (p : Part) → IsPartOf thread r p → (rss : List (List Run)) (cs : List Begun) → AreChoices (thread + 1) (with_run at p b) rss cs → AreChoices thread b (map (λ (rs : List Run). r ∷ rs) rss) cs
-with_part thread at b r p is [] cs over = over
-with_part thread at b r p is (rs ∷ rss) cs (next {cs = ds} g h) = next (at, p, is, g) (with_part thread at b r p is rss ds h)
-with_part thread at b r p is (rs ∷ rss) cs (skipped n h) = skipped (subst CannotRead (events_with thread at b r p rs is) n) (with_part thread at b r p is rss cs h)
+with_part : (thread at : ℕ) (b : Begun) (t : ThreadParts) (ts : List ThreadParts) (r : Run) (p : Part) → slice_get t.parts.items at ≡ Some p → IsPartOf thread r p → (rss : List (List Run)) (cs : List Begun) → AreChoices (thread + 1) (with_run at p b) ts rss cs → AreChoices thread b (t ∷ ts) (map (λ (rs : List Run). r ∷ rs) rss) cs
+with_part thread at b t ts r p e is [] cs over = over
+with_part thread at b t ts r p e is (rs ∷ rss) cs (next {cs = ds} g h) = next (at, p, (e, is), g) (with_part thread at b t ts r p e is rss ds h)
+with_part thread at b t ts r p e is (rs ∷ rss) cs (skipped n h) = skipped (subst CannotRead (events_with thread at b r p rs is) n) (with_part thread at b t ts r p e is rss cs h)
 
 -- all choices of a run for each of some threads
 abbrev pub runs_in : List (Vec Run Global) → List (List Run)
@@ -82,13 +85,9 @@ all_chosen [] = one_more [] tt no_more
 all_chosen (v ∷ vs) = chosen_rows v vs (product (runs_in vs)) (all_chosen vs) 0 v.items (from_start v.items)
 
 -- choices of which none can read
-none_read : (thread : ℕ) (b : Begun) (vs : List (Vec Run Global)) → ((ks : List ℕ) (rs : List Run) → AreChosen vs ks rs → CannotRead (b.seen.events ++ chosen_events thread rs)) → (rss : List (List Run)) → AllChosen vs rss → AreChoices thread b rss []
-none_read thread b vs stuck [] no_more = over
-none_read thread b vs stuck (rs ∷ rss) (one_more ks c h) = skipped (stuck ks rs c) (none_read thread b vs stuck rss h)
-
-none_read_with : (thread : ℕ) (b : Begun) (r : Run) (vs : List (Vec Run Global)) → ((ks : List ℕ) (rs : List Run) → AreChosen vs ks rs → CannotRead (b.seen.events ++ chosen_events thread (r ∷ rs))) → (rss : List (List Run)) → AllChosen vs rss → AreChoices thread b (map (λ (rs : List Run). r ∷ rs) rss) []
-none_read_with thread b r vs stuck [] no_more = over
-none_read_with thread b r vs stuck (rs ∷ rss) (one_more ks c h) = skipped (stuck ks rs c) (none_read_with thread b r vs stuck rss h)
+none_read_with : (thread : ℕ) (b : Begun) (ts : List ThreadParts) (r : Run) (vs : List (Vec Run Global)) → ((ks : List ℕ) (rs : List Run) → AreChosen vs ks rs → CannotRead (b.seen.events ++ chosen_events thread (r ∷ rs))) → (rss : List (List Run)) → AllChosen vs rss → AreChoices thread b ts (map (λ (rs : List Run). r ∷ rs) rss) []
+none_read_with thread b ts r vs stuck [] no_more = over
+none_read_with thread b ts r vs stuck (rs ∷ rss) (one_more ks c h) = skipped (stuck ks rs c) (none_read_with thread b ts r vs stuck rss h)
 
 -- parts from a place on are of no run before it
 not_before : (thread : ℕ) (runs : List Run) (least : ℕ) (ps : List Part) (k : ℕ) → ArePartsOf thread runs least ps → HasRun ps k → least ≤ k
@@ -111,48 +110,48 @@ no_part_past thread all k (p ∷ ps) h parts =
 abbrev LeavesOut : ℕ → List Event → List (Vec Run Global) → List ThreadParts → Type 0
 LeavesOut thread front vs ts = (ks : List ℕ) (rs : List Run) → AreChosen vs ks rs → HaveParts ts ks ⊎ CannotRead (front ++ chosen_events thread rs)
 
-module _ (thread : ℕ) (b : Begun) (v : Vec Run Global) (vs : List (Vec Run Global)) (ts : List ThreadParts) (all : List Part) (each : (at k : ℕ) (r : Run) (p : Part) → slice_get v.items k ≡ Some r → IsPartOf thread r p → AreChoices (thread + 1) (with_run at p b) (product (runs_in vs)) (combinations (with_run at p b) ts)) (out : (k : ℕ) (ks : List ℕ) (r : Run) (rs : List Run) → slice_get v.items k ≡ Some r → AreChosen vs ks rs → (HasRun all k × HaveParts ts ks) ⊎ CannotRead (b.seen.events ++ chosen_events thread (r ∷ rs))) where
+module _ (thread : ℕ) (b : Begun) (v : Vec Run Global) (vs : List (Vec Run Global)) (t : ThreadParts) (ts : List ThreadParts) (each : (at k : ℕ) (r : Run) (p : Part) → slice_get v.items k ≡ Some r → IsPartOf thread r p → AreChoices (thread + 1) (with_run at p b) ts (product (runs_in vs)) (combinations (with_run at p b) ts)) (out : (k : ℕ) (ks : List ℕ) (r : Run) (rs : List Run) → slice_get v.items k ≡ Some r → AreChosen vs ks rs → (HasRun t.parts.items k × HaveParts ts ks) ⊎ CannotRead (b.seen.events ++ chosen_events thread (r ∷ rs))) where
   -- the choices that take a run of the thread that has no part
-  none_here : (k : ℕ) (r : Run) → slice_get v.items k ≡ Some r → (HasRun all k → ⊥) → AreChoices thread b (map (λ (rs : List Run). r ∷ rs) (product (runs_in vs))) []
+  none_here : (k : ℕ) (r : Run) → slice_get v.items k ≡ Some r → (HasRun t.parts.items k → ⊥) → AreChoices thread b (t ∷ ts) (map (λ (rs : List Run). r ∷ rs) (product (runs_in vs))) []
   none_here k r e never =
-      none_read_with thread b r vs (λ ks rs c. elim (out k ks r rs e c) [ inl h ↦ absurd (never h.0) | inr x ↦ x ]) (product (runs_in vs)) (all_chosen vs)
+      none_read_with thread b (t ∷ ts) r vs (λ ks rs c. elim (out k ks r rs e c) [ inl h ↦ absurd (never h.0) | inr x ↦ x ]) (product (runs_in vs)) (all_chosen vs)
 
   -- those that take one from a place on
-  rows_made : (k at : ℕ) (rs : List Run) (ps : List Part) → AreFrom v.items k rs → ArePartsOf thread v.items k ps → ((j : ℕ) → k ≤ j → HasRun all j → HasRun ps j) → AreChoices thread b (flat_map (λ (r : Run). map (λ (rest : List Run). r ∷ rest) (product (runs_in vs))) rs) (going_on b ts at ps)
-  rows_made k at [] ps from parts left = subst (λ (qs : List Part). AreChoices thread b [] (going_on b ts at qs)) (sym (no_part_past thread v.items k ps from parts)) over
-  rows_made k at (r ∷ rs) [] from parts left =
-      choices_append thread b (map (λ (rest : List Run). r ∷ rest) (product (runs_in vs))) (flat_map (λ (r : Run). map (λ (rest : List Run). r ∷ rest) (product (runs_in vs))) rs) [] []
+  rows_made : (k at : ℕ) (rs : List Run) (ps : List Part) → AreFrom v.items k rs → ((j : ℕ) → slice_get t.parts.items (at + j) ≡ slice_get ps j) → ArePartsOf thread v.items k ps → ((j : ℕ) → k ≤ j → HasRun t.parts.items j → HasRun ps j) → AreChoices thread b (t ∷ ts) (flat_map (λ (r : Run). map (λ (rest : List Run). r ∷ rest) (product (runs_in vs))) rs) (going_on b ts at ps)
+  rows_made k at [] ps from there parts left = subst (λ (qs : List Part). AreChoices thread b (t ∷ ts) [] (going_on b ts at qs)) (sym (no_part_past thread v.items k ps from parts)) over
+  rows_made k at (r ∷ rs) [] from there parts left =
+      choices_append thread b (t ∷ ts) (map (λ (rest : List Run). r ∷ rest) (product (runs_in vs))) (flat_map (λ (r : Run). map (λ (rest : List Run). r ∷ rest) (product (runs_in vs))) rs) [] []
       (none_here k r (from_here v.items k r rs from) (λ has. left k (omega arith) has))
-      (rows_made (k + 1) at rs [] (from_next v.items k r rs from) tt (λ j le has. left j (omega (arith, le)) has))
-  rows_made k at (r ∷ rs) (p ∷ ps) from parts left = elim (cases_eq p.run k) [
+      (rows_made (k + 1) at rs [] (from_next v.items k r rs from) there tt (λ j le has. left j (omega (arith, le)) has))
+  rows_made k at (r ∷ rs) (p ∷ ps) from there parts left = elim (cases_eq p.run k) [
     | inl e ↦
         let same : parts.1.0 ≡ r = some_is (sym parts.1.1 ∙ ap (λ (n : ℕ). slice_get v.items n) e ∙ from_here v.items k r rs from) in
         let is : IsPartOf thread r p = subst (λ (q : Run). IsPartOf thread q p) same parts.1.2 in
-        choices_append thread b (map (λ (rest : List Run). r ∷ rest) (product (runs_in vs))) (flat_map (λ (r : Run). map (λ (rest : List Run). r ∷ rest) (product (runs_in vs))) rs) (combinations (with_run at p b) ts) (going_on b ts (at + 1) ps)
-        (with_part thread at b r p is (product (runs_in vs)) (combinations (with_run at p b) ts) (each at k r p (from_here v.items k r rs from) is))
-        (rows_made (k + 1) (at + 1) rs ps (from_next v.items k r rs from) (subst (λ (n : ℕ). ArePartsOf thread v.items (n + 1) ps) e parts.2) (λ j le has. elim (left j (omega (arith, le)) has) [ inl f ↦ absurd (omega (arith, e, f, le)) | inr h ↦ h ]))
+        choices_append thread b (t ∷ ts) (map (λ (rest : List Run). r ∷ rest) (product (runs_in vs))) (flat_map (λ (r : Run). map (λ (rest : List Run). r ∷ rest) (product (runs_in vs))) rs) (combinations (with_run at p b) ts) (going_on b ts (at + 1) ps)
+        (with_part thread at b t ts r p (let z : at ≡ at + 0 = omega arith in ap (λ (n : ℕ). slice_get t.parts.items n) z ∙ there 0) is (product (runs_in vs)) (combinations (with_run at p b) ts) (each at k r p (from_here v.items k r rs from) is))
+        (rows_made (k + 1) (at + 1) rs ps (from_next v.items k r rs from) (λ j. let z : at + 1 + j ≡ at + suc j = omega arith in ap (λ (n : ℕ). slice_get t.parts.items n) z ∙ there (suc j)) (subst (λ (n : ℕ). ArePartsOf thread v.items (n + 1) ps) e parts.2) (λ j le has. elim (left j (omega (arith, le)) has) [ inl f ↦ absurd (omega (arith, e, f, le)) | inr h ↦ h ]))
     | inr other ↦
         let le : k ≤ p.run = parts.0 in
         let past : k + 1 ≤ p.run = omega (arith, le, other) in
         let further : ArePartsOf thread v.items (k + 1) (p ∷ ps) = (past, parts.1, parts.2) in
-        choices_append thread b (map (λ (rest : List Run). r ∷ rest) (product (runs_in vs))) (flat_map (λ (r : Run). map (λ (rest : List Run). r ∷ rest) (product (runs_in vs))) rs) [] (going_on b ts at (p ∷ ps))
+        choices_append thread b (t ∷ ts) (map (λ (rest : List Run). r ∷ rest) (product (runs_in vs))) (flat_map (λ (r : Run). map (λ (rest : List Run). r ∷ rest) (product (runs_in vs))) rs) [] (going_on b ts at (p ∷ ps))
         (none_here k r (from_here v.items k r rs from) (λ has. let a : k + 1 ≤ k = not_before thread v.items (k + 1) (p ∷ ps) k further (left k (omega arith) has) in absurd (omega (arith, a))))
-        (rows_made (k + 1) at rs (p ∷ ps) (from_next v.items k r rs from) further (λ j l has. left j (omega (arith, l)) has))
+        (rows_made (k + 1) at rs (p ∷ ps) (from_next v.items k r rs from) there further (λ j l has. left j (omega (arith, l)) has))
   ]
     where
       some_is : {x y : Run} → Some x ≡ Some y → x ≡ y
       some_is e = cc
 
 -- so all combinations are all choices, but for those that cannot read
-pub choices_made : (thread : ℕ) (vs : List (Vec Run Global)) (ts : List ThreadParts) (b : Begun) → AreThreadsOf thread vs ts → LeavesOut thread b.seen.events vs ts → AreChoices thread b (product (runs_in vs)) (combinations b ts)
+pub choices_made : (thread : ℕ) (vs : List (Vec Run Global)) (ts : List ThreadParts) (b : Begun) → AreThreadsOf thread vs ts → LeavesOut thread b.seen.events vs ts → AreChoices thread b ts (product (runs_in vs)) (combinations b ts)
 choices_made thread [] [] b h out = next refl over
 choices_made thread [] (t ∷ ts) b h out = absurd h
 choices_made thread (v ∷ vs) [] b h out = absurd h
 choices_made thread (v ∷ vs) (t ∷ ts) b h out =
-    rows_made thread b v vs ts t.parts.items
+    rows_made thread b v vs t ts
     (λ at k r p e is. choices_made (thread + 1) vs ts (with_run at p b) h.1 (λ ks rs c. elim (out (k ∷ ks) (r ∷ rs) (e, c)) [ inl x ↦ inl x.1 | inr y ↦ inr (subst CannotRead (sym (events_with thread at b r p rs is)) y) ]))
     (λ k ks r rs e c. elim (out (k ∷ ks) (r ∷ rs) (e, c)) [ inl x ↦ inl (x.0, x.1) | inr y ↦ inr y ])
-    0 0 v.items t.parts.items (from_start v.items) h.0 (λ j le has. has)
+    0 0 v.items t.parts.items (from_start v.items) (λ j. let z : 0 + j ≡ j = omega arith in ap (λ (n : ℕ). slice_get t.parts.items n) z) h.0 (λ j le has. has)
 
-pub layout_choices : (p : Program) (runs : List (Vec Run Global)) (l : Layout) → IsLaidOut p runs l → AreChoices 0 (start l.initial.items) (product (runs_in runs)) (all_combinations l)
+pub layout_choices : (p : Program) (runs : List (Vec Run Global)) (l : Layout) → IsLaidOut p runs l → AreChoices 0 (start l.initial.items) l.threads.items (product (runs_in runs)) (all_combinations l)
 layout_choices p runs l o = choices_made 0 runs l.threads.items (start l.initial.items) o.threads o.left_out

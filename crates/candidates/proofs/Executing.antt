@@ -95,7 +95,7 @@ module _ (initial : List Value) (runs : List Run) where
       own_stores l 0 (length initial) initial (events_from 0 runs) (omega arith) lt (omega arith) (runs_in_threads 0 runs)
       ∙ ap (λ (ns : List ℕ). l ∷ ns) (sym (past_initial l 0 (length initial) initial (events_from 0 runs) (omega arith)))
 
-  apart : (l : ℕ) → l < length initial → has_store (others_at (events initial runs) l) l ≡ false
+  pub apart : (l : ℕ) → l < length initial → has_store (others_at (events initial runs) l) l ≡ false
   apart l lt =
       ap (λ (ns : List ℕ). has_store ns l) (past_initial l 0 (length initial) initial (events_from 0 runs) (omega arith))
       ∙ numbers_above (is_thread_store l) (length initial) (events_from 0 runs) l lt

@@ -40,7 +40,7 @@ AreOne V [] [] [] = Unit {0}
 AreOne V (t ∷ ts) (m ∷ ms) (r ∷ rs) = SameRun V t m r × AreOne V ts ms rs
 AreOne V _ _ _ = ⊥
 
-zip_both : {X Y : Type 0} (R : X → Y → Type 0) (xs us : List X) (ys vs : List Y) → AllZip R xs ys → AllZip R us vs → AllZip R (xs ++ us) (ys ++ vs)
+pub zip_both : {X Y : Type 0} (R : X → Y → Type 0) (xs us : List X) (ys vs : List Y) → AllZip R xs ys → AllZip R us vs → AllZip R (xs ++ us) (ys ++ vs)
 zip_both R [] us [] vs h k = k
 zip_both R [] us (y ∷ ys) vs h k = absurd h
 zip_both R (x ∷ xs) us [] vs h k = absurd h

@@ -3,9 +3,12 @@ pub mod Choosing
 pub mod Coherence
 pub mod Counting
 pub mod Cycles
+pub mod Deciding
 pub mod Deriving
+pub mod Elements
 pub mod Executing
 pub mod Extending
+pub mod Facts
 pub mod Filters
 pub mod Finding
 pub mod Flat
@@ -16,6 +19,7 @@ pub mod Keying
 pub mod Laying
 pub mod Listing
 pub mod Members
+pub mod Needs
 pub mod Numbers
 pub mod OrderLaws
 pub mod Parting
@@ -24,9 +28,11 @@ pub mod Products
 pub mod Pruning
 pub mod ReadsFrom
 pub mod Searching
+pub mod Showing
 pub mod Small
 pub mod Sole
 pub mod Spaces
+pub mod StepEvents
 pub mod Stores
 pub mod Telling
 pub mod Totals

@@ -41,7 +41,7 @@ module _ (P : Walk → Type 0) (step : (i : Instruction) (b : Bool) (v : Value) 
   along (x ∷ xs) w vs o e h = at_line xs (along xs) w.seeking x w vs o e h
 
 -- the places of events
-places_same : (at on : Executed) (n : ℕ) → ((k : ℕ) → k < n → at k ≡ on k) → event_place at n ≡ event_place on n
+pub places_same : (at on : Executed) (n : ℕ) → ((k : ℕ) → k < n → at k ≡ on k) → event_place at n ≡ event_place on n
 places_same at on zero same = refl
 places_same at on (suc n) same =
     ap (λ (i : Instruction). cond (is_event i) (event_place at n + 1) (event_place at n)) (same n (omega arith))
@@ -69,7 +69,7 @@ one_place_more false k = omega arith
 abbrev pub Placed : Walk → Type 0
 Placed w = event_place (executed w.steps) (length w.steps) ≡ length w.events
 
-placed_more : (i : Instruction) (b : Bool) (v : Value) (w : Walk) → Placed w → Placed (advanced i b v w)
+pub placed_more : (i : Instruction) (b : Bool) (v : Value) (w : Walk) → Placed w → Placed (advanced i b v w)
 placed_more i b v w h =
     let long : length (w.steps ++ record { instruction = i; loaded = v } ∷ []) ≡ suc (length w.steps) = omega (arith, length-append w.steps (record { instruction = i; loaded = v } ∷ [])) in
     ap (λ (n : ℕ). event_place (executed (w.steps ++ record { instruction = i; loaded = v } ∷ [])) n) long

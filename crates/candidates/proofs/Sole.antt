@@ -4,19 +4,10 @@ use Rattle.std.specs.List.{flat_map, AllZip, AllPairs}
 use Rattle.thread_runs.specs.declared.value.Value.{Value}
 use Rattle.thread_runs.specs.declared.value.Value.TheVariants.{Number, Address, NoValue}
 use Rattle.thread_runs.specs.Runs.{Thread, Run, AreRuns, IsBefore, IsLess}
+use Rattle.candidates.proofs.Elements.{member_cases, member_later}
 use Rattle.candidates.proofs.Filters.{IsFiltered-unique}
 use Rattle.candidates.specs.Lists.{IsFiltered}
 use Rattle.candidates.specs.Executions.{Execution, AreExecutions, IsExecution, over_runs, product}
-
-member_cases : {X : Type 0} (x : X) (xs : List X) (z : X) → Contains (x ∷ xs) z → (x ≡ z) ⊎ Contains xs z
-member_cases {X} x xs z h = go h.0 h.1 h.2
-  where
-    go : (k : ℕ) → k < length (x ∷ xs) → get_or (x ∷ xs) k z ≡ z → (x ≡ z) ⊎ Contains xs z
-    go zero lt e = inl e
-    go (suc k) lt e = inr (k, omega (arith, lt), e)
-
-member_later : {X : Type 0} (x : X) (xs : List X) (z : X) → Contains xs z → Contains (x ∷ xs) z
-member_later x xs z h = let lt : h.0 < length xs = h.1 in (suc h.0, omega (arith, lt), h.2)
 
 first_rises : {X : Type 0} (R : X → X → Type 0) (x : X) (xs : List X) (z : X) → AllPairs R (x ∷ xs) → Contains xs z → R x z
 first_rises {X} R x xs z h c = let lt : c.0 < length xs = c.1 in subst (λ (y : X). R x y) c.2 (h zero (suc c.0) z (omega arith) (omega (arith, lt)))

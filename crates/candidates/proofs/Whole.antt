@@ -21,7 +21,7 @@ abbrev pub AreLocated : List run.Event → Type 0
 AreLocated [] = Unit {0}
 AreLocated (e ∷ es) = ((a : Action) × (action_in e ≡ Some a)) × AreLocated es
 
-located_both : (es fs : List run.Event) → AreLocated es → AreLocated fs → AreLocated (es ++ fs)
+pub located_both : (es fs : List run.Event) → AreLocated es → AreLocated fs → AreLocated (es ++ fs)
 located_both [] fs h k = k
 located_both (e ∷ es) fs h k = (h.0, located_both es fs h.1 k)
 
@@ -35,7 +35,7 @@ write_located (Number n) v h = absurd cc
 write_located (Address l) v h = ((Write l v, refl), tt)
 write_located NoValue v h = absurd cc
 
-event_located : (i : Instruction) (v : Value) (s : State) → is_fault i s ≡ false → AreLocated (event_of i v s)
+pub event_located : (i : Instruction) (v : Value) (s : State) → is_fault i s ≡ false → AreLocated (event_of i v s)
 event_located (Immediate d n) v s h = tt
 event_located (Move d a) v s h = tt
 event_located (AddImmediate d a n) v s h = tt
@@ -79,14 +79,14 @@ module _ (xs : List Line) (rest : Keeps xs) where
   one_located None (Label m) w vs o e h = rest w vs o e h
   one_located None (Does i) w vs o e h = obeyed_located (is_fault i w.state) i w vs o refl e h
 
-run_located : (xs : List Line) → Keeps xs
+pub run_located : (xs : List Line) → Keeps xs
 run_located [] w vs o e h = ends_located false w vs o e h
 run_located (x ∷ xs) w vs o e h = one_located xs (run_located xs) w.seeking x w vs o e h
 
 one_each : (thread : ℕ) (e : run.Event) (a : Action) → action_in e ≡ Some a → length (with_action thread (action_in e)) ≡ 1
 one_each thread e a is = ap (λ (o : Option Action). length (with_action thread o)) is
 
-located_all : (thread : ℕ) (es : List run.Event) → AreLocated es → length (thread_events thread es) ≡ length es
+pub located_all : (thread : ℕ) (es : List run.Event) → AreLocated es → length (thread_events thread es) ≡ length es
 located_all thread [] h = refl
 located_all thread (e ∷ es) h =
     let a : length (with_action thread (action_in e) ++ thread_events thread es) ≡ length (with_action thread (action_in e)) + length (thread_events thread es) = length-append (with_action thread (action_in e)) (thread_events thread es) in

@@ -1,5 +1,5 @@
 -- What `space` says of the executions of a test, and how a space shows them.
-use Rattle.std.specs.Prelude.{ℕ, Some, ◌≡◌, ◌<◌, ◌≤◌, ◌↔◌, List, [], map, length, Contains}
+use Rattle.std.specs.Prelude.{ℕ, Some, ◌≡◌, ◌<◌, ◌≤◌, ◌↔◌, List, [], map, length, slice_get, Contains}
 use Rattle.std.specs.List.{AllZip, flat_map}
 use Rattle.litmus_values.specs.declared.test.Test.{Test}
 use Rattle.thread_runs.specs.declared.instruction.Program.{Program}
@@ -16,7 +16,7 @@ use Rattle.candidates.specs.Layouts.{CannotRead}
 use Rattle.candidates.specs.Lists.{IsFiltered}
 use Rattle.candidates.specs.Events.{thread_events, ReadsFrom}
 use Rattle.bit_relations.specs.Pairs.{Union, IsAcyclic}
-use Rattle.candidates.specs.Space.{IsExecution as IsShownAt, candidates_in}
+use Rattle.candidates.specs.Space.{IsShown, candidate_count}
 use Rattle.candidates.specs.declared.candidate.Execution as shown
 use Rattle.candidates.specs.declared.candidate.Space.{Space}
 
@@ -44,14 +44,16 @@ pub record Shows (initial : List Value) (x : Execution) (e : shown.Execution) : 
   pub coherence : e.order.items ≡ flat_map (λ order. order) x.coherence
   pub registers : e.registers.items ≡ map (λ r. r.outcome.walk.state.registers) x.runs
 
--- the space lists just the executions of the test, at most 16,384, of which none has a run that stopped at a fault
+-- the space lists just the executions of the test, in their order: at most 16,384, of which none has a run that stopped
+-- at a fault
 pub record ListsExecutions (t : Test) (s : Space) : Type 0 where
   pub initial : List Value
   pub all : List Execution
   pub executions : AreTestExecutions t initial all
   pub few : length all ≤ 16384
   pub sound : (x : Execution) → Contains all x → HasFault x → ⊥
-  pub shown : AllZip (λ x c. (e : shown.Execution) → IsShownAt s.registers.items c.0 c.1 e → Shows initial x e) all (candidates_in s.combinations.items)
+  pub count : candidate_count s ≡ length all
+  pub shown : (index : ℕ) (x : Execution) (e : shown.Execution) → slice_get all index ≡ Some x → IsShown s index e → Shows initial x e
 
 -- there are more
 pub record HasManyExecutions (t : Test) : Type 0 where

@@ -7,6 +7,7 @@ ghost use Rattle.std.specs.Prelude.{ℕ, ◌≡◌, List, Option, map, IfOk, IfE
 ghost use Rattle.thread_runs.specs.declared.value.Value.{Value};
 ghost use Rattle.ppc_semantics.specs.Lowering.{IsTestFault};
 ghost use Rattle.candidates.specs.Keys.{IsKeyed};
+ghost use Rattle.candidates.specs.Listed.{ListsExecutions, IsRefusedFor};
 ghost use Rattle.candidates.specs.Events.{initial_stores};
 ghost use Rattle.candidates.specs.Search.{all_combinations, location_count};
 ghost use Rattle.candidates.specs.Space.{seen, ordered};
@@ -89,6 +90,8 @@ fn layout_of(alloc: Global, test: &Test) -> Result<Layout, SpaceFault>
 /// `MAX_CANDIDATES` candidates; and with E5 where some candidate holds a run that stopped at a
 /// fault. Errors: that refusal, or want of memory.
 pub fn space(alloc: Global, test: &Test) -> Result<Space, SpaceFault>
+    ensures executions { IfOk result (ListsExecutions test.now) }
+    ensures refused { IfErr result (IsRefusedFor test.now) }
     ensures space { IfOk result (IsTestSpace test.now) }
     ensures refusal { IfErr result (IsTestRefusal test.now) }
 {
