@@ -5,7 +5,8 @@ use Rattle.std.specs.declared.alloc.Global.{Global}
 use Rattle.std.proofs.lemmas.Bool.{cases_eq}
 use Rattle.thread_runs.specs.declared.run.Run.{Run}
 use Rattle.candidates.specs.Executions.{product}
-use Rattle.candidates.specs.Layouts.{ArePartsOf, AreThreadsOf, AreChosen, chosen_events, HasRun, HaveParts, CannotRead, IsLaidOut}
+use Rattle.candidates.specs.Events.{CannotRead}
+use Rattle.candidates.specs.Layouts.{ArePartsOf, AreThreadsOf, AreChosen, chosen_events, HasRun, HaveParts, IsLaidOut}
 use Rattle.candidates.specs.Parts.{IsPartOf}
 use Rattle.candidates.specs.Search.{Begun, with_run, combinations, start, all_combinations}
 use Rattle.candidates.specs.declared.candidate.Event.{Event}

@@ -1,5 +1,5 @@
 -- Elements of lists: of a list with one more, of one that is mapped, and of lists after one another.
-use Rattle.std.proofs.Common.{ℕ, zero, suc, ◌≡◌, ◌<◌, ◌+◌, List, [], ◌∷◌, ◌++◌, map, length, get_or, Some, None, slice_get, refl, ap, sym, subst, ◌∙◌, ◌⊎◌, inl, inr, arith, Contains}
+use Rattle.std.proofs.Common.{ℕ, zero, suc, ◌≡◌, ◌<◌, ◌+◌, List, [], ◌∷◌, ◌++◌, map, length, get_or, Some, slice_get, refl, ap, sym, subst, ◌∙◌, ◌⊎◌, inl, inr, arith, Contains}
 use Rattle.std.specs.List.{flat_map}
 use Rattle.std.proofs.lemmas.List.Elements.{Contains-append_left, Contains-append_right, Contains-append_cases}
 
@@ -58,3 +58,8 @@ pub in_first : {X : Type 0} (xs ys : List X) (k : ℕ) (x : X) → slice_get xs 
 in_first [] ys k x h = absurd cc
 in_first (y ∷ xs) ys zero x h = h
 in_first (y ∷ xs) ys (suc k) x h = in_first xs ys k x h
+
+pub within_first : {X : Type 0} (xs ys : List X) (k : ℕ) → k < length xs → slice_get (xs ++ ys) k ≡ slice_get xs k
+within_first [] ys k lt = absurd (omega (arith, lt))
+within_first (x ∷ xs) ys zero lt = refl
+within_first (x ∷ xs) ys (suc k) lt = within_first xs ys k (omega (arith, lt))

@@ -1,33 +1,27 @@
 -- The dependencies of a combination are the facts of its runs.
-use Rattle.std.proofs.Common.{Vec, ℕ, zero, suc, ◌≡◌, ◌<◌, ◌≤◌, ◌+◌, ◌-◌, ◌^◌, ◌⊎◌, ◌↔◌, min, Bool, true, false, List, [], ◌∷◌, ◌++◌, map, take, length, Option, Some, None, slice_get, refl, ap, sym, subst, ◌∙◌, inl, inr, arith, append_assoc, append-nil, Contains, IsTrue, lit≤}
-use Rattle.std.specs.List.{AllZip}
+use Rattle.std.proofs.Common.{ℕ, zero, suc, ◌≡◌, ◌≤◌, ◌+◌, ◌-◌, ◌^◌, ◌⊎◌, ◌↔◌, min, List, [], ◌∷◌, ◌++◌, take, length, Some, None, slice_get, refl, ap, sym, subst, ◌∙◌, inl, inr, arith, append_assoc, append-nil, Contains, lit≤}
 use Rattle.std.proofs.Math.Nat.{min-eq_left}
 use Rattle.std.proofs.lemmas.List.{length-append, length-take}
 use Rattle.std.proofs.lemmas.List.Elements.{Contains-append_left, Contains-append_right, Contains-append_cases}
 use Rattle.thread_runs.specs.declared.value.Value.{Value}
 use Rattle.thread_runs.specs.declared.instruction.Event as run
-use Rattle.thread_runs.specs.declared.instruction.Instruction.{Instruction}
-use Rattle.thread_runs.specs.declared.instruction.Instruction.TheVariants.{Immediate, Move, AddImmediate, Operate, Load, LoadIndexed, Store, StoreIndexed, Compare, CompareImmediate, Branch, Jump, Barrier}
 use Rattle.thread_runs.specs.declared.instruction.RunStep.{RunStep}
 use Rattle.thread_runs.specs.declared.run.Run as made
-use Rattle.thread_runs.specs.Machine.{is_load as loads_from}
-use Rattle.thread_runs.specs.Runs.{Thread, Run, IsRun, executed}
+use Rattle.thread_runs.specs.Runs.{Thread, Run, executed}
 use Rattle.thread_runs.specs.AllRuns.{Shown}
-use Rattle.dataflow.specs.Chains.{Executed, IsAddr, IsData, IsCtrl, IsCtrlIsync, IsNeed, IsStoredRegister, Place, IsListOf, event_place, is_event}
+use Rattle.dataflow.specs.Chains.{Executed, IsAddr, IsData, IsCtrl, IsCtrlIsync, IsNeed, IsListOf, event_place}
 use Rattle.dataflow.specs.Dependencies.{AreLinks}
 use Rattle.dataflow.specs.declared.lists.Links.{Links}
 use Rattle.candidates.proofs.Choosing.{GoesOnWith}
-use Rattle.candidates.proofs.Elements.{member_first, no_member, mapped, mapped_there, behind_first, in_first}
-use Rattle.candidates.proofs.Kept.{AreOne, SameRun, Same, one_run_each}
-use Rattle.candidates.proofs.StepEvents.{IsKind, Stands, events_stand, place_few, stores as stores_to}
-use Rattle.candidates.proofs.Numbers.{number_there}
+use Rattle.candidates.proofs.Elements.{no_member, mapped, mapped_there}
+use Rattle.candidates.proofs.Kept.{AreOne, SameRun}
+use Rattle.candidates.proofs.StepEvents.{place_few}
 use Rattle.candidates.proofs.Places.{places_are_events}
-use Rattle.candidates.specs.Events.{thread_events, initial_stores, is_load, is_store}
-use Rattle.candidates.specs.Executions.{IsDependency, loads, stores, events, events_from}
+use Rattle.candidates.specs.Events.{thread_events, initial_stores}
+use Rattle.candidates.specs.Executions.{IsDependency, events, events_from}
 use Rattle.candidates.specs.Layouts.{chosen_events}
 use Rattle.candidates.specs.Parts.{IsPartOf}
 use Rattle.candidates.specs.Search.{Begun, with_run, start, moved}
-use Rattle.candidates.specs.Ways.{accesses_in}
 use Rattle.candidates.specs.declared.candidate.Event.{Event}
 use Rattle.candidates.specs.declared.layout.ThreadParts.{ThreadParts}
 use Rattle.candidates.specs.declared.part.Part.{Part}

@@ -7,11 +7,11 @@ use Rattle.thread_runs.specs.declared.value.Value.{Value}
 use Rattle.thread_runs.specs.declared.run.Run.{Run}
 use Rattle.candidates.proofs.Parting.{each_append}
 use Rattle.candidates.proofs.Pruning.{load_front, load_behind, store_split}
-use Rattle.candidates.specs.Keys.{HasKey, IsWithin, HasLoad, HasStore, AreKeys, PartsAreKeyed, ThreadsAreKeyed, bit_of}
-use Rattle.candidates.specs.Events.{thread_events, initial_stores}
+use Rattle.candidates.specs.Keys.{HasKey, IsWithin, AreKeys, PartsAreKeyed, ThreadsAreKeyed, bit_of}
+use Rattle.candidates.specs.Events.{thread_events, initial_stores, HasLoad, HasStore, CannotRead}
 use Rattle.candidates.specs.Parts.{IsSketch, AreSketches, HasWritesOf, AreSome, end, kept_one, left_out, Among, IsChoice, HasRead, HasWrite, IsUnread, IsSifted, IsMade, AreBelow, NamesRuns, AreThreads}
 use Rattle.std.specs.List.{AllZip}
-use Rattle.candidates.specs.Layouts.{ArePartsOf, AreThreadsOf, AreChosen, chosen_events, HasRun, HaveParts, CannotRead}
+use Rattle.candidates.specs.Layouts.{ArePartsOf, AreThreadsOf, AreChosen, chosen_events, HasRun, HaveParts}
 use Rattle.candidates.specs.declared.candidate.Action.TheVariants.{Write}
 use Rattle.candidates.specs.declared.candidate.Event.{Event}
 use Rattle.candidates.specs.declared.keys.KeySet.{KeySet}

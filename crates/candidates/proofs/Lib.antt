@@ -1,3 +1,4 @@
+pub mod AnyValues
 pub mod Arising
 pub mod Choosing
 pub mod Coherence
@@ -18,10 +19,13 @@ pub mod Kept
 pub mod Keying
 pub mod Laying
 pub mod Listing
+pub mod LoadValues
 pub mod Members
 pub mod Needs
 pub mod Numbers
+pub mod OneProgram
 pub mod OrderLaws
+pub mod Outcomes
 pub mod Parting
 pub mod Places
 pub mod Products
@@ -33,6 +37,7 @@ pub mod Small
 pub mod Sole
 pub mod Spaces
 pub mod StepEvents
+pub mod StepValues
 pub mod Stores
 pub mod Telling
 pub mod Totals

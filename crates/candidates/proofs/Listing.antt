@@ -1,5 +1,5 @@
 -- The combinations that are found, with their ways and orders, are just the executions.
-use Rattle.std.proofs.Common.{ℕ, ◌≡◌, ◌≤◌, ◌+◌, false, length, List, [], ◌∷◌, ◌++◌, map, ap, sym, subst, ◌∙◌, inl, inr, arith, append_assoc, append-nil, Contains}
+use Rattle.std.proofs.Common.{ℕ, ◌≡◌, ◌≤◌, false, length, List, [], ◌∷◌, ◌++◌, map, ap, subst, ◌∙◌, inl, inr, arith, Contains}
 use Rattle.std.specs.List.{flat_map, AllZip}
 use Rattle.bit_relations.specs.Pairs.{Union, IsAcyclic}
 use Rattle.thread_runs.specs.declared.value.Value.{Value}
@@ -17,11 +17,10 @@ use Rattle.candidates.proofs.Pruning.{no_ways}
 use Rattle.candidates.proofs.ReadsFrom.{reads_found, acyclic_as}
 use Rattle.candidates.specs.declared.layout.ThreadParts.{ThreadParts}
 use Rattle.candidates.specs.Candidates.{AreSmall, AreCombinations, nothing_left, with_ways, without}
-use Rattle.candidates.specs.Executions.{Execution, IsExecution, IsDependency, IsOrder, MayRead, product, maps, orders, over_runs, loads, locations_from, events, events_from}
-use Rattle.candidates.specs.Layouts.{chosen_events, CannotRead}
+use Rattle.candidates.specs.Executions.{Execution, IsExecution, IsDependency, IsOrder, MayRead, product, maps, orders, over_runs, loads, locations_from, events}
 use Rattle.candidates.specs.Lists.{IsFiltered, none, left}
-use Rattle.candidates.specs.Events.{initial_stores, ReadsFrom}
-use Rattle.candidates.specs.Search.{Begun, with_run, start}
+use Rattle.candidates.specs.Events.{initial_stores, ReadsFrom, CannotRead}
+use Rattle.candidates.specs.Search.{Begun, start}
 use Rattle.candidates.specs.Space.{Seen, ordered}
 use Rattle.candidates.specs.Ways.{AreWays, accesses_in}
 use Rattle.candidates.specs.declared.candidate.Event.{Event}

@@ -1,7 +1,6 @@
 -- The needs of a combination are the facts of need of its runs: each is of a load by a store.
-use Rattle.std.proofs.Common.{ℕ, zero, suc, ◌≡◌, ◌≤◌, ◌+◌, ◌↔◌, Bool, true, false, List, [], ◌∷◌, ◌++◌, take, length, Some, None, slice_get, refl, ap, sym, subst, ◌∙◌, inl, inr, arith, append_assoc, append-nil, Contains}
+use Rattle.std.proofs.Common.{ℕ, zero, suc, ◌≡◌, ◌≤◌, ◌+◌, ◌↔◌, true, List, [], ◌∷◌, ◌++◌, take, length, Some, slice_get, refl, ap, sym, subst, ◌∙◌, arith, append_assoc, append-nil, Contains}
 use Rattle.std.specs.List.{AllZip}
-use Rattle.std.proofs.lemmas.List.{length-append}
 use Rattle.thread_runs.specs.declared.value.Value.{Value}
 use Rattle.thread_runs.specs.declared.instruction.Instruction.{Instruction}
 use Rattle.thread_runs.specs.declared.instruction.Instruction.TheVariants.{Immediate, Move, AddImmediate, Operate, Load, LoadIndexed, Store, StoreIndexed, Compare, CompareImmediate, Branch, Jump, Barrier}
@@ -13,7 +12,7 @@ use Rattle.candidates.proofs.Choosing.{GoesOnWith}
 use Rattle.candidates.proofs.Elements.{behind_first, in_first}
 use Rattle.candidates.proofs.Facts.{need, facts}
 use Rattle.candidates.proofs.Kept.{AreOne, one_run_each}
-use Rattle.candidates.proofs.StepEvents.{IsKind, Stands, events_stand, stores as stores_to}
+use Rattle.candidates.proofs.StepEvents.{Stands, events_stand, stores as stores_to}
 use Rattle.candidates.proofs.Numbers.{number_there}
 use Rattle.candidates.specs.Events.{thread_events, initial_stores, is_load, is_store}
 use Rattle.candidates.specs.Executions.{IsDependency, loads, stores, events, events_from}
@@ -26,7 +25,7 @@ use Rattle.candidates.specs.declared.layout.ThreadParts.{ThreadParts}
 run_is : {r s : Run} → Some r ≡ Some s → r ≡ s
 run_is e = cc
 
-event_of_run : (es : List Event) (thread : ℕ) (rs : List Run) (its k : ℕ) (r : Run) (e : Event) → slice_get rs its ≡ Some r → slice_get (thread_events (thread + its) r.outcome.walk.events) k ≡ Some e → slice_get (es ++ events_from thread rs) (length (es ++ events_from thread (take its rs)) + k) ≡ Some e
+pub event_of_run : (es : List Event) (thread : ℕ) (rs : List Run) (its k : ℕ) (r : Run) (e : Event) → slice_get rs its ≡ Some r → slice_get (thread_events (thread + its) r.outcome.walk.events) k ≡ Some e → slice_get (es ++ events_from thread rs) (length (es ++ events_from thread (take its rs)) + k) ≡ Some e
 event_of_run es thread [] its k r e there at = absurd cc
 event_of_run es thread (q ∷ rs) zero k r e there at =
     let z : thread + 0 ≡ thread = omega arith in
@@ -51,7 +50,7 @@ thread_of_run P (t ∷ threads) (q ∷ rs) zero r h there = (t, subst (λ (s : R
 thread_of_run P (t ∷ threads) (q ∷ rs) (suc k) r h there = thread_of_run P threads rs k r h.1 there
 
 -- a load is an event, and so is a store
-load_is : (i : Instruction) → loads_from i ≡ true → is_event i ≡ true
+pub load_is : (i : Instruction) → loads_from i ≡ true → is_event i ≡ true
 load_is (Load d a) e = refl
 load_is (LoadIndexed d a b) e = refl
 load_is (Store d a) e = refl
@@ -92,7 +91,7 @@ module _ (P : Value → Type 0) (threads : List Thread) (initial : List Value) (
       let z : 0 + its ≡ its = omega arith in
       event_of_run (initial_stores 0 initial) 0 rs its (event_place (executed r.outcome.walk.steps) n) r s.event there (ap (λ (t : ℕ). slice_get (thread_events t r.outcome.walk.events) (event_place (executed r.outcome.walk.steps) n)) z ∙ s.there)
 
-  needed_load : (x y : ℕ) → IsDependency IsNeed initial rs x y → Contains (loads (events initial rs)) x
+  pub needed_load : (x y : ℕ) → IsDependency IsNeed initial rs x y → Contains (loads (events initial rs)) x
   needed_load x y h =
       let s : Stands h.thread h.run.outcome.walk.steps h.run.outcome.walk.events h.first = stands h.thread h.run h.first h.its_run (load_is (executed h.run.outcome.walk.steps h.first) h.related.0) in
       let z : 0 + (length (events initial (take h.thread rs)) + event_place (executed h.run.outcome.walk.steps) h.first) ≡ length (events initial (take h.thread rs)) + event_place (executed h.run.outcome.walk.steps) h.first = omega arith in

@@ -8,8 +8,8 @@ use Rattle.std.proofs.lemmas.Slice.Zip.{AllZip-long}
 use Rattle.thread_runs.specs.declared.value.Value.{Value}
 use Rattle.thread_runs.specs.declared.run.Run.{Run}
 use Rattle.candidates.proofs.Pruning.{load_front, load_behind, store_split}
-use Rattle.candidates.specs.Keys.{HasKey, IsWithin, HasLoad, AreKeys, TellsWithin, bit_of}
-use Rattle.candidates.specs.Events.{thread_events}
+use Rattle.candidates.specs.Keys.{HasKey, IsWithin, AreKeys, TellsWithin, bit_of}
+use Rattle.candidates.specs.Events.{thread_events, HasLoad}
 use Rattle.candidates.specs.Parts.{IsSketch, HasWritesOf, HasWritesOfAll, AreKept, none, kept, left, AreSome, end, kept_one, left_out, Among, IsChoice, HasRead, HasWrite, IsSifted, IsMade, AreBelow, NamesRuns, AreThreads}
 use Rattle.candidates.specs.declared.candidate.Action.TheVariants.{Read, Write}
 use Rattle.candidates.specs.declared.candidate.Event.{Event}

@@ -47,7 +47,7 @@ places_same at on (suc n) same =
     ap (λ (i : Instruction). cond (is_event i) (event_place at n + 1) (event_place at n)) (same n (omega arith))
     ∙ ap (λ (k : ℕ). cond (is_event (on n)) (k + 1) k) (places_same at on n (λ k lt. same k (omega (arith, lt))))
 
-event_count : (i : Instruction) (v : Value) (s : State) → length (event_of i v s) ≡ cond (is_event i) 1 0
+pub event_count : (i : Instruction) (v : Value) (s : State) → length (event_of i v s) ≡ cond (is_event i) 1 0
 event_count (Immediate d n) v s = refl
 event_count (Move d a) v s = refl
 event_count (AddImmediate d a n) v s = refl
@@ -62,7 +62,7 @@ event_count (Branch c l) v s = refl
 event_count (Jump l) v s = refl
 event_count (Barrier f) v s = refl
 
-one_place_more : (b : Bool) (k : ℕ) → cond b (k + 1) k ≡ k + cond b 1 0
+pub one_place_more : (b : Bool) (k : ℕ) → cond b (k + 1) k ≡ k + cond b 1 0
 one_place_more true k = omega arith
 one_place_more false k = omega arith
 

@@ -1,6 +1,6 @@
 -- What a space shows of the executions that its combinations list: their registers, faults and dependencies.
-use Rattle.std.proofs.Common.{Vec, ℕ, zero, suc, ◌≡◌, ◌<◌, ◌≤◌, ◌+◌, ◌⊎◌, ◌↔◌, ◌||◌, Bool, true, false, List, [], ◌∷◌, ◌++◌, map, length, Option, Some, None, slice_get, refl, ap, sym, subst, ◌∙◌, inl, inr, arith, append_assoc, append-nil, Contains}
-use Rattle.std.specs.List.{flat_map, filter_map, zip, cons_option, AllZip}
+use Rattle.std.proofs.Common.{Vec, ℕ, ◌≡◌, ◌≤◌, ◌+◌, ◌⊎◌, ◌↔◌, ◌||◌, Bool, true, false, List, [], ◌∷◌, ◌++◌, map, length, Option, slice_get, refl, ap, sym, subst, ◌∙◌, inl, inr, arith, append_assoc, append-nil, Contains}
+use Rattle.std.specs.List.{flat_map, cons_option, AllZip}
 use Rattle.std.specs.Option.{option_map}
 use Rattle.std.specs.declared.alloc.Global.{Global}
 use Rattle.std.proofs.lemmas.Option.{slice_get-map}
@@ -24,10 +24,10 @@ use Rattle.candidates.specs.Events.{initial_stores, has_store}
 use Rattle.candidates.specs.Executions.{Execution, HasFault, IsDependency, product, events}
 use Rattle.candidates.specs.Lists.{lists_of, tuples}
 use Rattle.candidates.specs.Listed.{Shows}
-use Rattle.candidates.specs.Orders.{all_orders, stores_of, is_thread_store, AreApart}
+use Rattle.candidates.specs.Orders.{all_orders, stores_of, AreApart}
 use Rattle.candidates.specs.Search.{Begun, with_run, start}
 use Rattle.candidates.specs.Space.{Seen, seen, ordered, pairs, candidates_of, candidates_in, registers_at, IsExecution as IsShownAt}
-use Rattle.candidates.specs.Ways.{AreWays, IsWay, accesses_in}
+use Rattle.candidates.specs.Ways.{IsWay, accesses_in}
 use Rattle.candidates.specs.declared.candidate.Combination.{Combination}
 use Rattle.candidates.specs.declared.candidate.Execution as shown
 use Rattle.candidates.specs.declared.candidate.Event.{Event}

@@ -1,5 +1,5 @@
 -- A test has one list of executions.
-use Rattle.std.proofs.Common.{ℕ, zero, suc, ◌≡◌, ◌<◌, ◌⊎◌, List, [], ◌∷◌, length, get_or, arith, refl, ap, sym, subst, ◌∙◌, inl, inr, Contains}
+use Rattle.std.proofs.Common.{zero, suc, ◌≡◌, ◌<◌, List, [], ◌∷◌, length, arith, refl, ap, sym, subst, ◌∙◌, inl, inr, Contains}
 use Rattle.std.specs.List.{flat_map, AllZip, AllPairs}
 use Rattle.thread_runs.specs.declared.value.Value.{Value}
 use Rattle.thread_runs.specs.declared.value.Value.TheVariants.{Number, Address, NoValue}
@@ -45,7 +45,7 @@ same_rising {X} R apart (x ∷ xs) (y ∷ ys) h k there back =
     ]
 
 -- runs come before one another in one way
-less_apart : (v w : Value) → IsLess v w → IsLess w v → ⊥
+pub less_apart : (v w : Value) → IsLess v w → IsLess w v → ⊥
 less_apart (Number m) (Number n) h k = omega (arith, h, k)
 less_apart (Number m) (Address l) h k = k
 less_apart (Number m) NoValue h k = h

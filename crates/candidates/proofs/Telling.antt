@@ -1,5 +1,5 @@
 -- What the space of a test lists: its executions, as many as it has candidates.
-use Rattle.std.proofs.Common.{Vec, ℕ, zero, suc, ◌<◌, Some, slice_get, inl, inr, Contains, HoldsAt, ◌≡◌, ◌≤◌, ◌+◌, ◌*◌, ◌↔◌, List, [], ◌∷◌, ◌++◌, map, length, refl, ap, sym, subst, ◌∙◌, arith}
+use Rattle.std.proofs.Common.{Vec, ℕ, zero, suc, ◌<◌, Some, slice_get, inl, inr, Contains, HoldsAt, ◌≡◌, ◌≤◌, ◌+◌, ◌*◌, List, [], ◌∷◌, ◌++◌, map, length, refl, ap, sym, subst, ◌∙◌, arith}
 use Rattle.std.specs.List.{flat_map, AllZip}
 use Rattle.std.specs.declared.alloc.Global.{Global}
 use Rattle.std.proofs.Math.Nat.{suc-mul, zero-mul}
@@ -10,11 +10,10 @@ use Rattle.thread_runs.specs.declared.instruction.Program.{Program}
 use Rattle.thread_runs.specs.declared.run.Run as made
 use Rattle.thread_runs.specs.Runs.{Thread, Run}
 use Rattle.ppc_semantics.specs.Domain.{IsDomain, threads_of}
-use Rattle.dataflow.specs.Chains.{IsNeed}
-use Rattle.candidates.proofs.Choosing.{AreChoices, GoesOnWith, runs_in, layout_choices}
+use Rattle.candidates.proofs.Choosing.{AreChoices, runs_in, layout_choices}
 use Rattle.candidates.proofs.Executing.{executed_so, orders_at}
 use Rattle.candidates.proofs.Flat.{flat, orders_flat}
-use Rattle.candidates.proofs.Kept.{AreOne, AreKept, all_kept, product_kept, runs_kept, one_run_each, same_events}
+use Rattle.candidates.proofs.Kept.{AreKept, all_kept, product_kept, runs_kept}
 use Rattle.candidates.proofs.Listing.{AreListed, no_more, one_more, not_one, Listing, all_listed}
 use Rattle.candidates.proofs.Small.{layout_small}
 use Rattle.ppc_semantics.specs.declared.fault.EvalRefusal.TheVariants.{TooManyEvents, TooManyValues, TooManyRuns, TooManyCandidates, AddressFault, TooManyCombinations}
@@ -22,8 +21,8 @@ use Rattle.ppc_semantics.specs.declared.fault.SpaceFault.{SpaceFault}
 use Rattle.ppc_semantics.specs.declared.fault.SpaceFault.TheVariants.{Refused, OutOfMemory}
 use Rattle.candidates.proofs.Deciding.{combined}
 use Rattle.candidates.proofs.Showing.{AreShown, all_shown, fault_among, faulted_execution}
-use Rattle.candidates.specs.Candidates.{AreTooMany, AreFaulted, IsTestRefusal, AreCombinations, nothing_left, with_ways, without, AreCandidates, AreSmall, HasLayout, IsTestSpace, candidate_total}
-use Rattle.candidates.specs.Executions.{Execution, HasFault, IsDependency, product, events}
+use Rattle.candidates.specs.Candidates.{AreTooMany, AreFaulted, IsTestRefusal, AreCombinations, AreCandidates, HasLayout, IsTestSpace, candidate_total}
+use Rattle.candidates.specs.Executions.{Execution, HasFault, product, events}
 use Rattle.candidates.specs.Layouts.{IsLaidOut}
 use Rattle.candidates.specs.Listed.{AreTestExecutions, Shows, ListsExecutions, HasManyExecutions, HasFaultedExecution, IsRefusedFor}
 use Rattle.candidates.specs.Orders.{all_orders}
@@ -32,7 +31,6 @@ use Rattle.candidates.specs.Search.{Begun, start, all_combinations, location_cou
 use Rattle.candidates.specs.Space.{Seen, seen, Candidate, candidates_in, IsExecution as IsShownAt}
 use Rattle.candidates.specs.declared.candidate.Space.{Space}
 use Rattle.candidates.specs.declared.candidate.Execution as shown
-use Rattle.candidates.specs.Ways.{accesses_in}
 use Rattle.candidates.specs.declared.candidate.Event.{Event}
 use Rattle.candidates.specs.declared.layout.Layout.{Layout}
 use Rattle.candidates.specs.declared.layout.ThreadParts.{ThreadParts}
@@ -99,7 +97,6 @@ locations_counted t l h =
     let a : length l.initial.items ≡ length (initial_stores 0 h.0.initial.items) = ap (λ (es : List Event). length es) o.initial in
     let b : length h.0.initial.items ≡ length h.0.locations.items = h.3.initial.each_one in
     omega (arith, a, b, initial_long 0 h.0.initial.items, d.events)
-
 
 zip_long : {X Y : Type 0} (R : X → Y → Type 0) (xs : List X) (ys : List Y) → AllZip R xs ys → length ys ≡ length xs
 zip_long R [] [] h = refl

@@ -1,5 +1,5 @@
 -- The events of a run of each thread, and facts of lists of events. The number of an event is its index in such a list.
-use Rattle.std.specs.Prelude.{ℕ, ◌≡◌, ◌<◌, ◌+◌, Bool, true, false, cond, nat_eq, List, [], ◌∷◌, length, slice_index, Option, Some, None}
+use Rattle.std.specs.Prelude.{ℕ, ◌≡◌, ◌<◌, ◌+◌, ◌⊎◌, Bool, true, false, cond, nat_eq, List, [], ◌∷◌, length, slice_index, Option, Some, None}
 use Rattle.std.specs.List.{flat_map, list_any}
 use Rattle.thread_runs.specs.declared.value.Value.{Value}
 use Rattle.thread_runs.specs.declared.value.Value.TheVariants.{Address}
@@ -67,3 +67,16 @@ AreDistinct (x ∷ xs) = (has_store xs x ≡ false) × AreDistinct xs
 -- the pairs of a store and a load that reads it, where `way` has the store that each of the loads reads
 abbrev pub ReadsFrom : List ℕ → List ℕ → ℕ → ℕ → Type 0
 ReadsFrom loads way a b = (i : ℕ) × (i < length way) × (i < length loads) × (a ≡ slice_index way i) × (b ≡ slice_index loads i)
+
+-- there is a load, or a store, of the location and value
+abbrev pub HasLoad : ℕ → Value → List Event → Type 0
+HasLoad location value [] = ⊥
+HasLoad location value (e ∷ es) = (e.action ≡ Read location value) ⊎ HasLoad location value es
+
+abbrev pub HasStore : ℕ → Value → List Event → Type 0
+HasStore location value [] = ⊥
+HasStore location value (e ∷ es) = (e.action ≡ Write location value) ⊎ HasStore location value es
+
+-- some load has a location and a value that no store has
+abbrev pub CannotRead : List Event → Type 0
+CannotRead es = (location : ℕ) × (value : Value) × HasLoad location value es × (HasStore location value es → ⊥)

@@ -5,8 +5,7 @@ use Rattle.thread_runs.specs.declared.value.Value.{Value}
 use Rattle.thread_runs.specs.declared.run.Run.{Run}
 use Rattle.thread_runs.specs.declared.instruction.Program.{Program}
 use Rattle.thread_runs.specs.AllRuns.{ShowsRuns, thread_of}
-use Rattle.candidates.specs.Keys.{HasLoad, HasStore}
-use Rattle.candidates.specs.Events.{thread_events, initial_stores}
+use Rattle.candidates.specs.Events.{thread_events, initial_stores, CannotRead}
 use Rattle.candidates.specs.Parts.{IsPartOf}
 use Rattle.candidates.specs.declared.candidate.Event.{Event}
 use Rattle.candidates.specs.declared.layout.Layout.{Layout}
@@ -49,10 +48,6 @@ HaveParts [] [] = Unit {0}
 HaveParts [] (k ∷ ks) = ⊥
 HaveParts (t ∷ ts) [] = ⊥
 HaveParts (t ∷ ts) (k ∷ ks) = HasRun t.parts.items k × HaveParts ts ks
-
--- some load has a location and a value that no store has
-abbrev pub CannotRead : List Event → Type 0
-CannotRead es = (location : ℕ) × (value : Value) × HasLoad location value es × (HasStore location value es → ⊥)
 
 -- the initial stores, and the parts of the runs, of which those are left out that are in no candidate
 pub record IsLaidOut (p : Program) (runs : List (Vec Run Global)) (l : Layout) : Type 0 where

@@ -10,11 +10,11 @@ use Rattle.ppc_semantics.specs.declared.fault.EvalRefusal.TheVariants.{TooManyCa
 use Rattle.ppc_semantics.specs.declared.fault.SpaceFault.{SpaceFault}
 use Rattle.ppc_semantics.specs.declared.fault.SpaceFault.TheVariants.{Refused}
 use Rattle.dataflow.specs.Chains.{Executed, IsAddr, IsData, IsCtrl, IsCtrlIsync, IsNeed}
+use Rattle.thread_runs.specs.ValueSet.{IsOne}
 use Rattle.thread_runs.specs.Runs.{Thread, Run, IsRun, run_of}
 use Rattle.candidates.specs.Executions.{Execution, IsExecution, AreExecutions, HasFault, IsDependency, IsOrder, MayRead, events, loads, maps, orders, locations_from, over_runs}
-use Rattle.candidates.specs.Layouts.{CannotRead}
 use Rattle.candidates.specs.Lists.{IsFiltered}
-use Rattle.candidates.specs.Events.{thread_events, ReadsFrom}
+use Rattle.candidates.specs.Events.{thread_events, ReadsFrom, CannotRead}
 use Rattle.bit_relations.specs.Pairs.{Union, IsAcyclic}
 use Rattle.candidates.specs.Space.{IsShown, candidate_count}
 use Rattle.candidates.specs.declared.candidate.Execution as shown
@@ -80,6 +80,13 @@ IsRefusedFor t fault = IsTestFault t fault
 
 -- LAWS of these definitions
 
+-- the law of the domain: what is shown, where the loads of the execution take any values whatever, is an execution over
+-- the domain of the test, if the test has a location
+abbrev pub LosesNoValue : Test → shown.Execution → Type 0
+LosesNoValue t e =
+    (p : Program) (V : List Value) (x : Execution) (some : Value) → IsProgram t p → IsDomain p V → Contains p.initial.items some → Shows p.initial.items x e
+    → IsExecution p.initial.items (threads_of p) IsOne x → IsExecution p.initial.items (threads_of p) (Contains V) x
+
 -- a test has one list of executions
 abbrev pub HasOneList : List Value → List Thread → List Value → Type 0
 HasOneList initial threads V = (xs ys : List Execution) → AreExecutions initial threads V xs → AreExecutions initial threads V ys → xs ≡ ys
@@ -110,3 +117,29 @@ ChoosesApart initial threads V runs =
 -- no event of a run of a thread is left out of the events of an execution
 abbrev pub DropsNoEvent : Thread → Run → Type 0
 DropsNoEvent t r = (thread : ℕ) → run_of t.lines t.first r.values ≡ Some r.outcome → length (thread_events thread r.outcome.walk.events) ≡ length r.outcome.walk.events
+
+-- the outcomes of a test that its executions call for exclude one another
+pub record ExcludeOneAnother (t : Test) : Type 0 where
+  pub listed_or_many : (s : Space) → ListsExecutions t s → HasManyExecutions t → ⊥
+  pub listed_or_faulted : (s : Space) → ListsExecutions t s → HasFaultedExecution t → ⊥
+  pub many_or_faulted : HasManyExecutions t → HasFaultedExecution t → ⊥
+
+-- the executions are alike: they differ at most in the order in which dependencies are listed
+abbrev pub SamePairs : List (ℕ × ℕ) → List (ℕ × ℕ) → Type 0
+SamePairs ps qs = (p : ℕ × ℕ) → Contains ps p ↔ Contains qs p
+
+pub record AreAlike (d e : shown.Execution) : Type 0 where
+  pub events : d.events.items ≡ e.events.items
+  pub addr : SamePairs d.addr_pairs.items e.addr_pairs.items
+  pub «data» : SamePairs d.data_pairs.items e.data_pairs.items
+  pub ctrl : SamePairs d.ctrl_pairs.items e.ctrl_pairs.items
+  pub ctrlisync : SamePairs d.ctrlisync_pairs.items e.ctrlisync_pairs.items
+  pub reads_from : d.sources.items ≡ e.sources.items
+  pub coherence : d.order.items ≡ e.order.items
+  pub registers : d.registers.items ≡ e.registers.items
+
+-- two spaces of one test have as many candidates, and show alike ones at each index
+abbrev pub ShowTheSame : Test → Space → Space → Type 0
+ShowTheSame t r s =
+    ListsExecutions t r → ListsExecutions t s
+    → (candidate_count r ≡ candidate_count s) × ((index : ℕ) (d e : shown.Execution) → index < candidate_count r → IsShown r index d → IsShown s index e → AreAlike d e)

@@ -14,8 +14,8 @@ ghost use Rattle.candidates.specs.Space.{seen, ordered};
 ghost use Rattle.candidates.specs.Candidates.{AreSmall, HasEnds, IsAnswer, IsReady, IsTestSpace, IsTestRefusal};
 
 mod candidate;
-pub mod executions;
 mod keys;
+pub mod laws;
 mod layout;
 mod orders;
 mod part;
@@ -23,7 +23,6 @@ mod reading;
 mod search;
 
 pub use candidate::{Action, Combination, Event, Execution, Space};
-pub use dataflow::laws;
 use layout::{Layout, registers};
 use litmus_values::Test;
 use orders::with_orders;

@@ -2,8 +2,8 @@ use Rattle.std.proofs.Common.{ℕ, List, Vec, ◌≡◌, Some, length, refl, sub
 use Rattle.std.specs.declared.alloc.Global.{Global}
 use Rattle.thread_runs.specs.declared.value.Value.{Value}
 use Rattle.thread_runs.specs.declared.run.Run.{Run}
-use Rattle.candidates.specs.Keys.{HasKey, HasStore, bit_of}
-use Rattle.candidates.specs.Events.{initial_stores}
+use Rattle.candidates.specs.Keys.{HasKey, bit_of}
+use Rattle.candidates.specs.Events.{initial_stores, HasStore}
 use Rattle.candidates.specs.Parts.{AreSome, NamesRuns, AreThreads}
 use Rattle.std.specs.List.{AllZip}
 use Rattle.candidates.specs.declared.candidate.Event.{Event}
