@@ -1,3 +1,4 @@
+pub mod AllListed
 pub mod AnyValues
 pub mod Arising
 pub mod Choosing

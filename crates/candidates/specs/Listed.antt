@@ -143,3 +143,9 @@ abbrev pub ShowTheSame : Test → Space → Space → Type 0
 ShowTheSame t r s =
     ListsExecutions t r → ListsExecutions t s
     → (candidate_count r ≡ candidate_count s) × ((index : ℕ) (d e : shown.Execution) → index < candidate_count r → IsShown r index d → IsShown s index e → AreAlike d e)
+
+-- the list of the executions of a test has just those whose loads take any values whatever, if the test has a location
+abbrev pub HasAllExecutions : Test → Type 0
+HasAllExecutions t =
+    (initial : List Value) (xs : List Execution) (some : Value) (h : AreTestExecutions t initial xs) → Contains initial some → (x : Execution)
+    → Contains xs x ↔ IsExecution initial (threads_of h.program) IsOne x

@@ -2,7 +2,7 @@
 ghost use Rattle.std.specs.Prelude.{List};
 ghost use Rattle.thread_runs.specs.declared.value.Value.{Value};
 ghost use Rattle.thread_runs.specs.Runs.{Thread, Run};
-ghost use Rattle.candidates.specs.Listed.{LosesNoValue, ExcludeOneAnother, HasOneList, ShowTheSame, LosesNoExecution, ChoosesApart, DropsNoEvent};
+ghost use Rattle.candidates.specs.Listed.{HasAllExecutions, LosesNoValue, ExcludeOneAnother, HasOneList, ShowTheSame, LosesNoExecution, ChoosesApart, DropsNoEvent};
 
 use crate::candidate::{Execution, Space};
 use litmus_values::Test;
@@ -13,6 +13,13 @@ pub fn domain_loses_nothing(test: &Test, execution: &Execution)
 {
     let _test = test;
     let _execution = execution;
+}
+
+/// The executions of a test, its loads taking any values whatever, are just those of its list.
+pub fn executions_are_all(test: &Test)
+    ensures { HasAllExecutions test.now }
+{
+    let _test = test;
 }
 
 /// A test has one list of executions.
