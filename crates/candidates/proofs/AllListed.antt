@@ -7,7 +7,7 @@ use Rattle.thread_runs.specs.declared.value.Value.{Value}
 use Rattle.thread_runs.specs.Runs.{Thread, Run, IsRun, AreRuns}
 use Rattle.thread_runs.specs.ValueSet.{IsOne}
 use Rattle.ppc_semantics.specs.Domain.{threads_of}
-use Rattle.candidates.proofs.AnyValues.{over_domain}
+use Rattle.candidates.proofs.NoLocation.{over_any_domain}
 use Rattle.candidates.proofs.Elements.{member_cases, member_later, member_first, no_member, mapped_there, joined_there}
 use Rattle.candidates.proofs.Numbers.{number_there}
 use Rattle.candidates.specs.Events.{is_store, writes}
@@ -98,7 +98,7 @@ weaker_runs V ones (t ∷ threads) (r ∷ rs) h = ((All-weaker (Contains V) IsOn
 
 -- and those whose loads take any values
 pub all_executions : (t : Test) → HasAllExecutions t
-all_executions t initial xs some h begins x = (to, back)
+all_executions t initial xs h x = (to, back)
   where
     to : Contains xs x → IsExecution initial (threads_of h.program) IsOne x
     to c =
@@ -110,6 +110,6 @@ all_executions t initial xs some h begins x = (to, back)
     back is =
         let over : IsExecution initial (threads_of h.program) (Contains h.values) x =
         subst (λ (vs : List Value). IsExecution vs (threads_of h.program) (Contains h.values) x) (sym h.starts)
-        (over_domain h.program h.values some h.domain (subst (λ (vs : List Value). Contains vs some) h.starts begins) x (subst (λ (vs : List Value). IsExecution vs (threads_of h.program) IsOne x) h.starts is)) in
+        (over_any_domain t h.program h.values h.of_test h.domain x (subst (λ (vs : List Value). IsExecution vs (threads_of h.program) IsOne x) h.starts is)) in
         filtered_there (IsExecution initial (threads_of h.program) (Contains h.values)) (flat_map (over_runs initial) (product h.executions.runs)) xs h.executions.executions x
         (listed initial (threads_of h.program) h.values h.executions.runs h.executions.of_threads x over) over

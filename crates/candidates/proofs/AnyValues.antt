@@ -218,12 +218,12 @@ no_initial_load at (w ∷ vs) zero e l v there is = store_load (ap (λ (x : Even
 no_initial_load at (w ∷ vs) (suc k) e l v there is = no_initial_load (at + 1) vs k e l v there is
 
 -- each run is one of a thread
-record RunOf (P : Value → Type 0) (threads : List Thread) (r : Run) : Type 0 where
-  thread : Thread
-  there : Contains threads thread
-  is : IsRun thread P r
+pub record RunOf (P : Value → Type 0) (threads : List Thread) (r : Run) : Type 0 where
+  pub thread : Thread
+  pub there : Contains threads thread
+  pub is : IsRun thread P r
 
-thread_of_run : (P : Value → Type 0) (threads : List Thread) (rs : List Run) (its : ℕ) (r : Run) → AllZip (λ t r. IsRun t P r) threads rs → slice_get rs its ≡ Some r → RunOf P threads r
+pub thread_of_run : (P : Value → Type 0) (threads : List Thread) (rs : List Run) (its : ℕ) (r : Run) → AllZip (λ t r. IsRun t P r) threads rs → slice_get rs its ≡ Some r → RunOf P threads r
 thread_of_run P [] [] its r h there = absurd cc
 thread_of_run P [] (q ∷ rs) its r h there = absurd h
 thread_of_run P (t ∷ threads) [] its r h there = absurd h
@@ -446,7 +446,7 @@ later : (initial : List Value) (threads : List Thread) (v : Value) (k more : ℕ
 later initial threads v k zero h = let z : k ≡ 0 + k = omega arith in subst (λ (n : ℕ). InDomain initial threads n v) z h
 later initial threads v k (suc more) h = let z : suc (more + k) ≡ suc more + k = omega arith in subst (λ (n : ℕ). InDomain initial threads n v) z (inl (later initial threads v k more h))
 
-zip_as : {X Y : Type 0} (R S : X → Y → Type 0) (xs : List X) (ys : List Y) → ((k : ℕ) (x : X) (y : Y) → slice_get ys k ≡ Some y → R x y → S x y) → AllZip R xs ys → AllZip S xs ys
+pub zip_as : {X Y : Type 0} (R S : X → Y → Type 0) (xs : List X) (ys : List Y) → ((k : ℕ) (x : X) (y : Y) → slice_get ys k ≡ Some y → R x y → S x y) → AllZip R xs ys → AllZip S xs ys
 zip_as R S [] [] each h = tt
 zip_as R S [] (y ∷ ys) each h = absurd h
 zip_as R S (x ∷ xs) [] each h = absurd h

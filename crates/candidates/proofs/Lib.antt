@@ -23,6 +23,7 @@ pub mod Listing
 pub mod LoadValues
 pub mod Members
 pub mod Needs
+pub mod NoLocation
 pub mod Numbers
 pub mod OneProgram
 pub mod OrderLaws

@@ -47,6 +47,10 @@ event_reads (Branch c l) v s = refl
 event_reads (Jump l) v s = refl
 event_reads (Barrier f) v s = refl
 
+-- an instruction that is no load adds nothing
+pub read_more : (es : List run.Event) (i : Instruction) (v : Value) (s : State) → is_load i ≡ false → read_in (es ++ event_of i v s) ≡ read_in es
+read_more es i v s is = read_both es (event_of i v s) ∙ ap (λ (l : List Value). read_in es ++ l) (event_reads i v s) ∙ ap (λ (b : Bool). read_in es ++ given b v) is ∙ append-nil (read_in es)
+
 outcome_is : {o p : Outcome} → Some o ≡ Some p → o ≡ p
 outcome_is e = cc
 

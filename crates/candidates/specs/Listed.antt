@@ -81,10 +81,10 @@ IsRefusedFor t fault = IsTestFault t fault
 -- LAWS of these definitions
 
 -- the law of the domain: what is shown, where the loads of the execution take any values whatever, is an execution over
--- the domain of the test, if the test has a location
+-- the domain of the test
 abbrev pub LosesNoValue : Test → shown.Execution → Type 0
 LosesNoValue t e =
-    (p : Program) (V : List Value) (x : Execution) (some : Value) → IsProgram t p → IsDomain p V → Contains p.initial.items some → Shows p.initial.items x e
+    (p : Program) (V : List Value) (x : Execution) → IsProgram t p → IsDomain p V → Shows p.initial.items x e
     → IsExecution p.initial.items (threads_of p) IsOne x → IsExecution p.initial.items (threads_of p) (Contains V) x
 
 -- a test has one list of executions
@@ -144,8 +144,8 @@ ShowTheSame t r s =
     ListsExecutions t r → ListsExecutions t s
     → (candidate_count r ≡ candidate_count s) × ((index : ℕ) (d e : shown.Execution) → index < candidate_count r → IsShown r index d → IsShown s index e → AreAlike d e)
 
--- the list of the executions of a test has just those whose loads take any values whatever, if the test has a location
+-- the list of the executions of a test has just those whose loads take any values whatever
 abbrev pub HasAllExecutions : Test → Type 0
 HasAllExecutions t =
-    (initial : List Value) (xs : List Execution) (some : Value) (h : AreTestExecutions t initial xs) → Contains initial some → (x : Execution)
+    (initial : List Value) (xs : List Execution) (h : AreTestExecutions t initial xs) (x : Execution)
     → Contains xs x ↔ IsExecution initial (threads_of h.program) IsOne x
