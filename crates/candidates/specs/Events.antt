@@ -1,4 +1,5 @@
 -- The events of a run of each thread, and facts of lists of events. The number of an event is its index in such a list.
+-- Read it before `Executions`; it names no type but those that the crate shows.
 use Rattle.std.specs.Prelude.{ℕ, ◌≡◌, ◌<◌, ◌+◌, ◌⊎◌, Bool, true, false, cond, nat_eq, List, [], ◌∷◌, length, slice_index, Option, Some, None}
 use Rattle.std.specs.List.{flat_map, list_any}
 use Rattle.thread_runs.specs.declared.value.Value.{Value}

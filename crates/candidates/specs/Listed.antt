@@ -1,4 +1,5 @@
--- What `space` says of the executions of a test, and how a space shows them.
+-- What `space` says of the executions of a test, and how a space shows them: its clauses `executions` and `refused` cite
+-- `ListsExecutions` and `IsRefusedFor`. Read `Events` and `Executions` first. The laws at the end are those of `laws`.
 use Rattle.std.specs.Prelude.{ℕ, Some, ◌≡◌, ◌<◌, ◌≤◌, ◌↔◌, List, [], map, length, slice_get, Contains}
 use Rattle.std.specs.List.{AllZip, flat_map}
 use Rattle.litmus_values.specs.declared.test.Test.{Test}

@@ -1,6 +1,9 @@
 //! The candidate executions of a test: a run of each thread, the store that each load reads, and
 //! the order of each location's stores (Alglave, Maranget and Tautschnig, Herding Cats, TOPLAS
 //! 36(2), 2014).
+//!
+//! Read `specs/Executions` first, what an execution is, and then `specs/Listed`, what `space` says.
+//! Other crates may cite the laws of `laws`.
 #![tactic(auto)]
 
 ghost use Rattle.std.specs.Prelude.{ℕ, ◌≡◌, List, Option, map, IfOk, IfErr};
