@@ -17,7 +17,9 @@ use Rattle.binding_kinds.specs.Senses.{Sense, with_arity, sense_of_binder, sense
 use Rattle.binding_kinds.specs.Faults.{with_own, with_all, extended, senses_after}
 use Rattle.binding_kinds.specs.Verdict.{or_else, unless, of_use, of_name}
 use Rattle.binding_kinds.specs.First.{of_binding, first_in, first_of_item}
-use Rattle.binding_kinds.specs.Fits.{IsKnown, IsValue, IsKnownValue, IsPlain, IsFit, AreFit, IsKnownUnlessFunction, AreKnown, IsFitClause}
+use Rattle.binding_kinds.specs.Fits.{IsKnown, IsValue, IsKnownValue, IsPlain, IsFit, AreFit, kind_of, IsTyped, IsKnownUnlessFunction, AreKnown, IsFitClause}
+use Rattle.binding_kinds.specs.Formula.{Formula, Value, Parameter, Everything, NoPairs, NoEvents, Joined, Marked, Complement, Identity}
+use Rattle.binding_kinds.specs.Functions.{bound_formula, named_formula, formula_in}
 
 -- where there is neither fault
 none_first : (o q : Option ModelFault) → or_else o q ≡ None → o ≡ None
@@ -205,3 +207,45 @@ same_senses ss names (Group r bs) h = refl
 same_senses ss names (Check w b) h = refl
 same_senses ss names Mute h = refl
 same_senses ss names (Defined n ps b) h = absurd h
+
+-- ---- with the functions put in
+
+pub typed_known : (ks : List Kind) (f : Formula) → IsTyped ks f → IsKnown (kind_of ks f)
+typed_known ks (Value f) h = h
+typed_known ks (Parameter i) h = h
+typed_known ks Everything h = tt
+typed_known ks NoPairs h = tt
+typed_known ks NoEvents h = tt
+typed_known ks (Joined op a b) h = joined_known op (kind_of ks a) (kind_of ks b) (typed_known ks a h.0) (typed_known ks b h.1) h.2
+typed_known ks (Marked op a) h = marked_known (kind_of ks a) (typed_known ks a h.0) h.1
+typed_known ks (Complement a) h = typed_known ks a h
+typed_known ks (Identity a) h = narrowed_known (kind_of ks a) (typed_known ks a h.0) h.1
+
+bound_typed : (f : Found) (b : Binder) → IsValue b → IsKnown f.kind → IsTyped [] (bound_formula f b) × (kind_of [] (bound_formula f b) ≡ f.kind)
+bound_typed f (binders.Predefined p) v k = (k, refl)
+bound_typed f (binders.Bound i) v k = (k, refl)
+bound_typed f (binders.Applicable g) v k = absurd v
+
+named_typed : (o : Option Found) → IsKnownValue o → IsTyped [] (named_formula None o) × (kind_of [] (named_formula None o) ≡ kind_found o)
+named_typed None h = absurd h
+named_typed (Some f) h = bound_typed f f.binder h.0 h.1
+
+same_true : (b c : Bool) → b ≡ c → IsTrue c → IsTrue b
+same_true b c e h = rw e h
+
+-- what fits is typed, with the same kind
+pub fit_typed : (ss : List Sense) (names : List Naming) (t : Term) → IsFit ss names t → IsTyped [] (formula_in ss names [] t) × (kind_of [] (formula_in ss names [] t) ≡ kind_in ss names t)
+fit_typed ss names (Atom x) h = named_typed (found names x) h
+fit_typed ss names AllEvents h = (tt, refl)
+fit_typed ss names EmptyRelation h = (tt, refl)
+fit_typed ss names EmptySet h = (tt, refl)
+fit_typed ss names (Join op a b) h =
+    let l = fit_typed ss names a h.0 in
+    let r = fit_typed ss names b h.1 in
+    let k : joined op (kind_of [] (formula_in ss names [] a)) (kind_of [] (formula_in ss names [] b)) ≡ joined op (kind_in ss names a) (kind_in ss names b) = rw (l.1, r.1) refl in
+    let t : takes op (kind_of [] (formula_in ss names [] a)) (kind_of [] (formula_in ss names [] b)) ≡ takes op (kind_in ss names a) (kind_in ss names b) = rw (l.1, r.1) refl in
+    ((l.0, r.0, same_true _ _ t h.2), k)
+fit_typed ss names (Mark op a) h = let l = fit_typed ss names a h.0 in ((l.0, same_true _ _ (ap is_relation l.1) h.1), ap marked l.1)
+fit_typed ss names (Not a) h = fit_typed ss names a h
+fit_typed ss names (On a) h = let l = fit_typed ss names a h.0 in ((l.0, same_true _ _ (ap is_set l.1) h.1), ap narrowed l.1)
+fit_typed ss names (Apply x ts) h = absurd h

@@ -1,5 +1,5 @@
 -- Expressions without fault, whose kinds are known.
-use Rattle.std.specs.Prelude.{List, [], ◌∷◌, true, false, IsTrue, Option, Some, None}
+use Rattle.std.specs.Prelude.{List, [], ◌∷◌, true, false, IsTrue, Option, Some, None, get_or}
 use Rattle.cat_values.specs.Value.{Term, Atom, AllEvents, EmptyRelation, EmptySet, Join, Mark, Not, On, Apply}
 use Rattle.binding_kinds.specs.declared.kinds.Kind.{Kind}
 use Rattle.binding_kinds.specs.declared.kinds.Kind.TheVariants.{OfSet, OfRelation, OfAny}
@@ -7,7 +7,8 @@ use Rattle.binding_kinds.specs.declared.scope.Found.{Found}
 use Rattle.binding_kinds.specs.declared.scope.Binder.{Binder}
 use Rattle.binding_kinds.specs.declared.scope.Binder.TheVariants as binders
 use Rattle.binding_kinds.specs.Value.{Naming, Bound, Clause, Group, Check, Mute, Defined}
-use Rattle.binding_kinds.specs.Kinds.{found, takes, is_relation, is_set}
+use Rattle.binding_kinds.specs.Kinds.{found, takes, joined, marked, narrowed, is_relation, is_set}
+use Rattle.binding_kinds.specs.Formula.{Formula, Value, Parameter, Everything, NoPairs, NoEvents, Joined, Marked, Complement, Identity}
 use Rattle.binding_kinds.specs.Senses.{Sense, kind_in}
 
 -- a set or a relation
@@ -37,6 +38,30 @@ IsPlain (Mark op a) = IsPlain a
 IsPlain (Not a) = IsPlain a
 IsPlain (On a) = IsPlain a
 IsPlain (Apply x arguments) = ⊥
+
+-- the kind of an expression whose parameters have these kinds
+abbrev pub kind_of : List Kind → Formula → Kind
+kind_of ks (Value f) = f.kind
+kind_of ks (Parameter index) = get_or ks index OfAny
+kind_of ks Everything = OfSet
+kind_of ks NoPairs = OfRelation
+kind_of ks NoEvents = OfSet
+kind_of ks (Joined op a b) = joined op (kind_of ks a) (kind_of ks b)
+kind_of ks (Marked op a) = marked (kind_of ks a)
+kind_of ks (Complement a) = kind_of ks a
+kind_of ks (Identity a) = narrowed (kind_of ks a)
+
+-- where the parameters have these kinds, each name stands for a set or a relation, and each operator takes its operands
+abbrev pub IsTyped : List Kind → Formula → Type 0
+IsTyped ks (Value f) = IsKnown f.kind
+IsTyped ks (Parameter index) = IsKnown (get_or ks index OfAny)
+IsTyped ks Everything = Unit {0}
+IsTyped ks NoPairs = Unit {0}
+IsTyped ks NoEvents = Unit {0}
+IsTyped ks (Joined op a b) = IsTyped ks a × IsTyped ks b × IsTrue (takes op (kind_of ks a) (kind_of ks b))
+IsTyped ks (Marked op a) = IsTyped ks a × IsTrue (is_relation (kind_of ks a))
+IsTyped ks (Complement a) = IsTyped ks a
+IsTyped ks (Identity a) = IsTyped ks a × IsTrue (is_set (kind_of ks a))
 
 -- each name stands for a set or a relation, each operator takes its operands, and no function is applied
 abbrev pub IsFit : List Sense → List Naming → Term → Type 0

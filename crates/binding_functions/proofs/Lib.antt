@@ -1,0 +1,3 @@
+pub mod Applied
+pub mod Marking
+pub mod Filling
