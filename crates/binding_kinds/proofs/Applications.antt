@@ -292,7 +292,7 @@ next_size ss names f xs i e before after g one total lt is g_is one_is after_is 
     ap (λ (n : ℕ). min (after + size_of_arguments f n rest) 4097) (add-one i)
     ∙ sized f i rest before after g one (size_in ss names (values.term_of e)) total g_is one_is after_is open_inv
 
-found_arity : (ss : List Sense) (n : ℕ) (o : Option Found) (s : Sense) → sense_of ss n o ≡ Ok s → s.arity ≡ n
+pub found_arity : (ss : List Sense) (n : ℕ) (o : Option Found) (s : Sense) → sense_of ss n o ≡ Ok s → s.arity ≡ n
 found_arity ss n None s e = absurd (let r : Err faults.Unbound ≡ Ok s = e in cc)
 found_arity ss n (Some f) s e = at_binder f.binder e
   where

@@ -47,7 +47,7 @@ found_below (n ∷ ns) x f e = at_test (bytes_eq n.name x) (found_below ns x f) 
     at_test false below e = let lt = below e in omega arith
 
 -- a name is known among known names, unless it is a function
-known_found : (names : List Naming) (x : List ℕ) (f : Found) → AreKnown names → found names x ≡ Some f → IsKnownUnlessFunction f.binder f.kind
+pub known_found : (names : List Naming) (x : List ℕ) (f : Found) → AreKnown names → found names x ≡ Some f → IsKnownUnlessFunction f.binder f.kind
 known_found [] x f h e = absurd (let g : None ≡ Some f = e in cc)
 known_found (n ∷ ns) x f h e = at_test (bytes_eq n.name x) (known_found ns x f h.1) e
   where

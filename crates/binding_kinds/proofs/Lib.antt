@@ -8,3 +8,4 @@ pub mod Sizes
 pub mod Applications
 pub mod Tables
 pub mod Bodies
+pub mod Sound

@@ -1,5 +1,5 @@
 -- Expressions without fault, whose kinds are known.
-use Rattle.std.specs.Prelude.{List, [], ◌∷◌, true, false, IsTrue, Option, Some, None, get_or}
+use Rattle.std.specs.Prelude.{◌≡◌, List, [], ◌∷◌, length, true, false, IsTrue, Option, Some, None, get_or}
 use Rattle.cat_values.specs.Value.{Term, Atom, AllEvents, EmptyRelation, EmptySet, Join, Mark, Not, On, Apply}
 use Rattle.binding_kinds.specs.declared.kinds.Kind.{Kind}
 use Rattle.binding_kinds.specs.declared.kinds.Kind.TheVariants.{OfSet, OfRelation, OfAny}
@@ -62,6 +62,18 @@ IsTyped ks (Joined op a b) = IsTyped ks a × IsTyped ks b × IsTrue (takes op (k
 IsTyped ks (Marked op a) = IsTyped ks a × IsTrue (is_relation (kind_of ks a))
 IsTyped ks (Complement a) = IsTyped ks a
 IsTyped ks (Identity a) = IsTyped ks a × IsTrue (is_set (kind_of ks a))
+
+abbrev pub AreKnownKinds : List Kind → Type 0
+AreKnownKinds [] = Unit {0}
+AreKnownKinds (k ∷ ks) = IsKnown k × AreKnownKinds ks
+
+-- with arguments of known kinds that clash nowhere, the function's body is typed, and has the kind that is said of it
+abbrev pub IsSound : Sense → Type 0
+IsSound s = (ks : List Kind) → length ks ≡ s.arity → AreKnownKinds ks → s.clashes ks ≡ false → IsTyped ks s.formula × (s.kind_with ks ≡ kind_of ks s.formula)
+
+abbrev pub AreSound : List Sense → Type 0
+AreSound [] = Unit {0}
+AreSound (s ∷ ss) = IsSound s × AreSound ss
 
 -- each name stands for a set or a relation, each operator takes its operands, and no function is applied
 abbrev pub IsFit : List Sense → List Naming → Term → Type 0

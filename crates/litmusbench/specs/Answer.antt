@@ -37,7 +37,7 @@ use Rattle.litmusbench.specs.Written.{WritesFront}
 pub record IsSaid (test : Test) (model : ModelText) (o : Outcome) : Type 0 where
   pub judged : IsAnswerOf test.condition.quantifier o
   pub cell : IsCell test o
-  pub of_model : AreNoFunctions (map clause_of model.items.items) → OfModel (FirstFault [] (reverse (map naming_of PREDEFINED)) 0 (map clause_of model.items.items)) (HasNoFault [] (reverse (map naming_of PREDEFINED)) 0 (map clause_of model.items.items)) (IsEvaluationUnder (reverse (map naming_of PREDEFINED)) model.items.items test) o.result
+  pub of_model : OfModel (FirstFault [] (reverse (map naming_of PREDEFINED)) 0 (map clause_of model.items.items)) (HasNoFault [] (reverse (map naming_of PREDEFINED)) 0 (map clause_of model.items.items)) (λ e. AreNoFunctions (map clause_of model.items.items) → IsEvaluationUnder (reverse (map naming_of PREDEFINED)) model.items.items test e) o.result
 
 -- the log of such an outcome
 abbrev pub IsLogOf : Test → ModelText → List ℕ → Type 0
