@@ -456,14 +456,3 @@ whole_pieces old new more L never none small g = at_flag new.is_oversized refl
     at_flag : (b : Bool) → new.is_oversized ≡ b → new.pieces.items ≡ more
     at_flag true e = absurd (no_cause (g.large e))
     at_flag false e = (g.fits e).1 ∙ ap (λ (l : List Piece). l ++ more) none
-
-pub plain_small : (ss : List Sense) (names : List Naming) (t : Term) → IsFit ss names t → HasLarge ss names [] t → ⊥
-plain_small ss names (Atom x) fit h = absurd h
-plain_small ss names AllEvents fit h = absurd h
-plain_small ss names EmptyRelation fit h = absurd h
-plain_small ss names EmptySet fit h = absurd h
-plain_small ss names (Join op a b) fit h = elim h [ inl l ↦ plain_small ss names a fit.0 l | inr r ↦ plain_small ss names b fit.1 r ]
-plain_small ss names (Mark op a) fit h = plain_small ss names a fit.0 h
-plain_small ss names (Not a) fit h = plain_small ss names a fit h
-plain_small ss names (On a) fit h = plain_small ss names a fit.0 h
-plain_small ss names (Apply x ts) fit h = absurd fit

@@ -13,7 +13,8 @@ use Rattle.binding_kinds.specs.Faults.{extended, senses_after}
 use Rattle.binding_kinds.specs.Verdict.{or_else}
 use Rattle.binding_kinds.specs.First.{first_of_item, first}
 use Rattle.binding_kinds.specs.Fits.{AreKnown, IsFitClause}
-use Rattle.binding_kinds.proofs.Fitting.{fit_item, known_item, same_senses}
+use Rattle.binding_kinds.proofs.Fitting.{same_senses}
+use Rattle.binding_kinds.proofs.Fitted.{fit_item, known_item}
 use Rattle.binding_graph.specs.declared.resolved.ResolvedItem.{ResolvedItem}
 use Rattle.binding_graph.specs.Resolved.{IsResolvedIn, AreResolved}
 
@@ -40,7 +41,7 @@ still_empty names gs c plain h = rw (same_senses [] names c plain) at h
 -- the names of the item after it, where it has no fault
 pub fit_next : (before after : List Entry) (i : ℕ) (c : Clause) (f : Option ModelFault) → AreKnown (reverse (map entry_of before)) → f ≡ None → f ≡ first_of_item [] (reverse (map entry_of before)) i c
     → reverse (map entry_of after) ≡ extended [] (reverse (map entry_of before)) i c → take (length before) after ≡ before → IsFitClause [] (reverse (map entry_of (take (length before) after))) (reverse (map entry_of after)) c
-fit_next before after i c f known none is names kept = rw (kept, names) (fit_item (reverse (map entry_of before)) i c known (sym is ∙ none))
+fit_next before after i c f known none is names kept = rw (kept, names) (fit_item [] (reverse (map entry_of before)) i c known (sym is ∙ none))
 
 drop_next : {X : Type 0} (xs : List X) (i : ℕ) (d : X) → i < length xs → drop i xs ≡ get_or xs i d ∷ drop (i + 1) xs
 drop_next xs i d lt = rw (add-one i) (drop-cons xs i d lt)
@@ -100,7 +101,7 @@ done_more old before after items i d fs gs done all r f lt m functions none is n
     let same : senses_after [] (reverse (map entry_of before)) c ≡ [] = same_senses [] (reverse (map entry_of before)) c plain in
     let one : IsResolvedIn [] (reverse (map entry_of before)) (extended [] (reverse (map entry_of before)) i c) (length (reverse (map entry_of before))) c r = rw (count, ← names) (rw kept at resolved) in
     record {
-      known = rw names (known_item (reverse (map entry_of before)) i c m.known (sym is ∙ none));
+      known = rw names (known_item [] (reverse (map entry_of before)) i c tt m.known (sym is ∙ none));
       empty = rw same at functions;
       plain = rest_plain items i d lt m.plain;
       all = λ rs h.

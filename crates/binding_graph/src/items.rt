@@ -6,7 +6,7 @@ ghost use Rattle.binding_kinds.specs.Value.{entry_of, clause_of, bound_of, AreNo
 ghost use Rattle.binding_kinds.specs.Senses.{Sense, AreKept};
 ghost use Rattle.binding_kinds.specs.Faults.{HasNoFault, FirstFault};
 ghost use Rattle.binding_kinds.specs.First.{first};
-ghost use Rattle.binding_kinds.specs.Fits.{IsPlain, IsFit, AreFit, IsFitClause, AreKnown};
+ghost use Rattle.binding_kinds.specs.Fits.{IsPlain, ArePlain, IsPlainClause, AreSound, IsFit, AreFit, IsFitClause, AreKnown};
 ghost use Rattle.binding_kinds.specs.Outermost.{naming_of};
 ghost use Rattle.binding_graph.specs.Refusals.{IfRefused};
 ghost use Rattle.binding_graph.specs.Inputs.{IsIndexed, with_uses, with_all_uses, inputs_of};
@@ -130,7 +130,7 @@ fn lower_item(
     from: usize,
     item: &Item,
 ) -> Result<ResolvedItem, AllocError>
-    ensures resolved { let names = reverse (map entry_of (take from scope.now.entries.items)) in let own = reverse (map entry_of scope.now.entries.items) in (senses : List Sense) → AreKept scope.now.functions.items senses → from ≤ vec_len scope.now.entries → IsFitClause senses names own (clause_of item.now) → IfOk result (λ r. IsResolvedIn senses names own from (clause_of item.now) r) }
+    ensures resolved { let names = reverse (map entry_of (take from scope.now.entries.items)) in let own = reverse (map entry_of scope.now.entries.items) in (senses : List Sense) → AreKept scope.now.functions.items senses → AreSound senses → IsPlainClause (clause_of item.now) → from ≤ vec_len scope.now.entries → IsFitClause senses names own (clause_of item.now) → IfOk result (λ r. IsResolvedIn senses names own from (clause_of item.now) r) }
     ensures label { IfOk result (λ r. IsLabelledAs item.now r) }
 {
     match item {
@@ -185,9 +185,9 @@ fn code_of(
     term: &Expression,
     uses: &mut Uses,
 ) -> Result<Code, AllocError>
-    ensures code { (senses : List Sense) → AreKept sight.now.functions.now senses → sight.now.parameters.now ≡ [] → IsPlain (term_of term.now) → IsIndexed uses.old.places.items uses.old.values.items → length sight.now.entries.now ≤ vec_len uses.old.places → IsFit senses (reverse (map entry_of sight.now.entries.now)) (term_of term.now) → IfOk result (λ c. IsCode senses (reverse (map entry_of sight.now.entries.now)) (reverse uses.new.values.items) sight.now.from (term_of term.now) c) }
+    ensures code { (senses : List Sense) → AreKept sight.now.functions.now senses → AreSound senses → sight.now.parameters.now ≡ [] → IsIndexed uses.old.places.items uses.old.values.items → IsFit senses (reverse (map entry_of sight.now.entries.now)) (term_of term.now) → IfOk result (λ c. IsCode senses (reverse (map entry_of sight.now.entries.now)) (reverse uses.new.values.items) sight.now.from (term_of term.now) c) }
     ensures uses { sight.now.parameters.now ≡ [] → IsPlain (term_of term.now) → IsIndexed uses.old.places.items uses.old.values.items → length sight.now.entries.now ≤ vec_len uses.old.places → OnOk result (reverse uses.new.values.items ≡ with_uses (reverse (map entry_of sight.now.entries.now)) sight.now.from (term_of term.now) (reverse uses.old.values.items)) }
-    ensures indexed { sight.now.parameters.now ≡ [] → IsPlain (term_of term.now) → IsIndexed uses.old.places.items uses.old.values.items → length sight.now.entries.now ≤ vec_len uses.old.places → OnOk result (IsIndexed uses.new.places.items uses.new.values.items) }
+    ensures indexed { IsIndexed uses.old.places.items uses.old.values.items → OnOk result (IsIndexed uses.new.places.items uses.new.values.items) }
     ensures places { sight.now.parameters.now ≡ [] → IsPlain (term_of term.now) → IsIndexed uses.old.places.items uses.old.values.items → length sight.now.entries.now ≤ vec_len uses.old.places → OnOk result (vec_len uses.new.places ≡ vec_len uses.old.places) }
 {
     uses.add_term(sight, term)?;
@@ -203,8 +203,8 @@ fn lower_bodies(
     group: &[Binding],
     uses: &mut Uses,
 ) -> Result<Vec<Body>, AllocError>
-    ensures bodies { (senses : List Sense) → AreKept sight.now.functions.now senses → sight.now.parameters.now ≡ [] → AreFit senses (reverse (map entry_of sight.now.entries.now)) (map bound_of group.now) → IsIndexed uses.old.places.items uses.old.values.items → length sight.now.entries.now ≤ vec_len uses.old.places → IfOk result (λ v. AreBodies senses (reverse (map entry_of sight.now.entries.now)) sight.now.from (reverse uses.old.values.items) (map bound_of group.now) v.items) }
-    ensures uses { (senses : List Sense) → AreKept sight.now.functions.now senses → sight.now.parameters.now ≡ [] → AreFit senses (reverse (map entry_of sight.now.entries.now)) (map bound_of group.now) → IsIndexed uses.old.places.items uses.old.values.items → length sight.now.entries.now ≤ vec_len uses.old.places → OnOk result (reverse uses.new.values.items ≡ with_all_uses (reverse (map entry_of sight.now.entries.now)) sight.now.from (map bound_of group.now) (reverse uses.old.values.items)) }
+    ensures bodies { (senses : List Sense) → AreKept sight.now.functions.now senses → AreSound senses → ArePlain (map bound_of group.now) → sight.now.parameters.now ≡ [] → AreFit senses (reverse (map entry_of sight.now.entries.now)) (map bound_of group.now) → IsIndexed uses.old.places.items uses.old.values.items → length sight.now.entries.now ≤ vec_len uses.old.places → IfOk result (λ v. AreBodies senses (reverse (map entry_of sight.now.entries.now)) sight.now.from (reverse uses.old.values.items) (map bound_of group.now) v.items) }
+    ensures uses { (senses : List Sense) → AreKept sight.now.functions.now senses → AreSound senses → ArePlain (map bound_of group.now) → sight.now.parameters.now ≡ [] → AreFit senses (reverse (map entry_of sight.now.entries.now)) (map bound_of group.now) → IsIndexed uses.old.places.items uses.old.values.items → length sight.now.entries.now ≤ vec_len uses.old.places → OnOk result (reverse uses.new.values.items ≡ with_all_uses (reverse (map entry_of sight.now.entries.now)) sight.now.from (map bound_of group.now) (reverse uses.old.values.items)) }
 {
     let mut bodies = Vec::new(alloc);
     for binding in group {
@@ -225,8 +225,8 @@ fn lower_group(
     recursive: bool,
     group: &[Binding],
 ) -> Result<ResolvedItem, AllocError>
-    ensures all { let names = reverse (map entry_of scope.now.entries.items) in (senses : List Sense) → AreKept scope.now.functions.items senses → recursive ≡ true → AreFit senses names (map bound_of group.now) → IfOk result (λ r. IsGroup senses names from true (map bound_of group.now) r) }
-    ensures before { let names = reverse (map entry_of (take from scope.now.entries.items)) in (senses : List Sense) → AreKept scope.now.functions.items senses → recursive ≡ false → from ≤ vec_len scope.now.entries → AreFit senses names (map bound_of group.now) → IfOk result (λ r. IsGroup senses names from false (map bound_of group.now) r) }
+    ensures all { let names = reverse (map entry_of scope.now.entries.items) in (senses : List Sense) → AreKept scope.now.functions.items senses → AreSound senses → ArePlain (map bound_of group.now) → recursive ≡ true → AreFit senses names (map bound_of group.now) → IfOk result (λ r. IsGroup senses names from true (map bound_of group.now) r) }
+    ensures before { let names = reverse (map entry_of (take from scope.now.entries.items)) in (senses : List Sense) → AreKept scope.now.functions.items senses → AreSound senses → ArePlain (map bound_of group.now) → recursive ≡ false → from ≤ vec_len scope.now.entries → AreFit senses names (map bound_of group.now) → IfOk result (λ r. IsGroup senses names from false (map bound_of group.now) r) }
 {
     let sight = sight_of(scope, from, recursive);
     let mut uses = Uses::new(alloc, scope)?;
@@ -246,7 +246,7 @@ fn lower_check(
     check: &Check,
     flag: Option<Name>,
 ) -> Result<ResolvedItem, AllocError>
-    ensures code { let names = reverse (map entry_of (take from scope.now.entries.items)) in (senses : List Sense) → AreKept scope.now.functions.items senses → from ≤ vec_len scope.now.entries → IsFit senses names (term_of check.now.body) → IfOk result (λ r. IsCheck senses names from check.now.word (term_of check.now.body) r) }
+    ensures code { let names = reverse (map entry_of (take from scope.now.entries.items)) in (senses : List Sense) → AreKept scope.now.functions.items senses → AreSound senses → IsPlain (term_of check.now.body) → from ≤ vec_len scope.now.entries → IsFit senses names (term_of check.now.body) → IfOk result (λ r. IsCheck senses names from check.now.word (term_of check.now.body) r) }
     ensures label { IfOk result (λ r. IsLabelled check.now.negated flag r.role) }
 {
     let sight = sight_of(scope, from, false);

@@ -96,14 +96,14 @@ kept_none (g ∷ fs) [] i h e = absurd h
 kept_none (g ∷ fs) (s ∷ ss) zero h e = absurd (let n : Some g ≡ None = e in cc)
 kept_none (g ∷ fs) (s ∷ ss) (suc i) h e = kept_none fs ss i h.1 e
 
-kept_back : (fs : List Function) (ss : List Sense) (i : ℕ) (s : Sense) → AreKept fs ss → slice_get ss i ≡ Some s → (f : Function) × IsKept f s
+pub kept_back : (fs : List Function) (ss : List Sense) (i : ℕ) (s : Sense) → AreKept fs ss → slice_get ss i ≡ Some s → (f : Function) × IsKept f s
 kept_back [] [] i s h e = absurd (let n : None ≡ Some s = e in cc)
 kept_back [] (t ∷ ss) i s h e = absurd h
 kept_back (g ∷ fs) [] i s h e = absurd h
 kept_back (g ∷ fs) (t ∷ ss) zero s h e = let same : t ≡ s = cc in (g, subst (λ x. IsKept g x) same h.0)
 kept_back (g ∷ fs) (t ∷ ss) (suc i) s h e = kept_back fs ss i s h.1 e
 
-long_sizes : (ss : List Sense) (names : List Naming) (ts : Terms) → length (sizes_in ss names ts) ≡ count_of ts
+pub long_sizes : (ss : List Sense) (names : List Naming) (ts : Terms) → length (sizes_in ss names ts) ≡ count_of ts
 long_sizes ss names NoTerm = refl
 long_sizes ss names (OneMore a others) = ap suc (long_sizes ss names others)
 

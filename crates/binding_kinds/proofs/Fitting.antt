@@ -22,15 +22,15 @@ use Rattle.binding_kinds.specs.Formula.{Formula, Value, Parameter, Everything, N
 use Rattle.binding_kinds.specs.Functions.{bound_formula, named_formula, formula_in}
 
 -- where there is neither fault
-none_first : (o q : Option ModelFault) → or_else o q ≡ None → o ≡ None
+pub none_first : (o q : Option ModelFault) → or_else o q ≡ None → o ≡ None
 none_first None q e = refl
 none_first (Some k) q e = e
 
-none_later : (o q : Option ModelFault) → or_else o q ≡ None → q ≡ None
+pub none_later : (o q : Option ModelFault) → or_else o q ≡ None → q ≡ None
 none_later None q e = e
 none_later (Some k) q e = absurd (let f : Some k ≡ None = e in cc)
 
-holds : (b : Bool) (k : ModelFault) → unless b k ≡ None → IsTrue b
+pub holds : (b : Bool) (k : ModelFault) → unless b k ≡ None → IsTrue b
 holds true k e = search rules
 holds false k e = absurd (let f : Some k ≡ None = e in cc)
 
@@ -63,43 +63,9 @@ known_use (binders.Predefined p) k from under slot h e = (tt, h)
 known_use (binders.Bound i) k from under slot h e = (tt, h)
 known_use (binders.Applicable f) k from under slot h e = absurd (let g : Some faults.Arity ≡ None = e in cc)
 
-known_name : (names : List Naming) (x : List ℕ) (from : ℕ) (under : Bool) (o : Option Found) → AreKnown names → found names x ≡ o → of_name from under o ≡ None → IsKnownValue o
+pub known_name : (names : List Naming) (x : List ℕ) (from : ℕ) (under : Bool) (o : Option Found) → AreKnown names → found names x ≡ o → of_name from under o ≡ None → IsKnownValue o
 known_name names x from under None h is e = absurd (let g : Some faults.Unbound ≡ None = e in cc)
 known_name names x from under (Some f) h is e = known_use f.binder f.kind from under f.slot (known_found names x f h is) e
-
--- where there are no functions, an application is at fault
-no_sense : (n : ℕ) (o : Option Found) → (k : ModelFault) × (sense_of [] n o ≡ Err k)
-no_sense n None = (faults.Unbound, refl)
-no_sense n (Some f) = at_binder f.binder
-  where
-    at_binder : (b : Binder) → (k : ModelFault) × (sense_of_binder [] n b ≡ Err k)
-    at_binder (binders.Predefined p) = (faults.Arity, refl)
-    at_binder (binders.Bound i) = (faults.Arity, refl)
-    at_binder (binders.Applicable g) = (faults.Arity, refl)
-
--- an expression without fault, where there are no functions
-pub fit : (names : List Naming) (from : ℕ) (under : Bool) (t : Term) → AreKnown names → first_within [] names from under t ≡ None → IsFit [] names t
-fit names from under (Atom x) h e = known_name names x from under (found names x) h refl e
-fit names from under AllEvents h e = tt
-fit names from under EmptyRelation h e = tt
-fit names from under EmptySet h e = tt
-fit names from under (Join op a b) h e =
-    let rest = none_later (first_within [] names from under a) _ e in
-    let here = none_first (unless (takes op (kind_in [] names a) (kind_in [] names b)) faults.Kind) _ rest in (
-      fit names from under a h (none_first _ _ e),
-      fit names from (is_turned op under) b h (none_later (unless (takes op (kind_in [] names a) (kind_in [] names b)) faults.Kind) _ rest),
-      holds _ faults.Kind here,
-    )
-fit names from under (Mark op a) h e =
-    (fit names from under a h (none_first _ _ e), holds (is_relation (kind_in [] names a)) faults.Kind (none_later (first_within [] names from under a) _ e))
-fit names from under (Not a) h e = fit names from true a h e
-fit names from under (On a) h e =
-    (fit names from under a h (none_later (unless (is_set (kind_in [] names a)) faults.Kind) _ e), holds (is_set (kind_in [] names a)) faults.Kind (none_first _ (first_within [] names from under a) e))
-fit names from under (Apply x ts) h e =
-    let s = no_sense (count_of ts) (found names x) in
-    let there : Some s.0 ≡ None =
-    sym (ap (λ f. fault_applied f (sizes_in [] names ts) (kinds_in [] names ts) (first_among [] names from under (under_of f) 0 ts)) s.1) ∙ e in
-    cc
 
 joined_known : (op : Infix) (k l : Kind) → IsKnown k → IsKnown l → IsTrue (takes op k l) → IsKnown (joined op k l)
 joined_known Union OfSet OfSet k l t = tt
@@ -141,65 +107,9 @@ narrowed_known OfSet k t = tt
 narrowed_known OfRelation k t = cc
 narrowed_known OfAny k t = absurd k
 
-known_value : (o : Option Found) → IsKnownValue o → IsKnown (kind_found o)
+pub known_value : (o : Option Found) → IsKnownValue o → IsKnown (kind_found o)
 known_value None h = absurd h
 known_value (Some f) h = h.1
-
--- what fits is a set or a relation
-pub fit_known : (ss : List Sense) (names : List Naming) (t : Term) → IsFit ss names t → IsKnown (kind_in ss names t)
-fit_known ss names (Atom x) h = known_value (found names x) h
-fit_known ss names AllEvents h = tt
-fit_known ss names EmptyRelation h = tt
-fit_known ss names EmptySet h = tt
-fit_known ss names (Join op a b) h = joined_known op (kind_in ss names a) (kind_in ss names b) (fit_known ss names a h.0) (fit_known ss names b h.1) h.2
-fit_known ss names (Mark op a) h = marked_known (kind_in ss names a) (fit_known ss names a h.0) h.1
-fit_known ss names (Not a) h = fit_known ss names a h
-fit_known ss names (On a) h = narrowed_known (kind_in ss names a) (fit_known ss names a h.0) h.1
-fit_known ss names (Apply x ts) h = absurd h
-
--- what fits applies no function
-pub fit_plain : (ss : List Sense) (names : List Naming) (t : Term) → IsFit ss names t → IsPlain t
-fit_plain ss names (Atom x) h = tt
-fit_plain ss names AllEvents h = tt
-fit_plain ss names EmptyRelation h = tt
-fit_plain ss names EmptySet h = tt
-fit_plain ss names (Join op a b) h = (fit_plain ss names a h.0, fit_plain ss names b h.1)
-fit_plain ss names (Mark op a) h = fit_plain ss names a h.0
-fit_plain ss names (Not a) h = fit_plain ss names a h
-fit_plain ss names (On a) h = fit_plain ss names a h.0
-fit_plain ss names (Apply x ts) h = absurd h
-
-pub fit_in : (names : List Naming) (from : ℕ) (recursive : Bool) (seen : List (List ℕ)) (bs : List Bound) → AreKnown names → first_in [] names from recursive seen bs ≡ None → AreFit [] names bs
-fit_in names from recursive seen [] h e = tt
-fit_in names from recursive seen (b ∷ bs) h e =
-    let rest = none_later (of_binding [] names recursive seen b) _ e in
-    (fit names from false b.body h (none_first _ _ rest), fit_in names from recursive (b.name ∷ seen) bs h (none_later (first_within [] names from false b.body) _ rest))
-
-known_own : (names : List Naming) (item at : ℕ) (bs : List Bound) → AreKnown names → AreKnown (with_own names item at bs)
-known_own names item at [] h = h
-known_own names item at (b ∷ bs) h = known_own _ item (suc at) bs (tt, h)
-
-known_all : (ss : List Sense) (outer : List Naming) (item at : ℕ) (bs : List Bound) (names : List Naming) → AreKnown names → AreFit ss outer bs → AreKnown (with_all ss outer names item at bs)
-known_all ss outer item at [] names h f = h
-known_all ss outer item at (b ∷ bs) names h f =
-    let n : Naming = record { name = b.name; kind = kind_in ss outer b.body; binder = binders.Bound (record { item = item; position = at }) } in
-    known_all ss outer item (suc at) bs (n ∷ names) (fit_known ss outer b.body f.0, h) f.1
-
--- an item without fault fits
-pub fit_item : (names : List Naming) (item : ℕ) (c : Clause) → AreKnown names → first_of_item [] names item c ≡ None → IsFitClause [] names (extended [] names item c) c
-fit_item names item (Group true bs) h e = fit_in (with_own names item 0 bs) (length names) true [] bs (known_own names item 0 bs h) e
-fit_item names item (Group false bs) h e = fit_in names (length names) false [] bs h e
-fit_item names item (Check w b) h e = fit names (length names) false b h (none_later (unless (takes_body w (kind_in [] names b)) faults.Kind) _ e)
-fit_item names item Mute h e = tt
-fit_item names item (Defined n ps b) h e = tt
-
--- its names are known
-pub known_item : (names : List Naming) (item : ℕ) (c : Clause) → AreKnown names → first_of_item [] names item c ≡ None → AreKnown (extended [] names item c)
-known_item names item (Group true bs) h e = known_own names item 0 bs h
-known_item names item (Group false bs) h e = known_all [] names item 0 bs names h (fit_in names (length names) false [] bs h e)
-known_item names item (Check w b) h e = h
-known_item names item Mute h e = h
-known_item names item (Defined n ps b) h e = (tt, h)
 
 -- an item that defines no function leaves the functions as they are
 pub same_senses : (ss : List Sense) (names : List Naming) (c : Clause) → IsNoFunction c → senses_after ss names c ≡ ss
@@ -220,32 +130,3 @@ typed_known ks (Joined op a b) h = joined_known op (kind_of ks a) (kind_of ks b)
 typed_known ks (Marked op a) h = marked_known (kind_of ks a) (typed_known ks a h.0) h.1
 typed_known ks (Complement a) h = typed_known ks a h
 typed_known ks (Identity a) h = narrowed_known (kind_of ks a) (typed_known ks a h.0) h.1
-
-bound_typed : (f : Found) (b : Binder) → IsValue b → IsKnown f.kind → IsTyped [] (bound_formula f b) × (kind_of [] (bound_formula f b) ≡ f.kind)
-bound_typed f (binders.Predefined p) v k = (k, refl)
-bound_typed f (binders.Bound i) v k = (k, refl)
-bound_typed f (binders.Applicable g) v k = absurd v
-
-named_typed : (o : Option Found) → IsKnownValue o → IsTyped [] (named_formula None o) × (kind_of [] (named_formula None o) ≡ kind_found o)
-named_typed None h = absurd h
-named_typed (Some f) h = bound_typed f f.binder h.0 h.1
-
-same_true : (b c : Bool) → b ≡ c → IsTrue c → IsTrue b
-same_true b c e h = rw e h
-
--- what fits is typed, with the same kind
-pub fit_typed : (ss : List Sense) (names : List Naming) (t : Term) → IsFit ss names t → IsTyped [] (formula_in ss names [] t) × (kind_of [] (formula_in ss names [] t) ≡ kind_in ss names t)
-fit_typed ss names (Atom x) h = named_typed (found names x) h
-fit_typed ss names AllEvents h = (tt, refl)
-fit_typed ss names EmptyRelation h = (tt, refl)
-fit_typed ss names EmptySet h = (tt, refl)
-fit_typed ss names (Join op a b) h =
-    let l = fit_typed ss names a h.0 in
-    let r = fit_typed ss names b h.1 in
-    let k : joined op (kind_of [] (formula_in ss names [] a)) (kind_of [] (formula_in ss names [] b)) ≡ joined op (kind_in ss names a) (kind_in ss names b) = rw (l.1, r.1) refl in
-    let t : takes op (kind_of [] (formula_in ss names [] a)) (kind_of [] (formula_in ss names [] b)) ≡ takes op (kind_in ss names a) (kind_in ss names b) = rw (l.1, r.1) refl in
-    ((l.0, r.0, same_true _ _ t h.2), k)
-fit_typed ss names (Mark op a) h = let l = fit_typed ss names a h.0 in ((l.0, same_true _ _ (ap is_relation l.1) h.1), ap marked l.1)
-fit_typed ss names (Not a) h = fit_typed ss names a h
-fit_typed ss names (On a) h = let l = fit_typed ss names a h.0 in ((l.0, same_true _ _ (ap is_set l.1) h.1), ap narrowed l.1)
-fit_typed ss names (Apply x ts) h = absurd h

@@ -9,3 +9,4 @@ pub mod Applications
 pub mod Tables
 pub mod Bodies
 pub mod Sound
+pub mod Fitted

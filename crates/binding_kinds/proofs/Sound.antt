@@ -41,7 +41,7 @@ argument_typed js (f ∷ fs) [] i h k = absurd h
 argument_typed js (f ∷ fs) (l ∷ ks) zero h k = h.0
 argument_typed js (f ∷ fs) (l ∷ ks) (suc i) h k = argument_typed js fs ks i h.1 k
 
-same_true : (b c : Bool) → b ≡ c → IsTrue c → IsTrue b
+pub same_true : (b c : Bool) → b ≡ c → IsTrue c → IsTrue b
 same_true b c e h = rw e h
 
 -- a body is typed with arguments of the kinds with which it is typed, and has the same kind
@@ -67,7 +67,7 @@ typed_long js [] (k ∷ ks) h = absurd h
 typed_long js (f ∷ fs) [] h = absurd h
 typed_long js (f ∷ fs) (k ∷ ks) h = ap suc (typed_long js fs ks h.1)
 
-typed_all_known : (js : List Kind) (fs : List Formula) (ks : List Kind) → AreTyped js fs ks → AreKnownKinds ks
+pub typed_all_known : (js : List Kind) (fs : List Formula) (ks : List Kind) → AreTyped js fs ks → AreKnownKinds ks
 typed_all_known js [] [] h = tt
 typed_all_known js [] (k ∷ ks) h = absurd h
 typed_all_known js (f ∷ fs) [] h = absurd h
@@ -207,3 +207,7 @@ pub function_sound : (ss : List Sense) (names : List Naming) (ps : List (List �
 function_sound ss names ps t sound known e ks long kinds quiet =
     let h = body_typed ss names ps ks sound known long kinds t e quiet in
     (h.0, ap (λ (b : Bool). if b then OfAny else kind_of_body ss names ps ks t) (none_any ks kinds) ∙ h.1)
+
+pub sound_more : (ss : List Sense) (s : Sense) → AreSound ss → IsSound s → AreSound (ss ++ s ∷ [])
+sound_more [] s sound one = (one, tt)
+sound_more (t ∷ ss) s sound one = (sound.0, sound_more ss s sound.1 one)

@@ -1,6 +1,7 @@
 use Rattle.std.proofs.Common.{ℕ, [], ◌≡◌, ◌<◌, ◌≤◌, ◌+◌, ◌∙◌, ap, sym, length, map, reverse, None, arith, vec_len}
 use Rattle.binding_kinds.specs.Value.{clause_of, entry_of}
 use Rattle.binding_graph.proofs.Done.{next_clause, still_empty, fit_next, searched_more, searched_fault, searched_all, done_more, all_done, from_fits, none_of}
+use Rattle.binding_kinds.proofs.Fitted.{plain_clause}
 use Rattle.binding_graph.proofs.Labels.{labels_more, labels_all}
 use Rattle.binding_graph.proofs.items.find_items.Goals as goal
 
@@ -27,7 +28,7 @@ loop-place-preserved c =
           let room : length before ≤ vec_len c.item_fault.new.scope.entries = omega (arith, from_fits before after kept) in
           let fit = fit_next before after c.loop-place.place (clause_of d) c.in_ok-fault.fault m.known none first names kept in
           let empty_now = still_empty (reverse (map entry_of before)) c.item_fault.new.scope.functions.items (clause_of d) (rw (← is) at (next_clause c.args.items.now c.loop-place.place d lt m.plain)) functions in
-          let resolved = (rw from at c.in_ok-one.ensures.resolved) [] empty_now room fit in
+          let resolved = (rw from at c.in_ok-one.ensures.resolved) [] empty_now tt (plain_clause _ _ (clause_of d) fit) room fit in
           done_more _ before after c.args.items.now c.loop-place.place d _ _ _ _ c.in_ok-one.one c.in_ok-fault.fault lt m (rw (← is) functions) none (rw (← is) first) (rw (← is) names) kept (rw (← is) resolved) c.in_ok-push_item.ensures.items;
       labels = labels_more c.args.items.now c.loop-place.place d c.loop-place.resolved.items _ c.in_ok-one.one lt c.loop-place.invariant.labels (rw (← is) c.in_ok-one.ensures.label) c.in_ok-push_item.ensures.items;
     }
