@@ -1,15 +1,11 @@
 -- What a name with arguments in a body stands for.
-use Rattle.std.proofs.Common.{ℕ, ◌≡◌, ◌<◌, ◌≤◌, ◌+◌, suc, List, [], ◌∷◌, ◌++◌, append_assoc, length, set, get_or, map, reverse, drop, Bool, true, false, ◌||◌, ◌&&◌, Option, Some, None, Result, Ok, Err, refl, sym, ap, ◌∙◌, arith, add-one, inl, inr, ◌⊎◌, Vec, Global, subst}
-use Rattle.std.specs.Prelude.{OnOk, nat_eq, slice_get, if◌then◌else◌, is_some, option_map}
-use Rattle.std.proofs.lemmas.Bool.{cases_eq, eqb-true, eq-eqb}
-use Rattle.std.proofs.lemmas.Grind.{get_or-set_at}
-use Rattle.std.proofs.lemmas.List.{get_or-set_other, drop_all, length-set}
+use Rattle.std.proofs.Common.{ℕ, ◌≡◌, ◌<◌, ◌+◌, List, length, get_or, map, reverse, drop, Bool, true, false, Option, Some, None, Result, Ok, Err, refl, sym, ap, ◌∙◌, subst}
+use Rattle.std.specs.Prelude.{nat_eq, slice_get, if◌then◌else◌, option_map}
+use Rattle.std.proofs.lemmas.Bool.{eqb-true}
 use Rattle.std.proofs.lemmas.Option.{slice_get-map}
 use Rattle.cat_values.specs.declared.model.Expression.{Expression}
-use Rattle.cat_values.specs.declared.model.Expression.TheVariants as expressions
 use Rattle.cat_values.specs.Values.{term_of}
-use Rattle.cat_values.specs.Value.{Term, Terms, Apply, gathered}
-use Rattle.cat_values.proofs.Arguments.{applied_term}
+use Rattle.cat_values.specs.Value.{Terms, gathered}
 use Rattle.binding_kinds.specs.declared.fault.ModelFault.{ModelFault}
 use Rattle.binding_kinds.specs.declared.fault.ModelFault.TheVariants as faults
 use Rattle.binding_kinds.specs.declared.function.Function.{Function}
@@ -22,9 +18,9 @@ use Rattle.binding_kinds.specs.Meanings.{parameter_of}
 use Rattle.binding_kinds.specs.Verdict.{or_else}
 use Rattle.binding_kinds.specs.First.{first_of_body, first_of_bodies}
 use Rattle.binding_kinds.specs.Applicable.{applied, applied_binder, applied_found, applied_of}
-use Rattle.binding_kinds.specs.Senses.{Sense, IsKept, AreKept, with_arity, sense_of_binder, sense_of, count_of}
-use Rattle.binding_kinds.specs.Functions.{sense_seen, under_at, is_under_in, is_under_among}
-use Rattle.binding_kinds.proofs.Applications.{kept_at, kept_none, next, count_arguments, or_else_assoc}
+use Rattle.binding_kinds.specs.Senses.{Sense, IsKept, AreKept, with_arity, sense_of_binder, sense_of}
+use Rattle.binding_kinds.specs.Functions.{sense_seen}
+use Rattle.binding_kinds.proofs.Applications.{kept_at, kept_none, next, or_else_assoc}
 
 abbrev pub terms_in : List Expression → Terms
 terms_in xs = gathered (map term_of xs)

@@ -1,5 +1,5 @@
 -- Templates as they grow, and the body of a function with arguments in the places of its parameters.
-use Rattle.std.proofs.Common.{ℕ, zero, suc, ◌≡◌, ◌<◌, ◌≤◌, ◌+◌, ◌⊎◌, inl, inr, List, [], ◌∷◌, ◌++◌, append_assoc, length, map, take, drop, get_or, Bool, true, false, ◌||◌, Option, Some, None, Result, Ok, Err, Vec, Global, refl, sym, ap, ◌∙◌, subst, arith, length-append}
+use Rattle.std.proofs.Common.{ℕ, zero, suc, ◌≡◌, ◌<◌, ◌≤◌, ◌+◌, ◌⊎◌, inl, inr, List, [], ◌∷◌, ◌++◌, append_assoc, length, map, take, get_or, Bool, true, false, ◌||◌, Option, Some, None, Result, Ok, Err, Vec, Global, refl, sym, ap, ◌∙◌, subst, arith, length-append}
 use Rattle.std.specs.Prelude.{slice_get, nat_lt, nat_eq, bytes_eq, cond, reverse, if◌then◌else◌, OnOk, IfOk}
 use Rattle.std.specs.List.{AllZip, count_by}
 use Rattle.std.proofs.lemmas.List.{append-nil, take_more, take_all, map-append, length-reverse}
@@ -7,8 +7,6 @@ use Rattle.std.proofs.lemmas.List.Sums.{sum_by-append}
 use Rattle.std.proofs.lemmas.Bool.{ltb-true}
 use Rattle.cat_values.specs.declared.model.Expression.{Expression}
 use Rattle.cat_values.specs.declared.model.Expression.TheVariants as expressions
-use Rattle.cat_values.specs.declared.model.Infix.{Infix}
-use Rattle.cat_values.specs.declared.model.Postfix.{Postfix}
 use Rattle.cat_values.specs.Values.{term_of}
 use Rattle.cat_values.specs.Value.{Term, Terms, Atom, AllEvents, EmptyRelation, EmptySet, Join, Mark, Not, On, Apply, NoTerm, OneMore, gathered}
 use Rattle.cat_values.proofs.Arguments.{applied_term}
@@ -18,7 +16,6 @@ use Rattle.binding_kinds.specs.declared.scope.Binder.{Binder}
 use Rattle.binding_kinds.specs.declared.scope.Binder.TheVariants as binders
 use Rattle.binding_kinds.specs.declared.function.Piece.{Piece}
 use Rattle.binding_kinds.specs.declared.function.Piece.TheVariants as pieces
-use Rattle.binding_kinds.specs.declared.sight.Meaning.{Meaning}
 use Rattle.binding_kinds.specs.declared.sight.Meaning.TheVariants as meanings
 use Rattle.binding_kinds.specs.Value.{Naming}
 use Rattle.binding_kinds.specs.Meanings.{parameter_of, meaning_of, meaning_found}
@@ -26,7 +23,6 @@ use Rattle.binding_kinds.specs.Applicable.{is_no_parameter, is_parameter_at}
 use Rattle.binding_kinds.specs.Formula.{Formula, Value, Parameter, Everything, NoPairs, NoEvents, Joined, Marked, Complement, Identity, filled, constant_of, factor_of, HasParameters, postfix}
 use Rattle.binding_kinds.specs.declared.function.Function.{Function}
 use Rattle.binding_kinds.specs.Kinds.{found}
-use Rattle.binding_kinds.specs.Fits.{IsFit}
 use Rattle.binding_kinds.specs.Senses.{Sense, IsKept, count_of}
 use Rattle.binding_kinds.specs.Functions.{sense_seen, named_formula, bound_formula, applied_formula, formula_in, formulas_in}
 use Rattle.binding_kinds.proofs.Applications.{count_arguments}

@@ -1,5 +1,5 @@
 -- The size of an expression is the length of its list in postfix order, with the functions that it applies put in.
-use Rattle.std.proofs.Common.{ℕ, zero, suc, ◌≡◌, ◌<◌, ◌≤◌, ◌+◌, ◌*◌, ◌++◌, List, [], ◌∷◌, length, map, Bool, true, false, Option, Some, None, Result, Ok, Err, refl, sym, ap, ◌∙◌, subst, arith, length-append, inl, inr, ◌⊎◌}
+use Rattle.std.proofs.Common.{ℕ, zero, suc, ◌≡◌, ◌<◌, ◌≤◌, ◌+◌, ◌*◌, ◌++◌, List, [], ◌∷◌, length, Bool, true, false, Option, Some, None, Result, Ok, Err, refl, sym, ap, ◌∙◌, subst, arith, length-append, inl, inr}
 use Rattle.std.specs.Prelude.{nat_eq, if◌then◌else◌, get_or, slice_get}
 use Rattle.std.proofs.Math.Nat.{add-mul}
 use Rattle.std.proofs.lemmas.Bool.{eq-eqb, eqb-true}
@@ -15,10 +15,10 @@ use Rattle.binding_kinds.specs.declared.scope.Binder.TheVariants as binders
 use Rattle.binding_kinds.specs.Value.{Naming}
 use Rattle.binding_kinds.specs.Kinds.{found}
 use Rattle.binding_kinds.specs.Formula.{Formula, Value, Parameter, Everything, NoPairs, NoEvents, Joined, Marked, Complement, Identity, filled, constant_of, factor_of, HasParameters, postfix}
-use Rattle.binding_kinds.specs.Senses.{Sense, AreKept, sense_of_binder, sense_of, with_arity, count_of, size_of_arguments, size_with, size_applied, size_in, sizes_in, kinds_in}
-use Rattle.binding_kinds.specs.Functions.{sense_seen, bound_formula, named_formula, applied_formula, formula_in, formulas_in}
+use Rattle.binding_kinds.specs.Senses.{Sense, AreKept, sense_of_binder, sense_of, with_arity, count_of, size_of_arguments, size_applied, size_in, sizes_in, kinds_in}
+use Rattle.binding_kinds.specs.Functions.{sense_seen, bound_formula, named_formula, applied_formula, formulas_in}
 use Rattle.binding_kinds.specs.Fits.{IsFitApplied, IsFit}
-use Rattle.binding_kinds.proofs.Applications.{kept_back, long_sizes}
+use Rattle.binding_kinds.proofs.Applications.{kept_back}
 use Rattle.binding_functions.specs.Templates.{pieces_in, HasLarge}
 
 args_none : (place : ℕ) (sizes : List ℕ) → size_of_arguments (λ p. 0) place sizes ≡ 0

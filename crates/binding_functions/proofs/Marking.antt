@@ -1,30 +1,18 @@
 -- The parameters that stand under a complement are marked.
-use Rattle.std.proofs.Common.{ℕ, ◌≡◌, ◌<◌, ◌≤◌, ◌+◌, suc, List, [], ◌∷◌, ◌++◌, append_assoc, length, set, get_or, map, reverse, drop, Bool, true, false, ◌||◌, ◌&&◌, Option, Some, None, Result, Ok, Err, refl, sym, ap, ◌∙◌, arith, add-one, inl, inr, ◌⊎◌, Vec, Global, subst}
-use Rattle.std.specs.Prelude.{OnOk, nat_eq, slice_get, if◌then◌else◌, is_some, option_map}
+use Rattle.std.proofs.Common.{ℕ, ◌≡◌, ◌<◌, ◌≤◌, ◌+◌, suc, List, length, set, get_or, drop, Bool, true, false, ◌||◌, ◌&&◌, Option, Some, None, refl, sym, ap, ◌∙◌, arith, add-one, inl, inr, ◌⊎◌, Vec, Global}
+use Rattle.std.specs.Prelude.{nat_eq, is_some}
 use Rattle.std.proofs.lemmas.Bool.{cases_eq, eqb-true, eq-eqb}
 use Rattle.std.proofs.lemmas.Grind.{get_or-set_at}
 use Rattle.std.proofs.lemmas.List.{get_or-set_other, drop_all, length-set}
-use Rattle.std.proofs.lemmas.Option.{slice_get-map}
 use Rattle.cat_values.specs.declared.model.Expression.{Expression}
 use Rattle.cat_values.specs.declared.model.Expression.TheVariants as expressions
 use Rattle.cat_values.specs.Values.{term_of}
-use Rattle.cat_values.specs.Value.{Term, Terms, Apply, gathered}
+use Rattle.cat_values.specs.Value.{Term, Terms, Apply}
 use Rattle.cat_values.proofs.Arguments.{applied_term}
-use Rattle.binding_kinds.specs.declared.fault.ModelFault.{ModelFault}
-use Rattle.binding_kinds.specs.declared.fault.ModelFault.TheVariants as faults
-use Rattle.binding_kinds.specs.declared.function.Function.{Function}
-use Rattle.binding_kinds.specs.declared.scope.Found.{Found}
-use Rattle.binding_kinds.specs.declared.scope.Binder.{Binder}
-use Rattle.binding_kinds.specs.declared.scope.Binder.TheVariants as binders
 use Rattle.binding_kinds.specs.Value.{Naming}
-use Rattle.binding_kinds.specs.Kinds.{found}
-use Rattle.binding_kinds.specs.Meanings.{parameter_of}
-use Rattle.binding_kinds.specs.Verdict.{or_else}
-use Rattle.binding_kinds.specs.First.{first_of_body, first_of_bodies}
-use Rattle.binding_kinds.specs.Applicable.{applied, applied_binder, applied_found, applied_of}
-use Rattle.binding_kinds.specs.Senses.{Sense, IsKept, AreKept, with_arity, sense_of_binder, sense_of, count_of}
+use Rattle.binding_kinds.specs.Senses.{Sense, count_of}
 use Rattle.binding_kinds.specs.Functions.{sense_seen, under_at, is_under_in, is_under_among}
-use Rattle.binding_kinds.proofs.Applications.{kept_at, kept_none, next, count_arguments, or_else_assoc}
+use Rattle.binding_kinds.proofs.Applications.{next, count_arguments}
 use Rattle.binding_functions.specs.Marks.{AreMarked}
 use Rattle.binding_functions.proofs.Applied.{terms_in}
 

@@ -1,25 +1,23 @@
 -- Expressions without fault fit, with the functions that they apply put in.
-use Rattle.std.proofs.Common.{ℕ, ◌≡◌, ◌<◌, ◌≤◌, ◌||◌, ◌⊎◌, inl, inr, subst, ◌∙◌, suc, List, [], ◌∷◌, length, Bool, true, false, IsTrue, Option, Some, None, Result, Ok, Err, refl, sym, ap, arith, rules}
+use Rattle.std.proofs.Common.{ℕ, ◌≡◌, ◌<◌, ◌≤◌, ◌||◌, ◌⊎◌, inl, inr, subst, ◌∙◌, suc, List, [], ◌∷◌, length, Bool, true, false, Option, Some, None, Result, Ok, Err, refl, sym, ap}
 use Rattle.std.specs.Prelude.{if◌then◌else◌, nat_lt, not}
 use Rattle.std.proofs.lemmas.Bool.{cases_lt, lt-ltb, le-ltb}
-use Rattle.cat_values.specs.declared.model.Infix.{Infix}
-use Rattle.cat_values.specs.declared.model.Infix.TheVariants.{Union, Sequence, Difference, Intersection, Product}
 use Rattle.binding_kinds.specs.declared.fault.ModelFault.{ModelFault}
 use Rattle.binding_kinds.specs.declared.fault.ModelFault.TheVariants as faults
 use Rattle.binding_kinds.specs.declared.kinds.Kind.{Kind}
-use Rattle.binding_kinds.specs.declared.kinds.Kind.TheVariants.{OfSet, OfRelation, OfAny}
+use Rattle.binding_kinds.specs.declared.kinds.Kind.TheVariants.{OfAny}
 use Rattle.binding_kinds.specs.declared.scope.Found.{Found}
 use Rattle.binding_kinds.specs.declared.scope.Binder.{Binder}
 use Rattle.binding_kinds.specs.declared.scope.Binder.TheVariants as binders
 use Rattle.cat_values.specs.Value.{Term, Terms, Atom, AllEvents, EmptyRelation, EmptySet, Join, Mark, Not, On, Apply, NoTerm, OneMore}
-use Rattle.binding_kinds.specs.Value.{Naming, Bound, Clause, Group, Check, Mute, Defined, IsNoFunction}
+use Rattle.binding_kinds.specs.Value.{Naming, Bound, Clause, Group, Check, Mute, Defined}
 use Rattle.binding_kinds.specs.Kinds.{found, takes, takes_body, is_relation, is_set, is_turned, joined, marked, narrowed, kind_found}
 use Rattle.binding_kinds.specs.Senses.{Sense, size_with, sense_of_binder, sense_of, count_of, sizes_in, kind_in, kinds_in, kind_applied, fault_applied, first_within, first_among, under_of}
 use Rattle.binding_kinds.specs.Faults.{with_own, with_all, extended, senses_after}
-use Rattle.binding_kinds.specs.Verdict.{or_else, unless, of_use, of_name, of_parameters}
+use Rattle.binding_kinds.specs.Verdict.{or_else, unless, of_parameters}
 use Rattle.binding_kinds.specs.First.{of_binding, first_in, first_of_body, first_of_item}
-use Rattle.binding_kinds.specs.Fits.{IsKnown, IsValue, IsKnownValue, IsPlain, ArePlain, IsPlainClause, IsFitApplied, IsFit, AreFitArguments, AreFit, IsSound, AreSound, kind_of, IsTyped, IsKnownUnlessFunction, AreKnown, IsFitClause}
-use Rattle.binding_kinds.specs.Formula.{Formula, Value, Parameter, Everything, NoPairs, NoEvents, Joined, Marked, Complement, Identity}
+use Rattle.binding_kinds.specs.Fits.{IsKnown, IsValue, IsKnownValue, IsPlain, ArePlain, IsPlainClause, IsFitApplied, IsFit, AreFitArguments, AreFit, AreSound, kind_of, IsTyped, AreKnown, IsFitClause}
+use Rattle.binding_kinds.specs.Formula.{Formula}
 use Rattle.binding_kinds.specs.Functions.{sense_seen, bound_formula, named_formula, applied_formula, formula_in, formulas_in, sense_of_function}
 use Rattle.binding_kinds.proofs.Applications.{found_arity}
 use Rattle.binding_kinds.proofs.Fitting.{none_first, none_later, holds, known_name, typed_known}

@@ -1,5 +1,5 @@
 -- Expressions without fault fit.
-use Rattle.std.proofs.Common.{ℕ, ◌≡◌, ◌<◌, ◌∙◌, suc, List, [], ◌∷◌, length, Bool, true, false, IsTrue, Option, Some, None, Result, Ok, Err, refl, sym, ap, arith, rules}
+use Rattle.std.proofs.Common.{ℕ, ◌≡◌, ◌<◌, List, [], ◌∷◌, length, Bool, true, false, IsTrue, Option, Some, None, refl, arith, rules}
 use Rattle.std.specs.Prelude.{if◌then◌else◌, bytes_eq}
 use Rattle.cat_values.specs.declared.model.Infix.{Infix}
 use Rattle.cat_values.specs.declared.model.Infix.TheVariants.{Union, Sequence, Difference, Intersection, Product}
@@ -10,16 +10,13 @@ use Rattle.binding_kinds.specs.declared.kinds.Kind.TheVariants.{OfSet, OfRelatio
 use Rattle.binding_kinds.specs.declared.scope.Found.{Found}
 use Rattle.binding_kinds.specs.declared.scope.Binder.{Binder}
 use Rattle.binding_kinds.specs.declared.scope.Binder.TheVariants as binders
-use Rattle.cat_values.specs.Value.{Term, Atom, AllEvents, EmptyRelation, EmptySet, Join, Mark, Not, On, Apply}
-use Rattle.binding_kinds.specs.Value.{Naming, Bound, Clause, Group, Check, Mute, Defined, IsNoFunction}
-use Rattle.binding_kinds.specs.Kinds.{found, takes, takes_body, is_relation, is_set, is_turned, joined, marked, narrowed, kind_found}
-use Rattle.binding_kinds.specs.Senses.{Sense, with_arity, sense_of_binder, sense_of, count_of, sizes_in, kind_in, kinds_in, fault_applied, first_within, first_among, under_of}
-use Rattle.binding_kinds.specs.Faults.{with_own, with_all, extended, senses_after}
+use Rattle.binding_kinds.specs.Value.{Naming, Clause, Group, Check, Mute, Defined, IsNoFunction}
+use Rattle.binding_kinds.specs.Kinds.{found, takes, is_relation, is_set, joined, marked, narrowed, kind_found}
+use Rattle.binding_kinds.specs.Senses.{Sense}
+use Rattle.binding_kinds.specs.Faults.{senses_after}
 use Rattle.binding_kinds.specs.Verdict.{or_else, unless, of_use, of_name}
-use Rattle.binding_kinds.specs.First.{of_binding, first_in, first_of_item}
-use Rattle.binding_kinds.specs.Fits.{IsKnown, IsValue, IsKnownValue, IsPlain, IsFit, AreFit, kind_of, IsTyped, IsKnownUnlessFunction, AreKnown, IsFitClause}
+use Rattle.binding_kinds.specs.Fits.{IsKnown, IsValue, IsKnownValue, kind_of, IsTyped, IsKnownUnlessFunction, AreKnown}
 use Rattle.binding_kinds.specs.Formula.{Formula, Value, Parameter, Everything, NoPairs, NoEvents, Joined, Marked, Complement, Identity}
-use Rattle.binding_kinds.specs.Functions.{bound_formula, named_formula, formula_in}
 
 -- where there is neither fault
 pub none_first : (o q : Option ModelFault) → or_else o q ≡ None → o ≡ None

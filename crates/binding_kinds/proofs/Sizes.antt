@@ -1,12 +1,11 @@
 -- The size of a body with its parameters counted as the arguments, and the length of the body in postfix order.
-use Rattle.std.proofs.Common.{ℕ, zero, suc, ◌≡◌, ◌<◌, ◌≤◌, ◌+◌, ◌*◌, ◌++◌, List, [], ◌∷◌, length, Bool, true, false, refl, sym, ap, ◌∙◌, arith, length-append, ◌⊎◌, inl, inr}
-use Rattle.std.specs.Prelude.{nat_eq, if◌then◌else◌, get_or}
+use Rattle.std.proofs.Common.{ℕ, suc, ◌≡◌, ◌<◌, ◌≤◌, ◌+◌, ◌*◌, ◌++◌, List, [], ◌∷◌, length, Bool, true, false, refl, arith, length-append, ◌⊎◌, inl, inr}
+use Rattle.std.specs.Prelude.{nat_eq, if◌then◌else◌}
 use Rattle.std.proofs.Math.Nat.{add-mul}
 use Rattle.std.proofs.lemmas.Bool.{eq-eqb, cases_eq, cases_lt}
-use Rattle.binding_kinds.specs.declared.function.Piece.{Piece}
 use Rattle.binding_kinds.specs.declared.function.Piece.TheVariants as pieces
 use Rattle.binding_kinds.specs.declared.function.Function.{Function}
-use Rattle.binding_kinds.specs.Formula.{Formula, Value, Parameter, Everything, NoPairs, NoEvents, Joined, Marked, Complement, Identity, filled, constant_of, factor_of, HasParameters, postfix}
+use Rattle.binding_kinds.specs.Formula.{Formula, Value, Parameter, Everything, NoPairs, NoEvents, Joined, Marked, Complement, Identity, constant_of, factor_of, HasParameters, postfix}
 use Rattle.binding_kinds.specs.Senses.{Sense, size_of_arguments, size_with, ArePositive, IsKept}
 
 args_both : (f g : ℕ → ℕ) (place : ℕ) (sizes : List ℕ) → size_of_arguments (λ p. f p + g p) place sizes ≡ size_of_arguments f place sizes + size_of_arguments g place sizes

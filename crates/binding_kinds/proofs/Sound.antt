@@ -1,8 +1,6 @@
 -- What is said of the kinds of a function holds of its body with the functions that it applies put in.
-use Rattle.std.proofs.Common.{ℕ, zero, suc, ◌≡◌, ◌<◌, ◌≤◌, ◌+◌, ◌*◌, ◌++◌, List, [], ◌∷◌, length, map, reverse, Bool, true, false, ◌||◌, IsTrue, Option, Some, None, Result, Ok, Err, refl, sym, ap, ◌∙◌, subst, arith, length-append, ◌⊎◌, inl, inr, rules}
+use Rattle.std.proofs.Common.{ℕ, zero, suc, ◌≡◌, ◌<◌, ◌++◌, List, [], ◌∷◌, length, reverse, Bool, true, false, ◌||◌, IsTrue, Option, Some, None, Result, Ok, Err, refl, sym, ap, ◌∙◌, subst, arith, rules}
 use Rattle.std.specs.Prelude.{nat_eq, not, if◌then◌else◌, get_or, slice_get}
-use Rattle.std.proofs.lemmas.Bool.{eq-eqb, eqb-true, cases_eq, cases_lt}
-use Rattle.cat_values.specs.declared.model.Infix.{Infix}
 use Rattle.cat_values.specs.Value.{Term, Terms, Atom, AllEvents, EmptyRelation, EmptySet, Join, Mark, Not, On, Apply, NoTerm, OneMore}
 use Rattle.binding_kinds.specs.declared.fault.ModelFault.{ModelFault}
 use Rattle.binding_kinds.specs.declared.fault.ModelFault.TheVariants as faults
@@ -17,10 +15,10 @@ use Rattle.binding_kinds.specs.Combinations.{has_any}
 use Rattle.binding_kinds.specs.Meanings.{parameter_of}
 use Rattle.binding_kinds.specs.Verdict.{or_else}
 use Rattle.binding_kinds.specs.First.{of_inside, of_applied, first_of_body, first_of_bodies}
-use Rattle.binding_kinds.specs.Formula.{Formula, Value, Parameter, Everything, NoPairs, NoEvents, Joined, Marked, Complement, Identity, filled, constant_of, factor_of, HasParameters, postfix}
-use Rattle.binding_kinds.specs.Senses.{Sense, with_arity, sense_of_binder, sense_of, count_of, size_of_arguments}
+use Rattle.binding_kinds.specs.Formula.{Formula, Value, Parameter, Everything, NoPairs, NoEvents, Joined, Marked, Complement, Identity, filled}
+use Rattle.binding_kinds.specs.Senses.{Sense, with_arity, sense_of_binder, sense_of, count_of}
 use Rattle.binding_kinds.specs.Functions.{with_parameters, sense_seen, kind_of_sense, clash_of_sense, kind_of_body, kinds_of_body, clashes_in, clash_among, bound_formula, named_formula, applied_formula, formula_in, formulas_in, sense_of_function}
-use Rattle.binding_kinds.specs.Fits.{IsKnown, IsValue, IsKnownUnlessFunction, AreKnown, kind_of, IsTyped, AreKnownKinds, IsSound, AreSound}
+use Rattle.binding_kinds.specs.Fits.{IsKnown, IsKnownUnlessFunction, AreKnown, kind_of, IsTyped, AreKnownKinds, IsSound, AreSound}
 use Rattle.binding_kinds.proofs.Applications.{found_arity}
 use Rattle.binding_kinds.proofs.Fitting.{typed_known, known_found}
 use Rattle.binding_kinds.proofs.Tables.{parameter_kind, other_kind, parameter_below}

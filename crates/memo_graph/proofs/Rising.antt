@@ -1,6 +1,5 @@
 -- The trees of bodies without fault are monotone.
-use Rattle.std.proofs.Common.{ℕ, ◌≡◌, ◌<◌, ◌≤◌, ◌+◌, ◌⊎◌, inl, inr, zero, suc, List, [], ◌∷◌, length, Bool, true, false, nat_le, Option, Some, None, IsTrue, refl, sym, ap, ◌∙◌, subst, arith, rules}
-use Rattle.std.specs.Prelude.{if◌then◌else◌}
+use Rattle.std.proofs.Common.{ℕ, ◌≡◌, ◌<◌, ◌≤◌, ◌+◌, inl, inr, zero, suc, List, [], ◌∷◌, length, Bool, true, false, nat_le, Option, Some, None, refl, sym, ◌∙◌, subst, arith, rules}
 use Rattle.std.specs.List.{AllByRecursion}
 use Rattle.std.proofs.lemmas.Bool.{leb-true}
 use Rattle.cat_values.specs.declared.model.Infix.{Infix}
@@ -20,7 +19,7 @@ use Rattle.binding_kinds.specs.Formula.{Formula}
 use Rattle.binding_kinds.specs.Senses.{Sense, kind_in, count_of}
 use Rattle.binding_kinds.specs.Functions.{sense_seen, bound_formula, named_formula, applied_formula, formula_in, formulas_in}
 use Rattle.binding_kinds.proofs.Fitting.{same_senses}
-use Rattle.binding_kinds.specs.Faults.{width, with_own, extended, senses_after, IsFaultOfName, IsFaultAt, IsFaultIn, IsFaultOfItem, HasNoFault}
+use Rattle.binding_kinds.specs.Faults.{width, with_own, extended, IsFaultOfName, IsFaultAt, IsFaultIn, IsFaultOfItem, HasNoFault}
 use Rattle.binding_graph.specs.declared.resolved.Body.{Body}
 use Rattle.binding_graph.specs.Inputs.{with_uses}
 use Rattle.binding_graph.specs.Meaning.{source_of, source_of_binder, set_of, relation_of, steps_of}
@@ -29,7 +28,7 @@ use Rattle.binding_graph.specs.declared.resolved.Role.{Role}
 use Rattle.binding_graph.specs.declared.resolved.Role.TheVariants as roles
 use Rattle.binding_graph.specs.declared.resolved.ResolvedItem.{ResolvedItem}
 use Rattle.cat_values.specs.declared.model.CheckWord.{CheckWord}
-use Rattle.binding_graph.specs.Trees.{SetTree, RelTree, NoPair, RelName, rel_code}
+use Rattle.binding_graph.specs.Trees.{SetTree, RelTree, rel_code}
 use Rattle.cat_eval.specs.Least.{IsOutside, IsFixed, IsMonotone, AreMonotone, body}
 use Rattle.cat_eval.specs.Rising.{AreCodes}
 use Rattle.memo_graph.specs.Answers.{AreRising, IsRising}

@@ -1,4 +1,4 @@
-use Rattle.std.proofs.Common.{◌≡◌, ◌≤◌, None, length, map, reverse, sym, ap, ◌∙◌, refl, arith}
+use Rattle.std.proofs.Common.{◌≡◌, ◌≤◌, None, length, map, reverse, sym, ◌∙◌, refl, arith}
 use Rattle.cat_values.specs.Values.{term_of}
 use Rattle.binding_kinds.specs.declared.kinds.Kind.TheVariants.{OfAny}
 use Rattle.binding_kinds.specs.declared.scope.Entry.{Entry}

@@ -1,4 +1,4 @@
-use Rattle.std.proofs.Common.{ℕ, [], reverse, map, subst, List}
+use Rattle.std.proofs.Common.{ℕ, reverse, map, subst, List}
 use Rattle.cat_values.specs.Values.{term_of}
 use Rattle.binding_kinds.specs.Value.{entry_of}
 use Rattle.binding_kinds.proofs.Fitted.{fit_typed, fit_known}

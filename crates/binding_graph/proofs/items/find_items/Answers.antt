@@ -1,6 +1,6 @@
 use Rattle.std.proofs.Common.{ℕ, [], ◌≡◌, ◌<◌, ◌≤◌, ◌+◌, ◌∙◌, ap, sym, length, map, reverse, None, arith, vec_len}
 use Rattle.binding_kinds.specs.Value.{clause_of, entry_of}
-use Rattle.binding_graph.proofs.Done.{next_clause, still_empty, fit_next, searched_more, searched_fault, searched_all, done_more, all_done, from_fits, none_of}
+use Rattle.binding_graph.proofs.Done.{next_clause, still_empty, fit_next, searched_more, searched_all, done_more, all_done, from_fits, none_of}
 use Rattle.binding_kinds.proofs.Fitted.{plain_clause}
 use Rattle.binding_graph.proofs.Labels.{labels_more, labels_all}
 use Rattle.binding_graph.proofs.items.find_items.Goals as goal

@@ -1,4 +1,4 @@
-use Rattle.std.proofs.Common.{◌≡◌, List, map, take, reverse}
+use Rattle.std.proofs.Common.{List, map, take, reverse}
 use Rattle.std.specs.List.{AllZip}
 use Rattle.binding_kinds.specs.Value.{entry_of}
 use Rattle.binding_kinds.specs.Senses.{Sense, AreKept}

@@ -1,5 +1,5 @@
 use Rattle.std.proofs.Common.{◌<◌, ◌+◌, length, refl, arith}
-use Rattle.binding_functions.proofs.Filling.{body_more, body_bounded, body_left, body_done}
+use Rattle.binding_functions.proofs.Filling.{body_more, body_bounded, body_left}
 use Rattle.binding_functions.proofs.template.Template.put_body.Goals as goal
 
 pub returns-then-self : goal.returns-then-self

@@ -1,4 +1,4 @@
-use Rattle.std.proofs.Common.{◌≡◌, ◌<◌, List, length, take}
+use Rattle.std.proofs.Common.{◌<◌, List, length, take}
 use Rattle.std.specs.List.{AllZip}
 use Rattle.binding_kinds.specs.declared.function.Piece.{Piece}
 use Rattle.binding_functions.specs.Templates.{pieces_with, IsTemplate, IsGrown}

@@ -1,9 +1,6 @@
-use Rattle.std.proofs.Common.{◌≡◌, ◌<◌, length, true, false, Some, slice_get, refl, sym, ap, ◌∙◌, arith, inr}
+use Rattle.std.proofs.Common.{length, refl}
 use Rattle.std.proofs.lemmas.Option.{slice_get_read}
-use Rattle.binding_kinds.specs.declared.function.Function.{Function}
-use Rattle.binding_kinds.specs.Formula.{postfix}
-use Rattle.binding_functions.specs.Templates.{pieces_with}
-use Rattle.binding_functions.proofs.Filling.{no_shorter, put_large, put_whole}
+use Rattle.binding_functions.proofs.Filling.{put_large, put_whole}
 use Rattle.binding_functions.proofs.template.Template.put_function.Goals as goal
 
 pub returns-then-one : goal.returns-then-one

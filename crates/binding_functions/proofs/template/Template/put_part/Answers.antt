@@ -1,7 +1,6 @@
-use Rattle.std.proofs.Common.{[], ◌∷◌, length, refl, ap, sym, ◌∙◌}
+use Rattle.std.proofs.Common.{[], ◌∷◌, length, refl, sym}
 use Rattle.std.proofs.lemmas.Option.{slice_get_read, slice_get_past}
 use Rattle.binding_kinds.specs.declared.function.Piece.TheVariants as pieces
-use Rattle.binding_functions.specs.Templates.{piece_with}
 use Rattle.binding_functions.proofs.Filling.{zip_some, zip_none, grown_as, on_ok_as}
 use Rattle.binding_functions.proofs.template.Template.put_part.Goals as goal
 

@@ -1,4 +1,3 @@
-use Rattle.std.proofs.Common.{◌≡◌}
 use Rattle.binding_graph.specs.Inputs.{IsIndexed}
 use Rattle.binding_graph.proofs.uses.Uses.add_function.Given as goal
 
