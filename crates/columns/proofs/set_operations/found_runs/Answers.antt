@@ -1,4 +1,4 @@
-use Rattle.std.proofs.Common.{arith, subst}
+use Rattle.std.proofs.Common.{arith}
 use Rattle.bit_relations.specs.Relation.{IsRelation, no_slot}
 use Rattle.columns.specs.Operations.{FoundPairs}
 use Rattle.columns.proofs.Pushing.{found_step}

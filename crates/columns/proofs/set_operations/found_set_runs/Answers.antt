@@ -1,4 +1,4 @@
-use Rattle.std.proofs.Common.{arith, subst}
+use Rattle.std.proofs.Common.{arith}
 use Rattle.columns.specs.Runs.{no_set}
 use Rattle.bit_relations.specs.Relation.{IsEvents}
 use Rattle.columns.specs.Operations.{FoundEvents}
