@@ -1,12 +1,12 @@
 //! What is handed out to be computed, and what comes back.
 
 ghost use Rattle.std.specs.Prelude.{◌≡◌, ◌≤◌, IfOk, IfErr, length, vec_len, vec_capacity};
-ghost use Rattle.memo_core.specs.Clauses.{IsComputed};
+ghost use Rattle.memo_core.specs.Clauses.{IsComputed, return_from};
 
 use crate::keys::{Held, Key, Node, Output};
 use crate::texts::Texts;
-use crate::work::{put_all, run_node};
-use std::alloc::Global;
+use crate::work::{copy_keys, copy_outputs, copy_values, put_all, run_node};
+use std::alloc::{AllocError, Global};
 use std::sync::{Arc, Wait};
 use value_store::{Store, StoreFault, StoreName, Token};
 
@@ -78,6 +78,35 @@ impl<K: StoreName, T: Texts> Job<K, T> {
         Ok(Done {
             claim,
             node,
+            keys,
+            values,
+            outputs,
+            names,
+        })
+    }
+}
+
+impl<K: StoreName, T: Texts> Done<K, T> {
+    /// The number of the claim that it answers.
+    pub fn claim_number(&self) -> u64
+        ensures { result ≡ self.now.claim }
+    {
+        self.claim
+    }
+
+    /// The same return once more.
+    pub fn copy(&self, alloc: Global) -> Result<Done<K, T>, AllocError>
+        ensures same { IfOk result (λ copy. return_from copy ≡ return_from self.now) }
+        ensures empty { IfOk result (λ copy. vec_len copy.names ≡ 0) }
+        ensures room { IfOk result (λ copy. length copy.outputs.items ≤ vec_capacity copy.names) }
+    {
+        let keys = copy_keys(alloc, self.keys.as_slice())?;
+        let values = copy_values::<K, T>(alloc, self.values.as_slice())?;
+        let outputs = copy_outputs(alloc, self.outputs.as_slice())?;
+        let names = Vec::with_capacity(alloc, outputs.len())?;
+        Ok(Done {
+            claim: self.claim,
+            node: self.node,
             keys,
             values,
             outputs,
