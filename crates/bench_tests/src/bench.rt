@@ -8,7 +8,7 @@ use crate::sheet::{Change, Sheet, SheetFault};
 use memo_core::claims::{ClaimFault, Finish};
 use memo_core::graph::Graph;
 use memo_core::job::{Done, Job};
-use std::alloc::Global;
+use std::alloc::{AllocError, Global};
 use std::marker::Model;
 use std::sync::{Arc, Wait};
 use value_store::{Store, StoreFault, StoreName};
@@ -46,6 +46,19 @@ impl<K: StoreName> Model for Answer<K> {
     ghost view = { λ a. return_from a.done };
 
     ghost invariant = { λ a. IsAnswer a.done.node a.done.keys.items (held_values a.done.values.items) a.done.outputs.items a.done.names };
+}
+
+impl<K: StoreName> Answer<K> {
+    /// The same return once more.
+    pub fn copy(&self, alloc: Global) -> Result<Answer<K>, AllocError> {
+        Ok(Answer {
+            done: self.done.copy(alloc)?,
+        })
+    }
+
+    pub fn claim_number(&self) -> u64 {
+        self.done.claim_number()
+    }
 }
 
 /// Runs a job, which comes back where memory is refused or the store is full.

@@ -177,6 +177,30 @@ fn lost_claim<R: Abort + Wait, K: StoreName>(rt: &R, alloc: Global, bench: &mut 
     assert!(rt; bench.shown(1) == Some(8));
 }
 
+/// The same return once more, tried again once where memory is refused.
+fn copied<K: StoreName>(rt: &impl Abort, alloc: Global, answer: &Answer<K>) -> Answer<K> {
+    for _ in 0..8 {
+        if let Ok(copy) = answer.copy(alloc) {
+            return copy;
+        }
+    }
+    panic!(rt; "the copy is refused again")
+}
+
+/// Of a return and its copy the first is taken, and the other is unknown.
+fn repeated_return<R: Abort + Wait, K: StoreName>(rt: &R, alloc: Global, bench: &mut Bench<K>) {
+    two_rows(rt, alloc, bench);
+    edited(rt, alloc, bench, Change::Put(1, 6));
+    let answer = ran(rt, alloc, job(rt, alloc, bench));
+    let copy = copied(rt, alloc, &answer);
+    assert_eq!(rt; copy.claim_number(), answer.claim_number());
+    let finish = bench.finish(copy);
+    assert_eq!(rt; code(finish), 3);
+    let finish = bench.finish(answer);
+    assert_eq!(rt; code(finish), 0);
+    assert!(rt; bench.shown(1) == Some(8));
+}
+
 /// A renewal opens every cell, and a job from before it is unknown.
 fn renewal<R: Abort + Wait, K: StoreName>(rt: &R, alloc: Global, bench: &mut Bench<K>) {
     two_rows(rt, alloc, bench);
@@ -319,6 +343,7 @@ enum Scenario {
     EqualEdit,
     LateReturn,
     LostClaim,
+    RepeatedReturn,
     Renewal,
     RandomWalk,
 }
@@ -339,6 +364,7 @@ fn play<R: Abort + Wait, K: StoreName>(
         Scenario::EqualEdit => equal_edit(rt, alloc, &mut bench),
         Scenario::LateReturn => late_return(rt, alloc, &mut bench),
         Scenario::LostClaim => lost_claim(rt, alloc, &mut bench),
+        Scenario::RepeatedReturn => repeated_return(rt, alloc, &mut bench),
         Scenario::Renewal => renewal(rt, alloc, &mut bench),
         Scenario::RandomWalk => random_walk(rt, alloc, bench),
     }
@@ -374,6 +400,11 @@ fn a_late_return_is_stale(rt: HostRuntime) -> Result<(), Fail> {
 #[test]
 fn a_lost_claim_is_handed_out_again(rt: HostRuntime) -> Result<(), Fail> {
     begin(&rt, rt.alloc(), Scenario::LostClaim)
+}
+
+#[test]
+fn a_repeated_return_is_unknown(rt: HostRuntime) -> Result<(), Fail> {
+    begin(&rt, rt.alloc(), Scenario::RepeatedReturn)
 }
 
 #[test]

@@ -168,6 +168,10 @@ impl Texts for Sheet {
         *a == *b
     }
 
+    fn copy(_alloc: Global, value: &u64) -> Result<u64, AllocError> {
+        Ok(*value)
+    }
+
     fn run(
         alloc: Global,
         node: Node,

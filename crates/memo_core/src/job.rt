@@ -97,6 +97,7 @@ impl<K: StoreName, T: Texts> Done<K, T> {
     /// The same return once more.
     pub fn copy(&self, alloc: Global) -> Result<Done<K, T>, AllocError>
         ensures same { IfOk result (λ copy. return_from copy ≡ return_from self.now) }
+        ensures computed { IfOk result (λ copy. IsComputed T.makes self.now → IsComputed T.makes copy) }
         ensures empty { IfOk result (λ copy. vec_len copy.names ≡ 0) }
         ensures room { IfOk result (λ copy. length copy.outputs.items ≤ vec_capacity copy.names) }
     {
