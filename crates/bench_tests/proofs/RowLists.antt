@@ -1,8 +1,7 @@
-use Rattle.std.proofs.Common.{◌≡◌, ◌⊎◌, inl, inr, ◌-◌, ℕ, zero, suc, ◌+◌, ◌<◌, Bool, true, false, ◌==◌, List, [], ◌∷◌, ◌++◌, take, drop, length, Option, Some, None, slice_get, slice_set, slice_index_or, if◌then◌else◌, refl, ap, sym, ◌∙◌, add-one, eqb-true, eq-eqb, ne_eqb, arith}
-use Rattle.memo_core.specs.declared.keys.Node.{Node}
+use Rattle.std.proofs.Common.{◌≡◌, ◌⊎◌, inl, inr, ◌-◌, ℕ, zero, suc, ◌+◌, ◌<◌, Bool, true, false, ◌==◌, List, [], ◌∷◌, ◌++◌, take, drop, length, Some, slice_get, slice_set, slice_index_or, if◌then◌else◌, refl, ap, sym, add-one, eqb-true, eq-eqb, ne_eqb, arith}
 use Rattle.bench_tests.specs.declared.rows.Row.{Row}
 use Rattle.memo_core.specs.Step.{Has}
-use Rattle.bench_tests.specs.Rows.{row_of, put_row, without_row}
+use Rattle.bench_tests.specs.Rows.{row_of, put_row}
 use Rattle.bench_tests.specs.Sheet.{tens, cell_of, cells_of}
 
 pub length-cells_of : (rs : List Row) → length (cells_of rs) ≡ length rs

@@ -1,12 +1,11 @@
 -- What a sheet owes to the memo core.
-use Rattle.std.proofs.Common.{◌≡◌, ◌↔◌, ◌⊎◌, inl, inr, ℕ, zero, suc, ◌+◌, ◌%◌, ◌^◌, ◌<◌, Bool, true, false, ◌==◌, List, [], ◌∷◌, Option, Some, None, if◌then◌else◌, refl, ap, sym, subst, ◌∙◌, eqb-true, eq-eqb, arith}
+use Rattle.std.proofs.Common.{◌≡◌, ◌↔◌, ◌⊎◌, inl, inr, ℕ, zero, suc, ◌<◌, Bool, true, false, ◌==◌, List, [], ◌∷◌, Option, Some, None, if◌then◌else◌, refl, ap, sym, subst, ◌∙◌, eqb-true, eq-eqb, arith}
 use Rattle.std.specs.List.{AllByRecursion as Each}
 use Rattle.memo_core.specs.declared.keys.Kind.{Kind}
 use Rattle.memo_core.specs.declared.keys.Kind.TheVariants.{Space, Group, Check, Verdict}
 use Rattle.memo_core.specs.declared.keys.Node.{Node}
 use Rattle.memo_core.specs.declared.keys.Key.{Key}
-use Rattle.memo_core.specs.declared.keys.Key.TheVariants.{Part, Output}
-use Rattle.memo_core.specs.Graph.{Net, input_nodes, stamp_in, lookup}
+use Rattle.memo_core.specs.Graph.{input_nodes, stamp_in, lookup}
 use Rattle.memo_core.specs.Right.{HasValue, IsSound, PartsGoOn}
 use Rattle.memo_core.specs.Step.{Has}
 use Rattle.bench_tests.specs.declared.rows.Row.{Row}
@@ -15,7 +14,7 @@ use Rattle.bench_tests.specs.declared.sheet.Change.{Change}
 use Rattle.bench_tests.specs.declared.sheet.Change.TheVariants.{Put, Remove, SetBase}
 use Rattle.bench_tests.specs.declared.sheet.Prepared.{Prepared}
 use Rattle.bench_tests.specs.Rows.{row_of, IsHere, put_row, without_row}
-use Rattle.bench_tests.specs.Sheet.{tens, cell_of, cells_of, inputs_of, net_of, makes, result_of, is_there, users_of, rank_of, rows_after, base_after, stamp_after, IsChanged, IsPrepared}
+use Rattle.bench_tests.specs.Sheet.{tens, cells_of, inputs_of, net_of, makes, is_there, users_of, rank_of, rows_after, base_after, stamp_after, IsChanged, IsPrepared}
 
 pub numbers_exact : (a b : ℕ) → ((a == b) ≡ true) ↔ (a ≡ b)
 numbers_exact a b = (eqb-true a b, eq-eqb a b)

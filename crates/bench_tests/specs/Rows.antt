@@ -1,5 +1,5 @@
 -- Rows of numbers by name, with the number of the edit that last changed each.
-use Rattle.std.specs.Prelude.{◌≡◌, ℕ, ◌==◌, List, [], ◌∷◌, Option, Some, None, if◌then◌else◌}
+use Rattle.std.specs.Prelude.{ℕ, ◌==◌, List, [], ◌∷◌, Option, Some, None, if◌then◌else◌}
 use Rattle.bench_tests.specs.declared.rows.Row.{Row}
 
 -- the stamp and value of a row, if it is there

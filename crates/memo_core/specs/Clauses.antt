@@ -1,5 +1,5 @@
 -- What the clauses of `Graph`, `Job` and `Done` say, in the words of Graph, Right, Step, Run and Marks.
-use Rattle.std.specs.Prelude.{◌≡◌, ◌≤◌, ℕ, List, [], length, vec_len, vec_capacity}
+use Rattle.std.specs.Prelude.{ℕ, List, []}
 use Rattle.value_store.specs.Tokens.{Shown}
 use Rattle.value_store.specs.declared.token.StoreName.{Ghosts as NameGhosts}
 use Rattle.memo_core.specs.declared.texts.Texts.{Ghosts}

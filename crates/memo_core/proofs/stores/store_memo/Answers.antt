@@ -1,6 +1,5 @@
-use Rattle.std.proofs.Common.{◌≡◌, ◌∙◌, ◌<◌, ◌++◌, ◌∷◌, [], ap, sym, length, slice_set, arith}
-use Rattle.memo_core.specs.Graph.{put_memo}
-use Rattle.memo_core.specs.Views.{as_memo, as_memos}
+use Rattle.std.proofs.Common.{◌≡◌, ◌∙◌, ap, sym, length, arith}
+use Rattle.memo_core.specs.Views.{as_memos}
 use Rattle.memo_core.proofs.StoreLemmas.{place_put, no_place_put}
 use Rattle.memo_core.proofs.MarkLemmas.{put_flag_at, push_flag}
 use Rattle.memo_core.proofs.stores.store_memo.Goals as goal

@@ -1,7 +1,4 @@
-use Rattle.std.proofs.Common.{◌≡◌, ◌∙◌, ap, sym, subst, ◌⊎◌, inl, inr}
-use Rattle.memo_core.specs.declared.keys.Node.{Node}
-use Rattle.memo_core.specs.Step.{Has}
-use Rattle.bench_tests.specs.Sheet.{tens, cell_of, cells_of}
+use Rattle.std.proofs.Common.{◌∙◌, sym, inr}
 use Rattle.bench_tests.proofs.RowLists.{has_cell}
 use Rattle.bench_tests.proofs.bench.Bench.shown.Goals as goal
 

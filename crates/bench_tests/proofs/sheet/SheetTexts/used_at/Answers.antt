@@ -1,4 +1,4 @@
-use Rattle.std.proofs.Common.{◌∙◌, ap, sym, Some, Option, List, ◌∷◌, drop, ◌+◌, arith}
+use Rattle.std.proofs.Common.{◌∙◌, ap, sym, Some, Option, ◌∷◌, drop, ◌+◌, arith}
 use Rattle.memo_core.specs.declared.keys.Node.{Node}
 use Rattle.bench_tests.specs.declared.rows.Row.{Row}
 use Rattle.bench_tests.specs.Sheet.{tens, cell_of, cells_of}

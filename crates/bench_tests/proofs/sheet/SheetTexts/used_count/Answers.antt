@@ -1,4 +1,4 @@
-use Rattle.std.proofs.Common.{◌∙◌, sym, arith}
+use Rattle.std.proofs.Common.{arith}
 use Rattle.bench_tests.proofs.RowLists.{length-cells_of}
 use Rattle.bench_tests.proofs.sheet.SheetTexts.used_count.Goals as goal
 
