@@ -85,8 +85,3 @@ streamed left old new (Ok refused) model test cut h = record { model = model; te
 streamed left old new (Err faults.Write) model test cut h = record { model = model; test = test; cut = cut; written = h }
 streamed left old new (Err faults.Read) model test cut h = h
 streamed left old new (Err faults.Memory) model test cut h = h
-
--- the bytes that were left are those that were read
-pub cut_of : (left : Option (List ℕ)) (bytes model test : List ℕ) → IfSome left (λ all. bytes ≡ all) → IsCut bytes model test → IfSome left (λ all. IsCut all model test)
-cut_of None bytes model test e h = tt
-cut_of (Some all) bytes model test e h = subst (λ (l : List ℕ). IsCut l model test) e h

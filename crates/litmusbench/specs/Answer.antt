@@ -102,6 +102,11 @@ pub data IsAnswer (model test text : List ℕ) (refused : Bool) : Type 0 where
   RefusesModel : refused ≡ true → (rule : CatRule) → (place : ℕ) → IsModelRefused model rule place → text ≡ refused_line 67 (model_rule_number rule) place → IsAnswer model test text refused
   RefusesTest : refused ≡ true → (rule : LitmusRule) → (place : ℕ) → IsModel model → IsTestRefused test rule place → text ≡ refused_line 76 (test_rule_number rule) place → IsAnswer model test text refused
 
+-- whatever is said of the first two texts is said of the other two
+abbrev pub AreAnsweredAlike : List ℕ → List ℕ → List ℕ → List ℕ → Type 0
+AreAnsweredAlike model test other_model other_test =
+    (text : List ℕ) (refused : Bool) → IsAnswer model test text refused → IsAnswer other_model other_test text refused
+
 -- the bytes of a sink, before and after an answer was written: all of it, or a front of it where a write failed, and else nothing
 abbrev pub IsWritten : List ℕ → List ℕ → Option (List ℕ) → Option (List ℕ) → Result Bool SessionFault → Type 0
 IsWritten model test old new (Ok refused) = (text : List ℕ) × IsAnswer model test text refused × Appends old new text

@@ -3,7 +3,8 @@
 use clap::{Arg, ArgAction, Command, Error};
 use std::alloc::Global;
 
-const ABOUT: &str = "Says which final states a memory model allows a litmus test to end in. With no \
+const ABOUT: &str =
+    "Says which final states a memory model allows a litmus test to end in. With no \
     words, standard input holds the model, a line that is exactly `.`, and the test.";
 
 const AFTER: &str = "The log goes to standard output. Exit status: 0 done, 1 a text was refused, \

@@ -4,7 +4,7 @@ ghost use Rattle.std.specs.Prelude.{None};
 
 use litmusbench::{
     ByteSink, ByteSource, CallFailed, MemorySink, MemorySource, OfRead, SessionFault, eval_stream,
-    read_all,
+    read_front,
 };
 use std::test::Fail;
 
@@ -115,10 +115,12 @@ fn texts_that_are_refused(rt: HostRuntime) {
 #[test]
 fn sources_of_the_library(rt: HostRuntime) -> Result<(), Fail> {
     let alloc = rt.alloc();
-    let Ok(bytes) = read_all(alloc, &mut OfRead::new(LOG)) else {
-        return Err(Fail::from("not read"));
-    };
-    assert_eq!(rt; bytes.as_slice(), LOG);
+    for most in [0, 1, 10, LOG.len(), 1_000] {
+        let Ok(bytes) = read_front(alloc, &mut OfRead::new(LOG), most) else {
+            return Err(Fail::from("not read"));
+        };
+        assert_eq!(rt; bytes.as_slice(), &LOG[..most.min(LOG.len())]);
+    }
     Ok(())
 }
 
@@ -128,4 +130,38 @@ fn a_source_that_does_not_end(rt: HostRuntime) {
     let answer = eval_stream(&rt, &mut Endless, &mut sink);
     assert_eq!(rt; answer, Err(SessionFault::Read));
     assert!(rt; sink.as_bytes().is_empty());
+}
+
+/// The text, and blanks and a line feed behind it.
+fn put_padded(input: &mut Vec<u8>, text: &[u8], length: usize) -> Result<(), Fail> {
+    input.extend_from_slice(text)?;
+    for _ in text.len() + 1..length {
+        input.push(b' ')?;
+    }
+    input.push(b'\n')?;
+    Ok(())
+}
+
+#[test]
+fn texts_at_the_limit_and_over_it(rt: HostRuntime) -> Result<(), Fail> {
+    let alloc = rt.alloc();
+    let lengths: [(usize, usize, &[u8]); 5] = [
+        (65_536, 65_536, LOG),
+        (65_536, 65_537, b"refused L16 65536\n"),
+        (65_536, 200_000, b"refused L16 65536\n"),
+        (65_537, 65_536, b"refused C7 65536\n"),
+        (200_000, 1_000, b"refused C7 65536\n"),
+    ];
+    for (model, test, wanted) in lengths {
+        let mut input = Vec::new(alloc);
+        put_padded(&mut input, &INPUT[..25], model)?;
+        input.extend_from_slice(b".\n")?;
+        put_padded(&mut input, &INPUT[28..], test)?;
+        let mut source = MemorySource::failing_at(&input, None);
+        let mut sink = MemorySink::failing_at(Vec::new(alloc), None);
+        let answer = eval_stream(&rt, &mut source, &mut sink);
+        assert_eq!(rt; answer, Ok(wanted != LOG));
+        assert_eq!(rt; sink.as_bytes(), wanted);
+    }
+    Ok(())
 }
