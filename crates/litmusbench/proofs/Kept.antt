@@ -1,5 +1,5 @@
 -- What is kept of an input decides what is said of it.
-use Rattle.std.proofs.Common.{◌≡◌, ℕ, zero, suc, ◌+◌, ◌-◌, ◌<◌, ◌≤◌, ◌⊎◌, inl, inr, List, length, take, drop, get_or, Bool, true, false, Option, Some, None, Result, Ok, Err, IfSome, sym, ap, ◌∙◌, subst, refl, arith}
+use Rattle.std.proofs.Common.{◌≡◌, ℕ, zero, suc, ◌+◌, ◌-◌, ◌<◌, ◌≤◌, ◌⊎◌, inl, inr, List, length, take, drop, get_or, Bool, Option, Some, None, Result, Ok, Err, IfSome, sym, ap, ◌∙◌, subst, refl, arith}
 use Rattle.std.proofs.lemmas.Bool.{cases_order}
 use Rattle.std.proofs.lemmas.List.{take_all, length-take-le, length-drop, take-take, get_or-take}
 use Rattle.litmus_grammar.specs.Texts as tests
@@ -12,7 +12,7 @@ use Rattle.cat_syntax.specs.Reads.{Reads, FaultAt}
 use Rattle.litmusbench.specs.declared.fault.SessionFault.{SessionFault}
 use Rattle.litmusbench.specs.declared.fault.SessionFault.TheVariants as faults
 use Rattle.litmusbench.specs.Answer.{IsModelRefused, IsTestRefused, IsAnswer, IsEvaluated, RefusesModel, RefusesTest, AreAnsweredAlike, IsWritten, IsStreamed}
-use Rattle.litmusbench.specs.Cut.{IsDotLine, HasNoDotLine, IsCutAt, IsUncut, IsCut}
+use Rattle.litmusbench.specs.Cut.{IsDotLine, HasNoDotLine, IsCutAt, IsCut}
 use Rattle.litmusbench.proofs.Answering.{streamed}
 
 -- ---- texts that are too long

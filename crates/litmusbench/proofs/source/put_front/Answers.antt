@@ -1,4 +1,4 @@
-use Rattle.std.proofs.Common.{rules, ◌≡◌, ◌-◌, ◌∙◌, ◌++◌, ℕ, List, min, length, take, ap}
+use Rattle.std.proofs.Common.{rules, ◌≡◌, ◌-◌, ◌∙◌, ◌++◌, ℕ, min, length, take, ap}
 use Rattle.litmusbench.proofs.Fronts.{front_joined, grown}
 use Rattle.litmusbench.proofs.source.put_front.Goals as goal
 

@@ -1,4 +1,4 @@
-use Rattle.std.proofs.Common.{rules, length, take}
+use Rattle.std.proofs.Common.{rules, take}
 use Rattle.std.proofs.lemmas.List.{length-take-le}
 use Rattle.litmusbench.proofs.Fronts.{read_on, is_kept, front_is_short}
 use Rattle.litmusbench.proofs.source.read_front.Goals as goal
