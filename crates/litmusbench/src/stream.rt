@@ -8,8 +8,6 @@ use crate::fault::{EvalFault, SessionFault};
 use crate::sink::{ByteSink, write_whole};
 use crate::source::{ByteSource, ReadFault, read_front};
 use crate::texts::eval;
-use cat_syntax::CatFault;
-use litmus_ppc::LitmusFault;
 use source_text::{put_bytes, put_decimal};
 use std::alloc::{AllocError, Global};
 
@@ -51,14 +49,8 @@ fn answer_to(alloc: Global, model: &[u8], test: &[u8]) -> Result<Answer, AllocEr
             text,
             is_refused: false,
         }),
-        Err(EvalFault::Model(CatFault::Refused { rule, place })) => {
-            refusal(alloc, b'C', rule.number(), place)
-        }
-        Err(EvalFault::Test(LitmusFault::Refused { rule, place })) => {
-            refusal(alloc, b'L', rule.number(), place)
-        }
-        Err(EvalFault::Model(CatFault::OutOfMemory(e))) => Err(e),
-        Err(EvalFault::Test(LitmusFault::OutOfMemory(e))) => Err(e),
+        Err(EvalFault::Model { rule, place }) => refusal(alloc, b'C', rule.number(), place),
+        Err(EvalFault::Test { rule, place }) => refusal(alloc, b'L', rule.number(), place),
         Err(EvalFault::Memory(e)) => Err(e),
     }
 }

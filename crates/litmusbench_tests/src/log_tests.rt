@@ -1,7 +1,7 @@
 //! Logs of outcomes, and which of two texts is refused.
 
 use binding_graph::ModelFault;
-use cat_syntax::{CatFault, CatRule};
+use cat_syntax::CatRule;
 use litmus_ppc::{Name, Quantifier};
 use litmusbench::{EvalFault, eval, outcome_log};
 use ppc_semantics::EvalRefusal;
@@ -68,7 +68,7 @@ fn logs(rt: HostRuntime) -> Result<(), Fail> {
 #[test]
 fn the_model_is_refused_first(rt: HostRuntime) {
     let refused = eval(rt.alloc(), b"acyclic po |", b"PPCT");
-    let Err(EvalFault::Model(CatFault::Refused { rule, place })) = refused else {
+    let Err(EvalFault::Model { rule, place }) = refused else {
         panic!(rt; "no refusal of the model")
     };
     assert_eq!(rt; (rule, place), (CatRule::Syntax, 12));
