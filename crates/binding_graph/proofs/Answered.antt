@@ -8,7 +8,7 @@ use Rattle.binding_kinds.specs.Senses.{Sense}
 use Rattle.binding_kinds.specs.Faults.{HasNoFault, FirstFault}
 
 -- the first fault, where the names that are seen are those
-pub faults_seen : {V E P : Type 0} (ss : List Sense) (es : List Entry) (ns : List Naming) (cs : List Clause) (r : Result (Result V ModelFault) E) → map entry_of es ≡ ns
-    → (P → IfOk r (λ o. MatchResult o (λ _. HasNoFault ss (reverse (map entry_of es)) 0 cs) (λ k. FirstFault ss (reverse (map entry_of es)) 0 cs k)))
-    → P → IfOk r (λ o. MatchResult o (λ _. HasNoFault ss (reverse ns) 0 cs) (λ k. FirstFault ss (reverse ns) 0 cs k))
+pub faults_seen : {V E : Type 0} (ss : List Sense) (es : List Entry) (ns : List Naming) (cs : List Clause) (r : Result (Result V ModelFault) E) → map entry_of es ≡ ns
+    → IfOk r (λ o. MatchResult o (λ _. HasNoFault ss (reverse (map entry_of es)) 0 cs) (λ k. FirstFault ss (reverse (map entry_of es)) 0 cs k))
+    → IfOk r (λ o. MatchResult o (λ _. HasNoFault ss (reverse ns) 0 cs) (λ k. FirstFault ss (reverse ns) 0 cs k))
 faults_seen ss es ns cs r e h = rw e at h

@@ -11,7 +11,7 @@ use Rattle.cat_values.specs.Value.{Term}
 use Rattle.cat_values.specs.Values.{term_of}
 use Rattle.binding_kinds.specs.Value.{Naming, Bound, Group, entry_of, bound_of}
 use Rattle.binding_kinds.specs.Senses.{Sense}
-use Rattle.binding_kinds.specs.Fits.{AreFit, IsFit, IsFitClause}
+use Rattle.binding_kinds.specs.Fits.{IsPlain, ArePlain, IsPlainClause, AreFit, IsFit, IsFitClause}
 use Rattle.binding_graph.specs.declared.resolved.Body.{Body}
 use Rattle.binding_graph.specs.declared.resolved.ResolvedItem.{ResolvedItem}
 use Rattle.binding_graph.specs.declared.resolved.Code.{Code}
@@ -22,6 +22,7 @@ use Rattle.binding_graph.specs.Resolved.{AreBodies, IsGroup, IsResolvedIn}
 
 -- before the binding at that place
 pub record AreMade (ss : List Sense) (names : List Naming) (from : ℕ) (old now : Uses) (g : List Binding) (i : ℕ) (made : List Body) : Type 0 where
+  pub plain : ArePlain (map bound_of (drop i g))
   pub fit : AreFit ss names (map bound_of (drop i g))
   pub indexed : IsIndexed now.places.items now.values.items
   pub places : vec_len now.places ≡ vec_len old.places
@@ -32,11 +33,16 @@ pub record AreMade (ss : List Sense) (names : List Naming) (from : ℕ) (old now
 pub next_fit : (ss : List Sense) (names : List Naming) (g : List Binding) (i : ℕ) (d : Binding) → i < length g → AreFit ss names (map bound_of (drop i g)) → IsFit ss names (term_of (get_or g i d).body)
 next_fit ss names g i d lt h = (rw (drop-cons g i d lt) at h).0
 
+-- and applies no function
+pub next_plain : (g : List Binding) (i : ℕ) (d : Binding) → i < length g → ArePlain (map bound_of (drop i g)) → IsPlain (term_of (get_or g i d).body)
+next_plain g i d lt h = (rw (drop-cons g i d lt) at h).0
+
 pub made_more : (ss : List Sense) (names : List Naming) (from : ℕ) (old now new : Uses) (g : List Binding) (i : ℕ) (d : Binding) (made all : List Body) (r : Body) → i < length g → AreMade ss names from old now g i made
     → all ≡ made ++ r ∷ [] → r.name ≡ (get_or g i d).name → IsCode ss names (reverse new.values.items) from (term_of (get_or g i d).body) r.code
     → reverse new.values.items ≡ with_uses names from (term_of (get_or g i d).body) (reverse now.values.items) → IsIndexed new.places.items new.values.items → vec_len new.places ≡ vec_len now.places
     → AreMade ss names from old new g (i + 1) all
 made_more ss names from old now new g i d made all r lt m is name code uses indexed places = record {
+  plain = rw (add-one i) (rw (drop-cons g i d lt) at m.plain).1;
   fit = rw (add-one i) (rw (drop-cons g i d lt) at m.fit).1;
   indexed = indexed;
   places = places ∙ m.places;
@@ -71,7 +77,7 @@ grouped ss es ts from at bs rs old new ds ins e f none bodies uses d i =
     (rw (e, f, none) at bodies, rw (i, d) (inputs_are new ∙ ap inputs_of u))
 
 -- the bodies of a recursive group see its names, and other bodies the names before it
-pub by_recursive : {E : Type 0} (ss : List Sense) (names own : List Naming) (from : ℕ) (r : Bool) (bs : List Bound) (done : Result ResolvedItem E) → (r ≡ true → AreFit ss own bs → IfOk done (λ x. IsGroup ss own from true bs x)) → (r ≡ false → AreFit ss names bs → IfOk done (λ x. IsGroup ss names from false bs x))
-    → IsFitClause ss names own (Group r bs) → IfOk done (λ x. IsResolvedIn ss names own from (Group r bs) x)
-by_recursive ss names own from true bs done all before fit = all refl fit
-by_recursive ss names own from false bs done all before fit = before refl fit
+pub by_recursive : {E : Type 0} (ss : List Sense) (names own : List Naming) (from : ℕ) (r : Bool) (bs : List Bound) (done : Result ResolvedItem E) → (r ≡ true → ArePlain bs → AreFit ss own bs → IfOk done (λ x. IsGroup ss own from true bs x)) → (r ≡ false → ArePlain bs → AreFit ss names bs → IfOk done (λ x. IsGroup ss names from false bs x))
+    → IsPlainClause (Group r bs) → IsFitClause ss names own (Group r bs) → IfOk done (λ x. IsResolvedIn ss names own from (Group r bs) x)
+by_recursive ss names own from true bs done all before plain fit = all refl plain fit
+by_recursive ss names own from false bs done all before plain fit = before refl plain fit

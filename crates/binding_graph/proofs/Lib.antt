@@ -3,6 +3,7 @@ pub mod Indexed
 pub mod Meant
 pub mod Lowered
 pub mod Bodies
+pub mod Declared
 pub mod Done
 pub mod Answered
 pub mod Reaching

@@ -1,20 +1,19 @@
 //! The names that an item adds, and its first fault.
 
-ghost use Rattle.std.specs.Prelude.{◌≡◌, [], IfOk, OnOk, List, reverse, map, length, take, false};
+ghost use Rattle.std.specs.Prelude.{◌≡◌, [], None, IfOk, OnOk, List, reverse, map, length, take, false};
 ghost use Rattle.cat_values.specs.Values.{term_of};
-ghost use Rattle.binding_kinds.specs.Value.{entry_of, bound_of, clause_of, IsNoFunction};
+ghost use Rattle.binding_kinds.specs.Value.{Defined, entry_of, bound_of, clause_of};
 ghost use Rattle.binding_kinds.specs.Kinds.{takes_body};
 ghost use Rattle.binding_kinds.specs.Senses.{Sense, AreKept, kind_in, first_within};
-ghost use Rattle.binding_kinds.specs.Faults.{with_own, with_all, extended};
+ghost use Rattle.binding_kinds.specs.Faults.{with_own, with_all, extended, senses_after};
 ghost use Rattle.binding_kinds.specs.Verdict.{or_else, unless, of_parameters};
 ghost use Rattle.binding_kinds.specs.First.{first_of_body, first_of_item};
 
-use crate::expand::expand;
-use crate::plan::Plan;
 use crate::uses::Uses;
+use binding_functions::{body_fault, function_of};
 use binding_kinds::{
-    Binder, Entry, Function, Input, Kind, ModelFault, Scope, Sight, Signature, count_parts,
-    group_fault, judge, or_else, parameter_fault, signatures, takes_body, unless,
+    Binder, Entry, Function, Input, Kind, ModelFault, Scope, Sight, group_fault, judge, or_else,
+    parameter_fault, takes_body, unless,
 };
 use cat_values::{Binding, Check, Expression, Item};
 use source_text::Name;
@@ -82,9 +81,9 @@ pub fn item_fault(
     item: &Item,
 ) -> Result<Option<ModelFault>, AllocError>
     ensures fault { (senses : List Sense) → AreKept scope.old.functions.items senses → IfOk result (λ f. f ≡ first_of_item senses (reverse (map entry_of scope.old.entries.items)) place (clause_of item.now)) }
-    ensures kept { IsNoFunction (clause_of item.now) → OnOk result (take (length scope.old.entries.items) scope.new.entries.items ≡ scope.old.entries.items) }
-    ensures names { (senses : List Sense) → AreKept scope.old.functions.items senses → IsNoFunction (clause_of item.now) → OnOk result (reverse (map entry_of scope.new.entries.items) ≡ extended senses (reverse (map entry_of scope.old.entries.items)) place (clause_of item.now)) }
-    ensures functions { IsNoFunction (clause_of item.now) → scope.new.functions.items ≡ scope.old.functions.items }
+    ensures kept { OnOk result (take (length scope.old.entries.items) scope.new.entries.items ≡ scope.old.entries.items) }
+    ensures names { (senses : List Sense) → AreKept scope.old.functions.items senses → IfOk result (λ f. f ≡ None → reverse (map entry_of scope.new.entries.items) ≡ extended senses (reverse (map entry_of scope.old.entries.items)) place (clause_of item.now)) }
+    ensures functions { (senses : List Sense) → AreKept scope.old.functions.items senses → IfOk result (λ f. f ≡ None → AreKept scope.new.functions.items (senses_after senses (reverse (map entry_of scope.old.entries.items)) (clause_of item.now))) }
 {
     let from = scope.entries.len();
     match item {
@@ -125,6 +124,9 @@ fn declare_function(
     body: &Expression,
 ) -> Result<Option<ModelFault>, AllocError>
     ensures fault { (senses : List Sense) → AreKept scope.old.functions.items senses → IfOk result (λ f. f ≡ or_else (of_parameters [] parameters.now) (first_of_body senses (reverse (map entry_of scope.old.entries.items)) parameters.now (term_of body.now))) }
+    ensures kept { OnOk result (take (length scope.old.entries.items) scope.new.entries.items ≡ scope.old.entries.items) }
+    ensures names { (senses : List Sense) → AreKept scope.old.functions.items senses → IfOk result (λ f. f ≡ None → reverse (map entry_of scope.new.entries.items) ≡ extended senses (reverse (map entry_of scope.old.entries.items)) place (Defined name.now parameters.now (term_of body.now))) }
+    ensures functions { (senses : List Sense) → AreKept scope.old.functions.items senses → IfOk result (λ f. f ≡ None → AreKept scope.new.functions.items (senses_after senses (reverse (map entry_of scope.old.entries.items)) (Defined name.now parameters.now (term_of body.now)))) }
 {
     let fault = parameter_fault(parameters);
     if fault.is_some() {
@@ -137,21 +139,13 @@ fn declare_function(
         parameters,
         from: scope.entries.len(),
     };
-    let mut plan = Plan::new(alloc);
-    plan.put_term(&sight, false, body, &mut uses)?;
-    if plan.fault.is_some() {
-        return Ok(plan.fault);
+    let fault = body_fault(&sight, body);
+    if fault.is_some() {
+        return Ok(fault);
     }
-    let signatures = signatures(alloc, &sight, body)?;
-    let function = function_of(
-        alloc,
-        scope,
-        place,
-        parameters.len(),
-        plan,
-        signatures,
-        uses,
-    )?;
+    uses.add_term(&sight, body)?;
+    let (values, functions) = uses.into_lists();
+    let function = function_of(alloc, &sight, place, body, values, functions)?;
     let binder = Binder::Applicable(scope.functions.len());
     scope.functions.push(function)?;
     scope.entries.push(Entry {
@@ -160,37 +154,4 @@ fn declare_function(
         binder,
     })?;
     Ok(None)
-}
-
-/// What is kept of a function.
-fn function_of(
-    alloc: Global,
-    scope: &Scope,
-    place: usize,
-    arity: usize,
-    plan: Plan,
-    signatures: Vec<Signature>,
-    uses: Uses,
-) -> Result<Function, AllocError> {
-    let expansion = expand(alloc, &scope.functions, &plan.nodes)?;
-    let is_oversized = expansion.is_oversized();
-    let template = if is_oversized {
-        Vec::new(alloc)
-    } else {
-        expansion.into_pieces()
-    };
-    let (constant, factors) = count_parts(&template);
-    let (values, functions) = uses.into_lists();
-    Ok(Function {
-        item: place,
-        arity,
-        under: plan.under,
-        template,
-        is_oversized,
-        constant,
-        factors,
-        signatures,
-        values,
-        functions,
-    })
 }

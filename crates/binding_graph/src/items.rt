@@ -6,7 +6,7 @@ ghost use Rattle.binding_kinds.specs.Value.{entry_of, clause_of, bound_of, AreNo
 ghost use Rattle.binding_kinds.specs.Senses.{Sense, AreKept};
 ghost use Rattle.binding_kinds.specs.Faults.{HasNoFault, FirstFault};
 ghost use Rattle.binding_kinds.specs.First.{first};
-ghost use Rattle.binding_kinds.specs.Fits.{IsPlain, IsFit, AreFit, IsFitClause, AreKnown};
+ghost use Rattle.binding_kinds.specs.Fits.{IsPlain, ArePlain, IsPlainClause, AreSound, IsFit, AreFit, IsFitClause, AreKnown};
 ghost use Rattle.binding_kinds.specs.Outermost.{naming_of};
 ghost use Rattle.binding_graph.specs.Refusals.{IfRefused};
 ghost use Rattle.binding_graph.specs.Inputs.{IsIndexed, with_uses, with_all_uses, inputs_of};
@@ -14,12 +14,11 @@ ghost use Rattle.binding_graph.specs.Meaning.{IsCode};
 ghost use Rattle.binding_graph.specs.Resolved.{AreBodies, IsGroup, IsCheck, IsResolvedIn, AreResolved, IsLabelled, IsLabelledAs, AreLabelled};
 
 use crate::declare::item_fault;
-use crate::expand::expand;
 use crate::fault::ResolveFault;
 use crate::lower::lower;
-use crate::plan::Plan;
 use crate::resolved::{Body, CheckCode, Code, Resolved, ResolvedItem, Role};
 use crate::uses::{Uses, inputs_of_values, items_of};
+use binding_functions::Template;
 use binding_kinds::{ModelFault, Scope, Sight};
 use cat_values::{Binding, Check, Expression, Item, ModelText, PREDEFINED};
 use source_text::Name;
@@ -32,7 +31,7 @@ use std::alloc::{AllocError, Global};
 /// by place, or want of memory.
 pub fn resolve(alloc: Global, text: &ModelText) -> Result<Resolved, ResolveFault>
     ensures whole { IfOk result (λ r. vec_len r.items ≡ vec_len text.now.items) }
-    ensures fault { let names = reverse (map naming_of PREDEFINED) in let clauses = map clause_of text.now.items.items in AreNoFunctions clauses → MatchResult result (λ _. HasNoFault [] names 0 clauses) (λ e. IfRefused e (λ k. FirstFault [] names 0 clauses k)) }
+    ensures fault { let names = reverse (map naming_of PREDEFINED) in let clauses = map clause_of text.now.items.items in MatchResult result (λ _. HasNoFault [] names 0 clauses) (λ e. IfRefused e (λ k. FirstFault [] names 0 clauses k)) }
     ensures items { let names = reverse (map naming_of PREDEFINED) in let clauses = map clause_of text.now.items.items in AreNoFunctions clauses → IfOk result (λ r. AreResolved [] names 0 clauses r.items.items) }
     ensures labels { IfOk result (λ r. AreLabelled text.now.items.items r.items.items) }
 {
@@ -48,7 +47,7 @@ fn resolve_all(
     alloc: Global,
     items: &[Item],
 ) -> Result<Result<Vec<ResolvedItem>, ModelFault>, AllocError>
-    ensures fault { let names = reverse (map naming_of PREDEFINED) in AreNoFunctions (map clause_of items.now) → IfOk result (λ r. MatchResult r (λ _. HasNoFault [] names 0 (map clause_of items.now)) (λ k. FirstFault [] names 0 (map clause_of items.now) k)) }
+    ensures fault { let names = reverse (map naming_of PREDEFINED) in IfOk result (λ r. MatchResult r (λ _. HasNoFault [] names 0 (map clause_of items.now)) (λ k. FirstFault [] names 0 (map clause_of items.now) k)) }
     ensures whole { IfOk result (λ r. IfOk r (λ v. vec_len v ≡ length items.now)) }
     ensures items { let names = reverse (map naming_of PREDEFINED) in AreNoFunctions (map clause_of items.now) → IfOk result (λ r. IfOk r (λ v. AreResolved [] names 0 (map clause_of items.now) v.items)) }
     ensures labels { IfOk result (λ r. IfOk r (λ v. AreLabelled items.now v.items)) }
@@ -63,7 +62,7 @@ fn find_items(
     scope: &mut Scope,
     items: &[Item],
 ) -> Result<(Vec<ResolvedItem>, Option<ModelFault>), AllocError>
-    ensures fault { (senses : List Sense) → AreKept scope.old.functions.items senses → AreNoFunctions (map clause_of items.now) → IfOk result (λ r. r.1 ≡ first senses (reverse (map entry_of scope.old.entries.items)) 0 (map clause_of items.now)) }
+    ensures fault { (senses : List Sense) → AreKept scope.old.functions.items senses → IfOk result (λ r. r.1 ≡ first senses (reverse (map entry_of scope.old.entries.items)) 0 (map clause_of items.now)) }
     ensures whole { IfOk result (λ r. r.1 ≡ None → vec_len r.0 ≡ length items.now) }
     ensures items { let names = reverse (map entry_of scope.old.entries.items) in scope.old.functions.items ≡ [] → AreKnown names → AreNoFunctions (map clause_of items.now) → IfOk result (λ r. r.1 ≡ None → AreResolved [] names 0 (map clause_of items.now) r.0.items) }
     ensures labels { IfOk result (λ r. r.1 ≡ None → AreLabelled items.now r.0.items) }
@@ -87,7 +86,7 @@ pub fn resolve_items(
     scope: &mut Scope,
     items: &[Item],
 ) -> Result<Result<Vec<ResolvedItem>, ModelFault>, AllocError>
-    ensures fault { (senses : List Sense) → AreKept scope.old.functions.items senses → AreNoFunctions (map clause_of items.now) → IfOk result (λ r. MatchResult r (λ _. HasNoFault senses (reverse (map entry_of scope.old.entries.items)) 0 (map clause_of items.now)) (λ k. FirstFault senses (reverse (map entry_of scope.old.entries.items)) 0 (map clause_of items.now) k)) }
+    ensures fault { (senses : List Sense) → AreKept scope.old.functions.items senses → IfOk result (λ r. MatchResult r (λ _. HasNoFault senses (reverse (map entry_of scope.old.entries.items)) 0 (map clause_of items.now)) (λ k. FirstFault senses (reverse (map entry_of scope.old.entries.items)) 0 (map clause_of items.now) k)) }
     ensures whole { IfOk result (λ r. IfOk r (λ v. vec_len v ≡ length items.now)) }
     ensures items { let names = reverse (map entry_of scope.old.entries.items) in scope.old.functions.items ≡ [] → AreKnown names → AreNoFunctions (map clause_of items.now) → IfOk result (λ r. IfOk r (λ v. AreResolved [] names 0 (map clause_of items.now) v.items)) }
     ensures labels { IfOk result (λ r. IfOk r (λ v. AreLabelled items.now v.items)) }
@@ -131,7 +130,7 @@ fn lower_item(
     from: usize,
     item: &Item,
 ) -> Result<ResolvedItem, AllocError>
-    ensures resolved { let names = reverse (map entry_of (take from scope.now.entries.items)) in let own = reverse (map entry_of scope.now.entries.items) in (senses : List Sense) → from ≤ vec_len scope.now.entries → IsFitClause senses names own (clause_of item.now) → IfOk result (λ r. IsResolvedIn senses names own from (clause_of item.now) r) }
+    ensures resolved { let names = reverse (map entry_of (take from scope.now.entries.items)) in let own = reverse (map entry_of scope.now.entries.items) in (senses : List Sense) → AreKept scope.now.functions.items senses → AreSound senses → IsPlainClause (clause_of item.now) → from ≤ vec_len scope.now.entries → IsFitClause senses names own (clause_of item.now) → IfOk result (λ r. IsResolvedIn senses names own from (clause_of item.now) r) }
     ensures label { IfOk result (λ r. IsLabelledAs item.now r) }
 {
     match item {
@@ -162,6 +161,7 @@ fn lower_function(alloc: Global, scope: &Scope) -> Result<ResolvedItem, AllocErr
 fn sight_of(scope: &Scope, from: usize, recursive: bool) -> Sight<'_>
     ensures all { recursive ≡ true → result.entries.now ≡ scope.now.entries.items }
     ensures before { recursive ≡ false → from ≤ vec_len scope.now.entries → result.entries.now ≡ take from scope.now.entries.items }
+    ensures functions { result.functions.now ≡ scope.now.functions.items }
     ensures parameters { result.parameters.now ≡ [] }
     ensures from { result.from ≡ from }
 {
@@ -185,15 +185,15 @@ fn code_of(
     term: &Expression,
     uses: &mut Uses,
 ) -> Result<Code, AllocError>
-    ensures code { (senses : List Sense) → sight.now.parameters.now ≡ [] → IsPlain (term_of term.now) → IsIndexed uses.old.places.items uses.old.values.items → length sight.now.entries.now ≤ vec_len uses.old.places → IsFit senses (reverse (map entry_of sight.now.entries.now)) (term_of term.now) → IfOk result (λ c. IsCode senses (reverse (map entry_of sight.now.entries.now)) (reverse uses.new.values.items) sight.now.from (term_of term.now) c) }
+    ensures code { (senses : List Sense) → AreKept sight.now.functions.now senses → AreSound senses → sight.now.parameters.now ≡ [] → IsIndexed uses.old.places.items uses.old.values.items → IsFit senses (reverse (map entry_of sight.now.entries.now)) (term_of term.now) → IfOk result (λ c. IsCode senses (reverse (map entry_of sight.now.entries.now)) (reverse uses.new.values.items) sight.now.from (term_of term.now) c) }
     ensures uses { sight.now.parameters.now ≡ [] → IsPlain (term_of term.now) → IsIndexed uses.old.places.items uses.old.values.items → length sight.now.entries.now ≤ vec_len uses.old.places → OnOk result (reverse uses.new.values.items ≡ with_uses (reverse (map entry_of sight.now.entries.now)) sight.now.from (term_of term.now) (reverse uses.old.values.items)) }
-    ensures indexed { sight.now.parameters.now ≡ [] → IsPlain (term_of term.now) → IsIndexed uses.old.places.items uses.old.values.items → length sight.now.entries.now ≤ vec_len uses.old.places → OnOk result (IsIndexed uses.new.places.items uses.new.values.items) }
+    ensures indexed { IsIndexed uses.old.places.items uses.old.values.items → OnOk result (IsIndexed uses.new.places.items uses.new.values.items) }
     ensures places { sight.now.parameters.now ≡ [] → IsPlain (term_of term.now) → IsIndexed uses.old.places.items uses.old.values.items → length sight.now.entries.now ≤ vec_len uses.old.places → OnOk result (vec_len uses.new.places ≡ vec_len uses.old.places) }
 {
-    let mut plan = Plan::new(alloc);
-    plan.put_term(sight, false, term, uses)?;
-    let expansion = expand(alloc, sight.functions, &plan.nodes)?;
-    lower(alloc, uses, sight.from, &expansion.pieces)
+    uses.add_term(sight, term)?;
+    let mut template = Template::new(alloc);
+    template.put_term(alloc, sight, term)?;
+    lower(alloc, uses, sight.from, &template.pieces)
 }
 
 /// The steps of the bodies of a group.
@@ -203,8 +203,8 @@ fn lower_bodies(
     group: &[Binding],
     uses: &mut Uses,
 ) -> Result<Vec<Body>, AllocError>
-    ensures bodies { (senses : List Sense) → sight.now.parameters.now ≡ [] → AreFit senses (reverse (map entry_of sight.now.entries.now)) (map bound_of group.now) → IsIndexed uses.old.places.items uses.old.values.items → length sight.now.entries.now ≤ vec_len uses.old.places → IfOk result (λ v. AreBodies senses (reverse (map entry_of sight.now.entries.now)) sight.now.from (reverse uses.old.values.items) (map bound_of group.now) v.items) }
-    ensures uses { (senses : List Sense) → sight.now.parameters.now ≡ [] → AreFit senses (reverse (map entry_of sight.now.entries.now)) (map bound_of group.now) → IsIndexed uses.old.places.items uses.old.values.items → length sight.now.entries.now ≤ vec_len uses.old.places → OnOk result (reverse uses.new.values.items ≡ with_all_uses (reverse (map entry_of sight.now.entries.now)) sight.now.from (map bound_of group.now) (reverse uses.old.values.items)) }
+    ensures bodies { (senses : List Sense) → AreKept sight.now.functions.now senses → AreSound senses → ArePlain (map bound_of group.now) → sight.now.parameters.now ≡ [] → AreFit senses (reverse (map entry_of sight.now.entries.now)) (map bound_of group.now) → IsIndexed uses.old.places.items uses.old.values.items → length sight.now.entries.now ≤ vec_len uses.old.places → IfOk result (λ v. AreBodies senses (reverse (map entry_of sight.now.entries.now)) sight.now.from (reverse uses.old.values.items) (map bound_of group.now) v.items) }
+    ensures uses { (senses : List Sense) → AreKept sight.now.functions.now senses → AreSound senses → ArePlain (map bound_of group.now) → sight.now.parameters.now ≡ [] → AreFit senses (reverse (map entry_of sight.now.entries.now)) (map bound_of group.now) → IsIndexed uses.old.places.items uses.old.values.items → length sight.now.entries.now ≤ vec_len uses.old.places → OnOk result (reverse uses.new.values.items ≡ with_all_uses (reverse (map entry_of sight.now.entries.now)) sight.now.from (map bound_of group.now) (reverse uses.old.values.items)) }
 {
     let mut bodies = Vec::new(alloc);
     for binding in group {
@@ -225,8 +225,8 @@ fn lower_group(
     recursive: bool,
     group: &[Binding],
 ) -> Result<ResolvedItem, AllocError>
-    ensures all { let names = reverse (map entry_of scope.now.entries.items) in (senses : List Sense) → recursive ≡ true → AreFit senses names (map bound_of group.now) → IfOk result (λ r. IsGroup senses names from true (map bound_of group.now) r) }
-    ensures before { let names = reverse (map entry_of (take from scope.now.entries.items)) in (senses : List Sense) → recursive ≡ false → from ≤ vec_len scope.now.entries → AreFit senses names (map bound_of group.now) → IfOk result (λ r. IsGroup senses names from false (map bound_of group.now) r) }
+    ensures all { let names = reverse (map entry_of scope.now.entries.items) in (senses : List Sense) → AreKept scope.now.functions.items senses → AreSound senses → ArePlain (map bound_of group.now) → recursive ≡ true → AreFit senses names (map bound_of group.now) → IfOk result (λ r. IsGroup senses names from true (map bound_of group.now) r) }
+    ensures before { let names = reverse (map entry_of (take from scope.now.entries.items)) in (senses : List Sense) → AreKept scope.now.functions.items senses → AreSound senses → ArePlain (map bound_of group.now) → recursive ≡ false → from ≤ vec_len scope.now.entries → AreFit senses names (map bound_of group.now) → IfOk result (λ r. IsGroup senses names from false (map bound_of group.now) r) }
 {
     let sight = sight_of(scope, from, recursive);
     let mut uses = Uses::new(alloc, scope)?;
@@ -246,7 +246,7 @@ fn lower_check(
     check: &Check,
     flag: Option<Name>,
 ) -> Result<ResolvedItem, AllocError>
-    ensures code { let names = reverse (map entry_of (take from scope.now.entries.items)) in (senses : List Sense) → from ≤ vec_len scope.now.entries → IsFit senses names (term_of check.now.body) → IfOk result (λ r. IsCheck senses names from check.now.word (term_of check.now.body) r) }
+    ensures code { let names = reverse (map entry_of (take from scope.now.entries.items)) in (senses : List Sense) → AreKept scope.now.functions.items senses → AreSound senses → IsPlain (term_of check.now.body) → from ≤ vec_len scope.now.entries → IsFit senses names (term_of check.now.body) → IfOk result (λ r. IsCheck senses names from check.now.word (term_of check.now.body) r) }
     ensures label { IfOk result (λ r. IsLabelled check.now.negated flag r.role) }
 {
     let sight = sight_of(scope, from, false);

@@ -2,11 +2,9 @@
 #![tactic(auto)]
 
 mod declare;
-mod expand;
 mod fault;
 mod items;
 mod lower;
-mod plan;
 mod reach;
 mod resolved;
 mod uses;

@@ -1,9 +1,15 @@
 //! What an item uses.
 
-ghost use Rattle.std.specs.Prelude.{◌≡◌, ◌<◌, [], None, get_or, reverse, map, vec_len, unwrap_or, IfOk, OnOk};
-ghost use Rattle.binding_graph.specs.Inputs.{IsIndexed, place_of, noted, with_found};
+ghost use Rattle.std.specs.Prelude.{◌≡◌, ◌<◌, ◌≤◌, [], None, get_or, length, reverse, map, vec_len, unwrap_or, IfOk, OnOk};
+ghost use Rattle.cat_values.specs.Values.{term_of};
+ghost use Rattle.binding_kinds.specs.Value.{entry_of};
+ghost use Rattle.binding_kinds.specs.Fits.{IsPlain};
+ghost use Rattle.binding_kinds.specs.Kinds.{found};
+ghost use Rattle.binding_graph.specs.Inputs.{IsIndexed, place_of, noted, with_found, with_name, with_uses};
 
-use binding_kinds::{Binder, Found, Function, Input, Scope, Sight, Used};
+use binding_kinds::{Binder, Found, Function, Input, Meaning, Scope, Sight, Used};
+use cat_values::Expression;
+use source_text::Name;
 use std::alloc::{AllocError, Global};
 
 /// The names of other items that an item uses, and the functions that it applies, through others
@@ -67,7 +73,7 @@ impl Uses {
     /// have the slot `from` and those behind it.
     pub fn add_value(&mut self, from: usize, found: Found) -> Result<(), AllocError>
         ensures values { IsIndexed self.old.places.items self.old.values.items → found.slot < vec_len self.old.places → OnOk result (reverse self.new.values.items ≡ with_found (reverse self.old.values.items) from found) }
-        ensures indexed { IsIndexed self.old.places.items self.old.values.items → found.slot < vec_len self.old.places → OnOk result (IsIndexed self.new.places.items self.new.values.items) }
+        ensures indexed { IsIndexed self.old.places.items self.old.values.items → OnOk result (IsIndexed self.new.places.items self.new.values.items) }
         ensures places { vec_len self.new.places ≡ vec_len self.old.places }
     {
         if found.slot >= from {
@@ -86,22 +92,66 @@ impl Uses {
     /// Notes a name at its first use.
     fn note(&mut self, value: Used) -> Result<(), AllocError>
         ensures values { IsIndexed self.old.places.items self.old.values.items → value.slot < vec_len self.old.places → OnOk result (reverse self.new.values.items ≡ noted (reverse self.old.values.items) value) }
-        ensures indexed { IsIndexed self.old.places.items self.old.values.items → value.slot < vec_len self.old.places → OnOk result (IsIndexed self.new.places.items self.new.values.items) }
+        ensures indexed { IsIndexed self.old.places.items self.old.values.items → OnOk result (IsIndexed self.new.places.items self.new.values.items) }
         ensures places { vec_len self.new.places ≡ vec_len self.old.places }
     {
-        if self.place_at(value.slot).is_some() {
+        if value.slot >= self.places.len() || self.place_at(value.slot).is_some() {
             return Ok(());
         }
         let next = self.values.len();
         self.values.push(value)?;
-        if value.slot < self.places.len() {
-            self.places[value.slot] = Some(next);
-        }
+        self.places[value.slot] = Some(next);
         Ok(())
     }
 
+    /// A name without arguments is used, unless it is a parameter.
+    fn add_name(&mut self, sight: &Sight, name: &Name) -> Result<(), AllocError>
+        ensures uses { sight.now.parameters.now ≡ [] → IsIndexed self.old.places.items self.old.values.items → length sight.now.entries.now ≤ vec_len self.old.places → OnOk result (reverse self.new.values.items ≡ with_name (reverse self.old.values.items) sight.now.from (found (reverse (map entry_of sight.now.entries.now)) name.now)) }
+        ensures indexed { IsIndexed self.old.places.items self.old.values.items → OnOk result (IsIndexed self.new.places.items self.new.values.items) }
+        ensures places { vec_len self.new.places ≡ vec_len self.old.places }
+    {
+        match sight.value(name) {
+            Err(_) => Ok(()),
+            Ok(Meaning::Parameter(_)) => Ok(()),
+            Ok(Meaning::Value(found)) => self.add_value(sight.from, found),
+        }
+    }
+
+    /// What an expression uses and applies, at each first use. Errors: want of memory.
+    pub fn add_term(&mut self, sight: &Sight, term: &Expression) -> Result<(), AllocError>
+        ensures uses { sight.now.parameters.now ≡ [] → IsPlain (term_of term.now) → IsIndexed self.old.places.items self.old.values.items → length sight.now.entries.now ≤ vec_len self.old.places → OnOk result (reverse self.new.values.items ≡ with_uses (reverse (map entry_of sight.now.entries.now)) sight.now.from (term_of term.now) (reverse self.old.values.items)) }
+        ensures indexed { IsIndexed self.old.places.items self.old.values.items → OnOk result (IsIndexed self.new.places.items self.new.values.items) }
+        ensures places { sight.now.parameters.now ≡ [] → IsPlain (term_of term.now) → vec_len self.new.places ≡ vec_len self.old.places }
+    {
+        match term {
+            Expression::Named(name) => self.add_name(sight, name),
+            Expression::Everything => Ok(()),
+            Expression::NoPairs => Ok(()),
+            Expression::NoEvents => Ok(()),
+            Expression::Joined(_, left, right) => {
+                self.add_term(sight, left)?;
+                self.add_term(sight, right)
+            }
+            Expression::Marked(_, operand) => self.add_term(sight, operand),
+            Expression::Complement(operand) => self.add_term(sight, operand),
+            Expression::Identity(operand) => self.add_term(sight, operand),
+            Expression::Applied(name, arguments) => {
+                if let Ok(function) = sight.function(name, arguments.len()) {
+                    self.add_function(sight, function)?;
+                    for argument in arguments {
+                        self.add_term(sight, argument)?;
+                    }
+                }
+                Ok(())
+            }
+        }
+    }
+
     /// Whether the function was not yet applied.
-    fn note_function(&mut self, function: usize) -> Result<bool, AllocError> {
+    fn note_function(&mut self, function: usize) -> Result<bool, AllocError>
+        ensures values { self.new.values ≡ self.old.values }
+        ensures places { self.new.places ≡ self.old.places }
+    {
         let mut is_new = false;
         if let Some(mark) = self.applied.get_mut(function) {
             is_new = !*mark;
@@ -114,7 +164,9 @@ impl Uses {
     }
 
     /// The function is applied, and so is what its body applies and used what its body uses.
-    pub fn add_function(&mut self, sight: &Sight, function: usize) -> Result<(), AllocError> {
+    pub fn add_function(&mut self, sight: &Sight, function: usize) -> Result<(), AllocError>
+        ensures indexed { IsIndexed self.old.places.items self.old.values.items → OnOk result (IsIndexed self.new.places.items self.new.values.items) }
+    {
         if !self.note_function(function)? {
             return Ok(());
         }

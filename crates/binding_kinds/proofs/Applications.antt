@@ -1,5 +1,5 @@
 -- Arguments one after another: their kinds as a number, their sizes as a sum.
-use Rattle.std.proofs.Common.{ℕ, zero, suc, ◌≡◌, ◌<◌, ◌≤◌, ◌+◌, ◌*◌, ◌^◌, inl, inr, min, List, [], ◌∷◌, length, map, Bool, true, false, Option, Some, None, Ok, Err, Vec, Global, refl, sym, ap, subst, ◌∙◌, arith, add-one, ◌≢◌, drop, ◌||◌, drop-cons}
+use Rattle.std.proofs.Common.{ℕ, zero, suc, ◌≡◌, ◌<◌, ◌≤◌, ◌+◌, ◌*◌, ◌^◌, inl, inr, min, List, [], ◌∷◌, ◌++◌, length, map, Bool, true, false, Option, Some, None, Ok, Err, Vec, Global, refl, sym, ap, subst, ◌∙◌, arith, add-one, ◌≢◌, drop, ◌||◌, drop-cons}
 use Rattle.std.specs.Prelude.{slice_get, get_or, not, nat_eq, if◌then◌else◌}
 use Rattle.std.proofs.Math.Nat.{pow-succ', pow-le-pow_right, mul-le-mul_left, mul_assoc, mul_comm, mul-add}
 use Rattle.std.proofs.lemmas.Bool.{cases_lt, eqb-true, eq-eqb, lt-ltb, le-ltb}
@@ -18,7 +18,9 @@ use Rattle.binding_kinds.specs.declared.function.Function.{Function}
 use Rattle.binding_kinds.specs.Value.{Naming}
 use Rattle.binding_kinds.specs.Kinds.{found}
 use Rattle.binding_kinds.specs.Combinations.{digit, number_of, unknown}
+use Rattle.binding_kinds.specs.Formula.{factor_of}
 use Rattle.binding_kinds.specs.Verdict.{or_else, unless}
+use Rattle.binding_kinds.proofs.Sizes.{kept_positive, kept_large}
 use Rattle.binding_kinds.specs.declared.signature.Signature.{Signature}
 use Rattle.binding_kinds.specs.declared.fault.ModelFault.{ModelFault}
 use Rattle.binding_kinds.specs.Senses.{Sense, size_of_arguments, size_with, with_arity, sense_of_binder, sense_of, count_of, size_applied, under_of, kind_in, first_within, first_among, size_in, sizes_in, kinds_in, kind_applied, fault_applied, ArePositive, IsKept, AreKept, IsAlike}
@@ -94,14 +96,14 @@ kept_none (g ∷ fs) [] i h e = absurd h
 kept_none (g ∷ fs) (s ∷ ss) zero h e = absurd (let n : Some g ≡ None = e in cc)
 kept_none (g ∷ fs) (s ∷ ss) (suc i) h e = kept_none fs ss i h.1 e
 
-kept_back : (fs : List Function) (ss : List Sense) (i : ℕ) (s : Sense) → AreKept fs ss → slice_get ss i ≡ Some s → (f : Function) × IsKept f s
+pub kept_back : (fs : List Function) (ss : List Sense) (i : ℕ) (s : Sense) → AreKept fs ss → slice_get ss i ≡ Some s → (f : Function) × IsKept f s
 kept_back [] [] i s h e = absurd (let n : None ≡ Some s = e in cc)
 kept_back [] (t ∷ ss) i s h e = absurd h
 kept_back (g ∷ fs) [] i s h e = absurd h
 kept_back (g ∷ fs) (t ∷ ss) zero s h e = let same : t ≡ s = cc in (g, subst (λ x. IsKept g x) same h.0)
 kept_back (g ∷ fs) (t ∷ ss) (suc i) s h e = kept_back fs ss i s h.1 e
 
-long_sizes : (ss : List Sense) (names : List Naming) (ts : Terms) → length (sizes_in ss names ts) ≡ count_of ts
+pub long_sizes : (ss : List Sense) (names : List Naming) (ts : Terms) → length (sizes_in ss names ts) ≡ count_of ts
 long_sizes ss names NoTerm = refl
 long_sizes ss names (OneMore a others) = ap suc (long_sizes ss names others)
 
@@ -115,7 +117,7 @@ applied_positive fs ss n (Some f) sizes h long p = at_binder f.binder
     at_function i (Some s) e = at_arity (nat_eq s.arity n) (λ t. eqb-true s.arity n t)
       where
         at_arity : (b : Bool) → (b ≡ true → s.arity ≡ n) → 0 < size_applied (if b then Ok s else Err faults.Arity) sizes
-        at_arity true same = (kept_back fs ss i s h e).1.positive sizes (long ∙ sym (same refl)) p
+        at_arity true same = kept_positive (kept_back fs ss i s h e).0 s (kept_back fs ss i s h e).1 sizes (long ∙ sym (same refl)) p
         at_arity false same = omega arith
 
     at_binder : (b : Binder) → 0 < size_applied (sense_of_binder ss n b) sizes
@@ -172,7 +174,7 @@ is_judged f s sizes kinds later k size all_size combination fault all_fault kept
         record { kind = h.0 ∙ sym e.0; size_is = let m = h.2 in omega (arith, m, lt); fault_is = h.1 ∙ sym e.1 }
 
     at_oversized : (b : Bool) → f.is_oversized ≡ b → IsJudged s sizes kinds later k size fault
-    at_oversized true e = at_large (kept.large e sizes long_s pos) (over e)
+    at_oversized true e = at_large (kept_large f s kept sizes e long_s pos) (over e)
     at_oversized false e = elim (cases_lt 4096 all_size) [
       | inl lt ↦ let a = size_is e in at_large (omega (arith, a, lt)) (large lt)
       | inr le ↦
@@ -290,7 +292,7 @@ next_size ss names f xs i e before after g one total lt is g_is one_is after_is 
     ap (λ (n : ℕ). min (after + size_of_arguments f n rest) 4097) (add-one i)
     ∙ sized f i rest before after g one (size_in ss names (values.term_of e)) total g_is one_is after_is open_inv
 
-found_arity : (ss : List Sense) (n : ℕ) (o : Option Found) (s : Sense) → sense_of ss n o ≡ Ok s → s.arity ≡ n
+pub found_arity : (ss : List Sense) (n : ℕ) (o : Option Found) (s : Sense) → sense_of ss n o ≡ Ok s → s.arity ≡ n
 found_arity ss n None s e = absurd (let r : Err faults.Unbound ≡ Ok s = e in cc)
 found_arity ss n (Some f) s e = at_binder f.binder e
   where
@@ -321,7 +323,7 @@ or_none (Some k) = refl
 pub finished : (fs : List Function) (ss : List Sense) (names : List Naming) (from : ℕ) (under : Bool) (e : Expression) (n : List ℕ) (args : Vec Expression Global) (f : Function) (s : Sense) (m p all_comb all_size : ℕ) (all_fault : Option ModelFault) (k : Kind) (size : ℕ) (fault : Option ModelFault)
     → AreKept fs ss → e ≡ expressions.Applied n args → m ≡ length args.items → sense_of ss m (found names n) ≡ Ok s → IsKept f s → length args.items ≤ p
     → (length args.items ≡ s.arity → all_comb + 3 ^ p * number_of (kinds_in ss names (gathered (map values.term_of (drop p args.items)))) ≡ number_of (kinds_in ss names (arguments_of args)))
-    → (length args.items ≡ s.arity → f.is_oversized ≡ false → IsAlike (all_size + size_of_arguments s.factor p (sizes_in ss names (gathered (map values.term_of (drop p args.items))))) (size_with s (sizes_in ss names (arguments_of args))))
+    → (length args.items ≡ s.arity → f.is_oversized ≡ false → IsAlike (all_size + size_of_arguments (factor_of s.formula) p (sizes_in ss names (gathered (map values.term_of (drop p args.items))))) (size_with s (sizes_in ss names (arguments_of args))))
     → (length args.items ≡ s.arity → or_else all_fault (first_among ss names from under s.is_under p (gathered (map values.term_of (drop p args.items)))) ≡ first_among ss names from under s.is_under 0 (arguments_of args))
     → (f.is_oversized ≡ true → (k ≡ OfAny) × (fault ≡ Some faults.TooLarge) × (4096 < size))
     → (4096 < all_size → (k ≡ OfAny) × (fault ≡ Some faults.TooLarge) × (4096 < size))
@@ -334,10 +336,24 @@ finished fs ss names from under e n args f s m p all_comb all_size all_fault k s
     let comb_is : all_comb ≡ number_of (kinds_in ss names ts) =
     let h = sym (ap (λ (l : List Expression). all_comb + 3 ^ p * number_of (kinds_in ss names (gathered (map values.term_of l)))) none) ∙ comb long in omega (arith, h) in
     let size_is : f.is_oversized ≡ false → IsAlike all_size (size_with s (sizes_in ss names ts)) =
-    λ b. let h = sym (ap (λ (l : List Expression). min (all_size + size_of_arguments s.factor p (sizes_in ss names (gathered (map values.term_of l)))) 4097) none) ∙ sizes long b in omega (arith, h) in
+    λ b. let h = sym (ap (λ (l : List Expression). min (all_size + size_of_arguments (factor_of s.formula) p (sizes_in ss names (gathered (map values.term_of l)))) 4097) none) ∙ sizes long b in omega (arith, h) in
     let fault_is : all_fault ≡ first_among ss names from under s.is_under 0 ts =
     sym (or_none all_fault) ∙ (sym (ap (λ (l : List Expression). or_else all_fault (first_among ss names from under s.is_under p (gathered (map values.term_of l)))) none) ∙ faulty long) in
     fit ss names from under e n args s k size fault is (ap (λ (x : ℕ). sense_of ss x (found names n)) (sym m_is) ∙ there)
     (is_judged f s (sizes_in ss names ts) (kinds_in ss names ts) (first_among ss names from under s.is_under 0 ts) k size all_size all_comb fault all_fault one
     (long_sizes ss names ts ∙ count_arguments args.items ∙ long) (long_kinds ss names ts ∙ count_arguments args.items ∙ long) (sizes_positive fs ss names ts kept)
     comb_is size_is fault_is over large small)
+
+-- as many functions as there are
+pub kept_long : (fs : List Function) (ss : List Sense) → AreKept fs ss → length fs ≡ length ss
+kept_long [] [] h = refl
+kept_long [] (s ∷ ss) h = absurd h
+kept_long (f ∷ fs) [] h = absurd h
+kept_long (f ∷ fs) (s ∷ ss) h = ap suc (kept_long fs ss h.1)
+
+-- one function more
+pub kept_more : (fs : List Function) (ss : List Sense) (f : Function) (s : Sense) → AreKept fs ss → IsKept f s → AreKept (fs ++ f ∷ []) (ss ++ s ∷ [])
+kept_more [] [] f s h one = (one, tt)
+kept_more [] (t ∷ ss) f s h one = absurd h
+kept_more (g ∷ fs) [] f s h one = absurd h
+kept_more (g ∷ fs) (t ∷ ss) f s h one = (h.0, kept_more fs ss f s h.1 one)

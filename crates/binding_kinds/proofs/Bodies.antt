@@ -18,7 +18,7 @@ use Rattle.binding_kinds.specs.Value.{Naming}
 use Rattle.binding_kinds.specs.Kinds.{found}
 use Rattle.binding_kinds.specs.Applicable.{applied, applied_of}
 use Rattle.binding_kinds.specs.Verdict.{or_else, of_use}
-use Rattle.binding_kinds.specs.Senses.{Sense, AreKept, with_arity, sense_of, count_of}
+use Rattle.binding_kinds.specs.Senses.{Sense, AreKept, with_arity, sense_of}
 use Rattle.binding_kinds.specs.First.{of_inside, of_applied, first_of_body, first_of_bodies}
 use Rattle.binding_kinds.proofs.Applications.{count_arguments, or_none}
 

@@ -1,6 +1,7 @@
 -- What is looked for in items is the first fault.
-use Rattle.std.proofs.Common.{ℕ, ◌≡◌, ◌<◌, ◌≤◌, ◌+◌, inl, inr, List, [], ◌∷◌, length, reverse, Bool, true, false, Option, Some, None, Result, Ok, Err, refl, arith, sym, ◌∙◌, ap}
-use Rattle.std.specs.Prelude.{if◌then◌else◌}
+use Rattle.std.proofs.Common.{ℕ, suc, ◌≡◌, ◌<◌, ◌≤◌, ◌+◌, ◌⊎◌, inl, inr, List, [], ◌∷◌, length, reverse, Bool, true, false, Option, Some, None, Result, Ok, Err, refl, arith, sym, ◌∙◌, ap}
+use Rattle.std.specs.Prelude.{if◌then◌else◌, nat_lt}
+use Rattle.std.proofs.lemmas.Bool.{cases_lt, lt-ltb, ltb-true}
 use Rattle.cat_values.specs.Value.{Term, Terms, Atom, AllEvents, EmptyRelation, EmptySet, Join, Mark, Not, On, Apply, NoTerm, OneMore}
 use Rattle.binding_kinds.specs.declared.fault.ModelFault.{ModelFault}
 use Rattle.binding_kinds.specs.declared.fault.ModelFault.TheVariants as faults
@@ -9,8 +10,8 @@ use Rattle.binding_kinds.specs.Value.{Naming, Clause, Group, Check, Mute, Define
 use Rattle.binding_kinds.specs.Kinds.{found, takes_body}
 use Rattle.binding_kinds.specs.Meanings.{parameter_of}
 use Rattle.binding_kinds.specs.Senses.{Sense, sense_of, count_of, kind_in}
-use Rattle.binding_kinds.specs.Faults.{width, widths, IsAmong, IsFaultAt, IsFaultOfParameters, IsFaultInside, IsFaultApplied, IsFaultOfBody, IsFaultOfBodies, IsFaultOfItem, FirstFault, HasNoFault, with_own, extended, senses_after}
-use Rattle.binding_kinds.specs.Verdict.{or_else, is_seen, of_parameters}
+use Rattle.binding_kinds.specs.Faults.{width, widths, IsAmong, IsFaultAt, IsFaultOfParameter, IsFaultOfParameters, IsFaultInside, IsFaultApplied, IsFaultOfBody, IsFaultOfBodies, IsFaultOfItem, FirstFault, HasNoFault, with_own, extended, senses_after}
+use Rattle.binding_kinds.specs.Verdict.{or_else, unless, is_seen, of_parameter, of_parameters}
 use Rattle.binding_kinds.specs.First.{of_inside, of_applied, first_of_body, first_of_bodies, first_of_item, first}
 use Rattle.binding_kinds.proofs.First.{Judges, in_turn, moved, tested, named, judged}
 use Rattle.binding_kinds.proofs.FirstGroup.{seen_is, is_seen_of, judged_in}
@@ -22,20 +23,32 @@ inside_parameters seen (x ∷ xs) p k h = elim h [
   | inr (after, e, f) ↦ let lt : after < length xs = inside_parameters (x ∷ seen) xs after k f in omega (arith, e, lt)
 ]
 
+judged_parameter : (seen : List (List ℕ)) (x : List ℕ) → Judges (λ p k. (p ≡ 0) × IsFaultOfParameter seen x k) (of_parameter seen x)
+judged_parameter seen x = at_tests (is_seen seen x) (nat_lt (length seen) 8) (seen_is seen x) (is_seen_of seen x) (lt-ltb (length seen) 8) (ltb-true (length seen) 8)
+  where
+    at_tests : (b few : Bool) → (b ≡ true → IsAmong seen x) → (IsAmong seen x → b ≡ true) → (length seen < 8 → few ≡ true) → (few ≡ true → length seen < 8)
+        → Judges (λ p k. (p ≡ 0) × IsFaultOfParameter seen x k) (if b then Some faults.Duplicate else unless few faults.TooLarge)
+    at_tests true few is of lt lt' = record {
+      place = 0;
+      there = (refl, inl (is refl, refl));
+      none_before = λ p l h. inr (sym h.0, elim h.1 [ inl d ↦ rw d.1 (omega arith) | inr m ↦ rw m.1 (omega arith) ]);
+    }
+    at_tests false true is of lt lt' = λ p l h. elim h.1 [ inl d ↦ let f : false ≡ true = of d.0 in cc | inr m ↦ let f = lt' refl in let g = m.0 in absurd (omega (arith, f, g)) ]
+    at_tests false false is of lt lt' = record {
+      place = 0;
+      there = (refl, inr (at_least (cases_lt (length seen) 8), refl));
+      none_before = λ p l h. inr (sym h.0, elim h.1 [ inl d ↦ absurd (let f : false ≡ true = of d.0 in cc) | inr m ↦ rw m.1 (omega arith) ]);
+    }
+      where
+        at_least : (length seen < 8) ⊎ (8 ≤ length seen) → 8 ≤ length seen
+        at_least (inl less) = absurd (let f : false ≡ true = lt less in cc)
+        at_least (inr le) = le
+
 judged_parameters : (seen ps : List (List ℕ)) → Judges (IsFaultOfParameters seen ps) (of_parameters seen ps)
 judged_parameters seen [] = λ p k h. absurd h
-judged_parameters seen (x ∷ xs) = at_test (is_seen seen x) (seen_is seen x) (is_seen_of seen x) (judged_parameters (x ∷ seen) xs)
-  where
-    at_test : (b : Bool) → (b ≡ true → IsAmong seen x) → (IsAmong seen x → b ≡ true) → Judges (IsFaultOfParameters (x ∷ seen) xs) (of_parameters (x ∷ seen) xs)
-        → Judges (IsFaultOfParameters seen (x ∷ xs)) (if b then Some faults.Duplicate else of_parameters (x ∷ seen) xs)
-    at_test true is of rest =
-        in_turn _ _ 1 (Some faults.Duplicate) (of_parameters (x ∷ seen) xs) (λ p k s. omega (arith, s.0)) (λ p k (after, e, f). omega (arith, e))
-        (record { place = 0; there = (refl, is refl, refl); none_before = λ p l h. inr (sym h.0, rw h.2 (omega arith)) })
-        (moved (IsFaultOfParameters (x ∷ seen) xs) 1 _ rest)
-    at_test false is of rest =
-        in_turn _ _ 1 None (of_parameters (x ∷ seen) xs) (λ p k s. omega (arith, s.0)) (λ p k (after, e, f). omega (arith, e))
-        (λ p k h. let e : false ≡ true = of h.1 in cc)
-        (moved (IsFaultOfParameters (x ∷ seen) xs) 1 _ rest)
+judged_parameters seen (x ∷ xs) =
+    in_turn _ _ 1 _ _ (λ p k s. omega (arith, s.0)) (λ p k (after, e, f). omega (arith, e))
+    (judged_parameter seen x) (moved (IsFaultOfParameters (x ∷ seen) xs) 1 _ (judged_parameters (x ∷ seen) xs))
 
 judged_inside : (o : Option ℕ) (f : Option Found) → Judges (λ p k. (p ≡ 0) × IsFaultInside o f k) (of_inside o f)
 judged_inside None f = named 0 false f
@@ -138,3 +151,17 @@ after_item ss names from c cs (Some k) q f g = record {
 pub judged_items : (ss : List Sense) (names : List Naming) (from : ℕ) (cs : List Clause) → JudgesItems ss names from cs (first ss names from cs)
 judged_items ss names from [] = λ i p k h. absurd h
 judged_items ss names from (c ∷ cs) = after_item ss names from c cs (first_of_item ss names from c) (first (senses_after ss names c) (extended ss names from c) (from + 1) cs) (judged_item ss names from c) (judged_items (senses_after ss names c) (extended ss names from c) (from + 1) cs)
+
+-- parameters without fault are at most eight
+few_after : (seen ps : List (List ℕ)) → length seen ≤ 8 → of_parameters seen ps ≡ None → length seen + length ps ≤ 8
+few_after seen [] le e = omega (arith, le)
+few_after seen (x ∷ xs) le e = at_tests (is_seen seen x) (nat_lt (length seen) 8) (ltb-true (length seen) 8) e (λ le h. few_after (x ∷ seen) xs le h)
+  where
+    at_tests : (b few : Bool) → (few ≡ true → length seen < 8) → or_else (if b then Some faults.Duplicate else unless few faults.TooLarge) (of_parameters (x ∷ seen) xs) ≡ None
+        → (suc (length seen) ≤ 8 → of_parameters (x ∷ seen) xs ≡ None → suc (length seen) + length xs ≤ 8) → length seen + suc (length xs) ≤ 8
+    at_tests true few lt h rest = absurd (let f : Some faults.Duplicate ≡ None = h in cc)
+    at_tests false true lt h rest = let l = lt refl in let r = rest (omega (arith, l)) h in omega (arith, r)
+    at_tests false false lt h rest = absurd (let f : Some faults.TooLarge ≡ None = h in cc)
+
+pub few_parameters : (ps : List (List ℕ)) → of_parameters [] ps ≡ None → length ps ≤ 8
+few_parameters ps e = let h = few_after [] ps (omega arith) e in omega (arith, h)

@@ -4,6 +4,9 @@ pub mod FirstGroup
 pub mod FirstItem
 pub mod Fitting
 pub mod Combinations
+pub mod Sizes
 pub mod Applications
 pub mod Tables
 pub mod Bodies
+pub mod Sound
+pub mod Fitted

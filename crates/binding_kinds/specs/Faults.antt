@@ -96,11 +96,15 @@ IsFaultIn ss names from recursive seen (b ∷ bs) place k =
     ⊎ (((after : ℕ) × (place ≡ 1 + after) × IsFaultAt ss names from false b.body after k)
     ⊎ ((after : ℕ) × (place ≡ 1 + width b.body + after) × IsFaultIn ss names from recursive (b.name ∷ seen) bs after k))
 
--- The parameters, after those seen, have this fault at this place: one stands twice.
+-- A parameter, after those seen, has this fault: it stands twice, or it is the ninth.
+abbrev pub IsFaultOfParameter : List (List ℕ) → List ℕ → ModelFault → Type 0
+IsFaultOfParameter seen p k = (IsAmong seen p × (k ≡ faults.Duplicate)) ⊎ ((8 ≤ length seen) × (k ≡ faults.TooLarge))
+
+-- The parameters, after those seen, have this fault at this place.
 abbrev pub IsFaultOfParameters : List (List ℕ) → List (List ℕ) → ℕ → ModelFault → Type 0
 IsFaultOfParameters seen [] place k = ⊥
 IsFaultOfParameters seen (p ∷ ps) place k =
-    ((place ≡ 0) × IsAmong seen p × (k ≡ faults.Duplicate))
+    ((place ≡ 0) × IsFaultOfParameter seen p k)
     ⊎ ((after : ℕ) × (place ≡ 1 + after) × IsFaultOfParameters (p ∷ seen) ps after k)
 
 -- A name of a body that is no parameter: nothing binds it, or it is a function without arguments.

@@ -1,14 +1,17 @@
 -- What a function of a model is to those who apply it, from its parameters and its body.
-use Rattle.std.specs.Prelude.{ℕ, suc, ◌+◌, ◌*◌, List, [], ◌∷◌, length, reverse, Bool, true, false, not, ◌&&◌, ◌||◌, nat_eq, if◌then◌else◌, Option, Some, None, is_some, Result, Ok, Err}
+use Rattle.std.specs.Prelude.{ℕ, suc, List, [], ◌∷◌, length, reverse, Bool, true, false, not, ◌&&◌, ◌||◌, nat_eq, if◌then◌else◌, Option, Some, None, is_some, Result, Ok, Err}
 use Rattle.cat_values.specs.Value.{Term, Terms, Atom, AllEvents, EmptyRelation, EmptySet, Join, Mark, Not, On, Apply, NoTerm, OneMore}
 use Rattle.binding_kinds.specs.declared.fault.ModelFault.{ModelFault}
 use Rattle.binding_kinds.specs.declared.kinds.Kind.{Kind}
 use Rattle.binding_kinds.specs.declared.kinds.Kind.TheVariants.{OfSet, OfRelation, OfAny}
+use Rattle.binding_kinds.specs.declared.scope.Found.{Found}
+use Rattle.binding_kinds.specs.declared.scope.Binder.{Binder}
 use Rattle.binding_kinds.specs.declared.scope.Binder.TheVariants as binders
 use Rattle.binding_kinds.specs.Value.{Naming}
 use Rattle.binding_kinds.specs.Kinds.{found, kind_found, joined, marked, narrowed, takes, is_relation, is_set, is_turned}
 use Rattle.binding_kinds.specs.Combinations.{has_any}
 use Rattle.binding_kinds.specs.Meanings.{parameter_of}
+use Rattle.binding_kinds.specs.Formula.{Formula, Value, Parameter, Everything, NoPairs, NoEvents, Joined, Marked, Complement, Identity, filled}
 use Rattle.binding_kinds.specs.Senses.{Sense, sense_of, count_of}
 
 -- The parameters, with the kinds of the arguments, hide the names that the function sees.
@@ -104,38 +107,37 @@ abbrev mutual
   is_under_among ss names ps place under turned i (OneMore a others) =
       is_under_in ss names ps place (under || turned i) a || is_under_among ss names ps place under turned (suc i) others
 
--- how much a name counts, where it is the parameter and where it is none
-abbrev pub part_of : ℕ → (ℕ → ℕ) → Option ℕ → ℕ
-part_of other own None = other
-part_of other own (Some p) = own p
+abbrev pub bound_formula : Found → Binder → Formula
+bound_formula f (binders.Predefined p) = Value f
+bound_formula f (binders.Bound i) = Value f
+bound_formula f (binders.Applicable g) = NoPairs
 
-abbrev pub constant_at : Option Sense → ℕ → ℕ
-constant_at None other = other
-constant_at (Some s) other = s.constant
+-- a name that was looked for among the parameters, and then among the other names
+abbrev pub named_formula : Option ℕ → Option Found → Formula
+named_formula (Some p) o = Parameter p
+named_formula None None = NoPairs
+named_formula None (Some f) = bound_formula f f.binder
 
-abbrev pub factor_at : Option Sense → ℕ → ℕ
-factor_at None i = 0
-factor_at (Some s) i = s.factor i
+abbrev pub applied_formula : Option Sense → List Formula → Formula
+applied_formula None arguments = NoPairs
+applied_formula (Some s) arguments = filled arguments s.formula
 
--- Of a size, the part that each name counts: what a name, a sign or an operator counts that is no parameter, and what
--- each parameter counts.
+-- An expression with the functions that it applies put in. What has a fault stands as the empty relation.
 abbrev mutual
-  pub parts_in : List Sense → List Naming → List (List ℕ) → ℕ → (ℕ → ℕ) → Term → ℕ
-  parts_in ss names ps other own (Atom x) = part_of other own (parameter_of (reverse ps) x)
-  parts_in ss names ps other own AllEvents = other
-  parts_in ss names ps other own EmptyRelation = other
-  parts_in ss names ps other own EmptySet = other
-  parts_in ss names ps other own (Join op a b) = parts_in ss names ps other own a + parts_in ss names ps other own b + other
-  parts_in ss names ps other own (Mark op a) = parts_in ss names ps other own a + other
-  parts_in ss names ps other own (Not a) = parts_in ss names ps other own a + other
-  parts_in ss names ps other own (On a) = parts_in ss names ps other own a + other
-  parts_in ss names ps other own (Apply x ts) =
-      let s = sense_seen ss names ps (count_of ts) x in
-      other * constant_at s 1 + parts_among ss names ps other own (factor_at s) 0 ts
+  pub formula_in : List Sense → List Naming → List (List ℕ) → Term → Formula
+  formula_in ss names ps (Atom x) = named_formula (parameter_of (reverse ps) x) (found names x)
+  formula_in ss names ps AllEvents = Everything
+  formula_in ss names ps EmptyRelation = NoPairs
+  formula_in ss names ps EmptySet = NoEvents
+  formula_in ss names ps (Join op a b) = Joined op (formula_in ss names ps a) (formula_in ss names ps b)
+  formula_in ss names ps (Mark op a) = Marked op (formula_in ss names ps a)
+  formula_in ss names ps (Not a) = Complement (formula_in ss names ps a)
+  formula_in ss names ps (On a) = Identity (formula_in ss names ps a)
+  formula_in ss names ps (Apply x ts) = applied_formula (sense_seen ss names ps (count_of ts) x) (formulas_in ss names ps ts)
 
-  pub parts_among : List Sense → List Naming → List (List ℕ) → ℕ → (ℕ → ℕ) → (ℕ → ℕ) → ℕ → Terms → ℕ
-  parts_among ss names ps other own factor i NoTerm = 0
-  parts_among ss names ps other own factor i (OneMore a others) = factor i * parts_in ss names ps other own a + parts_among ss names ps other own factor (suc i) others
+  pub formulas_in : List Sense → List Naming → List (List ℕ) → Terms → List Formula
+  formulas_in ss names ps NoTerm = []
+  formulas_in ss names ps (OneMore a others) = formula_in ss names ps a ∷ formulas_in ss names ps others
 
 -- An application to an argument that fits every kind fits every kind.
 abbrev pub sense_of_function : List Sense → List Naming → List (List ℕ) → Term → Sense
@@ -144,6 +146,5 @@ sense_of_function ss names ps body = record {
   kind_with = λ ks. if has_any ks then OfAny else kind_of_body ss names ps ks body;
   clashes = λ ks. clashes_in ss names ps ks body;
   is_under = λ place. is_under_in ss names ps place false body;
-  constant = parts_in ss names ps 1 (λ p. 0) body;
-  factor = λ place. parts_in ss names ps 0 (λ p. if nat_eq p place then 1 else 0) body;
+  formula = formula_in ss names ps body;
 }

@@ -3,6 +3,7 @@ pub mod Kinds
 pub mod Verdict
 pub mod Combinations
 pub mod Meanings
+pub mod Formula
 pub mod Senses
 pub mod Functions
 pub mod Columns

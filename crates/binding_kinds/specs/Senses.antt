@@ -13,18 +13,18 @@ use Rattle.binding_kinds.specs.declared.function.Function.{Function}
 use Rattle.binding_kinds.specs.Value.{Naming}
 use Rattle.binding_kinds.specs.Kinds.{found, kind_found, joined, marked, narrowed, takes, is_relation, is_set, is_turned}
 use Rattle.binding_kinds.specs.Combinations.{number_of, unknown}
+use Rattle.binding_kinds.specs.Formula.{Formula, constant_of, factor_of, HasParameters, postfix}
 use Rattle.binding_kinds.specs.Verdict.{or_else, unless, of_name}
 
 -- A function, to those who apply it: how many parameters it has, the kind of an application to arguments of some
 -- kinds, whether an operator of the body does not take its operands then, whether a parameter stands under a
--- complement or right of a difference, how much of the body is no parameter, and how often each parameter stands in it.
+-- complement or right of a difference, and its body with the functions that it applies put in.
 pub record Sense : Type 0 where
   pub arity : ℕ
   pub kind_with : List Kind → Kind
   pub clashes : List Kind → Bool
   pub is_under : ℕ → Bool
-  pub constant : ℕ
-  pub factor : ℕ → ℕ
+  pub formula : Formula
 
 -- the sizes of arguments from that place on, each as often as its parameter stands in the body
 abbrev pub size_of_arguments : (ℕ → ℕ) → ℕ → List ℕ → ℕ
@@ -33,7 +33,7 @@ size_of_arguments factor place (s ∷ ss) = factor place * s + size_of_arguments
 
 -- the size of the body with each parameter counted as its argument
 abbrev pub size_with : Sense → List ℕ → ℕ
-size_with s sizes = s.constant + size_of_arguments s.factor 0 sizes
+size_with s sizes = constant_of s.formula + size_of_arguments (factor_of s.formula) 0 sizes
 
 abbrev pub with_arity : ℕ → Option Sense → Result Sense ModelFault
 with_arity count None = Err faults.Arity
@@ -142,10 +142,11 @@ pub record IsKept (f : Function) (s : Sense) : Type 0 where
   pub few : s.arity ≤ 8
   pub kinds : (kinds : List Kind) → length kinds ≡ s.arity → get_or f.signatures.items (number_of kinds) unknown ≡ record { kind = s.kind_with kinds; clashes = s.clashes kinds }
   pub under : (place : ℕ) → place < s.arity → get_or f.under place false ≡ s.is_under place
-  pub large : f.is_oversized ≡ true → (sizes : List ℕ) → length sizes ≡ s.arity → ArePositive sizes → 4096 < size_with s sizes
-  pub constant : f.is_oversized ≡ false → f.constant ≡ s.constant
-  pub factor : f.is_oversized ≡ false → (place : ℕ) → place < s.arity → get_or f.factors place 0 ≡ s.factor place
-  pub positive : (sizes : List ℕ) → length sizes ≡ s.arity → ArePositive sizes → 0 < size_with s sizes
+  pub within : HasParameters s.arity s.formula
+  pub large : f.is_oversized ≡ true → 4096 < length (postfix s.formula)
+  pub template : f.is_oversized ≡ false → f.template.items ≡ postfix s.formula
+  pub constant : f.is_oversized ≡ false → f.constant ≡ constant_of s.formula
+  pub factor : f.is_oversized ≡ false → (place : ℕ) → place < s.arity → get_or f.factors place 0 ≡ factor_of s.formula place
 
 abbrev pub AreKept : List Function → List Sense → Type 0
 AreKept [] [] = Unit {0}

@@ -1,5 +1,5 @@
 -- The first fault of names, as it is looked for.
-use Rattle.std.specs.Prelude.{ℕ, List, [], ◌∷◌, Bool, true, false, ◌&&◌, nat_le, bytes_eq, if◌then◌else◌, Option, Some, None, ◌||◌}
+use Rattle.std.specs.Prelude.{ℕ, List, [], ◌∷◌, Bool, true, false, ◌&&◌, nat_le, nat_lt, length, bytes_eq, if◌then◌else◌, Option, Some, None, ◌||◌}
 use Rattle.binding_kinds.specs.declared.fault.ModelFault.{ModelFault}
 use Rattle.binding_kinds.specs.declared.fault.ModelFault.TheVariants as faults
 use Rattle.binding_kinds.specs.declared.kinds.Kind.{Kind}
@@ -35,10 +35,14 @@ abbrev pub is_seen : List (List ℕ) → List ℕ → Bool
 is_seen [] x = false
 is_seen (n ∷ ns) x = bytes_eq n x || is_seen ns x
 
--- the fault of parameters after those that are seen, the latest first: one that stands twice
+-- the fault of a parameter after those that are seen: it stands twice, or it is the ninth
+abbrev pub of_parameter : List (List ℕ) → List ℕ → Option ModelFault
+of_parameter seen p = if is_seen seen p then Some faults.Duplicate else unless (nat_lt (length seen) 8) faults.TooLarge
+
+-- the first fault of parameters after those that are seen, the latest first
 abbrev pub of_parameters : List (List ℕ) → List (List ℕ) → Option ModelFault
 of_parameters seen [] = None
-of_parameters seen (p ∷ ps) = if is_seen seen p then Some faults.Duplicate else of_parameters (p ∷ seen) ps
+of_parameters seen (p ∷ ps) = or_else (of_parameter seen p) (of_parameters (p ∷ seen) ps)
 
 abbrev pub is_of_set : Kind → Bool
 is_of_set OfSet = true

@@ -3,7 +3,7 @@
 ghost use Rattle.std.specs.Prelude.{◌≡◌, ◌+◌, ◌*◌, ◌^◌, ◌<◌, ◌≤◌, [], List, reverse, map, get_or, Ok, Err, Some, None, true, false, not, ◌||◌, MatchResult};
 ghost use Rattle.binding_kinds.specs.Value.{Naming, entry_of, bound_of};
 ghost use Rattle.binding_kinds.specs.Kinds.{kind_found, found, joined, takes, marked, narrowed, is_set, is_relation};
-ghost use Rattle.binding_kinds.specs.Verdict.{is_seen, or_else, unless, of_name, of_slot, of_parameters};
+ghost use Rattle.binding_kinds.specs.Verdict.{is_seen, or_else, unless, of_name, of_slot, of_parameter, of_parameters};
 ghost use Rattle.binding_kinds.specs.First.{first_in, of_binding};
 ghost use Rattle.binding_kinds.specs.Seen.{names_of};
 ghost use Rattle.binding_kinds.specs.Combinations.{digit, unknown};
@@ -15,7 +15,7 @@ use crate::function::{Function, MAX_SIZE};
 use crate::kinds::{Kind, is_turned, joined, takes};
 use crate::scope::{Binder, Entry, Found, find, kind_found};
 use crate::signature::weighed;
-use cat_values::{Binding, Expression, Infix};
+use cat_values::{Binding, Expression, Infix, MAX_PARAMETERS};
 use source_text::Name;
 
 /// The kind of an expression, its size and its first fault.
@@ -375,13 +375,25 @@ fn is_among(before: &[Name], name: &Name) -> bool
     seen
 }
 
-/// The first fault of the parameters of a function: one that stands twice.
+/// The fault of a parameter after those before it.
+fn one_parameter_fault(before: &[Name], parameter: &Name) -> Option<ModelFault>
+    ensures { result ≡ of_parameter (reverse before.now) parameter.now }
+{
+    if is_among(before, parameter) {
+        return Some(ModelFault::Duplicate);
+    }
+    unless(before.len() < MAX_PARAMETERS, ModelFault::TooLarge)
+}
+
+/// The first fault of the parameters of a function: one that stands twice, or a ninth, which no
+/// text has.
 pub fn parameter_fault(parameters: &[Name]) -> Option<ModelFault>
     ensures { result ≡ of_parameters [] parameters.now }
 {
     for (place, parameter) in parameters.iter().enumerate() {
-        if is_among(&parameters[..place], parameter) {
-            return Some(ModelFault::Duplicate);
+        let fault = one_parameter_fault(&parameters[..place], parameter);
+        if fault.is_some() {
+            return fault;
         }
     }
     None

@@ -12,7 +12,7 @@ mod signature;
 
 pub use column::signatures;
 pub use fault::ModelFault;
-pub use function::{Function, MAX_PARAMETERS, MAX_SIZE, Piece, count_parts};
+pub use function::{Function, MAX_SIZE, Piece, count_parts};
 pub use judging::{Judged, group_fault, judge, or_else, parameter_fault, unless};
 pub use kinds::{Kind, is_turned, takes_body};
 pub use scope::{Binder, Entry, Found, Input, Scope, Used, find};

@@ -10,7 +10,7 @@ use Rattle.std.proofs.lemmas.Simd.{get_or-put_chunk_at, get_or-put_chunk_above, 
 use Rattle.std.specs.Simd.Lanes.{zip2, sel_l, top, put_chunk, chunk}
 use Rattle.std.specs.Int.RustNames.{bit_or, bit_and}
 use Rattle.std.proofs.Common.{subst, ◌*◌, w64, Bool, false, cond, eqb, map}
-use Rattle.bit_relations.proofs.Bits.{Bit-chosen, Bit-width, word_fits}
+use Rattle.bit_relations.proofs.Bits.{Bit-chosen, Bit-width, Bit-zero, word_fits}
 use Rattle.bit_relations.specs.Relation.{Bit}
 use Rattle.bit_relations.specs.Rows.{RowsHave, AllFit, AreWritten, AreLanesJoined, IsStored, JoinedFrom, Taken}
 
@@ -186,6 +186,14 @@ joined_more at c acc select others old new before step i b lt = (
     ]
   ])),
 )
+
+-- a word without bits adds nothing
+pub joined_no_more : (at c : ℕ) (acc select others old : List ℕ) → ((i b : ℕ) → i < 8 → RowsHave old i b ↔ JoinedFrom at c (RowsHave acc) (RowsHave select) (RowsHave others) i b) → get_or others (c + at) 0 ≡ 0 → (i b : ℕ) → i < 8 → RowsHave old i b ↔ JoinedFrom at (c + 1) (RowsHave acc) (RowsHave select) (RowsHave others) i b
+joined_no_more at c acc select others old before empty =
+    joined_more at c acc select others old old before (λ i lt b. (
+      (λ h. inl h),
+      (λ h. elim h [ inl o ↦ o | inr t ↦ absurd (Bit-zero b (subst (λ (x : ℕ). Bit x b) empty t.1)) ]),
+    ))
 
 -- they fit
 pub joined_fits : (at end : ℕ) (acc select others joined : List ℕ) (i : ℕ) → AllFit others → get_or acc i 0 < 2 ^ 64 → ((b : ℕ) → RowsHave joined i b ↔ JoinedFrom at end (RowsHave acc) (RowsHave select) (RowsHave others) i b) → get_or joined i 0 < 2 ^ 64

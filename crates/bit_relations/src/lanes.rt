@@ -149,7 +149,9 @@ fn join_words(
     let mut joined = acc;
     for c in 0..middles {
         let word = others[c + at];
-        joined = join(joined, select, c as u32, word);
+        if word != 0 {
+            joined = join(joined, select, c as u32, word);
+        }
     }
     joined
 }

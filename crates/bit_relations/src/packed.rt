@@ -77,6 +77,15 @@ impl PackedRelations {
         self.counts[k] as usize
     }
 
+    /// Takes all relations away, and keeps the memory.
+    pub fn clear(&mut self)
+        ensures { self.new ≡ [] }
+    {
+        self.counts.clear();
+        self.starts.clear();
+        self.words.clear();
+    }
+
     /// Writes one of them into a place.
     pub fn read_into(&self, k: usize, place: &mut Rel)
         requires { k < length self.now }

@@ -344,6 +344,9 @@ impl Rel {
     {
         let count = left.count;
         self.clear(count);
+        if left.is_empty() || right.is_empty() {
+            return;
+        }
         rows::compose(
             &mut self.low,
             &left.low,

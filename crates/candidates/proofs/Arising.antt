@@ -2,8 +2,8 @@
 use Rattle.std.proofs.Common.{ℕ, ◌≡◌, ◌<◌, inl, inr, List, length, get_or, slice_get, Option, Some, Contains, sym, subst, ap, ◌∙◌}
 use Rattle.std.proofs.lemmas.Option.{slice_get_within, get_or_from_slice_get}
 use Rattle.bit_relations.specs.Relation.{Events, IsMember, IsEvents}
-use Rattle.candidates.specs.Orders.{numbers}
-use Rattle.candidates.specs.Ways.{Source, Derived, stored, read, chosen, accesses_in, is_load, is_store}
+use Rattle.candidates.specs.Events.{numbers, is_load, is_store}
+use Rattle.candidates.specs.Ways.{Source, Derived, stored, read, chosen, accesses_in}
 use Rattle.candidates.specs.Rounds.{Shows, Stepped, CanArise, IsRound, AllArise, store_event, load_event}
 use Rattle.candidates.specs.declared.candidate.Event.{Event}
 use Rattle.candidates.specs.declared.reading.Reading.{Reading}

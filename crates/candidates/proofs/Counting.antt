@@ -6,7 +6,8 @@ use Rattle.std.proofs.lemmas.Bool.Decides.{nat_tests}
 use Rattle.std.proofs.lemmas.List.{length-append, length-map, length-take, append-nil}
 use Rattle.std.proofs.Math.Nat.{one-le-mul, mul-zero, zero-mul, suc-mul, mul_comm, le-mul_of_pos_right}
 use Rattle.candidates.specs.Lists.{tuples, IsFiltered, none, kept, joined_with}
-use Rattle.candidates.specs.Orders.{has_store, with_new, AreDistinct, orders_of, numbers, is_thread_store, stores_of, all_orders, rows_of, AreApart}
+use Rattle.candidates.specs.Events.{has_store, AreDistinct, numbers}
+use Rattle.candidates.specs.Orders.{with_new, orders_of, is_thread_store, stores_of, all_orders, rows_of, AreApart}
 use Rattle.candidates.specs.declared.candidate.Event.{Event}
 use Rattle.candidates.proofs.OrderLaws.{orders_more, has_store-append}
 use Rattle.candidates.proofs.Stores.{orders_are, one_event_more, stores_are}

@@ -3,7 +3,8 @@ use Rattle.std.proofs.Common.{ℕ, ◌≡◌, ◌<◌, ◌≤◌, ◌+◌, ◌�
 use Rattle.std.proofs.lemmas.Bool.{cases_eq, cases_lt}
 use lib.ListN.{get_or-append}
 use Rattle.bit_relations.specs.Pairs.{Union, Plus}
-use Rattle.candidates.specs.Ways.{Accesses, Source, ReadsFrom, IsWay, Derived, stored, read, chosen, IsPossible, IsProper}
+use Rattle.candidates.specs.Events.{ReadsFrom}
+use Rattle.candidates.specs.Ways.{Accesses, Source, IsWay, Derived, stored, read, chosen, IsPossible, IsProper}
 use Rattle.candidates.proofs.Cycles.{turned_back, none_fails, none_first}
 
 abbrev Linked : Accesses → List ℕ → ℕ → ℕ → Type 0

@@ -5,8 +5,8 @@ use Rattle.std.proofs.lemmas.List.{append-nil, append_assoc, map-append, take_al
 use Rattle.std.proofs.lemmas.Option.{slice_get_within, get_or_from_slice_get, slice_get_cases}
 use Rattle.bit_relations.specs.Relation.{Events, IsMember}
 use Rattle.candidates.specs.Lists.{lists_of, IsFiltered, none, kept, left}
-use Rattle.candidates.specs.Orders.{numbers}
-use Rattle.candidates.specs.Ways.{Source, Derived, IsPossible, nexts, accesses_in, sources_of, is_load, may_read}
+use Rattle.candidates.specs.Events.{numbers, is_load}
+use Rattle.candidates.specs.Ways.{Source, Derived, IsPossible, nexts, accesses_in, sources_of, may_read}
 use Rattle.candidates.specs.Rounds.{Shows, HasDerived, GainsNext}
 use Rattle.candidates.specs.declared.candidate.Event.{Event}
 use Rattle.candidates.specs.declared.reading.Reading.{Reading}

@@ -8,8 +8,8 @@ use Rattle.std.proofs.lemmas.List.Concat.{flat_map-append}
 use Rattle.std.proofs.lemmas.Option.{slice_get_within, get_or_from_slice_get}
 use Rattle.bit_relations.specs.Relation.{Events, IsMember}
 use Rattle.candidates.specs.Lists.{lists_of, tuples, IsFiltered, none, kept, left}
-use Rattle.candidates.specs.Orders.{numbers}
-use Rattle.candidates.specs.Ways.{Derived, IsWay, IsPossible, nexts, accesses_in, is_load}
+use Rattle.candidates.specs.Events.{numbers, is_load}
+use Rattle.candidates.specs.Ways.{Derived, IsWay, IsPossible, nexts, accesses_in}
 use Rattle.candidates.specs.Rounds.{Shows, HasDerived, TellsPossible, GainsNext, AreNext, AreOver, HasOver, HasWays, load_event}
 use Rattle.candidates.specs.declared.candidate.Event.{Event}
 use Rattle.candidates.specs.declared.reading.Reading.{Reading}

@@ -6,8 +6,8 @@ use Rattle.std.proofs.lemmas.Option.{slice_get_within, get_or_from_slice_get, sl
 use Rattle.std.proofs.Math.Seq.{take-length}
 use Rattle.std.specs.Option.{option_map}
 use Rattle.bit_relations.specs.Relation.{Events, IsMember, IsEvents}
-use Rattle.candidates.specs.Orders.{numbers}
-use Rattle.candidates.specs.Ways.{Source, accesses_in, sources_of, is_load, is_store, may_read}
+use Rattle.candidates.specs.Events.{numbers, is_load, is_store}
+use Rattle.candidates.specs.Ways.{Source, accesses_in, sources_of, may_read}
 use Rattle.candidates.specs.Rounds.{Shows, AreLoads, AreStores, load_event}
 use Rattle.candidates.specs.declared.candidate.Event.{Event}
 use Rattle.candidates.specs.declared.reading.Reading.{Reading}

@@ -7,10 +7,11 @@ use Rattle.thread_runs.specs.declared.value.Value.{Value}
 use Rattle.thread_runs.specs.declared.run.Run.{Run}
 use Rattle.candidates.proofs.Parting.{each_append}
 use Rattle.candidates.proofs.Pruning.{load_front, load_behind, store_split}
-use Rattle.candidates.specs.Keys.{HasKey, IsWithin, HasLoad, HasStore, AreKeys, PartsAreKeyed, ThreadsAreKeyed, bit_of}
-use Rattle.candidates.specs.Parts.{part_events, initial_from, IsSketch, AreSketches, HasWritesOf, AreSome, end, kept_one, left_out, Among, IsChoice, HasRead, HasWrite, IsUnread, IsSifted, IsMade, AreBelow, NamesRuns, AreThreads}
+use Rattle.candidates.specs.Keys.{HasKey, IsWithin, AreKeys, PartsAreKeyed, ThreadsAreKeyed, bit_of}
+use Rattle.candidates.specs.Events.{thread_events, initial_stores, HasLoad, HasStore, CannotRead}
+use Rattle.candidates.specs.Parts.{IsSketch, AreSketches, HasWritesOf, AreSome, end, kept_one, left_out, Among, IsChoice, HasRead, HasWrite, IsUnread, IsSifted, IsMade, AreBelow, NamesRuns, AreThreads}
 use Rattle.std.specs.List.{AllZip}
-use Rattle.candidates.specs.Layouts.{ArePartsOf, AreThreadsOf, AreChosen, chosen_events, HasRun, HaveParts, CannotRead}
+use Rattle.candidates.specs.Layouts.{ArePartsOf, AreThreadsOf, AreChosen, chosen_events, HasRun, HaveParts}
 use Rattle.candidates.specs.declared.candidate.Action.TheVariants.{Write}
 use Rattle.candidates.specs.declared.candidate.Event.{Event}
 use Rattle.candidates.specs.declared.keys.KeySet.{KeySet}
@@ -92,9 +93,9 @@ all_threads values t (r ∷ runs) (s ∷ sks) (p ∷ ts) f m = (parts_of values 
 part_keyed : (values : List Value) (t : ℕ) (runs : List Run) (s : Sketch) (p : Part) → IsSketch values runs s → IsMade t runs s p → AreKeys (bit_of values) p.events.items p.reads p.writes
 part_keyed values t runs s p f m =
     let same : m.3 ≡ f.0 = some_is (sym m.4 ∙ f.1) in
-    subst (λ (es : List Event). AreKeys (bit_of values) es p.reads p.writes) (sym (m.5.events ∙ ap (λ (r : Run). part_events t r.events.items) same))
-    (subst (λ (k : KeySet). AreKeys (bit_of values) (part_events t f.0.events.items) k p.writes) (sym m.1)
-    (subst (λ (k : KeySet). AreKeys (bit_of values) (part_events t f.0.events.items) s.reads k) (sym m.2) (f.2 t)))
+    subst (λ (es : List Event). AreKeys (bit_of values) es p.reads p.writes) (sym (m.5.events ∙ ap (λ (r : Run). thread_events t r.events.items) same))
+    (subst (λ (k : KeySet). AreKeys (bit_of values) (thread_events t f.0.events.items) k p.writes) (sym m.1)
+    (subst (λ (k : KeySet). AreKeys (bit_of values) (thread_events t f.0.events.items) s.reads k) (sym m.2) (f.2 t)))
   where
     some_is : {x y : Run} → Some x ≡ Some y → x ≡ y
     some_is e = cc
@@ -117,7 +118,7 @@ all_keyed values t (r ∷ runs) (s ∷ sks) (p ∷ ts) f m = (parts_keyed values
 -- the sketches of chosen runs
 abbrev pub AreTheirs : List Value → List ℕ → List Run → List Sketch → Type 0
 AreTheirs values [] [] [] = Unit {0}
-AreTheirs values (k ∷ ks) (r ∷ rs) (c ∷ cs) = (c.run ≡ k) × ((t : ℕ) → AreKeys (bit_of values) (part_events t r.events.items) c.reads c.writes) × AreTheirs values ks rs cs
+AreTheirs values (k ∷ ks) (r ∷ rs) (c ∷ cs) = (c.run ≡ k) × ((t : ℕ) → AreKeys (bit_of values) (thread_events t r.events.items) c.reads c.writes) × AreTheirs values ks rs cs
 AreTheirs values _ _ _ = ⊥
 
 some_at : (ss : List Sketch) (k : ℕ) → k < length ss → (s : Sketch) × (slice_get ss k ≡ Some s) × Among ss s
@@ -140,7 +141,7 @@ their_sketches values (v ∷ runs) (s ∷ sks) (k ∷ ks) (r ∷ rs) h c =
     let e : (x.0.run ≡ k) × IsSketch values v.items x.0 = h.0.each k x.0 x.1 in
     let rest : (cs : List Sketch) × IsChoice sks cs × AreTheirs values ks rs cs = their_sketches values runs sks ks rs h.1 c.1 in
     let same : e.1.0 ≡ r = some_is (sym e.1.1 ∙ ap (λ (j : ℕ). slice_get v.items j) e.0 ∙ c.0) in
-    (x.0 ∷ rest.0, (x.2, rest.1), (e.0, (λ t. subst (λ (q : Run). AreKeys (bit_of values) (part_events t q.events.items) x.0.reads x.0.writes) same (e.1.2 t)), rest.2))
+    (x.0 ∷ rest.0, (x.2, rest.1), (e.0, (λ t. subst (λ (q : Run). AreKeys (bit_of values) (thread_events t q.events.items) x.0.reads x.0.writes) same (e.1.2 t)), rest.2))
   where
     some_is : {x y : Run} → Some x ≡ Some y → x ≡ y
     some_is e = cc
@@ -152,11 +153,11 @@ read_there values t [] (x ∷ rs) cs a b h r = absurd h
 read_there values t (k ∷ ks) [] cs a b h r = absurd h
 read_there values t (k ∷ ks) (x ∷ rs) [] a b h r = absurd h
 read_there values t (k ∷ ks) (x ∷ rs) (c ∷ cs) a b h (inl r) =
-    let g : (l : ℕ) × (v : Value) × (bit_of values l v ≡ Some (a, b)) × HasLoad l v (part_events t x.events.items) = (h.1 t).loads a b r in
-    (g.0, g.1, g.2, load_front g.0 g.1 (part_events t x.events.items) (chosen_events (t + 1) rs) g.3)
+    let g : (l : ℕ) × (v : Value) × (bit_of values l v ≡ Some (a, b)) × HasLoad l v (thread_events t x.events.items) = (h.1 t).loads a b r in
+    (g.0, g.1, g.2, load_front g.0 g.1 (thread_events t x.events.items) (chosen_events (t + 1) rs) g.3)
 read_there values t (k ∷ ks) (x ∷ rs) (c ∷ cs) a b h (inr r) =
     let g : (l : ℕ) × (v : Value) × (bit_of values l v ≡ Some (a, b)) × HasLoad l v (chosen_events (t + 1) rs) = read_there values (t + 1) ks rs cs a b h.2 r in
-    (g.0, g.1, g.2, load_behind g.0 g.1 (part_events t x.events.items) (chosen_events (t + 1) rs) g.3)
+    (g.0, g.1, g.2, load_behind g.0 g.1 (thread_events t x.events.items) (chosen_events (t + 1) rs) g.3)
 
 written_there : (values : List Value) (t : ℕ) (ks : List ℕ) (rs : List Run) (cs : List Sketch) (l : ℕ) (v : Value) (a b : ℕ) → AreTheirs values ks rs cs → bit_of values l v ≡ Some (a, b) → HasStore l v (chosen_events t rs) → HasWrite cs a b
 written_there values t [] [] [] l v a b h e s = absurd s
@@ -165,7 +166,7 @@ written_there values t [] (x ∷ rs) cs l v a b h e s = absurd h
 written_there values t (k ∷ ks) [] cs l v a b h e s = absurd h
 written_there values t (k ∷ ks) (x ∷ rs) [] l v a b h e s = absurd h
 written_there values t (k ∷ ks) (x ∷ rs) (c ∷ cs) l v a b h e s =
-    elim (store_split l v (part_events t x.events.items) (chosen_events (t + 1) rs) s) [
+    elim (store_split l v (thread_events t x.events.items) (chosen_events (t + 1) rs) s) [
       | inl q ↦ inl ((h.1 t).stores l v a b q e)
       | inr q ↦ inr (written_there values (t + 1) ks rs cs l v a b h.2 e q)
     ]
@@ -208,14 +209,14 @@ left_out_there values initial writes runs olds news ts keys sketched sifted made
     ]
 
 -- the initial stores
-initial_append : (at n : ℕ) (vs : List Value) (v : Value) → n ≡ at + length vs → initial_from at (vs ++ v ∷ []) ≡ initial_from at vs ++ record { thread = None; action = Write n v } ∷ []
+initial_append : (at n : ℕ) (vs : List Value) (v : Value) → n ≡ at + length vs → initial_stores at (vs ++ v ∷ []) ≡ initial_stores at vs ++ record { thread = None; action = Write n v } ∷ []
 initial_append at n [] v e = let z : at ≡ n = omega (arith, e) in ap (λ (k : ℕ). record { thread = None; action = Write k v } ∷ []) z
 initial_append at n (x ∷ vs) v e = ap (λ (l : List Event). record { thread = None; action = Write at x } ∷ l) (initial_append (at + 1) n vs v (omega (arith, e)))
 
-pub initial_step : (vs : List Value) (i : ℕ) (d : Value) (old new : List Event) → i < length vs → new ≡ old ++ record { thread = None; action = Write i (get_or vs i d) } ∷ [] → old ≡ initial_from 0 (take i vs) → new ≡ initial_from 0 (take (i + 1) vs)
+pub initial_step : (vs : List Value) (i : ℕ) (d : Value) (old new : List Event) → i < length vs → new ≡ old ++ record { thread = None; action = Write i (get_or vs i d) } ∷ [] → old ≡ initial_stores 0 (take i vs) → new ≡ initial_stores 0 (take (i + 1) vs)
 initial_step vs i d old new lt is e =
     is ∙ ap (λ (l : List Event). l ++ record { thread = None; action = Write i (get_or vs i d) } ∷ []) e
-    ∙ sym (ap (λ (l : List Value). initial_from 0 l) (take_more vs i d lt) ∙ initial_append 0 i (take i vs) (get_or vs i d) (long (length-take-le i vs (few lt))))
+    ∙ sym (ap (λ (l : List Value). initial_stores 0 l) (take_more vs i d lt) ∙ initial_append 0 i (take i vs) (get_or vs i d) (long (length-take-le i vs (few lt))))
   where
     long : length (take i vs) ≡ i → i ≡ 0 + length (take i vs)
     long q = omega (arith, q)

@@ -4,8 +4,8 @@ use Rattle.std.specs.Option.{option_map}
 use Rattle.std.proofs.lemmas.List.{length-map}
 use Rattle.std.proofs.lemmas.Bool.{cases_lt, cases_eq}
 use Rattle.std.proofs.lemmas.Option.{slice_get_within, get_or_from_slice_get, slice_get-map, slice_get_cases}
-use Rattle.candidates.specs.Orders.{numbers}
-use Rattle.candidates.specs.Ways.{IsProper, accesses_in, sources_of, is_load, is_store, may_read, reads, writes}
+use Rattle.candidates.specs.Events.{numbers, is_load, is_store, reads, writes}
+use Rattle.candidates.specs.Ways.{IsProper, accesses_in, sources_of, may_read}
 use Rattle.candidates.specs.declared.candidate.Event.{Event}
 use Rattle.candidates.specs.declared.candidate.Action.{Action}
 use Rattle.candidates.specs.declared.candidate.Action.TheVariants.{Read, Write, Fence}

@@ -6,7 +6,8 @@ use Rattle.std.proofs.lemmas.Bool.Decides.{nat_tests}
 use Rattle.std.proofs.lemmas.List.{replicate_more}
 use Rattle.std.proofs.lemmas.List.Folds.{list_any-append}
 use Rattle.candidates.specs.Lists.{lists_of, tuples, IsFiltered, none, kept, left}
-use Rattle.candidates.specs.Orders.{has_store, with_new, AreDistinct}
+use Rattle.candidates.specs.Events.{has_store, AreDistinct}
+use Rattle.candidates.specs.Orders.{with_new}
 use Rattle.candidates.proofs.Filters.{IsFiltered-stages, none_of_map, tuples_more}
 
 or_false : (a b : Bool) → (a || b) ≡ false → (a ≡ false) × (b ≡ false)

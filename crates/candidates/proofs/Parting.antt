@@ -8,8 +8,9 @@ use Rattle.std.proofs.lemmas.Slice.Zip.{AllZip-long}
 use Rattle.thread_runs.specs.declared.value.Value.{Value}
 use Rattle.thread_runs.specs.declared.run.Run.{Run}
 use Rattle.candidates.proofs.Pruning.{load_front, load_behind, store_split}
-use Rattle.candidates.specs.Keys.{HasKey, IsWithin, HasLoad, AreKeys, TellsWithin, bit_of}
-use Rattle.candidates.specs.Parts.{part_events, IsSketch, HasWritesOf, HasWritesOfAll, AreKept, none, kept, left, AreSome, end, kept_one, left_out, Among, IsChoice, HasRead, HasWrite, IsSifted, IsMade, AreBelow, NamesRuns, AreThreads}
+use Rattle.candidates.specs.Keys.{HasKey, IsWithin, AreKeys, TellsWithin, bit_of}
+use Rattle.candidates.specs.Events.{thread_events, HasLoad}
+use Rattle.candidates.specs.Parts.{IsSketch, HasWritesOf, HasWritesOfAll, AreKept, none, kept, left, AreSome, end, kept_one, left_out, Among, IsChoice, HasRead, HasWrite, IsSifted, IsMade, AreBelow, NamesRuns, AreThreads}
 use Rattle.candidates.specs.declared.candidate.Action.TheVariants.{Read, Write}
 use Rattle.candidates.specs.declared.candidate.Event.{Event}
 use Rattle.candidates.specs.declared.keys.KeySet.{KeySet}
@@ -63,7 +64,7 @@ pub record AreFirst (values : List Value) (runs : List Run) (i : ℕ) (ss : List
   pub whole : length ss ≡ i
   pub each : (k : ℕ) (s : Sketch) → slice_get ss k ≡ Some s → (s.run ≡ k) × IsSketch values runs s
 
-pub first_more : (values : List Value) (runs : List Run) (i : ℕ) (ss : List Sketch) (s : Sketch) (r : Run) → AreFirst values runs i ss → s.run ≡ i → slice_get runs i ≡ Some r → ((t : ℕ) → AreKeys (bit_of values) (part_events t r.events.items) s.reads s.writes) → AreFirst values runs (i + 1) (ss ++ s ∷ [])
+pub first_more : (values : List Value) (runs : List Run) (i : ℕ) (ss : List Sketch) (s : Sketch) (r : Run) → AreFirst values runs i ss → s.run ≡ i → slice_get runs i ≡ Some r → ((t : ℕ) → AreKeys (bit_of values) (thread_events t r.events.items) s.reads s.writes) → AreFirst values runs (i + 1) (ss ++ s ∷ [])
 first_more values runs i ss s r f at there keys = record {
   whole = let e : length ss ≡ i = f.whole in simp length-append (omega (arith, e));
   each = λ k x h. elim (get_pushed ss s x k h) [

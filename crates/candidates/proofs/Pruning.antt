@@ -6,9 +6,9 @@ use Rattle.thread_runs.specs.declared.value.Value.{Value}
 use Rattle.thread_runs.specs.declared.value.Value.TheVariants.{Number, Address, NoValue}
 use Rattle.candidates.proofs.Counting.{eq_true}
 use Rattle.candidates.specs.Lists.{tuples, IsFiltered, none}
-use Rattle.candidates.specs.Orders.{numbers}
-use Rattle.candidates.specs.Ways.{AreWays, IsWay, accesses_in, sources_of, may_read, same_value, reads, is_load}
-use Rattle.candidates.specs.Keys.{HasKey, IsWithin, HasWrites, HasLoad, HasStore, AreKeys, PartsAreKeyed, ThreadsAreKeyed, IsKeyed, IsRead, IsStored, TellsWithin}
+use Rattle.candidates.specs.Events.{numbers, reads, is_load, HasLoad, HasStore}
+use Rattle.candidates.specs.Ways.{AreWays, IsWay, accesses_in, sources_of, may_read, same_value}
+use Rattle.candidates.specs.Keys.{HasKey, IsWithin, HasWrites, AreKeys, PartsAreKeyed, ThreadsAreKeyed, IsKeyed, IsRead, IsStored, TellsWithin}
 use Rattle.candidates.specs.Search.{Begun, begun, with_run, start, HasJoined}
 use Rattle.candidates.specs.declared.candidate.Action.{Action}
 use Rattle.candidates.specs.declared.candidate.Action.TheVariants.{Read, Write, Fence}

@@ -20,7 +20,7 @@ use Rattle.thread_runs.specs.Machine.{is_load, is_fault, goes, event_of}
 use Rattle.thread_runs.specs.Runs.{Walk, Outcome, Thread, Run, started, advanced, passed, ends, supplied, obeyed, one, run_from}
 use Rattle.thread_runs.specs.AllRuns.{Shown, shown, shown_of, ShowsRuns, lines_at, thread_of}
 use Rattle.ppc_semantics.specs.Domain.{makes_event, has_event, IsDomain}
-use Rattle.candidates.specs.Parts.{action_in, with_action, part_events, initial_from}
+use Rattle.candidates.specs.Events.{action_in, with_action, thread_events, initial_stores}
 use Rattle.candidates.specs.Layouts.{AreAllRuns, ArePartsOf, AreThreadsOf, IsLaidOut}
 use Rattle.candidates.specs.Search.{Begun, with_run, combinations, start, all_combinations}
 use Rattle.candidates.specs.Candidates.{AreSmall, HasLayout}
@@ -51,7 +51,7 @@ outcome_is : {o p : Outcome} → Some o ≡ Some p → o ≡ p
 outcome_is e = cc
 
 -- what is left of the text adds so many
-abbrev Adds : List Line → ℕ → Type 0
+abbrev pub Adds : List Line → ℕ → Type 0
 Adds xs n = (w : Walk) (vs : List Value) (o : Outcome) → run_from xs w vs ≡ Some o → length o.walk.events ≤ length w.events + n
 
 ends_few : (f : Bool) (w : Walk) (vs : List Value) (o : Outcome) (n : ℕ) → ends f w vs ≡ Some o → length o.walk.events ≤ length w.events + n
@@ -78,7 +78,7 @@ module _ (xs : List Line) (n : ℕ) (rest : Adds xs n) where
   one_few None (Label m) w vs o e = let a : length o.walk.events ≤ length w.events + n = rest w vs o e in omega (arith, a)
   one_few None (Does i) w vs o e = obeyed_few (is_fault i w.state) i w vs o e
 
-run_few : (xs : List Line) → Adds xs (count_by has_event xs)
+pub run_few : (xs : List Line) → Adds xs (count_by has_event xs)
 run_few [] w vs o e = ends_few false w vs o 0 e
 run_few (x ∷ xs) w vs o e =
     let a : length o.walk.events ≤ length w.events + (cond (has_event x) 1 0 + count_by has_event xs) = one_few xs (count_by has_event xs) (run_few xs) w.seeking x w vs o e in
@@ -125,9 +125,9 @@ one_action : (thread : ℕ) (o : Option Action) → length (with_action thread o
 one_action thread None = omega arith
 one_action thread (Some a) = omega arith
 
-part_few : (thread : ℕ) (es : List run.Event) → length (part_events thread es) ≤ length es
+part_few : (thread : ℕ) (es : List run.Event) → length (thread_events thread es) ≤ length es
 part_few thread [] = omega arith
-part_few thread (e ∷ es) = let a : length (part_events thread es) ≤ length es = part_few thread es in omega (arith, a, one_action thread (action_in e), length-append (with_action thread (action_in e)) (part_events thread es))
+part_few thread (e ∷ es) = let a : length (thread_events thread es) ≤ length es = part_few thread es in omega (arith, a, one_action thread (action_in e), length-append (with_action thread (action_in e)) (thread_events thread es))
 
 abbrev AreFew : ℕ → List Part → Type 0
 AreFew n [] = Unit {0}
@@ -137,7 +137,7 @@ parts_few : (thread : ℕ) (runs : List made.Run) (least n : ℕ) (ps : List Par
 parts_few thread runs least n [] few h = tt
 parts_few thread runs least n (p ∷ ps) few h =
     let r : made.Run = h.1.0 in
-    let a : length p.events.items ≡ length (part_events thread r.events.items) = ap (λ (es : List Event). length es) h.1.2.events in
+    let a : length p.events.items ≡ length (thread_events thread r.events.items) = ap (λ (es : List Event). length es) h.1.2.events in
     (omega (arith, a, part_few thread r.events.items, few p.run r h.1.1), parts_few thread runs (p.run + 1) n ps few h.2)
 
 abbrev ThreadsFew : List (Vec Line Global) → List ThreadParts → Type 0
@@ -172,7 +172,7 @@ all_small (l ∷ ls) (t ∷ ts) b few le =
     let s : sum_by (λ (lines : Vec Line Global). count_by has_event lines.items) (l ∷ ls) ≡ count_by has_event l.items + sum_by (λ (lines : Vec Line Global). count_by has_event lines.items) ls = sum_by-cons (λ (lines : Vec Line Global). count_by has_event lines.items) l ls in
     goes_small b ts (count_by has_event l.items) (length b.seen.events + count_by has_event l.items) (λ c small. all_small ls ts c few.1 (omega (arith, small, le, s))) (omega arith) 0 t.parts.items few.0
 
-initial_length : (at : ℕ) (vs : List Value) → length (initial_from at vs) ≡ length vs
+initial_length : (at : ℕ) (vs : List Value) → length (initial_stores at vs) ≡ length vs
 initial_length at [] = refl
 initial_length at (v ∷ vs) = ap (λ (n : ℕ). suc n) (initial_length (at + 1) vs)
 
@@ -182,7 +182,7 @@ layout_small t l h =
     let d : IsDomain p h.1 = h.4 in
     let r : AreAllRuns p h.1 h.2 = h.5 in
     let o : IsLaidOut p h.2 l = h.6 in
-    let a : length l.initial.items ≡ length (initial_from 0 p.initial.items) = ap (λ (es : List Event). length es) o.initial in
+    let a : length l.initial.items ≡ length (initial_stores 0 p.initial.items) = ap (λ (es : List Event). length es) o.initial in
     let b : length p.initial.items ≡ length p.locations.items = h.3.initial.each_one in
     all_small p.threads.items l.threads.items (start l.initial.items)
     (threads_few 0 h.2 p.threads.items l.threads.items (r.count ∙ p.threads.ok.0) (λ j v g. runs_few (thread_of p j) h.1 v.items (r.each j v g)) o.threads)

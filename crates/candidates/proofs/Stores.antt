@@ -4,7 +4,8 @@ use Rattle.std.specs.List.{flat_map}
 use Rattle.std.specs.declared.alloc.Global.{Global}
 use Rattle.std.proofs.lemmas.List.{take_more, length-take, append-nil}
 use Rattle.candidates.specs.Lists.{lists_of, tuples, IsFiltered, none, kept, left, joined_with}
-use Rattle.candidates.specs.Orders.{has_store, AreDistinct, AreOrders, are_distinct, orders_of, numbers, is_thread_store, stores_of, all_orders}
+use Rattle.candidates.specs.Events.{has_store, AreDistinct, numbers}
+use Rattle.candidates.specs.Orders.{AreOrders, are_distinct, orders_of, is_thread_store, stores_of, all_orders}
 use Rattle.candidates.specs.declared.candidate.Event.{Event}
 
 -- the fact and the test

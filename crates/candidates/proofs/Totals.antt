@@ -1,8 +1,8 @@
 -- What a search through all combinations has found.
-use Rattle.std.proofs.Common.{Vec, Result, Ok, Err, IfOk, ℕ, zero, suc, ◌≡◌, ◌<◌, ◌≤◌, ◌+◌, ◌-◌, ◌*◌, ◌⊎◌, ◌||◌, ◌&&◌, cond, min, Bool, true, false, List, [], ◌∷◌, ◌++◌, map, take, length, Option, Some, None, MatchOption, is_some, append_assoc, if◌then◌else◌, inl, inr, arith, refl, sym, ap, subst, ◌∙◌}
-use Rattle.std.specs.List.{flat_map}
+use Rattle.std.proofs.Common.{Vec, Result, Ok, Err, IfOk, ℕ, zero, suc, ◌≡◌, ◌<◌, ◌≤◌, ◌+◌, ◌*◌, ◌⊎◌, ◌||◌, ◌&&◌, cond, min, Bool, true, false, List, [], ◌∷◌, ◌++◌, map, take, length, Option, Some, None, MatchOption, is_some, append_assoc, if◌then◌else◌, inl, inr, arith, refl, sym, ap, subst, ◌∙◌}
 use Rattle.thread_runs.specs.declared.value.Value.{Value}
-use Rattle.candidates.specs.Orders.{all_orders, stores_of, numbers, has_store, is_thread_store, writes_to, AreApart}
+use Rattle.candidates.specs.Events.{numbers, has_store, writes_to, initial_stores}
+use Rattle.candidates.specs.Orders.{all_orders, stores_of, is_thread_store}
 use Rattle.std.specs.declared.alloc.AllocError.{AllocError}
 use Rattle.std.specs.declared.alloc.Global.{Global}
 use Rattle.litmus_values.specs.declared.test.Test.{Test}
@@ -16,10 +16,9 @@ use Rattle.ppc_semantics.specs.Lowering.{IsProgram, IsTestFault}
 use Rattle.candidates.specs.Keys.{IsKeyed, bit_of}
 use Rattle.candidates.specs.Layouts.{AreAllRuns, IsLaidOut}
 use Rattle.candidates.specs.declared.candidate.Space.{Space}
-use Rattle.candidates.specs.Parts.{initial_from}
 use Rattle.candidates.specs.Ways.{AreWays, IsWay, accesses_in}
 use Rattle.candidates.specs.Lists.{tuples}
-use Rattle.candidates.specs.Search.{Begun, Tally, Fits, AllFit, Judged, IsTooMuch, tallied, with_run, placed, combinations, Searched, none, more, AreTooMuch, now, later, nothing, tally, start, all_combinations, location_count}
+use Rattle.candidates.specs.Search.{Begun, Tally, Fits, AllFit, tallied, with_run, combinations, Searched, none, more, AreTooMuch, now, later, nothing, tally, start, all_combinations, location_count}
 use Rattle.candidates.specs.Space.{Seen, seen, ordered}
 use Rattle.candidates.specs.Candidates.{AreCombinations, nothing_left, with_ways, without, candidate_total, HasFault, AreCandidates, AreTooMany, AreFaulted, AreSmall, IsAnswer, IsReady, IsTestSpace, IsTestRefusal}
 use Rattle.candidates.specs.declared.candidate.Combination.{Combination}
@@ -138,7 +137,7 @@ abbrev pub AreInitial : List Event → Type 0
 AreInitial [] = Unit {0}
 AreInitial (e ∷ es) = (e.thread ≡ None) × AreInitial es
 
-pub all_initial : (at : ℕ) (vs : List Value) → AreInitial (initial_from at vs)
+pub all_initial : (at : ℕ) (vs : List Value) → AreInitial (initial_stores at vs)
 all_initial at [] = tt
 all_initial at (v ∷ vs) = (refl, all_initial (at + 1) vs)
 
@@ -195,7 +194,7 @@ pub seen_ordered : (n : ℕ) (cs : List Combination) → map (λ c. ordered n (s
 seen_ordered n [] = refl
 seen_ordered n (c ∷ cs) = ap (λ (l : List Seen). ordered n (seen c) ∷ l) (seen_ordered n cs)
 
-pub fits_layout : (l : Layout) (vs : List Value) → l.initial.items ≡ initial_from 0 vs → AreSmall (all_combinations l) → AllFit (location_count l) (all_combinations l)
+pub fits_layout : (l : Layout) (vs : List Value) → l.initial.items ≡ initial_stores 0 vs → AreSmall (all_combinations l) → AllFit (location_count l) (all_combinations l)
 fits_layout l vs e small = layout_fits l.initial.items l.threads.items (subst (λ (es : List Event). AreInitial es) (sym e) (all_initial 0 vs)) small
 
 -- what the search says
@@ -230,7 +229,7 @@ ready t p values l h d r = ((p, values, r.0, h, d, r.1, r.2), bit_of values, p.i
 
 -- what the space of a layout says of the test
 abbrev pub Answers : Layout → Result (Result Space EvalRefusal) AllocError → Type 0
-Answers l r = (key : ℕ → Value → Option (ℕ × ℕ)) (initial : List Value) → IsKeyed key l → l.initial.items ≡ initial_from 0 initial → AreSmall (all_combinations l) → IfOk r (λ a. IsAnswer l a)
+Answers l r = (key : ℕ → Value → Option (ℕ × ℕ)) (initial : List Value) → IsKeyed key l → l.initial.items ≡ initial_stores 0 initial → AreSmall (all_combinations l) → IfOk r (λ a. IsAnswer l a)
 
 told : (t : Test) (l : Layout) (r : Result (Result Space EvalRefusal) AllocError) (a : Result Space EvalRefusal) → r ≡ Ok a → IsReady t l → Answers l r → IsAnswer l a
 told t l r a e h f = subst (λ (x : Result (Result Space EvalRefusal) AllocError). IfOk x (λ b. IsAnswer l b)) e (f h.1 h.2 h.3 h.4 (layout_small t l h.0))

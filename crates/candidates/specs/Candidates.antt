@@ -12,7 +12,7 @@ use Rattle.ppc_semantics.specs.Domain.{IsDomain}
 use Rattle.ppc_semantics.specs.Lowering.{IsProgram, IsTestFault}
 use Rattle.litmus_values.specs.declared.test.Test.{Test}
 use Rattle.candidates.specs.Keys.{IsKeyed}
-use Rattle.candidates.specs.Parts.{initial_from}
+use Rattle.candidates.specs.Events.{initial_stores}
 use Rattle.candidates.specs.Layouts.{AreAllRuns, IsLaidOut}
 use Rattle.candidates.specs.Ways.{AreWays}
 use Rattle.candidates.specs.Search.{Begun, all_combinations, location_count}
@@ -82,7 +82,7 @@ HasLayout t l = (p : Program) × (values : List Value) × (runs : List (Vec Run 
 
 -- with the sets of what its runs read and store
 abbrev pub IsReady : Test → Layout → Type 0
-IsReady t l = HasLayout t l × (key : ℕ → Value → Option (ℕ × ℕ)) × (initial : List Value) × IsKeyed key l × (l.initial.items ≡ initial_from 0 initial)
+IsReady t l = HasLayout t l × (key : ℕ → Value → Option (ℕ × ℕ)) × (initial : List Value) × IsKeyed key l × (l.initial.items ≡ initial_stores 0 initial)
 
 -- the space of the test, or why it has none: a refusal of its domain, or one that its candidates call for
 abbrev pub IsTestSpace : Test → Space → Type 0

@@ -3,8 +3,8 @@ use Rattle.std.specs.Prelude.{ℕ, ◌≡◌, ◌+◌, ◌*◌, ◌/◌, ◌%◌
 use Rattle.std.specs.List.{position_or_len}
 use Rattle.bit_relations.specs.Rows.{RowsHave}
 use Rattle.thread_runs.specs.declared.value.Value.{Value}
+use Rattle.candidates.specs.Events.{HasLoad, HasStore}
 use Rattle.candidates.specs.Ways.{same_value}
-use Rattle.candidates.specs.declared.candidate.Action.TheVariants.{Read, Write}
 use Rattle.candidates.specs.declared.candidate.Event.{Event}
 use Rattle.candidates.specs.declared.keys.KeySet.{KeySet}
 use Rattle.candidates.specs.declared.layout.Layout.{Layout}
@@ -49,15 +49,6 @@ IsWithin s t = (a b : ℕ) → HasKey s a b → HasKey t a b
 abbrev pub HasWrites : KeySet → List ThreadParts → Type 0
 HasWrites s [] = Unit {0}
 HasWrites s (t ∷ ts) = IsWithin t.writes s × HasWrites s ts
-
--- there is a load, or a store, of the location and value
-abbrev pub HasLoad : ℕ → Value → List Event → Type 0
-HasLoad location value [] = ⊥
-HasLoad location value (e ∷ es) = (e.action ≡ Read location value) ⊎ HasLoad location value es
-
-abbrev pub HasStore : ℕ → Value → List Event → Type 0
-HasStore location value [] = ⊥
-HasStore location value (e ∷ es) = (e.action ≡ Write location value) ⊎ HasStore location value es
 
 -- each pair of the first set is one that a load reads, and the second has each that a store stores, where `key` says
 -- which bit a location and a value have, if any

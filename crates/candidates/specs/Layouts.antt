@@ -5,8 +5,8 @@ use Rattle.thread_runs.specs.declared.value.Value.{Value}
 use Rattle.thread_runs.specs.declared.run.Run.{Run}
 use Rattle.thread_runs.specs.declared.instruction.Program.{Program}
 use Rattle.thread_runs.specs.AllRuns.{ShowsRuns, thread_of}
-use Rattle.candidates.specs.Keys.{HasLoad, HasStore}
-use Rattle.candidates.specs.Parts.{part_events, initial_from, IsPartOf}
+use Rattle.candidates.specs.Events.{thread_events, initial_stores, CannotRead}
+use Rattle.candidates.specs.Parts.{IsPartOf}
 use Rattle.candidates.specs.declared.candidate.Event.{Event}
 use Rattle.candidates.specs.declared.layout.Layout.{Layout}
 use Rattle.candidates.specs.declared.layout.ThreadParts.{ThreadParts}
@@ -36,7 +36,7 @@ AreChosen _ _ _ = ⊥
 
 abbrev pub chosen_events : ℕ → List Run → List Event
 chosen_events thread [] = []
-chosen_events thread (r ∷ rs) = part_events thread r.events.items ++ chosen_events (thread + 1) rs
+chosen_events thread (r ∷ rs) = thread_events thread r.events.items ++ chosen_events (thread + 1) rs
 
 -- each of them has a part
 abbrev pub HasRun : List Part → ℕ → Type 0
@@ -49,13 +49,9 @@ HaveParts [] (k ∷ ks) = ⊥
 HaveParts (t ∷ ts) [] = ⊥
 HaveParts (t ∷ ts) (k ∷ ks) = HasRun t.parts.items k × HaveParts ts ks
 
--- some load has a location and a value that no store has
-abbrev pub CannotRead : List Event → Type 0
-CannotRead es = (location : ℕ) × (value : Value) × HasLoad location value es × (HasStore location value es → ⊥)
-
 -- the initial stores, and the parts of the runs, of which those are left out that are in no candidate
 pub record IsLaidOut (p : Program) (runs : List (Vec Run Global)) (l : Layout) : Type 0 where
   pub locations : l.locations ≡ p.locations
-  pub initial : l.initial.items ≡ initial_from 0 p.initial.items
+  pub initial : l.initial.items ≡ initial_stores 0 p.initial.items
   pub threads : AreThreadsOf 0 runs l.threads.items
   pub left_out : (ks : List ℕ) (rs : List Run) → AreChosen runs ks rs → HaveParts l.threads.items ks ⊎ CannotRead (l.initial.items ++ chosen_events 0 rs)

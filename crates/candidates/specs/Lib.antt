@@ -1,6 +1,9 @@
 pub mod Candidates
+pub mod Events
+pub mod Executions
 pub mod Keys
 pub mod Layouts
+pub mod Listed
 pub mod Lists
 pub mod Orders
 pub mod Parts

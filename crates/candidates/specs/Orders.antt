@@ -1,23 +1,13 @@
 -- Orders of the stores of each location, and of all stores.
-use Rattle.std.specs.Prelude.{ℕ, zero, suc, ◌≡◌, ◌<◌, ◌+◌, ◌-◌, ◌*◌, List, [], ◌∷◌, ◌++◌, map, filter, take, replicate, length, Bool, true, false, not, ◌&&◌, cond, is_some, nat_eq}
-use Rattle.std.specs.List.{flat_map, list_any}
+use Rattle.std.specs.Prelude.{ℕ, zero, suc, ◌≡◌, ◌<◌, ◌-◌, ◌*◌, List, [], ◌∷◌, ◌++◌, map, filter, take, replicate, length, Bool, true, false, not, ◌&&◌, is_some}
+use Rattle.std.specs.List.{flat_map}
+use Rattle.candidates.specs.Events.{numbers, writes_to, has_store, AreDistinct}
 use Rattle.candidates.specs.Lists.{tuples, IsFiltered, joined_with}
-use Rattle.candidates.specs.declared.candidate.Action.{Action}
-use Rattle.candidates.specs.declared.candidate.Action.TheVariants.{Read, Write, Fence}
 use Rattle.candidates.specs.declared.candidate.Event.{Event}
-
--- whether the list has the store
-abbrev pub has_store : List ℕ → ℕ → Bool
-has_store front store = list_any (λ y. nat_eq y store) front
 
 -- the list with each of the stores that it lacks behind it
 abbrev pub with_new : List ℕ → List ℕ → List (List ℕ)
 with_new stores front = map (λ store. front ++ store ∷ []) (filter (λ store. not (has_store front store)) stores)
-
--- no store stands twice
-abbrev pub AreDistinct : List ℕ → Type 0
-AreDistinct [] = Unit {0}
-AreDistinct (x ∷ xs) = (has_store xs x ≡ false) × AreDistinct xs
 
 -- the orders of the first store and the others that begin with it and have no store twice, in
 -- lexicographic order
@@ -33,19 +23,8 @@ are_distinct (x ∷ xs) = not (has_store xs x) && are_distinct xs
 abbrev pub orders_of : ℕ → List ℕ → List (List ℕ)
 orders_of first others = filter are_distinct (tuples [] ((first ∷ []) ∷ replicate (length others) others))
 
--- whether a thread stores to the location
-abbrev pub writes_to : ℕ → Action → Bool
-writes_to location (Read place value) = false
-writes_to location (Write place value) = nat_eq place location
-writes_to location (Fence fence) = false
-
 abbrev pub is_thread_store : ℕ → Event → Bool
 is_thread_store location e = is_some e.thread && writes_to location e.action
-
--- the numbers of the events that pass the test, where the first one has the number `at`
-abbrev pub numbers : (Event → Bool) → ℕ → List Event → List ℕ
-numbers test at [] = []
-numbers test at (e ∷ es) = cond (test e) (at ∷ numbers test (at + 1) es) (numbers test (at + 1) es)
 
 -- the numbers of the threads' stores of a location, of up to 128 events
 unfoldable pub stores_of : List Event → ℕ → List ℕ

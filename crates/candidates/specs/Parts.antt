@@ -1,47 +1,22 @@
 -- Runs of threads as parts of candidates, and which of them are left out.
-use Rattle.std.specs.Prelude.{Vec, ℕ, ◌≡◌, ◌<◌, ◌≤◌, ◌+◌, ◌⊎◌, List, [], ◌∷◌, length, Option, Some, None, slice_get}
-use Rattle.std.specs.List.{flat_map, AllZip}
+use Rattle.std.specs.Prelude.{Vec, ℕ, ◌≡◌, ◌<◌, ◌≤◌, ◌+◌, ◌⊎◌, List, [], ◌∷◌, length, Some, slice_get}
+use Rattle.std.specs.List.{AllZip}
 use Rattle.std.specs.declared.alloc.Global.{Global}
 use Rattle.thread_runs.specs.declared.value.Value.{Value}
-use Rattle.thread_runs.specs.declared.value.Value.TheVariants.{Address}
-use Rattle.thread_runs.specs.declared.instruction.Event as run
-use Rattle.thread_runs.specs.declared.instruction.Event.TheVariants.{Reads, Writes, Orders}
 use Rattle.thread_runs.specs.declared.run.Run.{Run}
 use Rattle.thread_runs.specs.Runs.{executed}
 use Rattle.dataflow.specs.Chains.{event_place}
 use Rattle.dataflow.specs.Dependencies.{AreLinks}
+use Rattle.candidates.specs.Events.{thread_events}
 use Rattle.candidates.specs.Keys.{HasKey, IsWithin, AreKeys, bit_of}
-use Rattle.candidates.specs.declared.candidate.Action.{Action}
-use Rattle.candidates.specs.declared.candidate.Action.TheVariants.{Read, Write, Fence}
-use Rattle.candidates.specs.declared.candidate.Event.{Event}
 use Rattle.candidates.specs.declared.keys.KeySet.{KeySet}
 use Rattle.candidates.specs.declared.layout.ThreadParts.{ThreadParts}
 use Rattle.candidates.specs.declared.part.Part.{Part}
 use Rattle.candidates.specs.declared.part.Sketch.{Sketch}
 
--- what an event of a run does, where its address is a location
-abbrev pub action_in : run.Event → Option Action
-action_in (Reads (Address location) value) = Some (Read location value)
-action_in (Writes (Address location) value) = Some (Write location value)
-action_in (Orders fence) = Some (Fence fence)
-action_in _ = None
-
--- the events of a run of a thread
-abbrev pub with_action : ℕ → Option Action → List Event
-with_action thread None = []
-with_action thread (Some action) = record { thread = Some thread; action = action } ∷ []
-
-abbrev pub part_events : ℕ → List run.Event → List Event
-part_events thread es = flat_map (λ e. with_action thread (action_in e)) es
-
--- the initial stores: each location, from the first on, with the value that it holds
-abbrev pub initial_from : ℕ → List Value → List Event
-initial_from location [] = []
-initial_from location (v ∷ vs) = record { thread = None; action = Write location v } ∷ initial_from (location + 1) vs
-
 -- the sets are those of the run that the sketch names
 abbrev pub IsSketch : List Value → List Run → Sketch → Type 0
-IsSketch values runs s = (r : Run) × (slice_get runs s.run ≡ Some r) × ((thread : ℕ) → AreKeys (bit_of values) (part_events thread r.events.items) s.reads s.writes)
+IsSketch values runs s = (r : Run) × (slice_get runs s.run ≡ Some r) × ((thread : ℕ) → AreKeys (bit_of values) (thread_events thread r.events.items) s.reads s.writes)
 
 -- a sketch of each run, in order
 pub record AreSketches (values : List Value) (runs : List Run) (ss : List Sketch) : Type 0 where
@@ -100,7 +75,7 @@ pub record IsSifted (initial : KeySet) (old new : List (Vec Sketch Global)) : Ty
 
 -- the part is made of the run
 pub record IsPartOf (thread : ℕ) (r : Run) (p : Part) : Type 0 where
-  pub events : p.events.items ≡ part_events thread r.events.items
+  pub events : p.events.items ≡ thread_events thread r.events.items
   pub links : event_place (executed r.steps.items) (length r.steps.items) ≤ 128 → AreLinks (executed r.steps.items) p.links
   pub registers : p.registers ≡ r.registers
   pub faulted : p.is_faulted ≡ r.faulted

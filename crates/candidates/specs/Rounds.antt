@@ -3,8 +3,8 @@ use Rattle.std.specs.Prelude.{ℕ, ◌≡◌, ◌<◌, ◌≤◌, ◌⊎◌, ◌
 use Rattle.std.specs.List.{flat_map}
 use Rattle.bit_relations.specs.Relation.{Events, IsMember, IsEvents}
 use Rattle.candidates.specs.Lists.{IsFiltered}
-use Rattle.candidates.specs.Orders.{numbers}
-use Rattle.candidates.specs.Ways.{Source, Derived, IsPossible, AreWays, nexts, accesses_in, sources_of, is_load, is_store}
+use Rattle.candidates.specs.Events.{numbers, is_load, is_store}
+use Rattle.candidates.specs.Ways.{Source, Derived, IsPossible, AreWays, nexts, accesses_in, sources_of}
 use Rattle.candidates.specs.declared.candidate.Event.{Event}
 use Rattle.candidates.specs.declared.reading.Reading.{Reading}
 use Rattle.candidates.specs.declared.reading.Load.{Load}

@@ -1,5 +1,5 @@
 -- The candidates of a space, as a list.
-use Rattle.std.specs.Prelude.{Vec, ℕ, ◌≡◌, List, map, slice_get}
+use Rattle.std.specs.Prelude.{Vec, ℕ, ◌≡◌, List, length, map, slice_get, HoldsAt}
 use Rattle.std.specs.List.{flat_map, filter_map, zip}
 use Rattle.std.specs.declared.alloc.Global.{Global}
 use Rattle.thread_runs.specs.declared.value.Value.{Value}
@@ -8,6 +8,7 @@ use Rattle.candidates.specs.Orders.{all_orders}
 use Rattle.candidates.specs.declared.candidate.Event.{Event}
 use Rattle.candidates.specs.declared.candidate.Combination.{Combination}
 use Rattle.candidates.specs.declared.candidate.Execution.{Execution}
+use Rattle.candidates.specs.declared.candidate.Space.{Space}
 
 -- each of the first list with each of the second, the first one slowest
 abbrev pub pairs : {X Y : Type 0} → List X → List Y → List (X × Y)
@@ -66,3 +67,11 @@ pub record IsExecution (threads : List (Vec (List Value) Global)) (c : Combinati
   pub sources : e.sources.items ≡ t.0
   pub order : e.order.items ≡ t.1
   pub registers : e.registers.items ≡ registers_at threads c.runs.items
+
+-- the execution is the candidate at this index of the space
+abbrev pub IsShown : Space → ℕ → Execution → Type 0
+IsShown s index e = HoldsAt (λ x. IsExecution s.registers.items x.0 x.1 e) (candidates_in s.combinations.items) index
+
+-- how many candidates the space has
+abbrev pub candidate_count : Space → ℕ
+candidate_count s = length (candidates_in s.combinations.items)

@@ -4,9 +4,9 @@ use Rattle.bit_relations.specs.Pairs.{Union, IsAcyclic}
 use Rattle.thread_runs.specs.declared.value.Value.{Value}
 use Rattle.thread_runs.specs.declared.value.Value.TheVariants.{Number, Address, NoValue}
 use Rattle.candidates.specs.Lists.{tuples, IsFiltered}
-use Rattle.candidates.specs.Orders.{numbers}
+use Rattle.candidates.specs.Events.{numbers, is_load, is_store, ReadsFrom}
 use Rattle.candidates.specs.declared.candidate.Action.{Action}
-use Rattle.candidates.specs.declared.candidate.Action.TheVariants.{Read, Write, Fence}
+use Rattle.candidates.specs.declared.candidate.Action.TheVariants.{Read, Write}
 use Rattle.candidates.specs.declared.candidate.Event.{Event}
 
 -- the loads, by their numbers in event order, the stores that each may read, and which stores there are, and which
@@ -20,10 +20,6 @@ pub record Accesses : Type 1 where
 -- the load at a place may read the store
 abbrev pub Source : Accesses → ℕ → ℕ → Type 0
 Source g i s = Contains (slice_index_or g.sources i []) s
-
--- the pairs of a store and a load that reads it
-abbrev pub ReadsFrom : List ℕ → List ℕ → ℕ → ℕ → Type 0
-ReadsFrom loads way a b = (i : ℕ) × (i < length way) × (i < length loads) × (a ≡ slice_index way i) × (b ≡ slice_index loads i)
 
 -- what is read together with what is needed has no cycle
 abbrev pub IsWay : Accesses → List ℕ → Type 0
@@ -57,23 +53,6 @@ pub record IsProper (n : ℕ) (g : Accesses) : Type 0 where
 -- the front with each of the choices behind it
 abbrev pub nexts : List ℕ → List ℕ → List (List ℕ)
 nexts choices front = map (λ x. front ++ x ∷ []) choices
-
--- loads, and stores
-abbrev pub reads : Action → Bool
-reads (Read location value) = true
-reads (Write location value) = false
-reads (Fence fence) = false
-
-abbrev pub writes : Action → Bool
-writes (Read location value) = false
-writes (Write location value) = true
-writes (Fence fence) = false
-
-abbrev pub is_load : Event → Bool
-is_load e = reads e.action
-
-abbrev pub is_store : Event → Bool
-is_store e = writes e.action
 
 abbrev pub same_value : Value → Value → Bool
 same_value (Number m) (Number n) = nat_eq m n

@@ -1,6 +1,6 @@
 //! Candidate executions, shared by combinations of runs.
 ghost use Rattle.std.specs.Prelude.{◌≡◌, ◌-◌, ◌^◌, ◌<◌, ◌≤◌, ◌↔◌, min, length, IsTrue, IfOk, IfSome, IfNone, HoldsAt};
-ghost use Rattle.candidates.specs.Space.{candidates_of, candidates_in, registers_at, IsExecution};
+ghost use Rattle.candidates.specs.Space.{candidates_of, candidate_count, registers_at, IsExecution, IsShown};
 
 use litmus_values::Fence;
 use ppc_semantics::Value;
@@ -150,7 +150,7 @@ fn final_registers(
 impl Space {
     /// How many candidates there are, or the greatest number where that is less.
     pub fn len(&self) -> usize
-        ensures { result ≡ min (length (candidates_in self.now.combinations.items)) (2 ^ 64 - 1) }
+        ensures { result ≡ min (candidate_count self.now) (2 ^ 64 - 1) }
     {
         let mut count = 0usize;
         for combination in &self.combinations {
@@ -161,7 +161,7 @@ impl Space {
 
     /// Whether there is no candidate.
     pub fn is_empty(&self) -> bool
-        ensures { IsTrue result ↔ (length (candidates_in self.now.combinations.items) ≡ 0) }
+        ensures { IsTrue result ↔ (candidate_count self.now ≡ 0) }
     {
         self.len() == 0
     }
@@ -169,8 +169,8 @@ impl Space {
     /// The candidate at a place, from 0; `None` where there are no more than `place`. Errors: want
     /// of memory.
     pub fn execution(&self, alloc: Global, place: usize) -> Result<Option<Execution>, AllocError>
-        ensures some { IfOk result (λ o. IfSome o (λ e. (place < length (candidates_in self.now.combinations.items)) × HoldsAt (λ x. IsExecution self.now.registers.items x.0 x.1 e) (candidates_in self.now.combinations.items) place)) }
-        ensures none { IfOk result (λ o. IfNone o (length (candidates_in self.now.combinations.items) ≤ place)) }
+        ensures some { IfOk result (λ o. IfSome o (λ e. (place < candidate_count self.now) × IsShown self.now place e)) }
+        ensures none { IfOk result (λ o. IfNone o (candidate_count self.now ≤ place)) }
     {
         let mut left = place;
         for combination in &self.combinations {

@@ -5,8 +5,9 @@ ghost use Rattle.std.specs.declared.alloc.Global.{Global};
 ghost use Rattle.thread_runs.specs.declared.value.Value.{Value};
 ghost use Rattle.thread_runs.specs.declared.run.Run.{Run};
 ghost use Rattle.thread_runs.specs.ValueSet.{IsSet};
-ghost use Rattle.candidates.specs.Keys.{HasKey, HasStore, IsKeyed, bit_of};
-ghost use Rattle.candidates.specs.Parts.{initial_from, AreSketches, HasWritesOf, AreBelow, IsMade, NamesRuns, AreThreads};
+ghost use Rattle.candidates.specs.Keys.{HasKey, IsKeyed, bit_of};
+ghost use Rattle.candidates.specs.Events.{initial_stores, HasStore};
+ghost use Rattle.candidates.specs.Parts.{AreSketches, HasWritesOf, AreBelow, IsMade, NamesRuns, AreThreads};
 ghost use Rattle.std.specs.List.{AllZip};
 ghost use Rattle.candidates.specs.Layouts.{AreAllRuns, IsLaidOut};
 
@@ -39,7 +40,7 @@ pub struct Layout {
 
 /// The initial stores, by location.
 fn initial_events(alloc: Global, initial: &[Value]) -> Result<Vec<Event>, AllocError>
-    ensures { IfOk result (λ v. v.items ≡ initial_from 0 initial.now) }
+    ensures { IfOk result (λ v. v.items ≡ initial_stores 0 initial.now) }
 {
     let mut events = Vec::with_capacity(alloc, initial.len())?;
     for location in 0..initial.len() {

@@ -1,19 +1,24 @@
 //! The candidate executions of a test: a run of each thread, the store that each load reads, and
 //! the order of each location's stores (Alglave, Maranget and Tautschnig, Herding Cats, TOPLAS
 //! 36(2), 2014).
+//!
+//! Read `specs/Executions` first, what an execution is, and then `specs/Listed`, what `space` says.
+//! Other crates may cite the laws of `laws`.
 #![tactic(auto)]
 
 ghost use Rattle.std.specs.Prelude.{ℕ, ◌≡◌, List, Option, map, IfOk, IfErr};
 ghost use Rattle.thread_runs.specs.declared.value.Value.{Value};
 ghost use Rattle.ppc_semantics.specs.Lowering.{IsTestFault};
 ghost use Rattle.candidates.specs.Keys.{IsKeyed};
-ghost use Rattle.candidates.specs.Parts.{initial_from};
+ghost use Rattle.candidates.specs.Listed.{ListsExecutions, IsRefusedFor};
+ghost use Rattle.candidates.specs.Events.{initial_stores};
 ghost use Rattle.candidates.specs.Search.{all_combinations, location_count};
 ghost use Rattle.candidates.specs.Space.{seen, ordered};
 ghost use Rattle.candidates.specs.Candidates.{AreSmall, HasEnds, IsAnswer, IsReady, IsTestSpace, IsTestRefusal};
 
 mod candidate;
 mod keys;
+pub mod laws;
 mod layout;
 mod orders;
 mod part;
@@ -21,7 +26,6 @@ mod reading;
 mod search;
 
 pub use candidate::{Action, Combination, Event, Execution, Space};
-pub use dataflow::laws;
 use layout::{Layout, registers};
 use litmus_values::Test;
 use orders::with_orders;
@@ -51,7 +55,7 @@ fn space_with(
 
 /// The space of a layout, or why it has none.
 fn space_of(alloc: Global, layout: Layout) -> Result<Result<Space, EvalRefusal>, AllocError>
-    ensures { (key : ℕ → Value → Option (ℕ × ℕ)) (initial : List Value) → IsKeyed key layout → layout.initial.items ≡ initial_from 0 initial → AreSmall (all_combinations layout) → IfOk result (λ r. IsAnswer layout r) }
+    ensures { (key : ℕ → Value → Option (ℕ × ℕ)) (initial : List Value) → IsKeyed key layout → layout.initial.items ≡ initial_stores 0 initial → AreSmall (all_combinations layout) → IfOk result (λ r. IsAnswer layout r) }
 {
     match search(alloc, &layout)? {
         None => Ok(Err(EvalRefusal::TooManyCandidates)),
@@ -88,6 +92,8 @@ fn layout_of(alloc: Global, test: &Test) -> Result<Layout, SpaceFault>
 /// `MAX_CANDIDATES` candidates; and with E5 where some candidate holds a run that stopped at a
 /// fault. Errors: that refusal, or want of memory.
 pub fn space(alloc: Global, test: &Test) -> Result<Space, SpaceFault>
+    ensures executions { IfOk result (ListsExecutions test.now) }
+    ensures refused { IfErr result (IsRefusedFor test.now) }
     ensures space { IfOk result (IsTestSpace test.now) }
     ensures refusal { IfErr result (IsTestRefusal test.now) }
 {

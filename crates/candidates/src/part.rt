@@ -3,7 +3,8 @@
 ghost use Rattle.std.specs.Prelude.{ℕ, ◌≡◌, ◌<◌, ◌++◌, List, [], ◌∷◌, Option, length, IfOk};
 ghost use Rattle.candidates.specs.declared.candidate.Event.{Event};
 ghost use Rattle.candidates.specs.Keys.{IsWithin, AreKeys, bit_of};
-ghost use Rattle.candidates.specs.Parts.{action_in, part_events, AreSketches, AreKept, HasWritesOf, HasWritesOfAll, AreBelow, IsSifted, IsPartOf, IsMade};
+ghost use Rattle.candidates.specs.Events.{action_in, thread_events};
+ghost use Rattle.candidates.specs.Parts.{AreSketches, AreKept, HasWritesOf, HasWritesOfAll, AreBelow, IsSifted, IsPartOf, IsMade};
 ghost use Rattle.std.specs.List.{AllZip};
 
 use crate::candidate::{Action, Event};
@@ -72,7 +73,7 @@ fn events_in(run: &Run) -> &[ppc_semantics::Event]
 /// What the events of the run at this place read and store.
 fn sketch_of(values: &[Value], place: usize, run: &Run) -> Sketch
     ensures place { result.run ≡ place }
-    ensures keys { (thread : ℕ) → AreKeys (bit_of values.now) (part_events thread run.now.events.items) result.reads result.writes }
+    ensures keys { (thread : ℕ) → AreKeys (bit_of values.now) (thread_events thread run.now.events.items) result.reads result.writes }
 {
     let mut reads = KeySet::empty();
     let mut writes = KeySet::empty();
@@ -165,7 +166,7 @@ pub fn sift(initial: &KeySet, threads: &mut [Vec<Sketch>])
 
 /// The events of a run of a thread.
 fn events_of(alloc: Global, thread: usize, run: &Run) -> Result<Vec<Event>, AllocError>
-    ensures { IfOk result (λ v. v.items ≡ part_events thread run.now.events.items) }
+    ensures { IfOk result (λ v. v.items ≡ thread_events thread run.now.events.items) }
 {
     let mut events = Vec::with_capacity(alloc, run.events.len())?;
     for event in events_in(run) {

@@ -4,8 +4,8 @@ ghost use Rattle.std.specs.Prelude.{◌≡◌, ◌<◌, ◌≤◌, ◌↔◌, �
 ghost use Rattle.bit_relations.specs.Relation.{IsMember, IsEvents};
 ghost use Rattle.candidates.specs.Rounds.{IsInside, IsMeeting, CanRead, CanArise, WithStores, WithLoads, IsRound, HasDerived, TellsPossible, GainsNext, AreNext, AreOver, HasOver, HasWays, Shows, AreLoads, AreStores};
 ghost use Rattle.candidates.specs.Lists.{lists_of};
-ghost use Rattle.candidates.specs.Orders.{numbers};
-ghost use Rattle.candidates.specs.Ways.{is_load, is_store, may_read, same_value};
+ghost use Rattle.candidates.specs.Events.{numbers, is_load, is_store};
+ghost use Rattle.candidates.specs.Ways.{may_read, same_value};
 ghost use Rattle.candidates.specs.Ways as ways;
 
 use crate::candidate::{Action, Event};

@@ -91,21 +91,21 @@ adds_for kinds.OfAny (columns.Relations xs) (columns.Sets ys) s r adds fits = ab
 adds_for kinds.OfAny (columns.Relations xs) (columns.Relations ys) s r adds fits = tt
 
 pub adds_long : (a b : Column) (s : Events) (r : Relation) → Adds a b s r → column_len b ≡ column_len a + 1
-adds_long (columns.Sets xs) (columns.Sets ys) s r adds = ap length adds ∙ length-append xs.items (s ∷ [])
+adds_long (columns.Sets xs) (columns.Sets ys) s r adds = ap length adds ∙ length-append xs (s ∷ [])
 adds_long (columns.Sets xs) (columns.Relations ys) s r adds = absurd adds
 adds_long (columns.Relations xs) (columns.Sets ys) s r adds = absurd adds
 adds_long (columns.Relations xs) (columns.Relations ys) s r adds = ap length adds ∙ length-append xs (r ∷ [])
 
 -- the values of the candidates before stay
 pub adds_old : (a b : Column) (s : Events) (r : Relation) → Adds a b s r → (k : ℕ) (t : Events) (q : Relation) → HasValue a k t q → HasValue b k t q
-adds_old (columns.Sets xs) (columns.Sets ys) s r adds k t q has = rw adds (get_kept xs.items (s ∷ []) k t has)
+adds_old (columns.Sets xs) (columns.Sets ys) s r adds k t q has = rw adds (get_kept xs (s ∷ []) k t has)
 adds_old (columns.Sets xs) (columns.Relations ys) s r adds k t q has = absurd adds
 adds_old (columns.Relations xs) (columns.Sets ys) s r adds k t q has = absurd adds
 adds_old (columns.Relations xs) (columns.Relations ys) s r adds k t q has = rw adds (get_kept xs (r ∷ []) k q has)
 
 -- the new value is that of the next candidate
 pub adds_new : (a b : Column) (s : Events) (r : Relation) → Adds a b s r → (k : ℕ) → k ≡ column_len a → HasValue b k s r
-adds_new (columns.Sets xs) (columns.Sets ys) s r adds k at = rw (adds, at) (get_last xs.items s)
+adds_new (columns.Sets xs) (columns.Sets ys) s r adds k at = rw (adds, at) (get_last xs s)
 adds_new (columns.Sets xs) (columns.Relations ys) s r adds k at = absurd adds
 adds_new (columns.Relations xs) (columns.Sets ys) s r adds k at = absurd adds
 adds_new (columns.Relations xs) (columns.Relations ys) s r adds k at = rw (adds, at) (get_last xs r)

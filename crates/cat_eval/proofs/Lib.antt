@@ -10,7 +10,6 @@ pub mod Grown
 pub mod Likeness
 pub mod Listed
 pub mod Monotone
-pub mod Packed
 pub mod Places
 pub mod Same
 pub mod Standing

@@ -18,7 +18,7 @@ use Rattle.cat_eval.specs.Values.{IsFor, IsMeant, column_len}
 
 -- the column's value for the candidate of this number: of the two the one of its kind
 abbrev pub HasValue : Column → ℕ → Events → Relation → Type 0
-HasValue (columns.Sets values) k s r = slice_get values.items k ≡ Some s
+HasValue (columns.Sets values) k s r = slice_get values k ≡ Some s
 HasValue (columns.Relations values) k s r = slice_get values k ≡ Some r
 
 -- in the candidate of this number, where the other names stand for these events and pairs among n events, each name has

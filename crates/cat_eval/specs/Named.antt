@@ -16,7 +16,7 @@ PairsFound (Some r) n a b = (r.count ≡ n) × Has r a b
 
 -- the events of a column's set in a candidate of n events
 abbrev pub ColumnEvents : Column → ℕ → ℕ → ℕ → Type 0
-ColumnEvents (columns.Sets values) k n = EventsFound (slice_get values.items k) n
+ColumnEvents (columns.Sets values) k n = EventsFound (slice_get values k) n
 ColumnEvents (columns.Relations values) k n = λ a. ⊥
 
 -- the pairs of its relation, likewise

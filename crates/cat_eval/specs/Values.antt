@@ -45,12 +45,12 @@ AnswersOf roles.Silent inputs space answers = answers ≡ []
 
 -- so many candidates it has a value for
 abbrev pub column_len : Column → ℕ
-column_len (columns.Sets values) = length values.items
+column_len (columns.Sets values) = length values
 column_len (columns.Relations values) = length values
 
 -- the new column has one value more: of the two the one of its kind
 abbrev pub Adds : Column → Column → Events → Relation → Type 0
-Adds (columns.Sets xs) (columns.Sets ys) s r = ys.items ≡ xs.items ++ s ∷ []
+Adds (columns.Sets xs) (columns.Sets ys) s r = ys ≡ xs ++ s ∷ []
 Adds (columns.Sets xs) (columns.Relations ys) s r = ⊥
 Adds (columns.Relations xs) (columns.Sets ys) s r = ⊥
 Adds (columns.Relations xs) (columns.Relations ys) s r = ys ≡ xs ++ r ∷ []

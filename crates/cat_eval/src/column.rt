@@ -1,21 +1,24 @@
 //! The value of a name over a list of candidates.
 
-ghost use Rattle.std.specs.Prelude.{◌≡◌, ◌≤◌, slice_get, OnOk};
+ghost use Rattle.std.specs.Prelude.{◌≡◌, ◌≤◌, ◌↔◌, slice_get, IsTrue, OnOk};
 ghost use Rattle.bit_relations.specs.Relation.{IsRelation, IsEvents};
+ghost use Rattle.base_env.specs.Known.{EventsFound};
 ghost use Rattle.binding_kinds.specs.declared.kinds.Kind.TheVariants as kinds;
 ghost use Rattle.cat_eval.specs.Values.{Adds, IsFor, column_len};
 ghost use Rattle.cat_eval.specs.Named.{ColumnEvents, ColumnPairs, PairsFound};
 
-use bit_relations::{EventSet, PackedRelations, Rel};
+use bit_relations::{EventSet, Rel};
+use columns::{Cursor, RunColumn, SetRuns};
 use std::alloc::{AllocError, Global};
 
-/// The value of a name in each candidate of a space, in order.
+/// The value of a name in each candidate of a space, in order. Contracts see one value a candidate; neighbours with
+/// equal values share one.
 #[derive(Drop)]
 pub enum Column {
     /// A set for each candidate.
-    Sets(Vec<EventSet>),
+    Sets(SetRuns),
     /// A relation for each candidate.
-    Relations(PackedRelations),
+    Relations(RunColumn),
 }
 
 impl Column {
@@ -24,7 +27,7 @@ impl Column {
         ensures kind { IsFor kinds.OfSet result }
         ensures empty { column_len result ≡ 0 }
     {
-        Column::Sets(Vec::new(alloc))
+        Column::Sets(SetRuns::new(alloc))
     }
 
     /// A list of relations without a value.
@@ -32,7 +35,7 @@ impl Column {
         ensures kind { IsFor kinds.OfRelation result }
         ensures empty { column_len result ≡ 0 }
     {
-        Column::Relations(PackedRelations::new(alloc))
+        Column::Relations(RunColumn::new(alloc))
     }
 
     /// How many candidates it has a value for.
@@ -46,8 +49,21 @@ impl Column {
     }
 
     /// Whether it has no value.
-    pub fn is_empty(&self) -> bool {
+    pub fn is_empty(&self) -> bool
+        ensures { IsTrue result ↔ (column_len self.now ≡ 0) }
+    {
         self.len() == 0
+    }
+
+    /// Whether both have the same values, of the same kind, for as many candidates.
+    pub fn is_same(&self, other: &Column) -> bool
+        ensures { IsTrue result ↔ (self.now ≡ other.now) }
+    {
+        match (self, other) {
+            (Column::Sets(left), Column::Sets(right)) => left.is_same(right),
+            (Column::Relations(left), Column::Relations(right)) => left.is_same(right),
+            _ => false,
+        }
     }
 
     /// The set of a candidate of so many events: empty where there is none.
@@ -56,10 +72,7 @@ impl Column {
         ensures { IsEvents result count (ColumnEvents self.now candidate count) }
     {
         match self {
-            Column::Sets(values) => match values.get(candidate) {
-                Some(value) if value.count() == count => *value,
-                _ => EventSet::empty(count),
-            },
+            Column::Sets(values) => found_set(values, candidate, count),
             Column::Relations(_) => EventSet::empty(count),
         }
     }
@@ -72,7 +85,7 @@ impl Column {
     {
         match self {
             Column::Sets(_) => place.clear(count),
-            Column::Relations(values) => write_packed(values, candidate, count, place),
+            Column::Relations(values) => write_found(values, candidate, count, place),
         }
     }
 
@@ -81,22 +94,37 @@ impl Column {
         ensures { OnOk result (Adds self.old self.new set.now relation.now) }
     {
         match self {
-            Column::Sets(values) => values.push(*set)?,
+            Column::Sets(values) => values.push(set)?,
             Column::Relations(values) => values.push(relation)?,
         }
         Ok(())
     }
 }
 
-/// Writes one relation of a list to a place: the empty one where there is none of so many events.
-fn write_packed(values: &PackedRelations, candidate: usize, count: usize, place: &mut Rel)
+/// The set of a candidate: the empty one where there is none of so many events.
+fn found_set(values: &SetRuns, candidate: usize, count: usize) -> EventSet
+    requires { count ≤ 128 }
+    ensures { IsEvents result count (EventsFound (slice_get values.now candidate) count) }
+{
+    if candidate < values.len() {
+        let (value, _) = values.read(&mut Cursor::new(), candidate);
+        if value.count() == count {
+            return value;
+        }
+    }
+    EventSet::empty(count)
+}
+
+/// Writes the relation of a candidate to a place: the empty one where there is none of so many events.
+fn write_found(values: &RunColumn, candidate: usize, count: usize, place: &mut Rel)
     requires { count ≤ 128 }
     ensures { IsRelation place.new count (PairsFound (slice_get values.now candidate) count) }
 {
-    if candidate < values.len() && values.count_at(candidate) == count {
-        values.read_into(candidate, place);
-        let _count = place.count();
-    } else {
-        place.clear(count);
+    if candidate < values.len() {
+        values.read(&mut Cursor::new(), candidate, place);
+        if place.count() == count {
+            return;
+        }
     }
+    place.clear(count);
 }

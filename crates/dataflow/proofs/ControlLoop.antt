@@ -9,9 +9,11 @@ use Rattle.dataflow.specs.declared.taints.Taints.{Taints}
 use Rattle.dataflow.specs.declared.pass.Control.{Control}
 use Rattle.thread_runs.specs.Machine.{is_load, is_branch}
 use Rattle.dataflow.specs.Chains.{Executed, Place, IsOperand, event_place, is_event, is_plain, is_isync, LoadReaches, IsCtrl}
-use Rattle.dataflow.specs.Taints.{Bit, IsPlace, AreTaints, AreColumnsOf, IsWithinFile, passes_of, operand_word}
+use Rattle.bit_relations.specs.Relation.{Bit}
+use Rattle.bit_relations.proofs.Bits.{Bit-zero, Bit-or}
+use Rattle.dataflow.specs.Taints.{IsPlace, AreTaints, AreColumnsOf, IsWithinFile, passes_of, operand_word}
 use Rattle.dataflow.specs.Control.{branched_after, synchronised_after, steered, control_of, control_word}
-use Rattle.dataflow.proofs.TaintSteps.{Bit-zero, Bit-or, operand_word-union, taints_first, with_word_long}
+use Rattle.dataflow.proofs.TaintSteps.{operand_word-union, taints_first, with_word_long}
 use Rattle.dataflow.proofs.ReachLoop.{Found, union_found, taints_next, columns_first, columns_event, columns_other, place_event, place_other, load_place, no_word}
 
 -- the load reaches the CR0 of a conditional branch before the place

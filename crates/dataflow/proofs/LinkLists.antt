@@ -9,7 +9,8 @@ use Rattle.thread_runs.specs.declared.instruction.RunStep.{RunStep}
 use Rattle.thread_runs.specs.Machine.{is_load}
 use Rattle.thread_runs.specs.Runs.{executed, nothing}
 use Rattle.dataflow.specs.Chains.{Executed, Place, event_place, is_event, LoadReaches, IsCtrl, IsCtrlIsync, IsListOf, OfEvents}
-use Rattle.dataflow.specs.Taints.{Bit, AreColumnsOf, reads_of}
+use Rattle.dataflow.specs.Taints.{AreColumnsOf, reads_of}
+use Rattle.bit_relations.specs.Relation.{Bit}
 use Rattle.dataflow.specs.Dependencies.{ArePairs}
 use Rattle.dataflow.proofs.ReachLoop.{place_lt}
 

@@ -6,7 +6,7 @@ use Rattle.std.proofs.lemmas.List.Elements.{Contains-append_left, Contains-appen
 use Rattle.std.proofs.Math.Seq.{get_or-append_seam}
 use Rattle.std.proofs.lemmas.Bool.{cases_eq}
 use Rattle.dataflow.specs.Chains.{IsPairBefore, IsRising}
-use Rattle.dataflow.specs.Taints.{Bit}
+use Rattle.bit_relations.specs.Relation.{Bit}
 use Rattle.dataflow.specs.Dependencies.{ArePairs}
 use Rattle.dataflow.specs.Within.{IsPairWithin}
 

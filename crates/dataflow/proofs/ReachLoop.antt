@@ -9,7 +9,8 @@ use Rattle.dataflow.specs.declared.taints.Taints.{Taints}
 use Rattle.thread_runs.specs.Machine.{is_load}
 use Rattle.thread_runs.specs.Runs.{executed, nothing}
 use Rattle.dataflow.specs.Chains.{Executed, Place, Register, Cr0, IsOperand, event_place, is_event, LoadReaches}
-use Rattle.dataflow.specs.Taints.{Bit, IsPlace, AreTaints, AreColumns, AreColumnsOf, IsUnion, IsWithinFile, IsStep, word_of, passes_of, reads_of, read_word, noted}
+use Rattle.dataflow.specs.Taints.{IsPlace, AreTaints, AreColumns, AreColumnsOf, IsUnion, IsWithinFile, IsStep, word_of, passes_of, reads_of, read_word, noted}
+use Rattle.bit_relations.specs.Relation.{Bit}
 use Rattle.dataflow.proofs.TaintSteps.{read_word-union, noted-step, taints_more, taints_first, with_word_long}
 
 pub same_element : (xs : List RunStep) (k : ℕ) (d e : RunStep) → k < length xs → get_or xs k d ≡ get_or xs k e

@@ -10,27 +10,14 @@ use Rattle.std.proofs.lemmas.Bool.{false≢true, cases_eq}
 use Rattle.dataflow.specs.declared.taints.Taints.{Taints}
 use Rattle.thread_runs.specs.Machine.{is_load}
 use Rattle.dataflow.specs.Chains.{Executed, Place, Register, Cr0, IsOperand, IsWritten, event_place}
-use Rattle.dataflow.specs.Taints.{Bit, TaintOf, IsStep, IsUnion, IsOrigin, IsPlace, AreTaints, word_of, passes_of, operand_word, bit_word, origin_word, with_word, noted, reads_of, read_word}
+use Rattle.bit_relations.specs.Relation.{Bit}
+use Rattle.bit_relations.proofs.Bits.{Bit-zero, Bit-or}
+use Rattle.dataflow.specs.Taints.{TaintOf, IsStep, IsUnion, IsOrigin, IsPlace, AreTaints, word_of, passes_of, operand_word, bit_word, origin_word, with_word, noted, reads_of, read_word}
 use Rattle.dataflow.proofs.Agreement.{reaches_more}
 use Rattle.dataflow.proofs.Inversion.{through_last, before_last, from_through, none_first, is_written, Through}
 
 zero_or_one : (n : ℕ) → n ≡ 0 → n ≡ 1 → ⊥
 zero_or_one n p q = omega arith
-
-pub Bit-zero : (k : ℕ) → Bit 0 k → ⊥
-unfolding Bit
-Bit-zero k h = let z : bit_at 0 k ≡ 0 = bit_at-zero k in zero_or_one _ z h
-
-pub Bit-or : (x y k : ℕ) → Bit (bit_or x y) k ↔ (Bit x k ⊎ Bit y k)
-unfolding Bit
-Bit-or x y k =
-    let e : bit_at (bit_or x y) k ≡ max (bit_at x k) (bit_at y k) = bit_at_or x y k in
-    let p : bit_at x k < 2 = bit_at-lt x k in
-    let q : bit_at y k < 2 = bit_at-lt y k in
-    rw e (max_one _ _ p q)
-  where
-    max_one : (m n : ℕ) → m < 2 → n < 2 → max m n ≡ 1 ↔ ((m ≡ 1) ⊎ (n ≡ 1))
-    max_one m n p q = ((λ h. grind arith), (λ h. grind arith))
 
 module _ (passes : Instruction → Bool) (at : Executed) where
   -- what reaches the place that the last instruction wrote

@@ -2,7 +2,7 @@
 use Rattle.std.specs.Prelude.{ℕ, ◌<◌, ◌↔◌, List, Contains, slice_index}
 use Rattle.dataflow.specs.declared.lists.Links.{Links}
 use Rattle.dataflow.specs.Chains.{Executed, IsAddr, IsData, IsCtrl, IsCtrlIsync, IsNeed, IsRising, IsListOf}
-use Rattle.dataflow.specs.Taints.{Bit}
+use Rattle.bit_relations.specs.Relation.{Bit}
 
 -- each list has just the pairs of its dependency, in rising order
 pub record AreLinks (at : Executed) (links : Links) : Type 0 where

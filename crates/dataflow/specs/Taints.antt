@@ -1,14 +1,11 @@
 -- The loads that reach a place, as bits of a word.
 use Rattle.std.specs.Prelude.{ℕ, ◌≡◌, ◌⊎◌, ◌↔◌, ◌<◌, ◌*◌, ◌%◌, ◌^◌, if◌then◌else◌, slice_set, bit_or, Bool, true, false, List, IsTrue, slice_index}
-use Rattle.std.specs.Int.{bit_at}
 use Rattle.thread_runs.specs.declared.instruction.Instruction.{Instruction}
 use Rattle.thread_runs.specs.declared.instruction.Instruction.TheVariants.{Immediate, Move, AddImmediate, Operate, Load, LoadIndexed, Store, StoreIndexed, Compare, CompareImmediate, Branch}
 use Rattle.dataflow.specs.declared.taints.Taints.{Taints}
 use Rattle.thread_runs.specs.Machine.{is_load}
 use Rattle.dataflow.specs.Chains.{Executed, Place, Register, Cr0, IsOperand, IsWritten, Reaches, event_place, is_plain, is_narrow, is_event, IsStoredRegister, IsAddressRegister, LoadReaches}
-
-unfoldable pub Bit : ℕ → ℕ → Type 0
-Bit word k = bit_at word k ≡ 1
+use Rattle.bit_relations.specs.Relation.{Bit}
 
 -- some load with this place among the events reaches the place
 abbrev pub TaintOf : (Instruction → Bool) → Executed → ℕ → Place → ℕ → Type 0

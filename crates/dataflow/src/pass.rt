@@ -4,6 +4,7 @@ ghost use Rattle.dataflow.specs.Chains as chains;
 ghost use Rattle.dataflow.specs.Control as control;
 ghost use Rattle.dataflow.specs.Dependencies as found;
 ghost use Rattle.thread_runs.specs.Machine as machine;
+ghost use Rattle.bit_relations.specs.Relation.{Bit};
 ghost use Rattle.dataflow.specs.Taints as taint;
 ghost use Rattle.dataflow.specs.Within.{IsPairWithin, IsWithin};
 ghost use Rattle.thread_runs.specs.Runs as runs;
@@ -109,7 +110,7 @@ fn control_columns(steps: &[RunStep], synchronised: bool) -> Columns
 /// Whether the word has the bit of a place.
 fn has(word: u128, place: usize) -> bool
     requires { place < 128 }
-    ensures { IsTrue result ↔ taint.Bit word place }
+    ensures { IsTrue result ↔ Bit word place }
 {
     (word >> place) & 1 == 1
 }

@@ -1,7 +1,7 @@
 //! Logs of outcomes that are made up, and which of two texts is refused.
 
 use binding_graph::ModelFault;
-use cat_syntax::{CatFault, CatRule};
+use cat_syntax::CatRule;
 use litmus_ppc::{Name, Quantifier};
 use litmusbench::{EvalFault, eval, outcome_log};
 use ppc_semantics::EvalRefusal;
@@ -49,12 +49,10 @@ fn show_log<R: Print + AllocGlobal>(
 fn show_refusal<R: Print + AllocGlobal>(rt: &R) -> io::Result<()> {
     match eval(rt.alloc(), b"acyclic po |", b"PPCT") {
         Err(
-            EvalFault::Model(
-                CatFault::Refused {
-                    rule: CatRule::Syntax,
-                    place,
-                },
-            ),
+            EvalFault::Model {
+                rule: CatRule::Syntax,
+                place,
+            },
         ) => println!(rt; "model refused first: syntax {place}"),
         _ => println!(rt; "no refusal of the model"),
     }

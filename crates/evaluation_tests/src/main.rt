@@ -5,10 +5,10 @@
 
 mod bindings;
 mod cells;
-mod columns;
 mod logs;
 mod outcomes;
 mod streams;
+mod values;
 
 use source_text::put_bytes;
 use std::alloc::{AllocError, Global};
@@ -36,8 +36,8 @@ fn put_answer(
         return outcomes::put_outcome(alloc, answer, words, text);
     }
     match question {
-        "values" => columns::put_values(alloc, answer, text),
-        "holds" => columns::put_holds(alloc, answer, text),
+        "values" => values::put_values(alloc, answer, text),
+        "holds" => values::put_holds(alloc, answer, text),
         "words" => cells::put_form(alloc, answer, text),
         _ => bindings::put_answer(alloc, answer, question, text),
     }

@@ -4,8 +4,9 @@ ghost use Rattle.std.specs.Prelude.{None};
 
 use litmusbench::{
     ByteSink, ByteSource, CallFailed, MemorySink, MemorySource, OfRead, SessionFault, eval_stream,
-    read_all, read_text, write_answer,
+    read_front, read_text, write_answer,
 };
+use std::alloc::AllocError;
 use std::io;
 
 /// The log of message passing under sequential consistency.
@@ -73,7 +74,10 @@ fn show_written<R: Print>(rt: &R, head: &str, written: &[u8]) -> io::Result<()> 
     if LOG.starts_with(written) {
         return println!(rt; "{head}, {} bytes of the log", written.len());
     }
-    println!(rt; "{head}, another text")
+    match str::from_utf8(written) {
+        Ok(text) => print!(rt; "{head}, {text}"),
+        Err(_) => println!(rt; "{head}, no text"),
+    }
 }
 
 fn show_sources<R: Print + AllocGlobal>(rt: &R, input: &[u8]) -> io::Result<()> {
@@ -102,14 +106,60 @@ fn show_sinks<R: Print + AllocGlobal>(rt: &R, input: &[u8]) -> io::Result<()> {
     Ok(())
 }
 
+fn show_fronts<R: Print + AllocGlobal>(rt: &R) -> io::Result<()> {
+    let alloc = rt.alloc();
+    for most in [0, 1, 10, LOG.len(), 1_000] {
+        let is_front = match read_front(alloc, &mut OfRead::new(LOG), most) {
+            Ok(bytes) => bytes.as_slice() == &LOG[..most.min(LOG.len())],
+            Err(_) => false,
+        };
+        let word = if is_front {
+            "those of the log"
+        } else {
+            "others"
+        };
+        println!(rt; "source of the library, the first {most} bytes: {word}")?;
+    }
+    Ok(())
+}
+
+/// The text with blanks and a line feed behind it.
+fn put_padded(input: &mut Vec<u8>, text: &[u8], length: usize) -> Result<(), AllocError> {
+    input.extend_from_slice(text)?;
+    for _ in text.len() + 1..length {
+        input.push(b' ')?;
+    }
+    input.push(b'\n')?;
+    Ok(())
+}
+
+fn show_lengths<R: Print + AllocGlobal>(rt: &R) -> io::Result<()> {
+    let alloc = rt.alloc();
+    let lengths = [
+        (65_536, 65_536),
+        (65_536, 65_537),
+        (65_536, 200_000),
+        (65_537, 65_536),
+        (200_000, 1_000),
+    ];
+    for (model, test) in lengths {
+        let mut input = Vec::new(alloc);
+        put_padded(&mut input, MODEL, model)?;
+        input.extend_from_slice(b".\n")?;
+        put_padded(&mut input, TEST, test)?;
+        let mut sink = MemorySink::failing_at(Vec::new(alloc), None);
+        let mut source = MemorySource::failing_at(&input, None);
+        let word = word_of(eval_stream(rt, &mut source, &mut sink));
+        let head = format!(in alloc; "model of {model} bytes, test of {test}: {word}")?;
+        show_written(rt, head.as_str(), sink.as_bytes())?;
+    }
+    Ok(())
+}
+
 fn show_ends<R: Print + AllocGlobal>(rt: &R) -> io::Result<()> {
     let alloc = rt.alloc();
-    match read_all(alloc, &mut OfRead::new(LOG)) {
-        Ok(bytes) if bytes.as_slice() == LOG => {
-            println!(rt; "source of the library: the whole log")?
-        }
-        _ => println!(rt; "source of the library: another text")?,
-    }
+    show_fronts(rt)?;
+    show_lengths(rt)?;
     let mut sink = MemorySink::failing_at(Vec::new(alloc), None);
     let word = word_of(eval_stream(rt, &mut Endless, &mut sink));
     let head = format!(in alloc; "source that does not end: {word}")?;

@@ -52,13 +52,11 @@ test_refused bytes e rule place is only fault =
     }
 
 -- a refusal of `eval`
-pub of_model : (model test : List ℕ) (e : EvalFault) (f : CatFault) (rule : CatRule) (place : ℕ) → e ≡ eval_faults.Model f → f ≡ model_faults.Refused rule place → IsRefusal model test e → IsModelRefused model rule place
-of_model model test e f rule place p q h =
-    subst (λ (x : EvalFault). IsRefusal model test x) (p ∙ ap (λ (x : CatFault). eval_faults.Model x) q) h
+pub of_model : (model test : List ℕ) (e : EvalFault) (rule : CatRule) (place : ℕ) → e ≡ eval_faults.Model rule place → IsRefusal model test e → IsModelRefused model rule place
+of_model model test e rule place is h = subst (λ (x : EvalFault). IsRefusal model test x) is h
 
-pub of_test : (model test : List ℕ) (e : EvalFault) (f : LitmusFault) (rule : LitmusRule) (place : ℕ) → e ≡ eval_faults.Test f → f ≡ test_faults.Refused rule place → IsRefusal model test e → IsModel model × IsTestRefused test rule place
-of_test model test e f rule place p q h =
-    subst (λ (x : EvalFault). IsRefusal model test x) (p ∙ ap (λ (x : LitmusFault). eval_faults.Test x) q) h
+pub of_test : (model test : List ℕ) (e : EvalFault) (rule : LitmusRule) (place : ℕ) → e ≡ eval_faults.Test rule place → IsRefusal model test e → IsModel model × IsTestRefused test rule place
+of_test model test e rule place is h = subst (λ (x : EvalFault). IsRefusal model test x) is h
 
 pub refuses_model : (r : Result Answer AllocError) (model test : List ℕ) (rule : CatRule) (number place : ℕ) → IsModelRefused model rule place → number ≡ model_rule_number rule → IfOk r (λ a. (a.text.items ≡ refused_line 67 number place) × (a.is_refused ≡ true)) → IfOk r (λ a. IsAnswer model test a.text.items a.is_refused)
 refuses_model (Ok a) model test rule number place refused e h =
@@ -85,8 +83,3 @@ streamed left old new (Ok refused) model test cut h = record { model = model; te
 streamed left old new (Err faults.Write) model test cut h = record { model = model; test = test; cut = cut; written = h }
 streamed left old new (Err faults.Read) model test cut h = h
 streamed left old new (Err faults.Memory) model test cut h = h
-
--- the bytes that were left are those that were read
-pub cut_of : (left : Option (List ℕ)) (bytes model test : List ℕ) → IfSome left (λ all. bytes ≡ all) → IsCut bytes model test → IfSome left (λ all. IsCut all model test)
-cut_of None bytes model test e h = tt
-cut_of (Some all) bytes model test e h = subst (λ (l : List ℕ). IsCut l model test) e h

@@ -1,5 +1,5 @@
 -- Lines of a log.
-use Rattle.std.proofs.Common.{◌≡◌, ℕ, List, ◌++◌, codes, append_assoc, refl}
+use Rattle.std.proofs.Common.{◌≡◌, ℕ, List, ◌++◌, codes, append_assoc}
 use Rattle.verdict.specs.declared.answer.Evaluation.{Evaluation}
 use Rattle.litmusbench.specs.Log.{counts, observation_line, observation_word}
 

@@ -6,7 +6,6 @@ use Rattle.litmus_tokens.specs.Numbers.{number_of as test_rule_number}
 use Rattle.litmus_values.specs.declared.test.Test.{Test}
 use Rattle.litmus_values.specs.Value.{Content, content_of}
 use Rattle.litmus_grammar.specs.Texts.{ReadsTest, IsTestFault}
-use Rattle.litmus_ppc.specs.declared.fault.LitmusFault.TheVariants as test_faults
 use Rattle.cat_tokens.specs.declared.rule.CatRule.{CatRule}
 use Rattle.cat_tokens.specs.Tokens.{number_of as model_rule_number}
 use Rattle.cat_values.specs.declared.model.ModelText.{ModelText}
@@ -15,7 +14,6 @@ use Rattle.cat_values.specs.Value as cat_value
 use Rattle.cat_values.specs.Values.{clauses_of}
 use Rattle.cat_grammar.specs.declared.form.Form.TheVariants.{Model}
 use Rattle.cat_syntax.specs.Reads.{Reads, FaultAt}
-use Rattle.cat_syntax.specs.declared.fault.CatFault.TheVariants as model_faults
 use Rattle.binding_kinds.specs.Faults.{HasNoFault, FirstFault}
 use Rattle.binding_kinds.specs.Outermost.{naming_of}
 use Rattle.binding_kinds.specs.Value.{clause_of, AreNoFunctions}
@@ -37,7 +35,7 @@ use Rattle.litmusbench.specs.Written.{WritesFront}
 pub record IsSaid (test : Test) (model : ModelText) (o : Outcome) : Type 0 where
   pub judged : IsAnswerOf test.condition.quantifier o
   pub cell : IsCell test o
-  pub of_model : AreNoFunctions (map clause_of model.items.items) → OfModel (FirstFault [] (reverse (map naming_of PREDEFINED)) 0 (map clause_of model.items.items)) (HasNoFault [] (reverse (map naming_of PREDEFINED)) 0 (map clause_of model.items.items)) (IsEvaluationUnder (reverse (map naming_of PREDEFINED)) model.items.items test) o.result
+  pub of_model : OfModel (FirstFault [] (reverse (map naming_of PREDEFINED)) 0 (map clause_of model.items.items)) (HasNoFault [] (reverse (map naming_of PREDEFINED)) 0 (map clause_of model.items.items)) (λ e. AreNoFunctions (map clause_of model.items.items) → IsEvaluationUnder (reverse (map naming_of PREDEFINED)) model.items.items test e) o.result
 
 -- the log of such an outcome
 abbrev pub IsLogOf : Test → ModelText → List ℕ → Type 0
@@ -69,24 +67,20 @@ IsModel model = (v : List cat_value.Clause) × Reads Model model v
 
 -- what stands in the way of a log: the fault of the model's text,
 abbrev pub IsOfModel : List ℕ → EvalFault → Type 0
-IsOfModel model (eval_faults.Model (model_faults.Refused rule place)) = IsModelRefused model rule place
-IsOfModel model (eval_faults.Model (model_faults.OutOfMemory e)) = ⊥
-IsOfModel model (eval_faults.Test fault) = ⊥
+IsOfModel model (eval_faults.Model rule place) = IsModelRefused model rule place
+IsOfModel model (eval_faults.Test rule place) = ⊥
 IsOfModel model (eval_faults.Memory e) = Unit {0}
 
 -- that of the test's text,
 abbrev pub IsOfTest : List ℕ → EvalFault → Type 0
-IsOfTest test (eval_faults.Model fault) = ⊥
-IsOfTest test (eval_faults.Test (test_faults.Refused rule place)) = IsTestRefused test rule place
-IsOfTest test (eval_faults.Test (test_faults.OutOfMemory e)) = ⊥
+IsOfTest test (eval_faults.Model rule place) = ⊥
+IsOfTest test (eval_faults.Test rule place) = IsTestRefused test rule place
 IsOfTest test (eval_faults.Memory e) = Unit {0}
 
 -- the first of the two, or want of memory
 abbrev pub IsRefusal : List ℕ → List ℕ → EvalFault → Type 0
-IsRefusal model test (eval_faults.Model (model_faults.Refused rule place)) = IsModelRefused model rule place
-IsRefusal model test (eval_faults.Model (model_faults.OutOfMemory e)) = ⊥
-IsRefusal model test (eval_faults.Test (test_faults.Refused rule place)) = IsModel model × IsTestRefused test rule place
-IsRefusal model test (eval_faults.Test (test_faults.OutOfMemory e)) = ⊥
+IsRefusal model test (eval_faults.Model rule place) = IsModelRefused model rule place
+IsRefusal model test (eval_faults.Test rule place) = IsModel model × IsTestRefused test rule place
 IsRefusal model test (eval_faults.Memory e) = Unit {0}
 
 -- the line of a refusal: the letter of its rules, the rule's number, and the place
@@ -101,6 +95,11 @@ pub data IsAnswer (model test text : List ℕ) (refused : Bool) : Type 0 where
   IsEvaluated : refused ≡ false → IsLog model test text → IsAnswer model test text refused
   RefusesModel : refused ≡ true → (rule : CatRule) → (place : ℕ) → IsModelRefused model rule place → text ≡ refused_line 67 (model_rule_number rule) place → IsAnswer model test text refused
   RefusesTest : refused ≡ true → (rule : LitmusRule) → (place : ℕ) → IsModel model → IsTestRefused test rule place → text ≡ refused_line 76 (test_rule_number rule) place → IsAnswer model test text refused
+
+-- whatever is said of the first two texts is said of the other two
+abbrev pub AreAnsweredAlike : List ℕ → List ℕ → List ℕ → List ℕ → Type 0
+AreAnsweredAlike model test other_model other_test =
+    (text : List ℕ) (refused : Bool) → IsAnswer model test text refused → IsAnswer other_model other_test text refused
 
 -- the bytes of a sink, before and after an answer was written: all of it, or a front of it where a write failed, and else nothing
 abbrev pub IsWritten : List ℕ → List ℕ → Option (List ℕ) → Option (List ℕ) → Result Bool SessionFault → Type 0

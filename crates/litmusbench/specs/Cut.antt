@@ -1,5 +1,5 @@
 -- Where a model and a test are cut apart.
-use Rattle.std.specs.Prelude.{◌≡◌, ℕ, ◌+◌, ◌-◌, ◌<◌, ◌≤◌, ◌⊎◌, List, [], length, take, drop, slice_index}
+use Rattle.std.specs.Prelude.{◌≡◌, ℕ, ◌+◌, ◌-◌, ◌<◌, ◌⊎◌, List, [], length, take, drop, slice_index}
 
 -- at this place begins a line that is exactly a full stop
 pub record IsDotLine (bytes : List ℕ) (at_byte : ℕ) : Type 0 where

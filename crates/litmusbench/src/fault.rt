@@ -1,19 +1,21 @@
 //! Why no log was made, or none was written.
 
-use cat_syntax::CatFault;
-use litmus_ppc::LitmusFault;
+use cat_syntax::CatRule;
+use litmus_ppc::LitmusRule;
 use std::alloc::AllocError;
 use thiserror::Error;
 
 /// Why no log was made of a model and a test.
 #[derive(Debug, Drop, Error)]
 pub enum EvalFault {
-    /// The model's text is refused.
-    #[error("the cat text: {0}")]
-    Model(CatFault),
-    /// The test's text is refused.
-    #[error("the litmus text: {0}")]
-    Test(LitmusFault),
+    /// The model's text is refused: the rule that it breaks, and the offset of the first token that
+    /// no model could have there.
+    #[error("the cat text: the text is refused at byte {place}")]
+    Model { rule: CatRule, place: usize },
+    /// The test's text is refused: the rule that it breaks, and the offset of the first token that
+    /// no test could have there.
+    #[error("the litmus text: the text is refused at byte {place}")]
+    Test { rule: LitmusRule, place: usize },
     /// A growth was refused.
     #[error("out of memory")]
     Memory(#[from(alloc)] AllocError),

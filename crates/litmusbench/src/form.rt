@@ -3,6 +3,13 @@
 use clap::{Arg, ArgAction, Command, Error};
 use std::alloc::Global;
 
+const ABOUT: &str =
+    "Says which final states a memory model allows a litmus test to end in. With no \
+    words, standard input holds the model, a line that is exactly `.`, and the test.";
+
+const AFTER: &str = "The log goes to standard output. Exit status: 0 done, 1 a text was refused, \
+    2 usage or help, 3 a fault of reading, writing or memory.";
+
 /// What the program is asked to do.
 #[derive(Clone, Copy, Debug, PartialEq, Eq)]
 pub enum Form<'a> {
@@ -16,13 +23,21 @@ pub enum Form<'a> {
 /// want of memory.
 pub fn form_of<'a>(alloc: Global, words: &'a [&'a str]) -> Result<Form<'a>, Error> {
     let model = Arg::new(alloc, "MODEL")
+        .help("A file that holds a model in the cat language")
         .required(true)
         .action(ArgAction::Set);
     let test = Arg::new(alloc, "TEST")
+        .help("A file that holds a litmus test for Power (PPC)")
         .required(true)
         .action(ArgAction::Set);
-    let eval = Command::new(alloc, "eval").arg(model)?.arg(test)?;
-    let program = Command::new(alloc, "pipitsolder").subcommand(eval)?;
+    let eval = Command::new(alloc, "eval")
+        .about("The same, with the model and the test in two files")
+        .arg(model)?
+        .arg(test)?;
+    let program = Command::new(alloc, "pipitsolder")
+        .about(ABOUT)
+        .after_help(AFTER)
+        .subcommand(eval)?;
     let matches = program.try_get_matches_from(words)?;
     match matches.subcommand() {
         Some(("eval", given)) => Ok(Form::Eval {

@@ -4,6 +4,7 @@
 mod cut;
 mod fault;
 mod form;
+pub mod laws;
 mod log;
 mod sink;
 mod source;
@@ -14,6 +15,6 @@ pub use fault::{EvalFault, SessionFault};
 pub use form::{Form, form_of};
 pub use log::outcome_log;
 pub use sink::{ByteSink, MemorySink, OfWrite, write_whole};
-pub use source::{ByteSource, CallFailed, MemorySource, OfRead, ReadFault, read_all};
+pub use source::{ByteSource, CallFailed, MemorySource, OfRead, ReadFault, read_front};
 pub use stream::{eval_stream, read_text, write_answer};
 pub use texts::eval;

@@ -1,6 +1,6 @@
 //! Where bytes come from.
 
-ghost use Rattle.std.specs.Prelude.{◌≡◌, ◌≢◌, ◌+◌, ◌-◌, ◌<◌, ◌≤◌, ◌^◌, List, ℕ, Option, Some, OnOk, OnErr, IfOk, IfSome, length};
+ghost use Rattle.std.specs.Prelude.{◌≡◌, ◌≢◌, ◌+◌, ◌-◌, ◌<◌, ◌≤◌, ◌^◌, ◌++◌, List, ℕ, Option, Some, OnOk, OnErr, IfOk, IfSome, length, take};
 ghost use Rattle.std.specs.Io.{ReadsAtMost};
 ghost use Rattle.std.specs.Io.KnownBytes.{ReadConsumes};
 ghost use Rattle.litmusbench.specs.declared.source.ReadFault.TheVariants.{Memory};
@@ -131,11 +131,25 @@ impl From<AllocError> for ReadFault {
 
 const MAX_TURNS: u32 = 16_777_216;
 
-/// All bytes of a source. Errors: a call that failed, a source that has not ended after 16,777,216
-/// calls, or want of memory.
-pub fn read_all<S: ByteSource>(alloc: Global, source: &mut S) -> Result<Vec<u8>, ReadFault>
+// The first `most` of these bytes and those behind them.
+fn put_front(bytes: &mut Vec<u8>, more: &[u8], most: usize) -> Result<(), AllocError>
+    requires { length bytes.old.items ≤ most }
+    ensures { OnOk result (bytes.new.items ≡ take most (bytes.old.items ++ more.now)) }
+{
+    let room = most - bytes.len();
+    let count = more.len().min(room);
+    bytes.extend_from_slice(&more[..count])
+}
+
+/// The first `most` bytes of a source, which is read to its end; the others are not kept. Errors: a
+/// call that failed, a source that has not ended after 16,777,216 calls, or want of memory.
+pub fn read_front<S: ByteSource>(
+    alloc: Global,
+    source: &mut S,
+    most: usize,
+) -> Result<Vec<u8>, ReadFault>
     requires { S.failed_calls source.old < 2 ^ 64 - 1 }
-    ensures bytes { IfOk result (λ v. IfSome (S.remaining source.old) (λ all. v.items ≡ all)) }
+    ensures bytes { IfOk result (λ v. IfSome (S.remaining source.old) (λ all. v.items ≡ take most all)) }
     // `Read` comes after one failed call, and all else after none.
     ensures read { result ≡ Err ReadFault.Read → S.failed_calls source.new ≡ S.failed_calls source.old + 1 }
     ensures same { result ≢ Err ReadFault.Read → S.failed_calls source.new ≡ S.failed_calls source.old }
@@ -147,7 +161,7 @@ pub fn read_all<S: ByteSource>(alloc: Global, source: &mut S) -> Result<Vec<u8>,
     for _turn in 0..MAX_TURNS {
         match source.read_some(&mut buffer) {
             Ok(0) => return Ok(bytes),
-            Ok(n) => bytes.extend_from_slice(&buffer[..n])?,
+            Ok(n) => put_front(&mut bytes, &buffer[..n], most)?,
             Err(_) => return Err(ReadFault::Read),
         }
     }

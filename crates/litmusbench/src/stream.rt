@@ -1,15 +1,13 @@
 //! A model and a test from a source, and what is said of them to a sink.
 
-ghost use Rattle.std.specs.Prelude.{◌≡◌, ◌≢◌, ◌+◌, ◌-◌, ◌<◌, ◌^◌, ◌++◌, true, OnOk, IfOk, IfSome};
+ghost use Rattle.std.specs.Prelude.{◌≡◌, ◌≢◌, ◌+◌, ◌-◌, ◌<◌, ◌^◌, ◌++◌, true, OnOk, IfOk, IfSome, take};
 ghost use Rattle.litmusbench.specs.Answer.{IsAnswer, IsReadFault, IsWritten, IsStreamed, refused_line};
 
 use crate::cut::cut_at_dot;
 use crate::fault::{EvalFault, SessionFault};
 use crate::sink::{ByteSink, write_whole};
-use crate::source::{ByteSource, ReadFault, read_all};
+use crate::source::{ByteSource, ReadFault, read_front};
 use crate::texts::eval;
-use cat_syntax::CatFault;
-use litmus_ppc::LitmusFault;
 use source_text::{put_bytes, put_decimal};
 use std::alloc::{AllocError, Global};
 
@@ -51,14 +49,8 @@ fn answer_to(alloc: Global, model: &[u8], test: &[u8]) -> Result<Answer, AllocEr
             text,
             is_refused: false,
         }),
-        Err(EvalFault::Model(CatFault::Refused { rule, place })) => {
-            refusal(alloc, b'C', rule.number(), place)
-        }
-        Err(EvalFault::Test(LitmusFault::Refused { rule, place })) => {
-            refusal(alloc, b'L', rule.number(), place)
-        }
-        Err(EvalFault::Model(CatFault::OutOfMemory(e))) => Err(e),
-        Err(EvalFault::Test(LitmusFault::OutOfMemory(e))) => Err(e),
+        Err(EvalFault::Model { rule, place }) => refusal(alloc, b'C', rule.number(), place),
+        Err(EvalFault::Test { rule, place }) => refusal(alloc, b'L', rule.number(), place),
         Err(EvalFault::Memory(e)) => Err(e),
     }
 }
@@ -91,18 +83,24 @@ pub fn write_answer<W: ByteSink>(
     }
 }
 
-/// All bytes of a source. Errors: `Read` where a call failed or the bytes did not end within
-/// 16,777,216 calls, or `Memory`.
-pub fn read_text<S: ByteSource>(alloc: Global, source: &mut S) -> Result<Vec<u8>, SessionFault>
+// A text of so many bytes is too long, whatever stands behind them.
+const MOST_OF_TEXT: usize = 65_537;
+
+// A model that is not too long, the line behind it, and a test that is too long.
+const MOST_OF_INPUT: usize = 131_075;
+
+fn read_first<S: ByteSource>(
+    alloc: Global,
+    source: &mut S,
+    most: usize,
+) -> Result<Vec<u8>, SessionFault>
     requires { S.failed_calls source.old < 2 ^ 64 - 1 }
-    ensures bytes { IfOk result (λ v. IfSome (S.remaining source.old) (λ all. v.items ≡ all)) }
-    // `Read` comes after one failed call or at the bound, and all else after none.
+    ensures bytes { IfOk result (λ v. IfSome (S.remaining source.old) (λ all. v.items ≡ take most all)) }
     ensures failed { result ≡ Err SessionFault.Read → IsReadFault (S.failed_calls source.old) (S.failed_calls source.new) (S.remaining source.old) }
     ensures same { result ≢ Err SessionFault.Read → S.failed_calls source.new ≡ S.failed_calls source.old }
-    // Nothing is written.
     ensures fault { result ≢ Err SessionFault.Write }
 {
-    match read_all(alloc, source) {
+    match read_front(alloc, source, most) {
         Ok(bytes) => Ok(bytes),
         Err(ReadFault::Memory) => Err(SessionFault::Memory),
         Err(ReadFault::Read) => Err(SessionFault::Read),
@@ -110,9 +108,25 @@ pub fn read_text<S: ByteSource>(alloc: Global, source: &mut S) -> Result<Vec<u8>
     }
 }
 
+/// The first 65,537 bytes of a source, which is read to its end. They decide what is said of the
+/// whole text (`laws::fronts_decide`). Errors: `Read` where a call failed or the bytes did not end
+/// within 16,777,216 calls, or `Memory`.
+pub fn read_text<S: ByteSource>(alloc: Global, source: &mut S) -> Result<Vec<u8>, SessionFault>
+    requires { S.failed_calls source.old < 2 ^ 64 - 1 }
+    ensures bytes { IfOk result (λ v. IfSome (S.remaining source.old) (λ all. v.items ≡ take 65537 all)) }
+    // `Read` comes after one failed call or at the bound, and all else after none.
+    ensures failed { result ≡ Err SessionFault.Read → IsReadFault (S.failed_calls source.old) (S.failed_calls source.new) (S.remaining source.old) }
+    ensures same { result ≢ Err SessionFault.Read → S.failed_calls source.new ≡ S.failed_calls source.old }
+    // Nothing is written.
+    ensures fault { result ≢ Err SessionFault.Write }
+{
+    read_first(alloc, source, MOST_OF_TEXT)
+}
+
 /// Reads all input, which holds a model, a line that is exactly `.` and a test, and writes what
-/// `write_answer` does. With no such line the test's text is empty. Errors: those of `read_text`,
-/// before the first write, and those of `write_answer`.
+/// `write_answer` does. With no such line the test's text is empty. Bytes that cannot change the
+/// answer are not kept. Errors: those of `read_text`, before the first write, and those of
+/// `write_answer`.
 pub fn eval_stream<R: AllocGlobal, S: ByteSource, W: ByteSink>(
     rt: &R,
     source: &mut S,
@@ -128,7 +142,7 @@ pub fn eval_stream<R: AllocGlobal, S: ByteSource, W: ByteSink>(
     ensures write { result ≡ Err SessionFault.Write → W.failed_calls sink.new ≡ W.failed_calls sink.old + 1 }
     ensures no_write { result ≢ Err SessionFault.Write → W.failed_calls sink.new ≡ W.failed_calls sink.old }
 {
-    let bytes = match read_text(rt.alloc(), source) {
+    let bytes = match read_first(rt.alloc(), source, MOST_OF_INPUT) {
         Ok(bytes) => bytes,
         Err(fault) => return Err(fault),
     };

@@ -11,6 +11,7 @@ use Rattle.binding_kinds.specs.declared.fault.ModelFault.{ModelFault}
 use Rattle.binding_kinds.specs.Outermost.{naming_of}
 use Rattle.binding_kinds.specs.Value.{clause_of, AreNoFunctions}
 use Rattle.binding_graph.specs.declared.resolved.ResolvedItem.{ResolvedItem}
+use Rattle.binding_kinds.specs.Faults.{HasNoFault}
 use Rattle.binding_graph.specs.Resolved.{AreResolved, AreLabelled}
 use Rattle.candidates.specs.declared.candidate.Space.{Space}
 use Rattle.candidates.specs.Candidates.{IsTestSpace}
@@ -24,10 +25,11 @@ use Rattle.verdict.specs.declared.answer.Refusal.TheVariants as refusals
 use Rattle.verdict.specs.declared.judgement.Raised.{Raised}
 use Rattle.memo_graph.specs.declared.cell.ItemAnswers.{ItemAnswers}
 use Rattle.memo_graph.specs.declared.cell.FlagAnswer.{FlagAnswer}
-use Rattle.memo_graph.specs.Answers.{of_raised, AreSaid, AreOrdered}
+use Rattle.memo_graph.specs.Answers.{of_raised, AreSaid, AreSound}
 use Rattle.memo_graph.specs.Known.{checks_of, of_flags, flags_of}
 use Rattle.memo_graph.specs.Cell.{IsSaid, IsResult, IsCell, IsEvaluationBy, IsEvaluationOver, IsEvaluationUnder, OfModel}
 use Rattle.memo_graph.proofs.Ordered.{resolved_ordered}
+use Rattle.memo_graph.proofs.Rising.{resolved_rising}
 
 result_said : (test : Test) (space : Space) (checks : List (Vec Bool Global)) (flags : List Raised) (r : OutcomeResult) → IsTestSpace test space → IsEvaluatedAs (IsEvaluation space test.condition test.observed.items checks flags) r → IsResult test r
 result_said test space checks flags (Refused _) own h = absurd h
@@ -62,11 +64,11 @@ outcome_said items test space answers observed checks given raised flags (Ok o) 
 outcome_said items test space answers observed checks given raised flags (Err e) seen same from gives on said h = tt
 
 -- an evaluation over that space, where the items are ordered
-over_space : (items : List ResolvedItem) (test : Test) (space : Space) (P : Evaluation → Type 0) (r : OutcomeResult) → IsTestSpace test space → IsEvaluatedAs P r → (AreOrdered (reverse items) → IsEvaluatedAs (IsEvaluationBy items space test) r) → OfModel (λ _. ⊥) (Unit {0}) (λ e. AreOrdered (reverse items) → IsEvaluationOver items test e) r
+over_space : (items : List ResolvedItem) (test : Test) (space : Space) (P : Evaluation → Type 0) (r : OutcomeResult) → IsTestSpace test space → IsEvaluatedAs P r → (AreSound items → IsEvaluatedAs (IsEvaluationBy items space test) r) → OfModel (λ _. ⊥) (Unit {0}) (λ e. AreSound items → IsEvaluationOver items test e) r
 over_space items test space P (Refused _) own h f = absurd h
 over_space items test space P (Evaluated e) own h f = (tt, λ ordered. (space, own, f ordered))
 
-pub model_over : (items : List ResolvedItem) (test : Test) (space : Space) (r : Result Outcome AllocError) → IsTestSpace test space → IfOk r (IsSaid space test) → (AreOrdered (reverse items) → IfOk r (λ o. IsEvaluatedAs (IsEvaluationBy items space test) o.result)) → IfOk r (λ o. OfModel (λ _. ⊥) (Unit {0}) (λ e. AreOrdered (reverse items) → IsEvaluationOver items test e) o.result)
+pub model_over : (items : List ResolvedItem) (test : Test) (space : Space) (r : Result Outcome AllocError) → IsTestSpace test space → IfOk r (IsSaid space test) → (AreSound items → IfOk r (λ o. IsEvaluatedAs (IsEvaluationBy items space test) o.result)) → IfOk r (λ o. OfModel (λ _. ⊥) (Unit {0}) (λ e. AreSound items → IsEvaluationOver items test e) o.result)
 model_over items test space (Ok o) own said f = over_space items test space _ o.result own said.2.result f
 model_over items test space (Err e) own said f = tt
 
@@ -77,5 +79,6 @@ of_model P Q R S (Refused (refusals.Space x)) q more h = q
 of_model P Q R S (Evaluated e) q more h = (q, more e h.1)
 
 -- under a model that defines no function, whose items are so resolved
-pub under_model : (model : List Item) (items : List ResolvedItem) (test : Test) (e : Evaluation) → AreNoFunctions (map clause_of model) → AreResolved [] (reverse (map naming_of PREDEFINED)) 0 (map clause_of model) items → AreLabelled model items → (AreOrdered (reverse items) → IsEvaluationOver items test e) → IsEvaluationUnder (reverse (map naming_of PREDEFINED)) model test e
-under_model model items test e plain resolved labels over = (items, resolved, labels, over (resolved_ordered PREDEFINED (map clause_of model) items plain resolved))
+pub under_model : (model : List Item) (items : List ResolvedItem) (test : Test) (e : Evaluation) → AreNoFunctions (map clause_of model) → HasNoFault [] (reverse (map naming_of PREDEFINED)) 0 (map clause_of model) → AreResolved [] (reverse (map naming_of PREDEFINED)) 0 (map clause_of model) items → AreLabelled model items → (AreSound items → IsEvaluationOver items test e) → IsEvaluationUnder (reverse (map naming_of PREDEFINED)) model test e
+under_model model items test e plain none resolved labels over =
+    (items, resolved, labels, over (resolved_ordered PREDEFINED (map clause_of model) items plain resolved, resolved_rising (reverse (map naming_of PREDEFINED)) 0 (map clause_of model) items plain none resolved))

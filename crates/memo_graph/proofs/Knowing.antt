@@ -1,5 +1,5 @@
 -- On the way through the items of a model.
-use Rattle.std.proofs.Common.{ℕ, ◌≡◌, ◌+◌, ◌<◌, ◌≤◌, ◌⊎◌, inl, inr, zero, suc, List, [], ◌∷◌, ◌++◌, length, map, reverse, take, get_or, Option, Some, None, Bool, true, Vec, Global, vec_len, Result, Ok, Err, slice_get, Contains, refl, sym, ap, ◌∙◌, subst, add-one, arith}
+use Rattle.std.proofs.Common.{ℕ, ◌≡◌, ◌+◌, ◌<◌, ◌≤◌, ◌⊎◌, inl, inr, zero, suc, List, [], ◌∷◌, ◌++◌, length, map, reverse, take, get_or, Option, Some, None, Bool, true, false, Vec, Global, vec_len, Result, Ok, Err, slice_get, Contains, refl, sym, ap, ◌∙◌, subst, add-one, arith}
 use Rattle.std.proofs.lemmas.List.{take_more, append-nil, map-append, reverse-append, length-reverse, length-take}
 use Rattle.std.proofs.lemmas.Option.{slice_get_within, slice_get_read, slice_get_past, get_or_from_slice_get}
 use Rattle.std.proofs.lemmas.Bool.{cases_order}
@@ -16,11 +16,12 @@ use Rattle.binding_graph.specs.declared.resolved.Role.TheVariants as roles
 use Rattle.candidates.specs.declared.candidate.Space.{Space}
 use Rattle.cat_eval.specs.declared.column.Column.{Column}
 use Rattle.memo_graph.specs.declared.cell.ItemAnswers.{ItemAnswers}
-use Rattle.cat_eval.specs.Columns.{ColumnsOf}
+use Rattle.candidates.specs.Space.{candidates_in, Candidate}
+use Rattle.cat_eval.specs.Columns.{AreColumns, ColumnsOf}
 use Rattle.cat_eval.specs.Values.{AnswersOf}
 use Rattle.cat_eval.specs.Candidates.{name_count}
 use Rattle.binding_graph.specs.Reach.{is_check, IsCheckAt, UsesAt, Leads, IsReached, AreReached}
-use Rattle.memo_graph.specs.Answers.{IsNamed, AreNamed, HasAnswers, IsValued, Flag, IsSaidAs, IsSaidBy, AreSaid, IsBound, AreOrdered}
+use Rattle.memo_graph.specs.Answers.{IsNamed, AreNamed, HasAnswers, IsValued, Flag, IsSaidAs, IsSaidBy, AreSaid, IsBound, AreOrdered, AreLeast, LeastOf, AreRising, IsRising, AreSound}
 use Rattle.memo_graph.specs.Known.{column_in, column_of, AreFound, checks_of, flags_of, ColumnsAt, IsAnswered, AreKnown, AreKnownTo}
 
 -- ---- the first items, seen from the last of them
@@ -189,18 +190,37 @@ said_later space items n zero cs fs below le gap h = let e : n ≡ zero = omega 
 said_later space items n (suc k) cs fs below le gap h =
     said_later_at space items n k cs fs (omega arith) below gap h (λ less. said_later space items n k cs fs less (omega arith) (λ j from to. gap j from (omega arith)) h) (order n (suc k))
 
+-- ---- recursive groups
+
+risen_at : (items : List ResolvedItem) (k : ℕ) (r : ResolvedItem) → slice_get items k ≡ Some r → AllByRecursion (λ s. IsRising s.role) items → IsRising r.role
+risen_at [] k r e h = absurd (omega (arith, slice_get_within [] k r e))
+risen_at (x ∷ xs) zero r e h = let f : Some x ≡ Some r = e in let same : x ≡ r = cc in subst (λ (s : ResolvedItem). IsRising s.role) same h.0
+risen_at (x ∷ xs) (suc k) r e h = risen_at xs k r e h.1
+
+least_by : (recursive : Bool) (bodies : List Body) (inputs : List (Bor Column)) (candidates : List Candidate) (cs : List Column) → AreRising recursive bodies → AreColumns recursive bodies inputs candidates cs → AreLeast recursive bodies inputs candidates cs
+least_by false bodies inputs candidates cs rising h = tt
+least_by true bodies inputs candidates cs rising h = (rising.0, rising.1, λ few k one e. h.values k one e rising.0 rising.1 rising.2 few)
+
+least_of : (role : Role) (inputs : List (Bor Column)) (space : Space) (cs : List Column) → IsRising role → ColumnsOf role inputs space cs → LeastOf role inputs space cs
+least_of (roles.Group r b) inputs space cs rising h = least_by r b.items inputs (candidates_in space.combinations.items) cs rising h
+least_of (roles.Check c) inputs space cs rising h = tt
+least_of roles.Silent inputs space cs rising h = tt
+
 -- ---- one item more
 
 pub known_more : (space : Space) (items : List ResolvedItem) (places : List ℕ) (n at : ℕ) (r : ResolvedItem) (old new : ItemAnswers) → slice_get items at ≡ Some r → n ≤ at → ((k : ℕ) → n ≤ k → k < at → Contains places k → ⊥) → ((k : ℕ) → IsCheckAt items k → Contains places k) → ((k : ℕ) → k < length items → Contains (map (λ i. i.item) r.inputs.items) k → Contains places k)
-    → AreOrdered (reverse items) → AreKnown space items places n old → IsAnswered space at r old new → AreKnown space items places (suc at) new
+    → AreSound items → AreKnown space items places n old → IsAnswered space at r old new → AreKnown space items places (suc at) new
 known_more space items places n at r old new e le gap checks used ordered known given =
     let lt = slice_get_within items at r e in
     let Before : ℕ → List Column → Type 0 = λ j ds. IsValued space (reverse (take at items)) j ds in
     let named : AreNamed Before r.inputs.items given.inputs =
-    named_all Before old r.inputs.items given.inputs (all_names space items places n at old r.inputs.items known (omega arith) gap used (ordered_at items at r e ordered)) given.found in
+    named_all Before old r.inputs.items given.inputs (all_names space items places n at old r.inputs.items known (omega arith) gap used (ordered_at items at r e ordered.0)) given.found in
     let said = said_later space items n at (checks_of old) (flags_of old) le (omega arith) (λ j from to c. gap j from to (checks j c)) known.said in
     let here : ColumnsAt new at (IsValued space (reverse (take (suc at) items)) at) =
-    λ d. rw (rev_suc items at r e) (inl (sym (rev_count items at (omega arith)), (given.inputs, named, given.here (omega (arith, known.count)) (known.empty at le lt) d))) in
+    λ d.
+    let columns = given.here (omega (arith, known.count)) (known.empty at le lt) d in
+    let least = least_of r.role given.inputs space (get_or new.columns.items at d).items (risen_at items at r e ordered.1) columns in
+    rw (rev_suc items at r e) (inl (sym (rev_count items at (omega arith)), (given.inputs, named, columns, least))) in
     record {
       count = given.count ∙ known.count;
       values = λ j less is. value_of j less is here (order j at);
@@ -262,7 +282,7 @@ gap_at items places n p at all lt is below k from to m = by_order (cases_order m
     by_order (inr (inl less)) = omega (arith, below m.0 k less, m.2)
     by_order (inr (inr more)) = omega (arith, all.rising p m.0 k more m.1, is k, m.2)
 
-pub known_next : (space : Space) (items : List ResolvedItem) (places : List ℕ) (p at : ℕ) (r : ResolvedItem) (old new : ItemAnswers) → AreReached items places → AreOrdered (reverse items) → p < length places → ((d : ℕ) → at ≡ get_or places p d) → slice_get items at ≡ Some r
+pub known_next : (space : Space) (items : List ResolvedItem) (places : List ℕ) (p at : ℕ) (r : ResolvedItem) (old new : ItemAnswers) → AreReached items places → AreSound items → p < length places → ((d : ℕ) → at ≡ get_or places p d) → slice_get items at ≡ Some r
     → AreKnownTo space items places p old → IsAnswered space at r old new → AreKnownTo space items places (p + 1) new
 known_next space items places p at r old new all ordered lt is e to given =
     let le : to.number ≤ at = omega (arith, to.above p 0 (omega arith) lt, is 0) in

@@ -1,15 +1,22 @@
 -- What the items of a model give over the candidates of a space. The items are listed the latest first: an item's number is
 -- the number of those behind it, and it uses names of these alone.
-use Rattle.std.specs.Prelude.{◌≡◌, ℕ, ◌<◌, ◌⊎◌, List, [], ◌∷◌, ◌++◌, length, map, Bool, Option, Some, None, slice_get}
+use Rattle.std.specs.Prelude.{◌≡◌, ℕ, ◌<◌, ◌≤◌, ◌⊎◌, List, [], ◌∷◌, ◌++◌, length, map, reverse, Bool, true, false, Option, Some, None, slice_get, slice_index_or}
 use Rattle.std.specs.List.{AllZip, AllByRecursion}
 use denote.Ref.{Bor}
 use Rattle.binding_kinds.specs.declared.scope.Input.{Input}
+use Rattle.bit_relations.specs.Relation.{Relation, Events, no_slot}
+use Rattle.binding_graph.specs.declared.resolved.Body.{Body}
 use Rattle.binding_graph.specs.declared.resolved.ResolvedItem.{ResolvedItem}
 use Rattle.binding_graph.specs.declared.resolved.Role.{Role}
 use Rattle.binding_graph.specs.declared.resolved.Role.TheVariants as roles
+use Rattle.binding_graph.specs.Trees.{RelTree}
 use Rattle.candidates.specs.declared.candidate.Space.{Space}
+use Rattle.candidates.specs.Space.{candidates_in, Candidate}
 use Rattle.cat_eval.specs.declared.column.Column.{Column}
-use Rattle.cat_eval.specs.Columns.{ColumnsOf}
+use Rattle.cat_eval.specs.Columns.{ColumnsOf, HasValue}
+use Rattle.cat_eval.specs.Executions.{events_of, EventsAt, PairsAt}
+use Rattle.cat_eval.specs.Least.{IsLeast, AreMonotone}
+use Rattle.cat_eval.specs.Rising.{AreCodes}
 use Rattle.cat_eval.specs.Values.{AnswersOf}
 use Rattle.cat_eval.specs.Candidates.{name_count}
 use Rattle.verdict.specs.declared.judgement.Raised.{Raised}
@@ -22,9 +29,24 @@ IsNamed Values name c = (cs : List Column) × Values name.item cs × (slice_get 
 abbrev pub AreNamed : (ℕ → List Column → Type 0) → List Input → List (Bor Column) → Type 0
 AreNamed Values names inputs = AllZip (IsNamed Values) names inputs
 
+-- The bodies of a recursive group are the steps of trees, and where these are at most 64, its names have the least values
+-- that satisfy their equations, in each of the candidates.
+abbrev pub AreLeast : Bool → List Body → List (Bor Column) → List Candidate → List Column → Type 0
+AreLeast false bodies inputs candidates cs = Unit {0}
+AreLeast true bodies inputs candidates cs =
+    (trees : List RelTree) × AreCodes trees bodies
+    × (length trees ≤ 64 → (k : ℕ) (one : Candidate) → slice_get candidates k ≡ Some one
+    → (values : List Relation) × IsLeast (events_of one) (EventsAt (events_of one) one inputs k) (PairsAt (events_of one) one inputs k) trees values
+    × ((j : ℕ) → j < length bodies → (c : Column) → (s : Events) × HasValue (slice_index_or cs j c) k s (slice_index_or values j no_slot)))
+
+abbrev pub LeastOf : Role → List (Bor Column) → Space → List Column → Type 0
+LeastOf (roles.Group recursive bodies) inputs space cs = AreLeast recursive bodies.items inputs (candidates_in space.combinations.items) cs
+LeastOf (roles.Check check) inputs space cs = Unit {0}
+LeastOf roles.Silent inputs space cs = Unit {0}
+
 -- the columns of the names of an item, from those of the names that it uses
 abbrev pub HasColumns : Space → (ℕ → List Column → Type 0) → ResolvedItem → List Column → Type 0
-HasColumns space Values r cs = (inputs : List (Bor Column)) × AreNamed Values r.inputs.items inputs × ColumnsOf r.role inputs space cs
+HasColumns space Values r cs = (inputs : List (Bor Column)) × AreNamed Values r.inputs.items inputs × ColumnsOf r.role inputs space cs × LeastOf r.role inputs space cs
 
 -- the answers of a check or a flag, likewise
 abbrev pub HasAnswers : Space → (ℕ → List Column → Type 0) → ResolvedItem → List Bool → Type 0
@@ -67,3 +89,18 @@ IsBound (r ∷ rs) name = ((name.item ≡ length rs) × (name.position < name_co
 abbrev pub AreOrdered : List ResolvedItem → Type 0
 AreOrdered [] = Unit {0}
 AreOrdered (r ∷ rs) = AllByRecursion (IsBound rs) r.inputs.items × AreOrdered rs
+
+-- the bodies of a recursive group are the steps of trees in which no name of the group stands right of a difference or in a
+-- complement
+abbrev pub AreRising : Bool → List Body → Type 0
+AreRising false bodies = Unit {0}
+AreRising true bodies = (trees : List RelTree) × AreCodes trees bodies × AreMonotone trees
+
+abbrev pub IsRising : Role → Type 0
+IsRising (roles.Group recursive bodies) = AreRising recursive bodies.items
+IsRising (roles.Check check) = Unit {0}
+IsRising roles.Silent = Unit {0}
+
+-- each item uses names of earlier items alone, and the bodies of each recursive group rise
+abbrev pub AreSound : List ResolvedItem → Type 0
+AreSound items = AreOrdered (reverse items) × AllByRecursion (λ r. IsRising r.role) items

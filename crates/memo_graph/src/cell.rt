@@ -11,7 +11,7 @@ ghost use Rattle.cat_eval.specs.Columns.{ColumnsOf};
 ghost use Rattle.cat_eval.specs.Values.{AnswersOf};
 ghost use Rattle.verdict.specs.Evaluated.{IsEvaluatedAs};
 ghost use Rattle.verdict.specs.Judgement.{IsOutcomeOf, IsAnswerOf};
-ghost use Rattle.memo_graph.specs.Answers.{of_raised, AreSaid, AreOrdered};
+ghost use Rattle.memo_graph.specs.Answers.{of_raised, AreSaid, AreSound};
 ghost use Rattle.memo_graph.specs.Known.{column_of, AreFound, IsAnswered, ColumnsAt, of_flags, checks_of, flags_of};
 ghost use Rattle.memo_graph.specs.Cell.{IsSaid, IsCell, IsEvaluationBy, IsEvaluationOver, IsEvaluationUnder, OfModel};
 
@@ -185,7 +185,7 @@ fn answers<'a>(
     space: &Space,
     resolved: &'a Resolved,
 ) -> Result<ItemAnswers<'a>, AllocError>
-    ensures { let items = reverse resolved.now.items.items in AreOrdered items → IfOk result (λ a. AreSaid space.now items (checks_of a) (flags_of a)) }
+    ensures { let items = resolved.now.items.items in AreSound items → IfOk result (λ a. AreSaid space.now (reverse items) (checks_of a) (flags_of a)) }
 {
     let mut answers = no_answers(alloc, resolved.items.len())?;
     let places = used(alloc, resolved)?;
@@ -216,7 +216,7 @@ fn evaluated(
 ) -> Result<Outcome, AllocError>
     ensures judged { IfOk result (λ o. IsOutcomeOf test.now.condition.quantifier o) }
     ensures said { IfOk result (λ o. IsSaid space.now test.now o) }
-    ensures answers { AreOrdered (reverse resolved.now.items.items) → IfOk result (λ o. IsEvaluatedAs (IsEvaluationBy resolved.now.items.items space.now test.now) o.result) }
+    ensures answers { AreSound resolved.now.items.items → IfOk result (λ o. IsEvaluatedAs (IsEvaluationBy resolved.now.items.items space.now test.now) o.result) }
 {
     let found = answers(alloc, space, resolved)?;
     let flags = raised(alloc, &found.flags)?;
@@ -245,7 +245,7 @@ fn refused(alloc: Global, test: &Test, refusal: Refusal) -> Result<Outcome, Allo
 fn over_candidates(alloc: Global, test: &Test, resolved: &Resolved) -> Result<Outcome, AllocError>
     ensures judged { IfOk result (λ o. IsAnswerOf test.now.condition.quantifier o) }
     ensures cell { IfOk result (λ o. IsCell test.now o) }
-    ensures model { IfOk result (λ o. OfModel (λ _. ⊥) (Unit {0}) (λ e. AreOrdered (reverse resolved.now.items.items) → IsEvaluationOver resolved.now.items.items test.now e) o.result) }
+    ensures model { IfOk result (λ o. OfModel (λ _. ⊥) (Unit {0}) (λ e. AreSound resolved.now.items.items → IsEvaluationOver resolved.now.items.items test.now e) o.result) }
 {
     match space(alloc, test) {
         Ok(space) => evaluated(alloc, test, resolved, &space),
@@ -259,7 +259,7 @@ fn over_candidates(alloc: Global, test: &Test, resolved: &Resolved) -> Result<Ou
 pub fn eval_cell(alloc: Global, test: &Test, model: &ModelText) -> Result<Outcome, AllocError>
     ensures judged { IfOk result (λ o. IsAnswerOf test.now.condition.quantifier o) }
     ensures cell { IfOk result (λ o. IsCell test.now o) }
-    ensures model { let names = reverse (map naming_of PREDEFINED) in let clauses = map clause_of model.now.items.items in AreNoFunctions clauses → IfOk result (λ o. OfModel (FirstFault [] names 0 clauses) (HasNoFault [] names 0 clauses) (IsEvaluationUnder names model.now.items.items test.now) o.result) }
+    ensures model { let names = reverse (map naming_of PREDEFINED) in let clauses = map clause_of model.now.items.items in IfOk result (λ o. OfModel (FirstFault [] names 0 clauses) (HasNoFault [] names 0 clauses) (λ e. AreNoFunctions clauses → IsEvaluationUnder names model.now.items.items test.now e) o.result) }
 {
     match resolve(alloc, model) {
         Ok(resolved) => over_candidates(alloc, test, &resolved),

@@ -10,7 +10,7 @@ given : (ss : List Sense) (names : List Naming) (from : ℕ) (cs : List Clause) 
 given ss names from cs o e = let P : Option ModelFault → Type 0 = λ q. JudgesItems ss names from cs q in subst P (sym e) (judged_items ss names from cs)
 
 pub returns-in-None-clause-fault : goal.returns-in-None-clause-fault
-returns-in-None-clause-fault c = λ ss kept h. given ss _ _ _ None (sym c.in-None.is ∙ c.in_ok-resolved.ensures.fault ss kept h)
+returns-in-None-clause-fault c = λ ss kept. given ss _ _ _ None (sym c.in-None.is ∙ c.in_ok-resolved.ensures.fault ss kept)
 
 pub returns-in-Some-clause-fault : goal.returns-in-Some-clause-fault
-returns-in-Some-clause-fault c = λ ss kept h. given ss _ _ _ (Some c.in-Some.fault) (sym c.in-Some.is ∙ c.in_ok-resolved.ensures.fault ss kept h)
+returns-in-Some-clause-fault c = λ ss kept. given ss _ _ _ (Some c.in-Some.fault) (sym c.in-Some.is ∙ c.in_ok-resolved.ensures.fault ss kept)

@@ -1,6 +1,7 @@
 use Rattle.std.proofs.Common.{◌≡◌, sym, ◌∙◌, ap, reverse, map, min, ℕ, arith, refl, length, ◌<◌, ◌||◌}
 use Rattle.binding_kinds.specs.Value.{entry_of}
 use Rattle.binding_kinds.specs.Kinds.{found}
+use Rattle.binding_kinds.specs.Formula.{factor_of}
 use Rattle.binding_kinds.specs.Senses.{sense_of}
 use Rattle.binding_kinds.proofs.Applications.{unfit, next_combination, next_size, next_fault, finished}
 use Rattle.binding_kinds.proofs.judging.+judge.Goals as goal
@@ -36,7 +37,7 @@ loop-place-preserved t c = λ ss s kept one long.
     let lt : p < length xs = omega (arith, c.loop-place-test.true) in
     let below : p < s.arity = omega (arith, lt, long) in record {
       combination = next_combination ss names xs p c.argument-item.result c.loop-place.all.combination c.with-all.result.combination c.judge-one.result.kind s.arity (sym long) one.few lt c.argument-item.is (c.judge-one.ensures.kind_in ss kept) c.with-all.ensures.combination i.combination;
-      size = λ small. next_size ss names s.factor xs p c.argument-item.result c.loop-place.all.size c.with-all.result.size _ c.judge-one.result.size _ lt c.argument-item.is (one.factor small p below) (c.judge-one.ensures.size_in ss kept) c.with-all.ensures.size (i.size small);
+      size = λ small. next_size ss names (factor_of s.formula) xs p c.argument-item.result c.loop-place.all.size c.with-all.result.size _ c.judge-one.result.size _ lt c.argument-item.is (one.factor small p below) (c.judge-one.ensures.size_in ss kept) c.with-all.ensures.size (i.size small);
       fault = next_fault ss names c.args.from c.args.under s.is_under xs p c.argument-item.result c.loop-place.all.fault c.with-all.result.fault c.judge-one.result.fault c.either-inner.result _ lt c.argument-item.is
           (c.either-inner.ensures ∙ ap (λ b. c.args.under || b) (c.is_under.ensures ∙ one.under p below)) (c.judge-one.ensures.first_within ss kept) c.with-all.ensures.fault i.fault;
     }

@@ -3,6 +3,7 @@ use Rattle.cat_values.specs.Value.{gathered}
 use Rattle.cat_values.specs.Values as values
 use Rattle.binding_kinds.specs.Value.{entry_of}
 use Rattle.binding_kinds.specs.Combinations.{number_of}
+use Rattle.binding_kinds.specs.Formula.{factor_of}
 use Rattle.binding_kinds.specs.Verdict.{or_else}
 use Rattle.binding_kinds.specs.Senses.{Sense, IsKept, AreKept, IsAlike, size_with, size_of_arguments, sizes_in, kinds_in, first_among}
 use Rattle.binding_kinds.proofs.judging.+judge.Given as goal
@@ -15,6 +16,6 @@ invariant-loop-place l =
     let whole = gathered (map values.term_of l.argument-items) in
     record {
       combination : l.all.combination + 3 ^ l.place * number_of (kinds_in senses names rest) ≡ number_of (kinds_in senses names whole);
-      size : l.function.is_oversized ≡ false → IsAlike (l.all.size + size_of_arguments s.factor l.place (sizes_in senses names rest)) (size_with s (sizes_in senses names whole));
+      size : l.function.is_oversized ≡ false → IsAlike (l.all.size + size_of_arguments (factor_of s.formula) l.place (sizes_in senses names rest)) (size_with s (sizes_in senses names whole));
       fault : or_else l.all.fault (first_among senses names l.from l.under s.is_under l.place rest) ≡ first_among senses names l.from l.under s.is_under 0 whole;
     })

@@ -1,6 +1,7 @@
 use Rattle.std.proofs.Common.{arith, inl, inr}
-use Rattle.bit_relations.proofs.EightWords.{joined_more}
+use Rattle.bit_relations.proofs.EightWords.{joined_more, joined_no_more}
 use Rattle.bit_relations.proofs.lanes.join_words.Goals as goal
+use Rattle.bit_relations.proofs.lanes.join_words.Goals.{then-word-ne0, else-word-ne0}
 
 pub loop-c-init : goal.loop-c-init
 loop-c-init c = (
@@ -9,4 +10,9 @@ loop-c-init c = (
 )
 
 pub loop-c-preserved : goal.loop-c-preserved
-loop-c-preserved c = (c.join-joined.ensures.count, joined_more _ _ _ _ _ _ _ c.loop-c.invariant.1 c.join-joined.ensures.lanes)
+loop-c-preserved c =
+    let before = c.loop-c.invariant in
+    elim c.if-word-ne0.branch [
+      | then-word-ne0 w ↦ rw w.joined-is (w.join-joined.ensures.count, joined_more _ _ _ _ _ _ _ before.1 w.join-joined.ensures.lanes)
+      | else-word-ne0 w ↦ rw w.joined-is (before.0, joined_no_more _ _ _ _ _ _ before.1 w.if-word-ne0.false)
+    ]

@@ -1,6 +1,6 @@
 use Rattle.std.proofs.Common.{[], ◌∷◌, replicate}
 use Rattle.candidates.specs.Lists.{lists_of, tuples, IsFiltered}
-use Rattle.candidates.specs.Orders.{AreDistinct}
+use Rattle.candidates.specs.Events.{AreDistinct}
 use Rattle.candidates.proofs.orders.orders_at.Given as goal
 
 abbrev pub invariant-loop-place : goal.invariant-loop-place

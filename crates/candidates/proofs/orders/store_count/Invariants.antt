@@ -1,5 +1,6 @@
 use Rattle.std.proofs.Common.{◌≡◌, take, length}
-use Rattle.candidates.specs.Orders.{numbers, is_thread_store}
+use Rattle.candidates.specs.Events.{numbers}
+use Rattle.candidates.specs.Orders.{is_thread_store}
 use Rattle.candidates.proofs.orders.store_count.Given as goal
 
 abbrev pub invariant-loop-number : goal.invariant-loop-number

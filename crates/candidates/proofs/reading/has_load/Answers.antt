@@ -1,5 +1,5 @@
 use Rattle.std.proofs.Common.{arith, rules, tests}
-use Rattle.candidates.specs.Ways.{is_load}
+use Rattle.candidates.specs.Events.{is_load}
 use Rattle.candidates.proofs.Gathering.{has_number, number_within}
 use Rattle.candidates.proofs.reading.has_load.Goals as goal
 

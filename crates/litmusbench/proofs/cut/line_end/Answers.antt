@@ -1,4 +1,4 @@
-use Rattle.std.proofs.Common.{◌≡◌, ℕ, ◌+◌, ◌-◌, ◌<◌, ◌≤◌, List, length, get_or, take, drop, arith, Bool, true, false, sym, ◌∙◌, ap}
+use Rattle.std.proofs.Common.{arith}
 use Rattle.litmusbench.proofs.Lines.{inside_line, end_of_line}
 use Rattle.litmusbench.proofs.cut.line_end.Goals as goal
 

@@ -1,7 +1,6 @@
-use Rattle.std.proofs.Common.{reverse}
-use Rattle.memo_graph.specs.Answers.{AreOrdered}
+use Rattle.memo_graph.specs.Answers.{AreSound}
 use Rattle.memo_graph.specs.Known.{AreKnownTo}
 use Rattle.memo_graph.proofs.cell.answers.Given as goal
 
 abbrev pub invariant-loop-at : goal.invariant-loop-at
-invariant-loop-at l = AreOrdered (reverse l.resolved.items.items) → AreKnownTo l.space l.resolved.items.items l.at-items l.at-index l.answers
+invariant-loop-at l = AreSound l.resolved.items.items → AreKnownTo l.space l.resolved.items.items l.at-items l.at-index l.answers

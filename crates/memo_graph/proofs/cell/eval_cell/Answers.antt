@@ -1,14 +1,13 @@
-use Rattle.std.proofs.Common.{reverse}
 use Rattle.std.proofs.lemmas.Result.{IfOk-weaker}
-use Rattle.memo_graph.specs.Answers.{AreOrdered}
+use Rattle.memo_graph.specs.Answers.{AreSound}
 use Rattle.memo_graph.specs.Cell.{IsEvaluationOver, OfModel}
 use Rattle.memo_graph.proofs.Cells.{of_model, under_model}
 use Rattle.memo_graph.proofs.cell.eval_cell.Goals as goal
 
 pub returns-in-Ok-clause-model : goal.returns-in-Ok-clause-model
-returns-in-Ok-clause-model c = λ plain.
+returns-in-Ok-clause-model c =
     let model = c.args.model.now.items.items in
     let items = c.in-Ok.resolved.items.items in
     let test = c.args.test.now in
-    IfOk-weaker c.over_candidates.result (λ o. OfModel (λ _. ⊥) (Unit {0}) (λ e. AreOrdered (reverse items) → IsEvaluationOver items test e) o.result) _
-    (λ o h. of_model _ _ _ (λ e. AreOrdered (reverse items) → IsEvaluationOver items test e) o.result (c.in-Ok.ensures.fault plain) (λ e s. under_model model items test e plain (c.in-Ok.ensures.items plain) c.in-Ok.ensures.labels s) h) c.over_candidates.ensures.model
+    IfOk-weaker c.over_candidates.result (λ o. OfModel (λ _. ⊥) (Unit {0}) (λ e. AreSound items → IsEvaluationOver items test e) o.result) _
+    (λ o h. of_model _ _ _ (λ e. AreSound items → IsEvaluationOver items test e) o.result c.in-Ok.ensures.fault (λ e s plain. under_model model items test e plain c.in-Ok.ensures.fault (c.in-Ok.ensures.items plain) c.in-Ok.ensures.labels s) h) c.over_candidates.ensures.model

@@ -2,8 +2,9 @@ use Rattle.std.proofs.Common.{ℕ, List, Vec, ◌≡◌, Some, length, refl, sub
 use Rattle.std.specs.declared.alloc.Global.{Global}
 use Rattle.thread_runs.specs.declared.value.Value.{Value}
 use Rattle.thread_runs.specs.declared.run.Run.{Run}
-use Rattle.candidates.specs.Keys.{HasKey, HasStore, bit_of}
-use Rattle.candidates.specs.Parts.{AreSome, initial_from, NamesRuns, AreThreads}
+use Rattle.candidates.specs.Keys.{HasKey, bit_of}
+use Rattle.candidates.specs.Events.{initial_stores, HasStore}
+use Rattle.candidates.specs.Parts.{AreSome, NamesRuns, AreThreads}
 use Rattle.std.specs.List.{AllZip}
 use Rattle.candidates.specs.declared.candidate.Event.{Event}
 use Rattle.candidates.specs.declared.part.Sketch.{Sketch}
@@ -38,7 +39,7 @@ returns c =
     let e1 : c.deref.result.now ≡ c.args.program.initial.items = c.deref.ensures.value in
     let e2 : c.deref-2.result.now ≡ c.args.domain.now.values.items = c.deref-2.ensures.value in
     let e3 : c.deref-3.result.now ≡ c.in_ok-initial.initial.items = c.deref-3.ensures.value in
-    let first : c.in_ok-initial.initial.items ≡ initial_from 0 c.deref.result.now = c.in_ok-initial.ensures in
+    let first : c.in_ok-initial.initial.items ≡ initial_stores 0 c.deref.result.now = c.in_ok-initial.ensures in
     let keys : (location : ℕ) (value : Value) (a b : ℕ) → HasStore location value c.deref-3.result.now → bit_of c.deref-2.result.now location value ≡ Some (a, b) → HasKey c.initial_keys-initial_writes.result a b = c.initial_keys-initial_writes.ensures in
     let stores : (location : ℕ) (value : Value) (a b : ℕ) → HasStore location value c.in_ok-initial.initial.items → bit_of c.args.domain.now.values.items location value ≡ Some (a, b) → HasKey c.initial_keys-initial_writes.result a b =
     subst (λ (es : List Event). (location : ℕ) (value : Value) (a b : ℕ) → HasStore location value es → bit_of c.args.domain.now.values.items location value ≡ Some (a, b) → HasKey c.initial_keys-initial_writes.result a b) e3 (subst (λ (vs : List Value). (location : ℕ) (value : Value) (a b : ℕ) → HasStore location value c.deref-3.result.now → bit_of vs location value ≡ Some (a, b) → HasKey c.initial_keys-initial_writes.result a b) e2 keys) in
@@ -48,7 +49,7 @@ returns c =
       c.in_ok-runs.ensures,
       record {
         locations = refl;
-        initial = subst (λ (vs : List Value). c.in_ok-initial.initial.items ≡ initial_from 0 vs) e1 first;
+        initial = subst (λ (vs : List Value). c.in_ok-initial.initial.items ≡ initial_stores 0 vs) e1 first;
         threads = all_threads c.args.domain.now.values.items 0 c.in_ok-runs.runs.items c.sift.new.threads c.in_ok-threads.threads.items facts threads;
         left_out = left_out_there c.args.domain.now.values.items c.in_ok-initial.initial.items c.initial_keys-initial_writes.result c.in_ok-runs.runs.items c.deref_mut.result.now c.sift.new.threads c.in_ok-threads.threads.items stores sketched c.sift.ensures threads;
       },

@@ -1,0 +1,12 @@
+//! Tests of the bench's incremental core at a small instance: a sheet of numbers. Read `specs/Sheet`
+//! first: what a sheet means. The tests compare what a bench shows with evaluation from nothing.
+#![tactic(auto)]
+
+pub mod bench;
+#[cfg(test)]
+mod core_tests;
+pub mod nodes;
+pub mod rows;
+pub mod sheet;
+#[cfg(test)]
+mod store_tests;

@@ -1,0 +1,4 @@
+pub mod Numbered
+pub mod Lists
+pub mod Counts
+pub mod Refusing

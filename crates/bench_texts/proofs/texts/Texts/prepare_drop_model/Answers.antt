@@ -1,0 +1,24 @@
+use Rattle.std.proofs.Common.{refl, ap}
+use Rattle.bench_texts.specs.declared.change.Change.TheVariants as changes
+use Rattle.bench_texts.specs.Held.{texts_of}
+use Rattle.bench_texts.specs.Changes.{changed}
+use Rattle.bench_texts.proofs.Refusing.{limited_answers, limited_ready}
+use Rattle.std.proofs.Common.{remove, min, sym, ◌∙◌, arith}
+use Rattle.std.proofs.lemmas.Grind.{common_steps}
+use Rattle.bench_texts.specs.BenchTexts.{with_models}
+use Rattle.bench_texts.specs.Edits.{DropModel}
+use Rattle.bench_texts.proofs.Lists.{length-remove}
+use Rattle.bench_texts.proofs.Counts.{outputs-remove}
+use Rattle.bench_texts.proofs.texts.Texts.prepare_drop_model.Goals as goal
+
+pub returns-clause-answer : goal.returns-clause-answer
+returns-clause-answer c =
+    limited_answers (texts_of c.args.self.now) c.args.spent (DropModel c.args.model.now) (changes.DropModel c.in_ok-at.at) c.limited.result
+    (rw c.in_ok-at.ensures.1 refl)
+    (ap (λ i. with_models (λ ms. remove ms i) (texts_of c.args.self.now).next (texts_of c.args.self.now)) c.in_ok-at.ensures.0)
+    (c.limited.ensures (changed (changes.DropModel c.in_ok-at.at) (texts_of c.args.self.now)) (grind (arith, common_steps)) (grind (arith, common_steps, length-remove (texts_of c.args.self.now).models c.in_ok-at.at)) (c.outputs_around.ensures ∙ ap (λ n. min n 18446744073709551615) (sym (outputs-remove (texts_of c.args.self.now).models c.in_ok-at.at))))
+
+pub returns-clause-ready : goal.returns-clause-ready
+returns-clause-ready c =
+    limited_ready (texts_of c.args.self.now) c.args.self.now c.args.spent (changes.DropModel c.in_ok-at.at) (changed (changes.DropModel c.in_ok-at.at) (texts_of c.args.self.now)) c.limited.result c.in_ok-at.ensures.2
+    (c.limited.ensures (changed (changes.DropModel c.in_ok-at.at) (texts_of c.args.self.now)) (grind (arith, common_steps)) (grind (arith, common_steps, length-remove (texts_of c.args.self.now).models c.in_ok-at.at)) (c.outputs_around.ensures ∙ ap (λ n. min n 18446744073709551615) (sym (outputs-remove (texts_of c.args.self.now).models c.in_ok-at.at))))

@@ -1,0 +1,181 @@
+-- What an edit makes of the texts, and why it is refused.
+use Rattle.std.specs.Prelude.{◌≡◌, ℕ, ◌+◌, ◌==◌, ◌≤◌, ◌⊎◌, List, [], ◌∷◌, length, map, Bool, true, false, ◌||◌, nat_lt, if◌then◌else◌, Option, Some, None, insert, remove, slice_index, slice_index_or}
+use Rattle.litmus_tokens.specs.declared.rule.LitmusRule.{LitmusRule}
+use Rattle.litmus_values.specs.declared.test.InitEntry.{InitEntry}
+use Rattle.litmus_values.specs.declared.test.Place.{Place}
+use Rattle.litmus_values.specs.declared.test.Step.{Step}
+use Rattle.litmus_values.specs.declared.test.Quantifier.{Quantifier}
+use Rattle.litmus_values.specs.Value.{Content, Formula}
+use Rattle.litmus_grammar.specs.Texts.{ReadsTest, IsTestFault, ReadsInit, IsInitFault, ReadsThread, IsThreadFault, ReadsCondition, IsConditionFault, ReadsLocations, IsLocationsFault}
+use Rattle.litmus_ppc.specs.declared.fault.LitmusFault.{LitmusFault}
+use Rattle.litmus_ppc.specs.declared.fault.LitmusFault.TheVariants as litmus
+use Rattle.cat_tokens.specs.declared.rule.CatRule.{CatRule}
+use Rattle.cat_tokens.specs.declared.rule.CatRule.TheVariants.{TooMany}
+use Rattle.cat_grammar.specs.declared.form.Form.TheVariants as forms
+use Rattle.cat_values.specs.Value.{Clause}
+use Rattle.cat_syntax.specs.Reads.{Reads, FaultAt}
+use Rattle.cat_syntax.specs.declared.fault.CatFault.{CatFault}
+use Rattle.cat_syntax.specs.declared.fault.CatFault.TheVariants as cat
+use Rattle.bench_texts.specs.declared.edit.Edit as code
+use Rattle.bench_texts.specs.declared.edit.Edit.TheVariants as edits
+use Rattle.bench_texts.specs.declared.fault.EditFault.{EditFault}
+use Rattle.bench_texts.specs.declared.fault.EditFault.TheVariants as faults
+use Rattle.bench_texts.specs.BenchTexts.{NumberedItem, BenchTexts, test_index, model_index, item_index, put_at, changed_at, with_init, with_thread, with_condition, with_observed, with_items, with_tests, with_models, numbered}
+use Rattle.bench_texts.specs.Limits.{is_full, is_spent, is_model_name}
+
+-- an edit, without where it lies in memory
+pub data Edit : Type 0 where
+  PutTest : (text : List ℕ) → Edit
+  DropTest : (test : List ℕ) → Edit
+  SetInit : (test text : List ℕ) → Edit
+  SetThread : (test : List ℕ) (thread : ℕ) (text : List ℕ) → Edit
+  SetCondition : (test text : List ℕ) → Edit
+  SetLocations : (test text : List ℕ) → Edit
+  PutModel : (model text : List ℕ) → Edit
+  DropModel : (model : List ℕ) → Edit
+  SetItem : (model : List ℕ) (item : ℕ) (text : List ℕ) → Edit
+  InsertItem : (model : List ℕ) (before : ℕ) (text : List ℕ) → Edit
+  RemoveItem : (model : List ℕ) (item : ℕ) → Edit
+
+abbrev pub edit_of : code.Edit → Edit
+edit_of (edits.PutTest text) = PutTest text.items
+edit_of (edits.DropTest test) = DropTest test.items
+edit_of (edits.SetInit test text) = SetInit test.items text.items
+edit_of (edits.SetThread test thread text) = SetThread test.items thread text.items
+edit_of (edits.SetCondition test text) = SetCondition test.items text.items
+edit_of (edits.SetLocations test text) = SetLocations test.items text.items
+edit_of (edits.PutModel model text) = PutModel model.items text.items
+edit_of (edits.DropModel model) = DropModel model.items
+edit_of (edits.SetItem model item text) = SetItem model.items item text.items
+edit_of (edits.InsertItem model before text) = InsertItem model.items before text.items
+edit_of (edits.RemoveItem model item) = RemoveItem model.items item
+
+-- ---- what is there
+
+abbrev pub has_test : BenchTexts → List ℕ → Bool
+has_test t name = nat_lt (test_index name t.tests) (length t.tests)
+
+-- the number of threads of a test that is there
+abbrev pub thread_count : BenchTexts → List ℕ → ℕ
+thread_count t name = slice_index (map (λ c. length c.threads) t.tests) (test_index name t.tests)
+
+abbrev pub has_model : BenchTexts → List ℕ → Bool
+has_model t name = nat_lt (model_index name t.models) (length t.models)
+
+-- the items of a model that is there
+abbrev pub model_items : BenchTexts → List ℕ → List NumberedItem
+model_items t name = slice_index_or (map (λ m. m.items) t.models) (model_index name t.models) []
+
+-- the index of the item of that number in a model
+abbrev pub index_in : BenchTexts → List ℕ → ℕ → ℕ
+index_in t model number = item_index number (model_items t model)
+
+abbrev pub has_item : BenchTexts → List ℕ → ℕ → Bool
+has_item t model number = nat_lt (index_in t model number) (length (model_items t model))
+
+-- an item is inserted before the one of that number, and at the end where that is 0
+abbrev pub index_before : BenchTexts → List ℕ → ℕ → ℕ
+index_before t model before = if before == 0 then length (model_items t model) else index_in t model before
+
+-- ---- what an edit names that is not there
+
+abbrev pub unless : Bool → EditFault → Option EditFault → Option EditFault
+unless true fault later = later
+unless false fault later = Some fault
+
+-- the first that is not there: test, model, thread, item
+abbrev pub missing : BenchTexts → Edit → Option EditFault
+missing t (PutTest text) = None
+missing t (DropTest test) = unless (has_test t test) faults.NoTest None
+missing t (SetInit test text) = unless (has_test t test) faults.NoTest None
+missing t (SetThread test thread text) = unless (has_test t test) faults.NoTest (unless (nat_lt thread (thread_count t test)) faults.NoThread None)
+missing t (SetCondition test text) = unless (has_test t test) faults.NoTest None
+missing t (SetLocations test text) = unless (has_test t test) faults.NoTest None
+missing t (PutModel model text) = unless (is_model_name model) faults.NoModel None
+missing t (DropModel model) = unless (has_model t model) faults.NoModel None
+missing t (SetItem model item text) = unless (has_model t model) faults.NoModel (unless (has_item t model item) faults.NoItem None)
+missing t (InsertItem model before text) = unless (has_model t model) faults.NoModel (unless (before == 0 || has_item t model before) faults.NoItem None)
+missing t (RemoveItem model item) = unless (has_model t model) faults.NoModel (unless (has_item t model item) faults.NoItem None)
+
+-- ---- what an edit makes of the texts, where all that it names is there
+
+abbrev pub Makes : BenchTexts → Edit → BenchTexts → Type 0
+Makes t (PutTest text) new = (c : Content) × ReadsTest text c × (new ≡ with_tests (put_at (test_index c.name t.tests) c) t)
+Makes t (DropTest test) new = new ≡ with_tests (λ ts. remove ts (test_index test t.tests)) t
+Makes t (SetInit test text) new =
+    (v : List InitEntry) × ReadsInit (thread_count t test) text v × (new ≡ with_tests (changed_at (test_index test t.tests) (with_init v)) t)
+Makes t (SetThread test thread text) new =
+    (v : List Step) × ReadsThread text v × (new ≡ with_tests (changed_at (test_index test t.tests) (with_thread thread v)) t)
+Makes t (SetCondition test text) new =
+    (v : Quantifier × Formula) × ReadsCondition (thread_count t test) text v × (new ≡ with_tests (changed_at (test_index test t.tests) (with_condition v)) t)
+Makes t (SetLocations test text) new =
+    (v : List Place) × ReadsLocations (thread_count t test) text v × (new ≡ with_tests (changed_at (test_index test t.tests) (with_observed v)) t)
+Makes t (PutModel model text) new =
+    (cs : List Clause) × Reads forms.Model text cs × (new ≡ with_models (put_at (model_index model t.models) (record { name = model; items = numbered t.next cs })) (t.next + length cs) t)
+Makes t (DropModel model) new = new ≡ with_models (λ ms. remove ms (model_index model t.models)) t.next t
+Makes t (SetItem model item text) new =
+    (c : Clause) × Reads forms.Item text (c ∷ []) × (new ≡ with_models (changed_at (model_index model t.models) (with_items (put_at (index_in t model item) (record { number = item; clause = c })))) t.next t)
+Makes t (InsertItem model before text) new =
+    (c : Clause) × Reads forms.Item text (c ∷ []) × (length (model_items t model) + 1 ≤ 256) × (new ≡ with_models (changed_at (model_index model t.models) (with_items (λ is. insert is (index_before t model before) (record { number = t.next; clause = c })))) (t.next + 1) t)
+Makes t (RemoveItem model item) new =
+    new ≡ with_models (changed_at (model_index model t.models) (with_items (λ is. remove is (index_in t model item)))) t.next t
+
+-- ---- why its text is refused
+
+abbrev pub IsTestRefused : BenchTexts → Edit → LitmusRule → ℕ → Type 0
+IsTestRefused t (PutTest text) rule place = IsTestFault text rule place
+IsTestRefused t (SetInit test text) rule place = IsInitFault (thread_count t test) text rule place
+IsTestRefused t (SetThread test thread text) rule place = IsThreadFault text rule place
+IsTestRefused t (SetCondition test text) rule place = IsConditionFault (thread_count t test) text rule place
+IsTestRefused t (SetLocations test text) rule place = IsLocationsFault (thread_count t test) text rule place
+IsTestRefused t _ rule place = ⊥
+
+-- the text reads as an item, of which the model has 256
+pub record IsOneTooMany (t : BenchTexts) (model text : List ℕ) (rule : CatRule) (place : ℕ) : Type 0 where
+  pub item : Clause
+  pub reads : Reads forms.Item text (item ∷ [])
+  pub many : 256 ≤ length (model_items t model)
+  pub rule_is : rule ≡ TooMany
+  pub place_is : place ≡ 0
+
+abbrev pub IsModelRefused : BenchTexts → Edit → CatRule → ℕ → Type 0
+IsModelRefused t (PutModel model text) rule place = FaultAt forms.Model text rule place
+IsModelRefused t (SetItem model item text) rule place = FaultAt forms.Item text rule place
+IsModelRefused t (InsertItem model before text) rule place = FaultAt forms.Item text rule place ⊎ IsOneTooMany t model text rule place
+IsModelRefused t _ rule place = ⊥
+
+abbrev pub IsLitmusRefusal : BenchTexts → Edit → LitmusFault → Type 0
+IsLitmusRefusal t e (litmus.Refused rule place) = IsTestRefused t e rule place
+IsLitmusRefusal t e (litmus.OutOfMemory f) = ⊥
+
+abbrev pub IsCatRefusal : BenchTexts → Edit → CatFault → Type 0
+IsCatRefusal t e (cat.Refused rule place) = IsModelRefused t e rule place
+IsCatRefusal t e (cat.OutOfMemory f) = ⊥
+
+-- ---- the limits, of what it makes
+
+-- the numbers of edits are spent, or those of items
+abbrev pub limit_fault : BenchTexts → Bool → BenchTexts → Option EditFault
+limit_fault t spent new = if is_full new then Some faults.Full else (if spent || is_spent t then Some faults.Spent else None)
+
+pub record IsOverLimit (t : BenchTexts) (spent : Bool) (e : Edit) (fault : EditFault) : Type 0 where
+  pub new : BenchTexts
+  pub makes : Makes t e new
+  pub limit : limit_fault t spent new ≡ Some fault
+
+-- ---- the whole: `spent` says whether the numbers of edits are spent
+
+-- the edit is accepted, and these are the texts after it
+pub record Applies (t : BenchTexts) (spent : Bool) (e : Edit) (new : BenchTexts) : Type 0 where
+  pub all_there : missing t e ≡ None
+  pub makes : Makes t e new
+  pub within : limit_fault t spent new ≡ None
+
+-- the edit is refused: the first that holds, unless memory ran out
+abbrev pub Refuses : BenchTexts → Bool → Edit → EditFault → Type 0
+Refuses t spent e (faults.Test f) = (missing t e ≡ None) × IsLitmusRefusal t e f
+Refuses t spent e (faults.Model f) = (missing t e ≡ None) × IsCatRefusal t e f
+Refuses t spent e faults.Full = (missing t e ≡ None) × IsOverLimit t spent e faults.Full
+Refuses t spent e faults.Spent = (missing t e ≡ None) × IsOverLimit t spent e faults.Spent
+Refuses t spent e (faults.OutOfMemory f) = Unit {0}
+Refuses t spent e fault = missing t e ≡ Some fault

@@ -1,0 +1,63 @@
+//! Edits of the bench.
+
+/// An edit of the bench: a whole replacement of a named part. Tests and models go by their names, threads by their
+/// number from 0 on, items by their number on the bench.
+#[derive(Debug, Drop)]
+pub enum Edit {
+    /// The test of this text, in the place of the one of its name, or as the last.
+    PutTest {
+        text: Vec<u8>,
+    },
+    /// The test goes.
+    DropTest {
+        test: Vec<u8>,
+    },
+    /// Its initial values become those of this block.
+    SetInit {
+        test: Vec<u8>,
+        text: Vec<u8>,
+    },
+    /// Its thread of that number becomes this one.
+    SetThread {
+        test: Vec<u8>,
+        thread: usize,
+        text: Vec<u8>,
+    },
+    /// Its condition becomes this one.
+    SetCondition {
+        test: Vec<u8>,
+        text: Vec<u8>,
+    },
+    /// Its list of `locations` becomes this one.
+    SetLocations {
+        test: Vec<u8>,
+        text: Vec<u8>,
+    },
+    /// The model of this name and text, in the place of the one of its name, or as the last: each item gets a number
+    /// that no item had.
+    PutModel {
+        model: Vec<u8>,
+        text: Vec<u8>,
+    },
+    /// The model goes.
+    DropModel {
+        model: Vec<u8>,
+    },
+    /// Its item of that number becomes this one, and keeps the number.
+    SetItem {
+        model: Vec<u8>,
+        item: u64,
+        text: Vec<u8>,
+    },
+    /// It gets this item before the one of that number, or as the last where `before` is 0.
+    InsertItem {
+        model: Vec<u8>,
+        before: u64,
+        text: Vec<u8>,
+    },
+    /// Its item of that number goes.
+    RemoveItem {
+        model: Vec<u8>,
+        item: u64,
+    },
+}

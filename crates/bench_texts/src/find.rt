@@ -1,0 +1,36 @@
+//! Finds tests and models by their names.
+#![tactic(auto, using(crate::proofs::Lists::list_lemmas))]
+
+ghost use Rattle.std.specs.Prelude.{◌≡◌, ◌≤◌, length, map};
+ghost use Rattle.litmus_values.specs.Value.{content_of};
+ghost use Rattle.bench_texts.specs.BenchTexts.{test_index, model_index};
+ghost use Rattle.bench_texts.specs.Held.{model_of};
+
+use crate::model::NamedModel;
+use litmus_values::Test;
+
+/// The index of the first test of that name, or how many there are.
+pub fn index_of_test(tests: &[Test], name: &[u8]) -> usize
+    ensures within { result ≤ length tests.now }
+    ensures value { result ≡ test_index name.now (map content_of tests.now) }
+{
+    for index in 0..tests.len() {
+        if tests[index].name.as_bytes() == name {
+            return index;
+        }
+    }
+    tests.len()
+}
+
+/// The index of the first model of that name, or how many there are.
+pub fn index_of_model(models: &[NamedModel], name: &[u8]) -> usize
+    ensures within { result ≤ length models.now }
+    ensures value { result ≡ model_index name.now (map model_of models.now) }
+{
+    for index in 0..models.len() {
+        if models[index].name() == name {
+            return index;
+        }
+    }
+    models.len()
+}

@@ -1,0 +1,148 @@
+//! A model on the bench.
+#![tactic(auto, using(crate::proofs::Numbered::numbered_lemmas))]
+
+ghost use Rattle.std.specs.Prelude.{◌≡◌, ◌==◌, ◌<◌, ◌≤◌, ◌+◌, ◌^◌, IfOk, vec_len, vec_capacity};
+ghost use Rattle.std.specs.List.{position_or_len, range_with_len};
+
+use crate::count::count_items;
+use cat_values::{Item, ModelText};
+use source_text::Name;
+use std::alloc::{AllocError, Global};
+use std::mem::replace;
+
+/// The most items that a model has.
+pub const MAX_ITEMS: usize = 256;
+
+/// A model on the bench: its name, and its items with their numbers. It has room for 256 items.
+#[derive(Drop)]
+pub struct NamedModel {
+    name: Name,
+    text: ModelText,
+    numbers: Vec<u64>,
+    ghost paired: { vec_len numbers ≡ vec_len text.items },
+    ghost room_for_items: { 256 ≤ vec_capacity text.items },
+    ghost room_for_numbers: { 256 ≤ vec_capacity numbers },
+}
+
+impl NamedModel {
+    ghost use Rattle.std.specs.Prelude.{◌-◌, min, length, insert, remove, take, drop};
+    ghost use Rattle.bench_texts.specs.Held.{model_of};
+    ghost use Rattle.cat_values.specs.Values.{clause_of, clauses_of};
+    ghost use Rattle.bench_texts.specs.BenchTexts.{item_index, numbered, put_at, with_items};
+    ghost use Rattle.bench_texts.specs.Limits.{items_outputs};
+
+    /// The model of a name and a text, whose items are numbered from `first` on.
+    pub(crate) fn new(
+        alloc: Global,
+        name: &[u8],
+        text: ModelText,
+        first: u64,
+    ) -> Result<NamedModel, AllocError>
+        requires { first + vec_len text.items < 2 ^ 64 }
+        ensures { IfOk result (λ m. model_of m ≡ record { name = name.now; items = numbered first (clauses_of text.items.items) }) }
+    {
+        let name = Name::new(alloc, name)?;
+        let ModelText { mut items } = text;
+        let mut numbers = numbers_from(alloc, first, items.len())?;
+        numbers.reserve(MAX_ITEMS.saturating_sub(items.len()))?;
+        items.reserve(MAX_ITEMS.saturating_sub(items.len()))?;
+        let text = ModelText { items };
+        Ok(NamedModel {
+            name,
+            text,
+            numbers,
+        })
+    }
+
+    /// The bytes of its name.
+    pub fn name(&self) -> &[u8]
+        ensures { result.now ≡ (model_of self.now).name }
+    {
+        self.name.as_bytes()
+    }
+
+    /// How many items it has.
+    pub fn len(&self) -> usize
+        ensures { result ≡ length (model_of self.now).items }
+    {
+        self.text.items.len()
+    }
+
+    /// The index of the item of that number, or the number of items where there is none.
+    pub fn item_index(&self, number: u64) -> usize
+        ensures { result ≡ item_index number (model_of self.now).items }
+    {
+        index_of(&self.numbers, number)
+    }
+
+    /// The outputs of its items, or the greatest `usize` where these are more.
+    pub fn outputs(&self) -> usize
+        ensures { result ≡ min (items_outputs (model_of self.now).items) (2 ^ 64 - 1) }
+    {
+        count_items(&self.text.items)
+    }
+
+    /// The outputs of its items but the one of an index, or the greatest `usize` where these are more.
+    pub fn outputs_without(&self, index: usize) -> usize
+        requires { index < length (model_of self.now).items }
+        ensures { result ≡ min (items_outputs (take index (model_of self.now).items) + items_outputs (drop (index + 1) (model_of self.now).items)) (2 ^ 64 - 1) }
+    {
+        let items = self.text.items.as_slice();
+        let (front, _) = items.split_at(index);
+        let (_, back) = items.split_at(index + 1);
+        count_items(front).saturating_add(count_items(back))
+    }
+
+    /// Puts an item, and its number, in the place of another, which is returned.
+    pub(crate) fn set_item(&mut self, index: usize, number: u64, item: Item) -> Item
+        requires { index < length (model_of self.old).items }
+        ensures { model_of self.new ≡ with_items (put_at index (record { number = number; clause = clause_of item })) (model_of self.old) }
+    {
+        self.numbers[index] = number;
+        replace(&mut self.text.items[index], item)
+    }
+
+    /// Puts one item more before the one of that index.
+    pub(crate) fn insert_item(&mut self, index: usize, number: u64, item: Item)
+        requires index { index ≤ length (model_of self.old).items }
+        requires room { length (model_of self.old).items < 256 }
+        ensures { model_of self.new ≡ with_items (λ is. insert is index (record { number = number; clause = clause_of item })) (model_of self.old) }
+    {
+        let _ = self.numbers.insert(index, number);
+        let _ = self.text.items.insert(index, item);
+    }
+
+    /// Takes an item away, which is returned.
+    pub(crate) fn remove_item(&mut self, index: usize) -> Item
+        requires { index < length (model_of self.old).items }
+        ensures { model_of self.new ≡ with_items (λ is. remove is index) (model_of self.old) }
+    {
+        self.numbers.remove(index);
+        self.text.items.remove(index)
+    }
+}
+
+// The index of that number, or how many there are.
+fn index_of(numbers: &[u64], number: u64) -> usize
+    ensures { result ≡ position_or_len (λ n. n == number) numbers.now }
+{
+    for index in 0..numbers.len() {
+        if numbers[index] == number {
+            return index;
+        }
+    }
+    numbers.len()
+}
+
+// So many numbers, from one on.
+fn numbers_from(alloc: Global, first: u64, count: usize) -> Result<Vec<u64>, AllocError>
+    requires { first + count < 2 ^ 64 }
+    ensures value { IfOk result (λ v. v.items ≡ range_with_len first count) }
+    ensures count { IfOk result (λ v. vec_len v ≡ count) }
+{
+    let mut numbers = Vec::new(alloc);
+    for index in 0..count {
+        numbers.push(first + index as u64)?;
+    }
+    Ok(numbers)
+}

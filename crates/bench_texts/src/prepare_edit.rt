@@ -1,0 +1,70 @@
+//! Prepares any edit.
+
+ghost use Rattle.std.specs.Prelude.{◌≡◌, IfOk, MatchResult};
+ghost use Rattle.bench_texts.specs.Held.{texts_of};
+ghost use Rattle.bench_texts.specs.Changes.{changed, IsReady};
+ghost use Rattle.bench_texts.specs.Edits.{edit_of, Applies, Refuses};
+ghost use Rattle.bench_texts.specs.Answers.{Answers};
+
+use crate::change::{Change, Prepared};
+use crate::edit::Edit;
+use crate::fault::EditFault;
+use crate::texts::Texts;
+use std::alloc::Global;
+
+impl Texts {
+    /// Checks an edit, and takes all the memory that `commit` needs for it; `spent` says whether the numbers of
+    /// edits are spent. The texts are as before. Errors: the first reason to refuse the edit, or want of memory.
+    pub fn prepare(
+        &mut self,
+        alloc: Global,
+        edit: &Edit,
+        spent: bool,
+    ) -> Result<Prepared, EditFault>
+        // It is accepted, and these are the texts that `commit` makes, or it is refused.
+        ensures answer { MatchResult result (λ p. Applies (texts_of self.old) spent (edit_of edit.now) (changed p.change (texts_of self.old))) (Refuses (texts_of self.old) spent (edit_of edit.now)) }
+        // `commit` can be called.
+        ensures ready { IfOk result (λ p. IsReady self.new p.change) }
+        // No text is changed.
+        ensures kept { texts_of self.new ≡ texts_of self.old }
+    {
+        match self.prepare_change(alloc, edit, spent) {
+            Ok(change) => Ok(Prepared { change }),
+            Err(fault) => Err(fault),
+        }
+    }
+
+    // What an edit changes.
+    fn prepare_change(
+        &mut self,
+        alloc: Global,
+        edit: &Edit,
+        spent: bool,
+    ) -> Result<Change, EditFault>
+        ensures answer { Answers (texts_of self.old) spent (edit_of edit.now) result }
+        ensures ready { IfOk result (IsReady self.new) }
+        ensures kept { texts_of self.new ≡ texts_of self.old }
+    {
+        match edit {
+            Edit::PutTest { text } => self.prepare_put_test(alloc, text, spent),
+            Edit::DropTest { test } => self.prepare_drop_test(test, spent),
+            Edit::SetInit { test, text } => self.prepare_init(alloc, test, text, spent),
+            Edit::SetThread { test, thread, text } => {
+                self.prepare_thread(alloc, test, *thread, text, spent)
+            }
+            Edit::SetCondition { test, text } => self.prepare_condition(alloc, test, text, spent),
+            Edit::SetLocations { test, text } => self.prepare_locations(alloc, test, text, spent),
+            Edit::PutModel { model, text } => self.prepare_put_model(alloc, model, text, spent),
+            Edit::DropModel { model } => self.prepare_drop_model(model, spent),
+            Edit::SetItem { model, item, text } => {
+                self.prepare_set_item(alloc, model, *item, text, spent)
+            }
+            Edit::InsertItem {
+                model,
+                before,
+                text,
+            } => self.prepare_insert_item(alloc, model, *before, text, spent),
+            Edit::RemoveItem { model, item } => self.prepare_remove_item(model, *item, spent),
+        }
+    }
+}

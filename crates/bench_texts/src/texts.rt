@@ -1,0 +1,69 @@
+//! The texts that the bench holds.
+
+use crate::find::{index_of_model, index_of_test};
+use crate::model::NamedModel;
+use litmus_values::Test;
+use std::alloc::Global;
+
+/// The tests and the models of the bench, in their order. Each name stands once.
+#[derive(Drop)]
+pub struct Texts {
+    pub(crate) tests: Vec<Test>,
+    pub(crate) models: Vec<NamedModel>,
+    pub(crate) next: u64,
+}
+
+impl Texts {
+    ghost use Rattle.std.specs.Prelude.{◌≡◌, ◌≤◌, [], map, vec_len};
+    ghost use Rattle.litmus_values.specs.Value.{content_of};
+    ghost use Rattle.bench_texts.specs.BenchTexts.{test_index, model_index};
+    ghost use Rattle.bench_texts.specs.Held.{model_of, texts_of};
+
+    /// No tests and no models: the first item is given number 1.
+    pub fn new(alloc: Global) -> Texts
+        ensures { texts_of result ≡ record { tests = []; models = []; next = 1 } }
+    {
+        Texts {
+            tests: Vec::new(alloc),
+            models: Vec::new(alloc),
+            next: 1,
+        }
+    }
+
+    /// The tests, in their order.
+    pub fn tests(&self) -> &[Test]
+        ensures { map content_of result.now ≡ (texts_of self.now).tests }
+    {
+        &self.tests
+    }
+
+    /// The models, in their order.
+    pub fn models(&self) -> &[NamedModel]
+        ensures { map model_of result.now ≡ (texts_of self.now).models }
+    {
+        &self.models
+    }
+
+    /// The number that the next item is given.
+    pub fn next_item(&self) -> u64
+        ensures { result ≡ (texts_of self.now).next }
+    {
+        self.next
+    }
+
+    /// The index of the test of that name, or the number of tests where there is none.
+    pub fn test_index(&self, name: &[u8]) -> usize
+        ensures value { result ≡ test_index name.now (texts_of self.now).tests }
+        ensures within { result ≤ vec_len self.now.tests }
+    {
+        index_of_test(&self.tests, name)
+    }
+
+    /// The index of the model of that name, or the number of models where there is none.
+    pub fn model_index(&self, name: &[u8]) -> usize
+        ensures value { result ≡ model_index name.now (texts_of self.now).models }
+        ensures within { result ≤ vec_len self.now.models }
+    {
+        index_of_model(&self.models, name)
+    }
+}

@@ -1,0 +1,4 @@
+pub mod Applied
+pub mod Marking
+pub mod Filling
+pub mod Lengths

@@ -1,0 +1,27 @@
+use Rattle.std.proofs.Common.{◌≡◌, List, map, reverse, refl, ap, ◌∙◌, arith}
+use Rattle.std.specs.List.{count_by}
+use Rattle.cat_values.specs.Values.{term_of}
+use Rattle.binding_kinds.specs.declared.function.Piece.{Piece}
+use Rattle.binding_kinds.specs.Value.{entry_of}
+use Rattle.binding_kinds.specs.Applicable.{is_no_parameter, is_parameter_at}
+use Rattle.binding_kinds.specs.Functions.{formula_in}
+use Rattle.binding_functions.proofs.Filling.{constant_postfix, factor_postfix, formula_within}
+use Rattle.binding_functions.proofs.kept.function_of.Goals as goal
+
+pub returns : goal.returns
+returns c = λ ss kept few.
+    let names = reverse (map entry_of c.args.sight.now.entries.now) in
+    let ps = c.args.sight.now.parameters.now in
+    let formula = formula_in ss names ps (term_of c.args.body.now) in
+    let whole = c.in_ok-pieces.ensures ss kept in
+    let v : c.deref.result.now ≡ c.in_ok-pieces.field-0.pieces.items = c.deref.ensures.value in record {
+      arity = refl;
+      few = few;
+      kinds = λ kinds long. c.in_ok-signatures.ensures ss kinds kept long (omega (arith, few, long));
+      under = λ place lt. c.complemented.ensures ss place kept (omega (arith, few, lt));
+      within = formula_within ss names ps (term_of c.args.body.now);
+      large = whole.large;
+      template = whole.fits;
+      constant = λ e. c.count_parts-constant.ensures.constant ∙ (ap (λ (l : List Piece). count_by is_no_parameter l) (v ∙ whole.fits e) ∙ constant_postfix formula);
+      factor = λ e place lt. c.count_parts-constant.ensures.factors place (omega (arith, few, lt)) ∙ (ap (λ (l : List Piece). count_by (is_parameter_at place) l) (v ∙ whole.fits e) ∙ factor_postfix place formula);
+    }

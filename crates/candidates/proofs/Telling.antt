@@ -1,0 +1,170 @@
+-- What the space of a test lists: its executions, as many as it has candidates.
+use Rattle.std.proofs.Common.{Vec, ℕ, zero, suc, ◌<◌, Some, slice_get, inl, inr, Contains, HoldsAt, ◌≡◌, ◌≤◌, ◌+◌, ◌*◌, List, [], ◌∷◌, ◌++◌, map, length, refl, ap, sym, subst, ◌∙◌, arith}
+use Rattle.std.specs.List.{flat_map, AllZip}
+use Rattle.std.specs.declared.alloc.Global.{Global}
+use Rattle.std.proofs.Math.Nat.{suc-mul, zero-mul}
+use Rattle.std.proofs.lemmas.List.{length-append, length-map}
+use Rattle.litmus_values.specs.declared.test.Test.{Test}
+use Rattle.thread_runs.specs.declared.value.Value.{Value}
+use Rattle.thread_runs.specs.declared.instruction.Program.{Program}
+use Rattle.thread_runs.specs.declared.run.Run as made
+use Rattle.thread_runs.specs.Runs.{Thread, Run}
+use Rattle.ppc_semantics.specs.Domain.{IsDomain, threads_of}
+use Rattle.candidates.proofs.Choosing.{AreChoices, runs_in, layout_choices}
+use Rattle.candidates.proofs.Executing.{executed_so, orders_at}
+use Rattle.candidates.proofs.Flat.{flat, orders_flat}
+use Rattle.candidates.proofs.Kept.{AreKept, all_kept, product_kept, runs_kept}
+use Rattle.candidates.proofs.Listing.{AreListed, no_more, one_more, not_one, Listing, all_listed}
+use Rattle.candidates.proofs.Small.{layout_small}
+use Rattle.ppc_semantics.specs.declared.fault.EvalRefusal.TheVariants.{TooManyEvents, TooManyValues, TooManyRuns, TooManyCandidates, AddressFault, TooManyCombinations}
+use Rattle.ppc_semantics.specs.declared.fault.SpaceFault.{SpaceFault}
+use Rattle.ppc_semantics.specs.declared.fault.SpaceFault.TheVariants.{Refused, OutOfMemory}
+use Rattle.candidates.proofs.Deciding.{combined}
+use Rattle.candidates.proofs.Showing.{AreShown, all_shown, fault_among, faulted_execution}
+use Rattle.candidates.specs.Candidates.{AreTooMany, AreFaulted, IsTestRefusal, AreCombinations, AreCandidates, HasLayout, IsTestSpace, candidate_total}
+use Rattle.candidates.specs.Executions.{Execution, HasFault, product, events}
+use Rattle.candidates.specs.Layouts.{IsLaidOut}
+use Rattle.candidates.specs.Listed.{AreTestExecutions, Shows, ListsExecutions, HasManyExecutions, HasFaultedExecution, IsRefusedFor}
+use Rattle.candidates.specs.Orders.{all_orders}
+use Rattle.candidates.specs.Events.{initial_stores}
+use Rattle.candidates.specs.Search.{Begun, start, all_combinations, location_count}
+use Rattle.candidates.specs.Space.{Seen, seen, Candidate, candidates_in, IsExecution as IsShownAt}
+use Rattle.candidates.specs.declared.candidate.Space.{Space}
+use Rattle.candidates.specs.declared.candidate.Execution as shown
+use Rattle.candidates.specs.declared.candidate.Event.{Event}
+use Rattle.candidates.specs.declared.layout.Layout.{Layout}
+use Rattle.candidates.specs.declared.layout.ThreadParts.{ThreadParts}
+
+-- the executions of a test, and the combinations that list them
+pub record Told (t : Test) (l : Layout) (cs : List Seen) (h : HasLayout t l) : Type 0 where
+  pub all : List Execution
+  pub executions : AreTestExecutions t h.0.initial.items all
+  pub listed : AreListed (location_count l) h.0.initial.items (threads_of h.0) h.1 l.threads.items (all_combinations l) cs all
+
+pub layout_told : (t : Test) (l : Layout) (cs : List Seen) (h : HasLayout t l) → AreCombinations (location_count l) (all_combinations l) cs → Told t l cs h
+layout_told t l cs h found =
+    let p : Program = h.0 in
+    let V : List Value = h.1 in
+    let runs : List (Vec made.Run Global) = h.2 in
+    let o : IsLaidOut p runs l = h.6 in
+    let k : (rss : List (List Run)) × AreKept V (threads_of p) runs rss = all_kept p V runs h.4 h.5 in
+    let choices : AreChoices 0 (start (initial_stores 0 p.initial.items)) l.threads.items (product (runs_in runs)) (all_combinations l) =
+    subst (λ (es : List Event). AreChoices 0 (start es) l.threads.items (product (runs_in runs)) (all_combinations l)) o.initial (layout_choices p runs l o) in
+    let all : Listing (location_count l) p.initial.items (threads_of p) V l.threads.items (all_combinations l) cs (product k.0) =
+    all_listed (location_count l) p.initial.items (threads_of p) V l.threads.items (product (runs_in runs)) (product k.0) (all_combinations l) cs
+    (product_kept V (threads_of p) runs k.0 k.1) choices (layout_small t l h) found in
+    record {
+      all = all.all;
+      executions = record { program = p; values = V; of_test = h.3; starts = refl; domain = h.4; executions = record { runs = k.0; of_threads = runs_kept V (threads_of p) runs k.0 k.1; executions = all.executions } };
+      listed = all.listed;
+    }
+
+-- as many executions as there are candidates
+length_rows : {X Y Z : Type 0} (f : X → Y → Z) (ys : List Y) (xs : List X) → length (flat_map (λ x. map (f x) ys) xs) ≡ length xs * length ys
+length_rows f ys [] = sym (zero-mul (length ys))
+length_rows {Z = Z} f ys (x ∷ xs) =
+    let a : length (map (f x) ys ++ flat_map (λ x. map (f x) ys) xs) ≡ length (map (f x) ys) + length (flat_map (λ x. map (f x) ys) xs) = length-append (map (f x) ys) (flat_map (λ x. map (f x) ys) xs) in
+    let m : length (map (f x) ys) ≡ length ys = length-map ys (f x) in
+    let r : length (flat_map (λ x. map (f x) ys) xs) ≡ length xs * length ys = length_rows f ys xs in
+    let s : suc (length xs) * length ys ≡ length xs * length ys + length ys = suc-mul (length xs) (length ys) in
+    omega (arith, a, m, r, s)
+
+pub as_many : (n : ℕ) (initial : List Value) (threads : List Thread) (V : List Value) (ts : List ThreadParts) (bs : List Begun) (cs : List Seen) (xs : List Execution) → n ≡ length initial → AreListed n initial threads V ts bs cs xs → length xs ≡ candidate_total cs
+as_many n initial threads V ts [] [] xs e no_more = refl
+as_many n initial threads V ts [] (c ∷ cs) xs e h = elim h [ ]
+as_many n initial threads V ts (b ∷ bs) (c ∷ cs) xs e (one_more {xs = ys} {way = way} {ways = rest} rs i are h) =
+    let ways : List (List ℕ) = way ∷ rest in
+    let os : List (List (List ℕ)) = product (orders_at (events initial rs) initial) in
+    let f : length (events initial rs) ≤ 128 = subst (λ (l : List Event). length l ≤ 128) i.events i.few in
+    let o : length os ≡ length (all_orders b.seen.events n) =
+    sym (length-map os flat) ∙ ap (λ (l : List (List ℕ)). length l) (orders_flat (events initial rs) initial f) ∙ ap (λ (k : ℕ). length (all_orders (events initial rs) k)) (sym e) ∙ ap (λ (l : List Event). length (all_orders l n)) (sym i.events) in
+    let a : length (flat_map (λ w. map (executed_so initial rs w) os) ways ++ ys) ≡ length (flat_map (λ w. map (executed_so initial rs w) os) ways) + length ys = length-append (flat_map (λ w. map (executed_so initial rs w) os) ways) ys in
+    let r : length (flat_map (λ w. map (executed_so initial rs w) os) ways) ≡ length ways * length os = length_rows (executed_so initial rs) os ways in
+    let m : length ways * length os ≡ length ways * length (all_orders b.seen.events n) = ap (λ (k : ℕ). length ways * k) o in
+    let later : length ys ≡ candidate_total cs = as_many n initial threads V ts bs cs ys e h in
+    a ∙ ap (λ (k : ℕ). k + length ys) (r ∙ m) ∙ ap (λ (k : ℕ). length ways * length (all_orders b.seen.events n) + k) later
+as_many n initial threads V ts (b ∷ bs) cs xs e (not_one are h) = as_many n initial threads V ts bs cs xs e h
+
+initial_long : (at : ℕ) (vs : List Value) → length (initial_stores at vs) ≡ length vs
+initial_long at [] = refl
+initial_long at (v ∷ vs) = ap (λ (n : ℕ). suc n) (initial_long (at + 1) vs)
+
+-- all locations have orders
+pub locations_counted : (t : Test) (l : Layout) (h : HasLayout t l) → location_count l ≡ length h.0.initial.items
+locations_counted t l h =
+    let d : IsDomain h.0 h.1 = h.4 in
+    let o : IsLaidOut h.0 h.2 l = h.6 in
+    let a : length l.initial.items ≡ length (initial_stores 0 h.0.initial.items) = ap (λ (es : List Event). length es) o.initial in
+    let b : length h.0.initial.items ≡ length h.0.locations.items = h.3.initial.each_one in
+    omega (arith, a, b, initial_long 0 h.0.initial.items, d.events)
+
+zip_long : {X Y : Type 0} (R : X → Y → Type 0) (xs : List X) (ys : List Y) → AllZip R xs ys → length ys ≡ length xs
+zip_long R [] [] h = refl
+zip_long R [] (y ∷ ys) h = absurd h
+zip_long R (x ∷ xs) [] h = absurd h
+zip_long R (x ∷ xs) (y ∷ ys) h = ap (λ (n : ℕ). suc n) (zip_long R xs ys h.1)
+
+zip_shown : (initial : List Value) (registers : List (Vec (List Value) Global)) (xs : List Execution) (cs : List Candidate) → AllZip (AreShown initial registers) xs cs → (index : ℕ) (x : Execution) (e : shown.Execution) → slice_get xs index ≡ Some x → HoldsAt (λ c. IsShownAt registers c.0 c.1 e) cs index → Shows initial x e
+zip_shown initial registers [] cs h index x e there is = absurd cc
+zip_shown initial registers (y ∷ xs) [] h index x e there is = absurd h
+zip_shown initial registers (y ∷ xs) (c ∷ cs) h zero x e there is = subst (λ (z : Execution). Shows initial z e) (execution_is there) (h.0 e (is c))
+  where
+    execution_is : {y z : Execution} → Some y ≡ Some z → y ≡ z
+    execution_is e = cc
+zip_shown initial registers (y ∷ xs) (c ∷ cs) h (suc k) x e there is = zip_shown initial registers xs cs h.1 k x e there (λ d. is d)
+
+-- a space lists the executions of its test
+pub space_lists : (t : Test) (s : Space) → IsTestSpace t s → ListsExecutions t s
+space_lists t s h =
+    let l : Layout = h.0 in
+    let initial : List Value = h.1.0.initial.items in
+    let are : AreCandidates (location_count l) (all_combinations l) (map seen s.combinations.items) = h.2.0 in
+    let told : Told t l (map seen s.combinations.items) h.1 = layout_told t l (map seen s.combinations.items) h.1 are.combinations in
+    let n : location_count l ≡ length initial = locations_counted t l h.1 in
+    let c : length told.all ≡ candidate_total (map seen s.combinations.items) = as_many (location_count l) initial (threads_of h.1.0) h.1.1 l.threads.items (all_combinations l) (map seen s.combinations.items) told.all n told.listed in
+    let shown : AllZip (AreShown initial s.registers.items) told.all (candidates_in s.combinations.items) =
+    all_shown (location_count l) initial (threads_of h.1.0) h.1.1 l.threads.items s.registers.items h.2.1.0 n (all_combinations l) (map seen s.combinations.items) told.all s.combinations.items refl told.listed in
+    record {
+      initial = initial;
+      all = told.all;
+      executions = told.executions;
+      few = let f : candidate_total (map seen s.combinations.items) ≤ 16384 = are.few in omega (arith, c, f);
+      sound = λ x there f. are.sound (fault_among (location_count l) initial (threads_of h.1.0) h.1.1 l.threads.items (all_combinations l) (map seen s.combinations.items) told.all told.listed x there f);
+      count = zip_long (AreShown initial s.registers.items) told.all (candidates_in s.combinations.items) shown;
+      shown = zip_shown initial s.registers.items told.all (candidates_in s.combinations.items) shown;
+    }
+
+-- a refusal is called for by the executions
+many_told : (t : Test) (l : Layout) → HasLayout t l → AreTooMany (location_count l) (all_combinations l) → HasManyExecutions t
+many_told t l h many =
+    let initial : List Value = h.0.initial.items in
+    let found : (cs : List Seen) × AreCombinations (location_count l) (all_combinations l) cs = combined (location_count l) (all_combinations l) in
+    let told : Told t l found.0 h = layout_told t l found.0 h found.1 in
+    let c : length told.all ≡ candidate_total found.0 = as_many (location_count l) initial (threads_of h.0) h.1 l.threads.items (all_combinations l) found.0 told.all (locations_counted t l h) told.listed in
+    let g : 16384 < candidate_total found.0 = many found.0 found.1 in
+    record { initial = initial; all = told.all; executions = told.executions; many = omega (arith, c, g) }
+
+fault_told : (t : Test) (l : Layout) → HasLayout t l → AreFaulted (location_count l) (all_combinations l) → HasFaultedExecution t
+fault_told t l h f =
+    let initial : List Value = h.0.initial.items in
+    let told : Told t l f.all h = layout_told t l f.all h f.combinations in
+    let n : location_count l ≡ length initial = locations_counted t l h in
+    let c : length told.all ≡ candidate_total f.all = as_many (location_count l) initial (threads_of h.0) h.1 l.threads.items (all_combinations l) f.all told.all n told.listed in
+    let g : candidate_total f.all ≤ 16384 = f.few in
+    let x : (x : Execution) × Contains told.all x × HasFault x = faulted_execution (location_count l) initial (threads_of h.0) h.1 l.threads.items n (all_combinations l) f.all told.all told.listed f.fault in
+    record { initial = initial; all = told.all; executions = told.executions; few = omega (arith, c, g); execution = x.0; there = x.1; fault = x.2 }
+
+pub refused_told : (t : Test) (f : SpaceFault) → IsTestRefusal t f → IsRefusedFor t f
+refused_told t (OutOfMemory e) h = tt
+refused_told t (Refused TooManyCandidates) (inl h) = absurd h.2
+refused_told t (Refused TooManyCandidates) (inr h) = many_told t h.0 h.1 h.2
+refused_told t (Refused AddressFault) (inl h) = absurd h.2
+refused_told t (Refused AddressFault) (inr h) = fault_told t h.0 h.1 h.2
+refused_told t (Refused TooManyEvents) (inl h) = h
+refused_told t (Refused TooManyEvents) (inr h) = absurd h.2
+refused_told t (Refused TooManyValues) (inl h) = h
+refused_told t (Refused TooManyValues) (inr h) = absurd h.2
+refused_told t (Refused TooManyRuns) (inl h) = h
+refused_told t (Refused TooManyRuns) (inr h) = absurd h.2
+refused_told t (Refused TooManyCombinations) (inl h) = h
+refused_told t (Refused TooManyCombinations) (inr h) = absurd h.2

@@ -1,0 +1,152 @@
+-- What `space` says of the executions of a test, and how a space shows them: its clauses `executions` and `refused` cite
+-- `ListsExecutions` and `IsRefusedFor`. Read `Events` and `Executions` first. The laws at the end are those of `laws`.
+use Rattle.std.specs.Prelude.{ℕ, Some, ◌≡◌, ◌<◌, ◌≤◌, ◌↔◌, List, [], map, length, slice_get, Contains}
+use Rattle.std.specs.List.{AllZip, flat_map}
+use Rattle.litmus_values.specs.declared.test.Test.{Test}
+use Rattle.thread_runs.specs.declared.instruction.Program.{Program}
+use Rattle.thread_runs.specs.declared.value.Value.{Value}
+use Rattle.ppc_semantics.specs.Domain.{IsDomain, threads_of}
+use Rattle.ppc_semantics.specs.Lowering.{IsProgram, IsTestFault}
+use Rattle.ppc_semantics.specs.declared.fault.EvalRefusal.TheVariants.{TooManyCandidates, AddressFault}
+use Rattle.ppc_semantics.specs.declared.fault.SpaceFault.{SpaceFault}
+use Rattle.ppc_semantics.specs.declared.fault.SpaceFault.TheVariants.{Refused}
+use Rattle.dataflow.specs.Chains.{Executed, IsAddr, IsData, IsCtrl, IsCtrlIsync, IsNeed}
+use Rattle.thread_runs.specs.ValueSet.{IsOne}
+use Rattle.thread_runs.specs.Runs.{Thread, Run, IsRun, run_of}
+use Rattle.candidates.specs.Executions.{Execution, IsExecution, AreExecutions, HasFault, IsDependency, IsOrder, MayRead, events, loads, maps, orders, locations_from, over_runs}
+use Rattle.candidates.specs.Lists.{IsFiltered}
+use Rattle.candidates.specs.Events.{thread_events, ReadsFrom, CannotRead}
+use Rattle.bit_relations.specs.Pairs.{Union, IsAcyclic}
+use Rattle.candidates.specs.Space.{IsShown, candidate_count}
+use Rattle.candidates.specs.declared.candidate.Execution as shown
+use Rattle.candidates.specs.declared.candidate.Space.{Space}
+
+-- the executions of the test: those of its threads over its domain
+pub record AreTestExecutions (t : Test) (initial : List Value) (xs : List Execution) : Type 0 where
+  pub program : Program
+  pub values : List Value
+  pub of_test : IsProgram t program
+  pub starts : initial ≡ program.initial.items
+  pub domain : IsDomain program values
+  pub executions : AreExecutions initial (threads_of program) values xs
+
+-- the pairs are just those of the dependency
+abbrev pub ArePairs : (Executed → ℕ → ℕ → Type 0) → List Value → Execution → List (ℕ × ℕ) → Type 0
+ArePairs R initial x pairs = (p : ℕ × ℕ) → Contains pairs p ↔ IsDependency R initial x.runs p.0 p.1
+
+-- what is shown is this execution
+pub record Shows (initial : List Value) (x : Execution) (e : shown.Execution) : Type 0 where
+  pub events : e.events.items ≡ events initial x.runs
+  pub addr : ArePairs IsAddr initial x e.addr_pairs.items
+  pub «data» : ArePairs IsData initial x e.data_pairs.items
+  pub ctrl : ArePairs IsCtrl initial x e.ctrl_pairs.items
+  pub ctrlisync : ArePairs IsCtrlIsync initial x e.ctrlisync_pairs.items
+  pub reads_from : e.sources.items ≡ x.reads_from
+  pub coherence : e.order.items ≡ flat_map (λ order. order) x.coherence
+  pub registers : e.registers.items ≡ map (λ r. r.outcome.walk.state.registers) x.runs
+
+-- the space lists just the executions of the test, in their order: at most 16,384, of which none has a run that stopped
+-- at a fault
+pub record ListsExecutions (t : Test) (s : Space) : Type 0 where
+  pub initial : List Value
+  pub all : List Execution
+  pub executions : AreTestExecutions t initial all
+  pub few : length all ≤ 16384
+  pub sound : (x : Execution) → Contains all x → HasFault x → ⊥
+  pub count : candidate_count s ≡ length all
+  pub shown : (index : ℕ) (x : Execution) (e : shown.Execution) → slice_get all index ≡ Some x → IsShown s index e → Shows initial x e
+
+-- there are more
+pub record HasManyExecutions (t : Test) : Type 0 where
+  pub initial : List Value
+  pub all : List Execution
+  pub executions : AreTestExecutions t initial all
+  pub many : 16384 < length all
+
+-- there are no more, and some one of them has a run that stopped at a fault
+pub record HasFaultedExecution (t : Test) : Type 0 where
+  pub initial : List Value
+  pub all : List Execution
+  pub executions : AreTestExecutions t initial all
+  pub few : length all ≤ 16384
+  pub execution : Execution
+  pub there : Contains all execution
+  pub fault : HasFault execution
+
+-- why a test has no space: its domain is refused, or its executions call for a refusal
+abbrev pub IsRefusedFor : Test → SpaceFault → Type 0
+IsRefusedFor t (Refused TooManyCandidates) = HasManyExecutions t
+IsRefusedFor t (Refused AddressFault) = HasFaultedExecution t
+IsRefusedFor t fault = IsTestFault t fault
+
+-- LAWS of these definitions
+
+-- the law of the domain: what is shown, where the loads of the execution take any values whatever, is an execution over
+-- the domain of the test
+abbrev pub LosesNoValue : Test → shown.Execution → Type 0
+LosesNoValue t e =
+    (p : Program) (V : List Value) (x : Execution) → IsProgram t p → IsDomain p V → Shows p.initial.items x e
+    → IsExecution p.initial.items (threads_of p) IsOne x → IsExecution p.initial.items (threads_of p) (Contains V) x
+
+-- a test has one list of executions
+abbrev pub HasOneList : List Value → List Thread → List Value → Type 0
+HasOneList initial threads V = (xs ys : List Execution) → AreExecutions initial threads V xs → AreExecutions initial threads V ys → xs ≡ ys
+
+-- runs with a load that no store serves are in no execution
+abbrev pub LosesNoExecution : List Value → List Thread → List Value → List Run → Type 0
+LosesNoExecution initial threads V runs =
+    AllZip (λ t r. IsRun t (Contains V) r) threads runs → CannotRead (events initial runs) → IsFiltered (IsExecution initial threads (Contains V)) (over_runs initial runs) []
+
+-- reads-from and coherence are chosen apart: the executions of some runs are each reads-from, that is one, with each
+-- coherence, that is one
+abbrev pub IsReadsFrom : List Value → List Run → List ℕ → Type 0
+IsReadsFrom initial runs reads_from =
+    AllZip (MayRead (events initial runs)) (loads (events initial runs)) reads_from
+    × IsAcyclic (Union (IsDependency IsNeed initial runs) (ReadsFrom (loads (events initial runs)) reads_from))
+
+abbrev pub IsCoherence : List Value → List Run → List (List ℕ) → Type 0
+IsCoherence initial runs coherence = AllZip (IsOrder (events initial runs)) (locations_from 0 initial) coherence
+
+abbrev pub ChoosesApart : List Value → List Thread → List Value → List Run → Type 0
+ChoosesApart initial threads V runs =
+    (reads : List (List ℕ)) (coherences : List (List (List ℕ)))
+    → AllZip (λ t r. IsRun t (Contains V) r) threads runs
+    → IsFiltered (IsReadsFrom initial runs) (maps (events initial runs)) reads
+    → IsFiltered (IsCoherence initial runs) (orders (events initial runs) initial) coherences
+    → IsFiltered (IsExecution initial threads (Contains V)) (over_runs initial runs) (flat_map (λ r. map (λ c. record { runs = runs; reads_from = r; coherence = c }) coherences) reads)
+
+-- no event of a run of a thread is left out of the events of an execution
+abbrev pub DropsNoEvent : Thread → Run → Type 0
+DropsNoEvent t r = (thread : ℕ) → run_of t.lines t.first r.values ≡ Some r.outcome → length (thread_events thread r.outcome.walk.events) ≡ length r.outcome.walk.events
+
+-- the outcomes of a test that its executions call for exclude one another
+pub record ExcludeOneAnother (t : Test) : Type 0 where
+  pub listed_or_many : (s : Space) → ListsExecutions t s → HasManyExecutions t → ⊥
+  pub listed_or_faulted : (s : Space) → ListsExecutions t s → HasFaultedExecution t → ⊥
+  pub many_or_faulted : HasManyExecutions t → HasFaultedExecution t → ⊥
+
+-- the executions are alike: they differ at most in the order in which dependencies are listed
+abbrev pub SamePairs : List (ℕ × ℕ) → List (ℕ × ℕ) → Type 0
+SamePairs ps qs = (p : ℕ × ℕ) → Contains ps p ↔ Contains qs p
+
+pub record AreAlike (d e : shown.Execution) : Type 0 where
+  pub events : d.events.items ≡ e.events.items
+  pub addr : SamePairs d.addr_pairs.items e.addr_pairs.items
+  pub «data» : SamePairs d.data_pairs.items e.data_pairs.items
+  pub ctrl : SamePairs d.ctrl_pairs.items e.ctrl_pairs.items
+  pub ctrlisync : SamePairs d.ctrlisync_pairs.items e.ctrlisync_pairs.items
+  pub reads_from : d.sources.items ≡ e.sources.items
+  pub coherence : d.order.items ≡ e.order.items
+  pub registers : d.registers.items ≡ e.registers.items
+
+-- two spaces of one test have as many candidates, and show alike ones at each index
+abbrev pub ShowTheSame : Test → Space → Space → Type 0
+ShowTheSame t r s =
+    ListsExecutions t r → ListsExecutions t s
+    → (candidate_count r ≡ candidate_count s) × ((index : ℕ) (d e : shown.Execution) → index < candidate_count r → IsShown r index d → IsShown s index e → AreAlike d e)
+
+-- the list of the executions of a test has just those whose loads take any values whatever
+abbrev pub HasAllExecutions : Test → Type 0
+HasAllExecutions t =
+    (initial : List Value) (xs : List Execution) (h : AreTestExecutions t initial xs) (x : Execution)
+    → Contains xs x ↔ IsExecution initial (threads_of h.program) IsOne x

@@ -1,0 +1,59 @@
+//! Laws of the executions of a test.
+ghost use Rattle.std.specs.Prelude.{List};
+ghost use Rattle.thread_runs.specs.declared.value.Value.{Value};
+ghost use Rattle.thread_runs.specs.Runs.{Thread, Run};
+ghost use Rattle.candidates.specs.Listed.{HasAllExecutions, LosesNoValue, ExcludeOneAnother, HasOneList, ShowTheSame, LosesNoExecution, ChoosesApart, DropsNoEvent};
+
+use crate::candidate::{Execution, Space};
+use litmus_values::Test;
+
+/// The domain of a test loses none of its executions: one whose loads take any values whatever is one over the domain.
+pub fn domain_loses_nothing(test: &Test, execution: &Execution)
+    ensures { LosesNoValue test.now execution.now }
+{
+    let _test = test;
+    let _execution = execution;
+}
+
+/// The executions of a test, its loads taking any values whatever, are just those of its list.
+pub fn executions_are_all(test: &Test)
+    ensures { HasAllExecutions test.now }
+{
+    let _test = test;
+}
+
+/// A test has one list of executions.
+pub fn executions_are_one()
+    ensures { (initial : List Value) (threads : List Thread) (V : List Value) → HasOneList initial threads V }
+{}
+
+/// Runs with a load that no store serves are in no execution.
+pub fn pruned_runs_lose_nothing()
+    ensures { (initial : List Value) (threads : List Thread) (V : List Value) (runs : List Run) → LosesNoExecution initial threads V runs }
+{}
+
+/// Of some runs, each reads-from with each coherence is an execution.
+pub fn executions_are_a_product()
+    ensures { (initial : List Value) (threads : List Thread) (V : List Value) (runs : List Run) → ChoosesApart initial threads V runs }
+{}
+
+/// No event of a run is left out.
+pub fn events_are_whole()
+    ensures { (t : Thread) (r : Run) → DropsNoEvent t r }
+{}
+
+/// A test that has a space has neither too many executions nor a faulted one; one that has too many has no other outcome.
+pub fn outcomes_exclude_one_another(test: &Test)
+    ensures { ExcludeOneAnother test.now }
+{
+    let _test = test;
+}
+
+/// Two spaces of one test show the same executions, in the same order.
+pub fn spaces_show_the_same(test: &Test, first: &Space, second: &Space)
+    ensures { ShowTheSame test.now first.now second.now }
+{
+    let _test = test;
+    let _first = first;
+    let _second = second;
+}

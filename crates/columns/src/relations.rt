@@ -1,0 +1,135 @@
+//! A column of relations.
+ghost use Rattle.std.specs.Prelude.{◌≡◌, ℕ, ◌-◌, ◌<◌, ◌≤◌, ◌++◌, ◌∷◌, [], ◌↔◌, length, replicate, IsTrue, OnOk, OnErr};
+ghost use Rattle.columns.specs.Runs.{value_at};
+
+use crate::runs::{Cursor, end_of, run_at};
+use bit_relations::{PackedRelations, Rel};
+use std::alloc::{AllocError, Global};
+use std::marker::Model;
+
+/// A relation for each candidate: neighbours with equal relations share one. Contracts see one relation a candidate.
+#[derive(Drop)]
+pub struct RunColumn {
+    values: PackedRelations,
+    /// Where each run ends.
+    ends: Vec<usize>,
+}
+
+impl Model for RunColumn {
+    ghost use Rattle.std.specs.Prelude.{List};
+    ghost use Rattle.bit_relations.specs.Relation.{Relation};
+    ghost use Rattle.columns.specs.Runs.{expand, AreRuns};
+
+    ghost Value = { List Relation };
+
+    ghost view = { λ c. expand 0 c.ends.items c.values };
+
+    ghost invariant = { λ c. AreRuns c.ends.items c.values };
+}
+
+impl RunColumn {
+    /// The column of no candidate.
+    pub fn new(alloc: Global) -> RunColumn
+        ensures { result ≡ [] }
+    {
+        RunColumn {
+            values: PackedRelations::new(alloc),
+            ends: Vec::new(alloc),
+        }
+    }
+
+    /// Becomes the column of no candidate, and keeps the memory.
+    pub fn clear(&mut self)
+        ensures { self.new ≡ [] }
+    {
+        self.values.clear();
+        self.ends.clear();
+    }
+
+    /// How many candidates it has a value for.
+    pub fn len(&self) -> usize
+        ensures { result ≡ length self.now }
+    {
+        let _values = &self.values;
+        end_of(&self.ends)
+    }
+
+    /// Gives one value to the next candidates, up to an end. Where memory is out the column stays as it was.
+    pub fn push_run(&mut self, value: &Rel, end: usize) -> Result<(), AllocError>
+        requires { length self.old < end }
+        ensures added { OnOk result (self.new ≡ self.old ++ replicate (end - length self.old) value.now) }
+        ensures kept { OnErr result (self.new ≡ self.old) }
+    {
+        let runs = self.ends.len();
+        if 0 < runs && is_at(&self.values, runs - 1, value) {
+            self.ends[runs - 1] = end;
+        } else {
+            self.ends.reserve(1)?;
+            self.values.push(value)?;
+            self.ends.push_reserved(end);
+        }
+        Ok(())
+    }
+
+    /// Gives a value to the next candidate. Where memory is out the column stays as it was.
+    pub fn push(&mut self, value: &Rel) -> Result<(), AllocError>
+        ensures added { OnOk result (self.new ≡ self.old ++ value.now ∷ []) }
+        ensures kept { OnErr result (self.new ≡ self.old) }
+    {
+        match self.len().checked_add(1) {
+            Some(end) => self.push_run(value, end),
+            None => Err(AllocError),
+        }
+    }
+
+    /// Writes the value of a candidate into a place, and answers up to where the candidates after it have the same.
+    pub fn read(&self, cursor: &mut Cursor, at: usize, place: &mut Rel) -> usize
+        requires { at < length self.now }
+        ensures value { place.new ≡ value_at self.now at }
+        ensures after { at < result }
+        ensures within { result ≤ length self.now }
+        ensures same { (k : ℕ) → at ≤ k → k < result → value_at self.now k ≡ value_at self.now at }
+    {
+        let run = run_at(&self.ends, cursor.run, at);
+        self.values.read_into(run, place);
+        cursor.run = run;
+        self.ends[run]
+    }
+
+    /// Whether both have the same values.
+    pub fn is_same(&self, other: &RunColumn) -> bool
+        ensures { IsTrue result ↔ (self.now ≡ other.now) }
+    {
+        let count = self.len();
+        if count != other.len() {
+            return false;
+        }
+        let mut left_cursor = Cursor::new();
+        let mut right_cursor = Cursor::new();
+        let mut left = Rel::empty(0);
+        let mut right = Rel::empty(0);
+        let mut done = 0;
+        'runs: while done < count {
+            let left_end = self.read(&mut left_cursor, done, &mut left);
+            let right_end = other.read(&mut right_cursor, done, &mut right);
+            if !left.is_same(&right) {
+                return false;
+            }
+            done = left_end.min(right_end);
+        }
+        true
+    }
+}
+
+/// Whether a relation of a list is another.
+fn is_at(values: &PackedRelations, k: usize, value: &Rel) -> bool
+    requires { k < length values.now }
+    ensures { IsTrue result ↔ (value_at values.now k ≡ value.now) }
+{
+    if values.count_at(k) != value.count() {
+        return false;
+    }
+    let mut place = Rel::empty(0);
+    values.read_into(k, &mut place);
+    place.is_same(value)
+}

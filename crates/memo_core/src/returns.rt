@@ -1,0 +1,131 @@
+//! What becomes of a return.
+
+ghost use Rattle.std.specs.Prelude.{◌≡◌, ◌≤◌, length, vec_len, vec_capacity};
+ghost use Rattle.memo_core.specs.Step.{IsJudged, Finishes};
+ghost use Rattle.memo_core.specs.Clauses.{state_of, return_from, IsComputed, HasRightMemos, HasFreshClaims, IsMarked};
+
+use crate::claims::{Claim, Finish, Judgement, is_used, values_are};
+use crate::finds::{claim_index, first_stale, keys_are};
+use crate::graph::Graph;
+use crate::job::Done;
+use crate::keys::is_same_node;
+use crate::marks::settle_in;
+use crate::stores::{restamp_all, store_memo};
+use crate::table::{Kept, are_present};
+use crate::texts::Texts;
+use value_store::StoreName;
+
+impl<K: StoreName, T: Texts> Graph<K, T> {
+    /// What a return is, before anything is done.
+    fn judge(&self, done: &Done<K, T>) -> Judgement
+        ensures { IsJudged (state_of self.now) (return_from done.now) result }
+    {
+        let at = match claim_index(self.claims.as_slice(), done.claim) {
+            Some(at) => at,
+            None => return Judgement::Undue,
+        };
+        let claim = &self.claims[at];
+        if !is_same_node(claim.node, done.node) {
+            return Judgement::Undue;
+        }
+        if !is_used(&self.texts, done.node) {
+            return Judgement::Late(at, None);
+        }
+        let memos = self.memos.as_slice();
+        if !are_present(&self.texts, memos, done.node, claim.inputs.as_slice()) {
+            let stamp = first_stale(&self.texts, memos, done.node, claim.inputs.as_slice());
+            return Judgement::Late(at, Some(stamp));
+        }
+        if !keys_are(&self.texts, done.node, done.keys.as_slice()) {
+            return Judgement::Undue;
+        }
+        if !values_are(
+            &self.store,
+            &self.texts,
+            memos,
+            done.keys.as_slice(),
+            done.values.as_slice(),
+        ) {
+            return Judgement::Undue;
+        }
+        Judgement::Due(at)
+    }
+
+    /// Takes a return that is due.
+    fn accept(&mut self, at: usize, done: Done<K, T>) -> Finish
+        requires right { HasRightMemos self.old }
+        requires fresh { HasFreshClaims self.old }
+        requires marks { IsMarked self.old }
+        requires computed { IsComputed T.makes done }
+        requires empty { vec_len done.names ≡ 0 }
+        requires room { length done.outputs.items ≤ vec_capacity done.names }
+        requires due { IsJudged (state_of self.old) (return_from done) (Judgement.Due at) }
+        ensures texts { self.new.texts ≡ self.old.texts }
+        ensures right { HasRightMemos self.new }
+        ensures fresh { HasFreshClaims self.new }
+        ensures marks { IsMarked self.new }
+        ensures step { Finishes (state_of self.old) (return_from done) result (state_of self.new) }
+    {
+        let claim = self.claims.remove(at);
+        self.taken += 1;
+        let Done {
+            claim: _,
+            node,
+            keys: _,
+            values: _,
+            mut outputs,
+            mut names,
+        } = done;
+        let Claim {
+            number: _,
+            node: _,
+            inputs,
+        } = claim;
+        let memos = self.memos.as_slice();
+        restamp_all::<K, T>(
+            &self.store,
+            memos,
+            node,
+            self.taken,
+            &mut outputs,
+            &mut names,
+        );
+        let memo = Kept {
+            node,
+            inputs,
+            outputs,
+            settled: false,
+        };
+        store_memo(&mut self.memos, memo);
+        settle_in(&self.texts, &mut self.memos, node);
+        if names.is_empty() {
+            Finish::Same
+        } else {
+            Finish::Stored(names)
+        }
+    }
+
+    /// Takes a return, by the first case that holds. It takes no memory.
+    pub fn finish(&mut self, done: Done<K, T>) -> Finish
+        requires right { HasRightMemos self.old }
+        requires fresh { HasFreshClaims self.old }
+        requires marks { IsMarked self.old }
+        requires computed { IsComputed T.makes done }
+        requires empty { vec_len done.names ≡ 0 }
+        requires room { length done.outputs.items ≤ vec_capacity done.names }
+        ensures texts { self.new.texts ≡ self.old.texts }
+        ensures right { HasRightMemos self.new }
+        ensures fresh { HasFreshClaims self.new }
+        ensures marks { IsMarked self.new }
+        ensures step { Finishes (state_of self.old) (return_from done) result (state_of self.new) }
+    {
+        match self.judge(&done) {
+            Judgement::Undue => Finish::Unknown,
+            Judgement::Late(at, stamp) => {
+                let _ = self.claims.remove(at);
+                Finish::Stale(stamp)
+            }
+            Judgement::Due(at) => self.accept(at, done),
+        }
+    }
+}

@@ -1,0 +1,29 @@
+//! Why a store does not take a value.
+
+ghost use Rattle.std.specs.Prelude.{◌≡◌};
+ghost use Rattle.value_store.specs.Tokens.{number_of};
+
+use thiserror::Error;
+
+/// Why a store does not take a value. The refusal hands the value back beside it.
+#[derive(Clone, Copy, Debug, PartialEq, Eq, Error)]
+pub enum StoreFault {
+    /// S1: as many values as its limit were put into it.
+    #[error("the store is full")]
+    Full,
+    /// A growth was refused.
+    #[error("out of memory")]
+    OutOfMemory,
+}
+
+impl StoreFault {
+    /// The number that a refusal is printed with: 1 for a full store. Want of memory has none.
+    pub fn number(self) -> Option<u8>
+        ensures { result ≡ number_of self }
+    {
+        match self {
+            StoreFault::Full => Some(1),
+            StoreFault::OutOfMemory => None,
+        }
+    }
+}
