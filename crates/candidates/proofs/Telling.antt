@@ -16,15 +16,21 @@ use Rattle.candidates.proofs.Flat.{flat, orders_flat}
 use Rattle.candidates.proofs.Kept.{AreKept, all_kept, product_kept, runs_kept}
 use Rattle.candidates.proofs.Listing.{AreListed, no_more, one_more, not_one, Listing, all_listed}
 use Rattle.candidates.proofs.Small.{layout_small}
-use Rattle.ppc_semantics.specs.declared.fault.EvalRefusal.TheVariants.{TooManyEvents, TooManyValues, TooManyRuns, TooManyCandidates, AddressFault, TooManyCombinations}
-use Rattle.ppc_semantics.specs.declared.fault.SpaceFault.{SpaceFault}
-use Rattle.ppc_semantics.specs.declared.fault.SpaceFault.TheVariants.{Refused, OutOfMemory}
+use Rattle.candidates.specs.declared.fault.EvalRefusal.TheVariants.{TooManyEvents, TooManyValues, TooManyRuns, TooManyCandidates, AddressFault, TooManyCombinations}
+use Rattle.candidates.specs.declared.fault.SpaceFault.{SpaceFault}
+use Rattle.candidates.specs.declared.fault.SpaceFault.TheVariants.{Refused, OutOfMemory}
 use Rattle.candidates.proofs.Deciding.{combined}
 use Rattle.candidates.proofs.Showing.{AreShown, all_shown, fault_among, faulted_execution}
-use Rattle.candidates.specs.Candidates.{AreTooMany, AreFaulted, IsTestRefusal, AreCombinations, AreCandidates, HasLayout, IsTestSpace, candidate_total}
+use Rattle.candidates.specs.Candidates.{AreTooMany, AreFaulted, IsRefusedAs, IsTestRefusal, AreCombinations, AreCandidates, HasLayout, IsTestSpace, candidate_total}
 use Rattle.candidates.specs.Executions.{Execution, HasFault, product, events}
 use Rattle.candidates.specs.Layouts.{IsLaidOut}
-use Rattle.candidates.specs.Listed.{AreTestExecutions, Shows, ListsExecutions, HasManyExecutions, HasFaultedExecution, IsRefusedFor}
+use Rattle.candidates.specs.Listed.{AreTestExecutions, Shows, ListsExecutions, HasManyExecutions, HasFaultedExecution, IsRefusal, IsRefusedFor}
+use Rattle.candidates.specs.Faults.{refusal_of}
+use Rattle.candidates.specs.declared.fault.EvalRefusal.{EvalRefusal}
+use Rattle.ppc_semantics.specs.Lowering.{IsTestFault}
+use Rattle.ppc_semantics.specs.declared.fault.DomainRefusal.{DomainRefusal}
+use Rattle.ppc_semantics.specs.declared.fault.DomainRefusal.TheVariants as no_domain
+use Rattle.ppc_semantics.specs.declared.fault.DomainFault.TheVariants as domain_faults
 use Rattle.candidates.specs.Orders.{all_orders}
 use Rattle.candidates.specs.Events.{initial_stores}
 use Rattle.candidates.specs.Search.{Begun, start, all_combinations, location_count}
@@ -154,17 +160,21 @@ fault_told t l h f =
     let x : (x : Execution) × Contains told.all x × HasFault x = faulted_execution (location_count l) initial (threads_of h.0) h.1 l.threads.items n (all_combinations l) f.all told.all told.listed f.fault in
     record { initial = initial; all = told.all; executions = told.executions; few = omega (arith, c, g); execution = x.0; there = x.1; fault = x.2 }
 
+domain_told : (t : Test) (d : DomainRefusal) → IsTestFault t (domain_faults.Refused d) → IsRefusal t (refusal_of d)
+domain_told t no_domain.TooManyEvents h = h
+domain_told t no_domain.TooManyValues h = h
+domain_told t no_domain.TooManyRuns h = h
+domain_told t no_domain.TooManyCombinations h = h
+
+layout_told_refused : (t : Test) (l : Layout) (r : EvalRefusal) → HasLayout t l → IsRefusedAs l r → IsRefusal t r
+layout_told_refused t l TooManyCandidates h many = many_told t l h many
+layout_told_refused t l AddressFault h f = fault_told t l h f
+layout_told_refused t l TooManyEvents h impossible = absurd impossible
+layout_told_refused t l TooManyValues h impossible = absurd impossible
+layout_told_refused t l TooManyRuns h impossible = absurd impossible
+layout_told_refused t l TooManyCombinations h impossible = absurd impossible
+
 pub refused_told : (t : Test) (f : SpaceFault) → IsTestRefusal t f → IsRefusedFor t f
 refused_told t (OutOfMemory e) h = tt
-refused_told t (Refused TooManyCandidates) (inl h) = absurd h.2
-refused_told t (Refused TooManyCandidates) (inr h) = many_told t h.0 h.1 h.2
-refused_told t (Refused AddressFault) (inl h) = absurd h.2
-refused_told t (Refused AddressFault) (inr h) = fault_told t h.0 h.1 h.2
-refused_told t (Refused TooManyEvents) (inl h) = h
-refused_told t (Refused TooManyEvents) (inr h) = absurd h.2
-refused_told t (Refused TooManyValues) (inl h) = h
-refused_told t (Refused TooManyValues) (inr h) = absurd h.2
-refused_told t (Refused TooManyRuns) (inl h) = h
-refused_told t (Refused TooManyRuns) (inr h) = absurd h.2
-refused_told t (Refused TooManyCombinations) (inl h) = h
-refused_told t (Refused TooManyCombinations) (inr h) = absurd h.2
+refused_told t (Refused r) (inl h) = subst (λ (x : EvalRefusal). IsRefusal t x) (sym h.1) (domain_told t h.0 h.2)
+refused_told t (Refused r) (inr h) = layout_told_refused t h.0 r h.1 h.2

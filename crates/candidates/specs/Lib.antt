@@ -1,6 +1,7 @@
 pub mod Candidates
 pub mod Events
 pub mod Executions
+pub mod Faults
 pub mod Keys
 pub mod Layouts
 pub mod Listed

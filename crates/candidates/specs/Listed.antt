@@ -5,11 +5,14 @@ use Rattle.std.specs.List.{AllZip, flat_map}
 use Rattle.litmus_values.specs.declared.test.Test.{Test}
 use Rattle.thread_runs.specs.declared.instruction.Program.{Program}
 use Rattle.thread_runs.specs.declared.value.Value.{Value}
-use Rattle.ppc_semantics.specs.Domain.{IsDomain, threads_of}
-use Rattle.ppc_semantics.specs.Lowering.{IsProgram, IsTestFault}
-use Rattle.ppc_semantics.specs.declared.fault.EvalRefusal.TheVariants.{TooManyCandidates, AddressFault}
-use Rattle.ppc_semantics.specs.declared.fault.SpaceFault.{SpaceFault}
-use Rattle.ppc_semantics.specs.declared.fault.SpaceFault.TheVariants.{Refused}
+use Rattle.ppc_semantics.specs.Domain.{IsDomain, IsRefused, threads_of}
+use Rattle.ppc_semantics.specs.Lowering.{IsProgram}
+use Rattle.ppc_semantics.specs.declared.fault.DomainRefusal.{DomainRefusal}
+use Rattle.ppc_semantics.specs.declared.fault.DomainRefusal.TheVariants as no_domain
+use Rattle.candidates.specs.declared.fault.EvalRefusal.{EvalRefusal}
+use Rattle.candidates.specs.declared.fault.EvalRefusal.TheVariants.{TooManyEvents, TooManyValues, TooManyRuns, TooManyCandidates, AddressFault, TooManyCombinations}
+use Rattle.candidates.specs.declared.fault.SpaceFault.{SpaceFault}
+use Rattle.candidates.specs.declared.fault.SpaceFault.TheVariants.{Refused, OutOfMemory}
 use Rattle.dataflow.specs.Chains.{Executed, IsAddr, IsData, IsCtrl, IsCtrlIsync, IsNeed}
 use Rattle.thread_runs.specs.ValueSet.{IsOne}
 use Rattle.thread_runs.specs.Runs.{Thread, Run, IsRun, run_of}
@@ -73,11 +76,22 @@ pub record HasFaultedExecution (t : Test) : Type 0 where
   pub there : Contains all execution
   pub fault : HasFault execution
 
+-- the domain of the test is refused
+abbrev pub HasNoDomain : Test → DomainRefusal → Type 0
+HasNoDomain t r = (p : Program) × IsProgram t p × IsRefused p r
+
 -- why a test has no space: its domain is refused, or its executions call for a refusal
+abbrev pub IsRefusal : Test → EvalRefusal → Type 0
+IsRefusal t TooManyEvents = HasNoDomain t no_domain.TooManyEvents
+IsRefusal t TooManyValues = HasNoDomain t no_domain.TooManyValues
+IsRefusal t TooManyRuns = HasNoDomain t no_domain.TooManyRuns
+IsRefusal t TooManyCombinations = HasNoDomain t no_domain.TooManyCombinations
+IsRefusal t TooManyCandidates = HasManyExecutions t
+IsRefusal t AddressFault = HasFaultedExecution t
+
 abbrev pub IsRefusedFor : Test → SpaceFault → Type 0
-IsRefusedFor t (Refused TooManyCandidates) = HasManyExecutions t
-IsRefusedFor t (Refused AddressFault) = HasFaultedExecution t
-IsRefusedFor t fault = IsTestFault t fault
+IsRefusedFor t (Refused r) = IsRefusal t r
+IsRefusedFor t (OutOfMemory e) = Unit {0}
 
 -- LAWS of these definitions
 
