@@ -12,7 +12,7 @@ use Rattle.candidates.specs.declared.fault.SpaceFault.TheVariants.{Refused, OutO
 use Rattle.thread_runs.specs.declared.instruction.Program.{Program}
 use Rattle.thread_runs.specs.declared.run.Run.{Run}
 use Rattle.ppc_semantics.specs.Domain.{IsDomain, IsFault}
-use Rattle.ppc_semantics.specs.Lowering.{IsProgram, IsTestFault}
+use Rattle.ppc_semantics.specs.Lowering.{IsProgram}
 use Rattle.candidates.specs.Keys.{IsKeyed, bit_of}
 use Rattle.candidates.specs.Layouts.{AreAllRuns, IsLaidOut}
 use Rattle.candidates.specs.declared.candidate.Space.{Space}

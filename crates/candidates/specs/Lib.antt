@@ -9,6 +9,7 @@ pub mod Lists
 pub mod Orders
 pub mod Parts
 pub mod Rounds
+pub mod Same
 pub mod Search
 pub mod Space
 pub mod Ways

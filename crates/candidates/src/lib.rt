@@ -23,6 +23,7 @@ mod layout;
 mod orders;
 mod part;
 mod reading;
+mod same;
 mod search;
 
 pub use candidate::{Action, Combination, Event, Execution, Space};
