@@ -27,6 +27,7 @@ pub mod Members
 pub mod Needs
 pub mod NoLocation
 pub mod Numbers
+pub mod OneOutcome
 pub mod OneProgram
 pub mod OrderLaws
 pub mod Outcomes

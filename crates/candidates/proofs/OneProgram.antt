@@ -1,5 +1,5 @@
 -- A test has one program and one domain, as far as its executions depend on them; so it has one list of executions.
-use Rattle.std.proofs.Common.{Vec, vec_len, ℕ, zero, suc, ◌≡◌, ◌<◌, ◌≤◌, List, [], ◌∷◌, ◌++◌, map, length, get_or, replicate, Some, slice_get, refl, ap, sym, subst, ◌∙◌, inl, inr, arith, Contains, All}
+use Rattle.std.proofs.Common.{Vec, vec_len, ℕ, zero, suc, ◌≡◌, ◌<◌, ◌≤◌, Bool, List, [], ◌∷◌, ◌++◌, map, length, get_or, replicate, Some, slice_get, refl, ap, sym, subst, ◌∙◌, inl, inr, arith, Contains, All}
 use Rattle.std.specs.List.{flat_map, sum_by, count_by}
 use Rattle.std.specs.declared.alloc.Global.{Global}
 use Rattle.std.specs.declared.cmp.Ordering.TheVariants as how
@@ -19,7 +19,7 @@ use Rattle.thread_runs.specs.declared.instruction.Line.{Line}
 use Rattle.thread_runs.specs.declared.instruction.Program.{Program}
 use Rattle.thread_runs.specs.Runs.{Thread, InDomain, IsLess}
 use Rattle.thread_runs.specs.AllRuns.{thread_of, lines_at, first_of}
-use Rattle.ppc_semantics.specs.Domain.{IsDomain, threads_from, threads_of, has_load, load_total}
+use Rattle.ppc_semantics.specs.Domain.{IsDomain, threads_from, threads_of, has_event, has_load, event_total, load_total}
 use Rattle.ppc_semantics.specs.Lowering.{IsProgram, IsBefore, AreNames, Starts, AreInitial, AreRegisters, AreFiles, AreLines, AreThreads, value_of, line_of, labels_in}
 use Rattle.ppc_semantics.proofs.Sorting.{order}
 use Rattle.candidates.proofs.Elements.{member_first}
@@ -128,26 +128,30 @@ lines_at_one (v ∷ vs) [] e t = absurd cc
 lines_at_one (v ∷ vs) (w ∷ ws) e zero = heads e
 lines_at_one (v ∷ vs) (w ∷ ws) e (suc t) = lines_at_one vs ws (tails e) t
 
-loads_one : (vs ws : List (Vec Line Global)) → map items_of vs ≡ map items_of ws → sum_by (λ (v : Vec Line Global). count_by has_load v.items) vs ≡ sum_by (λ (v : Vec Line Global). count_by has_load v.items) ws
-loads_one [] [] e = refl
-loads_one [] (w ∷ ws) e = absurd cc
-loads_one (v ∷ vs) [] e = absurd cc
-loads_one (v ∷ vs) (w ∷ ws) e =
-    let a : count_by has_load v.items ≡ count_by has_load w.items = ap (λ (l : List Line). count_by has_load l) (heads e) in
-    let b : sum_by (λ (v : Vec Line Global). count_by has_load v.items) vs ≡ sum_by (λ (v : Vec Line Global). count_by has_load v.items) ws = loads_one vs ws (tails e) in
-    omega (arith, a, b, sum_by-cons (λ (v : Vec Line Global). count_by has_load v.items) v vs, sum_by-cons (λ (v : Vec Line Global). count_by has_load v.items) w ws)
+counted_one : (test : Line → Bool) (vs ws : List (Vec Line Global)) → map items_of vs ≡ map items_of ws → sum_by (λ (v : Vec Line Global). count_by test v.items) vs ≡ sum_by (λ (v : Vec Line Global). count_by test v.items) ws
+counted_one test [] [] e = refl
+counted_one test [] (w ∷ ws) e = absurd cc
+counted_one test (v ∷ vs) [] e = absurd cc
+counted_one test (v ∷ vs) (w ∷ ws) e =
+    let a : count_by test v.items ≡ count_by test w.items = ap (λ (l : List Line). count_by test l) (heads e) in
+    let b : sum_by (λ (v : Vec Line Global). count_by test v.items) vs ≡ sum_by (λ (v : Vec Line Global). count_by test v.items) ws = counted_one test vs ws (tails e) in
+    omega (arith, a, b, sum_by-cons (λ (v : Vec Line Global). count_by test v.items) v vs, sum_by-cons (λ (v : Vec Line Global). count_by test v.items) w ws)
 
 -- two programs of a test
 pub record Alike (p q : Program) : Type 0 where
   pub initial : p.initial.items ≡ q.initial.items
   pub threads : threads_of p ≡ threads_of q
   pub loads : load_total p ≡ load_total q
+  pub events : event_total p ≡ event_total q
 
 pub programs_alike : (t : Test) (p q : Program) → IsProgram t p → IsProgram t q → Alike p q
 programs_alike t p q h k = record {
   initial = initial_one t.init.items p.locations.items p.initial.items q.initial.items h.initial (subst (λ (ns : List (List ℕ)). AreInitial t.init.items ns q.initial.items) (sym names) k.initial);
   threads = ap (λ (n : ℕ). threads_from p n) many ∙ each (vec_len q.threads);
-  loads = loads_one p.threads.items q.threads.items lines;
+  loads = counted_one has_load p.threads.items q.threads.items lines;
+  events =
+      let many : length p.locations.items ≡ length q.locations.items = ap (λ (l : List (List ℕ)). length l) names in
+      omega (arith, many, counted_one has_event p.threads.items q.threads.items lines);
 }
   where
     names : p.locations.items ≡ q.locations.items

@@ -1,5 +1,5 @@
--- The outcomes of a test exclude one another, and two spaces of a test show the same.
-use Rattle.std.proofs.Common.{ℕ, ◌≡◌, List, [], ◌∷◌, refl, length, inl, inr, ap, sym, subst, ◌∙◌, arith, Contains}
+-- Two spaces of a test show the same.
+use Rattle.std.proofs.Common.{ℕ, ◌≡◌, List, [], ◌∷◌, refl, inl, inr, ap, sym, subst, ◌∙◌, arith}
 use Rattle.litmus_values.specs.declared.test.Test.{Test}
 use Rattle.thread_runs.specs.declared.value.Value.{Value}
 use Rattle.dataflow.specs.Chains.{Executed, IsPairBefore}
@@ -10,18 +10,8 @@ use Rattle.candidates.specs.Space.{Shown, shown_in}
 use Rattle.ppc_semantics.specs.Lowering.{test_names}
 use Rattle.std.specs.List.{AllZip}
 use Rattle.candidates.specs.Executions.{Execution}
-use Rattle.candidates.specs.Listed.{AreTestExecutions, Shows, ArePairs, ExcludeOneAnother, ShowOneTest}
+use Rattle.candidates.specs.Listed.{Shows, ArePairs, ShowOneTest}
 use Rattle.candidates.specs.declared.candidate.Space.{Space}
-
-same_length : (t : Test) (i j : List Value) (xs ys : List Execution) → AreTestExecutions t i xs → AreTestExecutions t j ys → length xs ≡ length ys
-same_length t i j xs ys h k = ap (λ (l : List Execution). length l) (test_executions_one t i j xs ys h k).1
-
-pub exclusive : (t : Test) → ExcludeOneAnother t
-exclusive t = record {
-  listed_or_many = λ s h m. let e : length h.all ≡ length m.all = same_length t h.initial m.initial h.all m.all h.executions m.executions in absurd (omega (arith, e, h.few, m.many));
-  listed_or_faulted = λ s h f. h.sound f.execution (subst (λ (l : List Execution). Contains l f.execution) (sym (test_executions_one t h.initial f.initial h.all f.all h.executions f.executions).1) f.there) f.fault;
-  many_or_faulted = λ m f. let e : length m.all ≡ length f.all = same_length t m.initial f.initial m.all f.all m.executions f.executions in absurd (omega (arith, e, m.many, f.few));
-}
 
 -- pairs in rising order are one list
 before_apart : (p q : ℕ × ℕ) → IsPairBefore p q → IsPairBefore q p → ⊥

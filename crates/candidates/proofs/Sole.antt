@@ -9,10 +9,10 @@ use Rattle.candidates.proofs.Filters.{IsFiltered-unique}
 use Rattle.candidates.specs.Lists.{IsFiltered}
 use Rattle.candidates.specs.Executions.{Execution, AreExecutions, IsExecution, over_runs, product}
 
-first_rises : {X : Type 0} (R : X → X → Type 0) (x : X) (xs : List X) (z : X) → AllPairs R (x ∷ xs) → Contains xs z → R x z
+pub first_rises : {X : Type 0} (R : X → X → Type 0) (x : X) (xs : List X) (z : X) → AllPairs R (x ∷ xs) → Contains xs z → R x z
 first_rises {X} R x xs z h c = let lt : c.0 < length xs = c.1 in subst (λ (y : X). R x y) c.2 (h zero (suc c.0) z (omega arith) (omega (arith, lt)))
 
-rest_rises : {X : Type 0} (R : X → X → Type 0) (x : X) (xs : List X) → AllPairs R (x ∷ xs) → AllPairs R xs
+pub rest_rises : {X : Type 0} (R : X → X → Type 0) (x : X) (xs : List X) → AllPairs R (x ∷ xs) → AllPairs R xs
 rest_rises R x xs h = λ i j d lt l. h (suc i) (suc j) d (omega (arith, lt)) (omega (arith, l))
 
 -- two rising lists with the same members are one

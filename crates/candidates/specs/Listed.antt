@@ -134,11 +134,10 @@ ChoosesApart initial threads V runs =
 abbrev pub DropsNoEvent : Thread → Run → Type 0
 DropsNoEvent t r = (thread : ℕ) → run_of t.lines t.first r.values ≡ Some r.outcome → length (thread_events thread r.outcome.walk.events) ≡ length r.outcome.walk.events
 
--- the outcomes of a test that its executions call for exclude one another
-pub record ExcludeOneAnother (t : Test) : Type 0 where
-  pub listed_or_many : (s : Space) → ListsExecutions t s → HasManyExecutions t → ⊥
-  pub listed_or_faulted : (s : Space) → ListsExecutions t s → HasFaultedExecution t → ⊥
-  pub many_or_faulted : HasManyExecutions t → HasFaultedExecution t → ⊥
+-- a test has one outcome: a space or a refusal, and one refusal at most
+pub record HasOneOutcome (t : Test) : Type 0 where
+  pub listed_or_refused : (s : Space) (r : EvalRefusal) → ListsExecutions t s → IsRefusal t r → ⊥
+  pub one_refusal : (q r : EvalRefusal) → IsRefusal t q → IsRefusal t r → q ≡ r
 
 -- two spaces of one test show the same
 abbrev pub ShowOneTest : Test → Space → Space → Type 0

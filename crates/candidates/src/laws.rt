@@ -2,7 +2,7 @@
 ghost use Rattle.std.specs.Prelude.{List};
 ghost use Rattle.thread_runs.specs.declared.value.Value.{Value};
 ghost use Rattle.thread_runs.specs.Runs.{Thread, Run};
-ghost use Rattle.candidates.specs.Listed.{HasAllExecutions, LosesNoValue, ExcludeOneAnother, HasOneList, ShowOneTest, LosesNoExecution, ChoosesApart, DropsNoEvent};
+ghost use Rattle.candidates.specs.Listed.{HasAllExecutions, LosesNoValue, HasOneOutcome, HasOneList, ShowOneTest, LosesNoExecution, ChoosesApart, DropsNoEvent};
 
 use crate::candidate::{Execution, Space};
 use litmus_values::Test;
@@ -42,9 +42,9 @@ pub fn events_are_whole()
     ensures { (t : Thread) (r : Run) → DropsNoEvent t r }
 {}
 
-/// A test that has a space has neither too many executions nor a faulted one; one that has too many has no other outcome.
+/// A test has one outcome: where it has a space it has no refusal, and it has no two refusals.
 pub fn outcomes_exclude_one_another(test: &Test)
-    ensures { ExcludeOneAnother test.now }
+    ensures { HasOneOutcome test.now }
 {
     let _test = test;
 }

@@ -1,10 +1,9 @@
 -- The bounds of each round, and of the combinations.
-use Rattle.std.proofs.Common.{Vec, ℕ, zero, suc, ◌≡◌, ◌↔◌, ◌<◌, ◌≤◌, ◌+◌, ◌-◌, ◌*◌, ◌^◌, inl, inr, List, [], ◌∷◌, ◌++◌, length, get_or, map, min, vec_len, cond, Result, Ok, Err, mul_assoc, refl, sym, ap, subst, ◌∙◌, arith, add-one}
+use Rattle.std.proofs.Common.{Vec, ℕ, zero, suc, ◌≡◌, ◌↔◌, ◌<◌, ◌≤◌, ◌+◌, ◌-◌, ◌*◌, ◌^◌, inl, inr, List, [], ◌∷◌, ◌++◌, length, get_or, min, vec_len, cond, Result, Ok, Err, mul_assoc, refl, sym, ap, subst, ◌∙◌, arith, add-one}
 use Rattle.std.specs.List.{Contains, count_by}
 use Rattle.std.specs.declared.alloc.Global.{Global}
 use Rattle.std.specs.Result.{IsErrAnd, IfErr}
 use Rattle.std.proofs.lemmas.Bool.{cases_lt}
-use Rattle.std.proofs.lemmas.List.{length-map}
 use Rattle.std.proofs.lemmas.List.Sums.{sum_by-le-sum_by}
 use Rattle.std.proofs.lemmas.List.Elements.{Contains-get_or, Contains-push, Contains-push_cases, Contains-append_left, All-contains, All-weaker}
 use Rattle.thread_runs.specs.declared.value.Value.{Value}
@@ -19,12 +18,11 @@ use Rattle.ppc_semantics.specs.declared.fault.DomainFault.{DomainFault}
 use Rattle.ppc_semantics.specs.declared.fault.DomainFault.TheVariants.{Refused, OutOfMemory}
 use Rattle.thread_runs.specs.Machine.{is_load}
 use Rattle.thread_runs.specs.Runs.{Thread, StoresFreely}
-use Rattle.thread_runs.specs.AllRuns.{thread_of, all_from, beginning_at, whole}
+use Rattle.thread_runs.specs.AllRuns.{thread_of, HasRuns}
 use Rattle.thread_runs.specs.FreeRuns.{HasFreeRuns}
 use Rattle.thread_runs.specs.ValueSet.{IsOne, IsSet}
 use Rattle.thread_runs.specs.FreeWalks.{AreAdded}
-use Rattle.ppc_semantics.specs.Domain.{threads_from, threads_of, makes_event, has_event, has_load, lines_with, event_total, load_total, AreProper, InRound, IsRound, IsWithin, HasRuns, HasCombinations, IsFault, HasFewRuns, IsRoundFault, IsCombinationFault, IsNextRound}
-use Rattle.thread_runs.proofs.RunsExact.{are_runs}
+use Rattle.ppc_semantics.specs.Domain.{threads_from, threads_of, makes_event, has_event, has_load, lines_with, event_total, load_total, AreProper, InRound, IsRound, IsWithin, HasCombinations, IsFault, HasFewRuns, IsRoundFault, IsCombinationFault, IsNextRound}
 
 module _ (p : Program) where
   threads_have : (n : ℕ) (t : Thread) → Contains (threads_from p n) t → (j : ℕ) × (j < n) × (thread_of p j ≡ t)
@@ -144,12 +142,9 @@ few_loads p =
     omega (arith, all_of)
 
 -- the combinations
-pub has_runs : (t : Thread) (V : List Value) (lines : List Line) (first : State) (n : ℕ) → IsSet V → lines ≡ t.lines → first ≡ t.first → n ≡ length (all_from V lines (beginning_at first)) → HasRuns t V n
-has_runs t V lines first n set e f g = (
-  map whole (all_from V t.lines (beginning_at t.first)),
-  are_runs t V set.rising,
-  length-map (all_from V t.lines (beginning_at t.first)) whole ∙ sym (g ∙ ap (λ (ls : List Line). length (all_from V ls (beginning_at first))) e ∙ ap (λ (s : State). length (all_from V t.lines (beginning_at s))) f),
-)
+pub has_runs : (t : Thread) (V : List Value) (lines : List Line) (first : State) (n : ℕ) → lines ≡ t.lines → first ≡ t.first → HasRuns (record { lines = lines; first = first }) V n → HasRuns t V n
+has_runs t V lines first n l f h =
+    subst (λ (s : State). HasRuns (record { lines = t.lines; first = s }) V n) f (subst (λ (ls : List Line). HasRuns (record { lines = ls; first = first }) V n) l h)
 
 combinations_push : (ts : List Thread) (t : Thread) (V : List Value) (m c : ℕ) → HasCombinations ts V m → HasRuns t V c → HasCombinations (ts ++ t ∷ []) V (m * c)
 combinations_push [] t V m c e h = (c, 1, h, refl, ap (λ (n : ℕ). n * c) e ∙ omega arith)

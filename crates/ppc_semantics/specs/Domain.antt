@@ -13,8 +13,8 @@ use Rattle.ppc_semantics.specs.declared.fault.DomainRefusal.TheVariants.{TooMany
 use Rattle.ppc_semantics.specs.declared.fault.DomainFault.{DomainFault}
 use Rattle.ppc_semantics.specs.declared.fault.DomainFault.TheVariants.{Refused, OutOfMemory}
 use Rattle.thread_runs.specs.Machine.{is_load}
-use Rattle.thread_runs.specs.Runs.{Thread, Run, AreRuns, InDomain}
-use Rattle.thread_runs.specs.AllRuns.{thread_of}
+use Rattle.thread_runs.specs.Runs.{Thread, InDomain}
+use Rattle.thread_runs.specs.AllRuns.{HasRuns, thread_of}
 use Rattle.thread_runs.specs.FreeRuns.{HasFreeRuns}
 use Rattle.thread_runs.specs.ValueSet.{IsOne, IsSet}
 
@@ -86,9 +86,6 @@ pub record IsWithin (p : Program) (k : ℕ) : Type 0 where
   pub runs : (t : Thread) → Contains (threads_of p) t → (n : ℕ) × HasFreeRuns t values n × (n ≤ 4096)
 
 -- the combinations of runs of threads over the values
-abbrev pub HasRuns : Thread → List Value → ℕ → Type 0
-HasRuns t V n = (all : List Run) × AreRuns t (Contains V) all × (length all ≡ n)
-
 abbrev pub HasCombinations : List Thread → List Value → ℕ → Type 0
 HasCombinations [] V n = n ≡ 1
 HasCombinations (t ∷ ts) V n = (here : ℕ) × (rest : ℕ) × HasRuns t V here × HasCombinations ts V rest × (n ≡ here * rest)

@@ -185,7 +185,7 @@ fn runs_in_thread(
     values: &[Value],
 ) -> Result<usize, DomainFault>
     requires { IsSet values.now }
-    ensures counted { IfOk result (λ n. dom.HasRuns (all.thread_of program.now thread) values.now n) }
+    ensures counted { IfOk result (λ n. all.HasRuns (all.thread_of program.now thread) values.now n) }
     ensures fault { IfErr result (λ e. dom.IsMemory e) }
 {
     let first = State::first(program, thread);

@@ -1,7 +1,7 @@
 -- The list of all runs has just the runs of the thread, in lexicographic order.
 use Rattle.std.proofs.Common.{ℕ, zero, suc, ◌≡◌, ◌↔◌, ◌<◌, inl, inr, Bool, true, false, List, [], ◌∷◌, ◌++◌, map, length, get_or, refl, sym, ap, subst, ◌∙◌, Option, Some, None, if◌then◌else◌, append_assoc, arith}
 use Rattle.std.specs.List.{flat_map, Contains, All, AllPairs}
-use Rattle.std.proofs.lemmas.List.{append-nil}
+use Rattle.std.proofs.lemmas.List.{append-nil, length-map}
 use Rattle.std.proofs.lemmas.List.Elements.{Contains-push, Contains-push_cases, Contains-append_left, Contains-append_right, Contains-append_cases, Contains-get_or, All-nil, All-cons, All-head, All-tail, All-append, All-contains}
 use Rattle.std.proofs.lemmas.List.Kept.{AllPairs-cons}
 use Rattle.std.proofs.lemmas.List.Folds.{flat_map-map}
@@ -15,7 +15,7 @@ use Rattle.thread_runs.specs.declared.state.State.{State}
 use Rattle.thread_runs.specs.Machine.{is_load, is_fault, goes}
 use Rattle.thread_runs.specs.Runs.{Walk, Run, Outcome, Thread, ended, ends, advanced, passed, supplied, obeyed, one, run_from, run_of, IsBefore, IsLess, IsRun, AreRuns}
 use Rattle.thread_runs.specs.declared.run.Run as made
-use Rattle.thread_runs.specs.AllRuns.{Beginning, beginning_at, gone_over, over_line, over_instruction, goes_on, with_load, spread, next, all_from, whole, shown, shown_of, shown_whole, ShowsRuns}
+use Rattle.thread_runs.specs.AllRuns.{Beginning, beginning_at, gone_over, over_line, over_instruction, goes_on, with_load, spread, next, all_from, whole, shown, shown_of, shown_whole, HasRuns, ShowsRuns}
 use Rattle.thread_runs.proofs.Pairs.{pairs_head, pairs_tail, pairs_none}
 
 -- elements
@@ -360,6 +360,9 @@ are_runs t V rising = record {
     back r h = contains_map whole bs (record { values = r.values; stopped = r.outcome.faulted; walk = r.outcome.walk })
         ((exact V t.lines (beginning_at t.first) (record { values = r.values; stopped = r.outcome.faulted; walk = r.outcome.walk }) refl).1
         (record { further = r.values; allowed = h.0; values = refl; run = h.1 }))
+
+pub has_runs : (t : Thread) (V : List Value) (n : ℕ) → AllPairs IsLess V → n ≡ length (all_from V t.lines (beginning_at t.first)) → HasRuns t V n
+has_runs t V n rising e = (map whole (all_from V t.lines (beginning_at t.first)), are_runs t V rising, length-map (all_from V t.lines (beginning_at t.first)) whole ∙ sym e)
 
 pub shows_runs : (t : Thread) (V : List Value) (runs : List made.Run) → AllPairs IsLess V → map shown runs ≡ map shown_whole (all_from V t.lines (beginning_at t.first)) → ShowsRuns t V runs
 shows_runs t V runs rising e = (map whole (all_from V t.lines (beginning_at t.first)), are_runs t V rising, e ∙ sym (map_twice shown_of whole (all_from V t.lines (beginning_at t.first))))

@@ -1,5 +1,5 @@
 -- All runs of a thread over a list of values, in order.
-use Rattle.std.specs.Prelude.{Vec, slice_get, slice_index_or, replicate, ℕ, ◌≡◌, Bool, true, false, List, [], ◌∷◌, ◌++◌, map, take, Option, Some, None, if◌then◌else◌, Contains}
+use Rattle.std.specs.Prelude.{Vec, slice_get, slice_index_or, replicate, ℕ, ◌≡◌, Bool, true, false, List, [], ◌∷◌, ◌++◌, map, take, length, Option, Some, None, if◌then◌else◌, Contains}
 use Rattle.std.specs.List.{flat_map}
 use Rattle.std.specs.declared.alloc.Global.{Global}
 use Rattle.thread_runs.specs.declared.value.Value.{Value}
@@ -94,6 +94,10 @@ shown r = record { values = r.values.items; steps = r.steps.items; events = r.ev
 -- the list shows all runs of the thread whose loads take these values, in order
 abbrev pub ShowsRuns : Thread → List Value → List made.Run → Type 0
 ShowsRuns t V runs = (all : List Run) × AreRuns t (Contains V) all × (map shown runs ≡ map shown_of all)
+
+-- how many runs a thread has over these values
+abbrev pub HasRuns : Thread → List Value → ℕ → Type 0
+HasRuns t V n = (all : List Run) × AreRuns t (Contains V) all × (length all ≡ n)
 
 -- the thread of a program, with the state in which it begins
 abbrev pub lines_at : Option (Vec Line Global) → List Line

@@ -1,5 +1,6 @@
 pub mod Machine
 pub mod Runs
+pub mod LineByLine
 pub mod AllRuns
 pub mod ValueSet
 pub mod FreeRuns

@@ -1,5 +1,5 @@
 //! All runs of a thread over a list of values.
-ghost use Rattle.std.specs.Prelude.{◌≡◌, ◌++◌, ◌<◌, ◌≤◌, IfOk, OnOk, map, take, length, [], vec_len};
+ghost use Rattle.std.specs.Prelude.{◌≡◌, ◌++◌, ◌<◌, ◌≤◌, IfOk, OnOk, map, take, [], length, vec_len};
 ghost use Rattle.std.specs.List.{AllPairs};
 ghost use Rattle.thread_runs.specs.Runs.{IsLess};
 ghost use Rattle.std.specs.List.{flat_map};
@@ -243,14 +243,15 @@ fn beginnings_of(
     Ok(beginnings)
 }
 
-/// How many runs the thread has over the values.
+/// How many runs the thread of these lines has over the values, from this state on. Errors: out of
+/// memory.
 pub fn run_count(
     alloc: Global,
     lines: &[Line],
     first: State,
     values: &[Value],
 ) -> Result<usize, AllocError>
-    ensures { IfOk result (λ n. n ≡ length (all.all_from values.now lines.now (all.beginning_at first))) }
+    ensures { AllPairs IsLess values.now → IfOk result (all.HasRuns (record { lines = lines.now; first = first }) values.now) }
 {
     Ok(beginnings_of(alloc, lines, first, values)?.len())
 }

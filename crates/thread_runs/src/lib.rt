@@ -1,10 +1,11 @@
 //! One thread: its machine, its runs over a domain of values, and its free runs. Read specs/Machine.antt first, then
-//! specs/Runs.antt (`AreRuns`).
+//! specs/Runs.antt (`AreRuns`) and specs/LineByLine.antt (a run, told line by line).
 #![tactic(auto)]
 
 mod enumerate;
 mod free;
 mod instruction;
+pub mod laws;
 mod run;
 mod state;
 mod value;
