@@ -1,5 +1,5 @@
 -- The bodies of a group so far.
-use Rattle.std.proofs.Common.{ℕ, Bool, true, false, Result, refl, ◌≡◌, ◌≤◌, ◌<◌, ◌+◌, List, [], ◌∷◌, ◌++◌, length, map, reverse, drop, get_or, vec_len, sym, ◌∙◌, add-one, append_assoc, ap}
+use Rattle.std.proofs.Common.{ℕ, Bool, true, false, Result, refl, ◌≡◌, ◌≤◌, ◌<◌, ◌+◌, List, [], ◌∷◌, ◌++◌, length, map, reverse, drop, get_or, sym, ◌∙◌, add-one, append_assoc, ap}
 use Rattle.std.proofs.Math.Seq.{drop-cons}
 use Rattle.std.proofs.lemmas.List.{drop_all, append-nil, reverse-reverse}
 use Rattle.std.specs.Prelude.{IfOk}
@@ -25,7 +25,6 @@ pub record AreMade (ss : List Sense) (names : List Naming) (from : ℕ) (old now
   pub plain : ArePlain (map bound_of (drop i g))
   pub fit : AreFit ss names (map bound_of (drop i g))
   pub indexed : IsIndexed now.places.items now.values.items
-  pub places : vec_len now.places ≡ vec_len old.places
   pub uses : with_all_uses names from (map bound_of (drop i g)) (reverse now.values.items) ≡ with_all_uses names from (map bound_of g) (reverse old.values.items)
   pub bodies : (rs : List Body) → AreBodies ss names from (reverse now.values.items) (map bound_of (drop i g)) rs → AreBodies ss names from (reverse old.values.items) (map bound_of g) (made ++ rs)
 
@@ -39,13 +38,12 @@ next_plain g i d lt h = (rw (drop-cons g i d lt) at h).0
 
 pub made_more : (ss : List Sense) (names : List Naming) (from : ℕ) (old now new : Uses) (g : List Binding) (i : ℕ) (d : Binding) (made all : List Body) (r : Body) → i < length g → AreMade ss names from old now g i made
     → all ≡ made ++ r ∷ [] → r.name ≡ (get_or g i d).name → IsCode ss names (reverse new.values.items) from (term_of (get_or g i d).body) r.code
-    → reverse new.values.items ≡ with_uses names from (term_of (get_or g i d).body) (reverse now.values.items) → IsIndexed new.places.items new.values.items → vec_len new.places ≡ vec_len now.places
+    → reverse new.values.items ≡ with_uses names from (term_of (get_or g i d).body) (reverse now.values.items) → IsIndexed new.places.items new.values.items
     → AreMade ss names from old new g (i + 1) all
-made_more ss names from old now new g i d made all r lt m is name code uses indexed places = record {
+made_more ss names from old now new g i d made all r lt m is name code uses indexed = record {
   plain = rw (add-one i) (rw (drop-cons g i d lt) at m.plain).1;
   fit = rw (add-one i) (rw (drop-cons g i d lt) at m.fit).1;
   indexed = indexed;
-  places = places ∙ m.places;
   uses = rw (add-one i, uses) (rw (drop-cons g i d lt) at m.uses);
   bodies = λ rs h. rw (is, append_assoc made (r ∷ []) rs) (m.bodies (r ∷ rs) (rw (drop-cons g i d lt) (name, (rw uses at code), (rw (add-one i, uses) at h))));
 }

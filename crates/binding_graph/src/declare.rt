@@ -132,7 +132,7 @@ fn declare_function(
     if fault.is_some() {
         return Ok(fault);
     }
-    let mut uses = Uses::new(alloc, scope)?;
+    let mut uses = Uses::new(alloc);
     let sight = Sight {
         entries: &scope.entries,
         functions: &scope.functions,

@@ -17,7 +17,7 @@ use crate::declare::item_fault;
 use crate::fault::ResolveFault;
 use crate::lower::lower;
 use crate::resolved::{Body, CheckCode, Code, Resolved, ResolvedItem, Role};
-use crate::uses::{Uses, inputs_of_values, items_of};
+use crate::uses::{Uses, inputs_of_values};
 use binding_functions::Template;
 use binding_kinds::{ModelFault, Scope, Sight};
 use cat_values::{Binding, Check, Expression, Item, ModelText, PREDEFINED};
@@ -145,6 +145,14 @@ fn lower_item(
     }
 }
 
+fn copied_items(alloc: Global, items: &[usize]) -> Result<Vec<usize>, AllocError>
+    ensures { IfOk result (λ v. v.items ≡ items.now) }
+{
+    let mut copy = Vec::new(alloc);
+    copy.extend_from_slice(items)?;
+    Ok(copy)
+}
+
 /// What the latest function uses.
 fn lower_function(alloc: Global, scope: &Scope) -> Result<ResolvedItem, AllocError> {
     match scope.functions.last() {
@@ -152,7 +160,7 @@ fn lower_function(alloc: Global, scope: &Scope) -> Result<ResolvedItem, AllocErr
         Some(function) => Ok(ResolvedItem {
             role: Role::Silent,
             inputs: inputs_of_values(alloc, &function.values)?,
-            functions: items_of(alloc, &scope.functions, &function.functions)?,
+            functions: copied_items(alloc, &function.functions)?,
         }),
     }
 }
@@ -186,9 +194,8 @@ fn code_of(
     uses: &mut Uses,
 ) -> Result<Code, AllocError>
     ensures code { (senses : List Sense) → AreKept sight.now.functions.now senses → AreSound senses → sight.now.parameters.now ≡ [] → IsIndexed uses.old.places.items uses.old.values.items → IsFit senses (reverse (map entry_of sight.now.entries.now)) (term_of term.now) → IfOk result (λ c. IsCode senses (reverse (map entry_of sight.now.entries.now)) (reverse uses.new.values.items) sight.now.from (term_of term.now) c) }
-    ensures uses { sight.now.parameters.now ≡ [] → IsPlain (term_of term.now) → IsIndexed uses.old.places.items uses.old.values.items → length sight.now.entries.now ≤ vec_len uses.old.places → OnOk result (reverse uses.new.values.items ≡ with_uses (reverse (map entry_of sight.now.entries.now)) sight.now.from (term_of term.now) (reverse uses.old.values.items)) }
+    ensures uses { sight.now.parameters.now ≡ [] → IsPlain (term_of term.now) → IsIndexed uses.old.places.items uses.old.values.items → OnOk result (reverse uses.new.values.items ≡ with_uses (reverse (map entry_of sight.now.entries.now)) sight.now.from (term_of term.now) (reverse uses.old.values.items)) }
     ensures indexed { IsIndexed uses.old.places.items uses.old.values.items → OnOk result (IsIndexed uses.new.places.items uses.new.values.items) }
-    ensures places { sight.now.parameters.now ≡ [] → IsPlain (term_of term.now) → IsIndexed uses.old.places.items uses.old.values.items → length sight.now.entries.now ≤ vec_len uses.old.places → OnOk result (vec_len uses.new.places ≡ vec_len uses.old.places) }
 {
     uses.add_term(sight, term)?;
     let mut template = Template::new(alloc);
@@ -203,8 +210,8 @@ fn lower_bodies(
     group: &[Binding],
     uses: &mut Uses,
 ) -> Result<Vec<Body>, AllocError>
-    ensures bodies { (senses : List Sense) → AreKept sight.now.functions.now senses → AreSound senses → ArePlain (map bound_of group.now) → sight.now.parameters.now ≡ [] → AreFit senses (reverse (map entry_of sight.now.entries.now)) (map bound_of group.now) → IsIndexed uses.old.places.items uses.old.values.items → length sight.now.entries.now ≤ vec_len uses.old.places → IfOk result (λ v. AreBodies senses (reverse (map entry_of sight.now.entries.now)) sight.now.from (reverse uses.old.values.items) (map bound_of group.now) v.items) }
-    ensures uses { (senses : List Sense) → AreKept sight.now.functions.now senses → AreSound senses → ArePlain (map bound_of group.now) → sight.now.parameters.now ≡ [] → AreFit senses (reverse (map entry_of sight.now.entries.now)) (map bound_of group.now) → IsIndexed uses.old.places.items uses.old.values.items → length sight.now.entries.now ≤ vec_len uses.old.places → OnOk result (reverse uses.new.values.items ≡ with_all_uses (reverse (map entry_of sight.now.entries.now)) sight.now.from (map bound_of group.now) (reverse uses.old.values.items)) }
+    ensures bodies { (senses : List Sense) → AreKept sight.now.functions.now senses → AreSound senses → ArePlain (map bound_of group.now) → sight.now.parameters.now ≡ [] → AreFit senses (reverse (map entry_of sight.now.entries.now)) (map bound_of group.now) → IsIndexed uses.old.places.items uses.old.values.items → IfOk result (λ v. AreBodies senses (reverse (map entry_of sight.now.entries.now)) sight.now.from (reverse uses.old.values.items) (map bound_of group.now) v.items) }
+    ensures uses { (senses : List Sense) → AreKept sight.now.functions.now senses → AreSound senses → ArePlain (map bound_of group.now) → sight.now.parameters.now ≡ [] → AreFit senses (reverse (map entry_of sight.now.entries.now)) (map bound_of group.now) → IsIndexed uses.old.places.items uses.old.values.items → OnOk result (reverse uses.new.values.items ≡ with_all_uses (reverse (map entry_of sight.now.entries.now)) sight.now.from (map bound_of group.now) (reverse uses.old.values.items)) }
 {
     let mut bodies = Vec::new(alloc);
     for binding in group {
@@ -229,12 +236,13 @@ fn lower_group(
     ensures before { let names = reverse (map entry_of (take from scope.now.entries.items)) in (senses : List Sense) → AreKept scope.now.functions.items senses → AreSound senses → ArePlain (map bound_of group.now) → recursive ≡ false → from ≤ vec_len scope.now.entries → AreFit senses names (map bound_of group.now) → IfOk result (λ r. IsGroup senses names from false (map bound_of group.now) r) }
 {
     let sight = sight_of(scope, from, recursive);
-    let mut uses = Uses::new(alloc, scope)?;
+    let mut uses = Uses::new(alloc);
     let bodies = lower_bodies(alloc, &sight, group, &mut uses)?;
+    let (values, functions) = uses.into_lists();
     Ok(ResolvedItem {
         role: Role::Group { recursive, bodies },
-        inputs: inputs_of_values(alloc, &uses.values)?,
-        functions: items_of(alloc, &scope.functions, &uses.functions)?,
+        inputs: inputs_of_values(alloc, &values)?,
+        functions,
     })
 }
 
@@ -250,8 +258,9 @@ fn lower_check(
     ensures label { IfOk result (λ r. IsLabelled check.now.negated flag r.role) }
 {
     let sight = sight_of(scope, from, false);
-    let mut uses = Uses::new(alloc, scope)?;
+    let mut uses = Uses::new(alloc);
     let code = code_of(alloc, &sight, &check.body, &mut uses)?;
+    let (values, functions) = uses.into_lists();
     Ok(ResolvedItem {
         role: Role::Check(CheckCode {
             negated: check.negated,
@@ -259,7 +268,7 @@ fn lower_check(
             code,
             flag,
         }),
-        inputs: inputs_of_values(alloc, &uses.values)?,
-        functions: items_of(alloc, &scope.functions, &uses.functions)?,
+        inputs: inputs_of_values(alloc, &values)?,
+        functions,
     })
 }
