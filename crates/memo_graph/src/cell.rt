@@ -13,6 +13,7 @@ ghost use Rattle.verdict.specs.Evaluated.{IsEvaluatedAs};
 ghost use Rattle.verdict.specs.Judgement.{IsOutcomeOf, IsAnswerOf};
 ghost use Rattle.memo_graph.specs.Answers.{of_raised, AreSaid, AreSound};
 ghost use Rattle.memo_graph.specs.Known.{column_of, AreFound, IsAnswered, ColumnsAt, of_flags, checks_of, flags_of};
+ghost use Rattle.memo_graph.specs.FromScratch.{IsFromScratch};
 ghost use Rattle.memo_graph.specs.Cell.{IsSaid, IsCell, IsEvaluationBy, IsEvaluationOver, IsEvaluationUnder, OfModel};
 
 use binding_graph::{CheckCode, Input, ResolveFault, Resolved, ResolvedItem, Role, resolve, used};
@@ -260,6 +261,7 @@ pub fn eval_cell(alloc: Global, test: &Test, model: &ModelText) -> Result<Outcom
     ensures judged { IfOk result (λ o. IsAnswerOf test.now.condition.quantifier o) }
     ensures cell { IfOk result (λ o. IsCell test.now o) }
     ensures model { let names = reverse (map naming_of PREDEFINED) in let clauses = map clause_of model.now.items.items in IfOk result (λ o. OfModel (FirstFault [] names 0 clauses) (HasNoFault [] names 0 clauses) (λ e. AreNoFunctions clauses → IsEvaluationUnder names model.now.items.items test.now e) o.result) }
+    ensures scratch { AreNoFunctions (map clause_of model.now.items.items) → IfOk result (IsFromScratch test.now model.now) }
 {
     match resolve(alloc, model) {
         Ok(resolved) => over_candidates(alloc, test, &resolved),
