@@ -10,9 +10,6 @@ use Rattle.binding_kinds.specs.declared.scope.Used.{Used}
 use Rattle.binding_kinds.specs.Value.{Naming}
 use Rattle.binding_kinds.proofs.Applications.{next, count_arguments}
 use Rattle.binding_functions.proofs.Applied.{terms_in}
-use Rattle.cat_values.specs.Value.{Atom, AllEvents, EmptyRelation, EmptySet, Join, Mark, Not, On}
-use Rattle.binding_kinds.specs.Fits.{IsPlain}
-use Rattle.binding_graph.specs.Inputs.{with_uses}
 use Rattle.binding_graph.specs.Usages.{Usage, usage_seen, values_of, functions_of, all_noted, with_items, with_values, with_values_among, with_functions, with_functions_among}
 
 pub uses_next : (us : List Usage) (names : List Naming) (ps : List (List ℕ)) (from : ℕ) (xs : List Expression) (i : ℕ) (e : Expression) (now new total : List Used) → i < length xs → e ≡ get_or xs i e
@@ -49,18 +46,3 @@ functions_applied us names ps e x args n xs i now old mid is count_is items past
     ∙ (inv ∙ (ap (λ (l : List Expression). with_functions_among us names ps (terms_in l) mid) items
     ∙ (ap (with_functions_among us names ps ts) (more ∙ ap (λ (m : ℕ). with_items old (functions_of (usage_seen us names ps m x))) (count_is ∙ sym (count_arguments args.items)))
     ∙ ap (λ (t : Term). with_functions us names ps t old) (sym t))))
-
--- where no function is applied
-pub plain_values : (us : List Usage) (names : List Naming) (from : ℕ) (t : Term) (vs : List Used) → IsPlain t → with_values us names [] from t vs ≡ with_uses names from t vs
-plain_values us names from (Atom x) vs h = refl
-plain_values us names from AllEvents vs h = refl
-plain_values us names from EmptyRelation vs h = refl
-plain_values us names from EmptySet vs h = refl
-plain_values us names from (Join op a b) vs h = ap (with_values us names [] from b) (plain_values us names from a vs h.0) ∙ plain_values us names from b (with_uses names from a vs) h.1
-plain_values us names from (Mark op a) vs h = plain_values us names from a vs h
-plain_values us names from (Not a) vs h = plain_values us names from a vs h
-plain_values us names from (On a) vs h = plain_values us names from a vs h
-plain_values us names from (Apply x ts) vs h = absurd h
-
-pub used_plainly : (us : List Usage) (names : List Naming) (ps : List (List ℕ)) (from : ℕ) (t : Term) (old new : List Used) → ps ≡ [] → IsPlain t → new ≡ with_values us names ps from t old → new ≡ with_uses names from t old
-used_plainly us names ps from t old new none h is = (rw none at is) ∙ plain_values us names from t old h

@@ -1,12 +1,12 @@
 -- What expressions use and apply, through the functions that they apply too, the latest first. The names used are counted
 -- as in specs/Inputs.
-use Rattle.std.specs.Prelude.{◌≡◌, ℕ, ◌==◌, List, [], ◌∷◌, map, reverse, Bool, true, false, if◌then◌else◌, Option, Some, None, Result, Ok, Err, get_or, slice_get}
+use Rattle.std.specs.Prelude.{◌≡◌, ℕ, ◌==◌, List, [], ◌∷◌, ◌++◌, length, map, reverse, Bool, true, false, if◌then◌else◌, Option, Some, None, Result, Ok, Err, get_or, slice_get}
 use Rattle.cat_values.specs.Value.{Term, Terms, Atom, AllEvents, EmptyRelation, EmptySet, Join, Mark, Not, On, Apply, NoTerm, OneMore}
 use Rattle.binding_kinds.specs.declared.fault.ModelFault.{ModelFault}
 use Rattle.binding_kinds.specs.declared.function.Function.{Function}
 use Rattle.binding_kinds.specs.declared.scope.Used.{Used}
 use Rattle.binding_kinds.specs.declared.scope.Found.{Found}
-use Rattle.binding_kinds.specs.Value.{Naming}
+use Rattle.binding_kinds.specs.Value.{Naming, Bound, Clause, Group, Check, Mute, Defined}
 use Rattle.binding_kinds.specs.Kinds.{found}
 use Rattle.binding_kinds.specs.Meanings.{parameter_of}
 use Rattle.binding_kinds.specs.Applicable.{applied_of}
@@ -94,6 +94,32 @@ abbrev mutual
   pub with_functions_among : List Usage → List Naming → List (List ℕ) → Terms → List ℕ → List ℕ
   with_functions_among us names ps NoTerm fs = fs
   with_functions_among us names ps (OneMore a others) fs = with_functions_among us names ps others (with_functions us names ps a fs)
+
+-- the names that the bodies of a group use
+abbrev pub with_all_values : List Usage → List Naming → ℕ → List Bound → List Used → List Used
+with_all_values us names from [] vs = vs
+with_all_values us names from (b ∷ bs) vs = with_all_values us names from bs (with_values us names [] from b.body vs)
+
+-- the functions that the bodies of a group apply
+abbrev pub with_all_functions : List Usage → List Naming → List Bound → List ℕ → List ℕ
+with_all_functions us names [] fs = fs
+with_all_functions us names (b ∷ bs) fs = with_all_functions us names bs (with_functions us names [] b.body fs)
+
+-- the function of that item, from its parameters and its body
+abbrev pub usage_of_function : List Usage → List Naming → ℕ → List (List ℕ) → Term → Usage
+usage_of_function us names item ps body = record {
+  arity = length ps;
+  item = item;
+  values = reverse (with_values us names ps (length names) body []);
+  functions = reverse (with_functions us names ps body []);
+}
+
+-- the functions after the item of that number
+abbrev pub usages_after : List Usage → List Naming → ℕ → Clause → List Usage
+usages_after us names item (Group r bs) = us
+usages_after us names item (Check w e) = us
+usages_after us names item Mute = us
+usages_after us names item (Defined n ps b) = us ++ usage_of_function us names item ps b ∷ []
 
 -- the table marks each function applied
 abbrev pub IsListed : List Bool → List ℕ → Type 0

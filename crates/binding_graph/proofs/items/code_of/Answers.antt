@@ -6,7 +6,6 @@ use Rattle.binding_functions.specs.Templates.{pieces_in, HasLarge, IsGrown}
 use Rattle.binding_functions.proofs.Lengths.{fit_small}
 use Rattle.binding_graph.proofs.Meant.{if_both, on_ok}
 use Rattle.binding_graph.proofs.Lowered.{code_made}
-use Rattle.binding_graph.proofs.Using.{used_plainly}
 use Rattle.binding_graph.proofs.items.code_of.Goals as goal
 
 pub returns-clause-code : goal.returns-clause-code
@@ -19,5 +18,8 @@ returns-clause-code c = λ ss kept sound none ix fit.
     if_both _ _ _ c.lower.result (c.lower.ensures.kind indexed) (c.lower.ensures.steps indexed)
     (λ code k s. code_made ss names (reverse c.add_term.new.self.values.items) c.args.sight.now.from term code c.new-template.result c.put_term.new.self _ (fit_known ss names term sound fit) typed.0 typed.1 (fit_small c.args.sight.now.functions.now ss names term kept fit) c.new-template.ensures.pieces c.new-template.ensures.is_oversized grown c.deref.ensures.value k s)
 
-pub returns-clause-uses : goal.returns-clause-uses
-returns-clause-uses c = λ none plain ix. on_ok c.lower.result _ (used_plainly _ _ _ _ (term_of c.args.term.now) _ _ none plain (c.in_ok-add_term.ensures.values ix))
+pub returns-clause-values : goal.returns-clause-values
+returns-clause-values c = λ ix. on_ok c.lower.result _ (c.in_ok-add_term.ensures.values ix)
+
+pub returns-clause-functions : goal.returns-clause-functions
+returns-clause-functions c = λ listed. on_ok c.lower.result _ (c.in_ok-add_term.ensures.functions listed)
