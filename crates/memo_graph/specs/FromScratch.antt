@@ -39,7 +39,7 @@ IsFaultless model = HasNoFault [] outermost 0 (clauses_of model)
 
 -- the items of the model with their names resolved, their checks negated and their flags named as in the text
 abbrev pub AreItemsOf : ModelText → List ResolvedItem → Type 0
-AreItemsOf model items = AreResolved [] outermost 0 (clauses_of model) items × AreLabelled model.items.items items
+AreItemsOf model items = AreResolved [] [] outermost 0 (clauses_of model) items × AreLabelled model.items.items items
 
 -- the evaluation of the test's condition on its candidates that the checks of the model keep
 abbrev pub IsEvaluationOf : Test → ModelText → Evaluation → Type 0
