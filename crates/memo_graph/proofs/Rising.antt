@@ -125,9 +125,10 @@ module _ (ss : List Sense) (names : List Naming) (us : List Used) (from n : ℕ)
 
     all_monotone : (turned : ℕ → Bool) (i : ℕ) (ts : Terms) → AreSound false turned i ts → AllRise us from turned i (formulas_in ss names [] ts)
     all_monotone turned i NoTerm h = tt
-    all_monotone turned i (OneMore a others) h =
-        (by_turned us from (formula_in ss names [] a) (turned i) (λ e. fixed a (λ p k f. h p k (inl (rw e f)))) (λ e. monotone a (λ p k f. h p k (inl (rw e f)))),
-        all_monotone turned (suc i) others (λ p k f. h (width a + p) k (inr (p, refl, f))))
+    all_monotone turned i (OneMore a others) h = (
+      by_turned us from (formula_in ss names [] a) (turned i) (λ e. fixed a (λ p k f. h p k (inl (rw e f)))) (λ e. monotone a (λ p k f. h p k (inl (rw e f)))),
+      all_monotone turned (suc i) others (λ p k f. h (width a + p) k (inr (p, refl, f))),
+    )
 
 -- ---- the bodies of a group
 

@@ -245,9 +245,10 @@ module _ (ss : List Sense) (names : List Naming) (ps : List (List ℕ)) (us : Li
 
     bodies_rise : (turned : ℕ → Bool) (k : ℕ) (ts : Terms) → ((j : ℕ) → is_under_among ss names ps j false turned k ts ≡ true → Fixed us from (get_or args j NoPairs)) → ((j : ℕ) → Rises us from (get_or args j NoPairs)) → AllRise us from turned k (map (filled args) (formulas_in ss names ps ts))
     bodies_rise turned k NoTerm h rises = tt
-    bodies_rise turned k (OneMore a others) h rises =
-        (by_turned us from (filled args (formula_in ss names ps a)) (turned k) (λ e. body_fixed a (λ j u. h j (or_left (is_under_in ss names ps j (turned k) a) _ (rw e u)))) (λ e. body_rises a (λ j u. h j (or_left (is_under_in ss names ps j (turned k) a) _ (rw e u))) rises),
-        bodies_rise turned (suc k) others (λ j e. h j (or_right _ _ e)) rises)
+    bodies_rise turned k (OneMore a others) h rises = (
+      by_turned us from (filled args (formula_in ss names ps a)) (turned k) (λ e. body_fixed a (λ j u. h j (or_left (is_under_in ss names ps j (turned k) a) _ (rw e u)))) (λ e. body_rises a (λ j u. h j (or_left (is_under_in ss names ps j (turned k) a) _ (rw e u))) rises),
+      bodies_rise turned (suc k) others (λ j e. h j (or_right _ _ e)) rises,
+    )
 
 function_safe : (ss : List Sense) (names : List Naming) (ps : List (List ℕ)) (t : Term) → AreSafe (length names) ss → IsSafe (length names) (sense_of_function ss names ps t)
 function_safe ss names ps t safe = λ us from fs le. (
@@ -267,14 +268,14 @@ safe_more n (t ∷ ss) s h one = (h.0, safe_more n ss s h.1 one)
 
 own_longer : (names : List Naming) (item at : ℕ) (bs : List Bound) → length names ≤ length (with_own names item at bs)
 own_longer names item at [] = omega arith
-own_longer names item at (b ∷ bs) = 
+own_longer names item at (b ∷ bs) =
     let own : Naming = record { name = b.name; kind = OfRelation; binder = binders.Bound (record { item = item; position = at }) } in
     let h = own_longer (own ∷ names) item (suc at) bs in
     omega (arith, h)
 
 all_longer : (ss : List Sense) (outer names : List Naming) (item at : ℕ) (bs : List Bound) → length names ≤ length (with_all ss outer names item at bs)
 all_longer ss outer names item at [] = omega arith
-all_longer ss outer names item at (b ∷ bs) = 
+all_longer ss outer names item at (b ∷ bs) =
     let one : Naming = record { name = b.name; kind = kind_in ss outer b.body; binder = binders.Bound (record { item = item; position = at }) } in
     let h = all_longer ss outer (one ∷ names) item (suc at) bs in
     omega (arith, h)

@@ -2,3 +2,4 @@ pub mod Answers
 pub mod Known
 pub mod Cell
 pub mod FromScratch
+pub mod Laws
