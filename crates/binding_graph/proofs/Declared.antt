@@ -66,9 +66,11 @@ pub function_resolved : {E : Type 0} (ss : List Sense) (us : List Usage) (names 
     → ((vs : List Usage) (u : Usage) → map usage_of fs ≡ vs ++ u ∷ [] → IfOk done (λ r. r.functions.items ≡ u.functions))
     → IfOk done (λ r. IsResolvedIn ss us names own from (Defined n ps b) r)
 function_resolved ss us names own from item n ps b fs (Ok r) count is role inputs functions =
-    let u = usage_of_function us names item ps b in
-    (role, record {
-      inputs = rw count at (inputs us u is);
-      functions = functions us u is;
-    })
+    let u = usage_of_function us names item ps b in (
+      role,
+      record {
+        inputs = rw count at (inputs us u is);
+        functions = functions us u is;
+      },
+    )
 function_resolved ss us names own from item n ps b fs (Err e) count is role inputs functions = tt
