@@ -35,7 +35,8 @@ pub fn function_of(
     values: Vec<Used>,
     functions: Vec<usize>,
 ) -> Result<Function, AllocError>
-    ensures { let names = reverse (map entry_of sight.now.entries.now) in (senses : List Sense) → AreKept sight.now.functions.now senses → length sight.now.parameters.now ≤ 8 → IfOk result (λ f. IsKept f (sense_of_function senses names sight.now.parameters.now (term_of body.now))) }
+    ensures given { IfOk result (λ f. (f.item ≡ item) × (f.arity ≡ length sight.now.parameters.now) × (f.values ≡ values) × (f.functions ≡ functions)) }
+    ensures kept { let names = reverse (map entry_of sight.now.entries.now) in (senses : List Sense) → AreKept sight.now.functions.now senses → length sight.now.parameters.now ≤ 8 → IfOk result (λ f. IsKept f (sense_of_function senses names sight.now.parameters.now (term_of body.now))) }
 {
     let Template {
         pieces,

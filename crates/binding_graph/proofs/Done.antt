@@ -6,24 +6,25 @@ use Rattle.std.proofs.lemmas.List.{drop_all, append-nil, length-map, length-reve
 use Rattle.cat_values.specs.declared.model.Item.{Item}
 use Rattle.binding_kinds.specs.declared.fault.ModelFault.{ModelFault}
 use Rattle.binding_kinds.specs.declared.scope.Entry.{Entry}
-use Rattle.binding_kinds.specs.Value.{Naming, Clause, entry_of, clause_of, IsNoFunction, AreNoFunctions}
+use Rattle.binding_kinds.specs.Value.{Naming, Clause, Group, Check, Mute, Defined, entry_of, clause_of}
 use Rattle.binding_kinds.specs.declared.function.Function.{Function}
 use Rattle.binding_kinds.specs.Senses.{Sense, AreKept}
 use Rattle.binding_kinds.specs.Faults.{extended, senses_after}
 use Rattle.binding_kinds.specs.Verdict.{or_else}
 use Rattle.binding_kinds.specs.First.{first_of_item, first}
-use Rattle.binding_kinds.specs.Fits.{AreKnown, IsFitClause}
-use Rattle.binding_kinds.proofs.Fitting.{same_senses}
-use Rattle.binding_kinds.proofs.Fitted.{fit_item, known_item}
+use Rattle.binding_kinds.specs.Fits.{AreKnown, AreSound, IsFitClause}
+use Rattle.binding_kinds.proofs.Fitted.{fit_item, known_item, sound_item}
 use Rattle.binding_graph.specs.declared.resolved.ResolvedItem.{ResolvedItem}
+use Rattle.binding_graph.specs.Usages.{Usage, usage_of, usages_after}
 use Rattle.binding_graph.specs.Resolved.{IsResolvedIn, AreResolved}
 
--- before the item at that place, after which the names are those, where there are no functions
-pub record AreDone (old now : List Naming) (fs : List Function) (items : List Item) (i : ℕ) (done : List ResolvedItem) : Type 0 where
+-- before the item at that place, after which the names and the functions are those
+pub record AreDone (ss : List Sense) (us : List Usage) (old now : List Naming) (fs : List Function) (items : List Item) (i : ℕ) (done : List ResolvedItem) : Type 0 where
+  pub senses : List Sense
+  pub kept : AreKept fs senses
+  pub sound : AreSound senses
   pub known : AreKnown now
-  pub empty : AreKept fs []
-  pub plain : AreNoFunctions (map clause_of (drop i items))
-  pub all : (rs : List ResolvedItem) → AreResolved [] now i (map clause_of (drop i items)) rs → AreResolved [] old 0 (map clause_of items) (done ++ rs)
+  pub all : (rs : List ResolvedItem) → AreResolved senses (map usage_of fs) now i (map clause_of (drop i items)) rs → AreResolved ss us old 0 (map clause_of items) (done ++ rs)
 
 -- before the item at that place: what is kept of the functions, and what is left to be looked for
 pub record AreSearched (ss : List Sense) (old now : List Naming) (fs : List Function) (items : List Item) (i : ℕ) : Type 0 where
@@ -31,23 +32,29 @@ pub record AreSearched (ss : List Sense) (old now : List Naming) (fs : List Func
   pub kept : AreKept fs senses
   pub first : first ss old 0 (map clause_of items) ≡ first senses now i (map clause_of (drop i items))
 
-pub next_clause : (items : List Item) (i : ℕ) (d : Item) → i < length items → AreNoFunctions (map clause_of (drop i items)) → IsNoFunction (clause_of (get_or items i d))
-next_clause items i d lt h = (rw (drop-cons items i d lt) at h).0
+-- an item fits with its own function too
+fit_after : (ss : List Sense) (names own : List Naming) (c : Clause) → IsFitClause ss names own c → IsFitClause (senses_after ss names c) names own c
+fit_after ss names own (Group true bs) h = h
+fit_after ss names own (Group false bs) h = h
+fit_after ss names own (Check w e) h = h
+fit_after ss names own Mute h = h
+fit_after ss names own (Defined n ps b) h = tt
 
--- where there are no functions, an item that defines none leaves none
-pub still_empty : (names : List Naming) (gs : List Function) (c : Clause) → IsNoFunction c → AreKept gs (senses_after [] names c) → AreKept gs []
-still_empty names gs c plain h = rw (same_senses [] names c plain) at h
+-- what it is resolved to does not hang on its own function
+resolved_before : (ss : List Sense) (us : List Usage) (names own : List Naming) (from : ℕ) (c : Clause) (r : ResolvedItem) → IsResolvedIn (senses_after ss names c) us names own from c r → IsResolvedIn ss us names own from c r
+resolved_before ss us names own from (Group true bs) r h = h
+resolved_before ss us names own from (Group false bs) r h = h
+resolved_before ss us names own from (Check w e) r h = h
+resolved_before ss us names own from Mute r h = h
+resolved_before ss us names own from (Defined n ps b) r h = h
 
 -- the names of the item after it, where it has no fault
-pub fit_next : (before after : List Entry) (i : ℕ) (c : Clause) (f : Option ModelFault) → AreKnown (reverse (map entry_of before)) → f ≡ None → f ≡ first_of_item [] (reverse (map entry_of before)) i c
-    → reverse (map entry_of after) ≡ extended [] (reverse (map entry_of before)) i c → take (length before) after ≡ before → IsFitClause [] (reverse (map entry_of (take (length before) after))) (reverse (map entry_of after)) c
-fit_next before after i c f known none is names kept = rw (kept, names) (fit_item [] (reverse (map entry_of before)) i c known (sym is ∙ none))
+pub fit_next : (ss : List Sense) (before after : List Entry) (i : ℕ) (c : Clause) (f : Option ModelFault) → AreKnown (reverse (map entry_of before)) → f ≡ None → f ≡ first_of_item ss (reverse (map entry_of before)) i c
+    → reverse (map entry_of after) ≡ extended ss (reverse (map entry_of before)) i c → take (length before) after ≡ before → IsFitClause (senses_after ss (reverse (map entry_of before)) c) (reverse (map entry_of (take (length before) after))) (reverse (map entry_of after)) c
+fit_next ss before after i c f known none is names kept = rw (kept, names) (fit_after ss (reverse (map entry_of before)) (extended ss (reverse (map entry_of before)) i c) c (fit_item ss (reverse (map entry_of before)) i c known (sym is ∙ none)))
 
 drop_next : {X : Type 0} (xs : List X) (i : ℕ) (d : X) → i < length xs → drop i xs ≡ get_or xs i d ∷ drop (i + 1) xs
 drop_next xs i d lt = rw (add-one i) (drop-cons xs i d lt)
-
-pub rest_plain : (items : List Item) (i : ℕ) (d : Item) → i < length items → AreNoFunctions (map clause_of (drop i items)) → AreNoFunctions (map clause_of (drop (i + 1) items))
-rest_plain items i d lt h = (rw (drop_next items i d lt) at h).1
 
 -- what is left to look through for the first fault, where the functions stay as they are
 pub searched_more : (ss : List Sense) (old : List Naming) (before after : List Entry) (fs gs : List Function) (items : List Item) (i : ℕ) (d : Item) (f : Option ModelFault) → i < length items → AreSearched ss old (reverse (map entry_of before)) fs items i → f ≡ None
@@ -90,27 +97,30 @@ searched_all ss old now fs items i past m = sym (m.first ∙ ap (λ (l : List It
 pub from_fits : (before after : List Entry) → take (length before) after ≡ before → length before ≤ length after
 from_fits before after e = omega (arith, ap length e, length-take (length before) after)
 
-pub done_more : (old : List Naming) (before after : List Entry) (items : List Item) (i : ℕ) (d : Item) (fs gs : List Function) (done all : List ResolvedItem) (r : ResolvedItem) (f : Option ModelFault) → i < length items → AreDone old (reverse (map entry_of before)) fs items i done → AreKept gs (senses_after [] (reverse (map entry_of before)) (clause_of (get_or items i d)))
-    → f ≡ None → f ≡ first_of_item [] (reverse (map entry_of before)) i (clause_of (get_or items i d)) → reverse (map entry_of after) ≡ extended [] (reverse (map entry_of before)) i (clause_of (get_or items i d)) → take (length before) after ≡ before
-    → IsResolvedIn [] (reverse (map entry_of (take (length before) after))) (reverse (map entry_of after)) (length before) (clause_of (get_or items i d)) r → all ≡ done ++ r ∷ []
-    → AreDone old (reverse (map entry_of after)) gs items (i + 1) all
-done_more old before after items i d fs gs done all r f lt m functions none is names kept resolved pushed =
+pub done_more : (ss : List Sense) (us : List Usage) (old : List Naming) (before after : List Entry) (items : List Item) (i : ℕ) (d : Item) (fs gs : List Function) (done all : List ResolvedItem) (r : ResolvedItem) (f : Option ModelFault) → i < length items → (m : AreDone ss us old (reverse (map entry_of before)) fs items i done)
+    → AreKept gs (senses_after m.senses (reverse (map entry_of before)) (clause_of (get_or items i d))) → f ≡ None → f ≡ first_of_item m.senses (reverse (map entry_of before)) i (clause_of (get_or items i d))
+    → reverse (map entry_of after) ≡ extended m.senses (reverse (map entry_of before)) i (clause_of (get_or items i d)) → map usage_of gs ≡ usages_after (map usage_of fs) (reverse (map entry_of before)) i (clause_of (get_or items i d)) → take (length before) after ≡ before
+    → IsResolvedIn (senses_after m.senses (reverse (map entry_of before)) (clause_of (get_or items i d))) (map usage_of fs) (reverse (map entry_of (take (length before) after))) (reverse (map entry_of after)) (length before) (clause_of (get_or items i d)) r → all ≡ done ++ r ∷ []
+    → AreDone ss us old (reverse (map entry_of after)) gs items (i + 1) all
+done_more ss us old before after items i d fs gs done all r f lt m functions none is names usages kept resolved pushed =
     let c = clause_of (get_or items i d) in
-    let plain = next_clause items i d lt m.plain in
-    let count : length (reverse (map entry_of before)) ≡ length before = rw (length-reverse, length-map) refl in
-    let same : senses_after [] (reverse (map entry_of before)) c ≡ [] = same_senses [] (reverse (map entry_of before)) c plain in
-    let one : IsResolvedIn [] (reverse (map entry_of before)) (extended [] (reverse (map entry_of before)) i c) (length (reverse (map entry_of before))) c r = rw (count, ← names) (rw kept at resolved) in
+    let seen = reverse (map entry_of before) in
+    let own = extended m.senses seen i c in
+    let count : length seen ≡ length before = rw (length-reverse, length-map) refl in
+    let later : IsResolvedIn (senses_after m.senses seen c) (map usage_of fs) seen own (length seen) c r = rw (count, ← names) (rw kept at resolved) in
+    let one = resolved_before m.senses (map usage_of fs) seen own (length seen) c r later in
     record {
-      known = rw names (known_item [] (reverse (map entry_of before)) i c tt m.known (sym is ∙ none));
-      empty = rw same at functions;
-      plain = rest_plain items i d lt m.plain;
+      senses = senses_after m.senses seen c;
+      kept = functions;
+      sound = sound_item m.senses seen i c m.sound m.known (sym is ∙ none);
+      known = rw names (known_item m.senses seen i c m.sound m.known (sym is ∙ none));
       all = λ rs h.
-          rw (pushed, append_assoc done (r ∷ []) rs) (m.all (r ∷ rs) (rw (drop_next items i d lt) (one, rw same (rw names at h))));
+          rw (pushed, append_assoc done (r ∷ []) rs) (m.all (r ∷ rs) (rw (drop_next items i d lt) (one, (rw (names, usages) at h))));
     }
 
 -- behind the last item
-pub all_done : (old now : List Naming) (fs : List Function) (items : List Item) (i : ℕ) (done : List ResolvedItem) → AreDone old now fs items i done → length items ≤ i → AreResolved [] old 0 (map clause_of items) done
-all_done old now fs items i done m le = rw append-nil at (m.all [] (rw (drop_all i items le) tt))
+pub all_done : (ss : List Sense) (us : List Usage) (old now : List Naming) (fs : List Function) (items : List Item) (i : ℕ) (done : List ResolvedItem) → AreDone ss us old now fs items i done → length items ≤ i → AreResolved ss us old 0 (map clause_of items) done
+all_done ss us old now fs items i done m le = rw append-nil at (m.all [] (rw (drop_all i items le) tt))
 
 pub none_of : (o : Option ModelFault) → is_some o ≡ false → o ≡ None
 none_of None e = refl

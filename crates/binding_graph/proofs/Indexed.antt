@@ -1,8 +1,8 @@
--- The table of places, which grows with names that are not used.
-use Rattle.std.proofs.Common.{ℕ, ◌≡◌, List, [], ◌∷◌, ◌++◌, zero, suc, Option, None, get_or, refl}
+-- The tables of what is used, which grow with entries of what is not used.
+use Rattle.std.proofs.Common.{ℕ, ◌≡◌, List, [], ◌∷◌, ◌++◌, zero, suc, get_or, refl}
 
-pub none_more : (xs : List (Option ℕ)) → ((s : ℕ) → get_or xs s None ≡ None) → (s : ℕ) → get_or (xs ++ None ∷ []) s None ≡ None
-none_more [] h zero = refl
-none_more [] h (suc s) = refl
-none_more (x ∷ xs) h zero = h zero
-none_more (x ∷ xs) h (suc s) = none_more xs (λ k. h (suc k)) s
+pub more_none : {X : Type 0} (none : X) (xs : List X) (i : ℕ) → get_or (xs ++ none ∷ []) i none ≡ get_or xs i none
+more_none none [] zero = refl
+more_none none [] (suc i) = refl
+more_none none (x ∷ xs) zero = refl
+more_none none (x ∷ xs) (suc i) = more_none none xs i

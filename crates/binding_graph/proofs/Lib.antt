@@ -1,6 +1,8 @@
 pub mod Grown
 pub mod Indexed
 pub mod Meant
+pub mod Seen
+pub mod Using
 pub mod Lowered
 pub mod Bodies
 pub mod Declared

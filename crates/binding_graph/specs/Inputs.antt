@@ -1,14 +1,11 @@
 -- The names of other items that expressions use, the latest first: a name's place is the number of those behind it,
 -- so it stays the same as more are used.
 use Rattle.std.specs.Prelude.{◌≡◌, ℕ, ◌==◌, nat_le, List, [], ◌∷◌, length, map, reverse, if◌then◌else◌, Option, Some, None, is_some, get_or}
-use Rattle.cat_values.specs.Value.{Term, Atom, AllEvents, EmptyRelation, EmptySet, Join, Mark, Not, On, Apply}
 use Rattle.binding_kinds.specs.declared.scope.Input.{Input}
 use Rattle.binding_kinds.specs.declared.scope.Used.{Used}
 use Rattle.binding_kinds.specs.declared.scope.Found.{Found}
 use Rattle.binding_kinds.specs.declared.scope.Binder.{Binder}
 use Rattle.binding_kinds.specs.declared.scope.Binder.TheVariants as binders
-use Rattle.binding_kinds.specs.Value.{Naming, Bound}
-use Rattle.binding_kinds.specs.Kinds.{found}
 
 -- the place of the name with that slot
 abbrev pub place_of : List Used → ℕ → Option ℕ
@@ -32,23 +29,6 @@ with_found us from f = if nat_le from f.slot then us else with_binder us f.slot 
 abbrev pub with_name : List Used → ℕ → Option Found → List Used
 with_name us from None = us
 with_name us from (Some f) = with_found us from f
-
--- the names that are used, with those of an expression
-abbrev pub with_uses : List Naming → ℕ → Term → List Used → List Used
-with_uses names from (Atom x) us = with_name us from (found names x)
-with_uses names from AllEvents us = us
-with_uses names from EmptyRelation us = us
-with_uses names from EmptySet us = us
-with_uses names from (Join op a b) us = with_uses names from b (with_uses names from a us)
-with_uses names from (Mark op a) us = with_uses names from a us
-with_uses names from (Not a) us = with_uses names from a us
-with_uses names from (On a) us = with_uses names from a us
-with_uses names from (Apply x arguments) us = us
-
--- the names that the bodies of a group use
-abbrev pub with_all_uses : List Naming → ℕ → List Bound → List Used → List Used
-with_all_uses names from [] us = us
-with_all_uses names from (b ∷ bs) us = with_all_uses names from bs (with_uses names from b.body us)
 
 -- what the names used are in their items, in the order of first use
 abbrev pub inputs_of : List Used → List Input

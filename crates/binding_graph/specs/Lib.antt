@@ -1,5 +1,6 @@
 pub mod Trees
 pub mod Inputs
+pub mod Usages
 pub mod Meaning
 pub mod Lowering
 pub mod Resolved

@@ -8,6 +8,7 @@ ghost use Rattle.binding_kinds.specs.Senses.{Sense, AreKept, kind_in, first_with
 ghost use Rattle.binding_kinds.specs.Faults.{with_own, with_all, extended, senses_after};
 ghost use Rattle.binding_kinds.specs.Verdict.{or_else, unless, of_parameters};
 ghost use Rattle.binding_kinds.specs.First.{first_of_body, first_of_item};
+ghost use Rattle.binding_graph.specs.Usages.{usage_of, usages_after};
 
 use crate::uses::Uses;
 use binding_functions::{body_fault, function_of};
@@ -84,6 +85,7 @@ pub fn item_fault(
     ensures kept { OnOk result (take (length scope.old.entries.items) scope.new.entries.items ≡ scope.old.entries.items) }
     ensures names { (senses : List Sense) → AreKept scope.old.functions.items senses → IfOk result (λ f. f ≡ None → reverse (map entry_of scope.new.entries.items) ≡ extended senses (reverse (map entry_of scope.old.entries.items)) place (clause_of item.now)) }
     ensures functions { (senses : List Sense) → AreKept scope.old.functions.items senses → IfOk result (λ f. f ≡ None → AreKept scope.new.functions.items (senses_after senses (reverse (map entry_of scope.old.entries.items)) (clause_of item.now))) }
+    ensures usages { IfOk result (λ f. f ≡ None → map usage_of scope.new.functions.items ≡ usages_after (map usage_of scope.old.functions.items) (reverse (map entry_of scope.old.entries.items)) place (clause_of item.now)) }
 {
     let from = scope.entries.len();
     match item {
@@ -127,12 +129,13 @@ fn declare_function(
     ensures kept { OnOk result (take (length scope.old.entries.items) scope.new.entries.items ≡ scope.old.entries.items) }
     ensures names { (senses : List Sense) → AreKept scope.old.functions.items senses → IfOk result (λ f. f ≡ None → reverse (map entry_of scope.new.entries.items) ≡ extended senses (reverse (map entry_of scope.old.entries.items)) place (Defined name.now parameters.now (term_of body.now))) }
     ensures functions { (senses : List Sense) → AreKept scope.old.functions.items senses → IfOk result (λ f. f ≡ None → AreKept scope.new.functions.items (senses_after senses (reverse (map entry_of scope.old.entries.items)) (Defined name.now parameters.now (term_of body.now)))) }
+    ensures usages { IfOk result (λ f. f ≡ None → map usage_of scope.new.functions.items ≡ usages_after (map usage_of scope.old.functions.items) (reverse (map entry_of scope.old.entries.items)) place (Defined name.now parameters.now (term_of body.now))) }
 {
     let fault = parameter_fault(parameters);
     if fault.is_some() {
         return Ok(fault);
     }
-    let mut uses = Uses::new(alloc, scope)?;
+    let mut uses = Uses::new(alloc);
     let sight = Sight {
         entries: &scope.entries,
         functions: &scope.functions,

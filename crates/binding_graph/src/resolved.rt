@@ -106,7 +106,7 @@ pub struct ResolvedItem {
     pub role: Role,
     /// The names of other items that it uses, each once, in the order of first use.
     pub inputs: Vec<Input>,
-    /// The places of the functions that it applies, through others too, each once, in the order
+    /// The items of the functions that it applies, through others too, each once, in the order
     /// of first application.
     pub functions: Vec<usize>,
 }

@@ -1,13 +1,14 @@
 //! What an item uses.
 
-ghost use Rattle.std.specs.Prelude.{◌≡◌, ◌<◌, ◌≤◌, [], None, get_or, length, reverse, map, vec_len, unwrap_or, IfOk, OnOk};
+ghost use Rattle.std.specs.Prelude.{◌≡◌, ◌<◌, ℕ, [], ◌∷◌, None, true, false, get_or, length, reverse, map, vec_len, unwrap_or, slice_get, IfOk, OnOk};
 ghost use Rattle.cat_values.specs.Values.{term_of};
 ghost use Rattle.binding_kinds.specs.Value.{entry_of};
-ghost use Rattle.binding_kinds.specs.Fits.{IsPlain};
 ghost use Rattle.binding_kinds.specs.Kinds.{found};
-ghost use Rattle.binding_graph.specs.Inputs.{IsIndexed, place_of, noted, with_found, with_name, with_uses};
+ghost use Rattle.binding_kinds.specs.Meanings.{parameter_of};
+ghost use Rattle.binding_graph.specs.Inputs.{IsIndexed, place_of, noted, with_found};
+ghost use Rattle.binding_graph.specs.Usages.{IsListed, all_noted, with_item, with_items, with_meaning, with_values, with_functions, usage_of, usage_seen, values_of, functions_of};
 
-use binding_kinds::{Binder, Found, Function, Input, Meaning, Scope, Sight, Used};
+use binding_kinds::{Binder, Found, Function, Input, Meaning, Sight, Used};
 use cat_values::Expression;
 use source_text::Name;
 use std::alloc::{AllocError, Global};
@@ -18,35 +19,40 @@ use std::alloc::{AllocError, Global};
 pub struct Uses {
     /// The names, each by its slot and its item.
     pub values: Vec<Used>,
-    /// The functions, by their places in the scope.
+    /// The functions, by their items.
     pub functions: Vec<usize>,
-    /// For each slot its place among those used.
+    /// For each slot its place among those used: the slots behind are not used.
     places: Vec<Option<usize>>,
-    /// For each function whether it is applied.
+    /// For each item whether it is a function that is applied: those behind are not.
     applied: Vec<bool>,
+}
+
+/// Makes a table so long that it has that index.
+#[tactic(auto, using(crate::proofs::Indexed::more_none))]
+fn widen<T: Copy>(table: &mut Vec<T>, index: usize, none: T) -> Result<(), AllocError>
+    ensures same { OnOk result ((i : ℕ) → get_or table.new.items i none ≡ get_or table.old.items i none) }
+    ensures long { OnOk result (index < vec_len table.new) }
+{
+    while table.len() <= index {
+        table.push(none)?;
+    }
+    Ok(())
 }
 
 impl Uses {
     /// Nothing is used.
-    pub fn new(alloc: Global, scope: &Scope) -> Result<Uses, AllocError>
-        ensures values { IfOk result (λ u. u.values.items ≡ []) }
-        ensures indexed { IfOk result (λ u. IsIndexed u.places.items u.values.items) }
-        ensures places { IfOk result (λ u. vec_len u.places ≡ vec_len scope.now.entries) }
+    pub fn new(alloc: Global) -> Uses
+        ensures values { result.values.items ≡ [] }
+        ensures functions { result.functions.items ≡ [] }
+        ensures indexed { IsIndexed result.places.items result.values.items }
+        ensures listed { IsListed result.applied.items result.functions.items }
     {
-        let mut places = Vec::new(alloc);
-        'slots: for _entry in &scope.entries {
-            places.push(None)?;
-        }
-        let mut applied = Vec::new(alloc);
-        for _function in &scope.functions {
-            applied.push(false)?;
-        }
-        Ok(Uses {
+        Uses {
             values: Vec::new(alloc),
             functions: Vec::new(alloc),
-            places,
-            applied,
-        })
+            places: Vec::new(alloc),
+            applied: Vec::new(alloc),
+        }
     }
 
     /// The place of the slot among those used, where it is used.
@@ -71,10 +77,11 @@ impl Uses {
 
     /// A name is used, which counts where another item binds it: the names of the item itself
     /// have the slot `from` and those behind it.
-    pub fn add_value(&mut self, from: usize, found: Found) -> Result<(), AllocError>
-        ensures values { IsIndexed self.old.places.items self.old.values.items → found.slot < vec_len self.old.places → OnOk result (reverse self.new.values.items ≡ with_found (reverse self.old.values.items) from found) }
+    fn add_value(&mut self, from: usize, found: Found) -> Result<(), AllocError>
+        ensures values { IsIndexed self.old.places.items self.old.values.items → OnOk result (reverse self.new.values.items ≡ with_found (reverse self.old.values.items) from found) }
         ensures indexed { IsIndexed self.old.places.items self.old.values.items → OnOk result (IsIndexed self.new.places.items self.new.values.items) }
-        ensures places { vec_len self.new.places ≡ vec_len self.old.places }
+        ensures functions { self.new.functions ≡ self.old.functions }
+        ensures applied { self.new.applied ≡ self.old.applied }
     {
         if found.slot >= from {
             return Ok(());
@@ -91,24 +98,79 @@ impl Uses {
 
     /// Notes a name at its first use.
     fn note(&mut self, value: Used) -> Result<(), AllocError>
-        ensures values { IsIndexed self.old.places.items self.old.values.items → value.slot < vec_len self.old.places → OnOk result (reverse self.new.values.items ≡ noted (reverse self.old.values.items) value) }
+        ensures values { IsIndexed self.old.places.items self.old.values.items → OnOk result (reverse self.new.values.items ≡ noted (reverse self.old.values.items) value) }
         ensures indexed { IsIndexed self.old.places.items self.old.values.items → OnOk result (IsIndexed self.new.places.items self.new.values.items) }
-        ensures places { vec_len self.new.places ≡ vec_len self.old.places }
+        ensures functions { self.new.functions ≡ self.old.functions }
+        ensures applied { self.new.applied ≡ self.old.applied }
     {
-        if value.slot >= self.places.len() || self.place_at(value.slot).is_some() {
+        if self.place_at(value.slot).is_some() {
             return Ok(());
         }
         let next = self.values.len();
+        widen(&mut self.places, value.slot, None)?;
         self.values.push(value)?;
         self.places[value.slot] = Some(next);
         Ok(())
     }
 
+    /// Notes each of the names at its first use.
+    fn note_all(&mut self, values: &[Used]) -> Result<(), AllocError>
+        ensures values { IsIndexed self.old.places.items self.old.values.items → OnOk result (reverse self.new.values.items ≡ all_noted (reverse self.old.values.items) values.now) }
+        ensures indexed { IsIndexed self.old.places.items self.old.values.items → OnOk result (IsIndexed self.new.places.items self.new.values.items) }
+        ensures functions { self.new.functions ≡ self.old.functions }
+        ensures applied { self.new.applied ≡ self.old.applied }
+    {
+        for value in values {
+            self.note(*value)?;
+        }
+        Ok(())
+    }
+
+    /// Whether the function of that item is applied.
+    fn is_applied(&self, item: usize) -> bool
+        ensures { result ≡ get_or self.now.applied.items item false }
+    {
+        match self.applied.get(item) {
+            Some(is_applied) => *is_applied,
+            None => false,
+        }
+    }
+
+    /// Notes the function of that item at its first application.
+    fn note_function(&mut self, item: usize) -> Result<(), AllocError>
+        ensures functions { IsListed self.old.applied.items self.old.functions.items → OnOk result (reverse self.new.functions.items ≡ with_item (reverse self.old.functions.items) item) }
+        ensures listed { IsListed self.old.applied.items self.old.functions.items → OnOk result (IsListed self.new.applied.items self.new.functions.items) }
+        ensures values { self.new.values ≡ self.old.values }
+        ensures places { self.new.places ≡ self.old.places }
+    {
+        if self.is_applied(item) {
+            return Ok(());
+        }
+        widen(&mut self.applied, item, false)?;
+        self.functions.push(item)?;
+        self.applied[item] = true;
+        Ok(())
+    }
+
+    /// Notes the functions of those items, each at its first application.
+    fn note_functions(&mut self, items: &[usize]) -> Result<(), AllocError>
+        ensures functions { IsListed self.old.applied.items self.old.functions.items → OnOk result (reverse self.new.functions.items ≡ with_items (reverse self.old.functions.items) items.now) }
+        ensures listed { IsListed self.old.applied.items self.old.functions.items → OnOk result (IsListed self.new.applied.items self.new.functions.items) }
+        ensures values { self.new.values ≡ self.old.values }
+        ensures places { self.new.places ≡ self.old.places }
+    {
+        for item in items {
+            self.note_function(*item)?;
+        }
+        Ok(())
+    }
+
     /// A name without arguments is used, unless it is a parameter.
     fn add_name(&mut self, sight: &Sight, name: &Name) -> Result<(), AllocError>
-        ensures uses { sight.now.parameters.now ≡ [] → IsIndexed self.old.places.items self.old.values.items → length sight.now.entries.now ≤ vec_len self.old.places → OnOk result (reverse self.new.values.items ≡ with_name (reverse self.old.values.items) sight.now.from (found (reverse (map entry_of sight.now.entries.now)) name.now)) }
+        ensures values { IsIndexed self.old.places.items self.old.values.items → OnOk result (reverse self.new.values.items ≡ with_meaning (reverse self.old.values.items) sight.now.from (parameter_of (reverse sight.now.parameters.now) name.now) (found (reverse (map entry_of sight.now.entries.now)) name.now)) }
         ensures indexed { IsIndexed self.old.places.items self.old.values.items → OnOk result (IsIndexed self.new.places.items self.new.values.items) }
-        ensures places { vec_len self.new.places ≡ vec_len self.old.places }
+        ensures functions { self.new.functions ≡ self.old.functions }
+        ensures applied { self.new.applied ≡ self.old.applied }
     {
         match sight.value(name) {
             Err(_) => Ok(()),
@@ -117,11 +179,40 @@ impl Uses {
         }
     }
 
+    /// The function is applied, and so is what its body applies and used what its body uses.
+    fn add_function(&mut self, function: &Function) -> Result<(), AllocError>
+        ensures values { IsIndexed self.old.places.items self.old.values.items → OnOk result (reverse self.new.values.items ≡ all_noted (reverse self.old.values.items) function.now.values.items) }
+        ensures functions { IsListed self.old.applied.items self.old.functions.items → OnOk result (reverse self.new.functions.items ≡ with_items (reverse self.old.functions.items) (function.now.item ∷ function.now.functions.items)) }
+        ensures indexed { IsIndexed self.old.places.items self.old.values.items → OnOk result (IsIndexed self.new.places.items self.new.values.items) }
+        ensures listed { IsListed self.old.applied.items self.old.functions.items → OnOk result (IsListed self.new.applied.items self.new.functions.items) }
+    {
+        self.note_function(function.item)?;
+        self.note_functions(&function.functions)?;
+        self.note_all(&function.values)
+    }
+
+    /// The function that a name with so many arguments stands for is applied.
+    fn add_applied(&mut self, sight: &Sight, name: &Name, count: usize) -> Result<(), AllocError>
+        ensures values { let us = map usage_of sight.now.functions.now in let names = reverse (map entry_of sight.now.entries.now) in IsIndexed self.old.places.items self.old.values.items → OnOk result (reverse self.new.values.items ≡ all_noted (reverse self.old.values.items) (values_of (usage_seen us names sight.now.parameters.now count name.now))) }
+        ensures functions { let us = map usage_of sight.now.functions.now in let names = reverse (map entry_of sight.now.entries.now) in IsListed self.old.applied.items self.old.functions.items → OnOk result (reverse self.new.functions.items ≡ with_items (reverse self.old.functions.items) (functions_of (usage_seen us names sight.now.parameters.now count name.now))) }
+        ensures indexed { IsIndexed self.old.places.items self.old.values.items → OnOk result (IsIndexed self.new.places.items self.new.values.items) }
+        ensures listed { IsListed self.old.applied.items self.old.functions.items → OnOk result (IsListed self.new.applied.items self.new.functions.items) }
+    {
+        match sight.function(name, count) {
+            Err(_) => Ok(()),
+            Ok(function) => match sight.functions.get(function) {
+                None => Ok(()),
+                Some(function) => self.add_function(function),
+            },
+        }
+    }
+
     /// What an expression uses and applies, at each first use. Errors: want of memory.
     pub fn add_term(&mut self, sight: &Sight, term: &Expression) -> Result<(), AllocError>
-        ensures uses { sight.now.parameters.now ≡ [] → IsPlain (term_of term.now) → IsIndexed self.old.places.items self.old.values.items → length sight.now.entries.now ≤ vec_len self.old.places → OnOk result (reverse self.new.values.items ≡ with_uses (reverse (map entry_of sight.now.entries.now)) sight.now.from (term_of term.now) (reverse self.old.values.items)) }
+        ensures values { let us = map usage_of sight.now.functions.now in let names = reverse (map entry_of sight.now.entries.now) in IsIndexed self.old.places.items self.old.values.items → OnOk result (reverse self.new.values.items ≡ with_values us names sight.now.parameters.now sight.now.from (term_of term.now) (reverse self.old.values.items)) }
+        ensures functions { let us = map usage_of sight.now.functions.now in let names = reverse (map entry_of sight.now.entries.now) in IsListed self.old.applied.items self.old.functions.items → OnOk result (reverse self.new.functions.items ≡ with_functions us names sight.now.parameters.now (term_of term.now) (reverse self.old.functions.items)) }
         ensures indexed { IsIndexed self.old.places.items self.old.values.items → OnOk result (IsIndexed self.new.places.items self.new.values.items) }
-        ensures places { sight.now.parameters.now ≡ [] → IsPlain (term_of term.now) → vec_len self.new.places ≡ vec_len self.old.places }
+        ensures listed { IsListed self.old.applied.items self.old.functions.items → OnOk result (IsListed self.new.applied.items self.new.functions.items) }
     {
         match term {
             Expression::Named(name) => self.add_name(sight, name),
@@ -136,53 +227,20 @@ impl Uses {
             Expression::Complement(operand) => self.add_term(sight, operand),
             Expression::Identity(operand) => self.add_term(sight, operand),
             Expression::Applied(name, arguments) => {
-                if let Ok(function) = sight.function(name, arguments.len()) {
-                    self.add_function(sight, function)?;
-                    for argument in arguments {
-                        self.add_term(sight, argument)?;
-                    }
+                self.add_applied(sight, name, arguments.len())?;
+                for argument in arguments {
+                    self.add_term(sight, argument)?;
                 }
                 Ok(())
             }
         }
     }
 
-    /// Whether the function was not yet applied.
-    fn note_function(&mut self, function: usize) -> Result<bool, AllocError>
-        ensures values { self.new.values ≡ self.old.values }
-        ensures places { self.new.places ≡ self.old.places }
-    {
-        let mut is_new = false;
-        if let Some(mark) = self.applied.get_mut(function) {
-            is_new = !*mark;
-            *mark = true;
-        }
-        if is_new {
-            self.functions.push(function)?;
-        }
-        Ok(is_new)
-    }
-
-    /// The function is applied, and so is what its body applies and used what its body uses.
-    pub fn add_function(&mut self, sight: &Sight, function: usize) -> Result<(), AllocError>
-        ensures indexed { IsIndexed self.old.places.items self.old.values.items → OnOk result (IsIndexed self.new.places.items self.new.values.items) }
-    {
-        if !self.note_function(function)? {
-            return Ok(());
-        }
-        if let Some(one) = sight.functions.get(function) {
-            for inner in &one.functions {
-                self.note_function(*inner)?;
-            }
-            for value in &one.values {
-                self.note(*value)?;
-            }
-        }
-        Ok(())
-    }
-
     /// The names that are used, and the functions that are applied.
-    pub fn into_lists(self) -> (Vec<Used>, Vec<usize>) {
+    pub fn into_lists(self) -> (Vec<Used>, Vec<usize>)
+        ensures values { result.0 ≡ self.values }
+        ensures functions { result.1 ≡ self.functions }
+    {
         let Uses {
             values,
             functions,
@@ -201,19 +259,4 @@ pub fn inputs_of_values(alloc: Global, values: &[Used]) -> Result<Vec<Input>, Al
         inputs.push(value.input)?;
     }
     Ok(inputs)
-}
-
-/// The items of those functions.
-pub fn items_of(
-    alloc: Global,
-    functions: &[Function],
-    places: &[usize],
-) -> Result<Vec<usize>, AllocError> {
-    let mut items = Vec::new(alloc);
-    for place in places {
-        if let Some(function) = functions.get(*place) {
-            items.push(function.item)?;
-        }
-    }
-    Ok(items)
 }

@@ -58,7 +58,8 @@ pub struct Function {
     /// The names of other items that its body uses, through the functions that it applies too,
     /// in the order of first use.
     pub values: Vec<Used>,
-    /// The functions that its body applies, through others too, in the order of first application.
+    /// The items of the functions that its body applies, through others too, in the order of first
+    /// application.
     pub functions: Vec<usize>,
 }
 

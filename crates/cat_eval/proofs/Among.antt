@@ -1,36 +1,36 @@
 -- The laws of the names of a group as a number.
-use Rattle.std.proofs.Common.{ℕ, ◌≡◌, ◌<◌, ◌≤◌, ◌↔◌, ◌⊎◌, ◌*◌, ◌-◌, ◌%◌, ◌^◌, ◌+◌, ◌∙◌, w64, inl, inr, arith, sym, List, length, get_or}
+use Rattle.std.proofs.Common.{ℕ, ◌≡◌, ◌<◌, ◌↔◌, ◌⊎◌, ◌*◌, ◌-◌, ◌%◌, ◌^◌, ◌+◌, ◌∙◌, w64, min, inl, inr, arith, sym, List, length, get_or}
 use Rattle.std.specs.Int.{bit_at}
 use Rattle.std.specs.Int.RustNames.{bit_or}
-use Rattle.std.proofs.lemmas.Nat.Bits.{bit_at-zero, bit_at_above, bit_at_set_same, bit_at_set_other, bit_at_ones}
+use Rattle.std.proofs.lemmas.Nat.Bits.{bit_at-zero, bit_at_set_same, bit_at_set_other, bit_at_ones}
 use Rattle.std.proofs.lemmas.Bool.{cases_eq}
 use Rattle.std.proofs.lemmas.List.{get_or_read}
 use Rattle.binding_graph.specs.declared.resolved.Body.{Body}
-use Rattle.cat_eval.specs.Uses.{IsAmong, UsesAny, UsesAt}
+use Rattle.cat_eval.specs.Uses.{ShareBit, IsAmong, UsesAny, UsesAt}
 
 zero_or_one : (n : ℕ) → n ≡ 0 → n ≡ 1 → ⊥
 zero_or_one n p q = omega arith
 
 pub among_none : (k : ℕ) → IsAmong 0 k → ⊥
 unfolding IsAmong
-among_none k h = let z : bit_at 0 k ≡ 0 = bit_at-zero k in zero_or_one _ z h
+among_none k h = let z : bit_at 0 (min k 63) ≡ 0 = bit_at-zero (min k 63) in zero_or_one _ z h
 
-pub among_above : (x k : ℕ) → x < 2 ^ 64 → 64 ≤ k → IsAmong x k → ⊥
-unfolding IsAmong
-among_above x k fits ge h = let z : bit_at x k ≡ 0 = bit_at_above x 64 k fits ge in zero_or_one _ z h
+least_bit : (k : ℕ) → min k 63 < 64
+least_bit k = grind (arith, k)
 
-pub among_all : (k : ℕ) → k < 64 → IsAmong (2 ^ 64 - 1) k
+pub among_all : (k : ℕ) → IsAmong (2 ^ 64 - 1) k
 unfolding IsAmong
-among_all k lt = bit_at_ones 64 k lt
+among_all k = bit_at_ones 64 (min k 63) (least_bit k)
 
 -- `x | 1 << a`
-pub among_set : (x a k : ℕ) → a < 64 → IsAmong (bit_or x (1 * 2 ^ a % 2 ^ 64)) k ↔ (IsAmong x k ⊎ (a ≡ k))
+pub among_set : (x a k : ℕ) → a < 64 → IsAmong (bit_or x (1 * 2 ^ a % 2 ^ 64)) k ↔ (IsAmong x k ⊎ (a ≡ min k 63))
 unfolding IsAmong
 among_set x a k lt =
-    elim (cases_eq k a) [
+    let i = min k 63 in
+    elim (cases_eq i a) [
       | inl same ↦ ((λ h. inr (sym same)), (λ h. rw same (bit_at_set_same w64 x a lt)))
       | inr other ↦
-          let e : bit_at (bit_or x (1 * 2 ^ a % 2 ^ 64)) k ≡ bit_at x k = bit_at_set_other w64 x a lt k other in
+          let e : bit_at (bit_or x (1 * 2 ^ a % 2 ^ 64)) i ≡ bit_at x i = bit_at_set_other w64 x a lt i other in
           rw e ((λ h. inl h), (λ h. elim h [ inl old ↦ old | inr same ↦ absurd (other (sym same)) ]))
     ]
 
@@ -41,29 +41,32 @@ uses_at_read names bodies k body lt is = (
   (λ at. let same : body ≡ at.0 = get_or_read bodies k body lt is at.0 ∙ at.2 in rw same at.3),
 )
 
+-- of the bodies before a position
+abbrev pub UsesBefore : ℕ → List Body → ℕ → ℕ → Type 0
+UsesBefore grew bodies position k = (other : ℕ) × (other < position) × ShareBit other k × UsesAt grew bodies other
+
 -- one position further, where the body uses a name that grew
-pub next_used : (grew names new position : ℕ) (bodies : List Body) (body : Body) → position < length bodies → body ≡ get_or bodies position body → UsesAny grew body.code.steps.items → ((k : ℕ) → k < 64 → IsAmong new k ↔ (IsAmong names k ⊎ (position ≡ k))) → ((k : ℕ) → k < 64 → IsAmong names k ↔ ((k < position) × UsesAt grew bodies k)) → (k : ℕ) → k < 64 → IsAmong new k ↔ ((k < position + 1) × UsesAt grew bodies k)
-next_used grew names new position bodies body lt is uses gains before k few = (
-  (λ h. elim ((gains k few).0 h) [
-    | inl old ↦ let was = (before k few).0 old in (omega (arith, was.0), was.1)
-    | inr same ↦
-        let at : UsesAt grew bodies position = (uses_at_read grew bodies position body lt is).0 uses in
-        (omega (arith, same), rw (← same) at)
+pub next_used : (grew names new position : ℕ) (bodies : List Body) (body : Body) → position < length bodies → body ≡ get_or bodies position body → UsesAny grew body.code.steps.items → ((k : ℕ) → IsAmong new k ↔ (IsAmong names k ⊎ ShareBit position k)) → ((k : ℕ) → IsAmong names k ↔ UsesBefore grew bodies position k)
+    → (k : ℕ) → IsAmong new k ↔ UsesBefore grew bodies (position + 1) k
+next_used grew names new position bodies body lt is uses gains before k = (
+  (λ h. elim ((gains k).0 h) [
+    | inl old ↦ let was = (before k).0 old in (was.0, omega (arith, was.1), was.2, was.3)
+    | inr same ↦ (position, omega arith, same, (uses_at_read grew bodies position body lt is).0 uses)
   ]),
-  (λ h. elim (cases_eq k position) [
-    | inl same ↦ (gains k few).1 (inr (sym same))
-    | inr other ↦ (gains k few).1 (inl ((before k few).1 (omega (arith, other, h.0), h.1)))
+  (λ h. elim (cases_eq h.0 position) [
+    | inl same ↦ (gains k).1 (inr (rw same at h.2))
+    | inr other ↦ (gains k).1 (inl ((before k).1 (h.0, omega (arith, other, h.1), h.2, h.3)))
   ]),
 )
 
 -- one position further, where the body uses no name that grew
-pub next_unused : (grew names position : ℕ) (bodies : List Body) (body : Body) → position < length bodies → body ≡ get_or bodies position body → (UsesAny grew body.code.steps.items → ⊥) → ((k : ℕ) → k < 64 → IsAmong names k ↔ ((k < position) × UsesAt grew bodies k)) → (k : ℕ) → k < 64 → IsAmong names k ↔ ((k < position + 1) × UsesAt grew bodies k)
-next_unused grew names position bodies body lt is unused before k few = (
-  (λ h. let was = (before k few).0 h in (omega (arith, was.0), was.1)),
-  (λ h. elim (cases_eq k position) [
+pub next_unused : (grew names position : ℕ) (bodies : List Body) (body : Body) → position < length bodies → body ≡ get_or bodies position body → (UsesAny grew body.code.steps.items → ⊥) → ((k : ℕ) → IsAmong names k ↔ UsesBefore grew bodies position k) → (k : ℕ) → IsAmong names k ↔ UsesBefore grew bodies (position + 1) k
+next_unused grew names position bodies body lt is unused before k = (
+  (λ h. let was = (before k).0 h in (was.0, omega (arith, was.1), was.2, was.3)),
+  (λ h. elim (cases_eq h.0 position) [
     | inl same ↦
-        let at : UsesAt grew bodies position = rw (← same) h.1 in
+        let at : UsesAt grew bodies position = rw same at h.3 in
         absurd (unused ((uses_at_read grew bodies position body lt is).1 at))
-    | inr other ↦ (before k few).1 (omega (arith, other, h.0), h.1)
+    | inr other ↦ (before k).1 (h.0, omega (arith, other, h.1), h.2, h.3)
   ]),
 )

@@ -116,8 +116,8 @@ module _ (bodies : List Body) (inputs : List (Bor Column)) (olds news : List Col
       let (s, r, has, meant) = have j lt c b in
       let (t, q, adds) = added j lt c in
       (s, r, adds_old (get_or olds j c) (get_or news j c) t q adds k s r has, meant)
-  values_stay true base k have = λ trees codes fit few.
-      let (values, least, each) = have trees codes fit few in (
+  values_stay true base k have = λ trees codes fit.
+      let (values, least, each) = have trees codes fit in (
         values,
         least,
         (λ j lt c.
@@ -204,7 +204,7 @@ module _ (bodies : List Body) (inputs : List (Bor Column)) (bases : List Known) 
   -- the equations were solved
   pub solved_more : (recursive : Bool) (own values : List Relation) → recursive ≡ true → HasOwn recursive bodies own → AreHeldColumns recursive bodies inputs bases olds
       → ((j : ℕ) → j < length own → j < length olds → (c : Column) → (s : Events) × Adds (get_or olds j c) (get_or news j c) s (get_or values j no_slot))
-      → (length own ≡ length bodies → (trees : List RelTree) → AreCodes trees bodies → AreMonotone trees → length trees ≤ 64 → IsLeast base.count (EventsIn base inputs k) (PairsOutside base inputs k) trees values)
+      → (length own ≡ length bodies → (trees : List RelTree) → AreCodes trees bodies → AreMonotone trees → IsLeast base.count (EventsIn base inputs k) (PairsOutside base inputs k) trees values)
       → AreHeldColumns recursive bodies inputs (bases ++ base ∷ []) news
   solved_more false own values is held before added least = absurd cc
   solved_more true own values is held before added least = columns_more bodies inputs olds news each true bases base many before now
@@ -226,9 +226,9 @@ module _ (bodies : List Body) (inputs : List (Bor Column)) (bases : List Known) 
       ]
 
       now : HaveHeldValues true bodies inputs base (length bases) news
-      now trees codes fit few = (
+      now trees codes fit = (
         values,
-        here trees codes (least held trees codes fit few),
+        here trees codes (least held trees codes fit),
         (λ j lt c.
             let (s, adds) = gets j lt c in
             (s, adds_new (get_or olds j c) (get_or news j c) s (get_or values j no_slot) adds (length bases) (sym (before.long j lt c)))),

@@ -88,8 +88,8 @@ module _ (names : List Predefined) (reads orders : Bool) (base : Known) (one : C
   values_counted false bodies cs within h = λ j lt c b.
       let (s, r, has, meant) = h j lt c b in
       (s, r, has, meaning_counted (get_or bodies j b).code.steps.items (λ name inside. within name (body_named bodies j lt b name inside)) (get_or bodies j b).code.kind s r meant)
-  values_counted true bodies cs within h = λ trees codes fit few.
-      let (values, least, each) = h trees codes fit few in (
+  values_counted true bodies cs within h = λ trees codes fit.
+      let (values, least, each) = h trees codes fit in (
         values,
         least_agrees base.count (EventsIn base inputs k) (EventsAt base.count one inputs k) (PairsOutside base inputs k) (PairsAt base.count one inputs k) trees values
             (λ x lt own.

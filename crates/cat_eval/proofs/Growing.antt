@@ -14,7 +14,7 @@ use Rattle.cat_eval.specs.Meaning.{Means}
 use Rattle.cat_eval.specs.Named.{Of, WithOwn}
 use Rattle.cat_eval.specs.Least.{AreMonotone, SolvesAt, IsLeast, body}
 use Rattle.cat_eval.specs.Rising.{IsSound, IsRound, HoldsOne, AreEmpty, AreCodes, rooms}
-use Rattle.cat_eval.specs.Uses.{IsAmong, UsesOne, UsesAny, UsesAt}
+use Rattle.cat_eval.specs.Uses.{IsAmong, UsesOne, UsesAny, UsesAt, UsesNear}
 use Rattle.cat_eval.proofs.Among.{among_none}
 use Rattle.cat_eval.proofs.Monotone.{closed_wider, monotone}
 
@@ -355,21 +355,21 @@ holds_next (t ∷ ts) (c ∷ cs) x grew h lt u =
     (b, omega (arith, lt, long), get_or_default (c ∷ cs) x b c (omega (arith, lt, long)), rw (code_at (t ∷ ts) (c ∷ cs) x c h lt) (holds_uses grew (body (t ∷ ts) x) [] u))
 
 -- before the first round: all names are to do
-pub round_first : (n : ℕ) (sets : Source → ℕ → Type 0) (outer : Source → ℕ → ℕ → Type 0) (bodies : List RelTree) (values : List Relation) (todo : ℕ) → AreEmpty n (length values) values → length values ≡ length bodies → length bodies ≤ 64 → ((k : ℕ) → k < 64 → IsAmong todo k) → IsRound n sets outer bodies values todo 0 0
-round_first n sets outer bodies values todo empty many few all = record {
+pub round_first : (n : ℕ) (sets : Source → ℕ → Type 0) (outer : Source → ℕ → ℕ → Type 0) (bodies : List RelTree) (values : List Relation) (todo : ℕ) → AreEmpty n (length values) values → length values ≡ length bodies → ((k : ℕ) → IsAmong todo k) → IsRound n sets outer bodies values todo 0 0
+round_first n sets outer bodies values todo empty many all = record {
   sound = empty_sound n sets outer bodies values empty many;
-  pending = λ y y_lt. inr (inl (omega arith, all y (omega (arith, y_lt, few))));
+  pending = λ y y_lt. inr (inl (omega arith, all y));
 }
 
 -- from one round to the next
-pub round_next : (n : ℕ) (sets : Source → ℕ → Type 0) (outer : Source → ℕ → ℕ → Type 0) (trees : List RelTree) (bodies : List Body) (values : List Relation) (old grew new : ℕ) → AreCodes trees bodies → length trees ≤ 64 → IsRound n sets outer trees values old (length trees) grew → ((k : ℕ) → k < 64 → IsAmong new k ↔ UsesAt grew bodies k) → IsRound n sets outer trees values new 0 0
-round_next n sets outer trees bodies values old grew new codes few round next = record {
+pub round_next : (n : ℕ) (sets : Source → ℕ → Type 0) (outer : Source → ℕ → ℕ → Type 0) (trees : List RelTree) (bodies : List Body) (values : List Relation) (old grew new : ℕ) → AreCodes trees bodies → IsRound n sets outer trees values old (length trees) grew → ((k : ℕ) → IsAmong new k ↔ UsesNear grew bodies k) → IsRound n sets outer trees values new 0 0
+round_next n sets outer trees bodies values old grew new codes round next = record {
   sound = round.sound;
   pending = λ y y_lt. elim (round.pending y y_lt) [
     | inl solved ↦ inl solved
     | inr rest ↦ elim rest [
       | inl t ↦ absurd (omega (arith, t.0, y_lt))
-      | inr uses ↦ inr (inl (omega arith, (next y (omega (arith, y_lt, few))).1 (holds_next trees bodies y grew codes y_lt uses)))
+      | inr uses ↦ inr (inl (omega arith, (next y).1 (y, refl, holds_next trees bodies y grew codes y_lt uses)))
     ]
   ];
 }

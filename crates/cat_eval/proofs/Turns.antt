@@ -1,6 +1,5 @@
 -- One body of a round, evaluated.
-use Rattle.std.proofs.Common.{ℕ, ◌≡◌, ◌<◌, ◌≤◌, ◌+◌, ◌^◌, ◌↔◌, ◌⊎◌, ◌∙◌, inl, inr, List, [], ◌∷◌, length, get_or, set, refl, arith, sym, ap, get_or-set_same}
-use Rattle.std.proofs.lemmas.Bool.{cases_lt}
+use Rattle.std.proofs.Common.{ℕ, ◌≡◌, ◌<◌, ◌+◌, ◌↔◌, ◌⊎◌, ◌∙◌, inl, inr, List, [], ◌∷◌, length, get_or, set, refl, sym, ap, get_or-set_same}
 use Rattle.bit_relations.specs.Relation.{Relation, IsRelation, IsWithin, no_slot}
 use Rattle.binding_graph.specs.declared.resolved.Source.{Source}
 use Rattle.binding_graph.specs.declared.resolved.Body.{Body}
@@ -9,19 +8,12 @@ use Rattle.cat_eval.specs.Least.{AreMonotone, body}
 use Rattle.cat_eval.specs.Meaning.{Means}
 use Rattle.cat_eval.specs.Named.{Of, WithOwn}
 use Rattle.cat_eval.specs.Rising.{IsRound, AreCodes}
-use Rattle.cat_eval.specs.Uses.{IsAmong}
-use Rattle.cat_eval.proofs.Among.{among_above}
+use Rattle.cat_eval.specs.Uses.{ShareBit, IsAmong}
 use Rattle.cat_eval.proofs.Growing.{value_within, round_grows, round_stays, code_at, codes_long}
 
 -- the names with one more
 abbrev pub Gains : ℕ → ℕ → ℕ → Type 0
-Gains names x more = (k : ℕ) → k < 64 → IsAmong more k ↔ (IsAmong names k ⊎ (x ≡ k))
-
-gained : (names x more : ℕ) → names < 2 ^ 64 → Gains names x more → (k : ℕ) → IsAmong names k → IsAmong more k
-gained names x more fits gains k h = elim (cases_lt k 64) [
-  | inl lt ↦ (gains k lt).1 (inl h)
-  | inr ge ↦ absurd (among_above names k fits ge h)
-]
+Gains names x more = (k : ℕ) → IsAmong more k ↔ (IsAmong names k ⊎ ShareBit x k)
 
 module _ (n : ℕ) (sets : Source → ℕ → Type 0) (outer : Source → ℕ → ℕ → Type 0) (trees : List RelTree) (bodies : List Body) (values : List Relation) (todo x grew : ℕ) (b : Body) (stack : List Relation)
     (codes : AreCodes trees bodies) (fit : AreMonotone trees) (round : IsRound n sets outer trees values todo x grew) (inside : x < length bodies) (here : b ≡ get_or bodies x b)
@@ -40,10 +32,10 @@ module _ (n : ℕ) (sets : Source → ℕ → Type 0) (outer : Source → ℕ �
       keeps value.0 [] value.1 (value.2.count ∙ sym (round.sound.on x in_values).0)
       (value_within n sets outer trees values x value.0 fit round.sound lt value.2)
 
-  pub turn_grows : (new : List Relation) (more : ℕ) → length trees ≤ 64 → grew < 2 ^ 64 → ((v : Relation) (rest : List Relation) → stack ≡ v ∷ rest → v.count ≡ (get_or values x no_slot).count → IsWithin (get_or values x no_slot) v → new ≡ set values x v) → Gains grew x more → IsRound n sets outer trees new todo (x + 1) more
-  turn_grows new more few fits keeps gains =
+  pub turn_grows : (new : List Relation) (more : ℕ) → ((v : Relation) (rest : List Relation) → stack ≡ v ∷ rest → v.count ≡ (get_or values x no_slot).count → IsWithin (get_or values x no_slot) v → new ≡ set values x v) → Gains grew x more → IsRound n sets outer trees new todo (x + 1) more
+  turn_grows new more keeps gains =
       rw (written new keeps)
-      (round_grows n sets outer trees values x value.0 fit round.sound lt value.2 todo grew round.pending more (gained grew x more fits gains) ((gains x (omega (arith, lt, few))).1 (inr refl)))
+      (round_grows n sets outer trees values x value.0 fit round.sound lt value.2 todo grew round.pending more (λ k h. (gains k).1 (inl h)) ((gains x).1 (inr refl)))
 
   pub turn_stays : (new : List Relation) → new ≡ values → ((v : Relation) (rest : List Relation) → stack ≡ v ∷ rest → v.count ≡ (get_or values x no_slot).count → IsWithin (get_or values x no_slot) v → new ≡ set values x v) → IsRound n sets outer trees new todo (x + 1) grew
   turn_stays new old keeps =

@@ -1,5 +1,5 @@
 -- The values of the names of a group, candidate by candidate.
-use Rattle.std.specs.Prelude.{ℕ, ◌≡◌, ◌<◌, ◌≤◌, Bool, true, false, List, [], length, Some, slice_get, slice_index_or}
+use Rattle.std.specs.Prelude.{ℕ, ◌≡◌, ◌<◌, Bool, true, false, List, [], length, Some, slice_get, slice_index_or}
 use denote.Ref.{Bor}
 use Rattle.bit_relations.specs.Relation.{Relation, Events, no_slot}
 use Rattle.binding_graph.specs.declared.resolved.Body.{Body}
@@ -27,7 +27,7 @@ abbrev pub HaveValues : Bool → List Body → ℕ → (Source → ℕ → Type 
 HaveValues false bodies n sets outer k cs =
     (j : ℕ) → j < length bodies → (c : Column) (b : Body) → (s : Events) × (r : Relation) × HasValue (slice_index_or cs j c) k s r × IsMeant (slice_index_or bodies j b).code.kind (slice_index_or bodies j b).code.steps.items n sets outer s r
 HaveValues true bodies n sets outer k cs =
-    (trees : List RelTree) → AreCodes trees bodies → AreMonotone trees → length trees ≤ 64
+    (trees : List RelTree) → AreCodes trees bodies → AreMonotone trees
     → (values : List Relation) × IsLeast n sets outer trees values
     × ((j : ℕ) → j < length bodies → (c : Column) → (s : Events) × HasValue (slice_index_or cs j c) k s (slice_index_or values j no_slot))
 

@@ -1,5 +1,5 @@
 -- Which names of its own group an expression uses.
-use Rattle.std.specs.Prelude.{ℕ, ◌≡◌, ◌<◌, List, length, slice_index_or, Any}
+use Rattle.std.specs.Prelude.{ℕ, ◌≡◌, ◌<◌, min, List, length, slice_index_or, Any}
 use Rattle.std.specs.Int.{bit_at}
 use Rattle.binding_graph.specs.declared.resolved.Step.{Step}
 use Rattle.binding_graph.specs.declared.resolved.Step.TheVariants as steps
@@ -9,9 +9,13 @@ use Rattle.binding_graph.specs.declared.resolved.Role.TheVariants as roles
 use Rattle.binding_graph.specs.declared.resolved.Source.{Source}
 use Rattle.binding_graph.specs.declared.resolved.Source.TheVariants as sources
 
--- the name at this position of a group is among the names
+-- names whose positions share a bit: the 64th of a group and those behind it have the last one
+abbrev pub ShareBit : ℕ → ℕ → Type 0
+ShareBit position other = min position 63 ≡ min other 63
+
+-- the name at this position of a group, or one that shares its bit, is among the names
 unfoldable pub IsAmong : ℕ → ℕ → Type 0
-IsAmong names position = bit_at names position ≡ 1
+IsAmong names position = bit_at names (min position 63) ≡ 1
 
 -- it stands for one of these names of the group
 abbrev pub StandsForOne : ℕ → Source → Type 0
@@ -43,8 +47,12 @@ UsesAny names xs = Any (UsesOne names) xs
 abbrev pub UsesAt : ℕ → List Body → ℕ → Type 0
 UsesAt names bodies position = (body : Body) × (position < length bodies) × (slice_index_or bodies position body ≡ body) × UsesAny names body.code.steps.items
 
--- an item's body at this position uses one of these names of its own group
+-- this body, or one whose name shares the bit of its name, uses one of these names
+abbrev pub UsesNear : ℕ → List Body → ℕ → Type 0
+UsesNear names bodies position = (other : ℕ) × ShareBit other position × UsesAt names bodies other
+
+-- likewise in an item, for names of its own group
 abbrev pub UsesIn : ℕ → Role → ℕ → Type 0
-UsesIn names (roles.Group recursive bodies) position = UsesAt names bodies.items position
+UsesIn names (roles.Group recursive bodies) position = UsesNear names bodies.items position
 UsesIn names (roles.Check check) position = ⊥
 UsesIn names roles.Silent position = ⊥

@@ -1,30 +1,30 @@
 //! Which names of a recursive group have to be computed anew.
 
-ghost use Rattle.std.specs.Prelude.{◌≡◌, ℕ, ◌<◌, ◌↔◌, ◌⊎◌, length, slice_get, IfSome, IsTrue, Any};
-ghost use Rattle.cat_eval.specs.Uses.{IsAmong, UsesOne, UsesAny, UsesAt, UsesIn};
+ghost use Rattle.std.specs.Prelude.{◌≡◌, ℕ, ◌<◌, min, ◌↔◌, ◌⊎◌, length, slice_get, IfSome, IsTrue, Any};
+ghost use Rattle.cat_eval.specs.Uses.{ShareBit, IsAmong, UsesOne, UsesAny, UsesNear, UsesIn};
 
 use binding_graph::{Body, Resolved, ResolvedItem, Role, Source, Step};
 
-/// Whether the name at a position is among the names.
+/// The bit of the name at a position: the 64th name of a group and those behind it share the last.
+fn bit_of(position: usize) -> usize
+    ensures bit { result ≡ min position 63 }
+    ensures small { result < 64 }
+{
+    if position < 63 { position } else { 63 }
+}
+
+/// Whether the name at a position, or one that shares its bit, is among the names.
 pub(crate) fn has_name(names: u64, position: usize) -> bool
     ensures { IsTrue result ↔ IsAmong names position }
 {
-    if position < 64 {
-        (names >> position) & 1 == 1
-    } else {
-        false
-    }
+    (names >> bit_of(position)) & 1 == 1
 }
 
-/// The names with the one at a position.
+/// The names with the one at a position, and those that share its bit.
 pub(crate) fn with_name(names: u64, position: usize) -> u64
-    ensures { (k : ℕ) → k < 64 → IsAmong result k ↔ (IsAmong names k ⊎ (position ≡ k)) }
+    ensures { (k : ℕ) → IsAmong result k ↔ (IsAmong names k ⊎ ShareBit position k) }
 {
-    if position < 64 {
-        names | (1 << position)
-    } else {
-        names
-    }
+    names | (1 << bit_of(position))
 }
 
 /// Whether a step uses one of the names of its own group.
@@ -57,9 +57,9 @@ fn uses_any(steps: &[Step], names: u64) -> bool
     steps.iter().any(|step| uses(*step, names))
 }
 
-/// The names of a group whose bodies use a name that grew.
+/// The names of a group whose bodies use a name that grew, and those that share their bits.
 pub(crate) fn next_among(bodies: &[Body], grew: u64) -> u64
-    ensures { (k : ℕ) → k < 64 → IsAmong result k ↔ UsesAt grew bodies.now k }
+    ensures { (k : ℕ) → IsAmong result k ↔ UsesNear grew bodies.now k }
 {
     let mut names = 0;
     for position in 0..bodies.len() {
@@ -71,9 +71,9 @@ pub(crate) fn next_among(bodies: &[Body], grew: u64) -> u64
 }
 
 /// The names of an item, a `let rec`, whose bodies use a name that grew: the bit of a name is
-/// that of its position in the group, from 0. Takes no memory.
+/// that of its position in the group, from 0, and those from 63 on share one. Takes no memory.
 pub fn next_of(item: &ResolvedItem, grew: u64) -> u64
-    ensures { (k : ℕ) → k < 64 → IsAmong result k ↔ UsesIn grew item.now.role k }
+    ensures { (k : ℕ) → IsAmong result k ↔ UsesIn grew item.now.role k }
 {
     match &item.role {
         Role::Group { bodies, .. } => next_among(bodies, grew),
@@ -84,7 +84,7 @@ pub fn next_of(item: &ResolvedItem, grew: u64) -> u64
 
 /// The same for an item of a model, by its place. Takes no memory.
 pub fn next(resolved: &Resolved, item: usize, grew: u64) -> u64
-    ensures { IfSome (slice_get resolved.now.items.items item) (λ found. (k : ℕ) → k < 64 → IsAmong result k ↔ UsesIn grew found.role k) }
+    ensures { IfSome (slice_get resolved.now.items.items item) (λ found. (k : ℕ) → IsAmong result k ↔ UsesIn grew found.role k) }
 {
     match resolved.items.get(item) {
         Some(found) => next_of(found, grew),

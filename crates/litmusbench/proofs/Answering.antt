@@ -27,12 +27,13 @@ use Rattle.verdict.specs.declared.answer.Outcome.{Outcome}
 use Rattle.litmusbench.specs.declared.fault.SessionFault.{SessionFault}
 use Rattle.litmusbench.specs.declared.fault.SessionFault.TheVariants as faults
 use Rattle.litmusbench.specs.declared.stream.Answer.{Answer}
-use Rattle.litmusbench.specs.Answer.{IsSaid, IsLogOf, IsModel, IsModelRefused, IsTestRefused, IsAnswer, RefusesModel, RefusesTest, IsRefusal, IsWritten, IsStreamed, refused_line}
+use Rattle.memo_graph.specs.FromScratch.{IsFromScratch}
+use Rattle.litmusbench.specs.Answer.{IsLogOf, IsModel, IsModelRefused, IsTestRefused, IsAnswer, RefusesModel, RefusesTest, IsRefusal, IsWritten, IsStreamed, refused_line}
 use Rattle.litmusbench.specs.Cut.{IsCut}
 use Rattle.litmusbench.specs.Log.{log_of}
 
 -- the log of an outcome, by the test's name
-pub log_said : (r : Result (Vec ℕ Global) AllocError) (test : Test) (model : ModelText) (o : Outcome) (name : List ℕ) → IsSaid test model o → name ≡ test.name → IfOk r (λ log. log.items ≡ log_of name o) → IfOk r (λ log. IsLogOf test model log.items)
+pub log_said : (r : Result (Vec ℕ Global) AllocError) (test : Test) (model : ModelText) (o : Outcome) (name : List ℕ) → IsFromScratch test model o → name ≡ test.name → IfOk r (λ log. log.items ≡ log_of name o) → IfOk r (λ log. IsLogOf test model log.items)
 log_said (Ok v) test model o name said e h = (o, said, h ∙ ap (λ (n : List ℕ). log_of n o) e)
 log_said (Err f) test model o name said e h = tt
 

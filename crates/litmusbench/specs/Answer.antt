@@ -1,5 +1,5 @@
 -- What is said of a model's text and a test's text.
-use Rattle.std.specs.Prelude.{◌≡◌, ◌+◌, ◌≤◌, ◌⊎◌, ℕ, List, [], ◌∷◌, ◌++◌, length, Bool, true, false, map, reverse, codes, decimal, Option, Result, Ok, Err, IfSome}
+use Rattle.std.specs.Prelude.{◌≡◌, ◌+◌, ◌≤◌, ◌⊎◌, ℕ, List, ◌∷◌, ◌++◌, length, Bool, true, false, codes, decimal, Option, Result, Ok, Err, IfSome}
 use Rattle.std.specs.Io.KnownBytes.{Keeps, Appends}
 use Rattle.litmus_tokens.specs.declared.rule.LitmusRule.{LitmusRule}
 use Rattle.litmus_tokens.specs.Numbers.{number_of as test_rule_number}
@@ -9,17 +9,12 @@ use Rattle.litmus_grammar.specs.Texts.{ReadsTest, IsTestFault}
 use Rattle.cat_tokens.specs.declared.rule.CatRule.{CatRule}
 use Rattle.cat_tokens.specs.Tokens.{number_of as model_rule_number}
 use Rattle.cat_values.specs.declared.model.ModelText.{ModelText}
-use Rattle.cat_values.specs.declared.predefined.TheConstants.{PREDEFINED}
 use Rattle.cat_values.specs.Value as cat_value
 use Rattle.cat_values.specs.Values.{clauses_of}
 use Rattle.cat_grammar.specs.declared.form.Form.TheVariants.{Model}
 use Rattle.cat_syntax.specs.Reads.{Reads, FaultAt}
-use Rattle.binding_kinds.specs.Faults.{HasNoFault, FirstFault}
-use Rattle.binding_kinds.specs.Outermost.{naming_of}
-use Rattle.binding_kinds.specs.Value.{clause_of, AreNoFunctions}
 use Rattle.verdict.specs.declared.answer.Outcome.{Outcome}
-use Rattle.verdict.specs.Judgement.{IsAnswerOf}
-use Rattle.memo_graph.specs.Cell.{IsCell, IsEvaluationUnder, OfModel}
+use Rattle.memo_graph.specs.FromScratch.{IsFromScratch}
 use Rattle.litmusbench.specs.declared.fault.EvalFault.{EvalFault}
 use Rattle.litmusbench.specs.declared.fault.EvalFault.TheVariants as eval_faults
 use Rattle.litmusbench.specs.declared.fault.SessionFault.{SessionFault}
@@ -30,16 +25,9 @@ use Rattle.litmusbench.specs.Written.{WritesFront}
 
 -- ---- what a test that was read says under a model that was read
 
--- this outcome is of the test's kind, with its condition, and says the model's first fault where it has one, and else what
--- the model's checks and flags give
-pub record IsSaid (test : Test) (model : ModelText) (o : Outcome) : Type 0 where
-  pub judged : IsAnswerOf test.condition.quantifier o
-  pub cell : IsCell test o
-  pub of_model : OfModel (FirstFault [] (reverse (map naming_of PREDEFINED)) 0 (map clause_of model.items.items)) (HasNoFault [] (reverse (map naming_of PREDEFINED)) 0 (map clause_of model.items.items)) (λ e. AreNoFunctions (map clause_of model.items.items) → IsEvaluationUnder (reverse (map naming_of PREDEFINED)) model.items.items test e) o.result
-
--- the log of such an outcome
+-- the log of what evaluating them from nothing gives
 abbrev pub IsLogOf : Test → ModelText → List ℕ → Type 0
-IsLogOf test model log = (o : Outcome) × IsSaid test model o × (log ≡ log_of test.name o)
+IsLogOf test model log = (o : Outcome) × IsFromScratch test model o × (log ≡ log_of test.name o)
 
 -- the log of the test and the model that the two texts mean
 pub record IsLog (model test log : List ℕ) : Type 0 where

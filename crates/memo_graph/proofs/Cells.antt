@@ -1,18 +1,14 @@
 -- From what is said over some space to the outcome of a test.
-use Rattle.std.proofs.Common.{◌≡◌, Bool, List, [], Vec, Global, map, reverse, Result, Ok, Err, IfOk, sym, ap, ◌∙◌, subst}
+use Rattle.std.proofs.Common.{◌≡◌, Bool, List, Vec, Global, map, reverse, Result, Ok, Err, IfOk, sym, ap, ◌∙◌, subst}
 use Rattle.std.specs.declared.alloc.AllocError.{AllocError}
-use Rattle.cat_values.specs.declared.model.Item.{Item}
+use Rattle.std.proofs.lemmas.Result.{IfOk-weaker}
 use Rattle.cat_values.specs.declared.predefined.TheConstants.{PREDEFINED}
 use Rattle.litmus_values.specs.declared.test.Place.{Place}
 use Rattle.litmus_values.specs.declared.test.Test.{Test}
 use Rattle.litmus_values.specs.Value.{formula_of}
 use Rattle.litmus_printing.specs.Printing.{condition_text}
 use Rattle.binding_kinds.specs.declared.fault.ModelFault.{ModelFault}
-use Rattle.binding_kinds.specs.Outermost.{naming_of}
-use Rattle.binding_kinds.specs.Value.{clause_of, AreNoFunctions}
 use Rattle.binding_graph.specs.declared.resolved.ResolvedItem.{ResolvedItem}
-use Rattle.binding_kinds.specs.Faults.{HasNoFault}
-use Rattle.binding_graph.specs.Resolved.{AreResolved, AreLabelled}
 use Rattle.candidates.specs.declared.candidate.Space.{Space}
 use Rattle.candidates.specs.Candidates.{IsTestSpace}
 use Rattle.verdict.specs.Evaluated.{IsEvaluation, IsEvaluatedAs, IsOutcome}
@@ -27,7 +23,9 @@ use Rattle.memo_graph.specs.declared.cell.ItemAnswers.{ItemAnswers}
 use Rattle.memo_graph.specs.declared.cell.FlagAnswer.{FlagAnswer}
 use Rattle.memo_graph.specs.Answers.{of_raised, AreSaid, AreSound}
 use Rattle.memo_graph.specs.Known.{checks_of, of_flags, flags_of}
-use Rattle.memo_graph.specs.Cell.{IsSaid, IsResult, IsCell, IsEvaluationBy, IsEvaluationOver, IsEvaluationUnder, OfModel}
+use Rattle.cat_values.specs.declared.model.ModelText.{ModelText}
+use Rattle.memo_graph.specs.FromScratch.{outermost, clauses_of, IsFaultOf, IsFaultless, AreItemsOf, IsEvaluationOf, IsResultOf, IsFromScratch}
+use Rattle.memo_graph.specs.Cell.{IsSaid, IsResult, IsCell, IsEvaluationBy, IsEvaluationOver, OfModel}
 use Rattle.memo_graph.proofs.Ordered.{resolved_ordered}
 use Rattle.memo_graph.proofs.Rising.{resolved_rising}
 
@@ -78,7 +76,37 @@ of_model P Q R S (Refused (refusals.Model k)) q more h = absurd h
 of_model P Q R S (Refused (refusals.Space x)) q more h = q
 of_model P Q R S (Evaluated e) q more h = (q, more e h.1)
 
--- under a model that defines no function, whose items are so resolved
-pub under_model : (model : List Item) (items : List ResolvedItem) (test : Test) (e : Evaluation) → AreNoFunctions (map clause_of model) → HasNoFault [] (reverse (map naming_of PREDEFINED)) 0 (map clause_of model) → AreResolved [] (reverse (map naming_of PREDEFINED)) 0 (map clause_of model) items → AreLabelled model items → (AreSound items → IsEvaluationOver items test e) → IsEvaluationUnder (reverse (map naming_of PREDEFINED)) model test e
-under_model model items test e plain none resolved labels over =
-    (items, resolved, labels, over (resolved_ordered PREDEFINED (map clause_of model) items plain resolved, resolved_rising (reverse (map naming_of PREDEFINED)) 0 (map clause_of model) items plain none resolved))
+-- ---- from scratch
+
+by_parts : (test : Test) (model : ModelText) (r : OutcomeResult) → IsResult test r → OfModel (IsFaultOf model) (IsFaultless model) (IsEvaluationOf test model) r → IsResultOf test model r
+by_parts test model (Refused (refusals.Model k)) own h = h
+by_parts test model (Refused (refusals.Space x)) own h = (h, own)
+by_parts test model (Evaluated e) own h = h
+
+pub scratch_by_parts : (test : Test) (model : ModelText) (r : Result Outcome AllocError) → IfOk r (IsCell test) → IfOk r (λ o. OfModel (IsFaultOf model) (IsFaultless model) (IsEvaluationOf test model) o.result) → IfOk r (IsFromScratch test model)
+scratch_by_parts test model (Ok o) cell h = record {
+  kind = cell.kind;
+  condition = cell.text;
+  result = by_parts test model o.result cell.result h;
+}
+scratch_by_parts test model (Err e) cell h = tt
+
+-- an evaluation over the items of the model
+pub evaluation_of : (model : ModelText) (items : List ResolvedItem) (test : Test) (e : Evaluation) → IsFaultless model → AreItemsOf model items → (AreSound items → IsEvaluationOver items test e) → IsEvaluationOf test model e
+evaluation_of model items test e none resolved over =
+    let o = over (resolved_ordered PREDEFINED (clauses_of model) items resolved.0, resolved_rising outermost 0 (clauses_of model) items none resolved.0) in
+    (items, resolved, o.0, o.1, o.2)
+
+pub scratch_evaluated : (model : ModelText) (items : List ResolvedItem) (test : Test) (r : Result Outcome AllocError) → IsFaultless model → AreItemsOf model items → IfOk r (IsCell test) → IfOk r (λ o. OfModel (λ _. ⊥) (Unit {0}) (λ e. AreSound items → IsEvaluationOver items test e) o.result) → IfOk r (IsFromScratch test model)
+scratch_evaluated model items test r none resolved cell h =
+    scratch_by_parts test model r cell (IfOk-weaker r (λ o. OfModel (λ _. ⊥) (Unit {0}) (λ e. AreSound items → IsEvaluationOver items test e) o.result) (λ o. OfModel (IsFaultOf model) (IsFaultless model) (IsEvaluationOf test model) o.result)
+    (λ o s. of_model _ _ _ (λ e. AreSound items → IsEvaluationOver items test e) o.result none (λ e. evaluation_of model items test e none resolved) s) h)
+
+-- the outcome that is a fault of the model
+pub scratch_fault : (test : Test) (model : ModelText) (k : ModelFault) (r : Result Outcome AllocError) → IsFaultOf model k → IfOk r (λ o. o.kind ≡ test.condition.quantifier) → IfOk r (λ o. o.condition.items ≡ condition_text test.condition.quantifier (formula_of test.condition.proposition)) → IfOk r (λ o. o.result ≡ Refused (refusals.Model k)) → IfOk r (IsFromScratch test model)
+scratch_fault test model k (Ok o) fault kind text result = record {
+  kind = kind;
+  condition = text;
+  result = subst (λ (t : OutcomeResult). IsResultOf test model t) (sym result) fault;
+}
+scratch_fault test model k (Err e) fault kind text result = tt

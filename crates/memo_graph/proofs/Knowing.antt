@@ -199,7 +199,7 @@ risen_at (x ∷ xs) (suc k) r e h = risen_at xs k r e h.1
 
 least_by : (recursive : Bool) (bodies : List Body) (inputs : List (Bor Column)) (candidates : List Candidate) (cs : List Column) → AreRising recursive bodies → AreColumns recursive bodies inputs candidates cs → AreLeast recursive bodies inputs candidates cs
 least_by false bodies inputs candidates cs rising h = tt
-least_by true bodies inputs candidates cs rising h = (rising.0, rising.1, λ few k one e. h.values k one e rising.0 rising.1 rising.2 few)
+least_by true bodies inputs candidates cs rising h = (rising.0, rising.1, λ k one e. h.values k one e rising.0 rising.1 rising.2)
 
 least_of : (role : Role) (inputs : List (Bor Column)) (space : Space) (cs : List Column) → IsRising role → ColumnsOf role inputs space cs → LeastOf role inputs space cs
 least_of (roles.Group r b) inputs space cs rising h = least_by r b.items inputs (candidates_in space.combinations.items) cs rising h

@@ -1,6 +1,6 @@
 -- What the items of a model give over the candidates of a space. The items are listed the latest first: an item's number is
 -- the number of those behind it, and it uses names of these alone.
-use Rattle.std.specs.Prelude.{◌≡◌, ℕ, ◌<◌, ◌≤◌, ◌⊎◌, List, [], ◌∷◌, ◌++◌, length, map, reverse, Bool, true, false, Option, Some, None, slice_get, slice_index_or}
+use Rattle.std.specs.Prelude.{◌≡◌, ℕ, ◌<◌, ◌⊎◌, List, [], ◌∷◌, ◌++◌, length, map, reverse, Bool, true, false, Option, Some, None, slice_get, slice_index_or}
 use Rattle.std.specs.List.{AllZip, AllByRecursion}
 use denote.Ref.{Bor}
 use Rattle.binding_kinds.specs.declared.scope.Input.{Input}
@@ -29,13 +29,13 @@ IsNamed Values name c = (cs : List Column) × Values name.item cs × (slice_get 
 abbrev pub AreNamed : (ℕ → List Column → Type 0) → List Input → List (Bor Column) → Type 0
 AreNamed Values names inputs = AllZip (IsNamed Values) names inputs
 
--- The bodies of a recursive group are the steps of trees, and where these are at most 64, its names have the least values
--- that satisfy their equations, in each of the candidates.
+-- The bodies of a recursive group are the steps of trees, and its names have the least values that satisfy their equations,
+-- in each of the candidates.
 abbrev pub AreLeast : Bool → List Body → List (Bor Column) → List Candidate → List Column → Type 0
 AreLeast false bodies inputs candidates cs = Unit {0}
 AreLeast true bodies inputs candidates cs =
     (trees : List RelTree) × AreCodes trees bodies
-    × (length trees ≤ 64 → (k : ℕ) (one : Candidate) → slice_get candidates k ≡ Some one
+    × ((k : ℕ) (one : Candidate) → slice_get candidates k ≡ Some one
     → (values : List Relation) × IsLeast (events_of one) (EventsAt (events_of one) one inputs k) (PairsAt (events_of one) one inputs k) trees values
     × ((j : ℕ) → j < length bodies → (c : Column) → (s : Events) × HasValue (slice_index_or cs j c) k s (slice_index_or values j no_slot)))
 

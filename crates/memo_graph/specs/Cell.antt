@@ -1,5 +1,5 @@
 -- What a test says under a model.
-use Rattle.std.specs.Prelude.{◌≡◌, Bool, List, [], Vec, map, reverse}
+use Rattle.std.specs.Prelude.{◌≡◌, Bool, List, Vec, map, reverse}
 use Rattle.std.specs.declared.alloc.Global.{Global}
 use Rattle.litmus_values.specs.declared.test.Test.{Test}
 use Rattle.litmus_values.specs.Value.{formula_of}
@@ -7,11 +7,8 @@ use Rattle.litmus_printing.specs.Printing.{condition_text}
 use Rattle.candidates.specs.declared.fault.SpaceFault.TheVariants as space_faults
 use Rattle.candidates.specs.declared.candidate.Space.{Space}
 use Rattle.candidates.specs.Candidates.{IsTestSpace, IsTestRefusal}
-use Rattle.cat_values.specs.declared.model.Item.{Item}
 use Rattle.binding_kinds.specs.declared.fault.ModelFault.{ModelFault}
-use Rattle.binding_kinds.specs.Value.{Naming, clause_of}
 use Rattle.binding_graph.specs.declared.resolved.ResolvedItem.{ResolvedItem}
-use Rattle.binding_graph.specs.Resolved.{AreResolved, AreLabelled}
 use Rattle.verdict.specs.Evaluated.{IsEvaluation, IsOutcome}
 use Rattle.verdict.specs.declared.answer.Evaluation.{Evaluation}
 use Rattle.verdict.specs.declared.answer.Outcome.{Outcome}
@@ -48,11 +45,6 @@ IsEvaluationBy items space test e =
 -- likewise, on those of the test
 abbrev pub IsEvaluationOver : List ResolvedItem → Test → Evaluation → Type 0
 IsEvaluationOver items test e = (space : Space) × IsTestSpace test space × IsEvaluationBy items space test e
-
--- the evaluation of the test under a model of these items, of which the first sees those names: that of what they are
--- resolved to, with the checks negated and the flags named as in the text
-abbrev pub IsEvaluationUnder : List Naming → List Item → Test → Evaluation → Type 0
-IsEvaluationUnder names model test e = (items : List ResolvedItem) × AreResolved [] names 0 (map clause_of model) items × AreLabelled model items × IsEvaluationOver items test e
 
 -- what is said of the model is this: the first case where it is its fault that is answered, and else the second, and of an
 -- evaluation the third too

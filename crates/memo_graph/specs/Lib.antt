@@ -1,3 +1,5 @@
 pub mod Answers
 pub mod Known
 pub mod Cell
+pub mod FromScratch
+pub mod Laws

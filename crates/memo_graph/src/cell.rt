@@ -4,21 +4,18 @@ ghost use denote.Ref.{Bor};
 ghost use Rattle.std.specs.Prelude.{◌≡◌, ◌<◌, ◌∷◌, ◌++◌, ℕ, [], List, Vec, IfOk, OnOk, map, option_map, reverse, slice_index_or, vec_len};
 ghost use Rattle.litmus_values.specs.Value.{formula_of};
 ghost use Rattle.litmus_printing.specs.Printing.{condition_text};
-ghost use Rattle.binding_kinds.specs.Faults.{HasNoFault, FirstFault};
-ghost use Rattle.binding_kinds.specs.Outermost.{naming_of};
-ghost use Rattle.binding_kinds.specs.Value.{clause_of, AreNoFunctions};
 ghost use Rattle.cat_eval.specs.Columns.{ColumnsOf};
 ghost use Rattle.cat_eval.specs.Values.{AnswersOf};
 ghost use Rattle.verdict.specs.Evaluated.{IsEvaluatedAs};
-ghost use Rattle.verdict.specs.Judgement.{IsOutcomeOf, IsAnswerOf};
 ghost use Rattle.memo_graph.specs.Answers.{of_raised, AreSaid, AreSound};
 ghost use Rattle.memo_graph.specs.Known.{column_of, AreFound, IsAnswered, ColumnsAt, of_flags, checks_of, flags_of};
-ghost use Rattle.memo_graph.specs.Cell.{IsSaid, IsCell, IsEvaluationBy, IsEvaluationOver, IsEvaluationUnder, OfModel};
+ghost use Rattle.memo_graph.specs.FromScratch.{IsFromScratch};
+ghost use Rattle.memo_graph.specs.Cell.{IsSaid, IsCell, IsEvaluationBy, IsEvaluationOver, OfModel};
 
 use binding_graph::{CheckCode, Input, ResolveFault, Resolved, ResolvedItem, Role, resolve, used};
 use candidates::{Space, SpaceFault, space};
 use cat_eval::{Column, eval_check, eval_group};
-use cat_values::{ModelText, PREDEFINED};
+use cat_values::ModelText;
 use litmus_printing::print_condition;
 use litmus_values::Test;
 use source_text::Name;
@@ -213,7 +210,6 @@ fn evaluated(
     resolved: &Resolved,
     space: &Space,
 ) -> Result<Outcome, AllocError>
-    ensures judged { IfOk result (λ o. IsOutcomeOf test.now.condition.quantifier o) }
     ensures said { IfOk result (λ o. IsSaid space.now test.now o) }
     ensures answers { AreSound resolved.now.items.items → IfOk result (λ o. IsEvaluatedAs (IsEvaluationBy resolved.now.items.items space.now test.now) o.result) }
 {
@@ -242,7 +238,6 @@ fn refused(alloc: Global, test: &Test, refusal: Refusal) -> Result<Outcome, Allo
 }
 
 fn over_candidates(alloc: Global, test: &Test, resolved: &Resolved) -> Result<Outcome, AllocError>
-    ensures judged { IfOk result (λ o. IsAnswerOf test.now.condition.quantifier o) }
     ensures cell { IfOk result (λ o. IsCell test.now o) }
     ensures model { IfOk result (λ o. OfModel (λ _. ⊥) (Unit {0}) (λ e. AreSound resolved.now.items.items → IsEvaluationOver resolved.now.items.items test.now e) o.result) }
 {
@@ -256,9 +251,7 @@ fn over_candidates(alloc: Global, test: &Test, resolved: &Resolved) -> Result<Ou
 /// What the test says under the model: a fault of the model first, then a refusal of the test, and
 /// else the evaluation of all its candidates. Errors: want of memory.
 pub fn eval_cell(alloc: Global, test: &Test, model: &ModelText) -> Result<Outcome, AllocError>
-    ensures judged { IfOk result (λ o. IsAnswerOf test.now.condition.quantifier o) }
-    ensures cell { IfOk result (λ o. IsCell test.now o) }
-    ensures model { let names = reverse (map naming_of PREDEFINED) in let clauses = map clause_of model.now.items.items in IfOk result (λ o. OfModel (FirstFault [] names 0 clauses) (HasNoFault [] names 0 clauses) (λ e. AreNoFunctions clauses → IsEvaluationUnder names model.now.items.items test.now e) o.result) }
+    ensures { IfOk result (IsFromScratch test.now model.now) }
 {
     match resolve(alloc, model) {
         Ok(resolved) => over_candidates(alloc, test, &resolved),

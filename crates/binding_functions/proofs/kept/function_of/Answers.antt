@@ -8,8 +8,8 @@ use Rattle.binding_kinds.specs.Functions.{formula_in}
 use Rattle.binding_functions.proofs.Filling.{constant_postfix, factor_postfix, formula_within}
 use Rattle.binding_functions.proofs.kept.function_of.Goals as goal
 
-pub returns : goal.returns
-returns c = λ ss kept few.
+pub returns-clause-kept : goal.returns-clause-kept
+returns-clause-kept c = λ ss kept few.
     let names = reverse (map entry_of c.args.sight.now.entries.now) in
     let ps = c.args.sight.now.parameters.now in
     let formula = formula_in ss names ps (term_of c.args.body.now) in

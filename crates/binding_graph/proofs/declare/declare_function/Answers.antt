@@ -1,4 +1,4 @@
-use Rattle.std.proofs.Common.{◌≡◌, ◌≤◌, None, length, map, reverse, sym, ◌∙◌, refl, arith}
+use Rattle.std.proofs.Common.{◌≡◌, ◌≤◌, None, length, map, reverse, ap, sym, ◌∙◌, refl, arith}
 use Rattle.cat_values.specs.Values.{term_of}
 use Rattle.binding_kinds.specs.declared.kinds.Kind.TheVariants.{OfAny}
 use Rattle.binding_kinds.specs.declared.scope.Entry.{Entry}
@@ -7,7 +7,7 @@ use Rattle.binding_kinds.specs.Value.{entry_of}
 use Rattle.binding_kinds.specs.Senses.{IsKept, AreKept}
 use Rattle.binding_kinds.specs.Functions.{sense_of_function}
 use Rattle.binding_kinds.proofs.FirstItem.{few_parameters}
-use Rattle.binding_graph.proofs.Declared.{named_more, functions_more}
+use Rattle.binding_graph.proofs.Declared.{named_more, functions_more, usages_declared}
 use Rattle.binding_graph.proofs.Done.{none_of}
 use Rattle.binding_graph.proofs.declare.declare_function.Goals as goal
 
@@ -23,5 +23,14 @@ returns-clause-functions c = λ ss kept none.
     let fault : c.parameter_fault-fault.result ≡ None = none_of c.parameter_fault-fault.result (sym c.if-is_some.ensures) in
     let few : length ps ≤ 8 = few_parameters ps (sym c.parameter_fault-fault.ensures ∙ fault) in
     let seen : AreKept c.deref-2.result.now ss = rw c.deref-2.ensures.value kept in
-    let one : IsKept c.in_ok-function.function (sense_of_function ss (reverse (map entry_of c.args.scope.now.entries.items)) ps (term_of c.args.body.now)) = rw c.deref.ensures.value at (c.in_ok-function.ensures ss seen few) in
+    let one : IsKept c.in_ok-function.function (sense_of_function ss (reverse (map entry_of c.args.scope.now.entries.items)) ps (term_of c.args.body.now)) = rw c.deref.ensures.value at (c.in_ok-function.ensures.kept ss seen few) in
     functions_more c.args.scope.now.functions.items _ ss c.in_ok-function.function _ kept c.in_ok-push.ensures.items one
+
+pub returns-clause-usages : goal.returns-clause-usages
+returns-clause-usages c = λ none.
+    let given = c.in_ok-function.ensures.given in
+    let lists = c.into_lists-values.ensures in
+    let new = c.new-uses.ensures in
+    let from : c.len.result ≡ length c.args.scope.now.entries.items = let n = c.len.ensures in let k = c.args.scope.now.entries.ok in omega (arith, n, k) in
+    usages_declared c.args.scope.now.functions.items c.deref-2.result.now _ c.args.scope.now.entries.items c.deref.result.now c.in_ok-function.function c.args.place c.args.parameters.now (term_of c.args.body.now) c.len.result c.new-uses.result.values.items c.add_term.new.self.values.items c.new-uses.result.functions.items c.add_term.new.self.functions.items
+    c.deref-2.ensures.value c.deref.ensures.value from new.values new.functions c.in_ok-push.ensures.items given.0 given.1 (ap (λ v. v.items) (given.2 ∙ lists.values)) (ap (λ v. v.items) (given.3 ∙ lists.functions)) (c.in_ok-add_term.ensures.values new.indexed) (c.in_ok-add_term.ensures.functions new.listed)

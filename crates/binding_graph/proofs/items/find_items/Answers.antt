@@ -1,7 +1,10 @@
-use Rattle.std.proofs.Common.{ℕ, [], ◌≡◌, ◌<◌, ◌≤◌, ◌+◌, ◌∙◌, ap, sym, length, map, reverse, None, arith, vec_len}
+use Rattle.std.proofs.Common.{ℕ, List, ◌≡◌, ◌<◌, ◌≤◌, ◌+◌, ◌∙◌, ap, sym, length, map, reverse, take, None, arith, vec_len}
 use Rattle.binding_kinds.specs.Value.{clause_of, entry_of}
-use Rattle.binding_graph.proofs.Done.{next_clause, still_empty, fit_next, searched_more, searched_all, done_more, all_done, from_fits, none_of}
-use Rattle.binding_kinds.proofs.Fitted.{plain_clause}
+use Rattle.binding_graph.proofs.Done.{fit_next, searched_more, searched_all, done_more, all_done, from_fits, none_of}
+use Rattle.binding_kinds.proofs.Fitted.{sound_item}
+use Rattle.binding_kinds.specs.declared.scope.Entry.{Entry}
+use Rattle.binding_kinds.specs.Faults.{senses_after}
+use Rattle.binding_graph.specs.Usages.{usage_of}
 use Rattle.binding_graph.proofs.Labels.{labels_more, labels_all}
 use Rattle.binding_graph.proofs.items.find_items.Goals as goal
 
@@ -18,23 +21,24 @@ loop-place-preserved c =
       rest = λ ss kept.
           searched_more ss _ before after c.loop-place.scope.functions.items c.item_fault.new.scope.functions.items c.args.items.now c.loop-place.place d c.in_ok-fault.fault lt (c.loop-place.invariant.rest ss kept) none
           (λ s k. rw (← is) (c.in_ok-fault.ensures.fault s k)) (λ s k e. rw (← is) (c.in_ok-fault.ensures.names s k e)) (λ s k e. rw (← is) (c.in_ok-fault.ensures.functions s k e));
-      items = λ empty known plain.
-          let m = c.loop-place.invariant.items empty known plain in
-          let first = c.in_ok-fault.ensures.fault [] m.empty in
+      items = λ ss kept_all sound known.
+          let m = c.loop-place.invariant.items ss kept_all sound known in
+          let first = c.in_ok-fault.ensures.fault m.senses m.kept in
           let kept = c.in_ok-fault.ensures.kept in
-          let names = c.in_ok-fault.ensures.names [] m.empty none in
-          let functions = c.in_ok-fault.ensures.functions [] m.empty none in
+          let names = c.in_ok-fault.ensures.names m.senses m.kept none in
+          let functions = c.in_ok-fault.ensures.functions m.senses m.kept none in
+          let usages = c.in_ok-fault.ensures.usages none in
           let from : c.len-from.result ≡ length before = omega arith in
           let room : length before ≤ vec_len c.item_fault.new.scope.entries = omega (arith, from_fits before after kept) in
-          let fit = fit_next before after c.loop-place.place (clause_of d) c.in_ok-fault.fault m.known none first names kept in
-          let empty_now = still_empty (reverse (map entry_of before)) c.item_fault.new.scope.functions.items (clause_of d) (rw (← is) at (next_clause c.args.items.now c.loop-place.place d lt m.plain)) functions in
-          let resolved = (rw from at c.in_ok-one.ensures.resolved) [] empty_now tt (plain_clause _ _ (clause_of d) fit) room fit in
-          done_more _ before after c.args.items.now c.loop-place.place d _ _ _ _ c.in_ok-one.one c.in_ok-fault.fault lt m (rw (← is) functions) none (rw (← is) first) (rw (← is) names) kept (rw (← is) resolved) c.in_ok-push_item.ensures.items;
+          let fit = fit_next m.senses before after c.loop-place.place (clause_of d) c.in_ok-fault.fault m.known none first names kept in
+          let seen : reverse (map entry_of (take (length before) after)) ≡ reverse (map entry_of before) = ap (λ (l : List Entry). reverse (map entry_of l)) kept in
+          let resolved = (rw from at c.in_ok-one.ensures.resolved) (senses_after m.senses (reverse (map entry_of before)) (clause_of d)) (map usage_of c.loop-place.scope.functions.items) c.loop-place.place functions (sound_item m.senses (reverse (map entry_of before)) c.loop-place.place (clause_of d) m.sound m.known (sym first ∙ none)) (rw seen usages) room fit in
+          done_more ss _ _ before after c.args.items.now c.loop-place.place d _ _ _ _ c.in_ok-one.one c.in_ok-fault.fault lt m (rw (← is) functions) none (rw (← is) first) (rw (← is) names) (rw (← is) usages) kept (rw (← is) resolved) c.in_ok-push_item.ensures.items;
       labels = labels_more c.args.items.now c.loop-place.place d c.loop-place.resolved.items _ c.in_ok-one.one lt c.loop-place.invariant.labels (rw (← is) c.in_ok-one.ensures.label) c.in_ok-push_item.ensures.items;
     }
 
 pub returns-clause-items : goal.returns-clause-items
-returns-clause-items c = λ empty known plain none. all_done _ _ _ c.args.items.now c.loop-place.place c.loop-place.resolved.items (c.loop-place.invariant.items empty known plain) (omega arith)
+returns-clause-items c = λ ss kept sound known none. all_done ss _ _ _ _ c.args.items.now c.loop-place.place c.loop-place.resolved.items (c.loop-place.invariant.items ss kept sound known) (omega arith)
 
 pub returns-clause-labels : goal.returns-clause-labels
 returns-clause-labels c = λ none. labels_all c.args.items.now c.loop-place.place c.loop-place.resolved.items (omega arith) c.loop-place.invariant.labels

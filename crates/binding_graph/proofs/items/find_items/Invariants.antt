@@ -1,7 +1,8 @@
 use Rattle.std.proofs.Common.{◌≡◌, List, [], reverse, map, take, vec_len}
-use Rattle.binding_kinds.specs.Value.{entry_of, clause_of, AreNoFunctions}
+use Rattle.binding_kinds.specs.Value.{entry_of}
 use Rattle.binding_kinds.specs.Senses.{Sense, AreKept}
-use Rattle.binding_kinds.specs.Fits.{AreKnown}
+use Rattle.binding_kinds.specs.Fits.{AreKnown, AreSound}
+use Rattle.binding_graph.specs.Usages.{usage_of}
 use Rattle.binding_graph.specs.Resolved.{AreLabelled}
 use Rattle.binding_graph.proofs.Done.{AreDone, AreSearched}
 use Rattle.binding_graph.proofs.items.find_items.Given as goal
@@ -11,7 +12,7 @@ invariant-loop-place l = record {
   count : vec_len l.resolved ≡ l.place;
   rest : (senses : List Sense) → AreKept l.fn.scope.functions.items senses →
       AreSearched senses (reverse (map entry_of l.fn.scope.entries.items)) (reverse (map entry_of l.scope.entries.items)) l.scope.functions.items l.items l.place;
-  items : l.fn.scope.functions.items ≡ [] → AreKnown (reverse (map entry_of l.fn.scope.entries.items)) → AreNoFunctions (map clause_of l.items) →
-      AreDone (reverse (map entry_of l.fn.scope.entries.items)) (reverse (map entry_of l.scope.entries.items)) l.scope.functions.items l.items l.place l.resolved.items;
+  items : (senses : List Sense) → AreKept l.fn.scope.functions.items senses → AreSound senses → AreKnown (reverse (map entry_of l.fn.scope.entries.items)) →
+      AreDone senses (map usage_of l.fn.scope.functions.items) (reverse (map entry_of l.fn.scope.entries.items)) (reverse (map entry_of l.scope.entries.items)) l.scope.functions.items l.items l.place l.resolved.items;
   labels : AreLabelled (take l.place l.items) l.resolved.items;
 }

@@ -1,30 +1,44 @@
-use Rattle.std.proofs.Common.{◌<◌, ◌≤◌, length, reverse, map, vec_len, arith, refl}
+use Rattle.std.proofs.Common.{◌<◌, length, reverse, map, arith, refl}
 use Rattle.cat_values.specs.Values.{term_of}
 use Rattle.binding_kinds.specs.Value.{entry_of}
-use Rattle.binding_kinds.specs.Fits.{IsPlain, IsFit}
-use Rattle.binding_graph.proofs.Bodies.{next_plain, next_fit, made_more, all_made, all_used}
+use Rattle.binding_kinds.specs.Fits.{IsFit}
+use Rattle.binding_graph.proofs.Bodies.{next_fit, made_more, used_more, applied_more, all_made, all_used, all_applied}
 use Rattle.binding_graph.proofs.items.lower_bodies.Goals as goal
 
 pub loop-binding-init : goal.loop-binding-init
-loop-binding-init c = λ ss kept sound all_plain none fit ix len. record { plain = all_plain; fit = fit; indexed = ix; places = refl; uses = refl; bodies = λ rs h. rw c.new-bodies.ensures.items h }
+loop-binding-init c = record {
+  bodies = λ ss kept sound none fit ix. record { fit = fit; bodies = λ rs h. rw c.new-bodies.ensures.items h };
+  values = λ none ix. record { indexed = ix; values = refl };
+  functions = λ none listed. record { listed = listed; functions = refl };
+}
 
 pub loop-binding-preserved : goal.loop-binding-preserved
-loop-binding-preserved c = λ ss kept sound all_plain none fit ix len.
-    let m = c.loop-binding.invariant ss kept sound all_plain none fit ix len in
+loop-binding-preserved c =
     let lt : c.loop-binding.binding-index < length c.args.group.now = omega arith in
     let is = c.binding-item.is in
     let d = c.binding-item.result in
-    let f : IsFit ss (reverse (map entry_of c.args.sight.now.entries.now)) (term_of d.body) = rw (← is) at (next_fit ss _ c.args.group.now c.loop-binding.binding-index d lt m.fit) in
-    let p : IsPlain (term_of d.body) = rw (← is) at (next_plain c.args.group.now c.loop-binding.binding-index d lt m.plain) in
-    let room : length c.args.sight.now.entries.now ≤ vec_len c.loop-binding.uses.places = rw m.places len in
-    made_more ss _ _ c.args.uses.now c.loop-binding.uses c.code_of.new.uses c.args.group.now c.loop-binding.binding-index d _ _ (record { name = c.in_ok-copied.field-0; code = c.in_ok-code.code }) lt m
-    c.in_ok-push.ensures.items (rw (← is) c.in_ok-copied.ensures) (rw (← is) (c.in_ok-code.ensures.code ss kept sound none m.indexed f)) (rw (← is) (c.in_ok-code.ensures.uses none p m.indexed room))
-    (c.in_ok-code.ensures.indexed m.indexed) (c.in_ok-code.ensures.places none p m.indexed room)
+    let m = c.loop-binding.invariant in
+    record {
+      bodies = λ ss kept sound none fit ix.
+          let now = m.bodies ss kept sound none fit ix in
+          let indexed = (m.values none ix).indexed in
+          let f : IsFit ss (reverse (map entry_of c.args.sight.now.entries.now)) (term_of d.body) = rw (← is) at (next_fit ss _ c.args.group.now c.loop-binding.binding-index d lt now.fit) in
+          made_more ss _ _ _ c.args.uses.now c.loop-binding.uses c.code_of.new.uses c.args.group.now c.loop-binding.binding-index d _ _ (record { name = c.in_ok-copied.field-0; code = c.in_ok-code.code }) lt now
+          c.in_ok-push.ensures.items (rw (← is) c.in_ok-copied.ensures) (rw (← is) (c.in_ok-code.ensures.code ss kept sound none indexed f)) (rw (← is) (rw none at (c.in_ok-code.ensures.values indexed)));
+      values = λ none ix.
+          let now = m.values none ix in
+          used_more _ _ _ c.args.uses.now c.loop-binding.uses c.code_of.new.uses c.args.group.now c.loop-binding.binding-index d lt now (rw (← is) (rw none at (c.in_ok-code.ensures.values now.indexed))) (c.in_ok-code.ensures.indexed now.indexed);
+      functions = λ none listed.
+          let now = m.functions none listed in
+          applied_more _ _ c.args.uses.now c.loop-binding.uses c.code_of.new.uses c.args.group.now c.loop-binding.binding-index d lt now (rw (← is) (rw none at (c.in_ok-code.ensures.functions now.listed))) (c.in_ok-code.ensures.listed now.listed);
+    }
 
 pub returns-clause-bodies : goal.returns-clause-bodies
-returns-clause-bodies c = λ ss kept sound all_plain none fit ix len.
-    all_made ss _ _ _ _ c.args.group.now c.loop-binding.binding-index c.loop-binding.bodies.items (c.loop-binding.invariant ss kept sound all_plain none fit ix len) (omega arith)
+returns-clause-bodies c = λ ss kept sound none fit ix.
+    all_made ss _ _ _ _ _ c.args.group.now c.loop-binding.binding-index c.loop-binding.bodies.items (c.loop-binding.invariant.bodies ss kept sound none fit ix) (omega arith)
 
-pub returns-clause-uses : goal.returns-clause-uses
-returns-clause-uses c = λ ss kept sound all_plain none fit ix len.
-    all_used ss _ _ _ _ c.args.group.now c.loop-binding.binding-index c.loop-binding.bodies.items (c.loop-binding.invariant ss kept sound all_plain none fit ix len) (omega arith)
+pub returns-clause-values : goal.returns-clause-values
+returns-clause-values c = λ none ix. all_used _ _ _ _ _ c.args.group.now c.loop-binding.binding-index (c.loop-binding.invariant.values none ix) (omega arith)
+
+pub returns-clause-functions : goal.returns-clause-functions
+returns-clause-functions c = λ none listed. all_applied _ _ _ _ c.args.group.now c.loop-binding.binding-index (c.loop-binding.invariant.functions none listed) (omega arith)

@@ -1,20 +1,25 @@
-use Rattle.std.proofs.Common.{◌≡◌, ◌≤◌, length, reverse, map, take, vec_len, arith, refl}
-use Rattle.std.proofs.lemmas.List.{length-take}
+use Rattle.std.proofs.Common.{ap, ◌∙◌, ◌≡◌, reverse, map, take, refl}
 use Rattle.binding_kinds.specs.Value.{entry_of}
 use Rattle.cat_values.specs.Values.{term_of}
 use Rattle.binding_kinds.specs.Fits.{IsFit}
 use Rattle.binding_kinds.specs.Senses.{AreKept}
-use Rattle.binding_graph.proofs.Bodies.{checked}
+use Rattle.binding_graph.proofs.Bodies.{checked, inputs_made, functions_made}
 use Rattle.binding_graph.proofs.items.lower_check.Goals as goal
 
 pub returns-clause-code : goal.returns-clause-code
-returns-clause-code c = λ ss kept sound plain le fit.
+returns-clause-code c = λ ss kept sound le fit.
     let s = c.sight_of-sight.ensures in
-    let kept_seen : AreKept c.sight_of-sight.result.functions.now ss = rw s.functions kept in
+    let seen = c.sight_of-sight.result in
+    let kept_seen : AreKept seen.functions.now ss = rw s.functions kept in
     let t = term_of c.args.check.now.body in
-    let before : c.sight_of-sight.result.entries.now ≡ take c.args.from c.args.scope.now.entries.items = s.before refl le in
-    let room : length c.sight_of-sight.result.entries.now ≤ vec_len c.in_ok-uses.uses.places = rw (before, c.in_ok-uses.ensures.places) (omega (arith, length-take c.args.from c.args.scope.now.entries.items)) in
-    let f : IsFit ss (reverse (map entry_of c.sight_of-sight.result.entries.now)) t = rw before fit in
-    let done = checked ss _ c.sight_of-sight.result.entries.now _ c.sight_of-sight.result.from t c.in_ok-code.code c.in_ok-uses.uses.values.items c.code_of.new.uses.values.items _ c.in_ok-inputs_of_values.field-0.items before s.from c.in_ok-uses.ensures.values
-    (c.in_ok-code.ensures.code ss kept_seen sound s.parameters c.in_ok-uses.ensures.indexed f) (c.in_ok-code.ensures.uses s.parameters plain c.in_ok-uses.ensures.indexed room) c.deref.ensures.value c.in_ok-inputs_of_values.ensures in
-    ((refl, done.0), done.1)
+    let before : seen.entries.now ≡ take c.args.from c.args.scope.now.entries.items = s.before refl le in
+    let f : IsFit ss (reverse (map entry_of seen.entries.now)) t = rw before fit in
+    let new = c.new-uses.ensures in
+    let done = checked ss c.args.scope.now.functions.items seen.functions.now _ seen.entries.now seen.parameters.now _ seen.from t c.in_ok-code.code c.new-uses.result.values.items c.code_of.new.uses.values.items c.new-uses.result.functions.items c.code_of.new.uses.functions.items s.functions before s.parameters s.from new.values new.functions
+    (c.in_ok-code.ensures.code ss kept_seen sound s.parameters new.indexed f) (c.in_ok-code.ensures.values new.indexed) (c.in_ok-code.ensures.functions new.listed) in (
+      (refl, done.0),
+      record {
+        inputs = inputs_made c.code_of.new.uses.values.items _ c.in_ok-inputs_of_values.field-0.items _ done.1 (c.deref.ensures.value ∙ ap (λ v. v.items) c.into_lists-values.ensures.values) c.in_ok-inputs_of_values.ensures;
+        functions = functions_made c.code_of.new.uses.functions.items _ _ done.2 (ap (λ v. v.items) c.into_lists-values.ensures.functions);
+      },
+    )

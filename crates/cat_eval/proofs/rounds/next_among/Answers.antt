@@ -4,7 +4,7 @@ use Rattle.cat_eval.proofs.rounds.next_among.Goals as goal
 use Rattle.cat_eval.proofs.rounds.next_among.Goals.{then-uses_any, else-uses_any}
 
 pub loop-position-init : goal.loop-position-init
-loop-position-init c = λ k few. ((λ h. absurd (among_none k h)), (λ h. absurd (omega (arith, h.0))))
+loop-position-init c = λ k. ((λ h. absurd (among_none k h)), (λ h. absurd (omega (arith, h.1))))
 
 pub loop-position-preserved : goal.loop-position-preserved
 loop-position-preserved c = elim c.if-uses_any.branch [
@@ -17,7 +17,7 @@ loop-position-preserved c = elim c.if-uses_any.branch [
 ]
 
 pub returns : goal.returns
-returns c = λ k few. (
-  (λ h. ((c.loop-position.invariant k few).0 h).1),
-  (λ at. (c.loop-position.invariant k few).1 (omega (arith, at.1, c.loop-position-test.false), at)),
+returns c = λ k. (
+  (λ h. let was = (c.loop-position.invariant k).0 h in (was.0, was.2, was.3)),
+  (λ near. (c.loop-position.invariant k).1 (near.0, omega (arith, near.2.1, c.loop-position-test.false), near.1, near.2)),
 )

@@ -7,4 +7,4 @@ returns-clause-added c = λ j lt inside col.
     rw c.values.ensures at (c.in_ok-put_all.ensures.added j room inside col)
 
 pub returns-clause-least : goal.returns-clause-least
-returns-clause-least c = λ long trees codes fit few. c.in_ok-solve.ensures.least trees codes fit few long
+returns-clause-least c = λ long trees codes fit. c.in_ok-solve.ensures.least trees codes fit long

@@ -23,10 +23,10 @@ loop-position-preserved c =
             (λ _. omega (arith, less, before.1)),
             omega (arith, less, before.1),
             w.with_name-grew.type_inv,
-            (λ trees codes fit few first.
+            (λ trees codes fit first.
                 turn_grows base.count events pairs trees c.args.bodies.now l.self.own.items c.args.names l.position l.grew w.index-bodies-position.result w.evaluate.new.self.machine.relations
-                codes fit (before.3 trees codes fit few first) c.loop-position-test.true w.index-bodies-position.is w.in_ok-evaluate.ensures.relation
-                w.keep.new.self.own.items w.with_name-grew.result few before.2 (rw same at w.keep.ensures.value) w.with_name-grew.ensures),
+                codes fit (before.3 trees codes fit first) c.loop-position-test.true w.index-bodies-position.is w.in_ok-evaluate.ensures.relation
+                w.keep.new.self.own.items w.with_name-grew.result (rw same at w.keep.ensures.value) w.with_name-grew.ensures),
           )
       | then-has_name+then-position-len+in_ok-evaluate+else-keep w ↦
           let same = w.in_ok-evaluate.ensures.own in
@@ -35,9 +35,9 @@ loop-position-preserved c =
             (λ some. rw kept (before.0 some)),
             rw kept before.1,
             before.2,
-            (λ trees codes fit few first.
+            (λ trees codes fit first.
                 turn_stays base.count events pairs trees c.args.bodies.now l.self.own.items c.args.names l.position l.grew w.index-bodies-position.result w.evaluate.new.self.machine.relations
-                codes fit (before.3 trees codes fit few first) c.loop-position-test.true w.index-bodies-position.is w.in_ok-evaluate.ensures.relation
+                codes fit (before.3 trees codes fit first) c.loop-position-test.true w.index-bodies-position.is w.in_ok-evaluate.ensures.relation
                 w.keep.new.self.own.items kept (rw same at w.keep.ensures.value)),
           )
       | else-has_name w ↦
@@ -45,8 +45,8 @@ loop-position-preserved c =
             before.0,
             before.1,
             before.2,
-            (λ trees codes fit few first.
-                let round = before.3 trees codes fit few first in
+            (λ trees codes fit first.
+                let round = before.3 trees codes fit first in
                 elim w.else-has_name.branch [
                   | else-has_name-via-then-has_name+else-position-len w' ↦
                       absurd (omega (arith, w'.if-position-len.false, w'.len.ensures, round.sound.as_many, codes_long trees c.args.bodies.now codes, c.loop-position-test.true))
@@ -58,6 +58,6 @@ loop-position-preserved c =
     ]
 
 pub returns-clause-solved : goal.returns-clause-solved
-returns-clause-solved c = λ trees codes fit few first.
+returns-clause-solved c = λ trees codes fit first.
     let at_end : c.loop-position.position ≡ length trees = omega (arith, codes_long trees c.args.bodies.now codes, c.loop-position-test.false, c.loop-position.auto.position-end) in
-    rw at_end at (c.loop-position.invariant.3 trees codes fit few first)
+    rw at_end at (c.loop-position.invariant.3 trees codes fit first)

@@ -1,4 +1,4 @@
-use Rattle.std.proofs.Common.{◌≡◌, ◌<◌, ◌≤◌, ◌^◌, List, length}
+use Rattle.std.proofs.Common.{◌≡◌, ◌<◌, ◌≤◌, ◌^◌, List}
 use Rattle.binding_graph.specs.Trees.{RelTree}
 use Rattle.cat_eval.specs.Least.{AreMonotone}
 use Rattle.cat_eval.specs.Named.{EventsIn, PairsOutside}
@@ -10,6 +10,6 @@ invariant-loop-position l =
     ((l.grew ≡ 0 → ⊥) → rooms l.self.own.items < rooms l.initial.self.own.items)
     × (rooms l.self.own.items ≤ rooms l.initial.self.own.items)
     × (l.grew < 2 ^ 64)
-    × ((trees : List RelTree) → AreCodes trees l.bodies → AreMonotone trees → length trees ≤ 64
+    × ((trees : List RelTree) → AreCodes trees l.bodies → AreMonotone trees
     → IsRound l.base.count (EventsIn l.base l.inputs l.candidate) (PairsOutside l.base l.inputs l.candidate) trees l.initial.self.own.items l.names 0 0
     → IsRound l.base.count (EventsIn l.base l.inputs l.candidate) (PairsOutside l.base l.inputs l.candidate) trees l.self.own.items l.names l.position l.grew)

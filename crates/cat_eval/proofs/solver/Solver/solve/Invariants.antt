@@ -1,4 +1,4 @@
-use Rattle.std.proofs.Common.{◌≡◌, ◌≤◌, List, length}
+use Rattle.std.proofs.Common.{◌≡◌, List, length}
 use Rattle.binding_graph.specs.Trees.{RelTree}
 use Rattle.cat_eval.specs.Least.{AreMonotone}
 use Rattle.cat_eval.specs.Named.{EventsIn, PairsOutside}
@@ -8,7 +8,7 @@ use Rattle.cat_eval.proofs.solver.Solver.solve.Given as goal
 abbrev pub invariant-rounds : goal.invariant-rounds
 invariant-rounds l =
     (length l.self.own.items ≡ length l.initial.self.own.items)
-    × ((trees : List RelTree) → AreCodes trees l.bodies → AreMonotone trees → length trees ≤ 64 → length l.initial.self.own.items ≡ length l.bodies
+    × ((trees : List RelTree) → AreCodes trees l.bodies → AreMonotone trees → length l.initial.self.own.items ≡ length l.bodies
     → IsRound l.base.count (EventsIn l.base l.inputs l.candidate) (PairsOutside l.base l.inputs l.candidate) trees l.self.own.items l.names 0 0)
 
 abbrev pub decreases-rounds : goal.decreases-rounds
