@@ -1,11 +1,13 @@
 pub mod Compiled
 pub mod Counting
 pub mod Evaluated
+pub mod EvaluationContent
 pub mod Final
 pub mod Judgement
 pub mod Kept
 pub mod Meaning
 pub mod Names
 pub mod Order
+pub mod OutcomeContent
 pub mod Shown
 pub mod Text
