@@ -9,3 +9,4 @@ pub mod Orders
 pub mod Places
 pub mod Spread
 pub mod Tallies
+pub mod Uniqueness

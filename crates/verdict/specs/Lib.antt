@@ -5,6 +5,7 @@ pub mod EvaluationContent
 pub mod Final
 pub mod Judgement
 pub mod Kept
+pub mod Laws
 pub mod Meaning
 pub mod Names
 pub mod Order
