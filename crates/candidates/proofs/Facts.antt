@@ -1,5 +1,5 @@
 -- The dependencies of a combination are the facts of its runs.
-use Rattle.std.proofs.Common.{ℕ, zero, suc, ◌≡◌, ◌≤◌, ◌+◌, ◌-◌, ◌^◌, ◌⊎◌, ◌↔◌, min, List, [], ◌∷◌, ◌++◌, take, length, Some, None, slice_get, refl, ap, sym, subst, ◌∙◌, inl, inr, arith, append_assoc, append-nil, Contains, lit≤}
+use Rattle.std.proofs.Common.{ℕ, zero, suc, true, ◌≡◌, ◌≤◌, ◌+◌, ◌-◌, ◌^◌, ◌⊎◌, ◌↔◌, min, List, [], ◌∷◌, ◌++◌, take, length, Some, None, slice_get, refl, ap, sym, subst, ◌∙◌, inl, inr, arith, append_assoc, append-nil, Contains, lit≤}
 use Rattle.std.proofs.Math.Nat.{min-eq_left}
 use Rattle.std.proofs.lemmas.List.{length-append, length-take}
 use Rattle.std.proofs.lemmas.List.Elements.{Contains-append_left, Contains-append_right, Contains-append_cases}
@@ -7,6 +7,7 @@ use Rattle.thread_runs.specs.declared.value.Value.{Value}
 use Rattle.thread_runs.specs.declared.instruction.Event as run
 use Rattle.thread_runs.specs.declared.instruction.RunStep.{RunStep}
 use Rattle.thread_runs.specs.declared.run.Run as made
+use Rattle.thread_runs.specs.Machine.{is_load}
 use Rattle.thread_runs.specs.Runs.{Thread, Run, executed}
 use Rattle.thread_runs.specs.AllRuns.{Shown}
 use Rattle.dataflow.specs.Chains.{Executed, IsAddr, IsData, IsCtrl, IsCtrlIsync, IsNeed, IsListOf, event_place}
@@ -36,6 +37,11 @@ events_are thread b c (t ∷ ts) (m ∷ ms) h =
     ∙ append_assoc b.seen.events h.1.events.items (chosen_events (thread + 1) ms)
     ∙ ap (λ (es : List Event). b.seen.events ++ (es ++ chosen_events (thread + 1) ms)) h.2.1.events
 
+pub few_on : (thread : ℕ) (ts : List ThreadParts) (ms : List made.Run) (b c : Begun) → GoesOnWith thread b ts ms c → length c.seen.events ≤ 128 → length b.seen.events ≤ 128
+few_on thread ts ms b c h few =
+    let e : length c.seen.events ≡ length (b.seen.events ++ chosen_events thread ms) = ap (λ (es : List Event). length es) (events_are thread b c ts ms h) in
+    omega (arith, e, length-append b.seen.events (chosen_events thread ms), few)
+
 -- the pairs of one run
 pub record OfRun (R : Executed → ℕ → ℕ → Type 0) (base : ℕ) (steps : List RunStep) (x y : ℕ) : Type 0 where
   pub first : ℕ
@@ -44,7 +50,7 @@ pub record OfRun (R : Executed → ℕ → ℕ → Type 0) (base : ℕ) (steps :
   pub from : x ≡ base + event_place (executed steps) first
   pub to : y ≡ base + event_place (executed steps) second
 
-small : (n : ℕ) → n ≤ 256 → min n (2 ^ 64 - 1) ≡ n
+pub small : (n : ℕ) → n ≤ 256 → min n (2 ^ 64 - 1) ≡ n
 small n le = let most : 256 ≤ 2 ^ 64 - 1 = lit≤ tt in min-eq_left (omega (arith, le, most))
 
 module _ (R : Executed → ℕ → ℕ → Type 0) (base : ℕ) (steps : List RunStep) (ps : List (ℕ × ℕ)) (are : IsListOf R (executed steps) ps) (low : base ≤ 128) (few : event_place (executed steps) (length steps) ≤ 128) where
@@ -92,6 +98,7 @@ pub record Listed : Type 1 where
   pub listed : (at : Executed) (l : Links) → AreLinks at l → IsListOf Related at (own l)
   pub grows : (at : ℕ) (p : Part) (b : Begun) → all (with_run at p b) ≡ all b ++ moved (length b.seen.events) (own p.links)
   pub first : (es : List Event) → all (start es) ≡ []
+  pub starts : (at : Executed) (i j : ℕ) → Related at i j → is_load (at i) ≡ true
 
 run_is : {r s : Run} → Some r ≡ Some s → r ≡ s
 run_is e = cc
@@ -112,29 +119,29 @@ module _ (d : Listed) (V : List Value) where
           let l : length (take 128 r.outcome.walk.events) ≡ length r.outcome.walk.events = ap (λ (es : List run.Event). length es) e in
           omega (arith, l, length-take 128 r.outcome.walk.events)
 
-  record OneMore (thread : ℕ) (b : Begun) (t : Thread) (m : made.Run) (r : Run) (at : ℕ) (p : Part) : Type 0 where
-    same : SameRun V t m r
-    is : IsPartOf thread m p
-    few : length (with_run at p b).seen.events ≤ 128
+  pub record OneMore (thread : ℕ) (b : Begun) (t : Thread) (m : made.Run) (r : Run) (at : ℕ) (p : Part) : Type 0 where
+    pub same : SameRun V t m r
+    pub is : IsPartOf thread m p
+    pub few : length (with_run at p b).seen.events ≤ 128
 
   module _ (thread : ℕ) (b : Begun) (t : Thread) (m : made.Run) (r : Run) (at : ℕ) (p : Part) (o : OneMore thread b t m r at p) where
     events_of : p.events.items ≡ thread_events thread r.outcome.walk.events
     events_of = o.is.events ∙ ap (λ (es : List run.Event). thread_events thread es) o.same.0.events
 
-    longer : length (with_run at p b).seen.events ≡ length b.seen.events + length (thread_events thread r.outcome.walk.events)
+    pub longer : length (with_run at p b).seen.events ≡ length b.seen.events + length (thread_events thread r.outcome.walk.events)
     longer = length-append b.seen.events p.events.items ∙ ap (λ (es : List Event). length b.seen.events + length es) events_of
 
-    low : length b.seen.events ≤ 128
+    pub low : length b.seen.events ≤ 128
     low = omega (arith, longer, o.few)
 
-    run_few : event_place (executed r.outcome.walk.steps) (length r.outcome.walk.steps) ≤ 128
+    pub run_few : event_place (executed r.outcome.walk.steps) (length r.outcome.walk.steps) ≤ 128
     run_few =
         let long : event_place (executed r.outcome.walk.steps) (length r.outcome.walk.steps) ≡ length r.outcome.walk.events = places_are_events t.lines t.first r.values r.outcome o.same.1.1 in
         let e : take 128 r.outcome.walk.events ≡ r.outcome.walk.events = sym (ap (λ (s : Shown). s.events) o.same.0.shows) ∙ o.same.0.events in
         let l : length (take 128 r.outcome.walk.events) ≡ length r.outcome.walk.events = ap (λ (es : List run.Event). length es) e in
         omega (arith, long, l, length-take 128 r.outcome.walk.events)
 
-    links : IsListOf d.Related (executed r.outcome.walk.steps) (d.own p.links)
+    pub links : IsListOf d.Related (executed r.outcome.walk.steps) (d.own p.links)
     links = part_links t thread m r p o.same o.is
 
     base_at : (its : ℕ) (rs : List Run) → length b.seen.events + length (events_from thread (take (suc its) (r ∷ rs))) ≡ length (with_run at p b).seen.events + length (events_from (thread + 1) (take its rs))
@@ -209,14 +216,8 @@ module _ (d : Listed) (V : List Value) where
   pairs_are (q ∷ threads) thread ts (m ∷ ms) [] b c one e few x y = absurd one
   pairs_are (q ∷ threads) thread [] (m ∷ ms) (r ∷ rs) b c one e few x y = absurd e
   pairs_are (q ∷ threads) thread (t ∷ ts) (m ∷ ms) (r ∷ rs) b c one g few x y =
-      let within : length (with_run g.0 g.1 b).seen.events ≤ 128 = go in
+      let within : length (with_run g.0 g.1 b).seen.events ≤ 128 = few_on (thread + 1) ts ms (with_run g.0 g.1 b) c g.3 few in
       one_more thread b q m r g.0 g.1 (record { same = one.0; is = g.2.1; few = within }) rs x y (Contains (d.all c) (x, y)) (pairs_are threads (thread + 1) ts ms rs (with_run g.0 g.1 b) c one.1 g.3 few x y)
-    where
-      go : length (with_run g.0 g.1 b).seen.events ≤ 128
-      go =
-          let e : length c.seen.events ≡ length ((with_run g.0 g.1 b).seen.events ++ chosen_events (thread + 1) ms) = ap (λ (es : List Event). length es) (events_are (thread + 1) (with_run g.0 g.1 b) c ts ms g.3) in
-          let a : length ((with_run g.0 g.1 b).seen.events ++ chosen_events (thread + 1) ms) ≡ length (with_run g.0 g.1 b).seen.events + length (chosen_events (thread + 1) ms) = length-append (with_run g.0 g.1 b).seen.events (chosen_events (thread + 1) ms) in
-          omega (arith, e, a, few)
 
   -- the pairs of a combination are the facts of its runs
   before : (initial : List Value) (rs : List Run) (its : ℕ) → length (events initial (take its rs)) ≡ length (initial_stores 0 initial) + length (events_from 0 (take its rs))
@@ -257,16 +258,16 @@ module _ (d : Listed) (V : List Value) where
 
 -- the five dependencies
 abbrev pub addr : Listed
-addr = record { Related = IsAddr; own = λ l. l.addr_pairs.items; all = λ b. b.seen.addr_pairs; listed = λ at l a. a.addr; grows = λ at p b. refl; first = λ es. refl }
+addr = record { Related = IsAddr; own = λ l. l.addr_pairs.items; all = λ b. b.seen.addr_pairs; listed = λ at l a. a.addr; grows = λ at p b. refl; first = λ es. refl; starts = λ at i j r. r.0 }
 
 abbrev pub data_listed : Listed
-data_listed = record { Related = IsData; own = λ l. l.data_pairs.items; all = λ b. b.seen.data_pairs; listed = λ at l a. a.«data»; grows = λ at p b. refl; first = λ es. refl }
+data_listed = record { Related = IsData; own = λ l. l.data_pairs.items; all = λ b. b.seen.data_pairs; listed = λ at l a. a.«data»; grows = λ at p b. refl; first = λ es. refl; starts = λ at i j r. r.0 }
 
 abbrev pub ctrl : Listed
-ctrl = record { Related = IsCtrl; own = λ l. l.ctrl_pairs.items; all = λ b. b.seen.ctrl_pairs; listed = λ at l a. a.ctrl; grows = λ at p b. refl; first = λ es. refl }
+ctrl = record { Related = IsCtrl; own = λ l. l.ctrl_pairs.items; all = λ b. b.seen.ctrl_pairs; listed = λ at l a. a.ctrl; grows = λ at p b. refl; first = λ es. refl; starts = λ at i j r. r.1.3.0 }
 
 abbrev pub ctrlisync : Listed
-ctrlisync = record { Related = IsCtrlIsync; own = λ l. l.ctrlisync_pairs.items; all = λ b. b.seen.ctrlisync_pairs; listed = λ at l a. a.ctrlisync; grows = λ at p b. refl; first = λ es. refl }
+ctrlisync = record { Related = IsCtrlIsync; own = λ l. l.ctrlisync_pairs.items; all = λ b. b.seen.ctrlisync_pairs; listed = λ at l a. a.ctrlisync; grows = λ at p b. refl; first = λ es. refl; starts = λ at i j r. r.1.3.1.3.0 }
 
 abbrev pub need : Listed
-need = record { Related = IsNeed; own = λ l. l.need_pairs.items; all = λ b. b.needs; listed = λ at l a. a.need; grows = λ at p b. refl; first = λ es. refl }
+need = record { Related = IsNeed; own = λ l. l.need_pairs.items; all = λ b. b.needs; listed = λ at l a. a.need; grows = λ at p b. refl; first = λ es. refl; starts = λ at i j r. r.0 }

@@ -1,8 +1,10 @@
+pub mod Alike
 pub mod AllListed
 pub mod AnyValues
 pub mod Arising
 pub mod Choosing
 pub mod Coherence
+pub mod Comparing
 pub mod Counting
 pub mod Cycles
 pub mod Deciding
@@ -33,6 +35,7 @@ pub mod Places
 pub mod Products
 pub mod Pruning
 pub mod ReadsFrom
+pub mod RisingPairs
 pub mod Searching
 pub mod Showing
 pub mod Small

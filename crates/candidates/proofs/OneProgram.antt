@@ -34,11 +34,11 @@ names_apart a b h k = turned (sym h ∙ order.antisymm a b ∙ ap ordering_rever
     turned : how.Less ≡ how.Greater → ⊥
     turned e = cc
 
-names_one : (found xs ys : List (List ℕ)) → AreNames found xs → AreNames found ys → xs ≡ ys
+pub names_one : (found xs ys : List (List ℕ)) → AreNames found xs → AreNames found ys → xs ≡ ys
 names_one found xs ys h k = same_rising IsBefore names_apart xs ys h.rising k.rising (λ n c. (k.exact n).1 ((h.exact n).0 c)) (λ n c. (h.exact n).1 ((k.exact n).0 c))
 
 -- lists with the same elements
-same_elements : {X : Type 0} (d : X) (xs ys : List X) → length xs ≡ length ys → ((k : ℕ) → k < length xs → get_or xs k d ≡ get_or ys k d) → xs ≡ ys
+pub same_elements : {X : Type 0} (d : X) (xs ys : List X) → length xs ≡ length ys → ((k : ℕ) → k < length xs → get_or xs k d ≡ get_or ys k d) → xs ≡ ys
 same_elements d [] [] long each = refl
 same_elements d [] (y ∷ ys) long each = absurd (omega (arith, long))
 same_elements d (x ∷ xs) [] long each = absurd (omega (arith, long))

@@ -1,13 +1,16 @@
 -- The outcomes of a test exclude one another, and two spaces of a test show the same.
-use Rattle.std.proofs.Common.{ℕ, ◌≡◌, ◌↔◌, List, length, slice_get, inl, inr, ap, sym, subst, ◌∙◌, arith, Contains}
-use Rattle.std.proofs.lemmas.Option.{slice_get_cases}
+use Rattle.std.proofs.Common.{ℕ, ◌≡◌, List, [], ◌∷◌, refl, length, inl, inr, ap, sym, subst, ◌∙◌, arith, Contains}
 use Rattle.litmus_values.specs.declared.test.Test.{Test}
 use Rattle.thread_runs.specs.declared.value.Value.{Value}
-use Rattle.dataflow.specs.Chains.{Executed}
-use Rattle.candidates.proofs.OneProgram.{test_executions_one}
+use Rattle.dataflow.specs.Chains.{Executed, IsPairBefore}
+use Rattle.candidates.proofs.Alike.{shown_one}
+use Rattle.candidates.proofs.OneProgram.{names_one, test_executions_one}
+use Rattle.candidates.proofs.Sole.{same_rising}
+use Rattle.candidates.specs.Space.{Shown, shown_in}
+use Rattle.ppc_semantics.specs.Lowering.{test_names}
+use Rattle.std.specs.List.{AllZip}
 use Rattle.candidates.specs.Executions.{Execution}
-use Rattle.candidates.specs.Listed.{AreTestExecutions, Shows, ArePairs, AreAlike, ExcludeOneAnother, ShowTheSame}
-use Rattle.candidates.specs.declared.candidate.Execution as shown
+use Rattle.candidates.specs.Listed.{AreTestExecutions, Shows, ArePairs, ExcludeOneAnother, ShowOneTest}
 use Rattle.candidates.specs.declared.candidate.Space.{Space}
 
 same_length : (t : Test) (i j : List Value) (xs ys : List Execution) → AreTestExecutions t i xs → AreTestExecutions t j ys → length xs ≡ length ys
@@ -20,29 +23,39 @@ exclusive t = record {
   many_or_faulted = λ m f. let e : length m.all ≡ length f.all = same_length t m.initial f.initial m.all f.all m.executions f.executions in absurd (omega (arith, e, m.many, f.few));
 }
 
-pairs_alike : (R : Executed → ℕ → ℕ → Type 0) (initial : List Value) (x : Execution) (ps qs : List (ℕ × ℕ)) → ArePairs R initial x ps → ArePairs R initial x qs → (p : ℕ × ℕ) → Contains ps p ↔ Contains qs p
-pairs_alike R initial x ps qs h k p = ((λ c. (k p).1 ((h p).0 c)), (λ c. (h p).1 ((k p).0 c)))
+-- pairs in rising order are one list
+before_apart : (p q : ℕ × ℕ) → IsPairBefore p q → IsPairBefore q p → ⊥
+before_apart p q (inl a) (inl b) = omega (arith, a, b)
+before_apart p q (inl a) (inr b) = omega (arith, a, b.0)
+before_apart p q (inr a) (inl b) = omega (arith, a.0, b)
+before_apart p q (inr a) (inr b) = omega (arith, a.1, b.1)
 
-alike : (initial : List Value) (x : Execution) (d e : shown.Execution) → Shows initial x d → Shows initial x e → AreAlike d e
-alike initial x d e h k = record {
-  events = h.events ∙ sym k.events;
-  addr = pairs_alike _ initial x d.addr_pairs.items e.addr_pairs.items h.addr k.addr;
-  «data» = pairs_alike _ initial x d.data_pairs.items e.data_pairs.items h.«data» k.«data»;
-  ctrl = pairs_alike _ initial x d.ctrl_pairs.items e.ctrl_pairs.items h.ctrl k.ctrl;
-  ctrlisync = pairs_alike _ initial x d.ctrlisync_pairs.items e.ctrlisync_pairs.items h.ctrlisync k.ctrlisync;
-  reads_from = h.reads_from ∙ sym k.reads_from;
-  coherence = h.coherence ∙ sym k.coherence;
-  registers = h.registers ∙ sym k.registers;
-}
+pairs_one : (R : Executed → ℕ → ℕ → Type 0) (initial : List Value) (x : Execution) (ps qs : List (ℕ × ℕ)) → ArePairs R initial x ps → ArePairs R initial x qs → ps ≡ qs
+pairs_one R initial x ps qs h k = same_rising IsPairBefore before_apart ps qs h.rising k.rising (λ p c. (k.exact p).1 ((h.exact p).0 c)) (λ p c. (h.exact p).1 ((k.exact p).0 c))
 
-pub shown_alike : (t : Test) (r s : Space) → ShowTheSame t r s
+alike : (initial : List Value) (x : Execution) (d e : Shown) → Shows initial x d → Shows initial x e → d ≡ e
+alike initial x d e h k =
+    shown_one d e (h.events ∙ sym k.events)
+    (pairs_one _ initial x d.addr_pairs e.addr_pairs h.addr k.addr)
+    (pairs_one _ initial x d.data_pairs e.data_pairs h.«data» k.«data»)
+    (pairs_one _ initial x d.ctrl_pairs e.ctrl_pairs h.ctrl k.ctrl)
+    (pairs_one _ initial x d.ctrlisync_pairs e.ctrlisync_pairs h.ctrlisync k.ctrlisync)
+    (h.reads_from ∙ sym k.reads_from) (h.coherence ∙ sym k.coherence) (h.registers ∙ sym k.registers)
+
+all_alike : (initial : List Value) (xs : List Execution) (ds es : List Shown) → AllZip (Shows initial) xs ds → AllZip (Shows initial) xs es → ds ≡ es
+all_alike initial [] [] [] h k = refl
+all_alike initial [] [] (e ∷ es) h k = absurd k
+all_alike initial [] (d ∷ ds) es h k = absurd h
+all_alike initial (x ∷ xs) [] es h k = absurd h
+all_alike initial (x ∷ xs) (d ∷ ds) [] h k = absurd k
+all_alike initial (x ∷ xs) (d ∷ ds) (e ∷ es) h k =
+    ap (λ (z : Shown). z ∷ ds) (alike initial x d e h.0 k.0) ∙ ap (λ (l : List Shown). e ∷ l) (all_alike initial xs ds es h.1 k.1)
+
+pub shown_alike : (t : Test) (r s : Space) → ShowOneTest t r s
 shown_alike t r s h k = (
-  h.count ∙ ap (λ (l : List Execution). length l) same.1 ∙ sym k.count,
-  λ index d e lt a b.
-      elim (slice_get_cases h.all index).1 [
-        | inl found ↦ alike h.initial found.0 d e (h.shown index found.0 d found.2 a) (subst (λ (vs : List Value). Shows vs found.0 e) (sym same.0) (k.shown index found.0 e (sym (ap (λ (l : List Execution). slice_get l index) same.1) ∙ found.2) b))
-        | inr past ↦ absurd (omega (arith, past.0, lt, h.count))
-      ],
+  names_one (test_names t) r.locations.items s.locations.items h.locations k.locations,
+  all_alike h.initial h.all (shown_in r) (shown_in s) h.shown
+      (subst (λ (vs : List Value). AllZip (Shows vs) h.all (shown_in s)) (sym same.0) (subst (λ (xs : List Execution). AllZip (Shows k.initial) xs (shown_in s)) (sym same.1) k.shown)),
 )
   where
     same : (h.initial ≡ k.initial) × (h.all ≡ k.all)

@@ -1,9 +1,7 @@
 -- What a space shows of the executions that its combinations list: their registers, faults and dependencies.
-use Rattle.std.proofs.Common.{Vec, ℕ, ◌≡◌, ◌≤◌, ◌+◌, ◌⊎◌, ◌↔◌, ◌||◌, Bool, true, false, List, [], ◌∷◌, ◌++◌, map, length, Option, slice_get, refl, ap, sym, subst, ◌∙◌, inl, inr, arith, append_assoc, append-nil, Contains}
-use Rattle.std.specs.List.{flat_map, cons_option, AllZip}
-use Rattle.std.specs.Option.{option_map}
+use Rattle.std.proofs.Common.{Vec, ℕ, zero, suc, Some, ◌≡◌, ◌≤◌, ◌+◌, ◌⊎◌, ◌↔◌, ◌||◌, Bool, true, false, List, [], ◌∷◌, ◌++◌, map, length, slice_get, refl, ap, sym, subst, ◌∙◌, inl, inr, arith, append_assoc, append-nil, Contains}
+use Rattle.std.specs.List.{flat_map, AllPairs, AllZip}
 use Rattle.std.specs.declared.alloc.Global.{Global}
-use Rattle.std.proofs.lemmas.Option.{slice_get-map}
 use Rattle.std.proofs.lemmas.List.{map-append, length-map, take_all}
 use Rattle.std.proofs.lemmas.List.Elements.{Contains-append_left, Contains-append_right, Contains-append_cases}
 use Rattle.thread_runs.specs.declared.value.Value.{Value}
@@ -23,13 +21,14 @@ use Rattle.candidates.specs.Candidates.{HasFault as HasFaultAmong}
 use Rattle.candidates.specs.Events.{initial_stores, has_store}
 use Rattle.candidates.specs.Executions.{Execution, HasFault, IsDependency, product, events}
 use Rattle.candidates.specs.Lists.{lists_of, tuples}
-use Rattle.candidates.specs.Listed.{Shows}
+use Rattle.candidates.specs.Listed.{Shows, ArePairs}
+use Rattle.candidates.proofs.RisingPairs.{pairs_rise}
+use Rattle.dataflow.specs.Chains.{IsPairBefore}
 use Rattle.candidates.specs.Orders.{all_orders, stores_of, AreApart}
 use Rattle.candidates.specs.Search.{Begun, with_run, start}
-use Rattle.candidates.specs.Space.{Seen, seen, ordered, pairs, candidates_of, candidates_in, registers_at, IsExecution as IsShownAt}
+use Rattle.candidates.specs.Space.{Seen, seen, ordered, pairs, candidates_of, candidates_in, end_at, registers_at, shown_of}
 use Rattle.candidates.specs.Ways.{IsWay, accesses_in}
 use Rattle.candidates.specs.declared.candidate.Combination.{Combination}
-use Rattle.candidates.specs.declared.candidate.Execution as shown
 use Rattle.candidates.specs.declared.candidate.Event.{Event}
 use Rattle.candidates.specs.declared.layout.ThreadParts.{ThreadParts}
 use Rattle.candidates.specs.declared.part.Part.{Part}
@@ -54,6 +53,12 @@ heads e = cc
 
 tails : {X : Type 0} {x y : X} {xs ys : List X} → (x ∷ xs) ≡ (y ∷ ys) → xs ≡ ys
 tails e = cc
+
+-- a part's registers are those at its index
+end_there : (ps : List Part) (k : ℕ) (p : Part) → slice_get ps k ≡ Some p → end_at (map (λ (q : Part). q.registers) ps) k ≡ p.registers
+end_there [] k p e = absurd cc
+end_there (q ∷ ps) zero p e = let same : q ≡ p = cc in ap (λ (x : Part). x.registers) same
+end_there (q ∷ ps) (suc k) p e = end_there ps k p e
 
 run_ends : (V : List Value) (threads : List Thread) (thread : ℕ) (ts : List ThreadParts) (ms : List made.Run) (rs : List Run) (b c : Begun) → AreOne V threads ms rs → GoesOnWith thread b ts ms c → Ends ts rs b.seen.runs c.seen.runs
 run_ends V [] thread [] [] [] b c one g = record { places = []; added = ap (λ (x : Begun). x.seen.runs) g ∙ sym (append-nil b.seen.runs); found = λ vs e. none vs e }
@@ -81,9 +86,8 @@ run_ends V (q ∷ threads) thread (t ∷ ts) (m ∷ ms) (r ∷ rs) b c one g =
     here : (vs : List (Vec (List Value) Global)) (rest : Ends ts rs (with_run g.0 g.1 b).seen.runs c.seen.runs) → map items_of vs ≡ map files (t ∷ ts) → registers_at vs (g.0 ∷ rest.places) ≡ map final (r ∷ rs)
     here [] rest e = absurd cc
     here (v ∷ vs) rest e =
-        ap (λ (l : List (List Value)). cons_option (slice_get l g.0) (registers_at vs rest.places)) (heads e)
-        ∙ ap (λ (o : Option (List Value)). cons_option o (registers_at vs rest.places)) (slice_get-map (λ (p : Part). p.registers) t.parts.items g.0 ∙ ap (λ (o : Option Part). option_map (λ (p : Part). p.registers) o) g.2.0)
-        ∙ ap (λ (l : List Value). l ∷ registers_at vs rest.places) own
+        ap (λ (l : List (List Value)). end_at l g.0 ∷ registers_at vs rest.places) (heads e)
+        ∙ ap (λ (l : List Value). l ∷ registers_at vs rest.places) (end_there t.parts.items g.0 g.1 g.2.0 ∙ own)
         ∙ ap (λ (l : List (List Value)). final r ∷ l) (rest.found vs (tails e))
 
 -- whether one of the runs stopped at a fault
@@ -204,24 +208,29 @@ module _ (n : ℕ) (initial : List Value) (threads : List Thread) (V : List Valu
 
 -- an execution, and how it is shown
 abbrev pub AreShown : List Value → List (Vec (List Value) Global) → Execution → Combination × (List ℕ × List ℕ) → Type 0
-AreShown initial registers x c = (e : shown.Execution) → IsShownAt registers c.0 c.1 e → Shows initial x e
+AreShown initial registers x c = Shows initial x (shown_of registers c)
 
 module _ (n : ℕ) (initial : List Value) (threads : List Thread) (V : List Value) (ts : List ThreadParts) (registers : List (Vec (List Value) Global)) (files_are : map items_of registers ≡ map files ts) where
-  shown_pairs : (d : dependencies.Listed) (b : Begun) (rs : List Run) → IsListed n initial threads V ts b rs → (shown : List (ℕ × ℕ)) → shown ≡ d.all b → (p : ℕ × ℕ) → Contains shown p ↔ IsDependency d.Related initial rs p.0 p.1
-  shown_pairs d b rs i shown e p = subst (λ (l : List (ℕ × ℕ)). Contains l p ↔ IsDependency d.Related initial rs p.0 p.1) (sym e) (dependencies.facts d V threads ts i.made rs initial b i.one i.goes i.few p.0 p.1)
+  shown_pairs : (d : dependencies.Listed) (b : Begun) (rs : List Run) → IsListed n initial threads V ts b rs → (x : Execution) → rs ≡ x.runs → (shown : List (ℕ × ℕ)) → shown ≡ d.all b → ArePairs d.Related initial x shown
+  shown_pairs d b rs i x are shown e = record {
+    rising = subst (λ (l : List (ℕ × ℕ)). AllPairs IsPairBefore l) (sym e) (pairs_rise d V threads ts i.made rs initial b i.one i.goes i.few);
+    exact = λ p.
+        subst (λ (qs : List Run). Contains shown p ↔ IsDependency d.Related initial qs p.0 p.1) are
+        (subst (λ (l : List (ℕ × ℕ)). Contains l p ↔ IsDependency d.Related initial rs p.0 p.1) (sym e) (dependencies.facts d V threads ts i.made rs initial b i.one i.goes i.few p.0 p.1));
+  }
 
   one_shown : (b : Begun) (rs : List Run) → IsListed n initial threads V ts b rs → (c : Combination) (ways : List (List ℕ)) → seen c ≡ ordered n (record b.seen { sources = ways }) → (way : List ℕ) (order : List (List ℕ)) → AreShown initial registers (executed_so initial rs way order) (c, (way, flat order))
-  one_shown b rs i c ways eq way order e s =
+  one_shown b rs i c ways eq way order =
       let ends : Ends ts rs [] b.seen.runs = run_ends V threads 0 ts i.made rs (start (initial_stores 0 initial)) b i.one i.goes in
       record {
-        events = s.events ∙ ap (λ (x : Seen). x.events) eq ∙ i.events;
-        addr = shown_pairs dependencies.addr b rs i e.addr_pairs.items (s.addr_pairs ∙ ap (λ (x : Seen). x.addr_pairs) eq);
-        «data» = shown_pairs dependencies.data_listed b rs i e.data_pairs.items (s.data_pairs ∙ ap (λ (x : Seen). x.data_pairs) eq);
-        ctrl = shown_pairs dependencies.ctrl b rs i e.ctrl_pairs.items (s.ctrl_pairs ∙ ap (λ (x : Seen). x.ctrl_pairs) eq);
-        ctrlisync = shown_pairs dependencies.ctrlisync b rs i e.ctrlisync_pairs.items (s.ctrlisync_pairs ∙ ap (λ (x : Seen). x.ctrlisync_pairs) eq);
-        reads_from = s.sources;
-        coherence = s.order;
-        registers = s.registers ∙ ap (λ (l : List ℕ). registers_at registers l) (ap (λ (x : Seen). x.runs) eq ∙ ends.added) ∙ ends.found registers files_are;
+        events = ap (λ (x : Seen). x.events) eq ∙ i.events;
+        addr = shown_pairs dependencies.addr b rs i (executed_so initial rs way order) refl c.addr_pairs.items (ap (λ (x : Seen). x.addr_pairs) eq);
+        «data» = shown_pairs dependencies.data_listed b rs i (executed_so initial rs way order) refl c.data_pairs.items (ap (λ (x : Seen). x.data_pairs) eq);
+        ctrl = shown_pairs dependencies.ctrl b rs i (executed_so initial rs way order) refl c.ctrl_pairs.items (ap (λ (x : Seen). x.ctrl_pairs) eq);
+        ctrlisync = shown_pairs dependencies.ctrlisync b rs i (executed_so initial rs way order) refl c.ctrlisync_pairs.items (ap (λ (x : Seen). x.ctrlisync_pairs) eq);
+        reads_from = refl;
+        coherence = refl;
+        registers = ap (λ (l : List ℕ). registers_at registers l) (ap (λ (x : Seen). x.runs) eq ∙ ends.added) ∙ ends.found registers files_are;
       }
 
   -- each way with each order

@@ -1,9 +1,8 @@
 -- Laws of the list of candidates.
-use Rattle.std.proofs.Common.{Option, Some, None, slice_get, ◌⊎◌, inl, inr, drop, drop-cons, add-one, append_assoc, ℕ, suc, ◌≡◌, ◌<◌, ◌≤◌, ◌+◌, ◌*◌, ◌/◌, ◌%◌, ◌↔◌, List, [], ◌∷◌, ◌++◌, map, take, length, get_or, refl, sym, ap, subst, ◌∙◌, arith, Vec}
-use Rattle.std.specs.List.{flat_map, filter_map, zip, cons_option}
-use Rattle.std.specs.Option.{option_to_list}
+use Rattle.std.proofs.Common.{inl, inr, drop, drop-cons, add-one, append_assoc, ℕ, suc, ◌≡◌, ◌<◌, ◌≤◌, ◌+◌, ◌*◌, ◌/◌, ◌%◌, ◌↔◌, List, [], ◌∷◌, ◌++◌, map, min, take, length, get_or, refl, sym, ap, subst, ◌∙◌, arith, Vec}
+use Rattle.std.specs.List.{flat_map, zip}
+use Rattle.std.proofs.lemmas.Slice.Zip.{length-zip}
 use Rattle.std.proofs.lemmas.Bool.{cases_lt}
-use Rattle.std.proofs.lemmas.Option.{slice_get_read, slice_get_past}
 use Rattle.std.specs.declared.alloc.Global.{Global}
 use Rattle.std.proofs.Math.Nat.{suc-mul, zero-mul, mul-zero, mul_comm, mod-lt, div-add-mod, div-lt_iff_lt-mul}
 use Rattle.std.proofs.lemmas.List.{length-append, length-map, get_or-map, length-take-le, append-nil, drop_all}
@@ -12,7 +11,7 @@ use Rattle.std.proofs.lemmas.List.Folds.{length-flat_map-take}
 use Rattle.std.specs.Prelude.{HoldsAt}
 use Rattle.thread_runs.specs.declared.value.Value.{Value}
 use Rattle.candidates.specs.Lists.{lists_of}
-use Rattle.candidates.specs.Space.{pairs, candidates_of, candidates_in, registers_at, IsExecution}
+use Rattle.candidates.specs.Space.{pairs, candidates_of, candidates_in, end_at, registers_at, IsExecution}
 use Rattle.candidates.specs.declared.candidate.Combination.{Combination}
 use Rattle.candidates.specs.declared.candidate.Execution.{Execution}
 
@@ -127,49 +126,36 @@ candidate_there threads c p n v w x is lt source order holds d =
         ∙ sym (ap (λ (u : Vec ℕ Global). (v.items, u.items)) order)
 
 -- the registers of one thread more
-pub one_thread_more : (threads : List (Vec (List Value) Global)) (runs : List ℕ) (i : ℕ) (t : Vec (List Value) Global) (found found' all : List (List Value)) → i < length threads → i < length runs → t ≡ get_or threads i t → found ++ registers_at (drop i threads) (drop i runs) ≡ all → found' ≡ found ++ option_to_list (slice_get t.items (get_or runs i 0)) → found' ++ registers_at (drop (i + 1) threads) (drop (i + 1) runs) ≡ all
+pub ends_on : (threads : List (Vec (List Value) Global)) (runs : List ℕ) (i : ℕ) (t : Vec (List Value) Global) → i < length threads → i < length runs → t ≡ get_or threads i t → registers_at (drop i threads) (drop i runs) ≡ end_at t.items (get_or runs i 0) ∷ registers_at (drop (i + 1) threads) (drop (i + 1) runs)
+ends_on threads runs i t lt lr is =
+    ap (λ (l : List (Vec (List Value) Global)). registers_at l (drop i runs)) (drop-cons threads i t lt)
+    ∙ ap (λ (l : List ℕ). registers_at (get_or threads i t ∷ drop (suc i) threads) l) (drop-cons runs i 0 lr)
+    ∙ ap (λ (u : Vec (List Value) Global). end_at u.items (get_or runs i 0) ∷ registers_at (drop (suc i) threads) (drop (suc i) runs)) (sym is)
+    ∙ ap (λ (k : ℕ). end_at t.items (get_or runs i 0) ∷ registers_at (drop k threads) (drop k runs)) (sym (add-one i))
+
+pub one_thread_more : (threads : List (Vec (List Value) Global)) (runs : List ℕ) (i : ℕ) (t : Vec (List Value) Global) (found found' all : List (List Value)) → i < length threads → i < length runs → t ≡ get_or threads i t → found ++ registers_at (drop i threads) (drop i runs) ≡ all → found' ≡ found ++ end_at t.items (get_or runs i 0) ∷ [] → found' ++ registers_at (drop (i + 1) threads) (drop (i + 1) runs) ≡ all
 one_thread_more threads runs i t found found' all lt lr is before more =
+    let rest : List (List Value) = registers_at (drop (i + 1) threads) (drop (i + 1) runs) in
     ap (λ (l : List (List Value)). l ++ rest) more
-    ∙ append_assoc found (option_to_list (slice_get t.items (get_or runs i 0))) rest
-    ∙ ap (λ (l : List (List Value)). found ++ l) (listed (slice_get t.items (get_or runs i 0)) rest)
-    ∙ ap (λ (u : Vec (List Value) Global). found ++ cons_option (slice_get u.items (get_or runs i 0)) rest) is
-    ∙ ap (λ (l : List (List Value)). found ++ l) (sym here)
+    ∙ append_assoc found (end_at t.items (get_or runs i 0) ∷ []) rest
+    ∙ ap (λ (l : List (List Value)). found ++ l) (sym (ends_on threads runs i t lt lr is))
     ∙ before
-  where
-    rest : List (List Value)
-    rest = registers_at (drop (i + 1) threads) (drop (i + 1) runs)
-
-    listed : (o : Option (List Value)) (l : List (List Value)) → option_to_list o ++ l ≡ cons_option o l
-    listed None l = refl
-    listed (Some x) l = refl
-
-    here : registers_at (drop i threads) (drop i runs) ≡ cons_option (slice_get (get_or threads i t).items (get_or runs i 0)) rest
-    here =
-        ap (λ (l : List (Vec (List Value) Global)). registers_at l (drop i runs)) (drop-cons threads i t lt)
-        ∙ ap (λ (l : List ℕ). registers_at (get_or threads i t ∷ drop (suc i) threads) l) (drop-cons runs i 0 lr)
-        ∙ ap (λ (k : ℕ). cons_option (slice_get (get_or threads i t).items (get_or runs i 0)) (registers_at (drop k threads) (drop k runs))) (sym (add-one i))
 
 zip-nil : {X Y : Type 0} (xs : List X) → zip {X = Y} xs [] ≡ []
 zip-nil [] = refl
 zip-nil (x ∷ xs) = refl
 
 -- after the last of the runs or of the threads
-pub all_threads : (threads : List (Vec (List Value) Global)) (runs : List ℕ) (i : ℕ) (found all : List (List Value)) → (length threads ≤ i) ⊎ (length runs ≤ i) → found ++ registers_at (drop i threads) (drop i runs) ≡ all → found ≡ all
-all_threads threads runs i found all past before = sym (append-nil found) ∙ ap (λ (l : List (List Value)). found ++ l) (sym none) ∙ before
-  where
-    none : registers_at (drop i threads) (drop i runs) ≡ []
-    none = elim past [
-      | inl few ↦ ap (λ (l : List (Vec (List Value) Global)). registers_at l (drop i runs)) (drop_all i threads few)
-      | inr few ↦
-          ap (λ (l : List ℕ). registers_at (drop i threads) l) (drop_all i runs few)
-          ∙ ap (λ (l : List (Vec (List Value) Global × ℕ)). filter_map (λ p. slice_get p.0.items p.1) l) (zip-nil (drop i threads))
-    ]
+pub ends_counted : (threads : List (Vec (List Value) Global)) (runs : List ℕ) → length (registers_at threads runs) ≡ min (length threads) (length runs)
+ends_counted threads runs = length-map (zip threads runs) (λ p. end_at p.0.items p.1) ∙ length-zip threads runs
 
--- what a look-up adds
-pub found_one : (xs ys before after : List (List Value)) (i : ℕ) (v : List Value) → ys ≡ xs → i < length ys → HoldsAt (λ y. v ≡ y) ys i → after ≡ before ++ v ∷ [] → after ≡ before ++ option_to_list (slice_get xs i)
-found_one xs ys before after i v same lt is more =
-    more ∙ ap (λ (o : Option (List Value)). before ++ option_to_list o) (sym (slice_get_read ys (length ys) i v refl lt (is v)) ∙ ap (λ (l : List (List Value)). slice_get l i) same)
+pub no_more_ends : (threads : List (Vec (List Value) Global)) (runs : List ℕ) (i : ℕ) → min (length threads) (length runs) ≤ i → registers_at (drop i threads) (drop i runs) ≡ []
+no_more_ends threads runs i past = elim (cases_lt i (length threads)) [
+  | inr few ↦ ap (λ (l : List (Vec (List Value) Global)). registers_at l (drop i runs)) (drop_all i threads few)
+  | inl more ↦
+      ap (λ (l : List ℕ). registers_at (drop i threads) l) (drop_all i runs (omega (arith, past, more)))
+      ∙ ap (λ (l : List (Vec (List Value) Global × ℕ)). map (λ p. end_at p.0.items p.1) l) (zip-nil (drop i threads))
+]
 
-pub found_no_one : (xs ys before after : List (List Value)) (i : ℕ) → ys ≡ xs → length ys ≤ i → after ≡ before → after ≡ before ++ option_to_list (slice_get xs i)
-found_no_one xs ys before after i same past more =
-    more ∙ sym (append-nil before) ∙ ap (λ (o : Option (List Value)). before ++ option_to_list o) (sym (slice_get_past ys i past) ∙ ap (λ (l : List (List Value)). slice_get l i) same)
+pub all_threads : (threads : List (Vec (List Value) Global)) (runs : List ℕ) (i : ℕ) (found all : List (List Value)) → min (length threads) (length runs) ≤ i → found ++ registers_at (drop i threads) (drop i runs) ≡ all → found ≡ all
+all_threads threads runs i found all past before = sym (append-nil found) ∙ ap (λ (l : List (List Value)). found ++ l) (sym (no_more_ends threads runs i past)) ∙ before

@@ -1,5 +1,5 @@
 -- What the space of a test lists: its executions, as many as it has candidates.
-use Rattle.std.proofs.Common.{Vec, ℕ, zero, suc, ◌<◌, Some, slice_get, inl, inr, Contains, HoldsAt, ◌≡◌, ◌≤◌, ◌+◌, ◌*◌, List, [], ◌∷◌, ◌++◌, map, length, refl, ap, sym, subst, ◌∙◌, arith}
+use Rattle.std.proofs.Common.{Vec, ℕ, suc, ◌<◌, inl, inr, Contains, ◌≡◌, ◌≤◌, ◌+◌, ◌*◌, List, [], ◌∷◌, ◌++◌, map, length, refl, ap, sym, subst, ◌∙◌, arith}
 use Rattle.std.specs.List.{flat_map, AllZip}
 use Rattle.std.specs.declared.alloc.Global.{Global}
 use Rattle.std.proofs.Math.Nat.{suc-mul, zero-mul}
@@ -16,21 +16,27 @@ use Rattle.candidates.proofs.Flat.{flat, orders_flat}
 use Rattle.candidates.proofs.Kept.{AreKept, all_kept, product_kept, runs_kept}
 use Rattle.candidates.proofs.Listing.{AreListed, no_more, one_more, not_one, Listing, all_listed}
 use Rattle.candidates.proofs.Small.{layout_small}
-use Rattle.ppc_semantics.specs.declared.fault.EvalRefusal.TheVariants.{TooManyEvents, TooManyValues, TooManyRuns, TooManyCandidates, AddressFault, TooManyCombinations}
-use Rattle.ppc_semantics.specs.declared.fault.SpaceFault.{SpaceFault}
-use Rattle.ppc_semantics.specs.declared.fault.SpaceFault.TheVariants.{Refused, OutOfMemory}
+use Rattle.candidates.specs.declared.fault.EvalRefusal.TheVariants.{TooManyEvents, TooManyValues, TooManyRuns, TooManyCandidates, AddressFault, TooManyCombinations}
+use Rattle.candidates.specs.declared.fault.SpaceFault.{SpaceFault}
+use Rattle.candidates.specs.declared.fault.SpaceFault.TheVariants.{Refused, OutOfMemory}
 use Rattle.candidates.proofs.Deciding.{combined}
 use Rattle.candidates.proofs.Showing.{AreShown, all_shown, fault_among, faulted_execution}
-use Rattle.candidates.specs.Candidates.{AreTooMany, AreFaulted, IsTestRefusal, AreCombinations, AreCandidates, HasLayout, IsTestSpace, candidate_total}
+use Rattle.candidates.specs.Candidates.{AreTooMany, AreFaulted, IsRefusedAs, IsTestRefusal, AreCombinations, AreCandidates, HasLayout, IsTestSpace, candidate_total}
 use Rattle.candidates.specs.Executions.{Execution, HasFault, product, events}
 use Rattle.candidates.specs.Layouts.{IsLaidOut}
-use Rattle.candidates.specs.Listed.{AreTestExecutions, Shows, ListsExecutions, HasManyExecutions, HasFaultedExecution, IsRefusedFor}
+use Rattle.candidates.specs.Listed.{AreTestExecutions, Shows, ListsExecutions, HasManyExecutions, HasFaultedExecution, IsRefusal, IsRefusedFor}
+use Rattle.candidates.specs.Faults.{refusal_of}
+use Rattle.candidates.specs.declared.fault.EvalRefusal.{EvalRefusal}
+use Rattle.ppc_semantics.specs.Lowering.{IsTestFault, AreNames, test_names}
+use Rattle.source_text.specs.declared.name.Name.{Name}
+use Rattle.ppc_semantics.specs.declared.fault.DomainRefusal.{DomainRefusal}
+use Rattle.ppc_semantics.specs.declared.fault.DomainRefusal.TheVariants as no_domain
+use Rattle.ppc_semantics.specs.declared.fault.DomainFault.TheVariants as domain_faults
 use Rattle.candidates.specs.Orders.{all_orders}
 use Rattle.candidates.specs.Events.{initial_stores}
 use Rattle.candidates.specs.Search.{Begun, start, all_combinations, location_count}
-use Rattle.candidates.specs.Space.{Seen, seen, Candidate, candidates_in, IsExecution as IsShownAt}
+use Rattle.candidates.specs.Space.{Seen, seen, Candidate, candidates_in, shown_of}
 use Rattle.candidates.specs.declared.candidate.Space.{Space}
-use Rattle.candidates.specs.declared.candidate.Execution as shown
 use Rattle.candidates.specs.declared.candidate.Event.{Event}
 use Rattle.candidates.specs.declared.layout.Layout.{Layout}
 use Rattle.candidates.specs.declared.layout.ThreadParts.{ThreadParts}
@@ -98,20 +104,12 @@ locations_counted t l h =
     let b : length h.0.initial.items ≡ length h.0.locations.items = h.3.initial.each_one in
     omega (arith, a, b, initial_long 0 h.0.initial.items, d.events)
 
-zip_long : {X Y : Type 0} (R : X → Y → Type 0) (xs : List X) (ys : List Y) → AllZip R xs ys → length ys ≡ length xs
-zip_long R [] [] h = refl
-zip_long R [] (y ∷ ys) h = absurd h
-zip_long R (x ∷ xs) [] h = absurd h
-zip_long R (x ∷ xs) (y ∷ ys) h = ap (λ (n : ℕ). suc n) (zip_long R xs ys h.1)
-
-zip_shown : (initial : List Value) (registers : List (Vec (List Value) Global)) (xs : List Execution) (cs : List Candidate) → AllZip (AreShown initial registers) xs cs → (index : ℕ) (x : Execution) (e : shown.Execution) → slice_get xs index ≡ Some x → HoldsAt (λ c. IsShownAt registers c.0 c.1 e) cs index → Shows initial x e
-zip_shown initial registers [] cs h index x e there is = absurd cc
-zip_shown initial registers (y ∷ xs) [] h index x e there is = absurd h
-zip_shown initial registers (y ∷ xs) (c ∷ cs) h zero x e there is = subst (λ (z : Execution). Shows initial z e) (execution_is there) (h.0 e (is c))
-  where
-    execution_is : {y z : Execution} → Some y ≡ Some z → y ≡ z
-    execution_is e = cc
-zip_shown initial registers (y ∷ xs) (c ∷ cs) h (suc k) x e there is = zip_shown initial registers xs cs h.1 k x e there (λ d. is d)
+-- what each of some candidates shows
+all_shown_in : (initial : List Value) (registers : List (Vec (List Value) Global)) (xs : List Execution) (cs : List Candidate) → AllZip (AreShown initial registers) xs cs → AllZip (Shows initial) xs (map (shown_of registers) cs)
+all_shown_in initial registers [] [] h = tt
+all_shown_in initial registers [] (c ∷ cs) h = absurd h
+all_shown_in initial registers (x ∷ xs) [] h = absurd h
+all_shown_in initial registers (x ∷ xs) (c ∷ cs) h = (h.0, all_shown_in initial registers xs cs h.1)
 
 -- a space lists the executions of its test
 pub space_lists : (t : Test) (s : Space) → IsTestSpace t s → ListsExecutions t s
@@ -130,8 +128,8 @@ space_lists t s h =
       executions = told.executions;
       few = let f : candidate_total (map seen s.combinations.items) ≤ 16384 = are.few in omega (arith, c, f);
       sound = λ x there f. are.sound (fault_among (location_count l) initial (threads_of h.1.0) h.1.1 l.threads.items (all_combinations l) (map seen s.combinations.items) told.all told.listed x there f);
-      count = zip_long (AreShown initial s.registers.items) told.all (candidates_in s.combinations.items) shown;
-      shown = zip_shown initial s.registers.items told.all (candidates_in s.combinations.items) shown;
+      shown = all_shown_in initial s.registers.items told.all (candidates_in s.combinations.items) shown;
+      locations = subst (λ (names : Vec Name Global). AreNames (test_names t) names.items) (sym (h.2.1.1 ∙ h.1.6.locations)) h.1.3.locations;
     }
 
 -- a refusal is called for by the executions
@@ -154,17 +152,21 @@ fault_told t l h f =
     let x : (x : Execution) × Contains told.all x × HasFault x = faulted_execution (location_count l) initial (threads_of h.0) h.1 l.threads.items n (all_combinations l) f.all told.all told.listed f.fault in
     record { initial = initial; all = told.all; executions = told.executions; few = omega (arith, c, g); execution = x.0; there = x.1; fault = x.2 }
 
+domain_told : (t : Test) (d : DomainRefusal) → IsTestFault t (domain_faults.Refused d) → IsRefusal t (refusal_of d)
+domain_told t no_domain.TooManyEvents h = h
+domain_told t no_domain.TooManyValues h = h
+domain_told t no_domain.TooManyRuns h = h
+domain_told t no_domain.TooManyCombinations h = h
+
+layout_told_refused : (t : Test) (l : Layout) (r : EvalRefusal) → HasLayout t l → IsRefusedAs l r → IsRefusal t r
+layout_told_refused t l TooManyCandidates h many = many_told t l h many
+layout_told_refused t l AddressFault h f = fault_told t l h f
+layout_told_refused t l TooManyEvents h impossible = absurd impossible
+layout_told_refused t l TooManyValues h impossible = absurd impossible
+layout_told_refused t l TooManyRuns h impossible = absurd impossible
+layout_told_refused t l TooManyCombinations h impossible = absurd impossible
+
 pub refused_told : (t : Test) (f : SpaceFault) → IsTestRefusal t f → IsRefusedFor t f
 refused_told t (OutOfMemory e) h = tt
-refused_told t (Refused TooManyCandidates) (inl h) = absurd h.2
-refused_told t (Refused TooManyCandidates) (inr h) = many_told t h.0 h.1 h.2
-refused_told t (Refused AddressFault) (inl h) = absurd h.2
-refused_told t (Refused AddressFault) (inr h) = fault_told t h.0 h.1 h.2
-refused_told t (Refused TooManyEvents) (inl h) = h
-refused_told t (Refused TooManyEvents) (inr h) = absurd h.2
-refused_told t (Refused TooManyValues) (inl h) = h
-refused_told t (Refused TooManyValues) (inr h) = absurd h.2
-refused_told t (Refused TooManyRuns) (inl h) = h
-refused_told t (Refused TooManyRuns) (inr h) = absurd h.2
-refused_told t (Refused TooManyCombinations) (inl h) = h
-refused_told t (Refused TooManyCombinations) (inr h) = absurd h.2
+refused_told t (Refused r) (inl h) = subst (λ (x : EvalRefusal). IsRefusal t x) (sym h.1) (domain_told t h.0 h.2)
+refused_told t (Refused r) (inr h) = layout_told_refused t h.0 r h.1 h.2

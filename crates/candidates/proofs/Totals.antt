@@ -6,13 +6,13 @@ use Rattle.candidates.specs.Orders.{all_orders, stores_of, is_thread_store}
 use Rattle.std.specs.declared.alloc.AllocError.{AllocError}
 use Rattle.std.specs.declared.alloc.Global.{Global}
 use Rattle.litmus_values.specs.declared.test.Test.{Test}
-use Rattle.ppc_semantics.specs.declared.fault.EvalRefusal.{EvalRefusal}
-use Rattle.ppc_semantics.specs.declared.fault.SpaceFault.{SpaceFault}
-use Rattle.ppc_semantics.specs.declared.fault.SpaceFault.TheVariants.{Refused, OutOfMemory}
+use Rattle.candidates.specs.declared.fault.EvalRefusal.{EvalRefusal}
+use Rattle.candidates.specs.declared.fault.SpaceFault.{SpaceFault}
+use Rattle.candidates.specs.declared.fault.SpaceFault.TheVariants.{Refused, OutOfMemory}
 use Rattle.thread_runs.specs.declared.instruction.Program.{Program}
 use Rattle.thread_runs.specs.declared.run.Run.{Run}
 use Rattle.ppc_semantics.specs.Domain.{IsDomain, IsFault}
-use Rattle.ppc_semantics.specs.Lowering.{IsProgram, IsTestFault}
+use Rattle.ppc_semantics.specs.Lowering.{IsProgram}
 use Rattle.candidates.specs.Keys.{IsKeyed, bit_of}
 use Rattle.candidates.specs.Layouts.{AreAllRuns, IsLaidOut}
 use Rattle.candidates.specs.declared.candidate.Space.{Space}
@@ -20,7 +20,10 @@ use Rattle.candidates.specs.Ways.{AreWays, IsWay, accesses_in}
 use Rattle.candidates.specs.Lists.{tuples}
 use Rattle.candidates.specs.Search.{Begun, Tally, Fits, AllFit, tallied, with_run, combinations, Searched, none, more, AreTooMuch, now, later, nothing, tally, start, all_combinations, location_count}
 use Rattle.candidates.specs.Space.{Seen, seen, ordered}
-use Rattle.candidates.specs.Candidates.{AreCombinations, nothing_left, with_ways, without, candidate_total, HasFault, AreCandidates, AreTooMany, AreFaulted, AreSmall, IsAnswer, IsReady, IsTestSpace, IsTestRefusal}
+use Rattle.candidates.specs.Candidates.{AreCombinations, nothing_left, with_ways, without, candidate_total, HasFault, AreCandidates, AreTooMany, AreFaulted, AreSmall, IsAnswer, IsReady, IsLayoutFault, IsTestSpace, IsTestRefusal}
+use Rattle.candidates.specs.Faults.{fault_of}
+use Rattle.ppc_semantics.specs.declared.fault.DomainFault.{DomainFault}
+use Rattle.ppc_semantics.specs.declared.fault.DomainFault.TheVariants as domain_faults
 use Rattle.candidates.specs.declared.candidate.Combination.{Combination}
 use Rattle.candidates.specs.declared.candidate.Event.{Event}
 use Rattle.candidates.specs.declared.layout.Layout.{Layout}
@@ -216,11 +219,11 @@ all_searched l o f cs e b h m =
     all_candidates (location_count l) (all_combinations l) (tally f) (map seen cs) s.0 s.1 b (m ∙ seen_ordered (location_count l) f.combinations.items)
 
 -- what the test says
-pub test_fault : (t : Test) (p : Program) (e : SpaceFault) → IsProgram t p → IsFault p e → IsTestFault t e
-test_fault t p (Refused r) h k = (p, h, k)
-test_fault t p (OutOfMemory x) h k = tt
+pub test_fault : (t : Test) (p : Program) (e : DomainFault) (f : SpaceFault) → f ≡ fault_of e → IsProgram t p → IsFault p e → IsLayoutFault t f
+test_fault t p (domain_faults.Refused r) f is h k = subst (λ (x : SpaceFault). IsLayoutFault t x) (sym is) (r, refl, (p, h, k))
+test_fault t p (domain_faults.OutOfMemory x) f is h k = subst (λ (x : SpaceFault). IsLayoutFault t x) (sym is) tt
 
-pub fault_told : (t : Test) (e : SpaceFault) → IsTestFault t e → IsTestRefusal t e
+pub fault_told : (t : Test) (e : SpaceFault) → IsLayoutFault t e → IsTestRefusal t e
 fault_told t (Refused r) h = inl h
 fault_told t (OutOfMemory x) h = tt
 

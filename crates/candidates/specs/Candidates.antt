@@ -1,15 +1,18 @@
 -- The candidates of all combinations of runs, and when there are too many or one holds a fault.
 use Rattle.std.specs.Prelude.{Vec, ℕ, ◌≡◌, ◌<◌, ◌≤◌, ◌+◌, ◌*◌, ◌⊎◌, List, [], ◌∷◌, length, map, true, Option, Result, Ok, Err}
-use Rattle.ppc_semantics.specs.declared.fault.EvalRefusal.{EvalRefusal}
-use Rattle.ppc_semantics.specs.declared.fault.EvalRefusal.TheVariants.{TooManyCandidates, AddressFault}
+use Rattle.candidates.specs.declared.fault.EvalRefusal.{EvalRefusal}
+use Rattle.candidates.specs.declared.fault.EvalRefusal.TheVariants.{TooManyCandidates, AddressFault}
 use Rattle.std.specs.declared.alloc.Global.{Global}
 use Rattle.thread_runs.specs.declared.value.Value.{Value}
-use Rattle.ppc_semantics.specs.declared.fault.SpaceFault.{SpaceFault}
-use Rattle.ppc_semantics.specs.declared.fault.SpaceFault.TheVariants.{Refused, OutOfMemory}
+use Rattle.candidates.specs.declared.fault.SpaceFault.{SpaceFault}
+use Rattle.candidates.specs.declared.fault.SpaceFault.TheVariants.{Refused, OutOfMemory}
 use Rattle.thread_runs.specs.declared.instruction.Program.{Program}
 use Rattle.thread_runs.specs.declared.run.Run.{Run}
 use Rattle.ppc_semantics.specs.Domain.{IsDomain}
 use Rattle.ppc_semantics.specs.Lowering.{IsProgram, IsTestFault}
+use Rattle.ppc_semantics.specs.declared.fault.DomainRefusal.{DomainRefusal}
+use Rattle.ppc_semantics.specs.declared.fault.DomainFault.TheVariants as domain_faults
+use Rattle.candidates.specs.Faults.{refusal_of}
 use Rattle.litmus_values.specs.declared.test.Test.{Test}
 use Rattle.candidates.specs.Keys.{IsKeyed}
 use Rattle.candidates.specs.Events.{initial_stores}
@@ -88,6 +91,10 @@ IsReady t l = HasLayout t l × (key : ℕ → Value → Option (ℕ × ℕ)) × 
 abbrev pub IsTestSpace : Test → Space → Type 0
 IsTestSpace t s = (l : Layout) × HasLayout t l × IsSpaceOf l s
 
+abbrev pub IsLayoutFault : Test → SpaceFault → Type 0
+IsLayoutFault t (Refused r) = (d : DomainRefusal) × (r ≡ refusal_of d) × IsTestFault t (domain_faults.Refused d)
+IsLayoutFault t (OutOfMemory e) = Unit {0}
+
 abbrev pub IsTestRefusal : Test → SpaceFault → Type 0
-IsTestRefusal t (Refused r) = IsTestFault t (Refused r) ⊎ ((l : Layout) × HasLayout t l × IsRefusedAs l r)
+IsTestRefusal t (Refused r) = IsLayoutFault t (Refused r) ⊎ ((l : Layout) × HasLayout t l × IsRefusedAs l r)
 IsTestRefusal t (OutOfMemory e) = Unit {0}

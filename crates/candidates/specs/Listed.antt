@@ -1,23 +1,26 @@
 -- What `space` says of the executions of a test, and how a space shows them: its clauses `executions` and `refused` cite
 -- `ListsExecutions` and `IsRefusedFor`. Read `Events` and `Executions` first. The laws at the end are those of `laws`.
-use Rattle.std.specs.Prelude.{ℕ, Some, ◌≡◌, ◌<◌, ◌≤◌, ◌↔◌, List, [], map, length, slice_get, Contains}
-use Rattle.std.specs.List.{AllZip, flat_map}
+use Rattle.std.specs.Prelude.{ℕ, Some, ◌≡◌, ◌<◌, ◌≤◌, ◌↔◌, List, [], map, length, Contains}
+use Rattle.std.specs.List.{AllPairs, AllZip, flat_map}
 use Rattle.litmus_values.specs.declared.test.Test.{Test}
 use Rattle.thread_runs.specs.declared.instruction.Program.{Program}
 use Rattle.thread_runs.specs.declared.value.Value.{Value}
-use Rattle.ppc_semantics.specs.Domain.{IsDomain, threads_of}
-use Rattle.ppc_semantics.specs.Lowering.{IsProgram, IsTestFault}
-use Rattle.ppc_semantics.specs.declared.fault.EvalRefusal.TheVariants.{TooManyCandidates, AddressFault}
-use Rattle.ppc_semantics.specs.declared.fault.SpaceFault.{SpaceFault}
-use Rattle.ppc_semantics.specs.declared.fault.SpaceFault.TheVariants.{Refused}
-use Rattle.dataflow.specs.Chains.{Executed, IsAddr, IsData, IsCtrl, IsCtrlIsync, IsNeed}
+use Rattle.ppc_semantics.specs.Domain.{IsDomain, IsRefused, threads_of}
+use Rattle.ppc_semantics.specs.Lowering.{IsProgram, AreNames, test_names}
+use Rattle.ppc_semantics.specs.declared.fault.DomainRefusal.{DomainRefusal}
+use Rattle.ppc_semantics.specs.declared.fault.DomainRefusal.TheVariants as no_domain
+use Rattle.candidates.specs.declared.fault.EvalRefusal.{EvalRefusal}
+use Rattle.candidates.specs.declared.fault.EvalRefusal.TheVariants.{TooManyEvents, TooManyValues, TooManyRuns, TooManyCandidates, AddressFault, TooManyCombinations}
+use Rattle.candidates.specs.declared.fault.SpaceFault.{SpaceFault}
+use Rattle.candidates.specs.declared.fault.SpaceFault.TheVariants.{Refused, OutOfMemory}
+use Rattle.dataflow.specs.Chains.{Executed, IsAddr, IsData, IsCtrl, IsCtrlIsync, IsNeed, IsPairBefore}
 use Rattle.thread_runs.specs.ValueSet.{IsOne}
 use Rattle.thread_runs.specs.Runs.{Thread, Run, IsRun, run_of}
 use Rattle.candidates.specs.Executions.{Execution, IsExecution, AreExecutions, HasFault, IsDependency, IsOrder, MayRead, events, loads, maps, orders, locations_from, over_runs}
 use Rattle.candidates.specs.Lists.{IsFiltered}
 use Rattle.candidates.specs.Events.{thread_events, ReadsFrom, CannotRead}
 use Rattle.bit_relations.specs.Pairs.{Union, IsAcyclic}
-use Rattle.candidates.specs.Space.{IsShown, candidate_count}
+use Rattle.candidates.specs.Space.{Shown, shown_by, shown_in, ShowTheSame}
 use Rattle.candidates.specs.declared.candidate.Execution as shown
 use Rattle.candidates.specs.declared.candidate.Space.{Space}
 
@@ -30,31 +33,32 @@ pub record AreTestExecutions (t : Test) (initial : List Value) (xs : List Execut
   pub domain : IsDomain program values
   pub executions : AreExecutions initial (threads_of program) values xs
 
--- the pairs are just those of the dependency
-abbrev pub ArePairs : (Executed → ℕ → ℕ → Type 0) → List Value → Execution → List (ℕ × ℕ) → Type 0
-ArePairs R initial x pairs = (p : ℕ × ℕ) → Contains pairs p ↔ IsDependency R initial x.runs p.0 p.1
+-- the pairs are just those of the dependency, in rising order
+pub record ArePairs (R : Executed → ℕ → ℕ → Type 0) (initial : List Value) (x : Execution) (pairs : List (ℕ × ℕ)) : Type 0 where
+  pub rising : AllPairs IsPairBefore pairs
+  pub exact : (p : ℕ × ℕ) → Contains pairs p ↔ IsDependency R initial x.runs p.0 p.1
 
 -- what is shown is this execution
-pub record Shows (initial : List Value) (x : Execution) (e : shown.Execution) : Type 0 where
-  pub events : e.events.items ≡ events initial x.runs
-  pub addr : ArePairs IsAddr initial x e.addr_pairs.items
-  pub «data» : ArePairs IsData initial x e.data_pairs.items
-  pub ctrl : ArePairs IsCtrl initial x e.ctrl_pairs.items
-  pub ctrlisync : ArePairs IsCtrlIsync initial x e.ctrlisync_pairs.items
-  pub reads_from : e.sources.items ≡ x.reads_from
-  pub coherence : e.order.items ≡ flat_map (λ order. order) x.coherence
-  pub registers : e.registers.items ≡ map (λ r. r.outcome.walk.state.registers) x.runs
+pub record Shows (initial : List Value) (x : Execution) (e : Shown) : Type 0 where
+  pub events : e.events ≡ events initial x.runs
+  pub addr : ArePairs IsAddr initial x e.addr_pairs
+  pub «data» : ArePairs IsData initial x e.data_pairs
+  pub ctrl : ArePairs IsCtrl initial x e.ctrl_pairs
+  pub ctrlisync : ArePairs IsCtrlIsync initial x e.ctrlisync_pairs
+  pub reads_from : e.sources ≡ x.reads_from
+  pub coherence : e.order ≡ flat_map (λ order. order) x.coherence
+  pub registers : e.registers ≡ map (λ r. r.outcome.walk.state.registers) x.runs
 
 -- the space lists just the executions of the test, in their order: at most 16,384, of which none has a run that stopped
--- at a fault
+-- at a fault; and it names the locations of the test
 pub record ListsExecutions (t : Test) (s : Space) : Type 0 where
   pub initial : List Value
   pub all : List Execution
   pub executions : AreTestExecutions t initial all
   pub few : length all ≤ 16384
   pub sound : (x : Execution) → Contains all x → HasFault x → ⊥
-  pub count : candidate_count s ≡ length all
-  pub shown : (index : ℕ) (x : Execution) (e : shown.Execution) → slice_get all index ≡ Some x → IsShown s index e → Shows initial x e
+  pub shown : AllZip (Shows initial) all (shown_in s)
+  pub locations : AreNames (test_names t) s.locations.items
 
 -- there are more
 pub record HasManyExecutions (t : Test) : Type 0 where
@@ -73,11 +77,22 @@ pub record HasFaultedExecution (t : Test) : Type 0 where
   pub there : Contains all execution
   pub fault : HasFault execution
 
+-- the domain of the test is refused
+abbrev pub HasNoDomain : Test → DomainRefusal → Type 0
+HasNoDomain t r = (p : Program) × IsProgram t p × IsRefused p r
+
 -- why a test has no space: its domain is refused, or its executions call for a refusal
+abbrev pub IsRefusal : Test → EvalRefusal → Type 0
+IsRefusal t TooManyEvents = HasNoDomain t no_domain.TooManyEvents
+IsRefusal t TooManyValues = HasNoDomain t no_domain.TooManyValues
+IsRefusal t TooManyRuns = HasNoDomain t no_domain.TooManyRuns
+IsRefusal t TooManyCombinations = HasNoDomain t no_domain.TooManyCombinations
+IsRefusal t TooManyCandidates = HasManyExecutions t
+IsRefusal t AddressFault = HasFaultedExecution t
+
 abbrev pub IsRefusedFor : Test → SpaceFault → Type 0
-IsRefusedFor t (Refused TooManyCandidates) = HasManyExecutions t
-IsRefusedFor t (Refused AddressFault) = HasFaultedExecution t
-IsRefusedFor t fault = IsTestFault t fault
+IsRefusedFor t (Refused r) = IsRefusal t r
+IsRefusedFor t (OutOfMemory e) = Unit {0}
 
 -- LAWS of these definitions
 
@@ -85,7 +100,7 @@ IsRefusedFor t fault = IsTestFault t fault
 -- the domain of the test
 abbrev pub LosesNoValue : Test → shown.Execution → Type 0
 LosesNoValue t e =
-    (p : Program) (V : List Value) (x : Execution) → IsProgram t p → IsDomain p V → Shows p.initial.items x e
+    (p : Program) (V : List Value) (x : Execution) → IsProgram t p → IsDomain p V → Shows p.initial.items x (shown_by e)
     → IsExecution p.initial.items (threads_of p) IsOne x → IsExecution p.initial.items (threads_of p) (Contains V) x
 
 -- a test has one list of executions
@@ -125,25 +140,9 @@ pub record ExcludeOneAnother (t : Test) : Type 0 where
   pub listed_or_faulted : (s : Space) → ListsExecutions t s → HasFaultedExecution t → ⊥
   pub many_or_faulted : HasManyExecutions t → HasFaultedExecution t → ⊥
 
--- the executions are alike: they differ at most in the order in which dependencies are listed
-abbrev pub SamePairs : List (ℕ × ℕ) → List (ℕ × ℕ) → Type 0
-SamePairs ps qs = (p : ℕ × ℕ) → Contains ps p ↔ Contains qs p
-
-pub record AreAlike (d e : shown.Execution) : Type 0 where
-  pub events : d.events.items ≡ e.events.items
-  pub addr : SamePairs d.addr_pairs.items e.addr_pairs.items
-  pub «data» : SamePairs d.data_pairs.items e.data_pairs.items
-  pub ctrl : SamePairs d.ctrl_pairs.items e.ctrl_pairs.items
-  pub ctrlisync : SamePairs d.ctrlisync_pairs.items e.ctrlisync_pairs.items
-  pub reads_from : d.sources.items ≡ e.sources.items
-  pub coherence : d.order.items ≡ e.order.items
-  pub registers : d.registers.items ≡ e.registers.items
-
--- two spaces of one test have as many candidates, and show alike ones at each index
-abbrev pub ShowTheSame : Test → Space → Space → Type 0
-ShowTheSame t r s =
-    ListsExecutions t r → ListsExecutions t s
-    → (candidate_count r ≡ candidate_count s) × ((index : ℕ) (d e : shown.Execution) → index < candidate_count r → IsShown r index d → IsShown s index e → AreAlike d e)
+-- two spaces of one test show the same
+abbrev pub ShowOneTest : Test → Space → Space → Type 0
+ShowOneTest t r s = ListsExecutions t r → ListsExecutions t s → ShowTheSame r s
 
 -- the list of the executions of a test has just those whose loads take any values whatever
 abbrev pub HasAllExecutions : Test → Type 0

@@ -1,8 +1,9 @@
 -- The candidates of a space, as a list.
-use Rattle.std.specs.Prelude.{Vec, ℕ, ◌≡◌, List, length, map, slice_get, HoldsAt}
-use Rattle.std.specs.List.{flat_map, filter_map, zip}
+use Rattle.std.specs.Prelude.{Vec, ℕ, ◌≡◌, List, length, map, replicate, slice_index_or, slice_get, Some}
+use Rattle.std.specs.List.{flat_map, zip}
 use Rattle.std.specs.declared.alloc.Global.{Global}
 use Rattle.thread_runs.specs.declared.value.Value.{Value}
+use Rattle.thread_runs.specs.declared.value.Value.TheVariants.{NoValue}
 use Rattle.candidates.specs.Lists.{lists_of}
 use Rattle.candidates.specs.Orders.{all_orders}
 use Rattle.candidates.specs.declared.candidate.Event.{Event}
@@ -26,9 +27,12 @@ Candidate = Combination × (List ℕ × List ℕ)
 abbrev pub candidates_in : List Combination → List Candidate
 candidates_in cs = flat_map (λ c. map (λ t. (c, t)) (candidates_of c)) cs
 
--- what the registers of each thread hold at the end of its run
+-- what the registers of each thread hold at the end of its run; no values where there is no such run
+abbrev pub end_at : List (List Value) → ℕ → List Value
+end_at ends run = slice_index_or ends run (replicate 32 NoValue)
+
 abbrev pub registers_at : List (Vec (List Value) Global) → List ℕ → List (List Value)
-registers_at threads runs = filter_map (λ p. slice_get p.0.items p.1) (zip threads runs)
+registers_at threads runs = map (λ p. end_at p.0.items p.1) (zip threads runs)
 
 -- a combination as plain data
 pub record Seen : Type 0 where
@@ -68,9 +72,53 @@ pub record IsExecution (threads : List (Vec (List Value) Global)) (c : Combinati
   pub order : e.order.items ≡ t.1
   pub registers : e.registers.items ≡ registers_at threads c.runs.items
 
--- the execution is the candidate at this index of the space
+-- what an execution shows, as plain data
+pub record Shown : Type 0 where
+  pub events : List Event
+  pub addr_pairs : List (ℕ × ℕ)
+  pub data_pairs : List (ℕ × ℕ)
+  pub ctrl_pairs : List (ℕ × ℕ)
+  pub ctrlisync_pairs : List (ℕ × ℕ)
+  pub sources : List ℕ
+  pub order : List ℕ
+  pub registers : List (List Value)
+
+abbrev pub shown_by : Execution → Shown
+shown_by e = record {
+  events = e.events.items;
+  addr_pairs = e.addr_pairs.items;
+  data_pairs = e.data_pairs.items;
+  ctrl_pairs = e.ctrl_pairs.items;
+  ctrlisync_pairs = e.ctrlisync_pairs.items;
+  sources = e.sources.items;
+  order = e.order.items;
+  registers = e.registers.items;
+}
+
+-- what a candidate shows, where each thread has runs with these registers at their ends
+abbrev pub shown_of : List (Vec (List Value) Global) → Candidate → Shown
+shown_of threads x = record {
+  events = x.0.events.items;
+  addr_pairs = x.0.addr_pairs.items;
+  data_pairs = x.0.data_pairs.items;
+  ctrl_pairs = x.0.ctrl_pairs.items;
+  ctrlisync_pairs = x.0.ctrlisync_pairs.items;
+  sources = x.1.0;
+  order = x.1.1;
+  registers = registers_at threads x.0.runs.items;
+}
+
+-- what the candidates of a space show, in order
+abbrev pub shown_in : Space → List Shown
+shown_in s = map (shown_of s.registers.items) (candidates_in s.combinations.items)
+
+-- the execution shows what the candidate at this index does
 abbrev pub IsShown : Space → ℕ → Execution → Type 0
-IsShown s index e = HoldsAt (λ x. IsExecution s.registers.items x.0 x.1 e) (candidates_in s.combinations.items) index
+IsShown s index e = slice_get (shown_in s) index ≡ Some (shown_by e)
+
+-- two spaces show the same: locations of the same names, and candidates that show the same, in the same order
+abbrev pub ShowTheSame : Space → Space → Type 0
+ShowTheSame r s = (r.locations.items ≡ s.locations.items) × (shown_in r ≡ shown_in s)
 
 -- how many candidates the space has
 abbrev pub candidate_count : Space → ℕ

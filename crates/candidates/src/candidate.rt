@@ -1,7 +1,8 @@
 //! Candidate executions, shared by combinations of runs.
 ghost use Rattle.std.specs.Prelude.{◌≡◌, ◌-◌, ◌^◌, ◌<◌, ◌≤◌, ◌↔◌, min, length, IsTrue, IfOk, IfSome, IfNone, HoldsAt};
-ghost use Rattle.candidates.specs.Space.{candidates_of, candidate_count, registers_at, IsExecution, IsShown};
+ghost use Rattle.candidates.specs.Space.{candidates_of, candidate_count, end_at, registers_at, IsExecution, IsShown, ShowTheSame};
 
+use crate::same::{Candidates, are_same, are_same_names};
 use litmus_values::Fence;
 use ppc_semantics::Value;
 use source_text::Name;
@@ -130,6 +131,16 @@ impl Combination {
     }
 }
 
+/// What the registers hold at the end of the run at this index; no values where there is none.
+pub(crate) fn registers_of(ends: &[[Value; 32]], run: usize) -> [Value; 32]
+    ensures { result ≡ end_at ends.now run }
+{
+    match ends.get(run) {
+        Some(registers) => *registers,
+        None => [Value::NoValue; 32],
+    }
+}
+
 /// What the registers of each thread hold at the end of its run.
 fn final_registers(
     alloc: Global,
@@ -140,9 +151,7 @@ fn final_registers(
 {
     let mut found = Vec::with_capacity(alloc, runs.len())?;
     for thread in 0..runs.len().min(registers.len()) {
-        if let Some(values) = registers[thread].get(runs[thread]) {
-            found.push(*values)?;
-        }
+        found.push(registers_of(&registers[thread], runs[thread]))?;
     }
     Ok(found)
 }
@@ -164,6 +173,22 @@ impl Space {
         ensures { IsTrue result ↔ (candidate_count self.now ≡ 0) }
     {
         self.len() == 0
+    }
+
+    /// Whether both show the same: the names of the locations, and as many candidates, the same at
+    /// each index.
+    pub fn is_same(&self, other: &Space) -> bool
+        ensures { IsTrue result ↔ ShowTheSame self.now other.now }
+    {
+        if !are_same_names(&self.locations, &other.locations) {
+            return false;
+        }
+        are_same(
+            Candidates::new(&self.combinations),
+            &self.registers,
+            Candidates::new(&other.combinations),
+            &other.registers,
+        )
     }
 
     /// The candidate at a place, from 0; `None` where there are no more than `place`. Errors: want

@@ -2,7 +2,7 @@
 ghost use Rattle.std.specs.Prelude.{List};
 ghost use Rattle.thread_runs.specs.declared.value.Value.{Value};
 ghost use Rattle.thread_runs.specs.Runs.{Thread, Run};
-ghost use Rattle.candidates.specs.Listed.{HasAllExecutions, LosesNoValue, ExcludeOneAnother, HasOneList, ShowTheSame, LosesNoExecution, ChoosesApart, DropsNoEvent};
+ghost use Rattle.candidates.specs.Listed.{HasAllExecutions, LosesNoValue, ExcludeOneAnother, HasOneList, ShowOneTest, LosesNoExecution, ChoosesApart, DropsNoEvent};
 
 use crate::candidate::{Execution, Space};
 use litmus_values::Test;
@@ -49,9 +49,9 @@ pub fn outcomes_exclude_one_another(test: &Test)
     let _test = test;
 }
 
-/// Two spaces of one test show the same executions, in the same order.
+/// Two spaces of one test show the same: `Space::is_same` holds of them.
 pub fn spaces_show_the_same(test: &Test, first: &Space, second: &Space)
-    ensures { ShowTheSame test.now first.now second.now }
+    ensures { ShowOneTest test.now first.now second.now }
 {
     let _test = test;
     let _first = first;

@@ -8,28 +8,30 @@
 
 ghost use Rattle.std.specs.Prelude.{ℕ, ◌≡◌, List, Option, map, IfOk, IfErr};
 ghost use Rattle.thread_runs.specs.declared.value.Value.{Value};
-ghost use Rattle.ppc_semantics.specs.Lowering.{IsTestFault};
 ghost use Rattle.candidates.specs.Keys.{IsKeyed};
 ghost use Rattle.candidates.specs.Listed.{ListsExecutions, IsRefusedFor};
 ghost use Rattle.candidates.specs.Events.{initial_stores};
 ghost use Rattle.candidates.specs.Search.{all_combinations, location_count};
 ghost use Rattle.candidates.specs.Space.{seen, ordered};
-ghost use Rattle.candidates.specs.Candidates.{AreSmall, HasEnds, IsAnswer, IsReady, IsTestSpace, IsTestRefusal};
+ghost use Rattle.candidates.specs.Candidates.{AreSmall, HasEnds, IsAnswer, IsLayoutFault, IsReady, IsTestSpace, IsTestRefusal};
 
 mod candidate;
+mod fault;
 mod keys;
 pub mod laws;
 mod layout;
 mod orders;
 mod part;
 mod reading;
+mod same;
 mod search;
 
 pub use candidate::{Action, Combination, Event, Execution, Space};
+pub use fault::{EvalRefusal, SpaceFault};
 use layout::{Layout, registers};
 use litmus_values::Test;
 use orders::with_orders;
-use ppc_semantics::{EvalRefusal, SpaceFault, domain_of, program};
+use ppc_semantics::{domain_of, program};
 use search::search;
 use std::alloc::{AllocError, Global};
 
@@ -71,12 +73,12 @@ fn space_of(alloc: Global, layout: Layout) -> Result<Result<Space, EvalRefusal>,
 /// What the candidates of a test are made of, or a refusal of its domain.
 fn layout_of(alloc: Global, test: &Test) -> Result<Layout, SpaceFault>
     ensures layout { IfOk result (IsReady test.now) }
-    ensures fault { IfErr result (IsTestFault test.now) }
+    ensures fault { IfErr result (IsLayoutFault test.now) }
 {
     match program(alloc, test) {
         Err(fault) => Err(SpaceFault::OutOfMemory(fault)),
         Ok(program) => match domain_of(alloc, &program) {
-            Err(fault) => Err(fault),
+            Err(fault) => Err(SpaceFault::of_domain(fault)),
             Ok(domain) => match Layout::new(alloc, program, &domain) {
                 Err(fault) => Err(SpaceFault::OutOfMemory(fault)),
                 Ok(layout) => Ok(layout),

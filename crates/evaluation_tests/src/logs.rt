@@ -1,10 +1,10 @@
 //! Logs of outcomes that are made up, and which of two texts is refused.
 
 use binding_graph::ModelFault;
+use candidates::EvalRefusal;
 use cat_syntax::CatRule;
 use litmus_ppc::{Name, Quantifier};
 use litmusbench::{EvalFault, eval, outcome_log};
-use ppc_semantics::EvalRefusal;
 use std::alloc::{AllocError, Global};
 use std::io;
 use verdict::{CountedState, Evaluation, FinalValue, Observation, Outcome, OutcomeResult, Refusal};

@@ -4,7 +4,7 @@ use Rattle.std.specs.declared.alloc.Global.{Global}
 use Rattle.litmus_values.specs.declared.test.Test.{Test}
 use Rattle.litmus_values.specs.Value.{formula_of}
 use Rattle.litmus_printing.specs.Printing.{condition_text}
-use Rattle.ppc_semantics.specs.declared.fault.SpaceFault.TheVariants as space_faults
+use Rattle.candidates.specs.declared.fault.SpaceFault.TheVariants as space_faults
 use Rattle.candidates.specs.declared.candidate.Space.{Space}
 use Rattle.candidates.specs.Candidates.{IsTestSpace, IsTestRefusal}
 use Rattle.cat_values.specs.declared.model.Item.{Item}

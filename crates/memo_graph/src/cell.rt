@@ -16,12 +16,11 @@ ghost use Rattle.memo_graph.specs.Known.{column_of, AreFound, IsAnswered, Column
 ghost use Rattle.memo_graph.specs.Cell.{IsSaid, IsCell, IsEvaluationBy, IsEvaluationOver, IsEvaluationUnder, OfModel};
 
 use binding_graph::{CheckCode, Input, ResolveFault, Resolved, ResolvedItem, Role, resolve, used};
-use candidates::{Space, space};
+use candidates::{Space, SpaceFault, space};
 use cat_eval::{Column, eval_check, eval_group};
 use cat_values::{ModelText, PREDEFINED};
 use litmus_printing::print_condition;
 use litmus_values::Test;
-use ppc_semantics::SpaceFault;
 use source_text::Name;
 use std::alloc::{AllocError, Global};
 use verdict::{Outcome, OutcomeResult, Raised, Refusal, outcome};

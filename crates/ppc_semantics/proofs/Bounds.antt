@@ -14,9 +14,9 @@ use Rattle.thread_runs.specs.declared.instruction.Line.{Line}
 use Rattle.thread_runs.specs.declared.instruction.Line.TheVariants.{Label, Does}
 use Rattle.thread_runs.specs.declared.instruction.Program.{Program}
 use Rattle.thread_runs.specs.declared.state.State.{State}
-use Rattle.ppc_semantics.specs.declared.fault.EvalRefusal.TheVariants.{TooManyEvents, TooManyValues, TooManyRuns, TooManyCandidates, AddressFault, TooManyCombinations}
-use Rattle.ppc_semantics.specs.declared.fault.SpaceFault.{SpaceFault}
-use Rattle.ppc_semantics.specs.declared.fault.SpaceFault.TheVariants.{Refused, OutOfMemory}
+use Rattle.ppc_semantics.specs.declared.fault.DomainRefusal.TheVariants.{TooManyEvents, TooManyValues, TooManyRuns, TooManyCombinations}
+use Rattle.ppc_semantics.specs.declared.fault.DomainFault.{DomainFault}
+use Rattle.ppc_semantics.specs.declared.fault.DomainFault.TheVariants.{Refused, OutOfMemory}
 use Rattle.thread_runs.specs.Machine.{is_load}
 use Rattle.thread_runs.specs.Runs.{Thread, StoresFreely}
 use Rattle.thread_runs.specs.AllRuns.{thread_of, all_from, beginning_at, whole}
@@ -79,7 +79,7 @@ module _ (p : Program) where
     runs = λ t h. let (j, lt, e) = threads_have (vec_len p.threads) t h in subst (λ (s : Thread). (n : ℕ) × HasFreeRuns s V n × (n ≤ 4096)) e (runs j lt);
   }
 
-  pub round_fault : (k : ℕ) (V : List Value) → event_total p ≤ 128 → k ≤ load_total p → ((j : ℕ) → j < k → IsWithin p j) → IsNextRound p k V → (e : SpaceFault) → IsRoundFault p V e → IsFault p e
+  pub round_fault : (k : ℕ) (V : List Value) → event_total p ≤ 128 → k ≤ load_total p → ((j : ℕ) → j < k → IsWithin p j) → IsNextRound p k V → (e : DomainFault) → IsRoundFault p V e → IsFault p e
   round_fault k V events bound before n (Refused TooManyValues) h = (k, record { events = events; bound = bound; before = before; fails = (V, n.set, (λ i d lt. n.sound (get_or V i d) (Contains-get_or V i d lt)), h) })
   round_fault k V events bound before n (Refused TooManyRuns) h =
       let (few, j, lt, m, counted, over) = h in (
@@ -92,18 +92,14 @@ module _ (p : Program) where
         },
       )
   round_fault k V events bound before n (Refused TooManyEvents) h = absurd h
-  round_fault k V events bound before n (Refused TooManyCandidates) h = absurd h
-  round_fault k V events bound before n (Refused AddressFault) h = absurd h
   round_fault k V events bound before n (Refused TooManyCombinations) h = absurd h
   round_fault k V events bound before n (OutOfMemory e) h = h
 
-  pub combination_fault : (V : List Value) → event_total p ≤ 128 → ((k : ℕ) → k ≤ load_total p → IsWithin p k) → IsRound p (load_total p) V → (e : SpaceFault) → IsCombinationFault p V e → IsFault p e
+  pub combination_fault : (V : List Value) → event_total p ≤ 128 → ((k : ℕ) → k ≤ load_total p → IsWithin p k) → IsRound p (load_total p) V → (e : DomainFault) → IsCombinationFault p V e → IsFault p e
   combination_fault V events rounds last (Refused TooManyCombinations) h = let (n, counted, over) = h in record { events = events; rounds = rounds; values = V; last = last; combinations = n; counted = counted; many = over }
   combination_fault V events rounds last (Refused TooManyRuns) h = absurd h
   combination_fault V events rounds last (Refused TooManyValues) h = absurd h
   combination_fault V events rounds last (Refused TooManyEvents) h = absurd h
-  combination_fault V events rounds last (Refused TooManyCandidates) h = absurd h
-  combination_fault V events rounds last (Refused AddressFault) h = absurd h
   combination_fault V events rounds last (OutOfMemory e) h = h
 
   -- where nothing is added, nothing is added later
@@ -220,7 +216,7 @@ module _ (p : Program) (k : ℕ) (U V : List Value) (same : U ≡ V) where
         ];
       }
 
-  pub going_fault : event_total p ≤ 128 → k ≤ load_total p → (AreProper p → IsNextRound p k V) → (AreProper p → (j : ℕ) → j < k → IsWithin p j) → (e : SpaceFault) → IsRoundFault p U e → AreProper p → IsFault p e
+  pub going_fault : event_total p ≤ 128 → k ≤ load_total p → (AreProper p → IsNextRound p k V) → (AreProper p → (j : ℕ) → j < k → IsWithin p j) → (e : DomainFault) → IsRoundFault p U e → AreProper p → IsFault p e
   going_fault events bound next before e h proper = round_fault p k V events bound (before proper) (next proper) e (subst (λ (W : List Value). IsRoundFault p W e) same h)
 
   module _ (W : List Value) (round : (n : ℕ) → IsRound p n U → IsNextRound p (n + 1) W) (unchanged : length U ≡ length W → U ≡ W) (as_long : length W ≡ length V) (g : IsGoing p k V) (proper : AreProper p) where
@@ -236,6 +232,6 @@ module _ (p : Program) (k : ℕ) (U V : List Value) (same : U ≡ V) where
     stopped_within j = within_to p V g.few on k g.runs (g.round proper) (g.within proper) j
 
 -- a fault that is passed on
-pub passed_on : (T : Type 0) (p : Program) (r : Result T SpaceFault) (x : SpaceFault) → IsErrAnd r (λ e. e ≡ x) → (AreProper p → IsFault p x) → IfErr r (λ e. AreProper p → IsFault p e)
+pub passed_on : (T : Type 0) (p : Program) (r : Result T DomainFault) (x : DomainFault) → IsErrAnd r (λ e. e ≡ x) → (AreProper p → IsFault p x) → IfErr r (λ e. AreProper p → IsFault p e)
 passed_on T p (Ok t) x h f = absurd h
-passed_on T p (Err e) x h f = subst (λ (z : SpaceFault). AreProper p → IsFault p z) (sym h) f
+passed_on T p (Err e) x h f = subst (λ (z : DomainFault). AreProper p → IsFault p z) (sym h) f

@@ -8,10 +8,10 @@ use Rattle.thread_runs.specs.declared.instruction.Instruction.TheVariants.{Store
 use Rattle.thread_runs.specs.declared.instruction.Line.{Line}
 use Rattle.thread_runs.specs.declared.instruction.Line.TheVariants.{Label, Does}
 use Rattle.thread_runs.specs.declared.instruction.Program.{Program}
-use Rattle.ppc_semantics.specs.declared.fault.EvalRefusal.{EvalRefusal}
-use Rattle.ppc_semantics.specs.declared.fault.EvalRefusal.TheVariants.{TooManyEvents, TooManyValues, TooManyRuns, TooManyCombinations}
-use Rattle.ppc_semantics.specs.declared.fault.SpaceFault.{SpaceFault}
-use Rattle.ppc_semantics.specs.declared.fault.SpaceFault.TheVariants.{Refused, OutOfMemory}
+use Rattle.ppc_semantics.specs.declared.fault.DomainRefusal.{DomainRefusal}
+use Rattle.ppc_semantics.specs.declared.fault.DomainRefusal.TheVariants.{TooManyEvents, TooManyValues, TooManyRuns, TooManyCombinations}
+use Rattle.ppc_semantics.specs.declared.fault.DomainFault.{DomainFault}
+use Rattle.ppc_semantics.specs.declared.fault.DomainFault.TheVariants.{Refused, OutOfMemory}
 use Rattle.thread_runs.specs.Machine.{is_load}
 use Rattle.thread_runs.specs.Runs.{Thread, Run, AreRuns, InDomain}
 use Rattle.thread_runs.specs.AllRuns.{thread_of}
@@ -115,18 +115,17 @@ pub record HasManyCombinations (p : Program) : Type 0 where
   pub counted : HasCombinations (threads_of p) values combinations
   pub many : 1048576 < combinations
 
-abbrev pub IsRefused : Program → EvalRefusal → Type 0
+abbrev pub IsRefused : Program → DomainRefusal → Type 0
 IsRefused p TooManyEvents = 128 < event_total p
 IsRefused p TooManyValues = (k : ℕ) × IsFirst p k HasManyValues
 IsRefused p TooManyRuns = (k : ℕ) × IsFirst p k HasManyRuns
 IsRefused p TooManyCombinations = HasManyCombinations p
-IsRefused p _ = ⊥
 
-abbrev pub IsFault : Program → SpaceFault → Type 0
+abbrev pub IsFault : Program → DomainFault → Type 0
 IsFault p (Refused r) = IsRefused p r
 IsFault p (OutOfMemory e) = Unit {0}
 
-abbrev pub IsMemory : SpaceFault → Type 0
+abbrev pub IsMemory : DomainFault → Type 0
 IsMemory (Refused r) = ⊥
 IsMemory (OutOfMemory e) = Unit {0}
 
@@ -134,14 +133,14 @@ IsMemory (OutOfMemory e) = Unit {0}
 abbrev pub HasFewRuns : Program → List Value → ℕ → Type 0
 HasFewRuns p V k = (j : ℕ) → j < k → (n : ℕ) × HasFreeRuns (thread_of p j) V n × (n ≤ 4096)
 
-abbrev pub IsRoundFault : Program → List Value → SpaceFault → Type 0
+abbrev pub IsRoundFault : Program → List Value → DomainFault → Type 0
 IsRoundFault p V (Refused TooManyValues) = 16 < length V
 IsRoundFault p V (Refused TooManyRuns) = (length V ≤ 16) × (j : ℕ) × (j < vec_len p.threads) × (n : ℕ) × HasFreeRuns (thread_of p j) V n × (4096 < n)
 IsRoundFault p V (Refused _) = ⊥
 IsRoundFault p V (OutOfMemory e) = Unit {0}
 
 -- and that of the combinations
-abbrev pub IsCombinationFault : Program → List Value → SpaceFault → Type 0
+abbrev pub IsCombinationFault : Program → List Value → DomainFault → Type 0
 IsCombinationFault p V (Refused TooManyCombinations) = (n : ℕ) × HasCombinations (threads_of p) V n × (1048576 < n)
 IsCombinationFault p V (Refused _) = ⊥
 IsCombinationFault p V (OutOfMemory e) = Unit {0}

@@ -26,8 +26,8 @@ use Rattle.thread_runs.specs.declared.instruction.Instruction.TheVariants.{Immed
 use Rattle.thread_runs.specs.declared.instruction.Line.{Line}
 use Rattle.thread_runs.specs.declared.instruction.Line.TheVariants.{Label, Does}
 use Rattle.thread_runs.specs.declared.instruction.Program.{Program}
-use Rattle.ppc_semantics.specs.declared.fault.SpaceFault.{SpaceFault}
-use Rattle.ppc_semantics.specs.declared.fault.SpaceFault.TheVariants.{Refused, OutOfMemory}
+use Rattle.ppc_semantics.specs.declared.fault.DomainFault.{DomainFault}
+use Rattle.ppc_semantics.specs.declared.fault.DomainFault.TheVariants.{Refused, OutOfMemory}
 use Rattle.thread_runs.specs.declared.run.Run.{Run}
 use Rattle.thread_runs.specs.AllRuns.{ShowsRuns, thread_of}
 use Rattle.ppc_semantics.specs.Domain.{IsDomain, IsRefused}
@@ -151,7 +151,7 @@ pub record IsProgram (t : Test) (p : Program) : Type 0 where
 abbrev pub IsTestDomain : Test → List Value → Type 0
 IsTestDomain t V = (p : Program) × IsProgram t p × IsDomain p V
 
-abbrev pub IsTestFault : Test → SpaceFault → Type 0
+abbrev pub IsTestFault : Test → DomainFault → Type 0
 IsTestFault t (Refused r) = (p : Program) × IsProgram t p × IsRefused p r
 IsTestFault t (OutOfMemory e) = Unit {0}
 

@@ -1,4 +1,4 @@
-//! Why a test has no list of candidates.
+//! Why a test has no domain.
 
 ghost use Rattle.std.specs.Prelude.{◌≡◌};
 ghost use Rattle.ppc_semantics.specs.Numbers.{number};
@@ -6,45 +6,39 @@ ghost use Rattle.ppc_semantics.specs.Numbers.{number};
 use std::alloc::AllocError;
 use thiserror::Error;
 
-/// A limit that a test exceeds, or an access to an address that no location has.
+/// A limit of the domain that a test exceeds.
 #[derive(Clone, Copy, Debug, PartialEq, Eq)]
-pub enum EvalRefusal {
+pub enum DomainRefusal {
     /// E1: over 128 locations, loads, stores and fences by text.
     TooManyEvents,
     /// E2: over 16 values that loads can read.
     TooManyValues,
     /// E3: over 4,096 free runs of a thread.
     TooManyRuns,
-    /// E4: over 16,384 candidates.
-    TooManyCandidates,
-    /// E5: a candidate has a run that stopped at a fault.
-    AddressFault,
     /// E6: over 1,048,576 combinations of a run of each thread.
     TooManyCombinations,
 }
 
-impl EvalRefusal {
-    /// The number of the printed refusal, from 1 to 6.
+impl DomainRefusal {
+    /// The number of the printed refusal: 1, 2, 3 or 6.
     pub fn number(self) -> u8
         ensures { result ≡ number self }
     {
         match self {
-            EvalRefusal::TooManyEvents => 1,
-            EvalRefusal::TooManyValues => 2,
-            EvalRefusal::TooManyRuns => 3,
-            EvalRefusal::TooManyCandidates => 4,
-            EvalRefusal::AddressFault => 5,
-            EvalRefusal::TooManyCombinations => 6,
+            DomainRefusal::TooManyEvents => 1,
+            DomainRefusal::TooManyValues => 2,
+            DomainRefusal::TooManyRuns => 3,
+            DomainRefusal::TooManyCombinations => 6,
         }
     }
 }
 
-/// Why no domain, or no list of candidates, was made.
+/// Why no domain was made.
 #[derive(Debug, Drop, Error)]
-pub enum SpaceFault {
+pub enum DomainFault {
     /// The test is refused.
     #[error("refused")]
-    Refused(EvalRefusal),
+    Refused(DomainRefusal),
     /// Memory ran out.
     #[error("out of memory")]
     OutOfMemory(#[from(alloc)] AllocError),

@@ -11,7 +11,7 @@ ghost use Rattle.thread_runs.specs.FreeWalks.{AreAdded};
 ghost use Rattle.ppc_semantics.specs.Domain as dom;
 ghost use Rattle.ppc_semantics.specs.Lowering as low;
 
-use crate::fault::{EvalRefusal, SpaceFault};
+use crate::fault::{DomainFault, DomainRefusal};
 use crate::lowering::program;
 use bit_relations::MAX_EVENTS;
 use litmus_values::Test;
@@ -144,31 +144,31 @@ fn thread_count(
     program: &Program,
     thread: usize,
     size: usize,
-) -> Result<u32, SpaceFault>
+) -> Result<u32, DomainFault>
     ensures counted { IfOk result (λ n. (V : List Value) → AllPairs IsLess V → length V ≡ size → (m : ℕ) × HasFreeRuns (all.thread_of program.now thread) V m × (n ≡ min m 4097)) }
     ensures fault { IfErr result (λ e. dom.IsMemory e) }
 {
     match free_count(alloc, thread_lines(program, thread), size) {
         Ok(count) => Ok(count),
-        Err(fault) => Err(SpaceFault::OutOfMemory(fault)),
+        Err(fault) => Err(DomainFault::OutOfMemory(fault)),
     }
 }
 
 /// The bounds of one round.
-fn check_round(alloc: Global, program: &Program, values: &[Value]) -> Result<(), SpaceFault>
+fn check_round(alloc: Global, program: &Program, values: &[Value]) -> Result<(), DomainFault>
     requires { IsSet values.now }
     ensures few { OnOk result (length values.now ≤ 16) }
     ensures runs { OnOk result (dom.HasFewRuns program.now values.now (vec_len program.now.threads)) }
     ensures fault { IfErr result (λ e. dom.IsRoundFault program.now values.now e) }
 {
     if values.len() > MAX_VALUES {
-        return Err(SpaceFault::Refused(EvalRefusal::TooManyValues));
+        return Err(DomainFault::Refused(DomainRefusal::TooManyValues));
     }
     for thread in 0..program.threads.len() {
         match thread_count(alloc, program, thread, values.len()) {
             Ok(count) => {
                 if count >= MANY {
-                    return Err(SpaceFault::Refused(EvalRefusal::TooManyRuns));
+                    return Err(DomainFault::Refused(DomainRefusal::TooManyRuns));
                 }
             }
             Err(fault) => return Err(fault),
@@ -183,7 +183,7 @@ fn runs_in_thread(
     program: &Program,
     thread: usize,
     values: &[Value],
-) -> Result<usize, SpaceFault>
+) -> Result<usize, DomainFault>
     requires { IsSet values.now }
     ensures counted { IfOk result (λ n. dom.HasRuns (all.thread_of program.now thread) values.now n) }
     ensures fault { IfErr result (λ e. dom.IsMemory e) }
@@ -191,12 +191,12 @@ fn runs_in_thread(
     let first = State::first(program, thread);
     match run_count(alloc, thread_lines(program, thread), first, values) {
         Ok(count) => Ok(count),
-        Err(fault) => Err(SpaceFault::OutOfMemory(fault)),
+        Err(fault) => Err(DomainFault::OutOfMemory(fault)),
     }
 }
 
 /// The bound of the combinations of runs.
-fn check_combinations(alloc: Global, program: &Program, values: &[Value]) -> Result<(), SpaceFault>
+fn check_combinations(alloc: Global, program: &Program, values: &[Value]) -> Result<(), DomainFault>
     requires { IsSet values.now }
     ensures few { OnOk result ((n : ℕ) × dom.HasCombinations (dom.threads_of program.now) values.now n × (n ≤ 1048576)) }
     ensures fault { IfErr result (λ e. dom.IsCombinationFault program.now values.now e) }
@@ -211,25 +211,25 @@ fn check_combinations(alloc: Global, program: &Program, values: &[Value]) -> Res
         }
     }
     if product > MAX_COMBINATIONS {
-        return Err(SpaceFault::Refused(EvalRefusal::TooManyCombinations));
+        return Err(DomainFault::Refused(DomainRefusal::TooManyCombinations));
     }
     Ok(())
 }
 
 /// The values before the first round.
-fn first_round(alloc: Global, program: &Program) -> Result<Vec<Value>, SpaceFault>
+fn first_round(alloc: Global, program: &Program) -> Result<Vec<Value>, DomainFault>
     ensures set { IfOk result (λ v. IsSet v.items) }
     ensures round { IfOk result (λ v. dom.AreProper program.now → dom.IsNextRound program.now 0 v.items) }
     ensures fault { IfErr result (λ e. dom.IsMemory e) }
 {
     match initial_values(alloc, program) {
         Ok(values) => Ok(values),
-        Err(fault) => Err(SpaceFault::OutOfMemory(fault)),
+        Err(fault) => Err(DomainFault::OutOfMemory(fault)),
     }
 }
 
 /// The values after one round more.
-fn next_round(alloc: Global, program: &Program, values: &[Value]) -> Result<Vec<Value>, SpaceFault>
+fn next_round(alloc: Global, program: &Program, values: &[Value]) -> Result<Vec<Value>, DomainFault>
     requires { IsSet values.now }
     ensures set { IfOk result (λ v. IsSet v.items) }
     ensures round { IfOk result (λ v. (k : ℕ) → dom.IsRound program.now k values.now → dom.IsNextRound program.now (k + 1) v.items) }
@@ -238,12 +238,12 @@ fn next_round(alloc: Global, program: &Program, values: &[Value]) -> Result<Vec<
 {
     match next_values(alloc, program, values) {
         Ok(values) => Ok(values),
-        Err(fault) => Err(SpaceFault::OutOfMemory(fault)),
+        Err(fault) => Err(DomainFault::OutOfMemory(fault)),
     }
 }
 
 /// The values after the last round, where each round is within the bounds.
-fn last_round(alloc: Global, program: &Program) -> Result<Vec<Value>, SpaceFault>
+fn last_round(alloc: Global, program: &Program) -> Result<Vec<Value>, DomainFault>
     requires { dom.event_total program.now ≤ 128 }
     ensures set { IfOk result (λ v. IsSet v.items) }
     ensures round { IfOk result (λ v. dom.AreProper program.now → dom.IsRound program.now (dom.load_total program.now) v.items) }
@@ -272,13 +272,13 @@ fn last_round(alloc: Global, program: &Program) -> Result<Vec<Value>, SpaceFault
 /// Limits, in this order: 128 locations, loads, stores and fences together; before the first round
 /// and after each round 16 values, then 4,096 free runs of a thread; 1,048,576 combinations of runs.
 /// Errors: the first limit that is exceeded, or out of memory.
-pub fn domain_of(alloc: Global, program: &Program) -> Result<Domain, SpaceFault>
+pub fn domain_of(alloc: Global, program: &Program) -> Result<Domain, DomainFault>
     ensures set { IfOk result (λ d. IsSet d.values.items) }
     ensures domain { IfOk result (λ d. dom.AreProper program.now → dom.IsDomain program.now d.values.items) }
     ensures fault { IfErr result (λ e. dom.AreProper program.now → dom.IsFault program.now e) }
 {
     if event_count(program) > MAX_EVENTS {
-        return Err(SpaceFault::Refused(EvalRefusal::TooManyEvents));
+        return Err(DomainFault::Refused(DomainRefusal::TooManyEvents));
     }
     let values = last_round(alloc, program)?;
     check_combinations(alloc, program, &values)?;
@@ -286,13 +286,13 @@ pub fn domain_of(alloc: Global, program: &Program) -> Result<Domain, SpaceFault>
 }
 
 /// The domain of a test: that of its program. Errors: the refusal of its program, or out of memory.
-pub fn domain(alloc: Global, test: &Test) -> Result<Domain, SpaceFault>
+pub fn domain(alloc: Global, test: &Test) -> Result<Domain, DomainFault>
     ensures set { IfOk result (λ d. IsSet d.values.items) }
     ensures domain { IfOk result (λ d. low.IsTestDomain test.now d.values.items) }
     ensures fault { IfErr result (λ e. low.IsTestFault test.now e) }
 {
     match program(alloc, test) {
         Ok(program) => domain_of(alloc, &program),
-        Err(fault) => Err(SpaceFault::OutOfMemory(fault)),
+        Err(fault) => Err(DomainFault::OutOfMemory(fault)),
     }
 }

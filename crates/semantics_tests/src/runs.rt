@@ -3,18 +3,18 @@
 use crate::put_pairs;
 use dataflow::links;
 use litmus_ppc::{Fence, Test};
-use ppc_semantics::{Domain, Event, Run, SpaceFault, Value, domain, runs};
+use ppc_semantics::{Domain, DomainFault, Event, Run, Value, domain, runs};
 use source_text::{put_between, put_bytes, put_decimal};
 use std::alloc::{AllocError, Global};
 
 /// Appends the number of a refusal.
-fn put_fault(answer: &mut Vec<u8>, fault: SpaceFault) -> Result<(), AllocError> {
+fn put_fault(answer: &mut Vec<u8>, fault: DomainFault) -> Result<(), AllocError> {
     match fault {
-        SpaceFault::Refused(refusal) => {
+        DomainFault::Refused(refusal) => {
             put_bytes(answer, b"refused E")?;
             put_decimal(answer, u64::from(refusal.number()))
         }
-        SpaceFault::OutOfMemory(error) => Err(error),
+        DomainFault::OutOfMemory(error) => Err(error),
     }
 }
 

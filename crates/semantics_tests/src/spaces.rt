@@ -3,9 +3,8 @@
 use crate::environments::put_name;
 use crate::put_item;
 use base_env::base;
-use candidates::{Execution, space};
+use candidates::{Execution, SpaceFault, space};
 use litmus_ppc::Test;
-use ppc_semantics::SpaceFault;
 use source_text::{put_bytes, put_decimal};
 use std::alloc::{AllocError, Global};
 

@@ -1,8 +1,8 @@
 //! The outcome of a test under a model.
 
 use binding_graph::ModelFault;
+use candidates::EvalRefusal;
 use litmus_values::Quantifier;
-use ppc_semantics::EvalRefusal;
 use source_text::Name;
 use std::marker::Model;
 

@@ -1,5 +1,5 @@
 use Rattle.std.proofs.Common.{Ok, ap, ◌∙◌}
-use Rattle.ppc_semantics.specs.declared.fault.SpaceFault.TheVariants.{Refused}
+use Rattle.candidates.specs.declared.fault.SpaceFault.TheVariants.{Refused}
 use Rattle.candidates.proofs.Telling.{space_lists, refused_told}
 use Rattle.candidates.proofs.Totals.{fault_told, space_told, refusal_told}
 use Rattle.candidates.proofs.space.Goals as goal
