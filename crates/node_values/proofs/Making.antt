@@ -11,6 +11,7 @@ use Rattle.litmus_values.specs.declared.test.Place.{Place}
 use Rattle.litmus_values.specs.declared.test.Place.TheVariants.{Location}
 use Rattle.litmus_values.specs.Value.{formula_of}
 use Rattle.ppc_semantics.specs.Lowering.{place_names, entry_names}
+use Rattle.candidates.specs.Space.{shown_in}
 use Rattle.candidates.specs.declared.candidate.Space.{Space}
 use Rattle.binding_graph.specs.declared.resolved.ResolvedItem.{ResolvedItem}
 use Rattle.cat_eval.specs.declared.column.Column.{Column}
@@ -22,7 +23,7 @@ use Rattle.verdict.specs.Evaluated.{IsOutcome}
 use Rattle.verdict.specs.Kept.{Flag, of_raised}
 use Rattle.node_values.specs.Items.{item_content}
 use Rattle.node_values.specs.Makes.{HasColumns, HasAnswers, IsVerdict}
-use Rattle.node_values.specs.Spaces.{SpaceContent, space_content, no_candidates}
+use Rattle.node_values.specs.Spaces.{SpaceContent, space_content, no_executions}
 use Rattle.node_values.specs.Values.{NodeContent, first_space, space_of, columns_of, checks_of, flags_of}
 use Rattle.node_values.specs.Views.{verdict_parts}
 use Rattle.node_values.specs.declared.given.VerdictParts.{VerdictParts}
@@ -31,10 +32,10 @@ use Rattle.node_values.proofs.Finding.{zip_here, zip_end}
 -- ---- the space among the values
 
 pub space_there : (values : List NodeContent) (s : SpaceContent) → Some s ≡ first_space values → s ≡ space_of values
-space_there values s is = ap (λ (o : Option SpaceContent). unwrap_or o no_candidates) is
+space_there values s is = ap (λ (o : Option SpaceContent). unwrap_or o no_executions) is
 
-pub space_missing : (values : List NodeContent) (s : SpaceContent) → None ≡ first_space values → s ≡ no_candidates → s ≡ space_of values
-space_missing values s is none = none ∙ ap (λ (o : Option SpaceContent). unwrap_or o no_candidates) is
+pub space_missing : (values : List NodeContent) (s : SpaceContent) → None ≡ first_space values → s ≡ no_executions → s ≡ space_of values
+space_missing values s is none = none ∙ ap (λ (o : Option SpaceContent). unwrap_or o no_executions) is
 
 -- ---- columns, answers and outcomes over it
 
@@ -63,12 +64,9 @@ answers_over r values s inputs found (Ok v) over same are made = record {
 answers_over r values s inputs found (Err e) over same are made = tt
 
 pub outcome_over : (parts : VerdictParts) (values : List NodeContent) (s : Space) (observed : List Place) (checks : List (List Bool)) (flags : List Flag) (x : Result Outcome AllocError) → space_content s ≡ space_of values → observed ≡ parts.observed.items → checks ≡ checks_of values → flags ≡ zip parts.flags.items (flags_of values)
-    → IfOk x (λ o. IsOutcome s parts.condition.quantifier (formula_of parts.condition.proposition) observed checks flags o) → IfOk x (λ o. IsVerdict (verdict_parts parts) (space_of values) (checks_of values) (flags_of values) o)
-outcome_over parts values s observed checks flags (Ok o) over shows are raised made = record {
-  over = s;
-  shown = over;
-  outcome = rw (← shows, ← are, ← raised) made;
-}
+    → IfOk x (λ o. IsOutcome s.locations.items (shown_in s) parts.condition.quantifier (formula_of parts.condition.proposition) observed checks flags o) → IfOk x (λ o. IsVerdict (verdict_parts parts) (space_of values) (checks_of values) (flags_of values) o)
+outcome_over parts values s observed checks flags (Ok o) over shows are raised made =
+    subst (λ (t : SpaceContent). IsVerdict (verdict_parts parts) t (checks_of values) (flags_of values) o) over (rw (← shows, ← are, ← raised) made)
 outcome_over parts values s observed checks flags (Err e) over shows are raised made = tt
 
 -- ---- the locations of a test of some parts

@@ -6,7 +6,7 @@ use denote.Ref.{Bor}
 use Rattle.litmus_values.specs.declared.test.Quantifier.{Quantifier}
 use Rattle.litmus_values.specs.Value.{Formula}
 use Rattle.litmus_printing.specs.Printing.{condition_text}
-use Rattle.ppc_semantics.specs.declared.fault.EvalRefusal.{EvalRefusal}
+use Rattle.candidates.specs.declared.fault.EvalRefusal.{EvalRefusal}
 use Rattle.candidates.specs.declared.candidate.Space.{Space}
 use Rattle.binding_graph.specs.declared.resolved.ResolvedItem.{ResolvedItem}
 use Rattle.cat_eval.specs.declared.column.Column.{Column}
@@ -68,10 +68,8 @@ abbrev pub refused : Quantifier → Formula → Refusal → Outcome
 refused kind proposition refusal = record { kind = kind; condition = condition_text kind proposition; result = Refused refusal }
 
 -- the outcome of a condition over a space, from the answers of checks and flags
-pub record IsVerdict (parts : VerdictPartsContent) (space : SpaceContent) (checks flags : List (List Bool)) (o : Outcome) : Type 0 where
-  pub over : Space
-  pub shown : space_content over ≡ space
-  pub outcome : IsOutcome over parts.kind parts.proposition parts.observed checks (zip parts.flags flags) o
+abbrev pub IsVerdict : VerdictPartsContent → SpaceContent → List (List Bool) → List (List Bool) → Outcome → Type 0
+IsVerdict parts space checks flags o = IsOutcome space.locations space.executions parts.kind parts.proposition parts.observed checks (zip parts.flags flags) o
 
 -- where the test has no space, it says why
 abbrev pub IsVerdictOver : Option EvalRefusal → VerdictPartsContent → List NodeContent → Outcome → Type 0

@@ -5,8 +5,8 @@ use Rattle.litmus_values.specs.declared.test.InitEntry.{InitEntry}
 use Rattle.litmus_values.specs.declared.test.Step.{Step}
 use Rattle.litmus_values.specs.declared.test.Test.{Test}
 use Rattle.litmus_values.specs.Value.{steps_of}
-use Rattle.ppc_semantics.specs.declared.fault.EvalRefusal.{EvalRefusal}
-use Rattle.ppc_semantics.specs.declared.fault.SpaceFault.TheVariants.{Refused}
+use Rattle.candidates.specs.declared.fault.EvalRefusal.{EvalRefusal}
+use Rattle.candidates.specs.declared.fault.SpaceFault.TheVariants.{Refused}
 use Rattle.ppc_semantics.specs.Lowering.{entry_names, test_names}
 use Rattle.candidates.specs.declared.candidate.Space.{Space}
 use Rattle.candidates.specs.Candidates.{IsTestSpace, IsTestRefusal}

@@ -1,10 +1,10 @@
 -- What a node holds, as plain data: contracts see a `NodeValue` so.
 use Rattle.std.specs.Prelude.{Bool, List, [], ◌∷◌, Option, Some, None, unwrap_or}
 use Rattle.std.specs.List.{filter_map}
-use Rattle.ppc_semantics.specs.declared.fault.EvalRefusal.{EvalRefusal}
+use Rattle.candidates.specs.declared.fault.EvalRefusal.{EvalRefusal}
 use Rattle.cat_eval.specs.declared.column.Column.{Column}
 use Rattle.verdict.specs.declared.answer.Outcome.{Outcome}
-use Rattle.node_values.specs.Spaces.{SpaceContent, no_candidates}
+use Rattle.node_values.specs.Spaces.{SpaceContent, no_executions}
 
 -- a space, or why a test has none; the column of a name; the answers of a check, and of a flag; an outcome
 pub data NodeContent : Type 0 where
@@ -62,9 +62,9 @@ abbrev pub first_space : List NodeContent → Option SpaceContent
 first_space [] = None
 first_space (v ∷ vs) = space_in v
 
--- the space, and one without candidates where there is none
+-- the space, and one without executions where there is none
 abbrev pub space_of : List NodeContent → SpaceContent
-space_of values = unwrap_or (first_space values) no_candidates
+space_of values = unwrap_or (first_space values) no_executions
 
 abbrev pub refusal_of : List NodeContent → Option EvalRefusal
 refusal_of [] = None

@@ -6,6 +6,7 @@
 mod copies;
 mod given;
 mod run;
+mod same;
 mod value;
 
 pub use given::{FaultParts, Given, GivenParts, SpaceParts, VerdictParts};

@@ -3,14 +3,14 @@
 ghost use Rattle.std.specs.Prelude.{◌≡◌, ◌∷◌, [], List, IfOk, map, option_map};
 ghost use Rattle.std.specs.List.{zip};
 ghost use Rattle.litmus_values.specs.Value.{formula_of};
-ghost use Rattle.ppc_semantics.specs.declared.fault.EvalRefusal.{EvalRefusal};
+ghost use Rattle.candidates.specs.declared.fault.EvalRefusal.{EvalRefusal};
 ghost use Rattle.verdict.specs.declared.answer.Outcome.{Outcome};
 ghost use Rattle.verdict.specs.declared.answer.Refusal.TheVariants as refusals;
 ghost use Rattle.verdict.specs.Kept.{of_raised};
 ghost use Rattle.node_values.specs.Items.{item_content};
 ghost use Rattle.node_values.specs.Makes.{IsSpaceValue, IsMadeBy, HasColumns, HasAnswers, IsVerdict, IsVerdictOver, refused, Makes};
 ghost use Rattle.node_values.specs.Parts.{HasParts};
-ghost use Rattle.node_values.specs.Spaces.{space_content, no_candidates};
+ghost use Rattle.node_values.specs.Spaces.{space_content, no_executions};
 ghost use Rattle.node_values.specs.Values.{NodeContent, OfColumn, OfOutcome, first_space, space_of, refusal_of, columns_of, checks_of, flags_of};
 ghost use Rattle.node_values.specs.Views.{held_content, given_content, space_parts, verdict_parts, fault_parts};
 
@@ -18,18 +18,17 @@ use crate::copies::{copied_entries, copied_threads};
 use crate::given::{FaultParts, Given, GivenParts, SpaceParts, VerdictParts};
 use crate::value::NodeValue;
 use binding_graph::{ResolvedItem, Role};
-use candidates::{Space, space};
+use candidates::{EvalRefusal, Space, SpaceFault, space};
 use cat_eval::{Column, eval_check, eval_group};
 use litmus_printing::print_condition;
 use litmus_values::{Condition, Place, Proposition, Quantifier, Test};
-use ppc_semantics::{EvalRefusal, SpaceFault};
 use source_text::Name;
 use std::alloc::{AllocError, Global};
 use verdict::{Outcome, OutcomeResult, Raised, Refusal, outcome};
 
 // A space without candidates.
 fn no_space(alloc: Global) -> Space
-    ensures { space_content result ≡ no_candidates }
+    ensures { space_content result ≡ no_executions }
 {
     Space {
         locations: Vec::new(alloc),

@@ -1,13 +1,12 @@
 //! The value of a node.
 
-ghost use Rattle.std.specs.Prelude.{◌≡◌, option_map};
+ghost use Rattle.std.specs.Prelude.{◌≡◌, ◌↔◌, IsTrue, option_map};
 ghost use Rattle.node_values.specs.Spaces.{space_content};
 ghost use Rattle.node_values.specs.Values.{OfSpace, OfRefusal, OfColumn, OfCheck, OfFlag, OfOutcome, space_in, column_in, check_in, flag_in, refusal_in};
 ghost use Rattle.node_values.specs.Views.{held_content};
 
-use candidates::Space;
+use candidates::{EvalRefusal, Space};
 use cat_eval::Column;
-use ppc_semantics::EvalRefusal;
 use std::marker::Model;
 use verdict::Outcome;
 
@@ -42,6 +41,12 @@ impl Model for NodeValue {
     ghost use Rattle.node_values.specs.Views.{held_content};
 
     ghost view = { λ v. held_content v.held };
+}
+
+fn same_answers(these: &[bool], those: &[bool]) -> bool
+    ensures { IsTrue result ↔ (these.now ≡ those.now) }
+{
+    these == those
 }
 
 impl Held {
@@ -111,7 +116,107 @@ impl Held {
     }
 }
 
+impl Held {
+    fn is_space(&self, space: &Space) -> bool
+        ensures { IsTrue result ↔ (OfSpace (space_content space.now) ≡ held_content self.now) }
+    {
+        match self {
+            Held::Space(other) => space.is_same(other),
+            Held::Refused(_) => false,
+            Held::Column(_) => false,
+            Held::Check(_) => false,
+            Held::Flag(_) => false,
+            Held::Outcome(_) => false,
+        }
+    }
+
+    fn is_refusal(&self, refusal: EvalRefusal) -> bool
+        ensures { IsTrue result ↔ (OfRefusal refusal ≡ held_content self.now) }
+    {
+        match self {
+            Held::Space(_) => false,
+            Held::Refused(other) => refusal == *other,
+            Held::Column(_) => false,
+            Held::Check(_) => false,
+            Held::Flag(_) => false,
+            Held::Outcome(_) => false,
+        }
+    }
+
+    fn is_column(&self, column: &Column) -> bool
+        ensures { IsTrue result ↔ (OfColumn column.now ≡ held_content self.now) }
+    {
+        match self {
+            Held::Space(_) => false,
+            Held::Refused(_) => false,
+            Held::Column(other) => column.is_same(other),
+            Held::Check(_) => false,
+            Held::Flag(_) => false,
+            Held::Outcome(_) => false,
+        }
+    }
+
+    fn is_check(&self, answers: &[bool]) -> bool
+        ensures { IsTrue result ↔ (OfCheck answers.now ≡ held_content self.now) }
+    {
+        match self {
+            Held::Space(_) => false,
+            Held::Refused(_) => false,
+            Held::Column(_) => false,
+            Held::Check(other) => same_answers(answers, other),
+            Held::Flag(_) => false,
+            Held::Outcome(_) => false,
+        }
+    }
+
+    fn is_flag(&self, answers: &[bool]) -> bool
+        ensures { IsTrue result ↔ (OfFlag answers.now ≡ held_content self.now) }
+    {
+        match self {
+            Held::Space(_) => false,
+            Held::Refused(_) => false,
+            Held::Column(_) => false,
+            Held::Check(_) => false,
+            Held::Flag(other) => same_answers(answers, other),
+            Held::Outcome(_) => false,
+        }
+    }
+
+    fn is_outcome(&self, outcome: &Outcome) -> bool
+        ensures { IsTrue result ↔ (OfOutcome outcome.now ≡ held_content self.now) }
+    {
+        match self {
+            Held::Space(_) => false,
+            Held::Refused(_) => false,
+            Held::Column(_) => false,
+            Held::Check(_) => false,
+            Held::Flag(_) => false,
+            Held::Outcome(other) => outcome.is_same(other),
+        }
+    }
+
+    fn is_same(&self, other: &Held) -> bool
+        ensures { IsTrue result ↔ (held_content self.now ≡ held_content other.now) }
+    {
+        match self {
+            Held::Space(space) => other.is_space(space),
+            Held::Refused(refusal) => other.is_refusal(*refusal),
+            Held::Column(column) => other.is_column(column),
+            Held::Check(answers) => other.is_check(answers),
+            Held::Flag(answers) => other.is_flag(answers),
+            Held::Outcome(outcome) => other.is_outcome(outcome),
+        }
+    }
+}
+
 impl NodeValue {
+    /// Whether both hold the same: exactly, and without memory.
+    pub fn is_same(&self, other: &NodeValue) -> bool
+        ensures { IsTrue result ↔ (self.now ≡ other.now) }
+    {
+        self.held.is_same(&other.held)
+    }
+
     /// The value of a node of spaces.
     pub fn of_space(space: Space) -> NodeValue
         ensures { result ≡ OfSpace (space_content space) }

@@ -17,14 +17,13 @@ use Rattle.std.proofs.lemmas.Map.Views.{Contains-from_any}
 use Rattle.litmus_values.specs.declared.test.Quantifier.{Quantifier}
 use Rattle.litmus_values.specs.declared.test.Place.{Place}
 use Rattle.litmus_values.specs.Value.{Formula}
-use Rattle.candidates.specs.Space.{candidates_in, Candidate}
-use Rattle.candidates.specs.declared.candidate.Space.{Space}
+use Rattle.candidates.specs.Space.{Shown}
 use Rattle.verdict.specs.Compiled.{value_of, Shows, Means}
 use Rattle.verdict.specs.Counting.{count_kept, tally, AreAbove, pairs_of, pairs_in}
-use Rattle.verdict.specs.Evaluated.{kept_of, number_that, is_satisfied, values_of, IsWorded, IsCounted, Says}
+use Rattle.verdict.specs.Evaluated.{number_that, is_satisfied, values_of, IsWorded, IsCounted, Says}
 use Rattle.verdict.specs.Final.{final_value, final_state}
 use Rattle.verdict.specs.Judgement.{is_same, total_of, IsJudged}
-use Rattle.verdict.specs.Kept.{holds_at, is_kept, holds_on_some, Flag, names_of, raised_names}
+use Rattle.verdict.specs.Kept.{holds_at, is_kept, holds_on_some, kept, Flag, names_of, raised_names}
 use Rattle.verdict.specs.Meaning.{places_of}
 use Rattle.verdict.specs.Order.{state_cmp, is_state}
 use Rattle.verdict.specs.Shown.{known_places, is_among, AreShown}
@@ -122,63 +121,60 @@ no_cap n m top h le = omega (arith, h)
 
 -- ---- the evaluation
 
-module _ (space : Space) (kind : Quantifier) (proposition : Formula) (shown : List ShownPlace) (checks : List (List Bool)) (flags : List Flag) (keep : List Bool) (f : code.Formula) (e : Evaluation) (es : Entries) where
-  abbrev all : List Candidate
-  all = candidates_in space.combinations.items
-
-  abbrev numbered : List (ℕ × Candidate)
+module _ (locations : List (List ℕ)) (all : List Shown) (kind : Quantifier) (proposition : Formula) (shown : List ShownPlace) (checks : List (List Bool)) (flags : List Flag) (keep : List Bool) (f : code.Formula) (e : Evaluation) (es : Entries) where
+  abbrev numbered : List (ℕ × Shown)
   numbered = enumerate_from 0 all
 
-  abbrev is_in : ℕ × Candidate → Bool
+  abbrev is_in : ℕ × Shown → Bool
   is_in x = is_kept checks x.0
 
-  abbrev end : ℕ × Candidate → State
-  end x = final_state space shown x.1
+  abbrev end : ℕ × Shown → State
+  end x = final_state shown x.1
 
   module _ (fits : length all ≤ 2 ^ 64 - 1) (long : length keep ≡ length all) (keeps : (k : ℕ) → k < length all → slice_index_or keep k false ≡ is_kept checks k)
-      (tallies : (v : State) → tally es v ≡ min (count_kept (λ x. is_state v (final_state space shown x)) keep all) (2 ^ 64 - 1)) (above : AreAbove es)
-      (counts : pairs_of e.states ≡ pairs_in es) (rises : IsStrictlySortedBy state_cmp (values_of e.states)) (words : All (IsWorded space.locations.items shown f) e.states)
-      (means : Means space.locations.items shown proposition f) (shows : Shows space.locations.items shown (places_of proposition)) where
-    within : (p : ℕ × Candidate → Bool) → how_many p numbered ≤ 2 ^ 64 - 1
+      (tallies : (v : State) → tally es v ≡ min (count_kept (λ x. is_state v (final_state shown x)) keep all) (2 ^ 64 - 1)) (above : AreAbove es)
+      (counts : pairs_of e.states ≡ pairs_in es) (rises : IsStrictlySortedBy state_cmp (values_of e.states)) (words : All (IsWorded locations shown f) e.states)
+      (means : Means locations shown proposition f) (shows : Shows locations shown (places_of proposition)) where
+    within : (p : ℕ × Shown → Bool) → how_many p numbered ≤ 2 ^ 64 - 1
     within p = omega (arith, fits, many_within p 0 all)
 
-    number_is : (test : Candidate → Bool) → number_that test (kept_of space checks) ≡ how_many (λ x. is_in x && test x.1) numbered
+    number_is : (test : Shown → Bool) → number_that test (kept checks all) ≡ how_many (λ x. is_in x && test x.1) numbered
     number_is test = length-filter_twice is_in (λ x. test x.1) numbered
 
     number_at : (v : State) → at (pairs_of e.states) v ≡ how_many (λ x. is_in x && is_state v (end x)) numbered
     number_at v =
         at_tally v e.states es counts
         ∙ no_cap (how_many (λ x. is_in x && is_state v (end x)) numbered) (tally es v) (2 ^ 64 - 1)
-        (tallies v ∙ ap (λ (n : ℕ). min n (2 ^ 64 - 1)) (counted_by_places (is_kept checks) (λ x. is_state v (final_state space shown x)) 0 keep all (λ k lt. let z : k ≡ 0 + k = omega arith in keeps k lt ∙ ap (is_kept checks) z)))
+        (tallies v ∙ ap (λ (n : ℕ). min n (2 ^ 64 - 1)) (counted_by_places (is_kept checks) (λ x. is_state v (final_state shown x)) 0 keep all (λ k lt. let z : k ≡ 0 + k = omega arith in keeps k lt ∙ ap (is_kept checks) z)))
         (within (λ x. is_in x && is_state v (end x)))
 
     distinct : IsDistinct is_state (keys_of (pairs_of e.states))
     distinct = apart e.states rises
 
-    ended : All (λ x. Contains (values_of e.states) (end x)) (kept_of space checks)
+    ended : All (λ x. Contains (values_of e.states) (end x)) (kept checks all)
     ended =
         All-weaker (λ x. list_any (is_state (end x)) (keys_of (pairs_of e.states)) ≡ true) (λ x. Contains (values_of e.states) (end x))
         (λ x h. Contains-from_any {eq = is_state} is_state_same (end x) (values_of e.states) (subst (λ (l : List State). list_any (is_state (end x)) l ≡ true) (keys_of_pairs e.states) h))
-        (kept_of space checks)
+        (kept checks all)
         (all_seen is_state is_state_equiv is_state_same end (pairs_of e.states) is_in numbered (λ v. omega (arith, number_at v)))
 
-    summed : (b : Bool) (n : ℕ) → n ≡ min (total_of (λ s. is_same s.holds b) e.states) (2 ^ 64 - 1) → n ≡ number_that (λ x. is_same (is_satisfied space proposition x) b) (kept_of space checks)
+    summed : (b : Bool) (n : ℕ) → n ≡ min (total_of (λ s. is_same s.holds b) e.states) (2 ^ 64 - 1) → n ≡ number_that (λ x. is_same (is_satisfied locations proposition x) b) (kept checks all)
     summed b n h =
         no_cap (how_many (λ x. is_in x && is_same (value_of (end x) f) b) numbered) n (2 ^ 64 - 1)
-        (h ∙ ap (λ (m : ℕ). min m (2 ^ 64 - 1)) (weights space.locations.items shown f b e.states words ∙ weighed is_state is_state_equiv is_state_same end (λ v. is_same (value_of v f) b) (pairs_of e.states) is_in numbered distinct number_at))
+        (h ∙ ap (λ (m : ℕ). min m (2 ^ 64 - 1)) (weights locations shown f b e.states words ∙ weighed is_state is_state_equiv is_state_same end (λ v. is_same (value_of v f) b) (pairs_of e.states) is_in numbered distinct number_at))
         (within (λ x. is_in x && is_same (value_of (end x) f) b))
-        ∙ many_agree (λ x. is_in x && is_same (value_of (end x) f) b) (λ x. is_in x && is_same (is_satisfied space proposition x.1) b)
-        (λ x. ap (λ (a : Bool). is_in x && is_same a b) (means shows (final_value space x.1.0 x.1.1.1))) numbered
-        ∙ sym (number_is (λ x. is_same (is_satisfied space proposition x) b))
+        ∙ many_agree (λ x. is_in x && is_same (value_of (end x) f) b) (λ x. is_in x && is_same (is_satisfied locations proposition x.1) b)
+        (λ x. ap (λ (a : Bool). is_in x && is_same a b) (means shows (final_value x.1))) numbered
+        ∙ sym (number_is (λ x. is_same (is_satisfied locations proposition x) b))
 
-    raised : names_of (λ g. holds_on_some keep g.1) flags ≡ raised_names (kept_of space checks) flags
+    raised : names_of (λ g. holds_on_some keep g.1) flags ≡ raised_names (kept checks all) flags
     raised =
         ap (λ (test : Flag → Bool). names_of test flags)
         (fun_ext (λ g. raised_by_places (is_kept checks) (λ k. holds_at k g.1) 0 keep g.1 all long
         (λ k lt. let z : k ≡ 0 + k = omega arith in keeps k lt ∙ ap (is_kept checks) z)
         (λ k. let z : k ≡ 0 + k = omega arith in ap (λ (m : ℕ). holds_at m g.1) z)))
 
-    counted : All (IsCounted space proposition shown (kept_of space checks)) e.states
+    counted : All (IsCounted locations proposition shown (kept checks all)) e.states
     counted k d lt =
         let s : CountedState = get_or e.states k d in
         let word = words k d lt in
@@ -188,18 +184,18 @@ module _ (space : Space) (kind : Quantifier) (proposition : Formula) (shown : Li
         All-of_map (λ (n : ℕ). 0 < n) (λ (t : CountedState). t.count) e.states (subst (λ (l : List ℕ). All (λ n. 0 < n) l) (counts_read e.states es counts) above) k d lt in
         record {
           text = word.0;
-          count = number ∙ number_at s.values ∙ sym (number_is (λ x. is_state s.values (final_state space shown x)));
+          count = number ∙ number_at s.values ∙ sym (number_is (λ x. is_state s.values (final_state shown x)));
           above = some;
           holds = λ held is. word.1 ∙ ap (λ (v : State). value_of v f) is ∙ means shows held;
         }
 
-    pub says : e.positive ≡ min (total_of (λ s. is_same s.holds true) e.states) (2 ^ 64 - 1) → e.negative ≡ min (total_of (λ s. is_same s.holds false) e.states) (2 ^ 64 - 1) → e.flags ≡ names_of (λ g. holds_on_some keep g.1) flags → IsJudged kind e → Says space kind proposition shown (kept_of space checks) flags e
+    pub says : e.positive ≡ min (total_of (λ s. is_same s.holds true) e.states) (2 ^ 64 - 1) → e.negative ≡ min (total_of (λ s. is_same s.holds false) e.states) (2 ^ 64 - 1) → e.flags ≡ names_of (λ g. holds_on_some keep g.1) flags → IsJudged kind e → Says locations kind proposition shown (kept checks all) flags e
     says positive negative names judged = record {
       rising = rises;
       states = counted;
       ended = ended;
-      positive = summed true e.positive positive ∙ ap (λ (t : Candidate → Bool). number_that t (kept_of space checks)) (fun_ext (λ x. same_true (is_satisfied space proposition x)));
-      negative = summed false e.negative negative ∙ ap (λ (t : Candidate → Bool). number_that t (kept_of space checks)) (fun_ext (λ x. same_false (is_satisfied space proposition x)));
+      positive = summed true e.positive positive ∙ ap (λ (t : Shown → Bool). number_that t (kept checks all)) (fun_ext (λ x. same_true (is_satisfied locations proposition x)));
+      negative = summed false e.negative negative ∙ ap (λ (t : Shown → Bool). number_that t (kept checks all)) (fun_ext (λ x. same_false (is_satisfied locations proposition x)));
       names = names ∙ raised;
       judged = judged;
     }

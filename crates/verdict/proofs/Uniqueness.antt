@@ -14,14 +14,13 @@ use Rattle.std.proofs.lemmas.Map.Views.{Contains-from_any, list_any-from_Contain
 use Rattle.litmus_values.specs.declared.test.Place.{Place}
 use Rattle.litmus_values.specs.declared.test.Quantifier.{Quantifier}
 use Rattle.litmus_values.specs.Value.{Formula}
-use Rattle.candidates.specs.Space.{Candidate}
-use Rattle.candidates.specs.declared.candidate.Space.{Space}
+use Rattle.candidates.specs.Space.{Shown}
 use Rattle.candidates.proofs.Elements.{member_cases, member_later}
 use Rattle.candidates.proofs.Sole.{same_rising}
-use Rattle.verdict.specs.Evaluated.{number_that, values_of, kept_of, IsCounted, Says, IsEvaluation, IsEvaluatedAs, IsOutcome}
+use Rattle.verdict.specs.Evaluated.{number_that, values_of, IsCounted, Says, IsEvaluation, IsEvaluatedAs, IsOutcome}
 use Rattle.verdict.specs.Final.{final_value, final_state}
 use Rattle.verdict.specs.Judgement.{observation_of, is_met}
-use Rattle.verdict.specs.Kept.{Flag}
+use Rattle.verdict.specs.Kept.{Flag, kept}
 use Rattle.verdict.specs.Laws.{HasOneOutcome}
 use Rattle.verdict.specs.Order.{place_cmp, state_cmp, is_place, is_state}
 use Rattle.verdict.specs.Shown.{known_places, is_among, AreShown}
@@ -71,26 +70,26 @@ passing p (x ∷ xs) some = passing_at p x xs (p x) refl some (passing p xs)
 
 -- ---- states
 
-module _ (space : Space) (proposition : Formula) (shown : List ShownPlace) (candidates : List (ℕ × Candidate)) where
+module _ (locations : List (List ℕ)) (proposition : Formula) (shown : List ShownPlace) (candidates : List (ℕ × Shown)) where
   abbrev Counted : CountedState → Type 0
-  Counted = IsCounted space proposition shown candidates
+  Counted = IsCounted locations proposition shown candidates
 
-  abbrev end : ℕ × Candidate → List FinalValue
-  end x = final_state space shown x.1
+  abbrev end : ℕ × Shown → List FinalValue
+  end x = final_state shown x.1
 
   -- some candidate ends in it
-  ends : (s : CountedState) → Counted s → (x : ℕ × Candidate) × Contains candidates x × (s.values ≡ end x)
+  ends : (s : CountedState) → Counted s → (x : ℕ × Shown) × Contains candidates x × (s.values ≡ end x)
   ends s c =
-      let some : 0 < number_that (λ x. is_state s.values (final_state space shown x)) candidates = subst (λ (n : ℕ). 0 < n) c.count c.above in
-      let found = passing (λ (x : ℕ × Candidate). is_state s.values (end x)) candidates some in
+      let some : 0 < number_that (λ x. is_state s.values (final_state shown x)) candidates = subst (λ (n : ℕ). 0 < n) c.count c.above in
+      let found = passing (λ (x : ℕ × Shown). is_state s.values (end x)) candidates some in
       (found.0, found.1, is_state_same s.values (end found.0) found.2)
 
   state_alike : (s t : CountedState) → s.values ≡ t.values → Counted s → Counted t → s ≡ t
   state_alike s t same c d =
       let found = ends s c in
-      let text : s.text ≡ t.text = c.text ∙ ap (state_text space.locations.items shown) same ∙ sym d.text in
-      let count : s.count ≡ t.count = c.count ∙ ap (λ (v : List FinalValue). number_that (λ x. is_state v (final_state space shown x)) candidates) same ∙ sym d.count in
-      let holds : s.holds ≡ t.holds = c.holds (final_value space found.0.1.0 found.0.1.1.1) found.2 ∙ sym (d.holds (final_value space found.0.1.0 found.0.1.1.1) (sym same ∙ found.2)) in
+      let text : s.text ≡ t.text = c.text ∙ ap (state_text locations shown) same ∙ sym d.text in
+      let count : s.count ≡ t.count = c.count ∙ ap (λ (v : List FinalValue). number_that (λ x. is_state v (final_state shown x)) candidates) same ∙ sym d.count in
+      let holds : s.holds ≡ t.holds = c.holds (final_value found.0.1) found.2 ∙ sym (d.holds (final_value found.0.1) (sym same ∙ found.2)) in
       λ i. record { values = same i; text = text i; count = count i; holds = holds i }
 
   states_alike : (ss ts : List CountedState) → values_of ss ≡ values_of ts → All Counted ss → All Counted ts → ss ≡ ts
@@ -114,7 +113,7 @@ module _ (space : Space) (proposition : Formula) (shown : List ShownPlace) (cand
   ]
 
   module _ (kind : Quantifier) (flags : List Flag) where
-    evaluation_alike : (d e : Evaluation) → Says space kind proposition shown candidates flags d → Says space kind proposition shown candidates flags e → d ≡ e
+    evaluation_alike : (d e : Evaluation) → Says locations kind proposition shown candidates flags d → Says locations kind proposition shown candidates flags e → d ≡ e
     evaluation_alike d e h k =
         let values : values_of d.states ≡ values_of e.states =
         sorted_alike state_cmp state_total (values_of d.states) (values_of e.states) h.rising k.rising
@@ -129,16 +128,16 @@ module _ (space : Space) (proposition : Formula) (shown : List ShownPlace) (cand
 
 -- ---- outcomes
 
-result_alike : (space : Space) (kind : Quantifier) (proposition : Formula) (observed : List Place) (checks : List (List Bool)) (flags : List Flag) (r q : OutcomeResult) → IsEvaluatedAs (IsEvaluation space kind proposition observed checks flags) r → IsEvaluatedAs (IsEvaluation space kind proposition observed checks flags) q → r ≡ q
-result_alike space kind proposition observed checks flags (Refused x) q h k = absurd h
-result_alike space kind proposition observed checks flags (Evaluated d) (Refused y) h k = absurd k
-result_alike space kind proposition observed checks flags (Evaluated d) (Evaluated e) h k =
-    ap Evaluated (evaluation_alike space proposition h.0 (kept_of space checks) kind flags d e h.2
-    (subst (λ (l : List ShownPlace). Says space kind proposition l (kept_of space checks) flags e) (sym (shown_alike _ _ h.0 k.0 h.1 k.1)) k.2))
+result_alike : (locations : List (List ℕ)) (executions : List Shown) (kind : Quantifier) (proposition : Formula) (observed : List Place) (checks : List (List Bool)) (flags : List Flag) (r q : OutcomeResult) → IsEvaluatedAs (IsEvaluation locations executions kind proposition observed checks flags) r → IsEvaluatedAs (IsEvaluation locations executions kind proposition observed checks flags) q → r ≡ q
+result_alike locations executions kind proposition observed checks flags (Refused x) q h k = absurd h
+result_alike locations executions kind proposition observed checks flags (Evaluated d) (Refused y) h k = absurd k
+result_alike locations executions kind proposition observed checks flags (Evaluated d) (Evaluated e) h k =
+    ap Evaluated (evaluation_alike locations proposition h.0 (kept checks executions) kind flags d e h.2
+    (subst (λ (l : List ShownPlace). Says locations kind proposition l (kept checks executions) flags e) (sym (shown_alike _ _ h.0 k.0 h.1 k.1)) k.2))
 
-pub one_outcome : (space : Space) (kind : Quantifier) (proposition : Formula) (observed : List Place) (checks : List (List Bool)) (flags : List Flag) → HasOneOutcome space kind proposition observed checks flags
-one_outcome space kind proposition observed checks flags o p h k =
+pub one_outcome : (locations : List (List ℕ)) (executions : List Shown) (kind : Quantifier) (proposition : Formula) (observed : List Place) (checks : List (List Bool)) (flags : List Flag) → HasOneOutcome locations executions kind proposition observed checks flags
+one_outcome locations executions kind proposition observed checks flags o p h k =
     let same_kind : o.kind ≡ p.kind = h.kind_is ∙ sym k.kind_is in
     let condition : o.condition ≡ p.condition = h.text ∙ sym k.text in
-    let result : o.result ≡ p.result = result_alike space kind proposition observed checks flags o.result p.result h.result k.result in
+    let result : o.result ≡ p.result = result_alike locations executions kind proposition observed checks flags o.result p.result h.result k.result in
     λ i. record { kind = same_kind i; condition = condition i; result = result i }

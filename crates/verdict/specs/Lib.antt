@@ -1,5 +1,6 @@
 pub mod Compiled
 pub mod Counting
+pub mod Ends
 pub mod Evaluated
 pub mod EvaluationContent
 pub mod Final

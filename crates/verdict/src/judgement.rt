@@ -3,6 +3,7 @@
 ghost use Rattle.std.specs.Prelude.{◌≡◌, ℕ, ◌<◌, ◌&&◌, ◌++◌, [], ◌∷◌, false, if◌then◌else◌, IfOk, OnOk, min, ◌-◌, ◌^◌, length, map, vec_len, slice_index_or};
 ghost use Rattle.std.specs.List.{list_any, All};
 ghost use Rattle.std.specs.List.Sorted.{IsStrictlySortedBy};
+ghost use Rattle.candidates.specs.Space.{shown_in};
 ghost use Rattle.litmus_values.specs.Value.{formula_of};
 ghost use Rattle.verdict.specs.Counting.{pairs_of, pairs_in};
 ghost use Rattle.verdict.specs.Kept.{holds_at, is_kept, holds_on_some, of_raised, names_of};
@@ -164,7 +165,7 @@ fn evaluation(
     checks: &[&[bool]],
     flags: &[Raised],
 ) -> Result<Evaluation, AllocError>
-    ensures { IfOk result (λ e. IsEvaluation space.now condition.now.quantifier (formula_of condition.now.proposition) observed.now (map (λ c. c.now) checks.now) (of_raised flags.now) e) }
+    ensures { IfOk result (λ e. IsEvaluation space.now.locations.items (shown_in space.now) condition.now.quantifier (formula_of condition.now.proposition) observed.now (map (λ c. c.now) checks.now) (of_raised flags.now) e) }
 {
     let kept = kept_candidates(alloc, space.len(), checks)?;
     let places = shown_places(alloc, &space.locations, &condition.proposition, observed)?;
@@ -194,7 +195,7 @@ pub fn outcome(
     checks: &[&[bool]],
     flags: &[Raised],
 ) -> Result<Outcome, AllocError>
-    ensures whole { IfOk result (λ o. IsOutcome space.now condition.now.quantifier (formula_of condition.now.proposition) observed.now (map (λ c. c.now) checks.now) (of_raised flags.now) o) }
+    ensures whole { IfOk result (λ o. IsOutcome space.now.locations.items (shown_in space.now) condition.now.quantifier (formula_of condition.now.proposition) observed.now (map (λ c. c.now) checks.now) (of_raised flags.now) o) }
     ensures judged { IfOk result (λ o. IsOutcomeOf condition.now.quantifier o) }
 {
     let found = evaluation(alloc, space, condition, observed, checks, flags)?;
