@@ -4,7 +4,8 @@ ghost use Rattle.std.specs.Prelude.{◌≡◌, ◌↔◌, IsTrue, map};
 ghost use Rattle.litmus_values.specs.Value.{formula_of, steps_of};
 ghost use Rattle.node_values.specs.Items.{code_content, body_content, role_content, item_content};
 
-use binding_graph::{Body, CheckCode, Code, Input, ResolvedItem, Role, Step as CodeStep};
+use binding_graph::{Body, CheckCode, Code, Input, ResolvedItem, Role, Source, Step as CodeStep};
+use cat_values::Predefined;
 use litmus_values::{InitEntry, Instruction, Place, Proposition, Step, Thread, Value};
 use source_text::Name;
 
@@ -308,10 +309,91 @@ pub fn same_proposition(this: &Proposition, that: &Proposition) -> bool
     }
 }
 
-fn same_code_step(this: CodeStep, that: CodeStep) -> bool
+fn same_predefined(this: Predefined, that: Predefined) -> bool
     ensures { IsTrue result ↔ (this ≡ that) }
 {
     this == that
+}
+
+fn same_source(this: Source, that: Source) -> bool
+    ensures { IsTrue result ↔ (this ≡ that) }
+{
+    match this {
+        Source::Predefined(name) => match that {
+            Source::Predefined(other) => same_predefined(name, other),
+            Source::Input(_) => false,
+            Source::Own(_) => false,
+        },
+        Source::Input(index) => match that {
+            Source::Predefined(_) => false,
+            Source::Input(other) => index == other,
+            Source::Own(_) => false,
+        },
+        Source::Own(position) => match that {
+            Source::Predefined(_) => false,
+            Source::Input(_) => false,
+            Source::Own(other) => position == other,
+        },
+    }
+}
+
+fn same_code_step(this: CodeStep, that: CodeStep) -> bool
+    ensures { IsTrue result ↔ (this ≡ that) }
+{
+    match this {
+        CodeStep::PushSet(part) => match that {
+            CodeStep::PushSet(other) => same_source(part, other),
+            _ => false,
+        },
+        CodeStep::PushAllEvents => match that {
+            CodeStep::PushAllEvents => true,
+            _ => false,
+        },
+        CodeStep::PushNoEvents => match that {
+            CodeStep::PushNoEvents => true,
+            _ => false,
+        },
+        CodeStep::BlendSets(part) => match that {
+            CodeStep::BlendSets(other) => part == other,
+            _ => false,
+        },
+        CodeStep::TurnSet => match that {
+            CodeStep::TurnSet => true,
+            _ => false,
+        },
+        CodeStep::PushRelation(part) => match that {
+            CodeStep::PushRelation(other) => same_source(part, other),
+            _ => false,
+        },
+        CodeStep::PushNoPairs => match that {
+            CodeStep::PushNoPairs => true,
+            _ => false,
+        },
+        CodeStep::BlendRelations(part) => match that {
+            CodeStep::BlendRelations(other) => part == other,
+            _ => false,
+        },
+        CodeStep::Compose => match that {
+            CodeStep::Compose => true,
+            _ => false,
+        },
+        CodeStep::Multiply => match that {
+            CodeStep::Multiply => true,
+            _ => false,
+        },
+        CodeStep::Restrict => match that {
+            CodeStep::Restrict => true,
+            _ => false,
+        },
+        CodeStep::Close(part) => match that {
+            CodeStep::Close(other) => part == other,
+            _ => false,
+        },
+        CodeStep::TurnRelation => match that {
+            CodeStep::TurnRelation => true,
+            _ => false,
+        },
+    }
 }
 
 fn same_code_steps(these: &[CodeStep], those: &[CodeStep]) -> bool
