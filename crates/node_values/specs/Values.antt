@@ -57,6 +57,14 @@ flag_in (OfCheck answers) = None
 flag_in (OfFlag answers) = Some answers
 flag_in (OfOutcome outcome) = None
 
+abbrev pub outcome_in : NodeContent → Option Outcome
+outcome_in (OfSpace space) = None
+outcome_in (OfRefusal refusal) = None
+outcome_in (OfColumn column) = None
+outcome_in (OfCheck answers) = None
+outcome_in (OfFlag answers) = None
+outcome_in (OfOutcome outcome) = Some outcome
+
 -- the first of these values is the space, or says why there is none
 abbrev pub first_space : List NodeContent → Option SpaceContent
 first_space [] = None

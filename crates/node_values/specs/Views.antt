@@ -1,9 +1,7 @@
 -- What contracts see of what is held and of what is given.
-use Rattle.std.specs.Prelude.{map}
-use Rattle.litmus_values.specs.Value.{formula_of, steps_of}
-use Rattle.node_values.specs.Givens.{VerdictPartsContent, FaultPartsContent, GivenContent, ForSpace, ForItem, ForVerdict, ForFault}
+use Rattle.node_values.specs.Givens.{asked, faulted, VerdictPartsContent, FaultPartsContent, GivenContent, ForSpace, ForItem, ForVerdict, ForFault}
 use Rattle.node_values.specs.Items.{item_content}
-use Rattle.node_values.specs.Parts.{SpacePartsContent}
+use Rattle.node_values.specs.Parts.{SpacePartsContent, parts_of}
 use Rattle.node_values.specs.Spaces.{space_content}
 use Rattle.node_values.specs.Values.{NodeContent, OfSpace, OfRefusal, OfColumn, OfCheck, OfFlag, OfOutcome}
 use Rattle.node_values.specs.declared.given.FaultParts.{FaultParts}
@@ -23,13 +21,13 @@ held_content (held.Flag answers) = OfFlag answers.items
 held_content (held.Outcome outcome) = OfOutcome outcome
 
 abbrev pub space_parts : SpaceParts → SpacePartsContent
-space_parts p = record { init = p.init.items; threads = map steps_of p.threads.items; locations = p.locations.items }
+space_parts p = parts_of p.init.items p.threads.items p.locations.items
 
 abbrev pub verdict_parts : VerdictParts → VerdictPartsContent
-verdict_parts p = record { kind = p.condition.quantifier; proposition = formula_of p.condition.proposition; observed = p.observed.items; flags = p.flags.items }
+verdict_parts p = asked p.condition p.observed.items p.flags.items
 
 abbrev pub fault_parts : FaultParts → FaultPartsContent
-fault_parts p = record { kind = p.condition.quantifier; proposition = formula_of p.condition.proposition; fault = p.fault }
+fault_parts p = faulted p.condition p.fault
 
 abbrev pub given_content : GivenParts → GivenContent
 given_content (givens.Space parts) = ForSpace (space_parts parts)

@@ -5,6 +5,7 @@
 
 mod copies;
 mod given;
+pub mod laws;
 mod run;
 mod same;
 mod value;

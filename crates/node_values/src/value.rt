@@ -2,7 +2,7 @@
 
 ghost use Rattle.std.specs.Prelude.{◌≡◌, ◌↔◌, IsTrue, option_map};
 ghost use Rattle.node_values.specs.Spaces.{space_content};
-ghost use Rattle.node_values.specs.Values.{OfSpace, OfRefusal, OfColumn, OfCheck, OfFlag, OfOutcome, space_in, column_in, check_in, flag_in, refusal_in};
+ghost use Rattle.node_values.specs.Values.{OfSpace, OfRefusal, OfColumn, OfCheck, OfFlag, OfOutcome, space_in, column_in, check_in, flag_in, outcome_in, refusal_in};
 ghost use Rattle.node_values.specs.Views.{held_content};
 
 use candidates::{EvalRefusal, Space};
@@ -99,6 +99,19 @@ impl Held {
             Held::Column(_) => None,
             Held::Check(_) => None,
             Held::Outcome(_) => None,
+        }
+    }
+
+    fn outcome(&self) -> Option<&Outcome>
+        ensures { option_map (λ o. o.now) result ≡ outcome_in (held_content self.now) }
+    {
+        match self {
+            Held::Outcome(outcome) => Some(outcome),
+            Held::Space(_) => None,
+            Held::Refused(_) => None,
+            Held::Column(_) => None,
+            Held::Check(_) => None,
+            Held::Flag(_) => None,
         }
     }
 
@@ -297,6 +310,13 @@ impl NodeValue {
         ensures { option_map (λ c. c.now) result ≡ flag_in self.now }
     {
         self.held.flag()
+    }
+
+    /// The outcome, if it is one.
+    pub fn outcome(&self) -> Option<&Outcome>
+        ensures { option_map (λ o. o.now) result ≡ outcome_in self.now }
+    {
+        self.held.outcome()
     }
 
     /// Why a test has no space, if it says so.
