@@ -9,7 +9,8 @@ use source_text::{put_bytes, put_decimal};
 use std::alloc::{AllocError, Global};
 use verdict::{Outcome, OutcomeResult};
 
-fn put_outcome(answer: &mut Vec<u8>, outcome: &Outcome) -> Result<(), AllocError> {
+/// Appends an outcome: its kind, its condition, its states and counts.
+pub fn put_outcome(answer: &mut Vec<u8>, outcome: &Outcome) -> Result<(), AllocError> {
     let kind = match outcome.kind {
         Quantifier::Exists => b"Exists ".as_slice(),
         Quantifier::NotExists => b"NotExists ",

@@ -6,6 +6,7 @@
 mod bindings;
 mod cells;
 mod logs;
+mod nodes;
 mod outcomes;
 mod streams;
 mod values;
@@ -31,6 +32,9 @@ fn put_answer(
 ) -> Result<(), AllocError> {
     if let Some(model) = question.strip_prefix("cell under ") {
         return cells::put_cell(alloc, answer, model.as_bytes(), text);
+    }
+    if let Some(model) = question.strip_prefix("nodes under ") {
+        return nodes::put_nodes(alloc, answer, model.as_bytes(), text);
     }
     if let Some(words) = question.strip_prefix("outcome") {
         return outcomes::put_outcome(alloc, answer, words, text);

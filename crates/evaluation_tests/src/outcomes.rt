@@ -47,6 +47,15 @@ fn flags_of(alloc: Global, words: &str) -> Result<Vec<Flag>, AllocError> {
     Ok(flags)
 }
 
+/// The answers, to look at.
+fn lent(alloc: Global, checks: &[Vec<bool>]) -> Result<Vec<&[bool]>, AllocError> {
+    let mut lent = Vec::new(alloc);
+    for check in checks {
+        lent.push(check.as_slice())?;
+    }
+    Ok(lent)
+}
+
 fn raised(alloc: Global, flags: &[Flag]) -> Result<Vec<Raised<'_>>, AllocError> {
     let mut list = Vec::new(alloc);
     for flag in flags {
@@ -110,7 +119,8 @@ fn put_outcome_of(
     match space(alloc, test) {
         Ok(space) => {
             let condition = &test.condition;
-            let found = outcome(alloc, &space, condition, &test.observed, &checks, &list)?;
+            let lent = lent(alloc, &checks)?;
+            let found = outcome(alloc, &space, condition, &test.observed, &lent, &list)?;
             match &found.result {
                 OutcomeResult::Evaluated(evaluation) => put_evaluation(answer, evaluation),
                 OutcomeResult::Refused(_) => put_bytes(answer, b"refused"),

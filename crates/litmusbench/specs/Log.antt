@@ -37,7 +37,7 @@ met_word false = codes "No"
 
 -- a state, on a line
 abbrev pub state_line : CountedState → List ℕ
-state_line s = s.text.items ++ line_end
+state_line s = s.text ++ line_end
 
 -- a raised flag, on a line
 abbrev pub flag_line : List ℕ → List ℕ
@@ -48,9 +48,9 @@ unfoldable pub state_lines : List CountedState → List ℕ
 state_lines states = codes "States " ++ decimal (length states) ++ line_end ++ flat_map state_line states
 
 -- what the condition found
-unfoldable pub witness_lines : Evaluation → List ℕ
-witness_lines e =
-    met_word e.ok ++ codes "\nWitnesses\nPositive: " ++ decimal e.positive ++ codes " Negative: " ++ decimal e.negative ++ line_end
+unfoldable pub witness_lines : Bool → ℕ → ℕ → List ℕ
+witness_lines ok positive negative =
+    met_word ok ++ codes "\nWitnesses\nPositive: " ++ decimal positive ++ codes " Negative: " ++ decimal negative ++ line_end
 
 -- how many kept candidates satisfy the proposition, and how many do not
 unfoldable pub counts : Evaluation → List ℕ
@@ -65,7 +65,7 @@ condition_line condition = codes "Condition " ++ condition ++ line_end
 -- an evaluation, of a test of this name and this printed condition
 abbrev pub evaluation_lines : List ℕ → List ℕ → Evaluation → List ℕ
 evaluation_lines name condition e =
-    state_lines e.states.items ++ witness_lines e ++ flat_map flag_line e.flags.items ++ condition_line condition ++ observation_line name e
+    state_lines e.states ++ witness_lines e.ok e.positive e.negative ++ flat_map flag_line e.flags ++ condition_line condition ++ observation_line name e
 
 unfoldable pub head_line : List ℕ → Quantifier → List ℕ
 head_line name kind = codes "Test " ++ name ++ codes " " ++ kind_word kind ++ line_end
@@ -82,4 +82,4 @@ result_text name condition (Evaluated e) = evaluation_lines name condition e
 
 -- the log of a test of this name
 abbrev pub log_of : List ℕ → Outcome → List ℕ
-log_of name o = head_line name o.kind ++ result_text name o.condition.items o.result
+log_of name o = head_line name o.kind ++ result_text name o.condition o.result

@@ -82,15 +82,26 @@ fn put_states(text: &mut Vec<u8>, states: &[CountedState]) -> Result<(), AllocEr
 }
 
 #[tactic(auto, unfolding(crate::specs::Log::witness_lines))]
-fn put_witnesses(text: &mut Vec<u8>, found: &Evaluation) -> Result<(), AllocError>
-    ensures { OnOk result (text.new.items ≡ text.old.items ++ witness_lines found.now) }
+fn put_witnesses(
+    text: &mut Vec<u8>,
+    ok: bool,
+    positive: u64,
+    negative: u64,
+) -> Result<(), AllocError>
+    ensures { OnOk result (text.new.items ≡ text.old.items ++ witness_lines ok positive negative) }
 {
-    put_bytes(text, met_word(found.ok))?;
+    put_bytes(text, met_word(ok))?;
     put_bytes(text, b"\nWitnesses\nPositive: ")?;
-    put_decimal(text, found.positive)?;
+    put_decimal(text, positive)?;
     put_bytes(text, b" Negative: ")?;
-    put_decimal(text, found.negative)?;
+    put_decimal(text, negative)?;
     put_bytes(text, b"\n")
+}
+
+fn put_found(text: &mut Vec<u8>, found: &Evaluation) -> Result<(), AllocError>
+    ensures { OnOk result (text.new.items ≡ text.old.items ++ witness_lines found.now.ok found.now.positive found.now.negative) }
+{
+    put_witnesses(text, found.ok, found.positive, found.negative)
 }
 
 fn put_flag(text: &mut Vec<u8>, name: &Name) -> Result<(), AllocError>
@@ -155,7 +166,7 @@ fn put_evaluation(
     ensures { OnOk result (text.new.items ≡ text.old.items ++ evaluation_lines name.now condition.now found.now) }
 {
     put_states(text, &found.states)?;
-    put_witnesses(text, found)?;
+    put_found(text, found)?;
     put_flags(text, &found.flags)?;
     put_condition(text, condition)?;
     put_observation(text, name, found)

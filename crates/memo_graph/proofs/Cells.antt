@@ -1,5 +1,5 @@
 -- From what is said over some space to the outcome of a test.
-use Rattle.std.proofs.Common.{◌≡◌, Bool, List, Vec, Global, map, reverse, Result, Ok, Err, IfOk, sym, ap, ◌∙◌, subst}
+use Rattle.std.proofs.Common.{◌≡◌, Bool, List, [], Vec, Global, Bor, map, reverse, Result, Ok, Err, IfOk, sym, ap, ◌∙◌, subst}
 use Rattle.std.specs.declared.alloc.AllocError.{AllocError}
 use Rattle.std.proofs.lemmas.Result.{IfOk-weaker}
 use Rattle.cat_values.specs.declared.predefined.TheConstants.{PREDEFINED}
@@ -9,9 +9,10 @@ use Rattle.litmus_values.specs.Value.{formula_of}
 use Rattle.litmus_printing.specs.Printing.{condition_text}
 use Rattle.binding_kinds.specs.declared.fault.ModelFault.{ModelFault}
 use Rattle.binding_graph.specs.declared.resolved.ResolvedItem.{ResolvedItem}
+use Rattle.candidates.specs.Space.{shown_in}
 use Rattle.candidates.specs.declared.candidate.Space.{Space}
 use Rattle.candidates.specs.Candidates.{IsTestSpace}
-use Rattle.verdict.specs.Evaluated.{IsEvaluation, IsEvaluatedAs, IsOutcome}
+use Rattle.verdict.specs.Evaluated.{IsEvaluatedAs, IsOutcome}
 use Rattle.verdict.specs.declared.answer.Evaluation.{Evaluation}
 use Rattle.verdict.specs.declared.answer.Outcome.{Outcome}
 use Rattle.verdict.specs.declared.answer.OutcomeResult.{OutcomeResult}
@@ -19,29 +20,30 @@ use Rattle.verdict.specs.declared.answer.OutcomeResult.TheVariants.{Refused, Eva
 use Rattle.verdict.specs.declared.answer.Refusal.{Refusal}
 use Rattle.verdict.specs.declared.answer.Refusal.TheVariants as refusals
 use Rattle.verdict.specs.declared.judgement.Raised.{Raised}
+use Rattle.verdict.specs.Kept.{Flag, of_raised}
 use Rattle.memo_graph.specs.declared.cell.ItemAnswers.{ItemAnswers}
 use Rattle.memo_graph.specs.declared.cell.FlagAnswer.{FlagAnswer}
-use Rattle.memo_graph.specs.Answers.{of_raised, AreSaid, AreSound}
+use Rattle.memo_graph.specs.Answers.{AreSaid, AreSound}
 use Rattle.memo_graph.specs.Known.{checks_of, of_flags, flags_of}
 use Rattle.cat_values.specs.declared.model.ModelText.{ModelText}
 use Rattle.memo_graph.specs.FromScratch.{outermost, clauses_of, IsFaultOf, IsFaultless, AreItemsOf, IsEvaluationOf, IsResultOf, IsFromScratch}
-use Rattle.memo_graph.specs.Cell.{IsSaid, IsResult, IsCell, IsEvaluationBy, IsEvaluationOver, OfModel}
+use Rattle.memo_graph.specs.Cell.{IsSaid, IsEvaluationFrom, IsOutcomeFrom, IsResult, IsCell, IsEvaluationBy, IsEvaluationOver, OfModel}
 use Rattle.memo_graph.proofs.Ordered.{resolved_ordered}
 use Rattle.memo_graph.proofs.Rising.{resolved_rising}
 
-result_said : (test : Test) (space : Space) (checks : List (Vec Bool Global)) (flags : List Raised) (r : OutcomeResult) → IsTestSpace test space → IsEvaluatedAs (IsEvaluation space test.condition test.observed.items checks flags) r → IsResult test r
+result_said : (test : Test) (space : Space) (checks : List (List Bool)) (flags : List Flag) (r : OutcomeResult) → IsTestSpace test space → IsEvaluatedAs (IsEvaluationFrom space test checks flags) r → IsResult test r
 result_said test space checks flags (Refused _) own h = absurd h
 result_said test space checks flags (Evaluated e) own h = (space, own, checks, flags, h)
 
 pub cell_said : (test : Test) (space : Space) (o : Outcome) → IsTestSpace test space → IsSaid space test o → IsCell test o
 cell_said test space o own h = record {
-  kind = h.2.kind;
+  kind = h.2.kind_is;
   text = h.2.text;
   result = result_said test space h.0 h.1 o.result own h.2.result;
 }
 
 -- an outcome that says only a refusal
-pub cell_refused : (test : Test) (x : Refusal) (r : Result Outcome AllocError) → IsResult test (Refused x) → IfOk r (λ o. o.kind ≡ test.condition.quantifier) → IfOk r (λ o. o.condition.items ≡ condition_text test.condition.quantifier (formula_of test.condition.proposition)) → IfOk r (λ o. o.result ≡ Refused x) → IfOk r (IsCell test)
+pub cell_refused : (test : Test) (x : Refusal) (r : Result Outcome AllocError) → IsResult test (Refused x) → IfOk r (λ o. o.kind ≡ test.condition.quantifier) → IfOk r (λ o. o.condition ≡ condition_text test.condition.quantifier (formula_of test.condition.proposition)) → IfOk r (λ o. o.result ≡ Refused x) → IfOk r (IsCell test)
 cell_refused test x (Ok o) said kind text result = record {
   kind = kind;
   text = text;
@@ -49,17 +51,22 @@ cell_refused test x (Ok o) said kind text result = record {
 }
 cell_refused test x (Err e) said kind text result = tt
 
-by_result : (items : List ResolvedItem) (test : Test) (space : Space) (checks : List (Vec Bool Global)) (flags : List Raised) (r : OutcomeResult) → AreSaid space (reverse items) (map (λ v. v.items) checks) (of_raised flags) → IsEvaluatedAs (IsEvaluation space test.condition test.observed.items checks flags) r → IsEvaluatedAs (IsEvaluationBy items space test) r
+by_result : (items : List ResolvedItem) (test : Test) (space : Space) (checks : List (List Bool)) (flags : List Flag) (r : OutcomeResult) → AreSaid space (reverse items) checks flags → IsEvaluatedAs (IsEvaluationFrom space test checks flags) r → IsEvaluatedAs (IsEvaluationBy items space test) r
 by_result items test space checks flags (Refused _) s h = absurd h
 by_result items test space checks flags (Evaluated e) s h = (checks, flags, s, h)
 
 -- from the answers of the model's checks and flags, as they were found and as they are given on
-pub outcome_said : (items : List ResolvedItem) (test : Test) (space : Space) (answers : ItemAnswers) (observed : List Place) (checks : List (Vec Bool Global)) (given : List FlagAnswer) (raised : Vec Raised Global) (flags : List Raised) (r : Result Outcome AllocError) → observed ≡ test.observed.items → checks ≡ answers.checks.items → given ≡ answers.flags.items → of_raised raised.items ≡ of_flags given → flags ≡ raised.items
-    → AreSaid space (reverse items) (checks_of answers) (flags_of answers) → IfOk r (λ o. IsOutcome space test.condition observed checks flags o) → IfOk r (λ o. IsEvaluatedAs (IsEvaluationBy items space test) o.result)
-outcome_said items test space answers observed checks given raised flags (Ok o) seen same from gives on said h =
+pub outcome_said : (items : List ResolvedItem) (test : Test) (space : Space) (answers : ItemAnswers) (observed : List Place) (vectors : List (Vec Bool Global)) (found lent : List (Bor (List Bool))) (given : List FlagAnswer) (raised : Vec Raised Global) (flags : List Raised) (r : Result Outcome AllocError) → observed ≡ test.observed.items → vectors ≡ answers.checks.items → map (λ c. c.now) found ≡ map (λ v. v.items) vectors → lent ≡ found → given ≡ answers.flags.items → of_raised raised.items ≡ of_flags given → flags ≡ raised.items
+    → AreSaid space (reverse items) (checks_of answers) (flags_of answers) → IfOk r (λ o. IsOutcome space.locations.items (shown_in space) test.condition.quantifier (formula_of test.condition.proposition) observed (map (λ c. c.now) lent) (of_raised flags) o) → IfOk r (λ o. IsEvaluatedAs (IsEvaluationBy items space test) o.result)
+outcome_said items test space answers observed vectors found lent given raised flags (Ok o) seen same are lends from gives on said h =
     let names : of_raised flags ≡ flags_of answers = ap of_raised on ∙ gives ∙ ap of_flags from in
-    by_result items test space checks flags o.result (rw (same, names) said) (rw seen at h.result)
-outcome_said items test space answers observed checks given raised flags (Err e) seen same from gives on said h = tt
+    let checks : map (λ c. c.now) lent ≡ checks_of answers = ap (λ (l : List (Bor (List Bool))). map (λ c. c.now) l) lends ∙ are ∙ ap (λ (l : List (Vec Bool Global)). map (λ v. v.items) l) same in
+    by_result items test space (map (λ c. c.now) lent) (of_raised flags) o.result (rw (checks, names) said) (rw seen at h.result)
+outcome_said items test space answers observed vectors found lent given raised flags (Err e) seen same are lends from gives on said h = tt
+
+pub said_from : (test : Test) (space : Space) (observed : List Place) (checks : List (List Bool)) (flags : List Flag) (r : Result Outcome AllocError) → observed ≡ test.observed.items → IfOk r (λ o. IsOutcome space.locations.items (shown_in space) test.condition.quantifier (formula_of test.condition.proposition) observed checks flags o) → IfOk r (IsSaid space test)
+said_from test space observed checks flags (Ok o) seen h = (checks, flags, rw seen at h)
+said_from test space observed checks flags (Err e) seen h = tt
 
 -- an evaluation over that space, where the items are ordered
 over_space : (items : List ResolvedItem) (test : Test) (space : Space) (P : Evaluation → Type 0) (r : OutcomeResult) → IsTestSpace test space → IsEvaluatedAs P r → (AreSound items → IsEvaluatedAs (IsEvaluationBy items space test) r) → OfModel (λ _. ⊥) (Unit {0}) (λ e. AreSound items → IsEvaluationOver items test e) r
@@ -103,7 +110,7 @@ scratch_evaluated model items test r none resolved cell h =
     (λ o s. of_model _ _ _ (λ e. AreSound items → IsEvaluationOver items test e) o.result none (λ e. evaluation_of model items test e none resolved) s) h)
 
 -- the outcome that is a fault of the model
-pub scratch_fault : (test : Test) (model : ModelText) (k : ModelFault) (r : Result Outcome AllocError) → IsFaultOf model k → IfOk r (λ o. o.kind ≡ test.condition.quantifier) → IfOk r (λ o. o.condition.items ≡ condition_text test.condition.quantifier (formula_of test.condition.proposition)) → IfOk r (λ o. o.result ≡ Refused (refusals.Model k)) → IfOk r (IsFromScratch test model)
+pub scratch_fault : (test : Test) (model : ModelText) (k : ModelFault) (r : Result Outcome AllocError) → IsFaultOf model k → IfOk r (λ o. o.kind ≡ test.condition.quantifier) → IfOk r (λ o. o.condition ≡ condition_text test.condition.quantifier (formula_of test.condition.proposition)) → IfOk r (λ o. o.result ≡ Refused (refusals.Model k)) → IfOk r (IsFromScratch test model)
 scratch_fault test model k (Ok o) fault kind text result = record {
   kind = kind;
   condition = text;

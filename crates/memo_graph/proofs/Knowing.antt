@@ -21,7 +21,8 @@ use Rattle.cat_eval.specs.Columns.{AreColumns, ColumnsOf}
 use Rattle.cat_eval.specs.Values.{AnswersOf}
 use Rattle.cat_eval.specs.Candidates.{name_count}
 use Rattle.binding_graph.specs.Reach.{is_check, IsCheckAt, UsesAt, Leads, IsReached, AreReached}
-use Rattle.memo_graph.specs.Answers.{IsNamed, AreNamed, HasAnswers, IsValued, Flag, IsSaidAs, IsSaidBy, AreSaid, IsBound, AreOrdered, AreLeast, LeastOf, AreRising, IsRising, AreSound}
+use Rattle.verdict.specs.Kept.{Flag}
+use Rattle.memo_graph.specs.Answers.{IsNamed, AreNamed, HasAnswers, IsValued, IsSaidAs, IsSaidBy, AreSaid, IsBound, AreOrdered, AreLeast, LeastOf, AreRising, IsRising, AreSound}
 use Rattle.memo_graph.specs.Known.{column_in, column_of, AreFound, checks_of, flags_of, ColumnsAt, IsAnswered, AreKnown, AreKnownTo}
 
 -- ---- the first items, seen from the last of them

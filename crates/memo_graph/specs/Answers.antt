@@ -19,7 +19,7 @@ use Rattle.cat_eval.specs.Least.{IsLeast, AreMonotone}
 use Rattle.cat_eval.specs.Rising.{AreCodes}
 use Rattle.cat_eval.specs.Values.{AnswersOf}
 use Rattle.cat_eval.specs.Candidates.{name_count}
-use Rattle.verdict.specs.declared.judgement.Raised.{Raised}
+use Rattle.verdict.specs.Kept.{Flag}
 
 -- the columns of a name of some item: those at its position among the columns of the item
 abbrev pub IsNamed : (ℕ → List Column → Type 0) → Input → Bor Column → Type 0
@@ -56,13 +56,6 @@ HasAnswers space Values r answers = (inputs : List (Bor Column)) × AreNamed Val
 abbrev pub IsValued : Space → List ResolvedItem → ℕ → List Column → Type 0
 IsValued space [] i cs = ⊥
 IsValued space (r ∷ rs) i cs = ((i ≡ length rs) × HasColumns space (λ j ds. IsValued space rs j ds) r cs) ⊎ IsValued space rs i cs
-
--- a flag: its name, and its answers
-abbrev pub Flag : Type 0
-Flag = List ℕ × List Bool
-
-abbrev pub of_raised : List Raised → List Flag
-of_raised flags = map (λ f. (f.name.now, f.holds.now)) flags
 
 -- what the checks and what the flags say after those before, of a check or a flag with these answers
 abbrev pub IsSaidAs : Option (List ℕ) → (List Bool → Type 0) → (List (List Bool) → List Flag → Type 0) → List (List Bool) → List Flag → Type 0

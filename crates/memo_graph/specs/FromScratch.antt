@@ -5,7 +5,7 @@ use Rattle.std.specs.Prelude.{◌≡◌, List, [], map, reverse}
 use Rattle.litmus_values.specs.declared.test.Test.{Test}
 use Rattle.litmus_values.specs.Value.{formula_of}
 use Rattle.litmus_printing.specs.Printing.{condition_text}
-use Rattle.ppc_semantics.specs.declared.fault.SpaceFault.TheVariants as space_faults
+use Rattle.candidates.specs.declared.fault.SpaceFault.TheVariants as space_faults
 use Rattle.candidates.specs.declared.candidate.Space.{Space}
 use Rattle.candidates.specs.Candidates.{IsTestSpace, IsTestRefusal}
 use Rattle.cat_values.specs.declared.model.ModelText.{ModelText}
@@ -54,5 +54,5 @@ IsResultOf test model (Evaluated e) = IsFaultless model × IsEvaluationOf test m
 -- the outcome: the kind of the test's condition, the condition as it is printed, and that result
 pub record IsFromScratch (test : Test) (model : ModelText) (o : Outcome) : Type 0 where
   pub kind : o.kind ≡ test.condition.quantifier
-  pub condition : o.condition.items ≡ condition_text test.condition.quantifier (formula_of test.condition.proposition)
+  pub condition : o.condition ≡ condition_text test.condition.quantifier (formula_of test.condition.proposition)
   pub result : IsResultOf test model o.result

@@ -11,7 +11,8 @@ use Rattle.memo_graph.specs.declared.cell.ItemAnswers.{ItemAnswers}
 use Rattle.memo_graph.specs.declared.cell.FlagAnswer.{FlagAnswer}
 use Rattle.cat_eval.specs.Columns.{ColumnsOf}
 use Rattle.cat_eval.specs.Values.{AnswersOf}
-use Rattle.memo_graph.specs.Answers.{Flag, IsSaidBy, IsValued, AreSaid}
+use Rattle.verdict.specs.Kept.{Flag}
+use Rattle.memo_graph.specs.Answers.{IsSaidBy, IsValued, AreSaid}
 
 abbrev pub column_in : Option (Vec Column Global) → ℕ → Option Column
 column_in None position = None

@@ -7,7 +7,8 @@ ghost use Rattle.litmus_printing.specs.Printing.{condition_text};
 ghost use Rattle.cat_eval.specs.Columns.{ColumnsOf};
 ghost use Rattle.cat_eval.specs.Values.{AnswersOf};
 ghost use Rattle.verdict.specs.Evaluated.{IsEvaluatedAs};
-ghost use Rattle.memo_graph.specs.Answers.{of_raised, AreSaid, AreSound};
+ghost use Rattle.verdict.specs.Kept.{of_raised};
+ghost use Rattle.memo_graph.specs.Answers.{AreSaid, AreSound};
 ghost use Rattle.memo_graph.specs.Known.{column_of, AreFound, IsAnswered, ColumnsAt, of_flags, checks_of, flags_of};
 ghost use Rattle.memo_graph.specs.FromScratch.{IsFromScratch};
 ghost use Rattle.memo_graph.specs.Cell.{IsSaid, IsCell, IsEvaluationBy, IsEvaluationOver, OfModel};
@@ -204,6 +205,17 @@ fn raised<'a>(alloc: Global, flags: &'a [FlagAnswer<'a>]) -> Result<Vec<Raised<'
     Ok(raised)
 }
 
+// The answers of the checks, to look at.
+fn lent<'c>(alloc: Global, checks: &'c [Vec<bool>]) -> Result<Vec<&'c [bool]>, AllocError>
+    ensures { IfOk result (λ v. map (λ c. c.now) v.items ≡ map (λ v. v.items) checks.now) }
+{
+    let mut lent = Vec::with_capacity(alloc, checks.len())?;
+    for check in checks {
+        lent.push(check.as_slice())?;
+    }
+    Ok(lent)
+}
+
 fn evaluated(
     alloc: Global,
     test: &Test,
@@ -214,20 +226,21 @@ fn evaluated(
     ensures answers { AreSound resolved.now.items.items → IfOk result (λ o. IsEvaluatedAs (IsEvaluationBy resolved.now.items.items space.now test.now) o.result) }
 {
     let found = answers(alloc, space, resolved)?;
+    let checks = lent(alloc, &found.checks)?;
     let flags = raised(alloc, &found.flags)?;
     outcome(
         alloc,
         space,
         &test.condition,
         &test.observed,
-        &found.checks,
+        &checks,
         &flags,
     )
 }
 
 fn refused(alloc: Global, test: &Test, refusal: Refusal) -> Result<Outcome, AllocError>
     ensures kind { IfOk result (λ o. o.kind ≡ test.now.condition.quantifier) }
-    ensures text { IfOk result (λ o. o.condition.items ≡ condition_text test.now.condition.quantifier (formula_of test.now.condition.proposition)) }
+    ensures text { IfOk result (λ o. o.condition ≡ condition_text test.now.condition.quantifier (formula_of test.now.condition.proposition)) }
     ensures refusal { IfOk result (λ o. o.result ≡ OutcomeResult.Refused refusal) }
 {
     Ok(Outcome {

@@ -7,7 +7,8 @@ use Rattle.std.proofs.lemmas.List.Elements.{filter_map-append}
 use Rattle.candidates.specs.declared.candidate.Combination.{Combination}
 use Rattle.thread_runs.specs.declared.value.Value.{Value}
 use Rattle.thread_runs.specs.declared.value.Value.TheVariants.{NoValue}
-use Rattle.verdict.specs.Final.{last_or, stored_at, final_word}
+use Rattle.verdict.specs.Ends.{stored_at, final_word}
+use Rattle.verdict.specs.Final.{last_or}
 
 last_push : (d : Value) (xs : List Value) (x : Value) → last_or d (xs ++ x ∷ []) ≡ x
 last_push d [] x = refl

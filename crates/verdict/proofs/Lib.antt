@@ -1,6 +1,7 @@
 pub mod Atoms
 pub mod Columns
 pub mod Finals
+pub mod Endings
 pub mod Evaluations
 pub mod HeldTexts
 pub mod KeptLists
@@ -9,3 +10,4 @@ pub mod Orders
 pub mod Places
 pub mod Spread
 pub mod Tallies
+pub mod Uniqueness

@@ -5,12 +5,14 @@ use Rattle.std.specs.Cmp.{IsTotalOrder}
 use Rattle.std.specs.declared.cmp.Ordering.{Ordering}
 use Rattle.std.proofs.lemmas.Cmp.{lists_total, tied_itself}
 use Rattle.std.proofs.lemmas.Bool.{false≢true}
-use Rattle.std.proofs.lemmas.Bool.Decides.{Decides-eqb, nat_tests}
+use Rattle.std.proofs.lemmas.Bool.Decides.{Decides-eqb, Decides-int_eq, nat_tests}
+use Rattle.std.specs.Bool.{Decides}
 use Rattle.std.specs.Ordering.{is_eq, ordering_then, nat_cmp}
 use Rattle.std.specs.declared.cmp.Ordering.TheVariants.{Less, Equal, Greater}
 use Rattle.std.proofs.lemmas.Map.Lookups.{exact_signed, exact_unsigned}
 use Rattle.verdict.specs.Order.{place_cmp, value_cmp, state_cmp, is_place, is_state}
 use Rattle.verdict.specs.contracts.shown_place.ShownPlacePartialEq.TheImpl as place_eq
+use Rattle.verdict.specs.contracts.answer.FinalValuePartialEq.TheImpl as value_eq
 use Rattle.verdict.specs.declared.answer.FinalValue.{FinalValue}
 use Rattle.verdict.specs.declared.answer.FinalValue.TheVariants.{Number, Address, NoValue}
 use Rattle.verdict.specs.declared.shown_place.ShownPlace.{ShownPlace}
@@ -108,3 +110,15 @@ is_place_same (Location k) (Location l) h = ap Location ((Decides-eqb k l).0 (eq
 
 pub is_place_itself : (p : ShownPlace) → is_place p p ≡ true
 is_place_itself p = ap is_eq (tied_itself place_total p)
+
+-- `==` of two values says that they are the same
+pub value_eq-Decides : (v w : FinalValue) → Decides ((value_eq.ghosts).eq v w) (v ≡ w)
+value_eq-Decides (Number m) (Number n) = ((λ h. ap Number ((Decides-int_eq m n).0 h)), (λ e. (Decides-int_eq m n).1 (cc)))
+value_eq-Decides (Number m) (Address l) = ((λ h. absurd (false≢true h)), (λ e. cc))
+value_eq-Decides (Number m) NoValue = ((λ h. absurd (false≢true h)), (λ e. cc))
+value_eq-Decides (Address k) (Number n) = ((λ h. absurd (false≢true h)), (λ e. cc))
+value_eq-Decides (Address k) (Address l) = ((λ h. ap Address ((Decides-eqb k l).0 h)), (λ e. (Decides-eqb k l).1 (cc)))
+value_eq-Decides (Address k) NoValue = ((λ h. absurd (false≢true h)), (λ e. cc))
+value_eq-Decides NoValue (Number n) = ((λ h. absurd (false≢true h)), (λ e. cc))
+value_eq-Decides NoValue (Address l) = ((λ h. absurd (false≢true h)), (λ e. cc))
+value_eq-Decides NoValue NoValue = ((λ h. refl), (λ e. refl))

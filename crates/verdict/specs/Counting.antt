@@ -1,10 +1,11 @@
 -- How many candidates end in a state.
-use Rattle.std.specs.Prelude.{ℕ, ◌≡◌, ◌<◌, zero, suc, ◌+◌, ◌-◌, ◌^◌, min, Bool, ◌&&◌, List, [], ◌∷◌, Vec, drop, unwrap_or, if◌then◌else◌}
+use Rattle.std.specs.Prelude.{ℕ, ◌≡◌, ◌<◌, zero, suc, ◌+◌, ◌-◌, ◌^◌, min, Bool, ◌&&◌, List, [], ◌∷◌, Vec, map, drop, unwrap_or, if◌then◌else◌}
 use Rattle.std.specs.List.{All}
 use Rattle.std.specs.Map.{lookup, values_of}
 use Rattle.std.specs.declared.alloc.Global.{Global}
 use Rattle.verdict.specs.Kept.{holds_at}
 use Rattle.verdict.specs.Order.{is_state}
+use Rattle.verdict.specs.declared.answer.CountedState.{CountedState}
 use Rattle.verdict.specs.declared.answer.FinalValue.{FinalValue}
 
 -- how many of a list pass a test and have true at their index in another
@@ -28,3 +29,10 @@ AreAbove entries = All (λ n. 0 < n) (values_of entries)
 -- the second list has so many more at each state than the first, up to the greatest number, and none that is 0 if the first has none
 unfoldable pub Counts : List (Vec FinalValue Global × ℕ) → List (Vec FinalValue Global × ℕ) → (List FinalValue → ℕ) → Type 0
 Counts old new more = (AreAbove old → AreAbove new) × ((before : List FinalValue → ℕ) → ((v : List FinalValue) → tally old v ≡ min (before v) (2 ^ 64 - 1)) → (v : List FinalValue) → tally new v ≡ min (before v + more v) (2 ^ 64 - 1))
+
+-- states, and the entries of a map of states, each with its count
+abbrev pub pairs_of : List CountedState → List (List FinalValue × ℕ)
+pairs_of states = map (λ s. (s.values, s.count)) states
+
+abbrev pub pairs_in : List (Vec FinalValue Global × ℕ) → List (List FinalValue × ℕ)
+pairs_in entries = map (λ p. (p.0.items, p.1)) entries

@@ -1,14 +1,12 @@
--- What the kept candidates of a test say: final states, counts and words.
-use Rattle.std.specs.Prelude.{ℕ, ◌≡◌, ◌<◌, not, Bool, List, Vec, map, filter, length, ◌++◌}
+-- What the kept executions of a test say: final states, counts and words.
+use Rattle.std.specs.Prelude.{ℕ, ◌≡◌, ◌<◌, not, Bool, List, map, filter, length, ◌++◌}
 use Rattle.std.specs.List.{All, Contains}
 use Rattle.std.specs.List.Sorted.{IsStrictlySortedBy}
-use Rattle.std.specs.declared.alloc.Global.{Global}
-use Rattle.litmus_values.specs.declared.test.Condition.{Condition}
+use Rattle.litmus_values.specs.declared.test.Quantifier.{Quantifier}
 use Rattle.litmus_values.specs.declared.test.Place.{Place}
-use Rattle.litmus_values.specs.Value.{Formula, formula_of}
+use Rattle.litmus_values.specs.Value.{Formula}
 use Rattle.litmus_printing.specs.Printing.{condition_text}
-use Rattle.candidates.specs.Space.{candidates_in, Candidate}
-use Rattle.candidates.specs.declared.candidate.Space.{Space}
+use Rattle.candidates.specs.Space.{Shown}
 use Rattle.verdict.specs.declared.answer.CountedState.{CountedState}
 use Rattle.verdict.specs.declared.answer.Evaluation.{Evaluation}
 use Rattle.verdict.specs.declared.answer.FinalValue.{FinalValue}
@@ -16,63 +14,58 @@ use Rattle.verdict.specs.declared.answer.Outcome.{Outcome}
 use Rattle.verdict.specs.declared.answer.OutcomeResult.{OutcomeResult}
 use Rattle.verdict.specs.declared.answer.OutcomeResult.TheVariants.{Refused, Evaluated}
 use Rattle.verdict.specs.declared.formula.Formula as code
-use Rattle.verdict.specs.declared.judgement.Raised.{Raised}
 use Rattle.verdict.specs.declared.shown_place.ShownPlace.{ShownPlace}
 use Rattle.verdict.specs.Compiled.{value_of}
 use Rattle.verdict.specs.Final.{final_value, final_state}
 use Rattle.verdict.specs.Judgement.{IsJudged}
-use Rattle.verdict.specs.Kept.{kept, raised_names}
+use Rattle.verdict.specs.Kept.{kept, Flag, raised_names}
 use Rattle.verdict.specs.Meaning.{satisfies, places_of}
 use Rattle.verdict.specs.Order.{state_cmp, is_state}
 use Rattle.verdict.specs.Shown.{AreShown}
 use Rattle.verdict.specs.Text.{state_text}
 
--- the candidates that the checks keep, each with its index
-abbrev pub kept_of : Space → List (Vec Bool Global) → List (ℕ × Candidate)
-kept_of space checks = kept checks (candidates_in space.combinations.items)
-
--- how many of these candidates pass a test
+-- how many of these executions pass a test
 abbrev pub number_that : {X : Type 0} → (X → Bool) → List (ℕ × X) → ℕ
 number_that test candidates = length (filter (λ x. test x.1) candidates)
 
--- whether what the places hold where the candidate ends satisfies the proposition
-abbrev pub is_satisfied : Space → Formula → Candidate → Bool
-is_satisfied space proposition x = satisfies space.locations.items (final_value space x.0 x.1.1) proposition
+-- whether what the observables hold where the execution ends satisfies the proposition
+abbrev pub is_satisfied : List (List ℕ) → Formula → Shown → Bool
+is_satisfied locations proposition e = satisfies locations (final_value e) proposition
 
 abbrev pub values_of : List CountedState → List (List FinalValue)
-values_of states = map (λ s. s.values.items) states
+values_of states = map (λ s. s.values) states
 
 -- a state over these places has its text, and the answer of a proposition over places of a state
 abbrev pub IsWorded : List (List ℕ) → List ShownPlace → code.Formula → CountedState → Type 0
-IsWorded locations shown f s = (s.text.items ≡ state_text locations shown s.values.items) × (s.holds ≡ value_of s.values.items f)
+IsWorded locations shown f s = (s.text ≡ state_text locations shown s.values) × (s.holds ≡ value_of s.values f)
 
--- a state over these places in which some of the candidates end: its text, their number, and whether the proposition holds
-pub record IsCounted (space : Space) (proposition : Formula) (shown : List ShownPlace) (candidates : List (ℕ × Candidate)) (s : CountedState) : Type 0 where
-  pub text : s.text.items ≡ state_text space.locations.items shown s.values.items
-  pub count : s.count ≡ number_that (λ x. is_state s.values.items (final_state space shown x)) candidates
+-- a state over these places in which some of the executions end: its text, their number, and whether the proposition holds
+pub record IsCounted (locations : List (List ℕ)) (proposition : Formula) (shown : List ShownPlace) (candidates : List (ℕ × Shown)) (s : CountedState) : Type 0 where
+  pub text : s.text ≡ state_text locations shown s.values
+  pub count : s.count ≡ number_that (λ x. is_state s.values (final_state shown x)) candidates
   pub above : 0 < s.count
-  pub holds : (held : ShownPlace → FinalValue) → s.values.items ≡ map held shown → s.holds ≡ satisfies space.locations.items held proposition
+  pub holds : (held : ShownPlace → FinalValue) → s.values ≡ map held shown → s.holds ≡ satisfies locations held proposition
 
--- the evaluation says this of these candidates over these places
-pub record Says (space : Space) (condition : Condition) (shown : List ShownPlace) (candidates : List (ℕ × Candidate)) (flags : List Raised) (e : Evaluation) : Type 0 where
-  pub rising : IsStrictlySortedBy state_cmp (values_of e.states.items)
-  pub states : All (IsCounted space (formula_of condition.proposition) shown candidates) e.states.items
-  pub ended : All (λ x. Contains (values_of e.states.items) (final_state space shown x.1)) candidates
-  pub positive : e.positive ≡ number_that (is_satisfied space (formula_of condition.proposition)) candidates
-  pub negative : e.negative ≡ number_that (λ x. not (is_satisfied space (formula_of condition.proposition) x)) candidates
-  pub names : e.flags.items ≡ raised_names candidates flags
-  pub judged : IsJudged condition.quantifier e
+-- the evaluation says this of these executions over these places
+pub record Says (locations : List (List ℕ)) (kind : Quantifier) (proposition : Formula) (shown : List ShownPlace) (candidates : List (ℕ × Shown)) (flags : List Flag) (e : Evaluation) : Type 0 where
+  pub rising : IsStrictlySortedBy state_cmp (values_of e.states)
+  pub states : All (IsCounted locations proposition shown candidates) e.states
+  pub ended : All (λ x. Contains (values_of e.states) (final_state shown x.1)) candidates
+  pub positive : e.positive ≡ number_that (is_satisfied locations proposition) candidates
+  pub negative : e.negative ≡ number_that (λ x. not (is_satisfied locations proposition x)) candidates
+  pub names : e.flags ≡ raised_names candidates flags
+  pub judged : IsJudged kind e
 
--- the evaluation of a condition on the kept candidates: its states show the places of the proposition and the observed ones
-abbrev pub IsEvaluation : Space → Condition → List Place → List (Vec Bool Global) → List Raised → Evaluation → Type 0
-IsEvaluation space condition observed checks flags e = (shown : List ShownPlace) × AreShown space.locations.items (places_of (formula_of condition.proposition) ++ observed) shown × Says space condition shown (kept_of space checks) flags e
+-- the evaluation of a condition on the executions that the checks keep: its states show the places of the proposition and the observed ones
+abbrev pub IsEvaluation : List (List ℕ) → List Shown → Quantifier → Formula → List Place → List (List Bool) → List Flag → Evaluation → Type 0
+IsEvaluation locations executions kind proposition observed checks flags e = (shown : List ShownPlace) × AreShown locations (places_of proposition ++ observed) shown × Says locations kind proposition shown (kept checks executions) flags e
 
 abbrev pub IsEvaluatedAs : (Evaluation → Type 0) → OutcomeResult → Type 0
 IsEvaluatedAs P (Refused _) = ⊥
 IsEvaluatedAs P (Evaluated e) = P e
 
--- the outcome of a test: its condition as it is printed, and its evaluation
-pub record IsOutcome (space : Space) (condition : Condition) (observed : List Place) (checks : List (Vec Bool Global)) (flags : List Raised) (o : Outcome) : Type 0 where
-  pub kind : o.kind ≡ condition.quantifier
-  pub text : o.condition.items ≡ condition_text condition.quantifier (formula_of condition.proposition)
-  pub result : IsEvaluatedAs (IsEvaluation space condition observed checks flags) o.result
+-- the outcome of a condition of this kind on these executions: the condition as it is printed, and its evaluation
+pub record IsOutcome (locations : List (List ℕ)) (executions : List Shown) (kind : Quantifier) (proposition : Formula) (observed : List Place) (checks : List (List Bool)) (flags : List Flag) (o : Outcome) : Type 0 where
+  pub kind_is : o.kind ≡ kind
+  pub text : o.condition ≡ condition_text kind proposition
+  pub result : IsEvaluatedAs (IsEvaluation locations executions kind proposition observed checks flags) o.result

@@ -4,6 +4,7 @@ use binding_graph::ModelFault;
 use candidates::EvalRefusal;
 use litmus_values::Quantifier;
 use source_text::Name;
+use std::marker::Model;
 
 /// The final value of a register or a location. Their order: numbers, rising; then addresses, by the
 /// names of their locations; then no value.
@@ -17,7 +18,7 @@ pub enum FinalValue {
     NoValue,
 }
 
-/// A final state of kept candidates.
+/// A final state of kept candidates. Contracts see it as plain data.
 #[derive(Drop)]
 pub struct CountedState {
     /// The values of the observables: registers by thread and number, then locations by name.
@@ -28,6 +29,14 @@ pub struct CountedState {
     pub count: u64,
     /// Whether the state satisfies the proposition of the condition.
     pub holds: bool,
+}
+
+impl Model for CountedState {
+    ghost use Rattle.verdict.specs.EvaluationContent.{StateContent};
+
+    ghost Value = { StateContent };
+
+    ghost view = { λ s. record { values = s.values.items; text = s.text.items; count = s.count; holds = s.holds } };
 }
 
 /// In how many kept candidates the proposition holds.
@@ -41,7 +50,7 @@ pub enum Observation {
     Always,
 }
 
-/// The evaluation of a condition on the candidates that the checks keep.
+/// The evaluation of a condition on the candidates that the checks keep. Contracts see it as plain data.
 #[derive(Drop)]
 pub struct Evaluation {
     /// The final states, rising by their values.
@@ -56,6 +65,14 @@ pub struct Evaluation {
     pub ok: bool,
     /// The raised flags, in the order of the items that raise them first, each name once.
     pub flags: Vec<Name>,
+}
+
+impl Model for Evaluation {
+    ghost use Rattle.verdict.specs.EvaluationContent.{EvaluationContent};
+
+    ghost Value = { EvaluationContent };
+
+    ghost view = { λ e. record { states = e.states.items; positive = e.positive; negative = e.negative; observation = e.observation; ok = e.ok; flags = e.flags.items } };
 }
 
 /// Why a test has no evaluation under a model.
@@ -77,7 +94,7 @@ pub enum OutcomeResult {
 }
 
 /// The outcome of a test under a model, as herd7 reports it (the herd7 manual, chapter on litmus
-/// tests).
+/// tests). Contracts see it as plain data.
 #[derive(Drop)]
 pub struct Outcome {
     /// The quantifier of the test's condition.
@@ -86,4 +103,12 @@ pub struct Outcome {
     pub condition: Vec<u8>,
     /// The evaluation or the refusal.
     pub result: OutcomeResult,
+}
+
+impl Model for Outcome {
+    ghost use Rattle.verdict.specs.OutcomeContent.{OutcomeContent};
+
+    ghost Value = { OutcomeContent };
+
+    ghost view = { λ o. record { kind = o.kind; condition = o.condition.items; result = o.result } };
 }

@@ -1,10 +1,12 @@
 //! The final states of the kept candidates.
 
 ghost use Rattle.std.specs.Prelude.{◌≡◌, ℕ, ◌<◌, ◌+◌, ◌-◌, ◌^◌, min, List, map, drop, length, if◌then◌else◌, IfOk, OnOk};
-ghost use Rattle.candidates.specs.Space.{candidates_in, candidates_of};
+ghost use Rattle.candidates.specs.Space.{candidates_of, shown_in};
 ghost use Rattle.verdict.specs.Counting.{count_kept, count_column, tally, AreAbove, Counts};
 ghost use Rattle.verdict.specs.Kept.{holds_at};
-ghost use Rattle.verdict.specs.Final.{value_shown, final_register, stored_at, final_word, final_value, final_state};
+ghost use Rattle.verdict.specs.Final as shown;
+ghost use Rattle.verdict.specs.Final.{value_shown};
+ghost use Rattle.verdict.specs.Ends.{final_register, stored_at, final_word, final_value};
 ghost use Rattle.verdict.specs.Order.{is_state};
 ghost use Rattle.verdict.specs.declared.answer.FinalValue.{FinalValue};
 
@@ -193,7 +195,7 @@ pub fn final_states(
     places: &[ShownPlace],
 ) -> Result<StateCounts, AllocError>
     ensures above { IfOk result (λ t. AreAbove t.entries) }
-    ensures tally { IfOk result (λ t. (v : List FinalValue) → tally t.entries v ≡ min (count_kept (λ x. is_state v (final_state space.now places.now x)) kept.now (candidates_in space.now.combinations.items)) (2 ^ 64 - 1)) }
+    ensures tally { IfOk result (λ t. (v : List FinalValue) → tally t.entries v ≡ min (count_kept (λ e. is_state v (shown.final_state places.now e)) kept.now (shown_in space.now)) (2 ^ 64 - 1)) }
 {
     let mut counts = BTreeMap::new(alloc);
     let mut rest = kept;

@@ -3,7 +3,10 @@
 ghost use Rattle.std.specs.Prelude.{◌≡◌, ℕ, ◌<◌, ◌&&◌, ◌++◌, [], ◌∷◌, false, if◌then◌else◌, IfOk, OnOk, min, ◌-◌, ◌^◌, length, map, vec_len, slice_index_or};
 ghost use Rattle.std.specs.List.{list_any, All};
 ghost use Rattle.std.specs.List.Sorted.{IsStrictlySortedBy};
-ghost use Rattle.verdict.specs.Kept.{holds_at, is_kept, holds_on_some, names_of};
+ghost use Rattle.candidates.specs.Space.{shown_in};
+ghost use Rattle.litmus_values.specs.Value.{formula_of};
+ghost use Rattle.verdict.specs.Counting.{pairs_of, pairs_in};
+ghost use Rattle.verdict.specs.Kept.{holds_at, is_kept, holds_on_some, of_raised, names_of};
 ghost use Rattle.verdict.specs.Names.{is_name};
 ghost use Rattle.verdict.specs.Evaluated.{values_of, IsWorded, IsEvaluation, IsOutcome};
 ghost use Rattle.verdict.specs.Order.{state_cmp};
@@ -42,14 +45,14 @@ fn keep_where(kept: &mut [bool], holds: &[bool])
 fn kept_candidates(
     alloc: Global,
     candidates: usize,
-    checks: &[Vec<bool>],
+    checks: &[&[bool]],
 ) -> Result<Vec<bool>, AllocError>
     ensures len { IfOk result (λ v. vec_len v ≡ candidates) }
-    ensures kept { IfOk result (λ v. (k : ℕ) → k < candidates → slice_index_or v.items k false ≡ is_kept checks.now k) }
+    ensures kept { IfOk result (λ v. (k : ℕ) → k < candidates → slice_index_or v.items k false ≡ is_kept (map (λ c. c.now) checks.now) k) }
 {
     let mut kept = vec![in alloc; true; candidates]?;
     for holds in checks {
-        keep_where(&mut kept, holds);
+        keep_where(&mut kept, *holds);
     }
     Ok(kept)
 }
@@ -82,7 +85,7 @@ fn add_name(alloc: Global, names: &mut Vec<Name>, name: &Name) -> Result<(), All
 }
 
 fn raised_names(alloc: Global, kept: &[bool], flags: &[Raised]) -> Result<Vec<Name>, AllocError>
-    ensures { IfOk result (λ v. v.items ≡ names_of (λ f. holds_on_some kept.now f.holds.now) flags.now) }
+    ensures { IfOk result (λ v. v.items ≡ names_of (λ f. holds_on_some kept.now f.1) (of_raised flags.now)) }
 {
     let mut names: Vec<Name> = Vec::new(alloc);
     for flag in flags {
@@ -100,7 +103,7 @@ fn counted_states(
     formula: &Formula,
     counts: StateCounts,
 ) -> Result<Vec<CountedState>, AllocError>
-    ensures counts { IfOk result (λ v. map (λ s. (s.values, s.count)) v.items ≡ counts.entries) }
+    ensures counts { IfOk result (λ v. pairs_of v.items ≡ pairs_in counts.entries) }
     ensures words { IfOk result (λ v. All (IsWorded locations.now places.now formula.now) v.items) }
     ensures rising { IfOk result (λ v. IsStrictlySortedBy state_cmp (values_of v.items)) }
 {
@@ -159,10 +162,10 @@ fn evaluation(
     space: &Space,
     condition: &Condition,
     observed: &[Place],
-    checks: &[Vec<bool>],
+    checks: &[&[bool]],
     flags: &[Raised],
 ) -> Result<Evaluation, AllocError>
-    ensures { IfOk result (λ e. IsEvaluation space.now condition.now observed.now checks.now flags.now e) }
+    ensures { IfOk result (λ e. IsEvaluation space.now.locations.items (shown_in space.now) condition.now.quantifier (formula_of condition.now.proposition) observed.now (map (λ c. c.now) checks.now) (of_raised flags.now) e) }
 {
     let kept = kept_candidates(alloc, space.len(), checks)?;
     let places = shown_places(alloc, &space.locations, &condition.proposition, observed)?;
@@ -189,10 +192,10 @@ pub fn outcome(
     space: &Space,
     condition: &Condition,
     observed: &[Place],
-    checks: &[Vec<bool>],
+    checks: &[&[bool]],
     flags: &[Raised],
 ) -> Result<Outcome, AllocError>
-    ensures whole { IfOk result (λ o. IsOutcome space.now condition.now observed.now checks.now flags.now o) }
+    ensures whole { IfOk result (λ o. IsOutcome space.now.locations.items (shown_in space.now) condition.now.quantifier (formula_of condition.now.proposition) observed.now (map (λ c. c.now) checks.now) (of_raised flags.now) o) }
     ensures judged { IfOk result (λ o. IsOutcomeOf condition.now.quantifier o) }
 {
     let found = evaluation(alloc, space, condition, observed, checks, flags)?;

@@ -6,6 +6,8 @@ mod answer;
 mod final_states;
 mod formula;
 mod judgement;
+pub mod laws;
+mod same;
 mod shown_place;
 mod state_text;
 

@@ -1,5 +1,5 @@
 use Rattle.std.proofs.Common.{◌≡◌, take}
-use Rattle.memo_graph.specs.Answers.{of_raised}
+use Rattle.verdict.specs.Kept.{of_raised}
 use Rattle.memo_graph.specs.Known.{of_flags}
 use Rattle.memo_graph.proofs.cell.raised.Given as goal
 

@@ -1,7 +1,7 @@
 use Rattle.std.proofs.Common.{◌≡◌, ℕ, ◌+◌, ◌<◌, ◌≤◌, get_or, subst, Bool, List, Vec, Global, cond, map, take, length, sym, ap, ◌∙◌}
 use Rattle.std.proofs.lemmas.List.{take_all}
 use Rattle.verdict.specs.Counting.{count_column}
-use Rattle.verdict.specs.Final.{final_value}
+use Rattle.verdict.specs.Ends.{final_value}
 use Rattle.verdict.specs.Order.{is_state}
 use Rattle.verdict.specs.declared.answer.FinalValue.{FinalValue}
 use Rattle.verdict.proofs.Columns.{by_orders, none_yet, one_order_more, combination_kept}

@@ -1,6 +1,6 @@
 use Rattle.std.proofs.Common.{take, map, length}
 use Rattle.verdict.specs.Counting.{Counts}
-use Rattle.verdict.specs.Final.{final_value}
+use Rattle.verdict.specs.Ends.{final_value}
 use Rattle.verdict.specs.Order.{is_state}
 use Rattle.verdict.proofs.Columns.{by_orders}
 use Rattle.verdict.proofs.final_states.count_combination.Given as goal

@@ -1,6 +1,6 @@
 use Rattle.std.proofs.Common.{map, arith}
 use Rattle.std.proofs.lemmas.Result.{on_ok_weaker}
-use Rattle.verdict.specs.Final.{final_value}
+use Rattle.verdict.specs.Ends.{final_value}
 use Rattle.verdict.proofs.Tallies.{some_found, none_counted}
 use Rattle.verdict.proofs.final_states.count_order.Goals as goal
 

@@ -1,5 +1,5 @@
 use Rattle.std.proofs.Common.{◌≡◌, take, map}
-use Rattle.verdict.specs.Final.{final_value}
+use Rattle.verdict.specs.Ends.{final_value}
 use Rattle.verdict.proofs.final_states.final_state.Given as goal
 
 abbrev pub invariant-loop-place : goal.invariant-loop-place

@@ -3,10 +3,11 @@ use Rattle.std.proofs.lemmas.List.{take_all}
 use Rattle.candidates.specs.Space.{candidates_of, candidates_in}
 use Rattle.candidates.specs.declared.candidate.Combination.{Combination}
 use Rattle.verdict.specs.Counting.{Counts, count_kept}
-use Rattle.verdict.specs.Final.{final_state}
+use Rattle.verdict.specs.Ends.{final_state}
 use Rattle.verdict.specs.Order.{is_state}
 use Rattle.verdict.specs.declared.answer.FinalValue.{FinalValue}
 use Rattle.verdict.proofs.Columns.{none_kept, one_more_counted, after_one_more}
+use Rattle.verdict.proofs.Endings.{counts_shown}
 use Rattle.verdict.proofs.Tallies.{Entries, no_more_counted, counted_twice, from_nothing, above_from_nothing}
 use Rattle.verdict.proofs.final_states.final_states.Goals as goal
 
@@ -41,3 +42,4 @@ returns-clause-tally c = λ v.
     from_nothing c.loop-combination.counts.entries _ c.loop-combination.invariant.1 v
     ∙ ap (λ (cs : List Combination). min (count_kept (λ x. is_state v (final_state c.args.space.now c.args.places.now x)) c.args.kept.now (candidates_in cs)) (2 ^ 64 - 1))
     (take_all c.loop-combination.combination-index c.args.space.now.combinations.items past)
+    ∙ ap (λ (n : ℕ). min n (2 ^ 64 - 1)) (counts_shown c.args.space.now c.args.places.now c.args.kept.now v)

@@ -1,7 +1,7 @@
 use Rattle.std.proofs.Common.{◌≡◌, take, drop, length, []}
 use Rattle.candidates.specs.Space.{candidates_in}
 use Rattle.verdict.specs.Counting.{Counts, count_kept}
-use Rattle.verdict.specs.Final.{final_state}
+use Rattle.verdict.specs.Ends.{final_state}
 use Rattle.verdict.specs.Order.{is_state}
 use Rattle.verdict.proofs.final_states.final_states.Given as goal
 

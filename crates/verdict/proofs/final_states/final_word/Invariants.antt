@@ -1,5 +1,5 @@
 use Rattle.std.proofs.Common.{◌≡◌, take}
-use Rattle.verdict.specs.Final.{final_word}
+use Rattle.verdict.specs.Ends.{final_word}
 use Rattle.verdict.proofs.final_states.final_word.Given as goal
 
 abbrev pub invariant-loop-event : goal.invariant-loop-event

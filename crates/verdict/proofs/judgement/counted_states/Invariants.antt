@@ -1,9 +1,10 @@
-use Rattle.std.proofs.Common.{◌≡◌, ◌++◌, map}
+use Rattle.std.proofs.Common.{◌≡◌, ◌++◌}
 use Rattle.std.specs.List.{All}
+use Rattle.verdict.specs.Counting.{pairs_of, pairs_in}
 use Rattle.verdict.specs.Evaluated.{IsWorded}
 use Rattle.verdict.proofs.judgement.counted_states.Given as goal
 
 abbrev pub invariant-loop-values : goal.invariant-loop-values
 invariant-loop-values l =
-    (map (λ s. (s.values, s.count)) l.states.items ++ l.values-iterator ≡ l.fn.counts.entries)
+    (pairs_of l.states.items ++ pairs_in l.values-iterator ≡ pairs_in l.fn.counts.entries)
     × All (IsWorded l.locations l.places l.formula) l.states.items

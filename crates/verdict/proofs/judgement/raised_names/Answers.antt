@@ -10,5 +10,5 @@ loop-flag-init c = search rules
 
 pub loop-flag-preserved : goal.loop-flag-preserved
 loop-flag-preserved c =
-    let more = one_flag_more (λ f. holds_on_some c.args.kept.now f.holds.now) c.args.flags.now c.loop-flag.flag-index c.flag-item.result c.loop-flag-test.true c.flag-item.is in
+    let more = one_flag_more (λ f. holds_on_some c.args.kept.now f.1) c.args.flags.now c.loop-flag.flag-index c.flag-item.result c.loop-flag-test.true c.flag-item.is in
     grind (arith, common_steps, more)

@@ -1,0 +1,4 @@
+pub mod Finding
+pub mod Making
+pub mod OneVerdict
+pub mod PartTests

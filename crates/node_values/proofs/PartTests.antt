@@ -1,0 +1,92 @@
+-- The space of a test depends on its parts alone.
+use Rattle.std.proofs.Common.{ℕ, ◌<◌, ◌≡◌, ◌⊎◌, List, length, get_or, map, Vec, Global, vec_len, inl, inr, refl, sym, ap, subst, ◌∙◌}
+use Rattle.std.proofs.Math.ListN.{get_or-map}
+use Rattle.std.proofs.lemmas.List.{length-map}
+use Rattle.litmus_values.specs.declared.test.InitEntry.{InitEntry}
+use Rattle.litmus_values.specs.declared.test.Step.{Step}
+use Rattle.litmus_values.specs.declared.test.Test.{Test}
+use Rattle.litmus_values.specs.declared.test.Thread.{Thread}
+use Rattle.litmus_values.specs.Value.{steps_of}
+use Rattle.thread_runs.specs.declared.instruction.Line.{Line}
+use Rattle.thread_runs.specs.declared.instruction.Program.{Program}
+use Rattle.ppc_semantics.specs.Lowering.{IsProgram, AreNames, AreInitial, AreThreads, AreFiles, AreLines, test_names}
+use Rattle.candidates.specs.Candidates.{IsTestSpace, IsTestRefusal}
+use Rattle.candidates.specs.declared.candidate.Space.{Space}
+use Rattle.candidates.specs.declared.fault.EvalRefusal.{EvalRefusal}
+use Rattle.candidates.specs.declared.fault.SpaceFault.TheVariants.{Refused}
+use Rattle.candidates.specs.Listed.{ListsExecutions}
+use Rattle.candidates.proofs.Outcomes.{shown_alike}
+use Rattle.node_values.specs.Laws.{HasOneSpace, IsOfEachTest}
+use Rattle.node_values.specs.Parts.{SpacePartsContent, HasParts, IsPartSpace, IsPartRefusal}
+use Rattle.node_values.specs.Spaces.{SpaceContent, space_content}
+
+module _ (parts : SpacePartsContent) (t u : Test) (h : HasParts parts t) (k : HasParts parts u) where
+  inits : t.init.items ≡ u.init.items
+  inits = h.init ∙ sym k.init
+
+  steps : map steps_of t.threads.items ≡ map steps_of u.threads.items
+  steps = h.threads ∙ sym k.threads
+
+  lengths : length t.threads.items ≡ length u.threads.items
+  lengths = sym (length-map t.threads.items steps_of) ∙ ap (λ (l : List (List Step)). length l) steps ∙ length-map u.threads.items steps_of
+
+  counts : vec_len t.threads ≡ vec_len u.threads
+  counts = t.threads.ok.0 ∙ lengths ∙ sym u.threads.ok.0
+
+  same_names : (names : List (List ℕ)) → AreNames (test_names t) names → AreNames (test_names u) names
+  same_names names are = record {
+    rising = are.rising;
+    exact = λ n. ((λ c. (k.locations n).1 ((h.locations n).0 ((are.exact n).0 c))), (λ c. (are.exact n).1 ((h.locations n).1 ((k.locations n).0 c))));
+  }
+
+  same_lines : (n : ℕ) (thread : Thread) → steps_of (get_or t.threads.items n thread) ≡ steps_of (get_or u.threads.items n thread)
+  same_lines n thread = sym (get_or-map steps_of t.threads.items n thread) ∙ ap (λ (l : List (List Step)). get_or l n (steps_of thread)) steps ∙ get_or-map steps_of u.threads.items n thread
+
+  same_program : (p : Program) → IsProgram t p → IsProgram u p
+  same_program p is = record {
+    locations = same_names p.locations.items is.locations;
+    initial = subst (λ (l : List InitEntry). AreInitial l p.locations.items p.initial.items) inits is.initial;
+    threads = record {
+      each_one = is.threads.each_one ∙ lengths;
+      each = λ n thread made lt. subst (λ (l : List Step). AreLines l (get_or p.threads.items n made).items) (same_lines n thread) (is.threads.each n thread made (subst (λ (m : ℕ). n < m) (sym lengths) lt));
+    };
+    registers = subst (λ (m : ℕ). AreFiles u.init.items p.locations.items m p.registers.items) counts (subst (λ (l : List InitEntry). AreFiles l p.locations.items (vec_len t.threads) p.registers.items) inits is.registers);
+  }
+
+  pub same_space : (s : Space) → IsTestSpace t s → IsTestSpace u s
+  same_space s h = (h.0, (h.1.0, h.1.1, h.1.2, same_program h.1.0 h.1.3, h.1.4, h.1.5, h.1.6), h.2)
+
+  pub same_lists : (s : Space) → ListsExecutions t s → ListsExecutions u s
+  same_lists s h = record {
+    initial = h.initial;
+    all = h.all;
+    executions = record {
+      program = h.executions.program;
+      values = h.executions.values;
+      of_test = same_program h.executions.program h.executions.of_test;
+      starts = h.executions.starts;
+      domain = h.executions.domain;
+      executions = h.executions.executions;
+    };
+    few = h.few;
+    sound = h.sound;
+    shown = h.shown;
+    locations = same_names s.locations.items h.locations;
+  }
+
+  pub same_refusal : (r : EvalRefusal) → IsTestRefusal t (Refused r) → IsTestRefusal u (Refused r)
+  same_refusal r (inl f) = inl (f.0, f.1, (f.2.0, same_program f.2.0 f.2.1, f.2.2))
+  same_refusal r (inr f) = inr (f.0, (f.1.0, f.1.1, f.1.2, same_program f.1.0 f.1.3, f.1.4, f.1.5, f.1.6), f.2)
+
+pub of_each : (parts : SpacePartsContent) (t : Test) → IsOfEachTest parts t
+of_each parts t has = (
+  (λ s h. record { space = h.space; of_test = same_space parts h.test t h.has_parts has h.space h.of_test; lists = same_lists parts h.test t h.has_parts has h.space h.lists; content = h.content }),
+  (λ r h. same_refusal parts h.test t h.has_parts has r h.of_test),
+)
+
+pub one_space : (parts : SpacePartsContent) → HasOneSpace parts
+one_space parts s r h k =
+    let lists : ListsExecutions h.test k.space = same_lists parts k.test h.test k.has_parts h.has_parts k.space k.lists in
+    let same = shown_alike h.test h.space k.space h.lists lists in
+    let contents : space_content h.space ≡ space_content k.space = λ i. record { locations = same.0 i; executions = same.1 i } in
+    h.content ∙ contents ∙ sym k.content

@@ -1,0 +1,35 @@
+-- What a node is given of the texts, as plain data: contracts see a `Given` so.
+use Rattle.std.specs.Prelude.{ℕ, List}
+use Rattle.litmus_values.specs.declared.test.Condition.{Condition}
+use Rattle.litmus_values.specs.declared.test.Place.{Place}
+use Rattle.litmus_values.specs.declared.test.Quantifier.{Quantifier}
+use Rattle.litmus_values.specs.Value.{Formula, formula_of}
+use Rattle.binding_kinds.specs.declared.fault.ModelFault.{ModelFault}
+use Rattle.node_values.specs.Items.{ItemContent}
+use Rattle.node_values.specs.Parts.{SpacePartsContent}
+
+-- a condition, the observables that are shown beside its own, and the names of the model's flags
+pub record VerdictPartsContent : Type 0 where
+  pub kind : Quantifier
+  pub proposition : Formula
+  pub observed : List Place
+  pub flags : List (List ℕ)
+
+-- a condition, and the fault of the model
+pub record FaultPartsContent : Type 0 where
+  pub kind : Quantifier
+  pub proposition : Formula
+  pub fault : ModelFault
+
+-- what a verdict is given with a condition
+abbrev pub asked : Condition → List Place → List (List ℕ) → VerdictPartsContent
+asked condition observed flags = record { kind = condition.quantifier; proposition = formula_of condition.proposition; observed = observed; flags = flags }
+
+abbrev pub faulted : Condition → ModelFault → FaultPartsContent
+faulted condition fault = record { kind = condition.quantifier; proposition = formula_of condition.proposition; fault = fault }
+
+pub data GivenContent : Type 0 where
+  ForSpace : (parts : SpacePartsContent) → GivenContent
+  ForItem : (item : ItemContent) → GivenContent
+  ForVerdict : (parts : VerdictPartsContent) → GivenContent
+  ForFault : (parts : FaultPartsContent) → GivenContent

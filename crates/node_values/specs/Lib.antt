@@ -1,0 +1,9 @@
+pub mod Codes
+pub mod Givens
+pub mod Items
+pub mod Laws
+pub mod Makes
+pub mod Parts
+pub mod Spaces
+pub mod Values
+pub mod Views

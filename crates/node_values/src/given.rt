@@ -1,0 +1,193 @@
+//! What a node is given of the texts.
+
+ghost use Rattle.std.specs.Prelude.{◌≡◌, ◌↔◌, IsTrue, IfOk};
+ghost use Rattle.litmus_values.specs.Value.{formula_of};
+ghost use Rattle.node_values.specs.Givens.{ForSpace, ForItem, ForVerdict, ForFault, asked, faulted};
+ghost use Rattle.node_values.specs.Items.{item_content};
+ghost use Rattle.node_values.specs.Parts.{parts_of};
+ghost use Rattle.node_values.specs.Views.{given_content};
+
+use crate::same::{
+    same_entries, same_item, same_names, same_places, same_proposition, same_threads,
+};
+use binding_graph::{ModelFault, ResolvedItem};
+use litmus_values::{Condition, InitEntry, Place, Thread};
+use source_text::Name;
+use std::alloc::{AllocError, Global};
+use std::marker::Model;
+use std::sync::Arc;
+
+/// The parts of a test that its space reads.
+#[derive(Drop)]
+pub struct SpaceParts {
+    /// The initial values.
+    pub init: Vec<InitEntry>,
+    /// The threads.
+    pub threads: Vec<Thread>,
+    /// The names of the test's locations.
+    pub locations: Vec<Name>,
+}
+
+/// The parts that a verdict under a model without fault reads.
+#[derive(Drop)]
+pub struct VerdictParts {
+    /// The condition of the test.
+    pub condition: Condition,
+    /// The observables that states show beside those of the condition.
+    pub observed: Vec<Place>,
+    /// The names of the model's flags, in the order of the text.
+    pub flags: Vec<Name>,
+}
+
+/// The parts that a verdict under a model with a fault reads.
+#[derive(Drop)]
+pub struct FaultParts {
+    /// The condition of the test.
+    pub condition: Condition,
+    /// The first fault of the model.
+    pub fault: ModelFault,
+}
+
+/// What a node is given, by its kind.
+#[derive(Drop)]
+pub enum GivenParts {
+    /// What the space of a test is given.
+    Space(SpaceParts),
+    /// What a group, a check or a flag is given: the item as it is read.
+    Item(ResolvedItem),
+    /// What a verdict is given.
+    Verdict(VerdictParts),
+    /// What a verdict is given under a model with a fault.
+    Fault(FaultParts),
+}
+
+/// What a node is given of the texts, which jobs share. Contracts see it as plain data.
+#[derive(Drop)]
+pub struct Given {
+    pub(crate) parts: Arc<GivenParts>,
+}
+
+impl Model for Given {
+    ghost use Rattle.std.specs.Coded.{codes};
+    ghost use Rattle.std.specs.Arc.{arc_value};
+    ghost use Rattle.node_values.specs.Codes.{formula_code};
+    ghost use Rattle.node_values.specs.Givens.{GivenContent};
+
+    ghost Value = { GivenContent };
+
+    ghost coded = { Prim.hlevel (codes, formula_code) };
+
+    ghost use Rattle.node_values.specs.Views.{given_content};
+
+    ghost view = { λ g. given_content (arc_value g.parts) };
+}
+
+fn same_condition(this: &Condition, that: &Condition) -> bool
+    ensures { IsTrue result ↔ ((this.now.quantifier ≡ that.now.quantifier) × (formula_of this.now.proposition ≡ formula_of that.now.proposition)) }
+{
+    this.quantifier == that.quantifier && same_proposition(&this.proposition, &that.proposition)
+}
+
+impl GivenParts {
+    fn is_space(&self, init: &[InitEntry], threads: &[Thread], locations: &[Name]) -> bool
+        ensures { IsTrue result ↔ (ForSpace (parts_of init.now threads.now locations.now) ≡ given_content self.now) }
+    {
+        match self {
+            GivenParts::Space(parts) => {
+                same_entries(init, &parts.init)
+                    && same_threads(threads, &parts.threads)
+                    && same_names(locations, &parts.locations)
+            }
+            GivenParts::Item(_) => false,
+            GivenParts::Verdict(_) => false,
+            GivenParts::Fault(_) => false,
+        }
+    }
+
+    fn is_item(&self, item: &ResolvedItem) -> bool
+        ensures { IsTrue result ↔ (ForItem (item_content item.now) ≡ given_content self.now) }
+    {
+        match self {
+            GivenParts::Space(_) => false,
+            GivenParts::Item(other) => same_item(item, other),
+            GivenParts::Verdict(_) => false,
+            GivenParts::Fault(_) => false,
+        }
+    }
+
+    fn is_verdict(&self, condition: &Condition, observed: &[Place], flags: &[Name]) -> bool
+        ensures { IsTrue result ↔ (ForVerdict (asked condition.now observed.now flags.now) ≡ given_content self.now) }
+    {
+        match self {
+            GivenParts::Space(_) => false,
+            GivenParts::Item(_) => false,
+            GivenParts::Verdict(parts) => {
+                same_condition(condition, &parts.condition)
+                    && same_places(observed, &parts.observed)
+                    && same_names(flags, &parts.flags)
+            }
+            GivenParts::Fault(_) => false,
+        }
+    }
+
+    fn is_fault(&self, condition: &Condition, fault: ModelFault) -> bool
+        ensures { IsTrue result ↔ (ForFault (faulted condition.now fault) ≡ given_content self.now) }
+    {
+        match self {
+            GivenParts::Space(_) => false,
+            GivenParts::Item(_) => false,
+            GivenParts::Verdict(_) => false,
+            GivenParts::Fault(parts) => {
+                same_condition(condition, &parts.condition) && fault == parts.fault
+            }
+        }
+    }
+}
+
+impl Given {
+    /// What a node is given, of these parts. Errors: out of memory.
+    pub fn new(alloc: Global, parts: GivenParts) -> Result<Given, AllocError>
+        ensures { IfOk result (λ g. g ≡ given_content parts) }
+    {
+        Ok(Given {
+            parts: Arc::new(alloc, parts)?,
+        })
+    }
+
+    /// The same once more, for another job. Errors: too many of them.
+    pub fn again(&self) -> Result<Given, AllocError>
+        ensures { IfOk result (λ g. g ≡ self.now) }
+    {
+        Ok(Given {
+            parts: Arc::try_clone(&self.parts)?,
+        })
+    }
+
+    /// Whether it is what the space of these parts is given.
+    pub fn is_space(&self, init: &[InitEntry], threads: &[Thread], locations: &[Name]) -> bool
+        ensures { IsTrue result ↔ (ForSpace (parts_of init.now threads.now locations.now) ≡ self.now) }
+    {
+        self.parts.is_space(init, threads, locations)
+    }
+
+    /// Whether it is what a group, a check or a flag is given that is read so.
+    pub fn is_item(&self, item: &ResolvedItem) -> bool
+        ensures { IsTrue result ↔ (ForItem (item_content item.now) ≡ self.now) }
+    {
+        self.parts.is_item(item)
+    }
+
+    /// Whether it is what a verdict is given with this condition, these observables and these names of flags.
+    pub fn is_verdict(&self, condition: &Condition, observed: &[Place], flags: &[Name]) -> bool
+        ensures { IsTrue result ↔ (ForVerdict (asked condition.now observed.now flags.now) ≡ self.now) }
+    {
+        self.parts.is_verdict(condition, observed, flags)
+    }
+
+    /// Whether it is what a verdict is given with this condition under a model with this fault.
+    pub fn is_fault(&self, condition: &Condition, fault: ModelFault) -> bool
+        ensures { IsTrue result ↔ (ForFault (faulted condition.now fault) ≡ self.now) }
+    {
+        self.parts.is_fault(condition, fault)
+    }
+}

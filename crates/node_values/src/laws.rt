@@ -1,0 +1,23 @@
+//! Laws of what nodes give.
+
+ghost use Rattle.std.specs.Prelude.{List};
+ghost use Rattle.litmus_values.specs.declared.test.Test.{Test};
+ghost use Rattle.node_values.specs.Laws.{HasOneSpace, IsOfEachTest, HasOneVerdict};
+ghost use Rattle.node_values.specs.Givens.{VerdictPartsContent};
+ghost use Rattle.node_values.specs.Parts.{SpacePartsContent};
+ghost use Rattle.node_values.specs.Values.{NodeContent};
+
+/// Some parts of a test have one space.
+pub fn space_is_one()
+    ensures { (parts : SpacePartsContent) → HasOneSpace parts }
+{}
+
+/// The space of some parts, or why they have none, is that of each test that has them.
+pub fn space_is_of_each_test()
+    ensures { (parts : SpacePartsContent) (t : Test) → IsOfEachTest parts t }
+{}
+
+/// A verdict gives one outcome, from the values of its inputs.
+pub fn verdict_is_one()
+    ensures { (parts : VerdictPartsContent) (values : List NodeContent) → HasOneVerdict parts values }
+{}

@@ -1,0 +1,294 @@
+//! What a node gives.
+
+ghost use Rattle.std.specs.Prelude.{◌≡◌, ◌∷◌, [], List, IfOk, map, option_map};
+ghost use Rattle.std.specs.List.{zip};
+ghost use Rattle.litmus_values.specs.Value.{formula_of};
+ghost use Rattle.candidates.specs.declared.fault.EvalRefusal.{EvalRefusal};
+ghost use Rattle.verdict.specs.declared.answer.Outcome.{Outcome};
+ghost use Rattle.verdict.specs.declared.answer.Refusal.TheVariants as refusals;
+ghost use Rattle.verdict.specs.Kept.{of_raised};
+ghost use Rattle.node_values.specs.Items.{item_content};
+ghost use Rattle.node_values.specs.Makes.{IsSpaceValue, IsMadeBy, HasColumns, HasAnswers, IsVerdict, IsVerdictOver, refused, Makes};
+ghost use Rattle.node_values.specs.Parts.{HasParts};
+ghost use Rattle.node_values.specs.Spaces.{space_content, no_executions};
+ghost use Rattle.node_values.specs.Values.{NodeContent, OfColumn, OfOutcome, first_space, space_of, refusal_of, columns_of, checks_of, flags_of};
+ghost use Rattle.node_values.specs.Views.{held_content, given_content, space_parts, verdict_parts, fault_parts};
+
+use crate::copies::{copied_entries, copied_threads};
+use crate::given::{FaultParts, Given, GivenParts, SpaceParts, VerdictParts};
+use crate::value::NodeValue;
+use binding_graph::{ResolvedItem, Role};
+use candidates::{EvalRefusal, Space, SpaceFault, space};
+use cat_eval::{Column, eval_check, eval_group};
+use litmus_printing::print_condition;
+use litmus_values::{Condition, Place, Proposition, Quantifier, Test};
+use source_text::Name;
+use std::alloc::{AllocError, Global};
+use verdict::{Outcome, OutcomeResult, Raised, Refusal, outcome};
+
+// A space without candidates.
+fn no_space(alloc: Global) -> Space
+    ensures { space_content result ≡ no_executions }
+{
+    Space {
+        locations: Vec::new(alloc),
+        registers: Vec::new(alloc),
+        combinations: Vec::new(alloc),
+    }
+}
+
+// The space among the values of inputs.
+fn first_space<'v>(values: &[&'v NodeValue]) -> Option<&'v Space>
+    ensures { option_map (λ s. space_content s.now) result ≡ first_space (map (λ v. v.now) values.now) }
+{
+    match values.first() {
+        Some(value) => value.space(),
+        None => None,
+    }
+}
+
+fn refusal_of(values: &[&NodeValue]) -> Option<EvalRefusal>
+    ensures { result ≡ refusal_of (map (λ v. v.now) values.now) }
+{
+    match values.first() {
+        Some(value) => value.refusal(),
+        None => None,
+    }
+}
+
+fn columns_of<'v>(alloc: Global, values: &[&'v NodeValue]) -> Result<Vec<&'v Column>, AllocError>
+    ensures { IfOk result (λ v. map (λ c. c.now) v.items ≡ columns_of (map (λ v. v.now) values.now)) }
+{
+    let mut columns = Vec::with_capacity(alloc, values.len())?;
+    for value in values {
+        if let Some(column) = value.column() {
+            columns.push(column)?;
+        }
+    }
+    Ok(columns)
+}
+
+fn checks_of<'v>(alloc: Global, values: &[&'v NodeValue]) -> Result<Vec<&'v [bool]>, AllocError>
+    ensures { IfOk result (λ v. map (λ c. c.now) v.items ≡ checks_of (map (λ v. v.now) values.now)) }
+{
+    let mut checks = Vec::with_capacity(alloc, values.len())?;
+    for value in values {
+        if let Some(answers) = value.check() {
+            checks.push(answers)?;
+        }
+    }
+    Ok(checks)
+}
+
+fn flags_of<'v>(alloc: Global, values: &[&'v NodeValue]) -> Result<Vec<&'v [bool]>, AllocError>
+    ensures { IfOk result (λ v. map (λ c. c.now) v.items ≡ flags_of (map (λ v. v.now) values.now)) }
+{
+    let mut flags = Vec::with_capacity(alloc, values.len())?;
+    for value in values {
+        if let Some(answers) = value.flag() {
+            flags.push(answers)?;
+        }
+    }
+    Ok(flags)
+}
+
+// Each flag with its name.
+fn raised<'a>(
+    alloc: Global,
+    names: &'a [Name],
+    flags: &[&'a [bool]],
+) -> Result<Vec<Raised<'a>>, AllocError>
+    ensures { IfOk result (λ v. of_raised v.items ≡ zip names.now (map (λ f. f.now) flags.now)) }
+{
+    let mut raised = Vec::with_capacity(alloc, names.len())?;
+    for at in 0..names.len().min(flags.len()) {
+        raised.push(Raised {
+            name: &names[at],
+            holds: flags[at],
+        })?;
+    }
+    Ok(raised)
+}
+
+fn places_of(alloc: Global, names: &[Name]) -> Result<Vec<Place>, AllocError>
+    ensures { IfOk result (λ v. v.items ≡ map Place.Location names.now) }
+{
+    let mut places = Vec::with_capacity(alloc, names.len())?;
+    for name in names {
+        places.push(Place::Location(name.copied(alloc)?))?;
+    }
+    Ok(places)
+}
+
+// A test of these parts, and of nothing more.
+fn part_test(alloc: Global, parts: &SpaceParts) -> Result<Test, AllocError>
+    ensures { IfOk result (HasParts (space_parts parts.now)) }
+{
+    Ok(Test {
+        name: Name::new(alloc, b"")?,
+        init: copied_entries(alloc, &parts.init)?,
+        threads: copied_threads(alloc, &parts.threads)?,
+        observed: places_of(alloc, &parts.locations)?,
+        condition: Condition {
+            quantifier: Quantifier::Exists,
+            proposition: Proposition::Constant(true),
+        },
+    })
+}
+
+fn space_value(alloc: Global, parts: &SpaceParts) -> Result<NodeValue, AllocError>
+    ensures { IfOk result (λ v. IsSpaceValue (space_parts parts.now) v) }
+{
+    let test = part_test(alloc, parts)?;
+    match space(alloc, &test) {
+        Ok(found) => Ok(NodeValue::of_space(found)),
+        Err(SpaceFault::Refused(refusal)) => Ok(NodeValue::of_refusal(refusal)),
+        Err(SpaceFault::OutOfMemory(fault)) => Err(fault),
+    }
+}
+
+fn one_value(alloc: Global, value: NodeValue) -> Result<Vec<NodeValue>, AllocError>
+    ensures { IfOk result (λ v. v.items ≡ value ∷ []) }
+{
+    let mut values = Vec::with_capacity(alloc, 1)?;
+    values.push(value)?;
+    Ok(values)
+}
+
+fn column_values(alloc: Global, columns: Vec<Column>) -> Result<Vec<NodeValue>, AllocError>
+    ensures { IfOk result (λ v. v.items ≡ map OfColumn columns.items) }
+{
+    let mut values = Vec::with_capacity(alloc, columns.len())?;
+    for column in columns {
+        values.push(NodeValue::of_column(column))?;
+    }
+    Ok(values)
+}
+
+fn group_columns<'v>(
+    alloc: Global,
+    item: &'v ResolvedItem,
+    values: &[&'v NodeValue],
+) -> Result<Vec<Column>, AllocError>
+    ensures { let given = map (λ v. v.now) values.now in IfOk result (λ v. HasColumns (item_content item.now) (space_of given) (columns_of given) v.items) }
+{
+    let inputs = columns_of(alloc, values)?;
+    match first_space(values) {
+        Some(space) => eval_group(alloc, item, space, &inputs),
+        None => eval_group(alloc, item, &no_space(alloc), &inputs),
+    }
+}
+
+fn check_answers<'v>(
+    alloc: Global,
+    item: &'v ResolvedItem,
+    values: &[&'v NodeValue],
+) -> Result<Vec<bool>, AllocError>
+    ensures { let given = map (λ v. v.now) values.now in IfOk result (λ v. HasAnswers (item_content item.now) (space_of given) (columns_of given) v.items) }
+{
+    let inputs = columns_of(alloc, values)?;
+    match first_space(values) {
+        Some(space) => eval_check(alloc, item, space, &inputs),
+        None => eval_check(alloc, item, &no_space(alloc), &inputs),
+    }
+}
+
+fn item_values<'v>(
+    alloc: Global,
+    item: &'v ResolvedItem,
+    values: &[&'v NodeValue],
+) -> Result<Vec<NodeValue>, AllocError>
+    ensures { let given = map (λ v. v.now) values.now in IfOk result (λ v. IsMadeBy (item_content item.now).role (item_content item.now) (space_of given) (columns_of given) v.items) }
+{
+    match &item.role {
+        Role::Group { .. } => {
+            let columns = group_columns(alloc, item, values)?;
+            column_values(alloc, columns)
+        }
+        Role::Check(check) => {
+            let answers = check_answers(alloc, item, values)?;
+            match &check.flag {
+                Some(_) => one_value(alloc, NodeValue::of_flag(answers)),
+                None => one_value(alloc, NodeValue::of_check(answers)),
+            }
+        }
+        Role::Silent => Ok(Vec::new(alloc)),
+    }
+}
+
+fn evaluated<'v>(
+    alloc: Global,
+    parts: &'v VerdictParts,
+    values: &[&'v NodeValue],
+) -> Result<Outcome, AllocError>
+    ensures { let given = map (λ v. v.now) values.now in IfOk result (λ o. IsVerdict (verdict_parts parts.now) (space_of given) (checks_of given) (flags_of given) o) }
+{
+    let checks = checks_of(alloc, values)?;
+    let answers = flags_of(alloc, values)?;
+    let flags = raised(alloc, &parts.flags, &answers)?;
+    let condition = &parts.condition;
+    match first_space(values) {
+        Some(space) => outcome(alloc, space, condition, &parts.observed, &checks, &flags),
+        None => {
+            let none = no_space(alloc);
+            outcome(alloc, &none, condition, &parts.observed, &checks, &flags)
+        }
+    }
+}
+
+fn refused(alloc: Global, condition: &Condition, refusal: Refusal) -> Result<Outcome, AllocError>
+    ensures { IfOk result (λ o. o ≡ refused condition.now.quantifier (formula_of condition.now.proposition) refusal) }
+{
+    Ok(Outcome {
+        kind: condition.quantifier,
+        condition: print_condition(alloc, condition)?,
+        result: OutcomeResult::Refused(refusal),
+    })
+}
+
+fn verdict_over<'v>(
+    alloc: Global,
+    parts: &'v VerdictParts,
+    values: &[&'v NodeValue],
+) -> Result<Outcome, AllocError>
+    ensures { let given = map (λ v. v.now) values.now in IfOk result (λ o. IsVerdictOver (refusal_of given) (verdict_parts parts.now) given o) }
+{
+    match refusal_of(values) {
+        Some(refusal) => refused(alloc, &parts.condition, Refusal::Space(refusal)),
+        None => evaluated(alloc, parts, values),
+    }
+}
+
+fn made<'v>(
+    alloc: Global,
+    parts: &'v GivenParts,
+    values: &[&'v NodeValue],
+) -> Result<Vec<NodeValue>, AllocError>
+    ensures { IfOk result (λ v. Makes (given_content parts.now) (map (λ v. v.now) values.now) v.items) }
+{
+    match parts {
+        GivenParts::Space(parts) => one_value(alloc, space_value(alloc, parts)?),
+        GivenParts::Item(item) => item_values(alloc, item, values),
+        GivenParts::Verdict(parts) => {
+            let outcome = verdict_over(alloc, parts, values)?;
+            one_value(alloc, NodeValue::of_outcome(outcome))
+        }
+        GivenParts::Fault(parts) => {
+            let outcome = refused(alloc, &parts.condition, Refusal::Model(parts.fault))?;
+            one_value(alloc, NodeValue::of_outcome(outcome))
+        }
+    }
+}
+
+/// What a node gives, from what it is given of the texts and from the values of the nodes that it uses, the space first and
+/// then in the order of its inputs. Over a test without a space, columns and answers are those over no candidates, and the
+/// outcome says why there is no space. Errors: out of memory.
+pub fn run_node<'v>(
+    alloc: Global,
+    given: &'v Given,
+    values: &[&'v NodeValue],
+) -> Result<Vec<NodeValue>, AllocError>
+    ensures { IfOk result (λ v. Makes given.now (map (λ v. v.now) values.now) v.items) }
+{
+    made(alloc, &given.parts, values)
+}

@@ -1,0 +1,14 @@
+-- LAWS of outcomes: what `laws` states.
+use Rattle.std.specs.Prelude.{ℕ, ◌≡◌, Bool, List}
+use Rattle.litmus_values.specs.declared.test.Place.{Place}
+use Rattle.litmus_values.specs.declared.test.Quantifier.{Quantifier}
+use Rattle.litmus_values.specs.Value.{Formula}
+use Rattle.candidates.specs.Space.{Shown}
+use Rattle.verdict.specs.Evaluated.{IsOutcome}
+use Rattle.verdict.specs.Kept.{Flag}
+use Rattle.verdict.specs.declared.answer.Outcome.{Outcome}
+
+-- an outcome is the only one of its locations, its executions, its condition, what it observes, and the answers of checks and flags
+abbrev pub HasOneOutcome : List (List ℕ) → List Shown → Quantifier → Formula → List Place → List (List Bool) → List Flag → Type 0
+HasOneOutcome locations executions kind proposition observed checks flags =
+    (o p : Outcome) → IsOutcome locations executions kind proposition observed checks flags o → IsOutcome locations executions kind proposition observed checks flags p → o ≡ p

@@ -1,0 +1,14 @@
+//! Laws of outcomes.
+
+ghost use Rattle.std.specs.Prelude.{ℕ, Bool, List};
+ghost use Rattle.litmus_values.specs.declared.test.Place.{Place};
+ghost use Rattle.litmus_values.specs.declared.test.Quantifier.{Quantifier};
+ghost use Rattle.litmus_values.specs.Value.{Formula};
+ghost use Rattle.candidates.specs.Space.{Shown};
+ghost use Rattle.verdict.specs.Kept.{Flag};
+ghost use Rattle.verdict.specs.Laws.{HasOneOutcome};
+
+/// Executions, a condition and the answers of checks and flags have one outcome.
+pub fn outcome_is_one()
+    ensures { (locations : List (List ℕ)) (executions : List Shown) (kind : Quantifier) (proposition : Formula) (observed : List Place) (checks : List (List Bool)) (flags : List Flag) → HasOneOutcome locations executions kind proposition observed checks flags }
+{}
