@@ -10,20 +10,20 @@ use Rattle.bench_texts.specs.BenchTexts.{BenchTexts, put_at, changed_at, with_in
 use Rattle.bench_texts.specs.Held.{model_of, texts_of}
 
 -- the texts after the change
-abbrev pub changed : Change → BenchTexts → BenchTexts
-changed (changes.PutTest at test) t = with_tests (put_at at (content_of test)) t
-changed (changes.DropTest at) t = with_tests (λ ts. remove ts at) t
-changed (changes.SetInit at init) t = with_tests (changed_at at (with_init init.items)) t
-changed (changes.SetThread at thread other) t = with_tests (changed_at at (with_thread thread (steps_of other))) t
-changed (changes.SetCondition at c) t = with_tests (changed_at at (with_condition (c.quantifier, formula_of c.proposition))) t
-changed (changes.SetObserved at observed) t = with_tests (changed_at at (with_observed observed.items)) t
-changed (changes.PutModel at model next) t = with_models (put_at at (model_of model)) next t
-changed (changes.DropModel at) t = with_models (λ ms. remove ms at) t.next t
-changed (changes.SetItem at index number item) t =
+abbrev pub texts_after : Change → BenchTexts → BenchTexts
+texts_after (changes.PutTest at test) t = with_tests (put_at at (content_of test)) t
+texts_after (changes.DropTest at) t = with_tests (λ ts. remove ts at) t
+texts_after (changes.SetInit at init) t = with_tests (changed_at at (with_init init.items)) t
+texts_after (changes.SetThread at thread other) t = with_tests (changed_at at (with_thread thread (steps_of other))) t
+texts_after (changes.SetCond at c) t = with_tests (changed_at at (with_condition (c.quantifier, formula_of c.proposition))) t
+texts_after (changes.SetObserved at observed) t = with_tests (changed_at at (with_observed observed.items)) t
+texts_after (changes.PutModel at model next) t = with_models (put_at at (model_of model)) next t
+texts_after (changes.DropModel at) t = with_models (λ ms. remove ms at) t.next t
+texts_after (changes.SetItem at index number item) t =
     with_models (changed_at at (with_items (put_at index (record { number = number; clause = clause_of item })))) t.next t
-changed (changes.InsertItem at index item) t =
+texts_after (changes.InsertItem at index item) t =
     with_models (changed_at at (with_items (λ is. insert is index (record { number = t.next; clause = clause_of item })))) (t.next + 1) t
-changed (changes.RemoveItem at index) t = with_models (changed_at at (with_items (λ is. remove is index))) t.next t
+texts_after (changes.RemoveItem at index) t = with_models (changed_at at (with_items (λ is. remove is index))) t.next t
 
 -- what it changes is there, and there is room for one more where it adds one
 abbrev pub IsReady : Texts → Change → Type 0
@@ -31,7 +31,7 @@ IsReady t (changes.PutTest at test) = (at ≤ vec_len t.tests) × (at ≡ vec_le
 IsReady t (changes.DropTest at) = at < vec_len t.tests
 IsReady t (changes.SetInit at init) = at < vec_len t.tests
 IsReady t (changes.SetThread at thread other) = (at < vec_len t.tests) × HoldsAt (λ c. thread < length c.threads) (texts_of t).tests at
-IsReady t (changes.SetCondition at c) = at < vec_len t.tests
+IsReady t (changes.SetCond at c) = at < vec_len t.tests
 IsReady t (changes.SetObserved at observed) = at < vec_len t.tests
 IsReady t (changes.PutModel at model next) = (at ≤ vec_len t.models) × (at ≡ vec_len t.models → vec_len t.models < vec_capacity t.models)
 IsReady t (changes.DropModel at) = at < vec_len t.models

@@ -35,7 +35,7 @@ pub enum Change {
         other: Thread,
     },
     /// A test gets another condition.
-    SetCondition {
+    SetCond {
         at: usize,
         condition: Condition,
     },
@@ -94,12 +94,12 @@ impl Texts {
     ghost use Rattle.cat_values.specs.Values.{clause_of};
     ghost use Rattle.bench_texts.specs.BenchTexts.{put_at, changed_at, with_items, with_tests, with_models};
     ghost use Rattle.bench_texts.specs.Held.{model_of, texts_of};
-    ghost use Rattle.bench_texts.specs.Changes.{changed, IsReady};
+    ghost use Rattle.bench_texts.specs.Changes.{texts_after, IsReady};
 
     /// Makes the change of an edit that was prepared on these texts. It takes no memory.
     pub fn commit(&mut self, prepared: Prepared)
         requires { IsReady self.old prepared.change }
-        ensures { texts_of self.new ≡ changed prepared.change (texts_of self.old) }
+        ensures { texts_of self.new ≡ texts_after prepared.change (texts_of self.old) }
     {
         let Prepared { change } = prepared;
         match change {
@@ -107,7 +107,7 @@ impl Texts {
             Change::DropTest { at } => drop(self.tests.remove(at)),
             Change::SetInit { at, init } => drop(replace(&mut self.tests[at].init, init)),
             Change::SetThread { at, thread, other } => self.set_thread(at, thread, other),
-            Change::SetCondition { at, condition } => {
+            Change::SetCond { at, condition } => {
                 drop(replace(&mut self.tests[at].condition, condition))
             }
             Change::SetObserved { at, observed } => {

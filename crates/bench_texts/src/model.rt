@@ -28,7 +28,7 @@ impl NamedModel {
     ghost use Rattle.std.specs.Prelude.{◌-◌, min, length, insert, remove, take, drop};
     ghost use Rattle.bench_texts.specs.Held.{model_of};
     ghost use Rattle.cat_values.specs.Values.{clause_of, clauses_of};
-    ghost use Rattle.bench_texts.specs.BenchTexts.{item_index, numbered, put_at, with_items};
+    ghost use Rattle.bench_texts.specs.BenchTexts.{item_index, numbered_items, put_at, with_items};
     ghost use Rattle.bench_texts.specs.Limits.{items_outputs};
 
     /// The model of a name and a text, whose items are numbered from `first` on.
@@ -39,7 +39,7 @@ impl NamedModel {
         first: u64,
     ) -> Result<NamedModel, AllocError>
         requires { first + vec_len text.items < 2 ^ 64 }
-        ensures { IfOk result (λ m. model_of m ≡ record { name = name.now; items = numbered first (clauses_of text.items.items) }) }
+        ensures { IfOk result (λ m. model_of m ≡ record { name = name.now; items = numbered_items first (clauses_of text.items.items) }) }
     {
         let name = Name::new(alloc, name)?;
         let ModelText { mut items } = text;

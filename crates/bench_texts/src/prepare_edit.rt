@@ -2,7 +2,7 @@
 
 ghost use Rattle.std.specs.Prelude.{◌≡◌, IfOk, MatchResult};
 ghost use Rattle.bench_texts.specs.Held.{texts_of};
-ghost use Rattle.bench_texts.specs.Changes.{changed, IsReady};
+ghost use Rattle.bench_texts.specs.Changes.{texts_after, IsReady};
 ghost use Rattle.bench_texts.specs.Edits.{edit_of, Applies, Refuses};
 ghost use Rattle.bench_texts.specs.Answers.{Answers};
 
@@ -22,7 +22,7 @@ impl Texts {
         spent: bool,
     ) -> Result<Prepared, EditFault>
         // It is accepted, and these are the texts that `commit` makes, or it is refused.
-        ensures answer { MatchResult result (λ p. Applies (texts_of self.old) spent (edit_of edit.now) (changed p.change (texts_of self.old))) (Refuses (texts_of self.old) spent (edit_of edit.now)) }
+        ensures answer { MatchResult result (λ p. Applies (texts_of self.old) spent (edit_of edit.now) (texts_after p.change (texts_of self.old))) (Refuses (texts_of self.old) spent (edit_of edit.now)) }
         // `commit` can be called.
         ensures ready { IfOk result (λ p. IsReady self.new p.change) }
         // No text is changed.
@@ -52,7 +52,7 @@ impl Texts {
             Edit::SetThread { test, thread, text } => {
                 self.prepare_thread(alloc, test, *thread, text, spent)
             }
-            Edit::SetCondition { test, text } => self.prepare_condition(alloc, test, text, spent),
+            Edit::SetCond { test, text } => self.prepare_condition(alloc, test, text, spent),
             Edit::SetLocations { test, text } => self.prepare_locations(alloc, test, text, spent),
             Edit::PutModel { model, text } => self.prepare_put_model(alloc, model, text, spent),
             Edit::DropModel { model } => self.prepare_drop_model(model, spent),
