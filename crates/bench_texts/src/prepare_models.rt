@@ -48,7 +48,7 @@ impl Texts {
     ghost use Rattle.bench_texts.specs.declared.fault.EditFault.TheVariants.{NoModel};
     ghost use Rattle.bench_texts.specs.BenchTexts.{model_index, put_at, numbered_items, with_models};
     ghost use Rattle.cat_values.specs.Values.{clauses_of};
-    ghost use Rattle.bench_texts.specs.Held.{texts_of};
+    ghost use Rattle.bench_texts.specs.Held.{texts_of, AreRead};
     ghost use Rattle.bench_texts.specs.Limits.{models_outputs};
     ghost use Rattle.bench_texts.specs.Changes.{IsReady, texts_after};
     ghost use Rattle.bench_texts.specs.Edits.{PutModel, DropModel, has_model, limit_fault};
@@ -127,6 +127,7 @@ impl Texts {
         ensures change { IfOk result (λ c. texts_after c (texts_of self.old) ≡ with_models (put_at at (record { name = name.now; items = numbered_items (texts_of self.old).next (clauses_of text.items.items) })) ((texts_of self.old).next + length (clauses_of text.items.items)) (texts_of self.old)) }
         ensures ready { IfOk result (IsReady self.new) }
         ensures kept { texts_of self.new ≡ texts_of self.old }
+        ensures read { AreRead self.old → AreRead self.new }
     {
         let next = self.next + text.items.len() as u64;
         let model = NamedModel::new(alloc, name, text, self.next)?;
@@ -144,6 +145,7 @@ impl Texts {
         ensures answer { Answers (texts_of self.old) spent (PutModel model.now text.now) result }
         ensures ready { IfOk result (IsReady self.new) }
         ensures kept { texts_of self.new ≡ texts_of self.old }
+        ensures read { AreRead self.old → AreRead self.new }
     {
         if !is_model_name(model) {
             return Err(EditFault::NoModel);
