@@ -97,7 +97,7 @@ impl Texts {
     ghost use Rattle.cat_values.specs.Values.{clause_of};
     ghost use Rattle.bench_texts.specs.BenchTexts.{put_at, changed_at, with_items, with_tests, with_models};
     ghost use Rattle.bench_texts.specs.Held.{model_of, texts_of, IsRead, AreRead};
-    ghost use Rattle.bench_texts.specs.Readings.{IsReading};
+    ghost use Rattle.bench_texts.specs.declared.change.Change.TheVariants as changes;
     ghost use Rattle.bench_texts.specs.Changes.{texts_after, HasReading, IsPrepared};
 
     /// Makes the change of an edit that was prepared on these texts. It takes no memory.
@@ -179,7 +179,7 @@ impl Texts {
     )
         requires model { at < vec_len self.old.models }
         requires index { HoldsAt (λ m. index < length m.items) (texts_of self.old).models at }
-        requires reading { MatchOption reading ⊥ (λ r. HoldsAt (λ m. IsReading (slice_set m.text.items.items index item) r) self.old.models.items at) }
+        requires reading { HasReading self.old (changes.SetItem at index number item) reading }
         ensures texts { texts_of self.new ≡ with_models (changed_at at (with_items (put_at index (record { number = number; clause = clause_of item })))) self.old.next (texts_of self.old) }
         ensures read { AreRead self.old → AreRead self.new }
     {
@@ -193,7 +193,7 @@ impl Texts {
         requires index { HoldsAt (λ m. index ≤ length m.items) (texts_of self.old).models at }
         requires room { HoldsAt (λ m. length m.items < 256) (texts_of self.old).models at }
         requires next { self.old.next + 1 < 2 ^ 64 }
-        requires reading { MatchOption reading ⊥ (λ r. HoldsAt (λ m. IsReading (insert m.text.items.items index item) r) self.old.models.items at) }
+        requires reading { HasReading self.old (changes.InsertItem at index item) reading }
         ensures texts { texts_of self.new ≡ with_models (changed_at at (with_items (λ is. insert is index (record { number = self.old.next; clause = clause_of item })))) (self.old.next + 1) (texts_of self.old) }
         ensures read { AreRead self.old → AreRead self.new }
     {
@@ -206,7 +206,7 @@ impl Texts {
     fn remove_item(&mut self, at: usize, index: usize, reading: Option<Reading>)
         requires model { at < vec_len self.old.models }
         requires index { HoldsAt (λ m. index < length m.items) (texts_of self.old).models at }
-        requires reading { MatchOption reading ⊥ (λ r. HoldsAt (λ m. IsReading (remove m.text.items.items index) r) self.old.models.items at) }
+        requires reading { HasReading self.old (changes.RemoveItem at index) reading }
         ensures texts { texts_of self.new ≡ with_models (changed_at at (with_items (λ is. remove is index))) self.old.next (texts_of self.old) }
         ensures read { AreRead self.old → AreRead self.new }
     {
