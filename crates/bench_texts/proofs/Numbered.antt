@@ -6,7 +6,7 @@ use Rattle.std.specs.List.{sum_by, insert, remove, position_or_len, range_with_l
 use Rattle.std.proofs.lemmas.List.Sums.{sum_by-cons}
 use Rattle.cat_values.specs.declared.model.Item.{Item}
 use Rattle.cat_values.specs.Values.{clause_of, clauses_of}
-use Rattle.bench_texts.specs.BenchTexts.{items_of, item_index, put_at, numbered}
+use Rattle.bench_texts.specs.BenchTexts.{items_of, item_index, put_at, numbered_items}
 use Rattle.bench_texts.specs.Limits.{clause_outputs, items_outputs}
 
 pub length-items_of : (ns : List ℕ) (is : List Item) → length ns ≡ length is → length (items_of ns is) ≡ length is
@@ -78,7 +78,7 @@ pub outputs-items_of : (ns : List ℕ) (is : List Item) → length ns ≡ length
 outputs-items_of ns is e = outputs-drop ns is 0 e
 
 -- items that are numbered from a number on
-pub items_of-range : (n : ℕ) (is : List Item) → items_of (range_with_len n (length is)) is ≡ numbered n (clauses_of is)
+pub items_of-range : (n : ℕ) (is : List Item) → items_of (range_with_len n (length is)) is ≡ numbered_items n (clauses_of is)
 items_of-range n [] = refl
 items_of-range n (i ∷ is) = ap (λ r. record { number = n; clause = clause_of i } ∷ r) (items_of-range (n + 1) is)
 
@@ -92,13 +92,13 @@ range-more a n = rw add-one (range-last a n (a + n) refl)
 pub length-range : (a n : ℕ) → length (range_with_len a n) ≡ n
 length-range a n = length-range_with_len a n
 
-pub items_of-numbered : (ns : List ℕ) (n k : ℕ) (is : List Item) → ns ≡ range_with_len n k → k ≡ length is → items_of ns is ≡ numbered n (clauses_of is)
+pub items_of-numbered : (ns : List ℕ) (n k : ℕ) (is : List Item) → ns ≡ range_with_len n k → k ≡ length is → items_of ns is ≡ numbered_items n (clauses_of is)
 items_of-numbered ns n k is e l = rw (e, l) (items_of-range n is)
 
-pub outputs-numbered : (n : ℕ) (is : List Item) → items_outputs (numbered n (clauses_of is)) ≡ sum_by (λ i. clause_outputs (clause_of i)) is
+pub outputs-numbered : (n : ℕ) (is : List Item) → items_outputs (numbered_items n (clauses_of is)) ≡ sum_by (λ i. clause_outputs (clause_of i)) is
 outputs-numbered n [] = refl
 outputs-numbered n (i ∷ is) =
-    let a = sum_by-cons (λ i. clause_outputs i.clause) (record { number = n; clause = clause_of i }) (numbered (n + 1) (clauses_of is)) in
+    let a = sum_by-cons (λ i. clause_outputs i.clause) (record { number = n; clause = clause_of i }) (numbered_items (n + 1) (clauses_of is)) in
     let b = sum_by-cons (λ i. clause_outputs (clause_of i)) i is in let r = outputs-numbered (n + 1) is in cc
 
 pub ruleset numbered_lemmas = (length-items_of, items_of-set, items_of-insert, items_of-remove, item_index-items_of, outputs-take, outputs-drop, outputs-items_of, range-more, length-range)

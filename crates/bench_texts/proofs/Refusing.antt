@@ -7,7 +7,7 @@ use Rattle.bench_texts.specs.BenchTexts.{BenchTexts}
 use Rattle.bench_texts.specs.Limits.{is_full, is_spent}
 use Rattle.bench_texts.specs.declared.change.Change.{Change}
 use Rattle.bench_texts.specs.declared.texts.Texts.{Texts}
-use Rattle.bench_texts.specs.Changes.{changed, IsReady}
+use Rattle.bench_texts.specs.Changes.{texts_after, IsReady}
 use Rattle.bench_texts.specs.Edits.{Edit, missing, Makes, limit_fault, Applies, Refuses}
 use Rattle.bench_texts.specs.Answers.{Answers, IsLimited}
 
@@ -23,10 +23,10 @@ refused_by_limit t new spent e f there makes limit = elim (refused_so (is_full n
   | inr h ↦ subst (λ g. Refuses t spent e g) (sym h) (there, record { new = new; makes = makes; limit = limit ∙ ap Some h })
 ]
 
-pub limited_answers : (t : BenchTexts) (spent : Bool) (e : Edit) (change : Change) (r : Result Change EditFault) → missing t e ≡ None → Makes t e (changed change t) → IsLimited t spent change (changed change t) r → Answers t spent e r
+pub limited_answers : (t : BenchTexts) (spent : Bool) (e : Edit) (change : Change) (r : Result Change EditFault) → missing t e ≡ None → Makes t e (texts_after change t) → IsLimited t spent change (texts_after change t) r → Answers t spent e r
 limited_answers t spent e change (Ok c) there makes l =
-    subst (λ d. Applies t spent e (changed d t)) (sym l.0) (record { all_there = there; makes = makes; within = l.1 })
-limited_answers t spent e change (Err f) there makes l = refused_by_limit t (changed change t) spent e f there makes l
+    subst (λ d. Applies t spent e (texts_after d t)) (sym l.0) (record { all_there = there; makes = makes; within = l.1 })
+limited_answers t spent e change (Err f) there makes l = refused_by_limit t (texts_after change t) spent e f there makes l
 
 pub limited_ready : (t : BenchTexts) (texts : Texts) (spent : Bool) (change : Change) (new : BenchTexts) (r : Result Change EditFault) → IsReady texts change → IsLimited t spent change new r → IfOk r (IsReady texts)
 limited_ready t texts spent change new (Ok c) ready l = subst (IsReady texts) (sym l.0) ready

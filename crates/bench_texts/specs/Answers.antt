@@ -8,11 +8,11 @@ use Rattle.litmus_ppc.specs.declared.fault.LitmusFault.TheVariants as litmus
 use Rattle.cat_syntax.specs.declared.fault.CatFault.{CatFault}
 use Rattle.cat_syntax.specs.declared.fault.CatFault.TheVariants as cat
 use Rattle.bench_texts.specs.BenchTexts.{BenchTexts}
-use Rattle.bench_texts.specs.Changes.{changed}
+use Rattle.bench_texts.specs.Changes.{texts_after}
 use Rattle.bench_texts.specs.Edits.{Edit, limit_fault, Applies, Refuses}
 
 abbrev pub Answers : BenchTexts → Bool → Edit → Result Change EditFault → Type 0
-Answers t spent e (Ok change) = Applies t spent e (changed change t)
+Answers t spent e (Ok change) = Applies t spent e (texts_after change t)
 Answers t spent e (Err fault) = Refuses t spent e fault
 
 -- the change, unless the texts that it makes are over a limit

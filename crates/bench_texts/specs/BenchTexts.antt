@@ -78,9 +78,9 @@ with_models f next t = record { tests = t.tests; models = f t.models; next = nex
 -- ---- items
 
 -- the clauses with the numbers from that one on
-abbrev pub numbered : ℕ → List Clause → List NumberedItem
-numbered n [] = []
-numbered n (c ∷ cs) = record { number = n; clause = c } ∷ numbered (n + 1) cs
+abbrev pub numbered_items : ℕ → List Clause → List NumberedItem
+numbered_items n [] = []
+numbered_items n (c ∷ cs) = record { number = n; clause = c } ∷ numbered_items (n + 1) cs
 
 -- each item with its number
 abbrev pub items_of : List ℕ → List Item → List NumberedItem

@@ -20,7 +20,7 @@ use Rattle.bench_texts.specs.declared.edit.Edit as code
 use Rattle.bench_texts.specs.declared.edit.Edit.TheVariants as edits
 use Rattle.bench_texts.specs.declared.fault.EditFault.{EditFault}
 use Rattle.bench_texts.specs.declared.fault.EditFault.TheVariants as faults
-use Rattle.bench_texts.specs.BenchTexts.{NumberedItem, BenchTexts, test_index, model_index, item_index, put_at, changed_at, with_init, with_thread, with_condition, with_observed, with_items, with_tests, with_models, numbered}
+use Rattle.bench_texts.specs.BenchTexts.{NumberedItem, BenchTexts, test_index, model_index, item_index, put_at, changed_at, with_init, with_thread, with_condition, with_observed, with_items, with_tests, with_models, numbered_items}
 use Rattle.bench_texts.specs.Limits.{is_full, is_spent, is_model_name}
 
 -- an edit, without where it lies in memory
@@ -29,7 +29,7 @@ pub data Edit : Type 0 where
   DropTest : (test : List ℕ) → Edit
   SetInit : (test text : List ℕ) → Edit
   SetThread : (test : List ℕ) (thread : ℕ) (text : List ℕ) → Edit
-  SetCondition : (test text : List ℕ) → Edit
+  SetCond : (test text : List ℕ) → Edit
   SetLocations : (test text : List ℕ) → Edit
   PutModel : (model text : List ℕ) → Edit
   DropModel : (model : List ℕ) → Edit
@@ -42,7 +42,7 @@ edit_of (edits.PutTest text) = PutTest text.items
 edit_of (edits.DropTest test) = DropTest test.items
 edit_of (edits.SetInit test text) = SetInit test.items text.items
 edit_of (edits.SetThread test thread text) = SetThread test.items thread text.items
-edit_of (edits.SetCondition test text) = SetCondition test.items text.items
+edit_of (edits.SetCond test text) = SetCond test.items text.items
 edit_of (edits.SetLocations test text) = SetLocations test.items text.items
 edit_of (edits.PutModel model text) = PutModel model.items text.items
 edit_of (edits.DropModel model) = DropModel model.items
@@ -89,7 +89,7 @@ missing t (PutTest text) = None
 missing t (DropTest test) = unless (has_test t test) faults.NoTest None
 missing t (SetInit test text) = unless (has_test t test) faults.NoTest None
 missing t (SetThread test thread text) = unless (has_test t test) faults.NoTest (unless (nat_lt thread (thread_count t test)) faults.NoThread None)
-missing t (SetCondition test text) = unless (has_test t test) faults.NoTest None
+missing t (SetCond test text) = unless (has_test t test) faults.NoTest None
 missing t (SetLocations test text) = unless (has_test t test) faults.NoTest None
 missing t (PutModel model text) = unless (is_model_name model) faults.NoModel None
 missing t (DropModel model) = unless (has_model t model) faults.NoModel None
@@ -106,12 +106,12 @@ Makes t (SetInit test text) new =
     (v : List InitEntry) × ReadsInit (thread_count t test) text v × (new ≡ with_tests (changed_at (test_index test t.tests) (with_init v)) t)
 Makes t (SetThread test thread text) new =
     (v : List Step) × ReadsThread text v × (new ≡ with_tests (changed_at (test_index test t.tests) (with_thread thread v)) t)
-Makes t (SetCondition test text) new =
+Makes t (SetCond test text) new =
     (v : Quantifier × Formula) × ReadsCondition (thread_count t test) text v × (new ≡ with_tests (changed_at (test_index test t.tests) (with_condition v)) t)
 Makes t (SetLocations test text) new =
     (v : List Place) × ReadsLocations (thread_count t test) text v × (new ≡ with_tests (changed_at (test_index test t.tests) (with_observed v)) t)
 Makes t (PutModel model text) new =
-    (cs : List Clause) × Reads forms.Model text cs × (new ≡ with_models (put_at (model_index model t.models) (record { name = model; items = numbered t.next cs })) (t.next + length cs) t)
+    (cs : List Clause) × Reads forms.Model text cs × (new ≡ with_models (put_at (model_index model t.models) (record { name = model; items = numbered_items t.next cs })) (t.next + length cs) t)
 Makes t (DropModel model) new = new ≡ with_models (λ ms. remove ms (model_index model t.models)) t.next t
 Makes t (SetItem model item text) new =
     (c : Clause) × Reads forms.Item text (c ∷ []) × (new ≡ with_models (changed_at (model_index model t.models) (with_items (put_at (index_in t model item) (record { number = item; clause = c })))) t.next t)
@@ -126,7 +126,7 @@ abbrev pub IsTestRefused : BenchTexts → Edit → LitmusRule → ℕ → Type 0
 IsTestRefused t (PutTest text) rule place = IsTestFault text rule place
 IsTestRefused t (SetInit test text) rule place = IsInitFault (thread_count t test) text rule place
 IsTestRefused t (SetThread test thread text) rule place = IsThreadFault text rule place
-IsTestRefused t (SetCondition test text) rule place = IsConditionFault (thread_count t test) text rule place
+IsTestRefused t (SetCond test text) rule place = IsConditionFault (thread_count t test) text rule place
 IsTestRefused t (SetLocations test text) rule place = IsLocationsFault (thread_count t test) text rule place
 IsTestRefused t _ rule place = ⊥
 

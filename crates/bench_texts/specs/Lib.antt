@@ -1,5 +1,6 @@
 pub mod BenchTexts
 pub mod Limits
+pub mod Readings
 pub mod Held
 pub mod Changes
 pub mod Edits

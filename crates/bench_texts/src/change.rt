@@ -6,6 +6,7 @@ ghost use Rattle.litmus_values.specs.Value.{content_of, steps_of};
 ghost use Rattle.bench_texts.specs.BenchTexts.{with_thread};
 
 use crate::model::NamedModel;
+use crate::reading::Reading;
 use crate::texts::Texts;
 use cat_values::Item;
 use litmus_values::{Condition, InitEntry, Place, Test, Thread};
@@ -35,7 +36,7 @@ pub enum Change {
         other: Thread,
     },
     /// A test gets another condition.
-    SetCondition {
+    SetCond {
         at: usize,
         condition: Condition,
     },
@@ -78,6 +79,8 @@ pub enum Change {
 #[derive(Drop)]
 pub struct Prepared {
     pub(crate) change: Change,
+    // What the items of its model are resolved to afterwards, where it changes an item.
+    pub(crate) reading: Option<Reading>,
 }
 
 // Puts a thread in the place of the one of that number.
@@ -89,25 +92,28 @@ fn replace_thread(test: &mut Test, thread: usize, other: Thread)
 }
 
 impl Texts {
-    ghost use Rattle.std.specs.Prelude.{◌≤◌, ◌+◌, ◌^◌, vec_capacity, insert, length};
+    ghost use Rattle.std.specs.Prelude.{◌≤◌, ◌+◌, ◌^◌, vec_capacity, insert, remove, slice_set, length, MatchOption};
     ghost use Rattle.std.specs.List.{HoldsAt};
     ghost use Rattle.cat_values.specs.Values.{clause_of};
     ghost use Rattle.bench_texts.specs.BenchTexts.{put_at, changed_at, with_items, with_tests, with_models};
-    ghost use Rattle.bench_texts.specs.Held.{model_of, texts_of};
-    ghost use Rattle.bench_texts.specs.Changes.{changed, IsReady};
+    ghost use Rattle.bench_texts.specs.Held.{model_of, texts_of, IsRead, AreRead};
+    ghost use Rattle.bench_texts.specs.declared.change.Change.TheVariants as changes;
+    ghost use Rattle.bench_texts.specs.Changes.{texts_after, HasReading, IsPrepared};
 
     /// Makes the change of an edit that was prepared on these texts. It takes no memory.
     pub fn commit(&mut self, prepared: Prepared)
-        requires { IsReady self.old prepared.change }
-        ensures { texts_of self.new ≡ changed prepared.change (texts_of self.old) }
+        requires { IsPrepared self.old prepared }
+        ensures texts { texts_of self.new ≡ texts_after prepared.change (texts_of self.old) }
+        // Each model holds what its items are resolved to.
+        ensures read { AreRead self.old → AreRead self.new }
     {
-        let Prepared { change } = prepared;
+        let Prepared { change, reading } = prepared;
         match change {
             Change::PutTest { at, test } => self.put_test(at, test),
             Change::DropTest { at } => drop(self.tests.remove(at)),
             Change::SetInit { at, init } => drop(replace(&mut self.tests[at].init, init)),
             Change::SetThread { at, thread, other } => self.set_thread(at, thread, other),
-            Change::SetCondition { at, condition } => {
+            Change::SetCond { at, condition } => {
                 drop(replace(&mut self.tests[at].condition, condition))
             }
             Change::SetObserved { at, observed } => {
@@ -120,16 +126,17 @@ impl Texts {
                 index,
                 number,
                 item,
-            } => drop(self.models[at].set_item(index, number, item)),
-            Change::InsertItem { at, index, item } => self.insert_item(at, index, item),
-            Change::RemoveItem { at, index } => drop(self.models[at].remove_item(index)),
+            } => self.set_item(at, index, number, item, reading),
+            Change::InsertItem { at, index, item } => self.insert_item(at, index, item, reading),
+            Change::RemoveItem { at, index } => self.remove_item(at, index, reading),
         }
     }
 
     fn put_test(&mut self, at: usize, test: Test)
         requires index { at ≤ vec_len self.old.tests }
         requires room { at ≡ vec_len self.old.tests → vec_len self.old.tests < vec_capacity self.old.tests }
-        ensures { texts_of self.new ≡ with_tests (put_at at (content_of test)) (texts_of self.old) }
+        ensures texts { texts_of self.new ≡ with_tests (put_at at (content_of test)) (texts_of self.old) }
+        ensures models { self.new.models ≡ self.old.models }
     {
         if at < self.tests.len() {
             drop(replace(&mut self.tests[at], test));
@@ -141,7 +148,8 @@ impl Texts {
     fn set_thread(&mut self, at: usize, thread: usize, other: Thread)
         requires index { at < vec_len self.old.tests }
         requires thread { HoldsAt (λ c. thread < length c.threads) (texts_of self.old).tests at }
-        ensures { texts_of self.new ≡ with_tests (changed_at at (with_thread thread (steps_of other))) (texts_of self.old) }
+        ensures texts { texts_of self.new ≡ with_tests (changed_at at (with_thread thread (steps_of other))) (texts_of self.old) }
+        ensures models { self.new.models ≡ self.old.models }
     {
         replace_thread(&mut self.tests[at], thread, other);
     }
@@ -149,7 +157,9 @@ impl Texts {
     fn put_model(&mut self, at: usize, model: NamedModel, next: u64)
         requires index { at ≤ vec_len self.old.models }
         requires room { at ≡ vec_len self.old.models → vec_len self.old.models < vec_capacity self.old.models }
-        ensures { texts_of self.new ≡ with_models (put_at at (model_of model)) next (texts_of self.old) }
+        requires read { IsRead model }
+        ensures texts { texts_of self.new ≡ with_models (put_at at (model_of model)) next (texts_of self.old) }
+        ensures read { AreRead self.old → AreRead self.new }
     {
         self.next = next;
         if at < self.models.len() {
@@ -159,14 +169,49 @@ impl Texts {
         }
     }
 
-    fn insert_item(&mut self, at: usize, index: usize, item: Item)
+    fn set_item(
+        &mut self,
+        at: usize,
+        index: usize,
+        number: u64,
+        item: Item,
+        reading: Option<Reading>,
+    )
+        requires model { at < vec_len self.old.models }
+        requires index { HoldsAt (λ m. index < length m.items) (texts_of self.old).models at }
+        requires reading { HasReading self.old (changes.SetItem at index number item) reading }
+        ensures texts { texts_of self.new ≡ with_models (changed_at at (with_items (put_at index (record { number = number; clause = clause_of item })))) self.old.next (texts_of self.old) }
+        ensures read { AreRead self.old → AreRead self.new }
+    {
+        if let Some(reading) = reading {
+            drop(self.models[at].set_item(index, number, item, reading));
+        }
+    }
+
+    fn insert_item(&mut self, at: usize, index: usize, item: Item, reading: Option<Reading>)
         requires model { at < vec_len self.old.models }
         requires index { HoldsAt (λ m. index ≤ length m.items) (texts_of self.old).models at }
         requires room { HoldsAt (λ m. length m.items < 256) (texts_of self.old).models at }
         requires next { self.old.next + 1 < 2 ^ 64 }
-        ensures { texts_of self.new ≡ with_models (changed_at at (with_items (λ is. insert is index (record { number = self.old.next; clause = clause_of item })))) (self.old.next + 1) (texts_of self.old) }
+        requires reading { HasReading self.old (changes.InsertItem at index item) reading }
+        ensures texts { texts_of self.new ≡ with_models (changed_at at (with_items (λ is. insert is index (record { number = self.old.next; clause = clause_of item })))) (self.old.next + 1) (texts_of self.old) }
+        ensures read { AreRead self.old → AreRead self.new }
     {
-        self.models[at].insert_item(index, self.next, item);
-        self.next += 1;
+        if let Some(reading) = reading {
+            self.models[at].insert_item(index, self.next, item, reading);
+            self.next += 1;
+        }
+    }
+
+    fn remove_item(&mut self, at: usize, index: usize, reading: Option<Reading>)
+        requires model { at < vec_len self.old.models }
+        requires index { HoldsAt (λ m. index < length m.items) (texts_of self.old).models at }
+        requires reading { HasReading self.old (changes.RemoveItem at index) reading }
+        ensures texts { texts_of self.new ≡ with_models (changed_at at (with_items (λ is. remove is index))) self.old.next (texts_of self.old) }
+        ensures read { AreRead self.old → AreRead self.new }
+    {
+        if let Some(reading) = reading {
+            drop(self.models[at].remove_item(index, reading));
+        }
     }
 }

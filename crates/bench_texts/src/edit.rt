@@ -24,7 +24,7 @@ pub enum Edit {
         text: Vec<u8>,
     },
     /// Its condition becomes this one.
-    SetCondition {
+    SetCond {
         test: Vec<u8>,
         text: Vec<u8>,
     },

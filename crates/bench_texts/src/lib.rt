@@ -13,6 +13,8 @@ mod prepare;
 mod prepare_edit;
 mod prepare_items;
 mod prepare_models;
+mod read_change;
+mod reading;
 mod texts;
 
 pub use change::Prepared;
@@ -20,4 +22,5 @@ pub use edit::Edit;
 pub use fault::EditFault;
 pub use limits::{MAX_MODELS, MAX_OUTPUTS, MAX_TESTS};
 pub use model::{MAX_ITEMS, NamedModel};
+pub use reading::{Reading, read_items};
 pub use texts::Texts;

@@ -5,6 +5,7 @@ ghost use Rattle.std.specs.Prelude.{◌≡◌, ◌==◌, ◌<◌, ◌≤◌, ◌
 ghost use Rattle.std.specs.List.{position_or_len, range_with_len};
 
 use crate::count::count_items;
+use crate::reading::{Reading, Trial, read_items, try_insert, try_remove, try_set};
 use cat_values::{Item, ModelText};
 use source_text::Name;
 use std::alloc::{AllocError, Global};
@@ -13,22 +14,25 @@ use std::mem::replace;
 /// The most items that a model has.
 pub const MAX_ITEMS: usize = 256;
 
-/// A model on the bench: its name, and its items with their numbers. It has room for 256 items.
+/// A model on the bench: its name, and its items with their numbers and what they are resolved to. It has room for 256
+/// items.
 #[derive(Drop)]
 pub struct NamedModel {
     name: Name,
     text: ModelText,
     numbers: Vec<u64>,
+    reading: Reading,
     ghost paired: { vec_len numbers ≡ vec_len text.items },
     ghost room_for_items: { 256 ≤ vec_capacity text.items },
     ghost room_for_numbers: { 256 ≤ vec_capacity numbers },
 }
 
 impl NamedModel {
-    ghost use Rattle.std.specs.Prelude.{◌-◌, min, length, insert, remove, take, drop};
-    ghost use Rattle.bench_texts.specs.Held.{model_of};
+    ghost use Rattle.std.specs.Prelude.{◌-◌, min, length, insert, remove, take, drop, slice_set};
+    ghost use Rattle.bench_texts.specs.Held.{model_of, IsRead};
+    ghost use Rattle.bench_texts.specs.Readings.{IsReading};
     ghost use Rattle.cat_values.specs.Values.{clause_of, clauses_of};
-    ghost use Rattle.bench_texts.specs.BenchTexts.{item_index, numbered, put_at, with_items};
+    ghost use Rattle.bench_texts.specs.BenchTexts.{item_index, numbered_items, put_at, with_items};
     ghost use Rattle.bench_texts.specs.Limits.{items_outputs};
 
     /// The model of a name and a text, whose items are numbered from `first` on.
@@ -39,9 +43,11 @@ impl NamedModel {
         first: u64,
     ) -> Result<NamedModel, AllocError>
         requires { first + vec_len text.items < 2 ^ 64 }
-        ensures { IfOk result (λ m. model_of m ≡ record { name = name.now; items = numbered first (clauses_of text.items.items) }) }
+        ensures value { IfOk result (λ m. model_of m ≡ record { name = name.now; items = numbered_items first (clauses_of text.items.items) }) }
+        ensures read { IfOk result IsRead }
     {
         let name = Name::new(alloc, name)?;
+        let reading = read_items(alloc, &text)?;
         let ModelText { mut items } = text;
         let mut numbers = numbers_from(alloc, first, items.len())?;
         numbers.reserve(MAX_ITEMS.saturating_sub(items.len()))?;
@@ -51,6 +57,7 @@ impl NamedModel {
             name,
             text,
             numbers,
+            reading,
         })
     }
 
@@ -59,6 +66,27 @@ impl NamedModel {
         ensures { result.now ≡ (model_of self.now).name }
     {
         self.name.as_bytes()
+    }
+
+    /// Its items.
+    pub fn text(&self) -> &ModelText
+        ensures { result.now ≡ self.now.text }
+    {
+        &self.text
+    }
+
+    /// The numbers of its items, in their order.
+    pub fn numbers(&self) -> &[u64]
+        ensures { result.now ≡ self.now.numbers.items }
+    {
+        &self.numbers
+    }
+
+    /// What its items are resolved to, or its first fault.
+    pub fn reading(&self) -> &Reading
+        ensures { result.now ≡ self.now.reading }
+    {
+        &self.reading
     }
 
     /// How many items it has.
@@ -94,31 +122,79 @@ impl NamedModel {
     }
 
     /// Puts an item, and its number, in the place of another, which is returned.
-    pub(crate) fn set_item(&mut self, index: usize, number: u64, item: Item) -> Item
-        requires { index < length (model_of self.old).items }
-        ensures { model_of self.new ≡ with_items (put_at index (record { number = number; clause = clause_of item })) (model_of self.old) }
+    pub(crate) fn set_item(
+        &mut self,
+        index: usize,
+        number: u64,
+        item: Item,
+        reading: Reading,
+    ) -> Item
+        requires index { index < length (model_of self.old).items }
+        requires reading { IsReading (slice_set self.old.text.items.items index item) reading }
+        ensures value { model_of self.new ≡ with_items (put_at index (record { number = number; clause = clause_of item })) (model_of self.old) }
+        ensures read { IsRead self.new }
     {
+        self.reading = reading;
         self.numbers[index] = number;
         replace(&mut self.text.items[index], item)
     }
 
     /// Puts one item more before the one of that index.
-    pub(crate) fn insert_item(&mut self, index: usize, number: u64, item: Item)
+    pub(crate) fn insert_item(&mut self, index: usize, number: u64, item: Item, reading: Reading)
         requires index { index ≤ length (model_of self.old).items }
         requires room { length (model_of self.old).items < 256 }
-        ensures { model_of self.new ≡ with_items (λ is. insert is index (record { number = number; clause = clause_of item })) (model_of self.old) }
+        requires reading { IsReading (insert self.old.text.items.items index item) reading }
+        ensures value { model_of self.new ≡ with_items (λ is. insert is index (record { number = number; clause = clause_of item })) (model_of self.old) }
+        ensures read { IsRead self.new }
     {
+        self.reading = reading;
         let _ = self.numbers.insert(index, number);
         let _ = self.text.items.insert(index, item);
     }
 
     /// Takes an item away, which is returned.
-    pub(crate) fn remove_item(&mut self, index: usize) -> Item
-        requires { index < length (model_of self.old).items }
-        ensures { model_of self.new ≡ with_items (λ is. remove is index) (model_of self.old) }
+    pub(crate) fn remove_item(&mut self, index: usize, reading: Reading) -> Item
+        requires index { index < length (model_of self.old).items }
+        requires reading { IsReading (remove self.old.text.items.items index) reading }
+        ensures value { model_of self.new ≡ with_items (λ is. remove is index) (model_of self.old) }
+        ensures read { IsRead self.new }
     {
+        self.reading = reading;
         self.numbers.remove(index);
         self.text.items.remove(index)
+    }
+
+    /// What the items are resolved to with this one in the place of another. The model is as before.
+    pub(crate) fn try_set(&mut self, alloc: Global, index: usize, item: Item) -> Trial
+        requires { index < length (model_of self.old).items }
+        ensures item { result.item ≡ item }
+        ensures reading { IfOk result.reading (IsReading (slice_set self.new.text.items.items index item)) }
+        ensures kept { model_of self.new ≡ model_of self.old }
+        ensures read { IsRead self.old → IsRead self.new }
+    {
+        try_set(alloc, &mut self.text, index, item)
+    }
+
+    /// What the items are resolved to with one more before the one of that index. The model is as before.
+    pub(crate) fn try_insert(&mut self, alloc: Global, index: usize, item: Item) -> Trial
+        requires index { index ≤ length (model_of self.old).items }
+        requires room { length (model_of self.old).items < 256 }
+        ensures item { result.item ≡ item }
+        ensures reading { IfOk result.reading (IsReading (insert self.new.text.items.items index item)) }
+        ensures kept { model_of self.new ≡ model_of self.old }
+        ensures read { IsRead self.old → IsRead self.new }
+    {
+        try_insert(alloc, &mut self.text, index, item)
+    }
+
+    /// What the items are resolved to without one. The model is as before.
+    pub(crate) fn try_remove(&mut self, alloc: Global, index: usize) -> Result<Reading, AllocError>
+        requires { index < length (model_of self.old).items }
+        ensures reading { IfOk result (IsReading (remove self.new.text.items.items index)) }
+        ensures kept { model_of self.new ≡ model_of self.old }
+        ensures read { IsRead self.old → IsRead self.new }
+    {
+        try_remove(alloc, &mut self.text, index)
     }
 }
 

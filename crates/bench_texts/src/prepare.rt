@@ -29,9 +29,9 @@ impl Texts {
     ghost use Rattle.bench_texts.specs.BenchTexts.{test_index};
     ghost use Rattle.litmus_values.specs.Value.{content_of};
     ghost use Rattle.litmus_grammar.specs.Texts.{ReadsTest};
-    ghost use Rattle.bench_texts.specs.Held.{texts_of};
+    ghost use Rattle.bench_texts.specs.Held.{texts_of, AreRead};
     ghost use Rattle.bench_texts.specs.Changes.{IsReady};
-    ghost use Rattle.bench_texts.specs.Edits.{PutTest, DropTest, SetInit, SetThread, SetCondition, SetLocations, has_test, thread_count};
+    ghost use Rattle.bench_texts.specs.Edits.{PutTest, DropTest, SetInit, SetThread, SetCond, SetLocations, has_test, thread_count};
     ghost use Rattle.bench_texts.specs.Answers.{Answers};
 
     // The index of a test that is there.
@@ -115,12 +115,12 @@ impl Texts {
         text: &[u8],
         spent: bool,
     ) -> Result<Change, EditFault>
-        ensures answer { Answers (texts_of self.now) spent (SetCondition test.now text.now) result }
+        ensures answer { Answers (texts_of self.now) spent (SetCond test.now text.now) result }
         ensures ready { IfOk result (IsReady self.now) }
     {
         let at = self.find_test(test)?;
         match read_cond(alloc, text, self.threads_at(test, at)) {
-            Ok(condition) => self.limited_alike(Change::SetCondition { at, condition }, spent),
+            Ok(condition) => self.limited_alike(Change::SetCond { at, condition }, spent),
             Err(fault) => Err(test_fault(fault)),
         }
     }
@@ -151,6 +151,7 @@ impl Texts {
         ensures answer { Answers (texts_of self.old) spent (PutTest text.now) result }
         ensures ready { IfOk result (IsReady self.new) }
         ensures kept { texts_of self.new ≡ texts_of self.old }
+        ensures read { AreRead self.old → AreRead self.new }
     {
         let test = match read_test(alloc, text) {
             Ok(test) => test,

@@ -1,8 +1,8 @@
 //! Prepares any edit.
 
 ghost use Rattle.std.specs.Prelude.{◌≡◌, IfOk, MatchResult};
-ghost use Rattle.bench_texts.specs.Held.{texts_of};
-ghost use Rattle.bench_texts.specs.Changes.{changed, IsReady};
+ghost use Rattle.bench_texts.specs.Held.{texts_of, AreRead};
+ghost use Rattle.bench_texts.specs.Changes.{texts_after, IsReady, IsPrepared};
 ghost use Rattle.bench_texts.specs.Edits.{edit_of, Applies, Refuses};
 ghost use Rattle.bench_texts.specs.Answers.{Answers};
 
@@ -22,14 +22,19 @@ impl Texts {
         spent: bool,
     ) -> Result<Prepared, EditFault>
         // It is accepted, and these are the texts that `commit` makes, or it is refused.
-        ensures answer { MatchResult result (λ p. Applies (texts_of self.old) spent (edit_of edit.now) (changed p.change (texts_of self.old))) (Refuses (texts_of self.old) spent (edit_of edit.now)) }
+        ensures answer { MatchResult result (λ p. Applies (texts_of self.old) spent (edit_of edit.now) (texts_after p.change (texts_of self.old))) (Refuses (texts_of self.old) spent (edit_of edit.now)) }
         // `commit` can be called.
-        ensures ready { IfOk result (λ p. IsReady self.new p.change) }
+        ensures ready { IfOk result (IsPrepared self.new) }
         // No text is changed.
         ensures kept { texts_of self.new ≡ texts_of self.old }
+        // Each model holds what its items are resolved to.
+        ensures read { AreRead self.old → AreRead self.new }
     {
         match self.prepare_change(alloc, edit, spent) {
-            Ok(change) => Ok(Prepared { change }),
+            Ok(change) => match self.read_change(alloc, change) {
+                Ok(prepared) => Ok(prepared),
+                Err(error) => Err(EditFault::OutOfMemory(error)),
+            },
             Err(fault) => Err(fault),
         }
     }
@@ -44,6 +49,7 @@ impl Texts {
         ensures answer { Answers (texts_of self.old) spent (edit_of edit.now) result }
         ensures ready { IfOk result (IsReady self.new) }
         ensures kept { texts_of self.new ≡ texts_of self.old }
+        ensures read { AreRead self.old → AreRead self.new }
     {
         match edit {
             Edit::PutTest { text } => self.prepare_put_test(alloc, text, spent),
@@ -52,7 +58,7 @@ impl Texts {
             Edit::SetThread { test, thread, text } => {
                 self.prepare_thread(alloc, test, *thread, text, spent)
             }
-            Edit::SetCondition { test, text } => self.prepare_condition(alloc, test, text, spent),
+            Edit::SetCond { test, text } => self.prepare_condition(alloc, test, text, spent),
             Edit::SetLocations { test, text } => self.prepare_locations(alloc, test, text, spent),
             Edit::PutModel { model, text } => self.prepare_put_model(alloc, model, text, spent),
             Edit::DropModel { model } => self.prepare_drop_model(model, spent),

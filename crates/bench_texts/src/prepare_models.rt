@@ -46,11 +46,11 @@ fn is_model_name(name: &[u8]) -> bool
 impl Texts {
     ghost use Rattle.std.specs.Prelude.{◌<◌, ◌≤◌, ◌+◌, ◌-◌, ◌^◌, min, take, drop, length, IfOk, MatchResult, true, false, vec_len};
     ghost use Rattle.bench_texts.specs.declared.fault.EditFault.TheVariants.{NoModel};
-    ghost use Rattle.bench_texts.specs.BenchTexts.{model_index, put_at, numbered, with_models};
+    ghost use Rattle.bench_texts.specs.BenchTexts.{model_index, put_at, numbered_items, with_models};
     ghost use Rattle.cat_values.specs.Values.{clauses_of};
-    ghost use Rattle.bench_texts.specs.Held.{texts_of};
+    ghost use Rattle.bench_texts.specs.Held.{texts_of, AreRead};
     ghost use Rattle.bench_texts.specs.Limits.{models_outputs};
-    ghost use Rattle.bench_texts.specs.Changes.{IsReady, changed};
+    ghost use Rattle.bench_texts.specs.Changes.{IsReady, texts_after};
     ghost use Rattle.bench_texts.specs.Edits.{PutModel, DropModel, has_model, limit_fault};
     ghost use Rattle.bench_texts.specs.Answers.{Answers};
 
@@ -95,7 +95,7 @@ impl Texts {
     // The outputs of the models with one of these items at an index, or the greatest `usize` where these are more.
     fn outputs_put(&self, at: usize, items: &[Item]) -> usize
         requires { at ≤ vec_len self.now.models }
-        ensures { (name : List ℕ) (first : ℕ) → result ≡ min (models_outputs (put_at at (record { name = name; items = numbered first (clauses_of items.now) }) (texts_of self.now).models)) (2 ^ 64 - 1) }
+        ensures { (name : List ℕ) (first : ℕ) → result ≡ min (models_outputs (put_at at (record { name = name; items = numbered_items first (clauses_of items.now) }) (texts_of self.now).models)) (2 ^ 64 - 1) }
     {
         let of_model = count_items(items).saturating_add(1);
         if at < self.models.len() {
@@ -108,7 +108,7 @@ impl Texts {
     // Why the texts with a model of these items at an index are refused.
     fn put_fault(&self, at: usize, items: &[Item], spent: bool) -> Option<EditFault>
         requires { at ≤ vec_len self.now.models }
-        ensures { (name : List ℕ) (next : ℕ) → result ≡ limit_fault (texts_of self.now) spent (with_models (put_at at (record { name = name; items = numbered (texts_of self.now).next (clauses_of items.now) })) next (texts_of self.now)) }
+        ensures { (name : List ℕ) (next : ℕ) → result ≡ limit_fault (texts_of self.now) spent (with_models (put_at at (record { name = name; items = numbered_items (texts_of self.now).next (clauses_of items.now) })) next (texts_of self.now)) }
     {
         let models = self.models.len().max(at + 1);
         self.limit_fault(self.tests.len(), models, self.outputs_put(at, items), spent)
@@ -124,9 +124,10 @@ impl Texts {
     ) -> Result<Change, AllocError>
         requires index { at ≤ vec_len self.old.models }
         requires next { self.old.next ≤ 2 ^ 63 }
-        ensures change { IfOk result (λ c. changed c (texts_of self.old) ≡ with_models (put_at at (record { name = name.now; items = numbered (texts_of self.old).next (clauses_of text.items.items) })) ((texts_of self.old).next + length (clauses_of text.items.items)) (texts_of self.old)) }
+        ensures change { IfOk result (λ c. texts_after c (texts_of self.old) ≡ with_models (put_at at (record { name = name.now; items = numbered_items (texts_of self.old).next (clauses_of text.items.items) })) ((texts_of self.old).next + length (clauses_of text.items.items)) (texts_of self.old)) }
         ensures ready { IfOk result (IsReady self.new) }
         ensures kept { texts_of self.new ≡ texts_of self.old }
+        ensures read { AreRead self.old → AreRead self.new }
     {
         let next = self.next + text.items.len() as u64;
         let model = NamedModel::new(alloc, name, text, self.next)?;
@@ -144,6 +145,7 @@ impl Texts {
         ensures answer { Answers (texts_of self.old) spent (PutModel model.now text.now) result }
         ensures ready { IfOk result (IsReady self.new) }
         ensures kept { texts_of self.new ≡ texts_of self.old }
+        ensures read { AreRead self.old → AreRead self.new }
     {
         if !is_model_name(model) {
             return Err(EditFault::NoModel);

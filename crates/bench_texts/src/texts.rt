@@ -17,11 +17,12 @@ impl Texts {
     ghost use Rattle.std.specs.Prelude.{◌≡◌, ◌≤◌, [], map, vec_len};
     ghost use Rattle.litmus_values.specs.Value.{content_of};
     ghost use Rattle.bench_texts.specs.BenchTexts.{test_index, model_index};
-    ghost use Rattle.bench_texts.specs.Held.{model_of, texts_of};
+    ghost use Rattle.bench_texts.specs.Held.{model_of, texts_of, AreRead};
 
     /// No tests and no models: the first item is given number 1.
     pub fn new(alloc: Global) -> Texts
-        ensures { texts_of result ≡ record { tests = []; models = []; next = 1 } }
+        ensures texts { texts_of result ≡ record { tests = []; models = []; next = 1 } }
+        ensures read { AreRead result }
     {
         Texts {
             tests: Vec::new(alloc),

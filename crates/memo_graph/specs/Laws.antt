@@ -25,7 +25,7 @@ pub record HasOneFault (model : ModelText) : Type 0 where
 abbrev pub HasOneRefusal : Test → ModelText → Type 0
 HasOneRefusal test model =
     (o p : Outcome) (k : ModelFault) → IsFromScratch test model o → IsFromScratch test model p → o.result ≡ Refused (refusals.Model k)
-    → (p.kind ≡ o.kind) × (p.condition.items ≡ o.condition.items) × (p.result ≡ o.result)
+    → (p.kind ≡ o.kind) × (p.condition ≡ o.condition) × (p.result ≡ o.result)
 
 -- in the candidate of that number, where the names of other items have these columns, any two lists of least values have the
 -- same pairs

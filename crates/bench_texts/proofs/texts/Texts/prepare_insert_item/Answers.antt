@@ -5,7 +5,7 @@ use Rattle.bench_texts.specs.declared.change.Change.TheVariants as changes
 use Rattle.bench_texts.specs.BenchTexts.{NumberedItem, model_index, changed_at, with_items, with_models}
 use Rattle.bench_texts.specs.Limits.{items_outputs}
 use Rattle.bench_texts.specs.Held.{model_of, texts_of}
-use Rattle.bench_texts.specs.Changes.{changed}
+use Rattle.bench_texts.specs.Changes.{texts_after}
 use Rattle.bench_texts.specs.Edits.{InsertItem, model_items}
 use Rattle.bench_texts.proofs.Lists.{length-changed_at, get_or-map, held_here, index-map}
 use Rattle.bench_texts.proofs.Counts.{outputs-with, items-insert, counted-more}
@@ -28,7 +28,7 @@ returns-clause-answer c =
     let here : m ≡ get_or t.models c.in_ok-at.at m = get_or-map model_of c.args.self.now.models.items c.in_ok-at.at c.index-2.result.now (omega (arith, c.in_ok-at.ensures.2)) c.index-2.ensures in
     let of_items = c.saturating_add-of_items.ensures ∙ counted-more _ _ _ _ c.outputs-others.ensures c.outputs_of.ensures ∙ ap (λ n. min n 18446744073709551615) (sym (items-insert m.items c.in_ok-index.index y)) in
     let total = c.outputs_with-of_models.ensures (items_outputs (insert m.items c.in_ok-index.index y)) of_items ∙ ap (λ n. min n 18446744073709551615) (sym (outputs-with (λ is. insert is c.in_ok-index.index y) t.models c.in_ok-at.at m (grind (arith, common_steps, c.in_ok-at.ensures.2)) here)) in
-    let within = c.limited.ensures (changed (changes.InsertItem c.in_ok-at.at c.in_ok-index.index c.in-Ok.item) t) (grind (arith, common_steps)) (length-changed_at (with_items (λ is. insert is c.in_ok-index.index y)) t.models c.in_ok-at.at ∙ grind (arith, common_steps)) total in
+    let within = c.limited.ensures (texts_after (changes.InsertItem c.in_ok-at.at c.in_ok-index.index c.in-Ok.item) t) (grind (arith, common_steps)) (length-changed_at (with_items (λ is. insert is c.in_ok-index.index y)) t.models c.in_ok-at.at ∙ grind (arith, common_steps)) total in
     limited_answers t c.args.spent (InsertItem c.args.model.now c.args.before c.args.text.now) (changes.InsertItem c.in_ok-at.at c.in_ok-index.index c.in-Ok.item) c.limited.result
     (rw (c.in_ok-at.ensures.1, c.in_ok-index.ensures.1) refl)
     (clause_of c.in-Ok.item, c.in-Ok.ensures.found, rw held (omega arith), ap (λ i. with_models (changed_at i (with_items (λ is. insert is c.in_ok-index.index y))) (t.next + 1) t) c.in_ok-at.ensures.0 ∙ ap (λ k. with_models (changed_at (model_index c.args.model.now t.models) (with_items (λ is. insert is k y))) (t.next + 1) t) c.in_ok-index.ensures.0)
@@ -42,9 +42,9 @@ returns-clause-ready c =
     let here : m ≡ get_or t.models c.in_ok-at.at m = get_or-map model_of c.args.self.now.models.items c.in_ok-at.at c.index-2.result.now (omega (arith, c.in_ok-at.ensures.2)) c.index-2.ensures in
     let of_items = c.saturating_add-of_items.ensures ∙ counted-more _ _ _ _ c.outputs-others.ensures c.outputs_of.ensures ∙ ap (λ n. min n 18446744073709551615) (sym (items-insert m.items c.in_ok-index.index y)) in
     let total = c.outputs_with-of_models.ensures (items_outputs (insert m.items c.in_ok-index.index y)) of_items ∙ ap (λ n. min n 18446744073709551615) (sym (outputs-with (λ is. insert is c.in_ok-index.index y) t.models c.in_ok-at.at m (grind (arith, common_steps, c.in_ok-at.ensures.2)) here)) in
-    let within = c.limited.ensures (changed (changes.InsertItem c.in_ok-at.at c.in_ok-index.index c.in-Ok.item) t) (grind (arith, common_steps)) (length-changed_at (with_items (λ is. insert is c.in_ok-index.index y)) t.models c.in_ok-at.at ∙ grind (arith, common_steps)) total in
+    let within = c.limited.ensures (texts_after (changes.InsertItem c.in_ok-at.at c.in_ok-index.index c.in-Ok.item) t) (grind (arith, common_steps)) (length-changed_at (with_items (λ is. insert is c.in_ok-index.index y)) t.models c.in_ok-at.at ∙ grind (arith, common_steps)) total in
     let below : length (model_of c.index.result.now).items < 256 = omega arith in
     let room = held_here model_of (λ m. length m.items < 256) c.args.self.now.models.items c.in_ok-at.at c.index.result.now (omega (arith, c.in_ok-at.ensures.2)) c.index.ensures below in
-    limited_ready_within t c.args.self.now c.args.spent (changes.InsertItem c.in_ok-at.at c.in_ok-index.index c.in-Ok.item) (changed (changes.InsertItem c.in_ok-at.at c.in_ok-index.index c.in-Ok.item) t) c.limited.result
-    (λ fits. let left = unspent t (changed (changes.InsertItem c.in_ok-at.at c.in_ok-index.index c.in-Ok.item) t) c.args.spent fits in (c.in_ok-at.ensures.2, c.in_ok-index.ensures.2, room, omega (arith, left)))
+    limited_ready_within t c.args.self.now c.args.spent (changes.InsertItem c.in_ok-at.at c.in_ok-index.index c.in-Ok.item) (texts_after (changes.InsertItem c.in_ok-at.at c.in_ok-index.index c.in-Ok.item) t) c.limited.result
+    (λ fits. let left = unspent t (texts_after (changes.InsertItem c.in_ok-at.at c.in_ok-index.index c.in-Ok.item) t) c.args.spent fits in (c.in_ok-at.ensures.2, c.in_ok-index.ensures.2, room, omega (arith, left)))
     within

@@ -5,7 +5,7 @@ use Rattle.bench_texts.specs.declared.change.Change.TheVariants as changes
 use Rattle.bench_texts.specs.BenchTexts.{NumberedItem, model_index, put_at, changed_at, with_items, with_models}
 use Rattle.bench_texts.specs.Limits.{items_outputs}
 use Rattle.bench_texts.specs.Held.{model_of, texts_of}
-use Rattle.bench_texts.specs.Changes.{changed}
+use Rattle.bench_texts.specs.Changes.{texts_after}
 use Rattle.bench_texts.specs.Edits.{SetItem}
 use Rattle.bench_texts.proofs.Lists.{length-changed_at, get_or-map, held_at}
 use Rattle.bench_texts.proofs.Counts.{outputs-with, items-put, counted-more}
@@ -23,7 +23,7 @@ returns-clause-answer c =
     let here : m ≡ get_or (texts_of c.args.self.now).models c.in_ok-at.at m = get_or-map model_of c.args.self.now.models.items c.in_ok-at.at c.index.result.now (omega (arith, c.in_ok-at.ensures.2)) c.index.ensures in
     let of_items = c.saturating_add-of_items.ensures ∙ counted-more _ _ _ _ c.outputs_without-others.ensures c.outputs_of.ensures ∙ ap (λ n. min n 18446744073709551615) (sym (items-put m.items c.in_ok-index.index y)) in
     let total = c.outputs_with-of_models.ensures (items_outputs (put_at c.in_ok-index.index y m.items)) of_items ∙ ap (λ n. min n 18446744073709551615) (sym (outputs-with (put_at c.in_ok-index.index y) (texts_of c.args.self.now).models c.in_ok-at.at m (grind (arith, common_steps, c.in_ok-at.ensures.2)) here)) in
-    let within = c.limited.ensures (changed (changes.SetItem c.in_ok-at.at c.in_ok-index.index c.args.number c.in-Ok.item) (texts_of c.args.self.now)) (grind (arith, common_steps)) (length-changed_at (with_items (put_at c.in_ok-index.index y)) (texts_of c.args.self.now).models c.in_ok-at.at ∙ grind (arith, common_steps)) total in
+    let within = c.limited.ensures (texts_after (changes.SetItem c.in_ok-at.at c.in_ok-index.index c.args.number c.in-Ok.item) (texts_of c.args.self.now)) (grind (arith, common_steps)) (length-changed_at (with_items (put_at c.in_ok-index.index y)) (texts_of c.args.self.now).models c.in_ok-at.at ∙ grind (arith, common_steps)) total in
     limited_answers (texts_of c.args.self.now) c.args.spent (SetItem c.args.model.now c.args.number c.args.text.now) (changes.SetItem c.in_ok-at.at c.in_ok-index.index c.args.number c.in-Ok.item) c.limited.result
     (rw (c.in_ok-at.ensures.1, c.in_ok-index.ensures.1) refl)
     (clause_of c.in-Ok.item, c.in-Ok.ensures.found, ap (λ i. with_models (changed_at i (with_items (put_at c.in_ok-index.index y))) (texts_of c.args.self.now).next (texts_of c.args.self.now)) c.in_ok-at.ensures.0 ∙ ap (λ k. with_models (changed_at (model_index c.args.model.now (texts_of c.args.self.now).models) (with_items (put_at k y))) (texts_of c.args.self.now).next (texts_of c.args.self.now)) c.in_ok-index.ensures.0)
@@ -36,7 +36,7 @@ returns-clause-ready c =
     let here : m ≡ get_or (texts_of c.args.self.now).models c.in_ok-at.at m = get_or-map model_of c.args.self.now.models.items c.in_ok-at.at c.index.result.now (omega (arith, c.in_ok-at.ensures.2)) c.index.ensures in
     let of_items = c.saturating_add-of_items.ensures ∙ counted-more _ _ _ _ c.outputs_without-others.ensures c.outputs_of.ensures ∙ ap (λ n. min n 18446744073709551615) (sym (items-put m.items c.in_ok-index.index y)) in
     let total = c.outputs_with-of_models.ensures (items_outputs (put_at c.in_ok-index.index y m.items)) of_items ∙ ap (λ n. min n 18446744073709551615) (sym (outputs-with (put_at c.in_ok-index.index y) (texts_of c.args.self.now).models c.in_ok-at.at m (grind (arith, common_steps, c.in_ok-at.ensures.2)) here)) in
-    let within = c.limited.ensures (changed (changes.SetItem c.in_ok-at.at c.in_ok-index.index c.args.number c.in-Ok.item) (texts_of c.args.self.now)) (grind (arith, common_steps)) (length-changed_at (with_items (put_at c.in_ok-index.index y)) (texts_of c.args.self.now).models c.in_ok-at.at ∙ grind (arith, common_steps)) total in
-    limited_ready (texts_of c.args.self.now) c.args.self.now c.args.spent (changes.SetItem c.in_ok-at.at c.in_ok-index.index c.args.number c.in-Ok.item) (changed (changes.SetItem c.in_ok-at.at c.in_ok-index.index c.args.number c.in-Ok.item) (texts_of c.args.self.now)) c.limited.result
+    let within = c.limited.ensures (texts_after (changes.SetItem c.in_ok-at.at c.in_ok-index.index c.args.number c.in-Ok.item) (texts_of c.args.self.now)) (grind (arith, common_steps)) (length-changed_at (with_items (put_at c.in_ok-index.index y)) (texts_of c.args.self.now).models c.in_ok-at.at ∙ grind (arith, common_steps)) total in
+    limited_ready (texts_of c.args.self.now) c.args.self.now c.args.spent (changes.SetItem c.in_ok-at.at c.in_ok-index.index c.args.number c.in-Ok.item) (texts_after (changes.SetItem c.in_ok-at.at c.in_ok-index.index c.args.number c.in-Ok.item) (texts_of c.args.self.now)) c.limited.result
     (c.in_ok-at.ensures.2, c.in_ok-index.ensures.2)
     within

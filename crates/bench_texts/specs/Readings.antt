@@ -1,0 +1,29 @@
+-- What the items of a model are resolved to, or why they have no meaning.
+use Rattle.std.specs.Prelude.{◌≡◌, List, [], length, map, reverse}
+use Rattle.cat_values.specs.declared.predefined.TheConstants.{PREDEFINED}
+use Rattle.cat_values.specs.declared.model.Item.{Item}
+use Rattle.binding_kinds.specs.Value.{Naming, clause_of, AreNoFunctions}
+use Rattle.binding_kinds.specs.Outermost.{naming_of}
+use Rattle.binding_kinds.specs.Faults.{HasNoFault, FirstFault}
+use Rattle.binding_graph.specs.declared.resolved.ResolvedItem.{ResolvedItem}
+use Rattle.binding_graph.specs.Resolved.{AreResolved, AreLabelled}
+use Rattle.binding_graph.specs.Reach.{AreReached}
+use Rattle.std.specs.Arc.{arc_value}
+use Rattle.bench_texts.specs.declared.reading.Reading.{Reading}
+use Rattle.bench_texts.specs.declared.reading.Reading.TheVariants as readings
+
+-- the names that are seen before the first item
+abbrev pub predefined_names : List Naming
+predefined_names = reverse (map naming_of PREDEFINED)
+
+-- the items have no fault, and are resolved to these
+pub record AreSound (items : List Item) (resolved : List ResolvedItem) : Type 0 where
+  pub whole : length resolved ≡ length items
+  pub no_fault : HasNoFault [] predefined_names 0 (map clause_of items)
+  pub as_resolved : AreNoFunctions (map clause_of items) → AreResolved [] predefined_names 0 (map clause_of items) resolved
+  pub labelled : AreLabelled items resolved
+
+-- the items resolved, with the indexes of those that checks and flags reach, or their first fault
+abbrev pub IsReading : List Item → Reading → Type 0
+IsReading items (readings.Sound resolved used) = AreSound items (arc_value resolved).items.items × AreReached (arc_value resolved).items.items used.items
+IsReading items (readings.Faulty fault) = FirstFault [] predefined_names 0 (map clause_of items) fault
