@@ -22,7 +22,9 @@ use value_store::{Store, StoreName, Token};
 impl<K: StoreName, T: Texts> Graph<K, T> {
     /// Nothing is kept and nothing is out yet.
     pub fn new(alloc: Global, texts: T, store: Arc<Store<K, T::Value>, Global>) -> Self
-        requires { (p q s : ℕ) (v : T.Value) → (T.net texts).part p q ≡ Some (s, v) → s ≡ 0 }
+        requires new { (p q : ℕ) → (T.net texts).part p q ≡ 0 }
+        requires last { T.last texts ≡ 0 }
+        requires valid { T.is_valid texts }
         ensures texts { result.texts ≡ texts }
         ensures taken { result.taken ≡ 0 }
         ensures right { HasRightMemos result }
@@ -96,6 +98,7 @@ impl<K: StoreName, T: Texts> Graph<K, T> {
             Some(values) => values,
             None => unreachable!(),
         };
+        let given = self.texts.give(alloc, node)?;
         let before = earlier_tokens(alloc, memos, node)?;
         let store = Arc::try_clone(&self.store)?;
         self.memos.reserve(self.claims.len() + 1)?;
@@ -110,6 +113,7 @@ impl<K: StoreName, T: Texts> Graph<K, T> {
         Ok(Some(Job {
             claim: number,
             node,
+            given,
             keys,
             values,
             before,

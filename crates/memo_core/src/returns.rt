@@ -4,7 +4,7 @@ ghost use Rattle.std.specs.Prelude.{◌≡◌, ◌≤◌, length, vec_len, vec_c
 ghost use Rattle.memo_core.specs.Step.{IsJudged, Finishes};
 ghost use Rattle.memo_core.specs.Clauses.{state_of, return_from, IsComputed, HasRightMemos, HasFreshClaims, IsMarked};
 
-use crate::claims::{Claim, Finish, Judgement, is_used, values_are};
+use crate::claims::{Claim, Finish, Judgement, values_are};
 use crate::finds::{claim_index, first_stale, keys_are};
 use crate::graph::Graph;
 use crate::job::Done;
@@ -18,6 +18,7 @@ use value_store::StoreName;
 impl<K: StoreName, T: Texts> Graph<K, T> {
     /// What a return is, before anything is done.
     fn judge(&self, done: &Done<K, T>) -> Judgement
+        requires { HasRightMemos self.now }
         ensures { IsJudged (state_of self.now) (return_from done.now) result }
     {
         let at = match claim_index(self.claims.as_slice(), done.claim) {
@@ -28,7 +29,7 @@ impl<K: StoreName, T: Texts> Graph<K, T> {
         if !is_same_node(claim.node, done.node) {
             return Judgement::Undue;
         }
-        if !is_used(&self.texts, done.node) {
+        if !self.texts.is_used(done.node) {
             return Judgement::Late(at, None);
         }
         let memos = self.memos.as_slice();
@@ -39,13 +40,11 @@ impl<K: StoreName, T: Texts> Graph<K, T> {
         if !keys_are(&self.texts, done.node, done.keys.as_slice()) {
             return Judgement::Undue;
         }
-        if !values_are(
-            &self.store,
-            &self.texts,
-            memos,
-            done.keys.as_slice(),
-            done.values.as_slice(),
-        ) {
+        if !self.texts.is_given(done.node, &done.given) {
+            return Judgement::Undue;
+        }
+        let values = done.values.as_slice();
+        if !values_are::<K, T>(&self.store, memos, done.keys.as_slice(), values) {
             return Judgement::Undue;
         }
         Judgement::Due(at)
@@ -71,6 +70,7 @@ impl<K: StoreName, T: Texts> Graph<K, T> {
         let Done {
             claim: _,
             node,
+            given: _,
             keys: _,
             values: _,
             mut outputs,
