@@ -18,30 +18,30 @@ use Rattle.memo_core.specs.Marks.{IsMarkedTo}
 module _ {K T V G E P F : Type 0} {k : NameGhosts K} {t : Ghosts T V G E P F} where
   -- what the texts say, what is kept, what is out, and how many numbers are taken
   abbrev pub state_of : Graph K T V G E P F k t → State V G
-  state_of g = state (t.net g.texts) g.memos.items g.claims.items g.taken
+  state_of g = state (t.net g.texts) g.memos.entries g.claims.items g.taken
 
   -- the texts are valid, and each memo was computed from values that its inputs have as long as their stamps are the present ones
   abbrev pub HasRightMemos : Graph K T V G E P F k t → Type 0
-  HasRightMemos g = t.is_valid g.texts × IsRight (IsCounted t.since t.net t.makes g.texts) (t.net g.texts) (as_memos g.memos.items) g.taken
+  HasRightMemos g = t.is_valid g.texts × IsRight (IsCounted t.since t.net t.makes g.texts) (t.net g.texts) (as_memos g.memos.entries) g.taken
 
   -- no claim that is out repeats another, or what a memo holds
   abbrev pub HasFreshClaims : Graph K T V G E P F k t → Type 0
-  HasFreshClaims g = IsFreshFrom (as_memos g.memos.items) (open_claims g.claims.items)
+  HasFreshClaims g = IsFreshFrom (as_memos g.memos.entries) (open_claims g.claims.items)
 
   -- the marks say which used nodes are settled
   abbrev pub IsMarked : Graph K T V G E P F k t → Type 0
-  IsMarked g = IsMarkedTo (t.net g.texts) g.memos.items []
+  IsMarked g = IsMarkedTo (t.net g.texts) g.memos.entries []
 
   -- the job is that of a claim which this step gives
   abbrev pub GivesJob : Graph K T V G E P F k t → Job K T V G E P F k → Graph K T V G E P F k t → Type 0
   GivesJob old j new = Gives (state_of old) j.claim j.node j.given j.keys.items (shown_values j.values.items) (state_of new)
 
   abbrev pub IsSettledIn : Graph K T V G E P F k t → Node → Type 0
-  IsSettledIn g n = IsSettled (t.net g.texts) (as_memos g.memos.items) n
+  IsSettledIn g n = IsSettled (t.net g.texts) (as_memos g.memos.entries) n
 
   -- these outputs are what the node makes of what its job is given now and of the present values of its present inputs
   abbrev pub ShowsSolved : Graph K T V G E P F k t → Node → List (Made (Shown V)) → Type 0
-  ShowsSolved g n outputs = (values : List V) × ArePresent (at (as_memos g.memos.items)) ((t.net g.texts).inputs n) values
+  ShowsSolved g n outputs = (values : List V) × ArePresent (at (as_memos g.memos.entries)) ((t.net g.texts).inputs n) values
       × IsMadeNow t.makes (t.net g.texts) n values (named_values (shown_outputs outputs))
 
 module _ {K T V G E P F : Type 0} where

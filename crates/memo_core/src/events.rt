@@ -15,6 +15,7 @@ use crate::stores::drop_gone;
 use crate::table::stored_outputs;
 use crate::texts::Texts;
 use crate::work::{current_inputs, earlier_tokens, find_work, hold_all, present_keys};
+use indexmap::IndexMap;
 use std::alloc::Global;
 use std::sync::Arc;
 use value_store::{Store, StoreName, Token};
@@ -33,7 +34,7 @@ impl<K: StoreName, T: Texts> Graph<K, T> {
     {
         Graph {
             texts,
-            memos: Vec::new(alloc),
+            memos: IndexMap::new(alloc),
             claims: Vec::new(alloc),
             taken: 0,
             store,
@@ -87,7 +88,7 @@ impl<K: StoreName, T: Texts> Graph<K, T> {
         if self.taken >= LAST {
             return Err(ClaimFault::Spent);
         }
-        let memos = self.memos.as_slice();
+        let memos = &self.memos;
         let node = match find_work(&self.texts, memos, self.claims.as_slice()) {
             None => return Ok(None),
             Some(node) => node,
@@ -130,7 +131,7 @@ impl<K: StoreName, T: Texts> Graph<K, T> {
         ensures fresh { HasFreshClaims self.new }
         ensures marks { IsMarked self.new }
         ensures texts { self.new.texts ≡ self.old.texts }
-        ensures memos { self.new.memos.items ≡ self.old.memos.items }
+        ensures memos { self.new.memos.entries ≡ self.old.memos.entries }
         ensures taken { self.new.taken ≡ self.old.taken }
         ensures step { Loses (state_of self.old) claim result (state_of self.new) }
     {
@@ -167,7 +168,7 @@ impl<K: StoreName, T: Texts> Graph<K, T> {
         ensures settled { IfSome result (λ _. IsSettledIn self.now node) }
         ensures solved { IfSome result (λ outputs. ShowsSolved self.now node outputs.now) }
     {
-        let memos = self.memos.as_slice();
+        let memos = &self.memos;
         if !is_marked(memos, node) {
             return None;
         }

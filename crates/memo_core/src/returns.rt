@@ -9,7 +9,7 @@ use crate::finds::{claim_index, first_stale, keys_are};
 use crate::graph::Graph;
 use crate::job::Done;
 use crate::keys::is_same_node;
-use crate::marks::settle_in;
+use crate::marks::settle;
 use crate::stores::{restamp_all, store_memo};
 use crate::table::{Kept, are_present};
 use crate::texts::Texts;
@@ -32,7 +32,7 @@ impl<K: StoreName, T: Texts> Graph<K, T> {
         if !self.texts.is_used(done.node) {
             return Judgement::Late(at, None);
         }
-        let memos = self.memos.as_slice();
+        let memos = &self.memos;
         if !are_present(&self.texts, memos, done.node, claim.inputs.as_slice()) {
             let stamp = first_stale(&self.texts, memos, done.node, claim.inputs.as_slice());
             return Judgement::Late(at, Some(stamp));
@@ -81,7 +81,7 @@ impl<K: StoreName, T: Texts> Graph<K, T> {
             node: _,
             inputs,
         } = claim;
-        let memos = self.memos.as_slice();
+        let memos = &self.memos;
         restamp_all::<K, T>(
             &self.store,
             memos,
@@ -90,14 +90,13 @@ impl<K: StoreName, T: Texts> Graph<K, T> {
             &mut outputs,
             &mut names,
         );
-        let memo = Kept {
-            node,
+        let kept = Kept {
             inputs,
             outputs,
             settled: false,
         };
-        store_memo(&mut self.memos, memo);
-        settle_in(&self.texts, &mut self.memos, node);
+        store_memo(&mut self.memos, node, kept);
+        settle(&self.texts, &mut self.memos, node);
         if names.is_empty() {
             Finish::Same
         } else {
