@@ -37,6 +37,7 @@ impl<K: StoreName, T: Texts> Graph<K, T> {
             memos: IndexMap::new(alloc),
             claims: Vec::new(alloc),
             taken: 0,
+            next: 0,
             store,
         }
     }
@@ -89,10 +90,11 @@ impl<K: StoreName, T: Texts> Graph<K, T> {
             return Err(ClaimFault::Spent);
         }
         let memos = &self.memos;
-        let node = match find_work(&self.texts, memos, self.claims.as_slice()) {
+        let at = match find_work(&self.texts, memos, self.claims.as_slice(), self.next) {
             None => return Ok(None),
-            Some(node) => node,
+            Some(at) => at,
         };
+        let node = self.texts.used_at(at);
         let keys = present_keys(alloc, &self.texts, node)?;
         let inputs = current_inputs(alloc, &self.texts, memos, node)?;
         let values = match hold_all(alloc, &self.texts, memos, node)? {
@@ -111,6 +113,7 @@ impl<K: StoreName, T: Texts> Graph<K, T> {
         };
         self.claims.push(claim)?;
         self.taken = number;
+        self.next = at;
         Ok(Some(Job {
             claim: number,
             node,
