@@ -1,6 +1,6 @@
 //! The calls that change a graph, returns aside, and what it shows.
 
-ghost use Rattle.std.specs.Prelude.{◌≡◌, ◌≤◌, leb, ℕ, IfOk, OnOk, OnErr, IfErr, IfSome, IfNone, Err, Some};
+ghost use Rattle.std.specs.Prelude.{◌≡◌, ◌≤◌, leb, ℕ, IsTrue, IsFalse, IfOk, OnOk, OnErr, IfErr, IfSome, IfNone, Err, Some};
 ghost use Rattle.memo_core.specs.declared.keys.Node.{Node};
 ghost use Rattle.memo_core.specs.Step.{Has, Loses, Renews, Edits, IsWork};
 ghost use Rattle.memo_core.specs.Clauses.{state_of, HasRightMemos, HasFreshClaims, IsMarked, GivesJob, IsSettledIn, ShowsSolved};
@@ -10,7 +10,7 @@ use crate::finds::claim_index;
 use crate::graph::{Graph, LAST};
 use crate::job::Job;
 use crate::keys::{Node, Output};
-use crate::marks::{is_marked, settle_all};
+use crate::marks::{are_used_marked, is_marked, settle_all};
 use crate::stores::drop_gone;
 use crate::table::stored_outputs;
 use crate::texts::Texts;
@@ -179,6 +179,16 @@ impl<K: StoreName, T: Texts> Graph<K, T> {
             Some(outputs) => Some(outputs),
             None => unreachable!(),
         }
+    }
+
+    /// Whether every used node is settled.
+    pub fn all_settled(&self) -> bool
+        requires right { HasRightMemos self.now }
+        requires marks { IsMarked self.now }
+        ensures yes { IsTrue result → (n : Node) → Has ((T.net self.now.texts).used) n → IsSettledIn self.now n }
+        ensures no { IsFalse result → (n : Node) × Has ((T.net self.now.texts).used) n × (IsSettledIn self.now n → ⊥) }
+    {
+        are_used_marked(&self.texts, &self.memos)
     }
 
     /// The value that an output's token shows.
