@@ -4,29 +4,24 @@ use Rattle.std.specs.List.{AllByRecursion as Each}
 use Rattle.memo_core.specs.declared.keys.Kind.{Kind}
 use Rattle.memo_core.specs.declared.keys.Kind.TheVariants.{Space, Group, Check, Verdict}
 use Rattle.memo_core.specs.declared.keys.Node.{Node}
-use Rattle.memo_core.specs.declared.keys.Key.{Key}
 use Rattle.memo_core.specs.Graph.{input_nodes, stamp_in, lookup}
-use Rattle.memo_core.specs.Right.{HasValue, IsSound, PartsGoOn}
+use Rattle.memo_core.specs.Right.{HasValue, IsSound, PartsGoOn, IsSamePart}
 use Rattle.memo_core.specs.Step.{Has}
 use Rattle.bench_tests.specs.declared.rows.Row.{Row}
 use Rattle.bench_tests.specs.declared.sheet.Sheet.{Sheet}
 use Rattle.bench_tests.specs.declared.sheet.Change.{Change}
 use Rattle.bench_tests.specs.declared.sheet.Change.TheVariants.{Put, Remove, SetBase}
 use Rattle.bench_tests.specs.declared.sheet.Prepared.{Prepared}
-use Rattle.bench_tests.specs.Rows.{row_of, IsHere, put_row, without_row}
-use Rattle.bench_tests.specs.Sheet.{tens, cells_of, inputs_of, net_of, makes, is_there, users_of, rank_of, rows_after, base_after, stamp_after, IsChanged, IsPrepared}
+use Rattle.bench_tests.specs.Rows.{row_of, put_row, without_row}
+use Rattle.bench_tests.specs.Sheet.{tens, cells_of, inputs_of, net_of, holds_number, gives_in, makes, is_there, users_of, rank_of, rows_after, base_after, stamp_after, IsValid, IsSince, IsChanged, IsPrepared}
 
 pub numbers_exact : (a b : ℕ) → ((a == b) ≡ true) ↔ (a ≡ b)
 numbers_exact a b = (eqb-true a b, eq-eqb a b)
 
-pub makes_begin : (s : Sheet) (n : Node) (vs : List ℕ) (os : List (ℕ × ℕ)) → makes n (inputs_of n.kind n.test) vs os → makes n (inputs_of n.kind n.test) vs os
-makes_begin s n vs os h = h
-
-pub changes_stay : (s u : Sheet) (e : Change) (number : ℕ) → IsChanged s e number u → (n : Node) (ks : List Key) (vs : List ℕ) (os : List (ℕ × ℕ)) → makes n ks vs os → makes n ks vs os
-changes_stay s u e number h n ks vs os m = m
-
 pub prepared_changes : (s u w : Sheet) (e : Change) (p : Prepared) (number : ℕ) → IsPrepared s e p u → IsChanged u p.change number w → IsChanged s e number w
 prepared_changes s u w e p number h c = record {
+  later = rw h.last at c.later;
+  last = c.last;
   rows = rw (h.change_is, h.rows) at c.rows;
   base = rw (h.change_is, h.base) at c.base;
   stamp = rw (h.change_is, h.base, h.stamp) at c.stamp;
@@ -35,24 +30,20 @@ prepared_changes s u w e p number h c = record {
 made_value : (r : ℕ) (os : List (ℕ × ℕ)) → os ≡ (0, r) ∷ [] → (v : ℕ) × (lookup 0 os ≡ Some v)
 made_value r os e = (r, rw e refl)
 
-row_value : (o : Option (ℕ × ℕ)) → IsHere o → (s : ℕ) × (v : ℕ) × (o ≡ Some (s, v))
-row_value None h = absurd h
-row_value (Some r) h = (r.0, r.1, refl)
-
-module _ (rows : List Row) (stamp base : ℕ) where
-  has_values : (k : Kind) (t : ℕ) → is_there k t rows → Each (HasValue makes (net_of rows stamp base)) (inputs_of k t)
-  has_values Space t h = ((stamp, base, refl), tt)
+module _ (s : Sheet) where
+  has_values : (k : Kind) (t : ℕ) → is_there k t s.rows.items → Each (HasValue makes (net_of s)) (inputs_of k t)
+  has_values Space t h = (tt, tt)
   has_values Group t h = tt
   has_values Check t h = tt
-  has_values Verdict t h = (row_value (row_of t rows) h, ((λ vs os e. made_value _ os e), tt))
+  has_values Verdict t h = (tt, ((λ g vs os gives e. made_value _ os e), tt))
 
-  inputs_there : (k : Kind) (t : ℕ) → is_there k t rows → Each (λ n. is_there n.kind n.test rows) (input_nodes (inputs_of k t))
+  inputs_there : (k : Kind) (t : ℕ) → is_there k t s.rows.items → Each (λ n. is_there n.kind n.test s.rows.items) (input_nodes (inputs_of k t))
   inputs_there Space t h = tt
   inputs_there Group t h = tt
   inputs_there Check t h = tt
   inputs_there Verdict t h = (tt, tt)
 
-  pub sheet_sound : IsSound makes (net_of rows stamp base) (λ n. is_there n.kind n.test rows)
+  pub sheet_sound : IsSound makes (net_of s) (λ n. is_there n.kind n.test s.rows.items)
   sheet_sound = record {
     has_values = λ n h. has_values n.kind n.test h;
     inputs_there = λ n h. inputs_there n.kind n.test h;
@@ -119,6 +110,10 @@ ranks_fall s n = falls_by n.kind n.test
 abbrev some_pair : ℕ → ℕ → Option (ℕ × ℕ)
 some_pair s v = Some (s, v)
 
+abbrev value_in : Option (ℕ × ℕ) → ℕ
+value_in None = 0
+value_in (Some p) = p.1
+
 some_stamp : (a b s v : ℕ) → some_pair a b ≡ some_pair s v → a ≡ s
 some_stamp a b s v h = ap stamp_in h
 
@@ -182,14 +177,71 @@ rows_go_on (Put t v) number rs x s w h = put_goes_on t v number rs x s w h
 rows_go_on (Remove t) number rs x s w h = inl (remove_goes_on t rs x s w h)
 rows_go_on (SetBase v) number rs x s w h = inl h
 
-base_goes_on : (e : Change) (number stamp base s w : ℕ) → some_pair (stamp_after e number base stamp) (base_after e base) ≡ some_pair s w → (some_pair stamp base ≡ some_pair s w) ⊎ (s ≡ number)
-base_goes_on (Put t v) number stamp base s w h = inl h
-base_goes_on (Remove t) number stamp base s w h = inl h
-base_goes_on (SetBase v) number stamp base s w h = elim (either (v == base)) [
-  | inl same ↦ inl (let k : some_pair stamp v ≡ some_pair s w = rw same at h in ap (λ (v : ℕ). some_pair stamp v) (sym (eqb-true v base same)) ∙ k)
-  | inr other ↦ inr (let k : some_pair number v ≡ some_pair s w = rw other at h in sym (some_stamp number v s w k))
+base_goes_on : (e : Change) (number stamp base : ℕ) → ((stamp_after e number base stamp ≡ stamp) × (base_after e base ≡ base)) ⊎ (stamp_after e number base stamp ≡ number)
+base_goes_on (Put t v) number stamp base = inl (refl, refl)
+base_goes_on (Remove t) number stamp base = inl (refl, refl)
+base_goes_on (SetBase v) number stamp base = elim (either (v == base)) [
+  | inl same ↦ inl (rw same refl, eqb-true v base same)
+  | inr other ↦ inr (rw other refl)
 ]
 
-pub changes_go_on : (p q : Sheet) (e : Change) (number : ℕ) → IsChanged p e number q → PartsGoOn (net_of p.rows.items p.base_stamp p.base) number (net_of q.rows.items q.base_stamp q.base)
-changes_go_on p q e number h zero x s w g = rows_go_on e number p.rows.items x s w (ap (row_of x) (sym h.rows) ∙ g)
-changes_go_on p q e number h (suc part) x s w g = base_goes_on e number p.base_stamp p.base s w (rw (h.stamp, h.base) at g)
+row_goes_on : (old new : Option (ℕ × ℕ)) (number : ℕ) → ((s w : ℕ) → new ≡ Some (s, w) → (old ≡ Some (s, w)) ⊎ (s ≡ number)) → (stamp_in new ≡ stamp_in old) ⊎ (stamp_in new ≡ number) ⊎ (stamp_in new ≡ 0)
+row_goes_on old None number f = inr (inr refl)
+row_goes_on old (Some r) number f = elim (f r.0 r.1 refl) [ inl was ↦ inl (sym (ap stamp_in was)) | inr is ↦ inr (inl is) ]
+
+pub changes_go_on : (p q : Sheet) (e : Change) (number : ℕ) → IsChanged p e number q → PartsGoOn (net_of p) number (net_of q)
+changes_go_on p q e number h zero x =
+    row_goes_on (row_of x p.rows.items) (row_of x q.rows.items) number (λ s w g. rows_go_on e number p.rows.items x s w (ap (row_of x) (sym h.rows) ∙ g))
+changes_go_on p q e number h (suc part) x = elim (base_goes_on e number p.base_stamp p.base) [ inl was ↦ inl (h.stamp ∙ was.0) | inr is ↦ inr (inl (h.stamp ∙ is)) ]
+
+pub since_same : (s : Sheet) → IsValid s → IsSince s s
+since_same s valid = record { valid = valid; last = omega arith; rows = λ x stamp v h. inl h; base = inl (refl, refl) }
+
+pub since_changed : (t u w : Sheet) (e : Change) (number : ℕ) → IsSince t u → IsChanged u e number w → IsSince t w
+since_changed t u w e number s c = record {
+  valid = s.valid;
+  last = omega (arith, s.last, c.later, c.last);
+  rows = λ x stamp v h. elim (rows_go_on e number u.rows.items x stamp v (ap (row_of x) (sym c.rows) ∙ h)) [ inl was ↦ s.rows x stamp v was | inr is ↦ inr (omega (arith, s.last, c.later, is)) ];
+  base = elim (base_goes_on e number u.base_stamp u.base) [
+    | inl was ↦ elim s.base [ inl same ↦ inl (c.stamp ∙ was.0 ∙ same.0, c.base ∙ was.1 ∙ same.1) | inr later ↦ inr (omega (arith, later, c.stamp, was.0)) ]
+    | inr is ↦ inr (omega (arith, s.last, c.later, c.stamp, is))
+  ];
+}
+
+pub changes_valid : (t u : Sheet) (e : Change) (number : ℕ) → IsValid t → IsChanged t e number u → IsValid u
+changes_valid t u e number valid c = record {
+  rows = λ x stamp v h. elim (rows_go_on e number t.rows.items x stamp v (ap (row_of x) (sym c.rows) ∙ h)) [
+    | inl was ↦ (let low = valid.rows x stamp v was in (low.0, omega (arith, low.1, c.later, c.last)))
+    | inr is ↦ (omega (arith, is, c.later), omega (arith, is, c.last))
+  ];
+  base = elim (base_goes_on e number t.base_stamp t.base) [
+    | inl was ↦ (let low = valid.base in omega (arith, low, c.later, c.last, c.stamp, was.0))
+    | inr is ↦ omega (arith, c.last, c.stamp, is)
+  ];
+}
+
+-- a row of one stamp is one row
+row_again : (t u : Sheet) (x : ℕ) → IsSince t u → (old new : Option (ℕ × ℕ)) → row_of x t.rows.items ≡ old → row_of x u.rows.items ≡ new → stamp_in new ≡ stamp_in old → (g : ℕ) → holds_number old g ≡ true → holds_number new g ≡ true
+row_again t u x s None new o n same g h = cc
+row_again t u x s (Some r) None o n same g h = (let low = (s.valid).rows x r.0 r.1 o in absurd (omega (arith, low.0, same)))
+row_again t u x s (Some r) (Some q) o n same g h = elim (s.rows x q.0 q.1 n) [
+  | inl was ↦ (let e : some_pair q.0 q.1 ≡ some_pair r.0 r.1 = sym was ∙ o in
+      ap (λ (v : ℕ). g == v) (some_value q.0 q.1 r.0 r.1 e) ∙ h)
+  | inr later ↦ (let low = (s.valid).rows x r.0 r.1 o in absurd (omega (arith, low.1, same, later)))
+]
+  where
+    some_value : (a b c d : ℕ) → some_pair a b ≡ some_pair c d → b ≡ d
+    some_value a b c d h = ap value_in h
+
+given_by : (t u : Sheet) (k : Kind) (x g : ℕ) → IsSince t u → Each (IsSamePart (net_of t) (net_of u)) (inputs_of k x) → gives_in t.rows.items t.base k x g ≡ true → gives_in u.rows.items u.base k x g ≡ true
+given_by t u Space x g s p h = elim s.base [
+  | inl same ↦ ap (λ (b : ℕ). g == b) same.1 ∙ h
+  | inr later ↦ (let low = (s.valid).base in absurd (omega (arith, low, later, p.0)))
+]
+given_by t u Group x g s p h = cc
+given_by t u Check x g s p h = cc
+given_by t u Verdict x g s p h = row_again t u x s (row_of x t.rows.items) (row_of x u.rows.items) refl refl p.0 g h
+
+pub given_again : (t u : Sheet) (n : Node) (g : ℕ) → IsValid u → IsSince t u → inputs_of n.kind n.test ≡ inputs_of n.kind n.test → Each (IsSamePart (net_of t) (net_of u)) (inputs_of n.kind n.test)
+    → gives_in t.rows.items t.base n.kind n.test g ≡ true → gives_in u.rows.items u.base n.kind n.test g ≡ true
+given_again t u n g valid s same p h = given_by t u n.kind n.test g s p h

@@ -5,37 +5,34 @@ use Rattle.value_store.specs.Tokens.{Shown}
 use Rattle.memo_core.specs.declared.keys.Node.{Node}
 use Rattle.memo_core.specs.declared.keys.Key.{Key}
 use Rattle.memo_core.specs.declared.keys.Output.{Output as Made}
-use Rattle.memo_core.specs.declared.table.Kept.{Kept}
 use Rattle.memo_core.specs.declared.claims.Claim.{Claim}
 use Rattle.memo_core.specs.Graph.{Memo, named_values}
-use Rattle.memo_core.specs.Right.{IsRight}
-use Rattle.memo_core.specs.Views.{as_memos, shown_outputs}
+use Rattle.memo_core.specs.Right.{IsRight, IsCounted}
+use Rattle.memo_core.specs.Views.{Slot, as_memos, shown_outputs}
 use Rattle.memo_core.specs.Step.{OpenClaim, open_claims}
 use Rattle.memo_core.specs.Run.{IsFreshFrom}
 use Rattle.memo_core.specs.Marks.{IsMarkedTo}
-use Rattle.bench_tests.specs.declared.rows.Row.{Row}
-use Rattle.bench_tests.specs.Sheet.{net_of, makes}
+use Rattle.bench_tests.specs.declared.sheet.Sheet.{Sheet}
+use Rattle.bench_tests.specs.Sheet.{net_of, makes, IsValid, IsSince}
 
--- a bench as plain data: its texts with stamps, its memos, what is out, and how many numbers are taken
+-- a bench as plain data: its texts, its memos, what is out, and how many numbers are taken
 pub record Bench : Type 0 where
-  pub rows : List Row
-  pub stamp : ℕ
-  pub base : ℕ
+  pub sheet : Sheet
   pub memos : List (Memo ℕ)
   pub claims : List OpenClaim
   pub taken : ℕ
 
-abbrev pub bench_of : List Row → ℕ → ℕ → List (Kept (Shown ℕ)) → List Claim → ℕ → Bench
-bench_of rows stamp base memos claims taken = record { rows = rows; stamp = stamp; base = base; memos = as_memos memos; claims = open_claims claims; taken = taken }
+abbrev pub bench_of : Sheet → List (Slot ℕ) → List Claim → ℕ → Bench
+bench_of sheet memos claims taken = record { sheet = sheet; memos = as_memos memos; claims = open_claims claims; taken = taken }
 
 -- its memos are right, its claims apart, its marks true
-pub record IsSoundBench (rows : List Row) (stamp base : ℕ) (memos : List (Kept (Shown ℕ))) (claims : List Claim) (taken : ℕ) : Type 0 where
-  pub right : IsRight makes (net_of rows stamp base) (as_memos memos) taken
+pub record IsSoundBench (sheet : Sheet) (memos : List (Slot ℕ)) (claims : List Claim) (taken : ℕ) : Type 0 where
+  pub right : IsValid sheet × IsRight (IsCounted IsSince net_of makes sheet) (net_of sheet) (as_memos memos) taken
   pub fresh : IsFreshFrom (as_memos memos) (open_claims claims)
-  pub marks : IsMarkedTo (net_of rows stamp base) memos []
+  pub marks : IsMarkedTo (net_of sheet) memos []
 
 -- a return's outputs are what running its node makes, with room for their names
-pub record IsAnswer (n : Node) (keys : List Key) (values : List ℕ) (outputs : List (Made (Shown ℕ))) (names : Vec ℕ Global) : Type 0 where
-  pub computed : makes n keys values (named_values (shown_outputs outputs))
+pub record IsAnswer (n : Node) (given : ℕ) (keys : List Key) (values : List ℕ) (outputs : List (Made (Shown ℕ))) (names : Vec ℕ Global) : Type 0 where
+  pub computed : makes n given keys values (named_values (shown_outputs outputs))
   pub empty : vec_len names ≡ 0
   pub room : length outputs ≤ vec_capacity names

@@ -23,9 +23,9 @@ impl<K: StoreName> Model for Bench<K> {
 
     ghost Value = { Plain };
 
-    ghost view = { λ b. bench_of b.graph.texts.rows.items b.graph.texts.base_stamp b.graph.texts.base b.graph.memos.items b.graph.claims.items b.graph.taken };
+    ghost view = { λ b. bench_of b.graph.texts b.graph.memos.entries b.graph.claims.items b.graph.taken };
 
-    ghost invariant = { λ b. IsSoundBench b.graph.texts.rows.items b.graph.texts.base_stamp b.graph.texts.base b.graph.memos.items b.graph.claims.items b.graph.taken };
+    ghost invariant = { λ b. IsSoundBench b.graph.texts b.graph.memos.entries b.graph.claims.items b.graph.taken };
 }
 
 /// A return, which only `run` makes.
@@ -36,16 +36,16 @@ pub struct Answer<K: StoreName> {
 
 impl<K: StoreName> Model for Answer<K> {
     ghost use Rattle.std.specs.Prelude.{ℕ};
-    ghost use Rattle.memo_core.specs.Views.{held_values};
+    ghost use Rattle.memo_core.specs.Views.{shown_values};
     ghost use Rattle.memo_core.specs.Step.{Return};
     ghost use Rattle.memo_core.specs.Clauses.{return_from};
     ghost use Rattle.bench_tests.specs.Seen.{IsAnswer};
 
-    ghost Value = { Return ℕ };
+    ghost Value = { Return ℕ ℕ };
 
     ghost view = { λ a. return_from a.done };
 
-    ghost invariant = { λ a. IsAnswer a.done.node a.done.keys.items (held_values a.done.values.items) a.done.outputs.items a.done.names };
+    ghost invariant = { λ a. IsAnswer a.done.node a.done.given a.done.keys.items (shown_values a.done.values.items) a.done.outputs.items a.done.names };
 }
 
 impl<K: StoreName> Answer<K> {
@@ -80,6 +80,7 @@ impl<K: StoreName> Bench<K> {
             rows: Vec::new(alloc),
             base: 0,
             base_stamp: 0,
+            last: 0,
         };
         Bench {
             graph: Graph::new(alloc, sheet, store),

@@ -1,9 +1,11 @@
 //! The nodes of a sheet, and what running one makes.
 
 ghost use Rattle.std.specs.Prelude.{◌≡◌, map};
-ghost use Rattle.bench_tests.specs.Sheet.{cell_of, first_of, second_of, result_of};
+ghost use Rattle.memo_core.specs.Tests.{has_node};
+ghost use Rattle.bench_tests.specs.Sheet.{cell_of, cells_of, first_of, result_of};
 
-use memo_core::keys::{Kind, Node};
+use crate::rows::Row;
+use memo_core::keys::{Kind, Node, is_same_node};
 
 /// The node that keeps the tens of the base.
 pub const TENS: Node = Node {
@@ -23,26 +25,32 @@ pub fn cell(name: u64) -> Node
     }
 }
 
+/// Whether a node is the cell of one of these rows.
+pub fn is_cell(rows: &[Row], node: Node) -> bool
+    ensures { result ≡ has_node node (cells_of rows.now) }
+{
+    for row in rows {
+        if is_same_node(node, cell(row.name)) {
+            return true;
+        }
+    }
+    false
+}
+
 fn first(values: &[&u64]) -> u64
     ensures { result ≡ first_of (map (λ v. v.now) values.now) }
 {
     if values.len() == 0 { 0 } else { *values[0] }
 }
 
-fn second(values: &[&u64]) -> u64
-    ensures { result ≡ second_of (map (λ v. v.now) values.now) }
-{
-    if values.len() < 2 { 0 } else { *values[1] }
-}
-
 /// The value that running a node makes.
-pub fn result(kind: Kind, values: &[&u64]) -> u64
-    ensures { result ≡ result_of kind (map (λ v. v.now) values.now) }
+pub fn result(kind: Kind, given: u64, values: &[&u64]) -> u64
+    ensures { result ≡ result_of kind given (map (λ v. v.now) values.now) }
 {
     match kind {
-        Kind::Space => first(values) / 10,
+        Kind::Space => given / 10,
         Kind::Group => 0,
         Kind::Check => 0,
-        Kind::Verdict => first(values).wrapping_add(second(values)),
+        Kind::Verdict => given.wrapping_add(first(values)),
     }
 }

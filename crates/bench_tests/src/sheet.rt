@@ -1,19 +1,20 @@
 //! A sheet: a base number and a number a row. One node keeps the tens of the base, and on it stands
 //! a cell a row, the sum of the row's number and those tens.
 
-use crate::nodes::{TENS, cell, result};
+use crate::nodes::{TENS, cell, is_cell, result};
 use crate::rows::{Row, find_row, put, remove};
-use memo_core::keys::{Key, Kind, Node, Output};
+use memo_core::keys::{Key, Kind, Node, Output, is_same_node};
 use memo_core::texts::Texts;
 use std::alloc::{AllocError, Global};
 use thiserror::Error;
 
-/// The rows, and the base with the number of the edit that last changed it.
+/// The rows, the base with the number of the edit that last changed it, and the last edit's number.
 #[derive(Drop)]
 pub struct Sheet {
     pub rows: Vec<Row>,
     pub base: u64,
     pub base_stamp: u64,
+    pub last: u64,
 }
 
 /// An edit of a sheet.
@@ -24,10 +25,11 @@ pub enum Change {
     SetBase(u64),
 }
 
-/// An edit that is checked, with room for one more row.
+/// An edit that is checked, with room for one more row. No more than `used` nodes are used after it.
 #[derive(Drop)]
 pub struct Prepared {
     pub change: Change,
+    pub used: usize,
 }
 
 /// Why an edit of a sheet is refused.
@@ -44,21 +46,27 @@ pub enum SheetFault {
 impl Texts for Sheet {
     type Value = u64;
 
+    type Given = u64;
+
     type Edit = Change;
 
     type Prepared = Prepared;
 
     type Fault = SheetFault;
 
-    ghost use Rattle.std.specs.Prelude.{◌≡◌, ◌==◌, ◌<◌, vec_len, vec_capacity};
-    ghost use Rattle.bench_tests.specs.Sheet.{net_of, makes, is_there, users_of, rank_of, keeps_memo, IsChanged, IsRefused, IsPrepared};
-    ghost use Rattle.bench_tests.specs.Laws.{numbers_exact, sheet_sound, makes_begin, changes_stay, prepared_changes, all_there, inputs_used, users_known, ranks_fall, changes_go_on};
+    ghost use Rattle.std.specs.Prelude.{◌≡◌, ◌==◌, ◌<◌, ◌+◌, length, vec_len, vec_capacity};
+    ghost use Rattle.bench_tests.specs.Sheet.{net_of, makes, is_there, users_of, rank_of, keeps_memo, IsValid, IsSince, IsChanged, IsRefused, IsPrepared};
+    ghost use Rattle.bench_tests.specs.Laws.{numbers_exact, sheet_sound, since_same, since_changed, given_again, changes_valid, prepared_changes, all_there, inputs_used, users_known, ranks_fall, changes_go_on};
 
-    ghost net = { λ s. net_of s.rows.items s.base_stamp s.base };
+    ghost is_valid = { IsValid };
+
+    ghost net = { net_of };
+
+    ghost since = { IsSince };
+
+    ghost last = { λ s. s.last };
 
     ghost makes = { makes };
-
-    ghost computed = { λ _ n ks vs os. makes n ks vs os };
 
     ghost same = { λ a b. a == b };
 
@@ -76,9 +84,11 @@ impl Texts for Sheet {
 
     ghost prepares = { IsPrepared };
 
-    ghost is_ready = { λ s _. vec_len s.rows < vec_capacity s.rows };
+    ghost is_ready = { λ s p. (vec_len s.rows < vec_capacity s.rows) × (p.used ≡ length s.rows.items + 2) };
 
     ghost commits = { λ s p number new. IsChanged s p.change number new };
+
+    ghost used_after = { λ p. p.used };
 
     fn part_stamp(&self, part: u64, of: u64) -> u64 {
         if part != 0 {
@@ -87,26 +97,6 @@ impl Texts for Sheet {
         match find_row(self.rows.as_slice(), of) {
             Some((stamp, _)) => stamp,
             None => 0,
-        }
-    }
-
-    fn part_is(&self, part: u64, of: u64, value: &u64) -> bool {
-        if part != 0 {
-            return self.base == *value;
-        }
-        match find_row(self.rows.as_slice(), of) {
-            Some((_, there)) => there == *value,
-            None => false,
-        }
-    }
-
-    fn copy_part(&self, _alloc: Global, part: u64, of: u64) -> Result<Option<u64>, AllocError> {
-        if part != 0 {
-            return Ok(Some(self.base));
-        }
-        match find_row(self.rows.as_slice(), of) {
-            Some((_, there)) => Ok(Some(there)),
-            None => Ok(None),
         }
     }
 
@@ -146,6 +136,13 @@ impl Texts for Sheet {
         }
     }
 
+    fn is_used(&self, node: Node) -> bool {
+        if is_same_node(node, TENS) {
+            return true;
+        }
+        is_cell(self.rows.as_slice(), node)
+    }
+
     fn user_count(&self, node: Node) -> usize {
         match node.kind {
             Kind::Space => self.rows.len(),
@@ -168,13 +165,38 @@ impl Texts for Sheet {
         *a == *b
     }
 
-    fn copy(_alloc: Global, value: &u64) -> Result<u64, AllocError> {
-        Ok(*value)
+    fn give(&self, _alloc: Global, node: Node) -> Result<u64, AllocError> {
+        match node.kind {
+            Kind::Space => Ok(self.base),
+            Kind::Group => unreachable!(),
+            Kind::Check => unreachable!(),
+            Kind::Verdict => match find_row(self.rows.as_slice(), node.test) {
+                Some((_, value)) => Ok(value),
+                None => unreachable!(),
+            },
+        }
+    }
+
+    fn is_given(&self, node: Node, given: &u64) -> bool {
+        match node.kind {
+            Kind::Space => *given == self.base,
+            Kind::Group => false,
+            Kind::Check => false,
+            Kind::Verdict => match find_row(self.rows.as_slice(), node.test) {
+                Some((_, value)) => *given == value,
+                None => false,
+            },
+        }
+    }
+
+    fn give_again(_alloc: Global, given: &u64) -> Result<u64, AllocError> {
+        Ok(*given)
     }
 
     fn run(
         alloc: Global,
         node: Node,
+        given: &u64,
         _keys: &[Key],
         values: &[&u64],
     ) -> Result<Vec<Output<u64>>, AllocError> {
@@ -182,7 +204,7 @@ impl Texts for Sheet {
         outputs.push(Output {
             name: 0,
             stamp: 0,
-            value: result(node.kind, values),
+            value: result(node.kind, *given, values),
         })?;
         Ok(outputs)
     }
@@ -211,12 +233,20 @@ impl Texts for Sheet {
             return Err(SheetFault::Spent);
         }
         match self.rows.reserve(1) {
-            Ok(()) => Ok(Prepared { change: edit }),
+            Ok(()) => Ok(Prepared {
+                change: edit,
+                used: self.rows.len() + 2,
+            }),
             Err(_) => Err(SheetFault::OutOfMemory),
         }
     }
 
+    fn used_after(prepared: &Prepared) -> usize {
+        prepared.used
+    }
+
     fn commit(&mut self, prepared: Prepared, number: u64) {
+        self.last = number;
         match prepared.change {
             Change::Put(name, value) => put(&mut self.rows, name, value, number),
             Change::Remove(name) => remove(&mut self.rows, name),
@@ -231,21 +261,25 @@ impl Texts for Sheet {
 
     ghost same_exact = { numbers_exact };
 
-    ghost sound = { λ s. sheet_sound s.rows.items s.base_stamp s.base };
+    ghost sound = { λ s _. sheet_sound s };
 
-    ghost begins = { makes_begin };
+    ghost since_same = { since_same };
 
-    ghost stays = { changes_stay };
+    ghost since_edited = { since_changed };
+
+    ghost given_stays = { given_again };
+
+    ghost valid_edited = { changes_valid };
 
     ghost commits_edit = { prepared_changes };
 
-    ghost used_there = { λ s. all_there s.rows.items };
+    ghost used_there = { λ s _. all_there s.rows.items };
 
-    ghost used_closed = { λ s n. inputs_used s.rows.items n };
+    ghost used_closed = { λ s _ n. inputs_used s.rows.items n };
 
-    ghost users_are = { λ s n u. users_known s.rows.items n u };
+    ghost users_are = { λ s _ n u. users_known s.rows.items n u };
 
-    ghost falls = { ranks_fall };
+    ghost falls = { λ s _. ranks_fall s };
 
-    ghost goes_on = { changes_go_on };
+    ghost goes_on = { λ s t e number _. changes_go_on s t e number };
 }

@@ -1,6 +1,6 @@
 //! The calls that change a graph, returns aside, and what it shows.
 
-ghost use Rattle.std.specs.Prelude.{◌≡◌, ◌≤◌, leb, ℕ, IfOk, OnOk, OnErr, IfErr, IfSome, IfNone, Err, Some};
+ghost use Rattle.std.specs.Prelude.{◌≡◌, ◌≤◌, leb, ℕ, IsTrue, IsFalse, IfOk, OnOk, OnErr, IfErr, IfSome, IfNone, Err, Some};
 ghost use Rattle.memo_core.specs.declared.keys.Node.{Node};
 ghost use Rattle.memo_core.specs.Step.{Has, Loses, Renews, Edits, IsWork};
 ghost use Rattle.memo_core.specs.Clauses.{state_of, HasRightMemos, HasFreshClaims, IsMarked, GivesJob, IsSettledIn, ShowsSolved};
@@ -10,11 +10,12 @@ use crate::finds::claim_index;
 use crate::graph::{Graph, LAST};
 use crate::job::Job;
 use crate::keys::{Node, Output};
-use crate::marks::{is_marked, settle_all};
+use crate::marks::{are_used_marked, is_marked, settle_all};
 use crate::stores::drop_gone;
 use crate::table::stored_outputs;
 use crate::texts::Texts;
 use crate::work::{current_inputs, earlier_tokens, find_work, hold_all, present_keys};
+use indexmap::IndexMap;
 use std::alloc::Global;
 use std::sync::Arc;
 use value_store::{Store, StoreName, Token};
@@ -22,7 +23,9 @@ use value_store::{Store, StoreName, Token};
 impl<K: StoreName, T: Texts> Graph<K, T> {
     /// Nothing is kept and nothing is out yet.
     pub fn new(alloc: Global, texts: T, store: Arc<Store<K, T::Value>, Global>) -> Self
-        requires { (p q s : ℕ) (v : T.Value) → (T.net texts).part p q ≡ Some (s, v) → s ≡ 0 }
+        requires new { (p q : ℕ) → (T.net texts).part p q ≡ 0 }
+        requires last { T.last texts ≡ 0 }
+        requires valid { T.is_valid texts }
         ensures texts { result.texts ≡ texts }
         ensures taken { result.taken ≡ 0 }
         ensures right { HasRightMemos result }
@@ -31,9 +34,10 @@ impl<K: StoreName, T: Texts> Graph<K, T> {
     {
         Graph {
             texts,
-            memos: Vec::new(alloc),
+            memos: IndexMap::new(alloc),
             claims: Vec::new(alloc),
             taken: 0,
+            next: 0,
             store,
         }
     }
@@ -85,17 +89,19 @@ impl<K: StoreName, T: Texts> Graph<K, T> {
         if self.taken >= LAST {
             return Err(ClaimFault::Spent);
         }
-        let memos = self.memos.as_slice();
-        let node = match find_work(&self.texts, memos, self.claims.as_slice()) {
+        let memos = &self.memos;
+        let at = match find_work(&self.texts, memos, self.claims.as_slice(), self.next) {
             None => return Ok(None),
-            Some(node) => node,
+            Some(at) => at,
         };
+        let node = self.texts.used_at(at);
         let keys = present_keys(alloc, &self.texts, node)?;
         let inputs = current_inputs(alloc, &self.texts, memos, node)?;
         let values = match hold_all(alloc, &self.texts, memos, node)? {
             Some(values) => values,
             None => unreachable!(),
         };
+        let given = self.texts.give(alloc, node)?;
         let before = earlier_tokens(alloc, memos, node)?;
         let store = Arc::try_clone(&self.store)?;
         self.memos.reserve(self.claims.len() + 1)?;
@@ -107,9 +113,11 @@ impl<K: StoreName, T: Texts> Graph<K, T> {
         };
         self.claims.push(claim)?;
         self.taken = number;
+        self.next = at;
         Ok(Some(Job {
             claim: number,
             node,
+            given,
             keys,
             values,
             before,
@@ -126,7 +134,7 @@ impl<K: StoreName, T: Texts> Graph<K, T> {
         ensures fresh { HasFreshClaims self.new }
         ensures marks { IsMarked self.new }
         ensures texts { self.new.texts ≡ self.old.texts }
-        ensures memos { self.new.memos.items ≡ self.old.memos.items }
+        ensures memos { self.new.memos.entries ≡ self.old.memos.entries }
         ensures taken { self.new.taken ≡ self.old.taken }
         ensures step { Loses (state_of self.old) claim result (state_of self.new) }
     {
@@ -163,7 +171,7 @@ impl<K: StoreName, T: Texts> Graph<K, T> {
         ensures settled { IfSome result (λ _. IsSettledIn self.now node) }
         ensures solved { IfSome result (λ outputs. ShowsSolved self.now node outputs.now) }
     {
-        let memos = self.memos.as_slice();
+        let memos = &self.memos;
         if !is_marked(memos, node) {
             return None;
         }
@@ -171,6 +179,16 @@ impl<K: StoreName, T: Texts> Graph<K, T> {
             Some(outputs) => Some(outputs),
             None => unreachable!(),
         }
+    }
+
+    /// Whether every used node is settled.
+    pub fn all_settled(&self) -> bool
+        requires right { HasRightMemos self.now }
+        requires marks { IsMarked self.now }
+        ensures yes { IsTrue result → (n : Node) → Has ((T.net self.now.texts).used) n → IsSettledIn self.now n }
+        ensures no { IsFalse result → (n : Node) × Has ((T.net self.now.texts).used) n × (IsSettledIn self.now n → ⊥) }
+    {
+        are_used_marked(&self.texts, &self.memos)
     }
 
     /// The value that an output's token shows.

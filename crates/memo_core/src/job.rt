@@ -1,9 +1,9 @@
 //! What is handed out to be computed, and what comes back.
 
 ghost use Rattle.std.specs.Prelude.{◌≡◌, ◌≤◌, IfOk, IfErr, length, vec_len, vec_capacity};
-ghost use Rattle.memo_core.specs.Clauses.{IsComputed, return_from};
+ghost use Rattle.memo_core.specs.Clauses.{IsComputed, IsOfJob, return_from};
 
-use crate::keys::{Held, Key, Node, Output};
+use crate::keys::{Key, Node, Output};
 use crate::texts::Texts;
 use crate::work::{copy_keys, copy_outputs, copy_values, put_all, run_node};
 use std::alloc::{AllocError, Global};
@@ -16,8 +16,10 @@ pub struct Job<K: StoreName, T: Texts> {
     /// The number of its claim.
     pub claim: u64,
     pub node: Node,
+    /// What its node's texts gave.
+    pub given: T::Given,
     pub keys: Vec<Key>,
-    pub values: Vec<Held<T::Value, Token<K, T::Value>>>,
+    pub values: Vec<Token<K, T::Value>>,
     /// What the node had, so that an equal value is not stored again.
     pub before: Vec<Output<Token<K, T::Value>>>,
     pub(crate) store: Arc<Store<K, T::Value>, Global>,
@@ -29,8 +31,10 @@ pub struct Done<K: StoreName, T: Texts> {
     /// The number of its claim.
     pub claim: u64,
     pub node: Node,
+    /// What its node's texts gave.
+    pub given: T::Given,
     pub keys: Vec<Key>,
-    pub values: Vec<Held<T::Value, Token<K, T::Value>>>,
+    pub values: Vec<Token<K, T::Value>>,
     pub outputs: Vec<Output<Token<K, T::Value>>>,
     /// Empty, with room for the name of each output.
     pub names: Vec<u64>,
@@ -41,7 +45,7 @@ impl<K: StoreName, T: Texts> Job<K, T> {
     /// for their names. Where memory is refused or the store is full, the job comes back as it was;
     /// what was already put stays in the store. It may wait while another thread grows the store.
     pub fn run<R: Wait>(self, rt: &R, alloc: Global) -> Result<Done<K, T>, (Job<K, T>, StoreFault)>
-        ensures same { IfOk result (λ done. (done.claim ≡ self.claim) × (done.node ≡ self.node) × (done.keys ≡ self.keys) × (done.values ≡ self.values)) }
+        ensures same { IfOk result (IsOfJob self) }
         ensures computed { IfOk result (λ done. IsComputed T.makes done) }
         ensures empty { IfOk result (λ done. vec_len done.names ≡ 0) }
         ensures room { IfOk result (λ done. length done.outputs.items ≤ vec_capacity done.names) }
@@ -51,6 +55,7 @@ impl<K: StoreName, T: Texts> Job<K, T> {
             alloc,
             &self.store,
             self.node,
+            &self.given,
             self.keys.as_slice(),
             self.values.as_slice(),
         );
@@ -70,6 +75,7 @@ impl<K: StoreName, T: Texts> Job<K, T> {
         let Job {
             claim,
             node,
+            given,
             keys,
             values,
             before: _,
@@ -78,6 +84,7 @@ impl<K: StoreName, T: Texts> Job<K, T> {
         Ok(Done {
             claim,
             node,
+            given,
             keys,
             values,
             outputs,
@@ -102,12 +109,14 @@ impl<K: StoreName, T: Texts> Done<K, T> {
         ensures room { IfOk result (λ copy. length copy.outputs.items ≤ vec_capacity copy.names) }
     {
         let keys = copy_keys(alloc, self.keys.as_slice())?;
-        let values = copy_values::<K, T>(alloc, self.values.as_slice())?;
+        let given = T::give_again(alloc, &self.given)?;
+        let values = copy_values(alloc, self.values.as_slice())?;
         let outputs = copy_outputs(alloc, self.outputs.as_slice())?;
         let names = Vec::with_capacity(alloc, outputs.len())?;
         Ok(Done {
             claim: self.claim,
             node: self.node,
+            given,
             keys,
             values,
             outputs,

@@ -4,12 +4,12 @@ ghost use Rattle.std.specs.Prelude.{◌≡◌, ◌≤◌, length, vec_len, vec_c
 ghost use Rattle.memo_core.specs.Step.{IsJudged, Finishes};
 ghost use Rattle.memo_core.specs.Clauses.{state_of, return_from, IsComputed, HasRightMemos, HasFreshClaims, IsMarked};
 
-use crate::claims::{Claim, Finish, Judgement, is_used, values_are};
+use crate::claims::{Claim, Finish, Judgement, values_are};
 use crate::finds::{claim_index, first_stale, keys_are};
 use crate::graph::Graph;
 use crate::job::Done;
 use crate::keys::is_same_node;
-use crate::marks::settle_in;
+use crate::marks::settle;
 use crate::stores::{restamp_all, store_memo};
 use crate::table::{Kept, are_present};
 use crate::texts::Texts;
@@ -18,6 +18,7 @@ use value_store::StoreName;
 impl<K: StoreName, T: Texts> Graph<K, T> {
     /// What a return is, before anything is done.
     fn judge(&self, done: &Done<K, T>) -> Judgement
+        requires { HasRightMemos self.now }
         ensures { IsJudged (state_of self.now) (return_from done.now) result }
     {
         let at = match claim_index(self.claims.as_slice(), done.claim) {
@@ -28,10 +29,10 @@ impl<K: StoreName, T: Texts> Graph<K, T> {
         if !is_same_node(claim.node, done.node) {
             return Judgement::Undue;
         }
-        if !is_used(&self.texts, done.node) {
+        if !self.texts.is_used(done.node) {
             return Judgement::Late(at, None);
         }
-        let memos = self.memos.as_slice();
+        let memos = &self.memos;
         if !are_present(&self.texts, memos, done.node, claim.inputs.as_slice()) {
             let stamp = first_stale(&self.texts, memos, done.node, claim.inputs.as_slice());
             return Judgement::Late(at, Some(stamp));
@@ -39,13 +40,11 @@ impl<K: StoreName, T: Texts> Graph<K, T> {
         if !keys_are(&self.texts, done.node, done.keys.as_slice()) {
             return Judgement::Undue;
         }
-        if !values_are(
-            &self.store,
-            &self.texts,
-            memos,
-            done.keys.as_slice(),
-            done.values.as_slice(),
-        ) {
+        if !self.texts.is_given(done.node, &done.given) {
+            return Judgement::Undue;
+        }
+        let values = done.values.as_slice();
+        if !values_are::<K, T>(&self.store, memos, done.keys.as_slice(), values) {
             return Judgement::Undue;
         }
         Judgement::Due(at)
@@ -71,6 +70,7 @@ impl<K: StoreName, T: Texts> Graph<K, T> {
         let Done {
             claim: _,
             node,
+            given: _,
             keys: _,
             values: _,
             mut outputs,
@@ -81,7 +81,7 @@ impl<K: StoreName, T: Texts> Graph<K, T> {
             node: _,
             inputs,
         } = claim;
-        let memos = self.memos.as_slice();
+        let memos = &self.memos;
         restamp_all::<K, T>(
             &self.store,
             memos,
@@ -90,14 +90,13 @@ impl<K: StoreName, T: Texts> Graph<K, T> {
             &mut outputs,
             &mut names,
         );
-        let memo = Kept {
-            node,
+        let kept = Kept {
             inputs,
             outputs,
             settled: false,
         };
-        store_memo(&mut self.memos, memo);
-        settle_in(&self.texts, &mut self.memos, node);
+        store_memo(&mut self.memos, node, kept);
+        settle(&self.texts, &mut self.memos, node);
         if names.is_empty() {
             Finish::Same
         } else {
