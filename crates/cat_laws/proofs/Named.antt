@@ -19,9 +19,9 @@ use Rattle.cat_tokens.specs.Lexer.{is_layout, is_name_byte, ends_name, comment_f
 use Rattle.source_text.specs.Letters.{is_letter}
 use Rattle.cat_grammar.specs.Grammar as grammar
 use Rattle.cat_tokens.specs.Tokens.{Placed, tokens_of}
-use Rattle.cat_grammar.specs.Grammar.{Tree, Trees, Word, Underscore, Zero, Braces, Pair, Post, Prefix, Group, Square, Application, Last, More, infix_token, postfix_token, spelled, spelled_arguments, meaning, meanings, Limits, Bound, CheckTree, ItemTree, Let, Check, Flag, Show, Include, show_token, spelled_rec, spelled_tilde, spelled_label, spelled_bound, spelled_group, spelled_parameters, spelled_check, spelled_one, spelled_shown, spelled_item, spelled_items, group_meaning, shown_meaning, item_meaning, items_meaning, IsItem, AreItems, Title, NoTitle, NameTitle, StringTitle, spelled_title, Means}
-use Rattle.cat_printing.specs.Written as written
-use Rattle.cat_printing.specs.Written.{IsName, IsTerm, AreTerms, AreOthers, AreNames, IsLabel, AreBindings, IsWritten, AreWritten, IsTextOfItem, IsTextOfModel}
+use Rattle.cat_grammar.specs.Grammar.{Tree, Trees, Word, Underscore, Zero, Braces, Pair, Post, Prefix, Group, Square, Application, Last, More, infix_token, postfix_token, spelled, spelled_arguments, meaning, meanings, Limits, limits, Bound, CheckTree, ItemTree, Let, Check, Flag, Show, Include, show_token, spelled_rec, spelled_tilde, spelled_label, spelled_bound, spelled_group, spelled_parameters, spelled_check, spelled_one, spelled_shown, spelled_item, spelled_items, group_meaning, shown_meaning, item_meaning, items_meaning, IsItem, AreItems, Title, NoTitle, NameTitle, StringTitle, spelled_title, Means}
+use Rattle.cat_laws.specs.Written as written
+use Rattle.cat_laws.specs.Written.{IsName, IsTerm, AreTerms, AreOthers, AreNames, IsLabel, AreBindings, IsWritten, AreWritten, IsTextOfItem, IsTextOfModel, ReadsItem, ReadsModel}
 
 -- ---- tokens
 
@@ -290,3 +290,9 @@ item_is_written bytes c h = (meant_is_written bytes h.0 forms.Item (c ∷ []) h.
 
 pub model_is_written : (bytes : List ℕ) (cs : List Clause) → IsTextOfModel bytes cs → AreWritten cs
 model_is_written bytes cs h = meant_is_written bytes h.0 forms.Model cs h.1
+
+pub item_was_written : (bytes : List ℕ) (c : Clause) → ReadsItem bytes c → IsWritten c
+item_was_written bytes c r = (meant_is_written bytes limits forms.Item (c ∷ []) r.means).0
+
+pub model_was_written : (bytes : List ℕ) (cs : List Clause) → ReadsModel bytes cs → AreWritten cs
+model_was_written bytes cs r = meant_is_written bytes limits forms.Model cs r.means

@@ -1,0 +1,4 @@
+pub mod Again
+pub mod Named
+pub mod Printed
+pub mod PrintedTrees

@@ -1,0 +1,36 @@
+//! Laws of the definitions.
+
+ghost use Rattle.std.specs.Prelude.{List, ℕ};
+ghost use Rattle.cat_values.specs.Value.{Clause};
+ghost use Rattle.cat_printing.specs.Printing.{printed_item, printed_model};
+ghost use Rattle.cat_laws.specs.Written.{IsWritten, AreWritten, IsTextOfItem, IsTextOfModel, IsItemWithinLimits, IsModelWithinLimits, ItemStaysWithin, ModelStaysWithin, ReadsItem, ReadsModel};
+
+/// The printed item is read as that item.
+pub fn printed_item_is_read()
+    // The limits of length, nesting and number aside.
+    ensures text { (c : Clause) → IsWritten c → IsTextOfItem (printed_item c) c }
+    // Within them, as the reader reads.
+    ensures reads { (c : Clause) → IsWritten c → IsItemWithinLimits c → ReadsItem (printed_item c) c }
+    // What was read from some text is read again, where its printed text stays within the limits of length and nesting.
+    ensures again { (bytes : List ℕ) (c : Clause) → ReadsItem bytes c → ItemStaysWithin c → ReadsItem (printed_item c) c }
+{}
+
+/// The printed model is read as that model.
+pub fn printed_is_read()
+    // The limits of length, nesting and number aside.
+    ensures text { (cs : List Clause) → AreWritten cs → IsTextOfModel (printed_model cs) cs }
+    // Within them, as the reader reads.
+    ensures reads { (cs : List Clause) → AreWritten cs → IsModelWithinLimits cs → ReadsModel (printed_model cs) cs }
+    // What was read from some text is read again, where its printed text stays within the limits of length and nesting.
+    ensures again { (bytes : List ℕ) (cs : List Clause) → ReadsModel bytes cs → ModelStaysWithin cs → ReadsModel (printed_model cs) cs }
+{}
+
+/// What a text reads as can be printed so.
+pub fn read_is_written()
+    // The limits of length, nesting and number aside.
+    ensures item { (bytes : List ℕ) (c : Clause) → IsTextOfItem bytes c → IsWritten c }
+    ensures model { (bytes : List ℕ) (cs : List Clause) → IsTextOfModel bytes cs → AreWritten cs }
+    // So what the reader reads.
+    ensures read_item { (bytes : List ℕ) (c : Clause) → ReadsItem bytes c → IsWritten c }
+    ensures read_model { (bytes : List ℕ) (cs : List Clause) → ReadsModel bytes cs → AreWritten cs }
+{}
