@@ -7,6 +7,7 @@ pub mod Meant
 pub mod MeantRows
 pub mod MeantTests
 pub mod Numbers
+pub mod Parts
 pub mod Places
 pub mod Read
 pub mod Rows

@@ -1,10 +1,18 @@
 //! Laws of the definitions.
 
-ghost use Rattle.std.specs.Prelude.{◌<◌, ℕ, List};
+ghost use Rattle.std.specs.Prelude.{◌≡◌, ◌<◌, ℕ, List};
+ghost use Rattle.litmus_tokens.specs.declared.rule.LitmusRule.{LitmusRule};
+ghost use Rattle.litmus_tokens.specs.declared.stage.Stage.TheVariants.{Magic};
+ghost use Rattle.litmus_tokens.specs.declared.token.Token.{Token};
+ghost use Rattle.litmus_tokens.specs.Stage.{rule_of};
+ghost use Rattle.litmus_tokens.specs.Texts.{Placed, stage_after};
+ghost use Rattle.litmus_conditions.specs.Grammar.{Limits};
+ghost use Rattle.litmus_grammar.specs.Grammar.{TestTree, IsTest as IsTestTree, spelled_test};
 ghost use Rattle.litmus_values.specs.declared.test.Quantifier.{Quantifier};
 ghost use Rattle.litmus_values.specs.Value.{Formula, Content};
 ghost use Rattle.litmus_printing.specs.Printing.{condition_text, printed};
 ghost use Rattle.litmus_grammar.specs.Texts.{ReadsCondition, ReadsTest};
+ghost use Rattle.litmus_laws.specs.Parts.{tokens_in, test_parts, StandsIn, IsRefusal, IsOfItsPart};
 ghost use Rattle.litmus_laws.specs.Written.{IsFormula, IsTest, IsTextOfCondition, IsTextOfTest, IsWithinLimits};
 
 /// The printed condition is read as that condition, in a test of `threads` threads.
@@ -37,4 +45,15 @@ pub fn read_is_written()
     ensures text { (bytes : List ℕ) (v : Content) → IsTextOfTest bytes v → IsTest v }
     // So what the reader reads.
     ensures reads { (bytes : List ℕ) (v : Content) → ReadsTest bytes v → IsTest v }
+{}
+
+/// The number of a refused test is that of the part in which the refused token would stand: `PPC`, the name, what stands
+/// before the header, the header, the rows, and what stands behind them. A token that names a rule of its own has that.
+pub fn refusals_are_of_their_parts()
+    // The parts of a test are its text.
+    ensures whole { (t : TestTree) → tokens_in (test_parts t) ≡ spelled_test t }
+    // The part that the tokens so far lead to is the one in which the next token stands.
+    ensures stage { (most : Limits) (t : TestTree) (before : List Token) (here : Token) (rule : LitmusRule) → IsTestTree most t → StandsIn (test_parts t) before here rule → rule_of (stage_after Magic before) ≡ rule }
+    // So a refusal has the part's number, in whatever test it would stand.
+    ensures refusal { (most : Limits) (t : TestTree) (ps : List Placed) (rule : LitmusRule) (offset : ℕ) → IsTestTree most t → (f : IsRefusal ps rule offset) → IsOfItsPart ps rule offset f t }
 {}
