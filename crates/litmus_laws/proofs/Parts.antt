@@ -12,22 +12,23 @@ use Rattle.litmus_tokens.specs.declared.stage.Stage.TheVariants as stages
 use Rattle.litmus_tokens.specs.declared.token.Token.{Token}
 use Rattle.litmus_tokens.specs.declared.token.Token.TheVariants as tokens
 use Rattle.litmus_tokens.specs.declared.token.Mark.TheVariants as marks
-use Rattle.litmus_tokens.specs.Faults.{Ruling, Always, Where, Says, ruling, part_ruling, cell_ruling, word_ruling}
+use Rattle.litmus_tokens.specs.Faults.{IsFault, Ruling, Always, Where, Says, ruling, part_ruling, cell_ruling, word_ruling}
 use Rattle.litmus_tokens.specs.Stage.{rule_of, after, after_brace}
 use Rattle.litmus_tokens.specs.Texts.{Placed, tokens_of, stage_after, are_none}
 use Rattle.litmus_tokens.specs.Words.{ends_table, is_filter, is_int, column_name}
 use Rattle.litmus_values.specs.declared.test.Quantifier.{Quantifier}
 use Rattle.litmus_values.specs.declared.test.Quantifier.TheVariants.{Exists, NotExists, Forall}
-use Rattle.litmus_conditions.specs.Grammar.{PlaceTree, Location, Register, ValueTree, Number, Address, FormulaTree, spelled_place, spelled_value, spelled_quantifier, Limits}
+use Rattle.litmus_conditions.specs.Grammar.{PlaceTree, Location, Register, ValueTree, Number, Address, FormulaTree, spelled_place, spelled_value, spelled_quantifier, Limits, limits, IsConditionText}
 use Rattle.litmus_table.specs.declared.opcode.Opcode.{Opcode}
 use Rattle.litmus_table.specs.declared.opcode.Opcode.TheVariants as opcodes
 use Rattle.litmus_table.specs.declared.opcode.Want.{Want}
 use Rattle.litmus_table.specs.declared.opcode.Want.TheVariants as wants
 use Rattle.litmus_table.specs.Words.{opcode_of, computing_of, accessing_of, fence_of, branch_of, fits, all_fit, data_form, is_label, takes}
-use Rattle.litmus_table.specs.Grammar.{InstructionTree, CellTree, RowTree, spelled_label, spelled_instruction, spelled_cell, spelled_cells, spelled_rows, spelled_names, spelled_header, IsOperation, IsInstruction, AreCells, AreRows}
-use Rattle.litmus_grammar.specs.Grammar.{Listed, EntryTree, TestTree, spelled_entry, spelled_end, spelled_others, spelled_listed, spelled_init, spelled_items, spelled_observed, spelled_condition, spelled_text, spelled_keylines, spelled_test, IsTest}
+use Rattle.litmus_table.specs.Grammar.{InstructionTree, CellTree, RowTree, ThreadTree, spelled_steps, spelled_thread, spelled_label, spelled_instruction, spelled_cell, spelled_cells, spelled_rows, spelled_names, spelled_header, IsOperation, IsInstruction, AreCells, AreRows}
+use Rattle.litmus_grammar.specs.Grammar.{Listed, EntryTree, TestTree, spelled_entry, spelled_end, spelled_others, spelled_listed, spelled_init, spelled_items, spelled_observed, spelled_condition, spelled_text, spelled_keylines, spelled_test, IsTest, IsInitText, IsThreadText, IsLocationsText}
+use Rattle.litmus_grammar.specs.Texts.{IsStart}
 use Rattle.litmus_grammar.proofs.Spelled.{init-append, names-append, rows-append}
-use Rattle.litmus_laws.specs.Parts.{Part, part, tokens_in, tail_of, test_parts, StandsIn, is_named, IsNumbered, OfToken, Named, OfPart, IsRefusal, IsOfItsPart}
+use Rattle.litmus_laws.specs.Parts.{Part, part, tokens_in, tail_of, test_parts, StandsIn, is_named, IsNumbered, OfToken, Named, OfPart, IsRefusal, IsOfItsPart, IsOfPart}
 
 -- ---- walks
 
@@ -322,3 +323,49 @@ pub refusal_of_part : (most : Limits) (t : TestTree) (ps : List Placed) (rule : 
 refusal_of_part most t ps rule offset h f there of_part x =
     subst (λ (r : LitmusRule). IsNumbered f.here.token r rule) (stage_of_part most t (tokens_of f.before) there of_part h x)
     (numbered _ (stage_after stages.Magic (tokens_of f.before)) f.here.token rule f.number)
+
+-- ---- parts that are read alone
+
+init_stays : (word : Bool) (ts : List Token) → rule_of (stage_after (stages.Init true word) ts) ≡ rules.Init
+init_stays word [] = refl
+init_stays word (tokens.Word w ∷ ts) = init_stays true ts
+init_stays word (tokens.Mark marks.CloseBrace ∷ ts) = init_stays false ts
+init_stays word (t ∷ ts) = init_stays false ts
+
+tail_stays : (ts : List Token) → rule_of (stage_after stages.Tail ts) ≡ rules.Condition
+tail_stays [] = refl
+tail_stays (t ∷ ts) = tail_stays ts
+
+steps_walk : (cs : List CellTree) → AreCells cs → Both stages.InCell (spelled_steps cs (tokens.End ∷ []))
+steps_walk [] h = record { begins = (refl, refl); within = (refl, refl) }
+steps_walk (c ∷ cs) h =
+    let x = cell_walk c.label c.instruction (spelled_steps cs (tokens.End ∷ [])) stages.InCell h.0 (steps_walk cs h.1) in
+    record { begins = (refl, x); within = (refl, x) }
+
+front_stands : (s : Stage) (before rest : List Token) → InRow s stages.InCell (before ++ rest) → rule_of (stage_after s before) ≡ rules.Instruction
+front_stands s [] [] w = ap rule_of w
+front_stands s [] (t ∷ ts) w = w.0
+front_stands s (t ∷ ts) rest w = front_stands (after s t) ts rest w.1
+
+thread_stays : (before rest : List Token) (t : ThreadTree) → AreCells (t.first ∷ t.others) → before ++ rest ≡ spelled_thread t (tokens.End ∷ []) → rule_of (stage_after stages.CellBegins before) ≡ rules.Instruction
+thread_stays before rest t h e =
+    front_stands stages.CellBegins before rest (subst (InRow stages.CellBegins stages.InCell) (sym e)
+    (cell_walk t.first.label t.first.instruction (spelled_steps t.others (tokens.End ∷ [])) stages.InCell h.0 (steps_walk t.others h.1)))
+
+module _ (ps : List Placed) (rule : LitmusRule) (offset : ℕ) where
+  of_rule : (IsText : List Token → Type 0) (start : Stage) (of_part : LitmusRule) (f : IsFault IsText start ps rule offset) → rule_of (stage_after start (tokens_of f.before)) ≡ of_part → IsNumbered f.here.token of_part rule
+  of_rule IsText start of_part f e = subst (λ (r : LitmusRule). IsNumbered f.here.token r rule) e (numbered _ (stage_after start (tokens_of f.before)) f.here.token rule f.number)
+
+  pub init_refusal : (f : IsFault (IsStart IsInitText (stages.Init true false)) (stages.Init true false) ps rule offset) → IsOfPart rules.Init f
+  init_refusal f = of_rule _ (stages.Init true false) rules.Init f (init_stays false (tokens_of f.before))
+
+  pub thread_refusal : (f : IsFault IsThreadText stages.CellBegins ps rule offset) → IsOfPart rules.Instruction f
+  thread_refusal f =
+      let b = f.begins in
+      of_rule _ stages.CellBegins rules.Instruction f (thread_stays (tokens_of f.before) b.rest b.text.tree b.text.fine b.text.whole)
+
+  pub locations_refusal : (threads : ℕ) (f : IsFault (IsLocationsText threads) stages.Tail ps rule offset) → IsOfPart rules.Condition f
+  locations_refusal threads f = of_rule _ stages.Tail rules.Condition f (tail_stays (tokens_of f.before))
+
+  pub condition_refusal : (threads : ℕ) (f : IsFault (IsConditionText limits threads) stages.Tail ps rule offset) → IsOfPart rules.Condition f
+  condition_refusal threads f = of_rule _ stages.Tail rules.Condition f (tail_stays (tokens_of f.before))

@@ -1,18 +1,20 @@
 //! Laws of the definitions.
 
-ghost use Rattle.std.specs.Prelude.{◌≡◌, ◌<◌, ℕ, List};
+ghost use Rattle.std.specs.Prelude.{◌≡◌, ◌<◌, ℕ, true, false, List};
 ghost use Rattle.litmus_tokens.specs.declared.rule.LitmusRule.{LitmusRule};
-ghost use Rattle.litmus_tokens.specs.declared.stage.Stage.TheVariants.{Magic};
+ghost use Rattle.litmus_tokens.specs.declared.rule.LitmusRule.TheVariants as rules;
+ghost use Rattle.litmus_tokens.specs.Faults.{IsFault};
+ghost use Rattle.litmus_tokens.specs.declared.stage.Stage.TheVariants.{Magic, Init, CellBegins, Tail};
 ghost use Rattle.litmus_tokens.specs.declared.token.Token.{Token};
 ghost use Rattle.litmus_tokens.specs.Stage.{rule_of};
 ghost use Rattle.litmus_tokens.specs.Texts.{Placed, stage_after};
-ghost use Rattle.litmus_conditions.specs.Grammar.{Limits};
-ghost use Rattle.litmus_grammar.specs.Grammar.{TestTree, IsTest as IsTestTree, spelled_test};
+ghost use Rattle.litmus_conditions.specs.Grammar.{Limits, limits, IsConditionText};
+ghost use Rattle.litmus_grammar.specs.Grammar.{TestTree, IsTest as IsTestTree, spelled_test, IsInitText, IsThreadText, IsLocationsText};
 ghost use Rattle.litmus_values.specs.declared.test.Quantifier.{Quantifier};
 ghost use Rattle.litmus_values.specs.Value.{Formula, Content};
 ghost use Rattle.litmus_printing.specs.Printing.{condition_text, printed};
-ghost use Rattle.litmus_grammar.specs.Texts.{ReadsCondition, ReadsTest};
-ghost use Rattle.litmus_laws.specs.Parts.{tokens_in, test_parts, StandsIn, IsRefusal, IsOfItsPart};
+ghost use Rattle.litmus_grammar.specs.Texts.{IsStart, ReadsCondition, ReadsTest};
+ghost use Rattle.litmus_laws.specs.Parts.{tokens_in, test_parts, StandsIn, IsRefusal, IsOfItsPart, IsOfPart};
 ghost use Rattle.litmus_laws.specs.Written.{IsFormula, IsTest, IsTextOfCondition, IsTextOfTest, IsWithinLimits};
 
 /// The printed condition is read as that condition, in a test of `threads` threads.
@@ -56,4 +58,12 @@ pub fn refusals_are_of_their_parts()
     ensures stage { (most : Limits) (t : TestTree) (before : List Token) (here : Token) (rule : LitmusRule) → IsTestTree most t → StandsIn (test_parts t) before here rule → rule_of (stage_after Magic before) ≡ rule }
     // So a refusal has the part's number, in whatever test it would stand.
     ensures refusal { (most : Limits) (t : TestTree) (ps : List Placed) (rule : LitmusRule) (offset : ℕ) → IsTestTree most t → (f : IsRefusal ps rule offset) → IsOfItsPart ps rule offset f t }
+{}
+
+/// The number of a refused part that is read alone is that part's, unless the refused token names a rule of its own.
+pub fn refusals_of_parts()
+    ensures init { (ps : List Placed) (rule : LitmusRule) (offset : ℕ) → (f : IsFault (IsStart IsInitText (Init true false)) (Init true false) ps rule offset) → IsOfPart rules.Init f }
+    ensures thread { (ps : List Placed) (rule : LitmusRule) (offset : ℕ) → (f : IsFault IsThreadText CellBegins ps rule offset) → IsOfPart rules.Instruction f }
+    ensures locations { (threads : ℕ) (ps : List Placed) (rule : LitmusRule) (offset : ℕ) → (f : IsFault (IsLocationsText threads) Tail ps rule offset) → IsOfPart rules.Condition f }
+    ensures condition { (threads : ℕ) (ps : List Placed) (rule : LitmusRule) (offset : ℕ) → (f : IsFault (IsConditionText limits threads) Tail ps rule offset) → IsOfPart rules.Condition f }
 {}
