@@ -1,4 +1,5 @@
 pub mod Again
+pub mod Cuts
 pub mod Named
 pub mod Printed
 pub mod PrintedTrees

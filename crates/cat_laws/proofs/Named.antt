@@ -42,7 +42,7 @@ IsNamedOption None = Unit {0}
 IsNamedOption (Some t) = IsNamed t
 
 -- by a test
-tested : {A : Type 0} (P : A → Type 0) (b : Bool) (x y : A) → (b ≡ true → P x) → (b ≡ false → P y) → P (if b then x else y)
+pub tested : {A : Type 0} (P : A → Type 0) (b : Bool) (x y : A) → (b ≡ true → P x) → (b ≡ false → P y) → P (if b then x else y)
 tested P true x y p q = p refl
 tested P false x y p q = q refl
 
@@ -93,10 +93,10 @@ module _ (n : List ℕ) (first : is_letter (slice_index n 0) ≡ true) (each : (
   pub word_named : IsNamed (word_token n)
   word_named = by_item (item_word n) (item_named n) refl
 
-letter_in_name : (b : ℕ) → is_letter b ≡ true → is_name_byte b ≡ true
+pub letter_in_name : (b : ℕ) → is_letter b ≡ true → is_name_byte b ≡ true
 letter_in_name b h = grind (arith, nat_tests)
 
-first_of : (b : ℕ) (bs : List ℕ) → is_letter b ≡ true → slice_index (take (position_or_len ends_name (b ∷ bs)) (b ∷ bs)) 0 ≡ b
+pub first_of : (b : ℕ) (bs : List ℕ) → is_letter b ≡ true → slice_index (take (position_or_len ends_name (b ∷ bs)) (b ∷ bs)) 0 ≡ b
 first_of b bs h =
     let some : position_or_len ends_name (b ∷ bs) ≡ suc (position_or_len ends_name bs) = ap (λ (x : Bool). if x then 1 + position_or_len ends_name bs else 0) (twice (is_name_byte b) ∙ letter_in_name b h) ∙ one_more (position_or_len ends_name bs) in
     ap (λ (k : ℕ). slice_index (take k (b ∷ bs)) 0) some
@@ -112,7 +112,7 @@ name_byte : (b : Bool) → not b ≡ false → b ≡ true
 name_byte true h = refl
 name_byte false h = sym h
 
-each_of : (bs : List ℕ) (k : ℕ) → k < length (take (position_or_len ends_name bs) bs) → is_name_byte (slice_index (take (position_or_len ends_name bs) bs) k) ≡ true
+pub each_of : (bs : List ℕ) (k : ℕ) → k < length (take (position_or_len ends_name bs) bs) → is_name_byte (slice_index (take (position_or_len ends_name bs) bs) k) ≡ true
 each_of bs k lt =
     let n = position_or_len ends_name bs in
     let l = length-take n bs in

@@ -3,6 +3,8 @@
 ghost use Rattle.std.specs.Prelude.{List, ℕ};
 ghost use Rattle.cat_values.specs.Value.{Clause};
 ghost use Rattle.cat_printing.specs.Printing.{printed_item, printed_model};
+ghost use Rattle.cat_tokens.specs.Lexer.{lexed};
+ghost use Rattle.cat_laws.specs.Tokens.{IsCut, AreRising};
 ghost use Rattle.cat_laws.specs.Written.{IsWritten, AreWritten, IsTextOfItem, IsTextOfModel, IsItemWithinLimits, IsModelWithinLimits, ItemStaysWithin, ModelStaysWithin, ReadsItem, ReadsModel};
 
 /// The printed item is read as that item.
@@ -33,4 +35,13 @@ pub fn read_is_written()
     // So what the reader reads.
     ensures read_item { (bytes : List ℕ) (c : Clause) → ReadsItem bytes c → IsWritten c }
     ensures read_model { (bytes : List ℕ) (cs : List Clause) → ReadsModel bytes cs → AreWritten cs }
+{}
+
+/// The tokens of a model's text are the longest pieces that spell tokens. With the gaps between them (blanks, line ends
+/// and comments) they cover the text, in rising order.
+pub fn tokens_cover_the_text()
+    // The text is cut into such pieces, and its tokens are theirs.
+    ensures cut { (bytes : List ℕ) → IsCut bytes (lexed bytes) }
+    // Each token begins behind the one before it.
+    ensures rising { (bytes : List ℕ) → AreRising 0 (lexed bytes) }
 {}

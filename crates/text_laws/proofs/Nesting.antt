@@ -1,5 +1,5 @@
 -- Where a comment ends is where its tree ends.
-use Rattle.std.proofs.Common.{◌≡◌, ℕ, zero, suc, ◌+◌, ◌-◌, ◌≤◌, Bool, true, false, List, [], ◌∷◌, length, drop, refl, sym, ap, ◌∙◌, subst, arith}
+use Rattle.std.proofs.Common.{◌≡◌, ℕ, zero, suc, ◌+◌, ◌-◌, ◌<◌, ◌≤◌, Bool, true, false, List, [], ◌∷◌, length, drop, refl, sym, ap, ◌∙◌, subst, arith}
 use Rattle.std.specs.Prelude.{Option, Some, None, slice_index, ◌==◌, ◌&&◌, ◌||◌, if◌then◌else◌}
 use Rattle.std.proofs.lemmas.Bool.Decides.{nat_tests}
 use Rattle.source_text.specs.Layout.{comment_from, comment_through, comment_of}
@@ -100,11 +100,11 @@ both : (x y : Bool) → (x && y) ≡ true → (x ≡ true) × (y ≡ true)
 both true y h = (refl, h)
 both false y h = absurd cc
 
-equal : (a b : ℕ) → (a == b) ≡ true → a ≡ b
+pub equal : (a b : ℕ) → (a == b) ≡ true → a ≡ b
 equal a b h = grind (arith, nat_tests)
 
 -- two bytes, by the tests on them
-two_bytes : (p q b : ℕ) (bs : List ℕ) → (b == p && slice_index bs 0 == suc q) ≡ true → (b ≡ p) × (bs ≡ suc q ∷ drop 1 bs)
+pub two_bytes : (p q b : ℕ) (bs : List ℕ) → (b == p && slice_index bs 0 == suc q) ≡ true → (b ≡ p) × (bs ≡ suc q ∷ drop 1 bs)
 two_bytes p q b [] h =
     let x = equal 0 (suc q) (both (b == p) (0 == suc q) h).1 in
     absurd (omega arith)
@@ -192,3 +192,10 @@ found (b ∷ bs) n begins h =
     let cs = drop 1 bs in
     let are : b ∷ bs ≡ 40 ∷ 42 ∷ cs = ap (λ (x : ℕ). x ∷ bs) two.0 ∙ ap (λ (xs : List ℕ). 40 ∷ xs) two.1 in
     subst (λ (xs : List ℕ). BeginsWithComment xs n) (sym are) (read_back n cs (comment_from 0 1 0 cs) refl (ap comment_of (sym are) ∙ h))
+
+pub some_bytes : (bytes : List ℕ) (n : ℕ) → BeginsWithComment bytes n → 0 < n
+some_bytes bytes n c =
+    let l = spelled_length c.inside (42 ∷ 41 ∷ c.rest) in
+    let long = c.long in
+    let whole = ap length c.whole in
+    omega arith
