@@ -8,7 +8,7 @@ use Rattle.std.proofs.lemmas.List.{length-take, length-drop, length-append, get_
 use Rattle.std.proofs.lemmas.List.Sums.{fails_before_first, passes_at_first, prefix_len-le-length}
 use Rattle.source_text.specs.Letters.{is_letter}
 use Rattle.source_text.specs.Layout.{is_line_end, is_quote, quoted_from, comment_of}
-use Rattle.text_laws.specs.Comments.{begins_comment, BeginsWithComment}
+use Rattle.text_laws.specs.Comments.{LacksQuote, begins_comment, BeginsWithComment}
 use Rattle.text_laws.proofs.Nesting as nesting
 use Rattle.cat_tokens.specs.declared.rule.CatRule.TheVariants as rules
 use Rattle.cat_tokens.specs.declared.token.Mark.TheVariants.{Inverse}
@@ -20,7 +20,8 @@ use Rattle.cat_tokens.specs.Tokens.{Placed}
 use Rattle.cat_tokens.specs.Words.{word_token}
 use Rattle.cat_tokens.specs.Lexer.{is_layout, is_name_byte, ends_name, comment_front, quoted_front, word_front, sign_token, sign_front, front, after_front, tokens_from, lexed}
 use Rattle.cat_tokens.proofs.Lexed.{tokens_skip}
-use Rattle.cat_laws.specs.Tokens.{IsWord, LacksQuote, is_sign, Spells, Word, String, Sign, Inversion, Plusses, begins_line_comment, begins_gap, IsGap, Blank, Comment, Line, IsLongest, SpellsNone, IsLexeme, Spelled, NoToken, OpenComment, OpenString, Piece, Gap, Lexeme, text_of, ArePieces, tokens_at, IsCut, AreRising}
+use Rattle.cat_laws.specs.Tokens.{IsWord, is_sign, Spells, Word, String, Sign, Inversion, Plusses, begins_line_comment, begins_gap, IsGap, Blank, Comment, Line, IsLongest, SpellsNone, IsLexeme, Spelled, NoToken, OpenComment, OpenString, Piece, Gap, Lexeme, text_of, ArePieces, tokens_at, IsCut, AreRising}
+use Rattle.text_laws.proofs.Runs.{other, neither_of, clash, opposite, equals, less, cons_of, next_of, pos_some, pos_le, two_kept, inside_fits, lacks_before, string_text}
 use Rattle.cat_laws.proofs.Named.{first_of, each_of, letter_in_name, tested}
 
 -- ---- the longest piece that spells a token
@@ -119,28 +120,10 @@ no_gap : (b : ℕ) (bs : List ℕ) → is_layout b ≡ false → (b == 40 && sli
 no_gap b bs layout comment line =
     ap (λ (x : Bool). x || (begins_comment (b ∷ bs) || begins_line_comment (b ∷ bs))) layout ∙ ap (λ (x : Bool). x || begins_line_comment (b ∷ bs)) comment ∙ line
 
-other : (b c : ℕ) → (b ≡ c → ⊥) → (b == c) ≡ false
-other b c h = grind (arith, nat_tests)
-
 letter_is_no : (b c : ℕ) → is_letter b ≡ true → is_letter c ≡ false → b ≡ c → ⊥
 letter_is_no b c h k e =
     let bad : true ≡ false = sym h ∙ ap is_letter e ∙ k in
     absurd cc
-
-neither_of : (x y : Bool) → x ≡ false → (x && y) ≡ false
-neither_of x y e = ap (λ (z : Bool). z && y) e
-
-clash : (x : Bool) → x ≡ true → not x ≡ true → ⊥
-clash true e k = absurd cc
-clash false e k = absurd cc
-
-opposite : (x : Bool) → x ≡ true → x ≡ false → ⊥
-opposite x e k =
-    let bad : true ≡ false = sym e ∙ k in
-    absurd cc
-
-equals : (a b : ℕ) → a ≡ b → (a == b) ≡ true
-equals a b h = grind (arith, nat_tests)
 
 two_equal : (a x : ℕ) → a ≡ 43 → x ≡ 43 → (a == 43 && x == 43) ≡ true
 two_equal a x e f = ap (λ (y : ℕ). y == 43 && x == 43) e ∙ ap (λ (y : ℕ). 43 == 43 && y == 43) f
@@ -149,22 +132,11 @@ three_equal : (a x y : ℕ) → a ≡ 94 → x ≡ 45 → y ≡ 49 → (a == 94 
 three_equal a x y e f g =
     ap (λ (z : ℕ). z == 94 && x == 45 && y == 49) e ∙ ap (λ (z : ℕ). 94 == 94 && z == 45 && y == 49) f ∙ ap (λ (z : ℕ). 94 == 94 && 45 == 45 && z == 49) g
 
-less : (p n : ℕ) → p ≤ n → (p == n) ≡ false → p < n
-less p n le e = grind (arith, nat_tests)
-
 three_parts : (x y z : Bool) → (x && y && z) ≡ true → (x ≡ true) × (y ≡ true) × (z ≡ true)
 three_parts true true true h = (refl, refl, refl)
 three_parts true true false h = absurd cc
 three_parts true false z h = absurd cc
 three_parts false y z h = absurd cc
-
-cons_of : (q : ℕ) (bs : List ℕ) → slice_index bs 0 ≡ suc q → bs ≡ suc q ∷ drop 1 bs
-cons_of q [] e = absurd (omega arith)
-cons_of q (b ∷ bs) e = ap (λ (k : ℕ). k ∷ bs) e
-
-next_of : (bs : List ℕ) → slice_index bs 1 ≡ slice_index (drop 1 bs) 0
-next_of [] = refl
-next_of (b ∷ bs) = refl
 
 three_bytes : (b : ℕ) (bs : List ℕ) → (b == 94 && slice_index bs 0 == 45 && slice_index bs 1 == 49) ≡ true → b ∷ bs ≡ 94 ∷ 45 ∷ 49 ∷ drop 1 (drop 1 bs)
 three_bytes b bs h =
@@ -172,20 +144,6 @@ three_bytes b bs h =
     let second = cons_of 44 bs (nesting.equal (slice_index bs 0) 45 x.1) in
     let third = cons_of 48 (drop 1 bs) (sym (next_of bs) ∙ nesting.equal (slice_index bs 1) 49 x.2) in
     ap (λ (k : ℕ). k ∷ bs) (nesting.equal b 94 x.0) ∙ ap (λ (xs : List ℕ). 94 ∷ xs) (second ∙ ap (λ (xs : List ℕ). 45 ∷ xs) third)
-
--- the first byte that passes a test is past one that fails
-pos_some : (p : ℕ → Bool) (b : ℕ) (bs : List ℕ) → p b ≡ false → 0 < position_or_len p (b ∷ bs)
-pos_some p b bs fails = by_size (cases_lt 0 (position_or_len p (b ∷ bs)))
-  where
-    by_size : (0 < position_or_len p (b ∷ bs)) ⊎ (position_or_len p (b ∷ bs) ≤ 0) → 0 < position_or_len p (b ∷ bs)
-    by_size (inl lt) = lt
-    by_size (inr le) =
-        let none : position_or_len p (b ∷ bs) ≡ 0 = omega arith in
-        let passes : p (get_or (b ∷ bs) (position_or_len p (b ∷ bs)) 0) ≡ true = passes_at_first p (b ∷ bs) 0 (omega arith) in
-        absurd (opposite (p b) (ap (λ (k : ℕ). p (get_or (b ∷ bs) k 0)) (sym none) ∙ passes) fails)
-
-pos_le : (p : ℕ → Bool) (xs : List ℕ) → position_or_len p xs ≤ length xs
-pos_le p xs = prefix_len-le-length (λ x. not (p x)) xs
 
 word_fits : (text longer others : List ℕ) → IsWord longer → longer ++ others ≡ text → length longer ≤ position_or_len ends_name text
 word_fits text longer others w e = by_size (cases_lt (position_or_len ends_name text) (length longer))
@@ -219,18 +177,6 @@ word_piece b bs layout letter =
 
 blank_piece : (b : ℕ) (bs : List ℕ) → is_layout b ≡ true → IsPiece (b ∷ bs) (fronts.Layout 1)
 blank_piece b bs layout = (omega arith, omega arith, Blank b layout refl)
-
-first_in_take : (n b : ℕ) (bs : List ℕ) → 0 < n → slice_index (take n (b ∷ bs)) 0 ≡ b
-first_in_take n b bs some = get_or-take n (b ∷ bs) 0 0 some
-
-second_in_take : (n b : ℕ) (bs : List ℕ) → 1 < n → slice_index (take n (b ∷ bs)) 1 ≡ slice_index bs 0
-second_in_take n b bs some = get_or-take n (b ∷ bs) 1 0 some
-
--- the tests on two bytes are those on what they begin
-two_kept : (p q n b : ℕ) (bs : List ℕ) → 1 < n → (b == p && slice_index bs 0 == q) ≡ true → (slice_index (take n (b ∷ bs)) 0 == p && slice_index (take n (b ∷ bs)) 1 == q) ≡ true
-two_kept p q n b bs some h =
-    ap (λ (x : ℕ). x == p && slice_index (take n (b ∷ bs)) 1 == q) (first_in_take n b bs (omega arith))
-    ∙ ap (λ (x : ℕ). b == p && x == q) (second_in_take n b bs some) ∙ h
 
 no_line_end : (k : ℕ) → k ≡ 47 → is_line_end k ≡ false
 no_line_end k e = ap is_line_end e
@@ -284,29 +230,6 @@ comment_piece b bs begins None e =
     (omega arith, omega arith, OpenComment (ap begins_comment all ∙ begins) (λ n c. nesting.unended (b ∷ bs) n e (subst (λ (xs : List ℕ). BeginsWithComment xs n) all c)) (drop_all (length (b ∷ bs)) (b ∷ bs) (omega arith)) refl)
 
 -- strings
-
-inside_fits : (bs inside others : List ℕ) → LacksQuote inside → inside ++ 34 ∷ others ≡ bs → position_or_len is_quote bs < length bs → length inside ≤ position_or_len is_quote bs
-inside_fits bs inside others lacks e some = by_size (cases_lt (position_or_len is_quote bs) (length inside))
-  where
-    by_size : (position_or_len is_quote bs < length inside) ⊎ (length inside ≤ position_or_len is_quote bs) → length inside ≤ position_or_len is_quote bs
-    by_size (inr le) = le
-    by_size (inl lt) =
-        let p = position_or_len is_quote bs in
-        let quote : is_quote (get_or bs p 0) ≡ true = passes_at_first is_quote bs 0 some in
-        let none : is_quote (get_or bs p 0) ≡ false = ap (λ (xs : List ℕ). is_quote (get_or xs p 0)) (sym e) ∙ ap is_quote (get_or_append_left inside (34 ∷ others) 0 p lt) ∙ lacks p lt in
-        absurd (opposite (is_quote (get_or bs p 0)) quote none)
-
-lacks_before : (bs : List ℕ) → LacksQuote (take (position_or_len is_quote bs) bs)
-lacks_before bs k lt =
-    let l = length-take (position_or_len is_quote bs) bs in
-    ap is_quote (get_or-take (position_or_len is_quote bs) bs k 0 (omega arith)) ∙ fails_before_first is_quote bs k 0 (omega arith)
-
-string_text : (bs : List ℕ) → position_or_len is_quote bs < length bs → take (position_or_len is_quote bs + 2) (34 ∷ bs) ≡ 34 ∷ (take (position_or_len is_quote bs) bs ++ 34 ∷ [])
-string_text bs some =
-    let p = position_or_len is_quote bs in
-    let quote : get_or bs p 0 ≡ 34 = nesting.equal (get_or bs p 0) 34 (passes_at_first is_quote bs 0 some) in
-    ap (λ (n : ℕ). take n (34 ∷ bs)) (let more : p + 2 ≡ suc (p + 1) = omega arith in more)
-    ∙ ap (λ (xs : List ℕ). 34 ∷ xs) (take_more bs p 0 some ∙ ap (λ (x : ℕ). take p bs ++ x ∷ []) quote)
 
 string_piece : (bs : List ℕ) → IsPiece (34 ∷ bs) (quoted_front (34 ∷ bs) (quoted_from (34 ∷ bs)))
 string_piece bs = by_end (position_or_len is_quote bs == length bs) refl

@@ -2,7 +2,7 @@
 use Rattle.std.specs.Prelude.{◌≡◌, ℕ, ◌+◌, ◌<◌, ◌≤◌, List, [], ◌∷◌, ◌++◌, Bool, true, false, ◌||◌, ◌&&◌, ◌==◌, codes, length, slice_index}
 use Rattle.source_text.specs.Letters.{is_letter}
 use Rattle.source_text.specs.Layout.{is_line_end, is_quote}
-use Rattle.text_laws.specs.Comments.{begins_comment, BeginsWithComment}
+use Rattle.text_laws.specs.Comments.{LacksQuote, begins_comment, BeginsWithComment}
 use Rattle.cat_tokens.specs.declared.rule.CatRule.TheVariants as rules
 use Rattle.cat_tokens.specs.declared.token.Mark.TheVariants.{Inverse}
 use Rattle.cat_tokens.specs.declared.token.Token.{Token}
@@ -17,9 +17,6 @@ use Rattle.cat_tokens.specs.Lexer.{is_layout, is_name_byte, sign_token}
 pub record IsWord (s : List ℕ) : Type 0 where
   pub first : is_letter (slice_index s 0) ≡ true
   pub each : (k : ℕ) → k < length s → is_name_byte (slice_index s k) ≡ true
-
-abbrev pub LacksQuote : List ℕ → Type 0
-LacksQuote s = (k : ℕ) → k < length s → is_quote (slice_index s k) ≡ false
 
 -- one of `| ; \ & + ? * ~ ( ) [ ] { } _ 0 , =`
 abbrev pub is_sign : ℕ → Bool

@@ -1,1 +1,2 @@
 pub mod Nesting
+pub mod Runs

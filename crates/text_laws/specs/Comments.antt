@@ -1,5 +1,6 @@
--- Comments as they nest: what a comment holds is a tree, whose brackets are `(*` and `*)`.
-use Rattle.std.specs.Prelude.{◌≡◌, ℕ, ◌+◌, List, [], ◌∷◌, Bool, false, ◌||◌, ◌&&◌, ◌==◌, length, slice_index}
+-- Comments as they nest: what a comment holds is a tree, whose brackets are `(*` and `*)`. And what a string holds.
+use Rattle.std.specs.Prelude.{◌≡◌, ℕ, ◌+◌, ◌<◌, List, [], ◌∷◌, Bool, false, ◌||◌, ◌&&◌, ◌==◌, length, slice_index}
+use Rattle.source_text.specs.Layout.{is_quote}
 
 abbrev pub begins_comment : List ℕ → Bool
 begins_comment bs = slice_index bs 0 == 40 && slice_index bs 1 == 42
@@ -32,3 +33,9 @@ pub record BeginsWithComment (bytes : List ℕ) (n : ℕ) : Type 0 where
   pub plain : IsPlain inside (42 ∷ 41 ∷ rest)
   pub whole : bytes ≡ 40 ∷ 42 ∷ spelled inside (42 ∷ 41 ∷ rest)
   pub long : n + length rest ≡ length bytes
+
+-- ---- strings
+
+-- what stands between the quotes of a string
+abbrev pub LacksQuote : List ℕ → Type 0
+LacksQuote s = (k : ℕ) → k < length s → is_quote (slice_index s k) ≡ false
