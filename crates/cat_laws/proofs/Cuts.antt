@@ -21,8 +21,8 @@ use Rattle.cat_tokens.specs.Words.{word_token}
 use Rattle.cat_tokens.specs.Lexer.{is_layout, is_name_byte, ends_name, comment_front, quoted_front, word_front, sign_token, sign_front, front, after_front, tokens_from, lexed}
 use Rattle.cat_tokens.proofs.Lexed.{tokens_skip}
 use Rattle.cat_laws.specs.Tokens.{IsWord, is_sign, Spells, Word, String, Sign, Inversion, Plusses, begins_line_comment, begins_gap, IsGap, Blank, Comment, Line, IsLongest, SpellsNone, IsLexeme, Spelled, NoToken, OpenComment, OpenString, Piece, Gap, Lexeme, text_of, ArePieces, tokens_at, IsCut, AreRising}
-use Rattle.text_laws.proofs.Runs.{other, neither_of, clash, opposite, equals, less, cons_of, next_of, pos_some, pos_le, two_kept, inside_fits, lacks_before, string_text}
-use Rattle.cat_laws.proofs.Named.{first_of, each_of, letter_in_name, tested}
+use Rattle.text_laws.proofs.Runs.{other, neither_of, clash, opposite, equals, less, cons_of, next_of, pos_some, pos_le, two_kept, inside_fits, lacks_before, string_text, tested}
+use Rattle.cat_laws.proofs.Named.{first_of, each_of, letter_in_name}
 
 -- ---- the longest piece that spells a token
 

@@ -1,5 +1,6 @@
 pub mod Conditions
 pub mod Entries
+pub mod Gaps
 pub mod Head
 pub mod Instructions
 pub mod Labels
@@ -8,6 +9,7 @@ pub mod MeantRows
 pub mod MeantTests
 pub mod Numbers
 pub mod Parts
+pub mod Pieces
 pub mod Places
 pub mod Read
 pub mod Rows

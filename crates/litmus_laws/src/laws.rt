@@ -4,10 +4,11 @@ ghost use Rattle.std.specs.Prelude.{◌≡◌, ◌<◌, ℕ, true, false, List};
 ghost use Rattle.litmus_tokens.specs.declared.rule.LitmusRule.{LitmusRule};
 ghost use Rattle.litmus_tokens.specs.declared.rule.LitmusRule.TheVariants as rules;
 ghost use Rattle.litmus_tokens.specs.Faults.{IsFault};
+ghost use Rattle.litmus_tokens.specs.declared.stage.Stage.{Stage};
 ghost use Rattle.litmus_tokens.specs.declared.stage.Stage.TheVariants.{Magic, Init, CellBegins, Tail};
 ghost use Rattle.litmus_tokens.specs.declared.token.Token.{Token};
 ghost use Rattle.litmus_tokens.specs.Stage.{rule_of};
-ghost use Rattle.litmus_tokens.specs.Texts.{Placed, stage_after};
+ghost use Rattle.litmus_tokens.specs.Texts.{Placed, stage_after, lexed};
 ghost use Rattle.litmus_conditions.specs.Grammar.{Limits, limits, IsConditionText};
 ghost use Rattle.litmus_grammar.specs.Grammar.{TestTree, IsTest as IsTestTree, spelled_test, IsInitText, IsThreadText, IsLocationsText};
 ghost use Rattle.litmus_values.specs.declared.test.Quantifier.{Quantifier};
@@ -15,6 +16,7 @@ ghost use Rattle.litmus_values.specs.Value.{Formula, Content};
 ghost use Rattle.litmus_printing.specs.Printing.{condition_text, printed};
 ghost use Rattle.litmus_grammar.specs.Texts.{IsStart, ReadsCondition, ReadsTest};
 ghost use Rattle.litmus_laws.specs.Parts.{tokens_in, test_parts, StandsIn, IsRefusal, IsOfItsPart, IsOfPart};
+ghost use Rattle.litmus_laws.specs.Tokens.{IsCut, AreRising};
 ghost use Rattle.litmus_laws.specs.Written.{IsFormula, IsTest, IsTextOfCondition, IsTextOfTest, IsWithinLimits};
 
 /// The printed condition is read as that condition, in a test of `threads` threads.
@@ -66,4 +68,13 @@ pub fn refusals_of_parts()
     ensures thread { (ps : List Placed) (rule : LitmusRule) (offset : ℕ) → (f : IsFault IsThreadText CellBegins ps rule offset) → IsOfPart rules.Instruction f }
     ensures locations { (threads : ℕ) (ps : List Placed) (rule : LitmusRule) (offset : ℕ) → (f : IsFault (IsLocationsText threads) Tail ps rule offset) → IsOfPart rules.Condition f }
     ensures condition { (threads : ℕ) (ps : List Placed) (rule : LitmusRule) (offset : ℕ) → (f : IsFault (IsConditionText limits threads) Tail ps rule offset) → IsOfPart rules.Condition f }
+{}
+
+/// The tokens of a test's text are pieces of it, none of which goes on. With the gaps between them (blanks, line ends and
+/// comments) they cover the text, in rising order.
+pub fn tokens_cover_the_text()
+    // The text, read from any part on, is cut into such pieces, and its tokens are theirs.
+    ensures cut { (start : Stage) (bytes : List ℕ) → IsCut start bytes (lexed start bytes) }
+    // Each token begins behind the one before it.
+    ensures rising { (start : Stage) (bytes : List ℕ) → AreRising 0 (lexed start bytes) }
 {}

@@ -96,7 +96,7 @@ record Split (k n m : ℕ) (bs : List ℕ) : Type 0 where
   whole : bs ≡ spelled inside (42 ∷ 41 ∷ rest)
   goes : Goes k (n + size inside + 2) m rest
 
-both : (x y : Bool) → (x && y) ≡ true → (x ≡ true) × (y ≡ true)
+pub both : (x y : Bool) → (x && y) ≡ true → (x ≡ true) × (y ≡ true)
 both true y h = (refl, h)
 both false y h = absurd cc
 

@@ -1,6 +1,6 @@
 -- Where runs of bytes end, and where strings do.
 use Rattle.std.proofs.Common.{◌≡◌, ℕ, zero, suc, ◌+◌, ◌<◌, ◌≤◌, ◌⊎◌, inl, inr, Bool, true, false, List, [], ◌∷◌, ◌++◌, length, get_or, take, drop, refl, sym, ap, ◌∙◌, arith}
-use Rattle.std.specs.Prelude.{slice_index, ◌==◌, ◌&&◌, not}
+use Rattle.std.specs.Prelude.{slice_index, ◌==◌, ◌&&◌, not, if◌then◌else◌}
 use Rattle.std.specs.List.{position_or_len}
 use Rattle.std.proofs.lemmas.Bool.{cases_lt}
 use Rattle.std.proofs.lemmas.Bool.Decides.{nat_tests}
@@ -87,3 +87,8 @@ string_text bs some =
     let quote : get_or bs p 0 ≡ 34 = equal (get_or bs p 0) 34 (passes_at_first is_quote bs 0 some) in
     ap (λ (n : ℕ). take n (34 ∷ bs)) (let more : p + 2 ≡ suc (p + 1) = omega arith in more)
     ∙ ap (λ (xs : List ℕ). 34 ∷ xs) (take_more bs p 0 some ∙ ap (λ (x : ℕ). take p bs ++ x ∷ []) quote)
+
+-- by a test
+pub tested : {A : Type 0} (P : A → Type 0) (b : Bool) (x y : A) → (b ≡ true → P x) → (b ≡ false → P y) → P (if b then x else y)
+tested P true x y p q = p refl
+tested P false x y p q = q refl
