@@ -1,3 +1,4 @@
+pub mod Again
 pub mod Conditions
 pub mod Entries
 pub mod Gaps

@@ -17,7 +17,7 @@ ghost use Rattle.litmus_printing.specs.Printing.{condition_text, printed};
 ghost use Rattle.litmus_grammar.specs.Texts.{IsStart, ReadsCondition, ReadsTest};
 ghost use Rattle.litmus_laws.specs.Parts.{tokens_in, test_parts, StandsIn, IsRefusal, IsOfItsPart, IsOfPart};
 ghost use Rattle.litmus_laws.specs.Tokens.{IsCut, AreRising};
-ghost use Rattle.litmus_laws.specs.Written.{IsFormula, IsTest, IsTextOfCondition, IsTextOfTest, IsWithinLimits};
+ghost use Rattle.litmus_laws.specs.Written.{IsFormula, IsTest, IsTextOfCondition, IsTextOfTest, IsWithinLimits, StaysWithin};
 
 /// The printed condition is read as that condition, in a test of `threads` threads.
 pub fn printed_condition_is_read()
@@ -25,6 +25,8 @@ pub fn printed_condition_is_read()
     ensures text { (threads : ℕ) (q : Quantifier) (f : Formula) → threads < 18446744073709551616 → IsFormula threads f → IsTextOfCondition threads (condition_text q f) q f }
     // Within them, as the reader reads.
     ensures reads { (threads : ℕ) (q : Quantifier) (f : Formula) → threads < 18446744073709551616 → IsFormula threads f → IsWithinLimits (condition_text q f) f → ReadsCondition threads (condition_text q f) (q, f) }
+    // What was read from some text is read again, where its printed text stays within the limits of length and nesting.
+    ensures again { (threads : ℕ) (bytes : List ℕ) (q : Quantifier) (f : Formula) → threads < 18446744073709551616 → ReadsCondition threads bytes (q, f) → StaysWithin (condition_text q f) f → ReadsCondition threads (condition_text q f) (q, f) }
 {}
 
 /// The printed test is read as that test.
@@ -33,6 +35,8 @@ pub fn printed_is_read()
     ensures text { (v : Content) → IsTest v → IsTextOfTest (printed v) v }
     // Within them, as the reader reads.
     ensures reads { (v : Content) → IsTest v → IsWithinLimits (printed v) v.condition → ReadsTest (printed v) v }
+    // What was read from some text is read again, where its printed text stays within the limits of length and nesting.
+    ensures again { (bytes : List ℕ) (v : Content) → ReadsTest bytes v → StaysWithin (printed v) v.condition → ReadsTest (printed v) v }
 {}
 
 /// The meaning of each text of a condition, in a test of `threads` threads, can be printed so.
