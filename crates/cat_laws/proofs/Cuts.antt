@@ -138,7 +138,7 @@ three_parts true true false h = absurd cc
 three_parts true false z h = absurd cc
 three_parts false y z h = absurd cc
 
-three_bytes : (b : ℕ) (bs : List ℕ) → (b == 94 && slice_index bs 0 == 45 && slice_index bs 1 == 49) ≡ true → b ∷ bs ≡ 94 ∷ 45 ∷ 49 ∷ drop 1 (drop 1 bs)
+pub three_bytes : (b : ℕ) (bs : List ℕ) → (b == 94 && slice_index bs 0 == 45 && slice_index bs 1 == 49) ≡ true → b ∷ bs ≡ 94 ∷ 45 ∷ 49 ∷ drop 1 (drop 1 bs)
 three_bytes b bs h =
     let x = three_parts (b == 94) (slice_index bs 0 == 45) (slice_index bs 1 == 49) h in
     let second = cons_of 44 bs (nesting.equal (slice_index bs 0) 45 x.1) in
@@ -267,7 +267,7 @@ chain false r t u h f = f h
 last_link : (x : Bool) (t : Token) → x ≡ false → (if x then t else tokens.Broken rules.Token) ≡ tokens.Broken rules.Token
 last_link x t h = ap (λ (y : Bool). if y then t else tokens.Broken rules.Token) h
 
-not_sign : (b : ℕ) → is_sign b ≡ false → sign_token b ≡ tokens.Broken rules.Token
+pub not_sign : (b : ℕ) → is_sign b ≡ false → sign_token b ≡ tokens.Broken rules.Token
 unfolding sign_token
 not_sign b h =
     chain (b == 124) _ _ _ h (λ h. chain (b == 59) _ _ _ h (λ h. chain (b == 92) _ _ _ h (λ h. chain (b == 38) _ _ _ h (λ h. chain (b == 43) _ _ _ h (λ h.
@@ -349,7 +349,7 @@ record CutAt (n : ℕ) (bs : List ℕ) (ps : List Placed) : Type 0 where
   whole : text_of pieces ≡ bs
   tokens : tokens_at n pieces ≡ ps
 
-skipped : (j n : ℕ) (bs : List ℕ) → j ≤ length bs → tokens_from (suc j - 1) (n + 1) bs ≡ tokens_from 0 (n + suc j) (drop j bs)
+pub skipped : (j n : ℕ) (bs : List ℕ) → j ≤ length bs → tokens_from (suc j - 1) (n + 1) bs ≡ tokens_from 0 (n + suc j) (drop j bs)
 skipped j n bs le =
     ap (λ (k : ℕ). tokens_from k (n + 1) bs) (let e : suc j - 1 ≡ j = omega arith in e) ∙ tokens_skip j (n + 1) bs le ∙ ap (λ (k : ℕ). tokens_from 0 k (drop j bs)) (let e : n + 1 + j ≡ n + suc j = omega arith in e)
 
@@ -395,7 +395,7 @@ is_cut bytes =
 
 -- ---- rising
 
-lexeme_bytes : (t : Token) (s rest : List ℕ) → IsLexeme t s rest → 0 < length s
+pub lexeme_bytes : (t : Token) (s rest : List ℕ) → IsLexeme t s rest → 0 < length s
 lexeme_bytes t s rest (Spelled gap spells longest) = some_byte s t spells
 lexeme_bytes t s rest (NoToken b quote e gap none is) = let l = ap length e in omega arith
 lexeme_bytes t [] rest (OpenComment begins none e is) = absurd cc

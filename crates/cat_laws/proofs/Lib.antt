@@ -3,3 +3,4 @@ pub mod Cuts
 pub mod Named
 pub mod Printed
 pub mod PrintedTrees
+pub mod Unique

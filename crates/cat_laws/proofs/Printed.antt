@@ -219,7 +219,7 @@ name (c ∷ cs) bs h e =
     ∙ ap (λ (ts : List Token). tokens.Name (c ∷ cs) ∷ ts) (place_free 0 (1 + length cs) 0 bs)
 
 -- a text between quotes that has none
-front_quote : (path bs : List ℕ) → position_or_len is_quote (path ++ (34 ∷ bs)) ≡ length path → front (34 ∷ (path ++ (34 ∷ bs))) ≡ Lexeme (tokens.Quoted path) (length path + 2)
+pub front_quote : (path bs : List ℕ) → position_or_len is_quote (path ++ (34 ∷ bs)) ≡ length path → front (34 ∷ (path ++ (34 ∷ bs))) ≡ Lexeme (tokens.Quoted path) (length path + 2)
 unfolding front
 front_quote path bs h =
     let l = length-append path (34 ∷ bs) in

@@ -1,9 +1,10 @@
 //! Laws of the definitions.
 
-ghost use Rattle.std.specs.Prelude.{List, ℕ};
+ghost use Rattle.std.specs.Prelude.{◌≡◌, List, ℕ};
 ghost use Rattle.cat_values.specs.Value.{Clause};
 ghost use Rattle.cat_printing.specs.Printing.{printed_item, printed_model};
 ghost use Rattle.cat_tokens.specs.Lexer.{lexed};
+ghost use Rattle.cat_tokens.specs.Tokens.{Placed};
 ghost use Rattle.cat_laws.specs.Tokens.{IsCut, AreRising};
 ghost use Rattle.cat_laws.specs.Written.{IsWritten, AreWritten, IsTextOfItem, IsTextOfModel, IsItemWithinLimits, IsModelWithinLimits, ItemStaysWithin, ModelStaysWithin, ReadsItem, ReadsModel};
 
@@ -42,6 +43,8 @@ pub fn read_is_written()
 pub fn tokens_cover_the_text()
     // The text is cut into such pieces, and its tokens are theirs.
     ensures cut { (bytes : List ℕ) → IsCut bytes (lexed bytes) }
+    // It is cut in no other way.
+    ensures only { (bytes : List ℕ) (ps : List Placed) → IsCut bytes ps → lexed bytes ≡ ps }
     // Each token begins behind the one before it.
     ensures rising { (bytes : List ℕ) → AreRising 0 (lexed bytes) }
 {}
