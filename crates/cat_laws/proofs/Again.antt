@@ -1,13 +1,11 @@
 -- What was read keeps the limits of number when it is printed, and so it is read again.
 use Rattle.std.proofs.Common.{◌≡◌, ℕ, suc, ◌+◌, ◌≤◌, List, [], ◌∷◌, length, refl, ap, subst, arith}
 use Rattle.std.specs.Prelude.{map}
-use Rattle.cat_values.specs.Value as value
-use Rattle.cat_values.specs.Value.{Term, Terms, Clause}
-use Rattle.cat_grammar.specs.declared.form.Form.TheVariants as forms
+use Rattle.cat_values.specs.Value.{Clause}
 use Rattle.cat_grammar.specs.Grammar as grammar
 use Rattle.cat_grammar.specs.Grammar.{Tree, Trees, Word, Underscore, Zero, Braces, Pair, Post, Prefix, Group, Square, Application, Last, More, meaning, meanings, operators, operators_of, Limits, limits, Bound, ItemTree, Let, Function, Check, Flag, Show, Include, group_meaning, shown_meaning, item_meaning, items_meaning, AreBound, IsItem, AreItems}
 use Rattle.cat_printing.specs.Printing.{printed_item, printed_model}
-use Rattle.cat_laws.specs.Written.{IsWritten, AreWritten, joins, joins_of, deepest, most_joins, bodies, name_count, parameter_count, IsWithin, AreWithin, AreShallow, ItemStaysWithin, ModelStaysWithin, IsItemWithinLimits, IsModelWithinLimits, ReadsItem, ReadsModel}
+use Rattle.cat_laws.specs.Written.{joins, joins_of, deepest, most_joins, bodies, IsWithin, AreWithin, AreShallow, ItemStaysWithin, ModelStaysWithin, ReadsItem, ReadsModel}
 use Rattle.cat_laws.proofs.Named.{item_was_written, model_was_written}
 use Rattle.cat_laws.proofs.Printed.{item_reads, model_reads}
 

@@ -1,11 +1,10 @@
 -- A text is cut into gaps and lexemes.
 use Rattle.std.proofs.Common.{◌≡◌, ℕ, zero, suc, ◌+◌, ◌-◌, ◌<◌, ◌≤◌, ◌⊎◌, inl, inr, Bool, true, false, List, [], ◌∷◌, ◌++◌, length, get_or, take, drop, refl, sym, ap, ◌∙◌, subst, arith, append_assoc}
-use Rattle.std.specs.Prelude.{Option, Some, None, slice_index, ◌==◌, ◌&&◌, ◌||◌, not, codes, if◌then◌else◌}
+use Rattle.std.specs.Prelude.{Option, Some, None, slice_index, ◌==◌, ◌&&◌, ◌||◌, not, if◌then◌else◌}
 use Rattle.std.specs.List.{position_or_len}
 use Rattle.std.proofs.lemmas.Bool.{cases_lt}
-use Rattle.std.proofs.lemmas.Bool.Decides.{nat_tests}
-use Rattle.std.proofs.lemmas.List.{length-take, length-drop, length-append, get_or-take, get_or-drop, get_or_append_left, take-append-drop, take_all, take_more, drop_all}
-use Rattle.std.proofs.lemmas.List.Sums.{fails_before_first, passes_at_first, prefix_len-le-length}
+use Rattle.std.proofs.lemmas.List.{length-take, length-drop, length-append, get_or-take, get_or-drop, get_or_append_left, take-append-drop, take_all, drop_all}
+use Rattle.std.proofs.lemmas.List.Sums.{fails_before_first, passes_at_first}
 use Rattle.source_text.specs.Letters.{is_letter}
 use Rattle.source_text.specs.Layout.{is_line_end, is_quote, quoted_from, comment_of}
 use Rattle.text_laws.specs.Comments.{LacksQuote, begins_comment, BeginsWithComment}
@@ -182,11 +181,8 @@ no_line_end : (k : ℕ) → k ≡ 47 → is_line_end k ≡ false
 no_line_end k e = ap is_line_end e
 
 line_piece : (b : ℕ) (bs : List ℕ) → (b == 47 && slice_index bs 0 == 47) ≡ true → IsPiece (b ∷ bs) (fronts.Layout (position_or_len is_line_end (b ∷ bs)))
-line_piece b bs line = (some, pos_le is_line_end (b ∷ bs), Line (two_kept 47 47 n b bs two line) each ends)
+line_piece b bs line = (some, pos_le is_line_end (b ∷ bs), Line (two_kept 47 47 (position_or_len is_line_end (b ∷ bs)) b bs two line) each ends)
   where
-    n : ℕ
-    n = position_or_len is_line_end (b ∷ bs)
-
     are : (b ≡ 47) × (bs ≡ 47 ∷ drop 1 bs)
     are = nesting.two_bytes 47 46 b bs line
 
@@ -234,9 +230,6 @@ comment_piece b bs begins None e =
 string_piece : (bs : List ℕ) → IsPiece (34 ∷ bs) (quoted_front (34 ∷ bs) (quoted_from (34 ∷ bs)))
 string_piece bs = by_end (position_or_len is_quote bs == length bs) refl
   where
-    p : ℕ
-    p = position_or_len is_quote bs
-
     some_piece : position_or_len is_quote bs < length bs → IsPiece (34 ∷ bs) (quoted_front (34 ∷ bs) (Some (position_or_len is_quote bs + 2)))
     some_piece lt =
         let two : position_or_len is_quote bs + 2 - 2 ≡ position_or_len is_quote bs = omega arith in

@@ -1,5 +1,5 @@
 -- What is printed is read as the same items.
-use Rattle.std.proofs.Common.{◌≡◌, ℕ, zero, suc, ◌+◌, ◌-◌, ◌<◌, ◌≤◌, ◌≢◌, Bool, true, false, List, [], ◌∷◌, ◌++◌, length, get_or, take, drop, refl, sym, ap, ◌∙◌, subst, arith, append_assoc}
+use Rattle.std.proofs.Common.{◌≡◌, ℕ, zero, suc, ◌+◌, ◌-◌, ◌<◌, ◌≤◌, ◌≢◌, Bool, true, false, List, [], ◌∷◌, ◌++◌, length, take, drop, refl, sym, ap, ◌∙◌, subst, arith, append_assoc}
 use Rattle.std.specs.Prelude.{map, Option, Some, None, codes, slice_index, ◌==◌, not, if◌then◌else◌}
 use Rattle.std.specs.Str.{bytes_eq}
 use Rattle.std.specs.List.{position_or_len}
@@ -34,6 +34,7 @@ use Rattle.source_text.specs.Joined.{joined, bracketed}
 use Rattle.cat_laws.specs.Written as written
 use Rattle.cat_laws.specs.Written.{IsName, IsTerm, AreTerms, AreNames, IsLabel, AreBindings, IsWritten, AreWritten, IsWithin, AreWithin, IsTextOfItem, IsTextOfModel, IsItemWithinLimits, IsModelWithinLimits, ReadsItem, ReadsModel}
 use Rattle.cat_laws.proofs.PrintedTrees.{grouped, tree_of, trees_of, bound_of, check_of, shown_of, item_of, items_back, items_fit, enough, is_enough, enough_items}
+use Rattle.text_laws.proofs.Runs.{seam}
 use Rattle.cat_tokens.proofs.Lexed.{tokens_skip}
 
 -- the tokens of a text, without their places
@@ -183,16 +184,12 @@ include_word bs = ap (λ (ts : List Token). tokens.Include ∷ ts) (place_free 0
 letter_is : (b : ℕ) → is_letter b ≡ true → (is_layout b ≡ false) × (b ≢ 42)
 letter_is b h = (grind (arith, nat_tests), grind (arith, nat_tests))
 
-at_seam : (n bs : List ℕ) → get_or (n ++ bs) (length n) 0 ≡ get_or bs 0 0
-at_seam [] bs = refl
-at_seam (c ∷ cs) bs = at_seam cs bs
-
 name_len : (n bs : List ℕ) → IsName n → ends_name (slice_index bs 0) ≡ true → position_or_len ends_name (n ++ bs) ≡ length n
 name_len n bs h e =
     let l = length-append n bs in
     position_or_len_is ends_name (n ++ bs) (length n) 0 (omega arith)
     (λ k lt. ap ends_name (get_or_append_left n bs 0 k lt) ∙ ap not (h.each k lt))
-    (λ _. ap ends_name (at_seam n bs) ∙ e)
+    (λ _. ap ends_name (seam n bs) ∙ e)
 
 second_test : {A : Type 0} (x y : Bool) (a b z : A) → x ≡ false → y ≡ true → (if x then a else (if y then b else z)) ≡ b
 second_test x y a b z p q =

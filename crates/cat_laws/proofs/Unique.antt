@@ -1,16 +1,15 @@
 -- A text is cut in one way: what a piece is decides what the reader takes.
-use Rattle.std.proofs.Common.{◌≡◌, ℕ, zero, suc, ◌+◌, ◌-◌, ◌<◌, ◌≤◌, ◌⊎◌, inl, inr, Bool, true, false, List, [], ◌∷◌, ◌++◌, length, get_or, take, drop, refl, sym, ap, ◌∙◌, subst, arith, append_assoc}
+use Rattle.std.proofs.Common.{◌≡◌, ℕ, suc, ◌+◌, ◌<◌, ◌≤◌, ◌⊎◌, inl, inr, Bool, true, false, List, [], ◌∷◌, ◌++◌, length, drop, refl, sym, ap, ◌∙◌, subst, arith, append_assoc}
 use Rattle.std.specs.Prelude.{Option, Some, None, slice_index, ◌==◌, ◌&&◌, ◌||◌, not, if◌then◌else◌}
 use Rattle.std.specs.List.{position_or_len}
 use Rattle.std.proofs.lemmas.Bool.{cases_lt}
-use Rattle.std.proofs.lemmas.Bool.Decides.{nat_tests}
 use Rattle.std.proofs.lemmas.List.{append-nil, length-append, get_or_append_left, take_at, drop_at}
 use Rattle.std.proofs.lemmas.List.Sums.{position_or_len_is}
 use Rattle.source_text.specs.Letters.{is_letter}
 use Rattle.source_text.specs.Layout.{is_line_end, is_quote, quoted_from, comment_of}
 use Rattle.text_laws.specs.Comments.{LacksQuote, begins_comment, BeginsWithComment}
 use Rattle.text_laws.proofs.Nesting as nesting
-use Rattle.text_laws.proofs.Runs.{opposite, equals, neither_of}
+use Rattle.text_laws.proofs.Runs.{equals, or_first, or_second, seam}
 use Rattle.cat_tokens.specs.declared.rule.CatRule.TheVariants as rules
 use Rattle.cat_tokens.specs.declared.token.Mark.TheVariants.{Inverse}
 use Rattle.cat_tokens.specs.declared.token.Token.{Token}
@@ -31,22 +30,10 @@ when_true x a b e = ap (λ (y : Bool). if y then a else b) e
 when_false : {A : Type 0} (x : Bool) (a b : A) → x ≡ false → (if x then a else b) ≡ b
 when_false x a b e = ap (λ (y : Bool). if y then a else b) e
 
-or_first : (x y : Bool) → (x || y) ≡ false → x ≡ false
-or_first true y e = absurd cc
-or_first false y e = refl
-
-or_second : (x y : Bool) → (x || y) ≡ false → y ≡ false
-or_second true y e = absurd cc
-or_second false y e = e
-
 -- a test fails that cannot pass
 fails : (x : Bool) → (x ≡ true → ⊥) → x ≡ false
 fails true h = absurd (h refl)
 fails false h = refl
-
-seam : (xs ys : List ℕ) → get_or (xs ++ ys) (length xs) 0 ≡ get_or ys 0 0
-seam [] ys = refl
-seam (x ∷ xs) ys = seam xs ys
 
 -- ---- the reader's front, by its tests
 

@@ -1,11 +1,11 @@
 -- What stands between a label and its colon.
-use Rattle.std.proofs.Common.{◌≡◌, ℕ, zero, suc, ◌+◌, ◌-◌, ◌<◌, ◌≤◌, Bool, true, false, List, [], ◌∷◌, ◌++◌, length, take, drop, refl, sym, ap, ◌∙◌, subst, arith, append_assoc}
-use Rattle.std.specs.Prelude.{Option, Some, None, slice_index, ◌==◌, ◌&&◌, ◌||◌, if◌then◌else◌}
+use Rattle.std.proofs.Common.{◌≡◌, ℕ, zero, suc, ◌+◌, ◌-◌, ◌≤◌, Bool, true, false, List, [], ◌∷◌, ◌++◌, length, take, drop, refl, sym, ap, ◌∙◌, subst, arith, append_assoc}
+use Rattle.std.specs.Prelude.{Option, Some, None, slice_index, ◌||◌, if◌then◌else◌}
 use Rattle.std.proofs.lemmas.List.{length-take, length-drop, length-append, take-append-drop, drop_at}
 use Rattle.source_text.specs.Layout.{is_blank, is_line_end, comment_of}
 use Rattle.text_laws.specs.Comments.{BeginsWithComment}
 use Rattle.text_laws.proofs.Nesting as nesting
-use Rattle.litmus_tokens.specs.declared.stage.Stage.TheVariants.{TitleEnd, CellBegins}
+use Rattle.litmus_tokens.specs.declared.stage.Stage.TheVariants.{CellBegins}
 use Rattle.litmus_tokens.specs.Lexer.{is_space, begins_comment, over, gap_from}
 use Rattle.litmus_laws.specs.Tokens.{IsGap, Blank, LineEnd, Comment, gaps_text, AreGaps}
 

@@ -1,6 +1,6 @@
 -- Each part of a test leads to the next, and all that stands in it has its rule.
 use Rattle.std.proofs.Common.{◌≡◌, ℕ, zero, suc, ◌+◌, ◌-◌, ◌⊎◌, inl, inr, Bool, true, false, List, [], ◌∷◌, ◌++◌, take, drop, refl, sym, ap, ◌∙◌, subst, append_assoc}
-use Rattle.std.specs.Prelude.{Option, Some, None, codes, ◌&&◌, ◌||◌, if◌then◌else◌}
+use Rattle.std.specs.Prelude.{Option, Some, None, codes, ◌||◌, if◌then◌else◌}
 use Rattle.std.specs.Str.{bytes_eq}
 use Rattle.std.proofs.lemmas.Bool.{and_parts}
 use Rattle.std.proofs.lemmas.List.{append-nil}
@@ -13,22 +13,22 @@ use Rattle.litmus_tokens.specs.declared.token.Token.{Token}
 use Rattle.litmus_tokens.specs.declared.token.Token.TheVariants as tokens
 use Rattle.litmus_tokens.specs.declared.token.Mark.TheVariants as marks
 use Rattle.litmus_tokens.specs.Faults.{IsFault, Ruling, Always, Where, Says, ruling, part_ruling, cell_ruling, word_ruling}
-use Rattle.litmus_tokens.specs.Stage.{rule_of, after, after_brace}
+use Rattle.litmus_tokens.specs.Stage.{rule_of, after}
 use Rattle.litmus_tokens.specs.Texts.{Placed, tokens_of, stage_after, are_none}
 use Rattle.litmus_tokens.specs.Words.{ends_table, is_filter, is_int, column_name}
 use Rattle.litmus_values.specs.declared.test.Quantifier.{Quantifier}
 use Rattle.litmus_values.specs.declared.test.Quantifier.TheVariants.{Exists, NotExists, Forall}
-use Rattle.litmus_conditions.specs.Grammar.{PlaceTree, Location, Register, ValueTree, Number, Address, FormulaTree, spelled_place, spelled_value, spelled_quantifier, Limits, limits, IsConditionText}
+use Rattle.litmus_conditions.specs.Grammar.{PlaceTree, Location, Register, ValueTree, Number, Address, spelled_place, spelled_value, spelled_quantifier, Limits, limits, IsConditionText}
 use Rattle.litmus_table.specs.declared.opcode.Opcode.{Opcode}
 use Rattle.litmus_table.specs.declared.opcode.Opcode.TheVariants as opcodes
 use Rattle.litmus_table.specs.declared.opcode.Want.{Want}
 use Rattle.litmus_table.specs.declared.opcode.Want.TheVariants as wants
 use Rattle.litmus_table.specs.Words.{opcode_of, computing_of, accessing_of, fence_of, branch_of, fits, all_fit, data_form, is_label, takes}
-use Rattle.litmus_table.specs.Grammar.{InstructionTree, CellTree, RowTree, ThreadTree, spelled_steps, spelled_thread, spelled_label, spelled_instruction, spelled_cell, spelled_cells, spelled_rows, spelled_names, spelled_header, IsOperation, IsInstruction, AreCells, AreRows}
-use Rattle.litmus_grammar.specs.Grammar.{Listed, EntryTree, TestTree, spelled_entry, spelled_end, spelled_others, spelled_listed, spelled_init, spelled_items, spelled_observed, spelled_condition, spelled_text, spelled_keylines, spelled_test, IsTest, IsInitText, IsThreadText, IsLocationsText}
+use Rattle.litmus_table.specs.Grammar.{InstructionTree, CellTree, RowTree, ThreadTree, spelled_steps, spelled_thread, spelled_label, spelled_instruction, spelled_cells, spelled_rows, spelled_names, spelled_header, IsInstruction, AreCells, AreRows}
+use Rattle.litmus_grammar.specs.Grammar.{Listed, EntryTree, TestTree, spelled_entry, spelled_end, spelled_others, spelled_listed, spelled_init, spelled_observed, spelled_text, spelled_keylines, spelled_test, IsTest, IsInitText, IsThreadText, IsLocationsText}
 use Rattle.litmus_grammar.specs.Texts.{IsStart}
 use Rattle.litmus_grammar.proofs.Spelled.{init-append, names-append, rows-append}
-use Rattle.litmus_laws.specs.Parts.{Part, part, tokens_in, tail_of, test_parts, StandsIn, is_named, IsNumbered, OfToken, Named, OfPart, IsRefusal, IsOfItsPart, IsOfPart}
+use Rattle.litmus_laws.specs.Parts.{Part, tokens_in, tail_of, test_parts, StandsIn, is_named, IsNumbered, OfToken, Named, OfPart, IsRefusal, IsOfItsPart, IsOfPart}
 
 -- ---- walks
 
@@ -229,13 +229,27 @@ tail_walk (t ∷ ts) = (refl, tail_walk ts)
 -- ---- tests
 
 test_walk : (most : Limits) (t : TestTree) → IsTest most t → AreWalked stages.Magic (test_parts t)
-test_walk most t h =
-    (stages.Title, (refl, refl),
-    (stages.Head, (refl, (refl, refl)),
-    (stages.Header 8, text_walk t.text (spelled_keylines t.keylines (spelled_init t.init [])) (stages.Header 8) (keylines_walk t.keylines (spelled_init t.init []) (stages.Header 8) (init_walk t.init)),
-    (stages.CellBegins, (refl, names_walk 1 t.others 8),
-    (stages.Tail, rows_walk t.others t.rows (take 1 (tail_of t)) stages.Tail h.rows (table_ends t.observed t.quantifier _),
-    (stages.Tail, tail_walk (drop 1 (tail_of t)), tt))))))
+test_walk most t h = (
+  stages.Title,
+  (refl, refl),
+  (
+    stages.Head,
+    (refl, (refl, refl)),
+    (
+      stages.Header 8,
+      text_walk t.text (spelled_keylines t.keylines (spelled_init t.init [])) (stages.Header 8) (keylines_walk t.keylines (spelled_init t.init []) (stages.Header 8) (init_walk t.init)),
+      (
+        stages.CellBegins,
+        (refl, names_walk 1 t.others 8),
+        (
+          stages.Tail,
+          rows_walk t.others t.rows (take 1 (tail_of t)) stages.Tail h.rows (table_ends t.observed t.quantifier _),
+          (stages.Tail, tail_walk (drop 1 (tail_of t)), tt),
+        ),
+      ),
+    ),
+  ),
+)
 
 pub stage_of_part : (most : Limits) (t : TestTree) (before : List Token) (here : Token) (rule : LitmusRule) → IsTest most t → StandsIn (test_parts t) before here rule → rule_of (stage_after stages.Magic before) ≡ rule
 stage_of_part most t before here rule h x =

@@ -1,17 +1,16 @@
 -- The text of a test is cut into gaps and lexemes.
 use Rattle.std.proofs.Common.{◌≡◌, ℕ, zero, suc, ◌+◌, ◌-◌, ◌<◌, ◌≤◌, ◌⊎◌, inl, inr, Bool, true, false, List, [], ◌∷◌, ◌++◌, length, get_or, take, drop, refl, sym, ap, ◌∙◌, subst, arith, append_assoc}
-use Rattle.std.specs.Prelude.{Option, Some, None, slice_index, ◌==◌, ◌&&◌, ◌||◌, not, codes, if◌then◌else◌}
-use Rattle.std.specs.Str.{bytes_eq}
+use Rattle.std.specs.Prelude.{Option, Some, None, slice_index, ◌==◌, ◌&&◌, ◌||◌, not, if◌then◌else◌}
 use Rattle.std.specs.List.{position_or_len}
 use Rattle.std.proofs.lemmas.Bool.{cases_lt}
 use Rattle.std.proofs.lemmas.Bool.Decides.{nat_tests}
-use Rattle.std.proofs.lemmas.List.{length-take, length-drop, length-append, get_or-take, get_or-drop, get_or_append_left, take-append-drop, take_all, drop_all, take_at, drop_at}
+use Rattle.std.proofs.lemmas.List.{length-take, length-drop, length-append, get_or-take, get_or-drop, take-append-drop, take_all, drop_all, take_at, drop_at}
 use Rattle.std.proofs.lemmas.List.Sums.{fails_before_first, passes_at_first}
 use Rattle.source_text.specs.Letters.{is_letter, is_digit}
 use Rattle.source_text.specs.Layout.{is_blank, is_line_end, is_quote, quoted_from, comment_of}
-use Rattle.text_laws.specs.Comments.{LacksQuote, BeginsWithComment}
+use Rattle.text_laws.specs.Comments.{BeginsWithComment}
 use Rattle.text_laws.proofs.Nesting as nesting
-use Rattle.text_laws.proofs.Runs.{other, opposite, equals, less, pos_some, pos_le, first_in_take, lacks_before, string_text, tested}
+use Rattle.text_laws.proofs.Runs.{opposite, equals, less, pos_some, pos_le, first_in_take, lacks_before, string_text, tested, or_false, or_first, or_second, seam}
 use Rattle.litmus_tokens.specs.declared.rule.LitmusRule.TheVariants as rules
 use Rattle.litmus_tokens.specs.declared.stage.Stage.{Stage}
 use Rattle.litmus_tokens.specs.declared.stage.Stage.TheVariants.{Magic, Title, TitleEnd, Head, Init, Header, CellBegins, InCell, Tail}
@@ -21,10 +20,11 @@ use Rattle.litmus_tokens.specs.declared.token.Token.{Token}
 use Rattle.litmus_tokens.specs.declared.token.Token.TheVariants as tokens
 use Rattle.litmus_tokens.specs.declared.lexer.Front.{Front}
 use Rattle.litmus_tokens.specs.declared.lexer.Front.TheVariants as fronts
-use Rattle.litmus_tokens.specs.Lexer.{is_not_ascii, is_word_byte, ends_word, ends_digits, is_equals, is_space, begins_comment, gap_from, comment_front, ends_raw, raw_from, raw_front, quoted_front, line_front, word_token, label_front, word_front, significant, number_front, minus_front, mark_of, mark_front, sign_front, plain_front, head_front, stage_front, front}
+use Rattle.litmus_tokens.specs.Lexer.{is_not_ascii, is_word_byte, ends_word, ends_digits, is_equals, is_space, begins_comment, gap_from, comment_front, ends_raw, raw_from, raw_front, quoted_front, line_front, word_token, word_front, significant, number_front, minus_front, mark_of, mark_front, sign_front, plain_front, head_front, stage_front, front}
 use Rattle.litmus_tokens.specs.Stage.{after}
 use Rattle.litmus_tokens.specs.Texts.{Placed, ends_line, fresh_after, after_front, tokens_from, lexed}
-use Rattle.litmus_laws.specs.Tokens.{IsGap, Blank, LineEnd, Comment, begins_gap, IsRun, IsWord, IsRaw, gaps_text, AreGaps, IsLabel, IsLine, LacksEquals, IsKeyline, is_first, is_plain, double_of, IsLexeme, FirstWord, NameEnd, Keyline, Quoted, Word, Label, Number, Negative, Double, Single, NotAscii, OpenComment, NoNameEnd, NoKeyline, NoQuoted, NoToken, Piece, Gap, Lexeme, text_of, ArePieces, tokens_at, IsCut, AreRising}
+use Rattle.litmus_laws.specs.Tokens.{IsGap, Blank, LineEnd, Comment, begins_gap, IsRun, IsWord, gaps_text, AreGaps, IsLabel, IsLine, IsKeyline, is_first, is_plain, double_of, IsLexeme, FirstWord, NameEnd, Keyline, Quoted, Word, Label, Number, Negative, Double, Single, NotAscii, OpenComment, NoNameEnd, NoKeyline, NoQuoted, NoToken, Piece, Gap, Lexeme, text_of, ArePieces, tokens_at, IsCut, AreRising}
+use Rattle.litmus_grammar.proofs.Lexed.{tokens_skip}
 use Rattle.litmus_laws.proofs.Gaps.{gaps_of, all_gaps}
 
 abbrev IsPiece : Stage → Bool → List ℕ → Front → Type 0
@@ -38,17 +38,6 @@ passes false e = absurd cc
 stops : (x : Bool) → not x ≡ true → x ≡ false
 stops true e = absurd cc
 stops false e = refl
-
-or_false : (x y : Bool) → x ≡ false → y ≡ false → (x || y) ≡ false
-or_false x y e f = ap (λ (z : Bool). z || y) e ∙ f
-
-or_first : (x y : Bool) → (x || y) ≡ false → x ≡ false
-or_first true y e = absurd cc
-or_first false y e = refl
-
-or_second : (x y : Bool) → (x || y) ≡ false → y ≡ false
-or_second true y e = absurd cc
-or_second false y e = e
 
 -- ---- runs
 
@@ -150,12 +139,15 @@ raw_piece s fresh b bs apart first o = tested (IsPiece s fresh (b ∷ bs)) (is_l
         let l = length-take m (b ∷ bs) in
         let d = length-drop m (b ∷ bs) in
         let whole = take-append-drop m (b ∷ bs) in
-        subst (λ (n : ℕ). IsPiece s fresh (b ∷ bs) (fronts.Lexeme (tokens.Word (take n (b ∷ bs))) n)) (sym same)
-        (some m r goes, le, FirstWord first (record {
-          some = let x = some m r goes in omega arith;
-          each = λ k lt. subst (λ (xs : List ℕ). ends_raw (slice_index xs k) (slice_index xs (k + 1)) ≡ false) (sym whole) (r.each k (omega arith));
-          ends = λ lt. ap (λ (x : ℕ). ends_raw x (slice_index (drop m (b ∷ bs)) 1)) (get_or-drop m (b ∷ bs) 0 0 ∙ ap (λ (k : ℕ). get_or (b ∷ bs) k 0) (let e : m + 0 ≡ m = omega arith in e)) ∙ ap (ends_raw (slice_index (b ∷ bs) m)) (get_or-drop m (b ∷ bs) 1 0) ∙ r.ends (omega arith);
-        }) refl)
+        subst (λ (n : ℕ). IsPiece s fresh (b ∷ bs) (fronts.Lexeme (tokens.Word (take n (b ∷ bs))) n)) (sym same) (
+          some m r goes,
+          le,
+          FirstWord first (record {
+            some = let x = some m r goes in omega arith;
+            each = λ k lt. subst (λ (xs : List ℕ). ends_raw (slice_index xs k) (slice_index xs (k + 1)) ≡ false) (sym whole) (r.each k (omega arith));
+            ends = λ lt. ap (λ (x : ℕ). ends_raw x (slice_index (drop m (b ∷ bs)) 1)) (get_or-drop m (b ∷ bs) 0 0 ∙ ap (λ (k : ℕ). get_or (b ∷ bs) k 0) (let e : m + 0 ≡ m = omega arith in e)) ∙ ap (ends_raw (slice_index (b ∷ bs) m)) (get_or-drop m (b ∷ bs) 1 0) ∙ r.ends (omega arith);
+          }) refl,
+        )
       where
         some : (m : ℕ) (r : RawRun 0 (b ∷ bs)) → ends_raw b (slice_index bs 0) ≡ false → 0 < r.size
         some m r goes = by_size (cases_lt 0 r.size)
@@ -178,9 +170,6 @@ word_start : (b : ℕ) → (is_letter b || b == 95) ≡ true → is_word_byte b 
 word_start b h = grind (arith, nat_tests)
 
 module _ (s : Stage) (fresh : Bool) (b : ℕ) (bs : List ℕ) (apart : s ≡ TitleEnd → ⊥) (plain : is_plain s fresh b ≡ true) (o : IsOpen b bs) where
-  text : List ℕ
-  text = b ∷ bs
-
   plain_take : (n : ℕ) → 0 < n → is_plain s fresh (slice_index (take n (b ∷ bs)) 0) ≡ true
   plain_take n some = ap (is_plain s fresh) (first_in_take n b bs some) ∙ plain
 
@@ -262,10 +251,6 @@ module _ (s : Stage) (fresh : Bool) (b : ℕ) (bs : List ℕ) (apart : s ≡ Tit
 
 -- ---- words and labels where a cell begins
 
-seam : (xs ys : List ℕ) → get_or (xs ++ ys) (length xs) 0 ≡ get_or ys 0 0
-seam [] ys = refl
-seam (x ∷ xs) ys = seam xs ys
-
 cons_at : (bs : List ℕ) → slice_index bs 0 ≡ 58 → bs ≡ 58 ∷ drop 1 bs
 cons_at [] e = absurd (omega arith)
 cons_at (b ∷ bs) e = ap (λ (k : ℕ). k ∷ bs) e
@@ -274,9 +259,6 @@ behind_same : (xs ys zs : List ℕ) → xs ++ ys ≡ xs ++ zs → ys ≡ zs
 behind_same xs ys zs e = sym (drop_at xs ys (length xs) refl) ∙ ap (drop (length xs)) e ∙ drop_at xs zs (length xs) refl
 
 module _ (fresh : Bool) (b : ℕ) (bs : List ℕ) (o : IsOpen b bs) (starts : (is_letter b || b == 95) ≡ true) where
-  word_size : ℕ
-  word_size = position_or_len ends_word (b ∷ bs)
-
   label_piece : (n gap : ℕ) → n ≡ position_or_len ends_word (b ∷ bs) → gap ≡ gap_from 0 0 (drop n (b ∷ bs)) → (x : Bool) → (slice_index (b ∷ bs) (n + gap) == 58) ≡ x
       → IsPiece CellBegins fresh (b ∷ bs) (if x then fronts.Lexeme (tokens.Label (take n (b ∷ bs))) (n + gap + 1) else fronts.Lexeme (tokens.Word (take n (b ∷ bs))) n)
   label_piece n gap size gaps true e =
@@ -300,13 +282,16 @@ module _ (fresh : Bool) (b : ℕ) (bs : List ℕ) (o : IsOpen b bs) (starts : (i
       let taken : take (n + gap + 1) (b ∷ bs) ≡ W ++ (g ++ 58 ∷ []) = ap (take (n + gap + 1)) whole ∙ take_at (W ++ (g ++ 58 ∷ [])) others (n + gap + 1) long in
       let dropped : drop (n + gap + 1) (b ∷ bs) ≡ others = ap (drop (n + gap + 1)) whole ∙ drop_at (W ++ (g ++ 58 ∷ [])) others (n + gap + 1) long in
       let behind : drop n (b ∷ bs) ≡ g ++ 58 ∷ others = f.whole ∙ ap (λ (xs : List ℕ). g ++ xs) rest in
-      let word : IsWord W (drop n (b ∷ bs)) = subst (λ (k : ℕ). IsWord (take k (b ∷ bs)) (drop k (b ∷ bs))) (sym size) (is_word CellBegins fresh b bs (λ k. absurd cc) refl o starts) in
-      (omega arith, omega arith, Label refl W (subst (λ (xs : List ℕ). IsLabel W (take (n + gap + 1) (b ∷ bs)) xs) (sym dropped) (record {
-        gaps = f.gaps;
-        is_word = subst (IsWord W) behind word;
-        between = subst (AreGaps f.gaps) rest f.are;
-        whole = taken;
-      })) refl)
+      let word : IsWord W (drop n (b ∷ bs)) = subst (λ (k : ℕ). IsWord (take k (b ∷ bs)) (drop k (b ∷ bs))) (sym size) (is_word CellBegins fresh b bs (λ k. absurd cc) refl o starts) in (
+        omega arith,
+        omega arith,
+        Label refl W (subst (λ (xs : List ℕ). IsLabel W (take (n + gap + 1) (b ∷ bs)) xs) (sym dropped) (record {
+          gaps = f.gaps;
+          is_word = subst (IsWord W) behind word;
+          between = subst (AreGaps f.gaps) rest f.are;
+          whole = taken;
+        })) refl,
+      )
   label_piece n gap size gaps false e =
       let W = take n (b ∷ bs) in
       let R = drop n (b ∷ bs) in
@@ -339,9 +324,6 @@ letter_no_end : (b : ℕ) → is_letter b ≡ true → is_line_end b ≡ false
 letter_no_end b h = grind (arith, nat_tests)
 
 module _ (b : ℕ) (bs : List ℕ) (o : IsOpen b bs) (letter : is_letter b ≡ true) where
-  line_len : ℕ
-  line_len = position_or_len is_line_end (b ∷ bs)
-
   keyline_piece : (n m : ℕ) → n ≡ position_or_len is_line_end (b ∷ bs) → m ≡ position_or_len is_not_ascii (take n (b ∷ bs)) → (x : Bool) → (position_or_len is_equals (take n (b ∷ bs)) == length (take n (b ∷ bs))) ≡ x
       → IsPiece Head true (b ∷ bs) (if x then fronts.Lexeme tokens.Bad 1 else fronts.Lexeme tokens.Keyline m)
   keyline_piece n m size ascii true e =
@@ -361,20 +343,23 @@ module _ (b : ℕ) (bs : List ℕ) (o : IsOpen b bs) (letter : is_letter b ≡ t
       let m_le : m ≤ length line = (let x = pos_le is_not_ascii line in omega arith) in
       let m_some : 0 < m = (let x = ascii_some line first (omega arith) in omega arith) in
       let t = length-take m (b ∷ bs) in
-      let long : length (take m (b ∷ bs)) ≡ m = omega arith in
-      (m_some, omega arith, Keyline refl refl (record {
-        line = line;
-        behind = drop n (b ∷ bs);
-        is_line = is_line;
-        whole = take-append-drop m (b ∷ bs) ∙ sym (take-append-drop n (b ∷ bs));
-        letter = ap is_letter first ∙ letter;
-        equals = position_or_len is_equals line;
-        in_line = within;
-        is_equals = passes_at_first is_equals line 0 within;
-        within = omega arith;
-        ascii = λ k lt. fails_before_first is_not_ascii line k 0 (omega arith);
-        stops = λ lt. ap (λ (k : ℕ). is_not_ascii (slice_index line k)) (long ∙ ascii) ∙ passes_at_first is_not_ascii line 0 (omega arith);
-      }) refl)
+      let long : length (take m (b ∷ bs)) ≡ m = omega arith in (
+        m_some,
+        omega arith,
+        Keyline refl refl (record {
+          line = line;
+          behind = drop n (b ∷ bs);
+          is_line = is_line;
+          whole = take-append-drop m (b ∷ bs) ∙ sym (take-append-drop n (b ∷ bs));
+          letter = ap is_letter first ∙ letter;
+          equals = position_or_len is_equals line;
+          in_line = within;
+          is_equals = passes_at_first is_equals line 0 within;
+          within = omega arith;
+          ascii = λ k lt. fails_before_first is_not_ascii line k 0 (omega arith);
+          stops = λ lt. ap (λ (k : ℕ). is_not_ascii (slice_index line k)) (long ∙ ascii) ∙ passes_at_first is_not_ascii line 0 (omega arith);
+        }) refl,
+      )
     where
       ascii_some : (line : List ℕ) → slice_index line 0 ≡ b → 0 < length line → 0 < position_or_len is_not_ascii line
       ascii_some [] e lt = absurd (omega arith)
@@ -437,12 +422,6 @@ record CutAt (s : Stage) (fresh : Bool) (n : ℕ) (bs : List ℕ) (ps : List Pla
   fine : ArePieces s fresh pieces
   whole : text_of pieces ≡ bs
   tokens : tokens_at n pieces ≡ ps
-
-tokens_skip : (s : Stage) (fresh : Bool) (k n : ℕ) (bs : List ℕ) → k ≤ length bs → tokens_from s fresh k n bs ≡ tokens_from s fresh 0 (n + k) (drop k bs)
-unfolding tokens_from
-tokens_skip s fresh zero n bs le = ap (λ (m : ℕ). tokens_from s fresh 0 m bs) (omega arith)
-tokens_skip s fresh (suc k) n [] le = absurd (omega arith)
-tokens_skip s fresh (suc k) n (b ∷ bs) le = tokens_skip s fresh k (n + 1) bs (omega arith) ∙ ap (λ (m : ℕ). tokens_from s fresh 0 m (drop k bs)) (omega arith)
 
 skipped : (s : Stage) (fresh : Bool) (j n : ℕ) (bs : List ℕ) → j ≤ length bs → tokens_from s fresh (suc j - 1) (n + 1) bs ≡ tokens_from s fresh 0 (n + suc j) (drop j bs)
 skipped s fresh j n bs le =

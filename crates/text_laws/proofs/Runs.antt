@@ -1,6 +1,6 @@
 -- Where runs of bytes end, and where strings do.
-use Rattle.std.proofs.Common.{◌≡◌, ℕ, zero, suc, ◌+◌, ◌<◌, ◌≤◌, ◌⊎◌, inl, inr, Bool, true, false, List, [], ◌∷◌, ◌++◌, length, get_or, take, drop, refl, sym, ap, ◌∙◌, arith}
-use Rattle.std.specs.Prelude.{slice_index, ◌==◌, ◌&&◌, not, if◌then◌else◌}
+use Rattle.std.proofs.Common.{◌≡◌, ℕ, suc, ◌+◌, ◌<◌, ◌≤◌, ◌⊎◌, inl, inr, Bool, true, false, List, [], ◌∷◌, ◌++◌, length, get_or, take, drop, refl, sym, ap, ◌∙◌, arith}
+use Rattle.std.specs.Prelude.{slice_index, ◌==◌, ◌&&◌, ◌||◌, not, if◌then◌else◌}
 use Rattle.std.specs.List.{position_or_len}
 use Rattle.std.proofs.lemmas.Bool.{cases_lt}
 use Rattle.std.proofs.lemmas.Bool.Decides.{nat_tests}
@@ -92,3 +92,18 @@ string_text bs some =
 pub tested : {A : Type 0} (P : A → Type 0) (b : Bool) (x y : A) → (b ≡ true → P x) → (b ≡ false → P y) → P (if b then x else y)
 tested P true x y p q = p refl
 tested P false x y p q = q refl
+
+pub or_false : (x y : Bool) → x ≡ false → y ≡ false → (x || y) ≡ false
+or_false x y e f = ap (λ (z : Bool). z || y) e ∙ f
+
+pub or_first : (x y : Bool) → (x || y) ≡ false → x ≡ false
+or_first true y e = absurd cc
+or_first false y e = refl
+
+pub or_second : (x y : Bool) → (x || y) ≡ false → y ≡ false
+or_second true y e = absurd cc
+or_second false y e = e
+
+pub seam : (xs ys : List ℕ) → get_or (xs ++ ys) (length xs) 0 ≡ get_or ys 0 0
+seam [] ys = refl
+seam (x ∷ xs) ys = seam xs ys
