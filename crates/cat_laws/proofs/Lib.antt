@@ -1,4 +1,5 @@
 pub mod Again
+pub mod Behind
 pub mod Cuts
 pub mod Named
 pub mod Printed

@@ -1,10 +1,15 @@
 //! Laws of the definitions.
 
-ghost use Rattle.std.specs.Prelude.{◌≡◌, List, ℕ};
+ghost use Rattle.std.specs.Prelude.{◌≡◌, List, [], ◌∷◌, ◌++◌, ℕ, true};
 ghost use Rattle.cat_values.specs.Value.{Clause};
 ghost use Rattle.cat_printing.specs.Printing.{printed_item, printed_model};
+ghost use Rattle.cat_tokens.specs.declared.token.Token.{Token};
+ghost use Rattle.cat_tokens.specs.declared.token.Token.TheVariants as tokens;
 ghost use Rattle.cat_tokens.specs.Lexer.{lexed};
 ghost use Rattle.cat_tokens.specs.Tokens.{Placed};
+ghost use Rattle.cat_grammar.specs.declared.form.Form.{Form};
+ghost use Rattle.cat_grammar.specs.Grammar.{Limits, is_rec_or_and};
+ghost use Rattle.cat_laws.specs.Parts.{IsPath, GoesOn};
 ghost use Rattle.cat_laws.specs.Tokens.{IsCut, AreRising};
 ghost use Rattle.cat_laws.specs.Written.{IsWritten, AreWritten, IsTextOfItem, IsTextOfModel, IsItemWithinLimits, IsModelWithinLimits, ItemStaysWithin, ModelStaysWithin, ReadsItem, ReadsModel};
 
@@ -47,4 +52,12 @@ pub fn tokens_cover_the_text()
     ensures only { (bytes : List ℕ) (ps : List Placed) → IsCut bytes ps → lexed bytes ≡ ps }
     // Each token begins behind the one before it.
     ensures rising { (bytes : List ℕ) → AreRising 0 (lexed bytes) }
+{}
+
+/// Two refusals have the number of what would stand there. Behind `include` a model has the string of an include,
+/// so another string is refused there as an include of another file (C3). Behind a name that follows `rec` or `and` it has
+/// the `=` of a binding, so a parenthesis is refused there as a function (C4).
+pub fn refusals_are_of_their_parts()
+    ensures path { (most : Limits) (form : Form) (before : List Token) (here : Token) → GoesOn most form (before ++ tokens.Include ∷ []) here → IsPath here }
+    ensures equals { (most : Limits) (form : Form) (before : List Token) (a : Token) (n : List ℕ) (here : Token) → is_rec_or_and a ≡ true → GoesOn most form (before ++ a ∷ tokens.Name n ∷ []) here → here ≡ tokens.Equals }
 {}
