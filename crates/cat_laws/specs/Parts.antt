@@ -1,10 +1,10 @@
 -- What stands where a refusal has a number of its own: the string of an include, and the `=` of a binding.
-use Rattle.std.specs.Prelude.{◌≡◌, List, [], ◌∷◌, ◌++◌, ℕ, true}
+use Rattle.std.specs.Prelude.{◌≡◌, List, ◌∷◌, ◌++◌, true}
 use Rattle.cat_tokens.specs.declared.token.Token.{Token}
 use Rattle.cat_tokens.specs.declared.token.Token.TheVariants as tokens
 use Rattle.cat_values.specs.Value.{Clause}
 use Rattle.cat_grammar.specs.declared.form.Form.{Form}
-use Rattle.cat_grammar.specs.Grammar.{Limits, Means, has_no_effect, is_rec_or_and}
+use Rattle.cat_grammar.specs.Grammar.{Limits, Means, has_no_effect}
 
 -- a file that has no effect
 abbrev pub IsPath : Token → Type 0
