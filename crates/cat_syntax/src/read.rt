@@ -98,14 +98,16 @@ fn read_text(alloc: Global, bytes: &[u8], form: Form) -> Result<Vec<Item>, CatFa
 }
 
 /// The model of a text: an optional title, and items. A rejected text is blamed at the first token that no valid
-/// text could have there, which is the end of the text if it ends too early. Errors: the broken rule with its byte
-/// offset, or out of memory.
+/// text could have there, which is the end of the text if it ends too early. Two cases differ by one token: a name or
+/// parameter too many is blamed itself, and not the `and` or comma before it; and where the item too many begins with
+/// `~` behind a `*`, that `~` is blamed, and not the word behind it that shows this. Errors: the broken rule with its
+/// byte offset, or out of memory.
 pub fn read_model(alloc: Global, bytes: &[u8]) -> Result<ModelText, CatFault>
     // What is read is what the text means.
     ensures found { IfOk result (λ m. Reads Form.Model bytes.now (clauses_of m.items.items)) }
     // What means some items is read so, unless memory runs out.
     ensures only { (v : List Clause) → Reads Form.Model bytes.now v → MatchResult result (λ m. clauses_of m.items.items ≡ v) IsMemory }
-    // A refusal stands where the text stops to begin one, and has the number of the rule that is broken there.
+    // A refusal has the offset of the first token that cannot stand, and the rule that is broken there.
     ensures fault { IfErr result (IsFaultOf Form.Model bytes.now) }
     // It stands within the text, or at its end.
     ensures within { IfErr result (λ e. IsWithin (length bytes.now) e) }
@@ -118,14 +120,14 @@ pub fn read_model(alloc: Global, bytes: &[u8]) -> Result<ModelText, CatFault>
     }
 }
 
-/// The item of a text that is one item, without a title. Errors: the broken rule with its byte
-/// offset, or out of memory.
+/// The item of a text that is one item, without a title. A rejected text is blamed as a model's is; a second item is
+/// refused at the token that shows it. Errors: the broken rule with its byte offset, or out of memory.
 pub fn read_item(alloc: Global, bytes: &[u8]) -> Result<Item, CatFault>
     // What is read is the item that the text means.
     ensures found { IfOk result (λ item. Reads Form.Item bytes.now (clause_of item ∷ [])) }
     // What means an item is read so, unless memory runs out.
     ensures only { (v : Clause) → Reads Form.Item bytes.now (v ∷ []) → MatchResult result (λ item. clause_of item ≡ v) IsMemory }
-    // A refusal stands where the text stops to begin an item's, and has the number of the rule that is broken there.
+    // A refusal has the offset of the first token that cannot stand, and the rule that is broken there.
     ensures fault { IfErr result (IsFaultOf Form.Item bytes.now) }
     // It stands within the text, or at its end.
     ensures within { IfErr result (λ e. IsWithin (length bytes.now) e) }

@@ -261,7 +261,8 @@ fn after_star_tilde(
 }
 
 /// The step over a token of an expression: `frames` are open, the innermost last, and `operators` counts the
-/// operators so far. Errors: out of memory, or the rule that this token breaks.
+/// operators so far. A `*` is decided by the token behind it; where that is `~`, outside all brackets, by the token
+/// behind the `~`. Errors: out of memory, or the rule that this token breaks.
 pub fn expression_step(
     alloc: Global,
     frames: Vec<Frame>,

@@ -1,5 +1,7 @@
+pub mod Again
 pub mod Conditions
 pub mod Entries
+pub mod Gaps
 pub mod Head
 pub mod Instructions
 pub mod Labels
@@ -7,6 +9,8 @@ pub mod Meant
 pub mod MeantRows
 pub mod MeantTests
 pub mod Numbers
+pub mod Parts
+pub mod Pieces
 pub mod Places
 pub mod Read
 pub mod Rows

@@ -17,21 +17,18 @@ use Rattle.litmus_tokens.specs.Words.{are_digits, is_plain, is_empty, decimal_fr
 use Rattle.source_text.specs.Letters.{is_letter, is_digit}
 use Rattle.litmus_tokens.specs.Lexer.{is_word_byte, ends_word, ends_digits, significant, front, word_front, number_front, minus_front, sign_front}
 use Rattle.litmus_printing.specs.Printing.{register_text}
+use Rattle.text_laws.proofs.Runs.{seam}
 use Rattle.litmus_laws.specs.Written.{IsWord, IsNumber}
 use Rattle.litmus_laws.proofs.Read.{Within, inner, inner_turn, word_stays, number_stays, first_of, digit_of, not_it, word_byte}
 
 -- ---- words
-
-at_seam : (n bs : List ℕ) → get_or (n ++ bs) (length n) 0 ≡ get_or bs 0 0
-at_seam [] bs = refl
-at_seam (c ∷ cs) bs = at_seam cs bs
 
 pub word_len : (n bs : List ℕ) → IsWord n → ends_word (slice_index bs 0) ≡ true → position_or_len ends_word (n ++ bs) ≡ length n
 word_len n bs h e =
     let l = length-append n bs in
     position_or_len_is ends_word (n ++ bs) (length n) 0 (omega arith)
     (λ k lt. ap ends_word (get_or_append_left n bs 0 k lt) ∙ ap not (h.each k lt))
-    (λ _. ap ends_word (at_seam n bs) ∙ e)
+    (λ _. ap ends_word (seam n bs) ∙ e)
 
 pub second_test : {A : Type 0} (x y : Bool) (a b z : A) → x ≡ false → y ≡ true → (if x then a else (if y then b else z)) ≡ b
 second_test x y a b z p q =
@@ -66,7 +63,7 @@ digits_len ds bs h e =
     let l = length-append ds bs in
     position_or_len_is ends_digits (ds ++ bs) (length ds) 0 (omega arith)
     (λ k lt. ap ends_digits (get_or_append_left ds bs 0 k lt) ∙ ap not (each ds h k lt))
-    (λ _. ap ends_digits (at_seam ds bs) ∙ e)
+    (λ _. ap ends_digits (seam ds bs) ∙ e)
   where
     each : (ds : List ℕ) → are_digits ds ≡ true → (k : ℕ) → k < length ds → is_digit (get_or ds k 0) ≡ true
     each [] h k lt = absurd (omega arith)

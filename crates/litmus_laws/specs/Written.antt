@@ -178,3 +178,9 @@ pub record IsWithinLimits (bytes : List ℕ) (f : Formula) : Type 0 where
   pub short : length bytes ≤ most_bytes
   pub shallow : nesting f + 1 ≤ limits.nesting
   pub few : joins f ≤ limits.operators
+
+-- What printing can break of the limits that a text kept which was read: its text may be longer, and have more
+-- parentheses.
+pub record StaysWithin (bytes : List ℕ) (f : Formula) : Type 0 where
+  pub short : length bytes ≤ most_bytes
+  pub shallow : nesting f + 1 ≤ limits.nesting

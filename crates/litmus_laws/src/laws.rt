@@ -1,11 +1,23 @@
 //! Laws of the definitions.
 
-ghost use Rattle.std.specs.Prelude.{◌<◌, ℕ, List};
+ghost use Rattle.std.specs.Prelude.{◌≡◌, ◌<◌, ℕ, true, false, List};
+ghost use Rattle.litmus_tokens.specs.declared.rule.LitmusRule.{LitmusRule};
+ghost use Rattle.litmus_tokens.specs.declared.rule.LitmusRule.TheVariants as rules;
+ghost use Rattle.litmus_tokens.specs.Faults.{IsFault};
+ghost use Rattle.litmus_tokens.specs.declared.stage.Stage.{Stage};
+ghost use Rattle.litmus_tokens.specs.declared.stage.Stage.TheVariants.{Magic, Init, CellBegins, Tail};
+ghost use Rattle.litmus_tokens.specs.declared.token.Token.{Token};
+ghost use Rattle.litmus_tokens.specs.Stage.{rule_of};
+ghost use Rattle.litmus_tokens.specs.Texts.{Placed, stage_after, lexed};
+ghost use Rattle.litmus_conditions.specs.Grammar.{Limits, limits, IsConditionText};
+ghost use Rattle.litmus_grammar.specs.Grammar.{TestTree, IsTest as IsTestTree, spelled_test, IsInitText, IsThreadText, IsLocationsText};
 ghost use Rattle.litmus_values.specs.declared.test.Quantifier.{Quantifier};
 ghost use Rattle.litmus_values.specs.Value.{Formula, Content};
 ghost use Rattle.litmus_printing.specs.Printing.{condition_text, printed};
-ghost use Rattle.litmus_grammar.specs.Texts.{ReadsCondition, ReadsTest};
-ghost use Rattle.litmus_laws.specs.Written.{IsFormula, IsTest, IsTextOfCondition, IsTextOfTest, IsWithinLimits};
+ghost use Rattle.litmus_grammar.specs.Texts.{IsStart, ReadsCondition, ReadsTest};
+ghost use Rattle.litmus_laws.specs.Parts.{tokens_in, test_parts, StandsIn, IsRefusal, IsOfItsPart, IsOfPart};
+ghost use Rattle.litmus_laws.specs.Tokens.{IsCut, AreRising};
+ghost use Rattle.litmus_laws.specs.Written.{IsFormula, IsTest, IsTextOfCondition, IsTextOfTest, IsWithinLimits, StaysWithin};
 
 /// The printed condition is read as that condition, in a test of `threads` threads.
 pub fn printed_condition_is_read()
@@ -13,6 +25,8 @@ pub fn printed_condition_is_read()
     ensures text { (threads : ℕ) (q : Quantifier) (f : Formula) → threads < 18446744073709551616 → IsFormula threads f → IsTextOfCondition threads (condition_text q f) q f }
     // Within them, as the reader reads.
     ensures reads { (threads : ℕ) (q : Quantifier) (f : Formula) → threads < 18446744073709551616 → IsFormula threads f → IsWithinLimits (condition_text q f) f → ReadsCondition threads (condition_text q f) (q, f) }
+    // What was read from some text is read again, where its printed text stays within the limits of length and nesting.
+    ensures again { (threads : ℕ) (bytes : List ℕ) (q : Quantifier) (f : Formula) → threads < 18446744073709551616 → ReadsCondition threads bytes (q, f) → StaysWithin (condition_text q f) f → ReadsCondition threads (condition_text q f) (q, f) }
 {}
 
 /// The printed test is read as that test.
@@ -21,6 +35,8 @@ pub fn printed_is_read()
     ensures text { (v : Content) → IsTest v → IsTextOfTest (printed v) v }
     // Within them, as the reader reads.
     ensures reads { (v : Content) → IsTest v → IsWithinLimits (printed v) v.condition → ReadsTest (printed v) v }
+    // What was read from some text is read again, where its printed text stays within the limits of length and nesting.
+    ensures again { (bytes : List ℕ) (v : Content) → ReadsTest bytes v → StaysWithin (printed v) v.condition → ReadsTest (printed v) v }
 {}
 
 /// The meaning of each text of a condition, in a test of `threads` threads, can be printed so.
@@ -37,4 +53,32 @@ pub fn read_is_written()
     ensures text { (bytes : List ℕ) (v : Content) → IsTextOfTest bytes v → IsTest v }
     // So what the reader reads.
     ensures reads { (bytes : List ℕ) (v : Content) → ReadsTest bytes v → IsTest v }
+{}
+
+/// The number of a refused test is that of the part in which the refused token would stand: `PPC`, the name, what stands
+/// before the header, the header, the rows, and what stands behind them. A token that names a rule of its own has that.
+pub fn refusals_are_of_their_parts()
+    // The parts of a test are its text.
+    ensures whole { (t : TestTree) → tokens_in (test_parts t) ≡ spelled_test t }
+    // The part that the tokens so far lead to is the one in which the next token stands.
+    ensures stage { (most : Limits) (t : TestTree) (before : List Token) (here : Token) (rule : LitmusRule) → IsTestTree most t → StandsIn (test_parts t) before here rule → rule_of (stage_after Magic before) ≡ rule }
+    // So a refusal has the part's number, in whatever test it would stand.
+    ensures refusal { (most : Limits) (t : TestTree) (ps : List Placed) (rule : LitmusRule) (offset : ℕ) → IsTestTree most t → (f : IsRefusal ps rule offset) → IsOfItsPart ps rule offset f t }
+{}
+
+/// The number of a refused part that is read alone is that part's, unless the refused token names a rule of its own.
+pub fn refusals_of_parts()
+    ensures init { (ps : List Placed) (rule : LitmusRule) (offset : ℕ) → (f : IsFault (IsStart IsInitText (Init true false)) (Init true false) ps rule offset) → IsOfPart rules.Init f }
+    ensures thread { (ps : List Placed) (rule : LitmusRule) (offset : ℕ) → (f : IsFault IsThreadText CellBegins ps rule offset) → IsOfPart rules.Instruction f }
+    ensures locations { (threads : ℕ) (ps : List Placed) (rule : LitmusRule) (offset : ℕ) → (f : IsFault (IsLocationsText threads) Tail ps rule offset) → IsOfPart rules.Condition f }
+    ensures condition { (threads : ℕ) (ps : List Placed) (rule : LitmusRule) (offset : ℕ) → (f : IsFault (IsConditionText limits threads) Tail ps rule offset) → IsOfPart rules.Condition f }
+{}
+
+/// The tokens of a test's text are pieces of it, none of which goes on. With the gaps between them (blanks, line ends and
+/// comments) they cover the text, in rising order.
+pub fn tokens_cover_the_text()
+    // The text, read from any part on, is cut into such pieces, and its tokens are theirs.
+    ensures cut { (start : Stage) (bytes : List ℕ) → IsCut start bytes (lexed start bytes) }
+    // Each token begins behind the one before it.
+    ensures rising { (start : Stage) (bytes : List ℕ) → AreRising 0 (lexed start bytes) }
 {}

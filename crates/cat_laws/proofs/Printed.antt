@@ -1,5 +1,5 @@
 -- What is printed is read as the same items.
-use Rattle.std.proofs.Common.{◌≡◌, ℕ, zero, suc, ◌+◌, ◌-◌, ◌<◌, ◌≢◌, Bool, true, false, List, [], ◌∷◌, ◌++◌, length, get_or, take, drop, refl, sym, ap, ◌∙◌, subst, arith, append_assoc}
+use Rattle.std.proofs.Common.{◌≡◌, ℕ, zero, suc, ◌+◌, ◌-◌, ◌<◌, ◌≤◌, ◌≢◌, Bool, true, false, List, [], ◌∷◌, ◌++◌, length, take, drop, refl, sym, ap, ◌∙◌, subst, arith, append_assoc}
 use Rattle.std.specs.Prelude.{map, Option, Some, None, codes, slice_index, ◌==◌, not, if◌then◌else◌}
 use Rattle.std.specs.Str.{bytes_eq}
 use Rattle.std.specs.List.{position_or_len}
@@ -27,12 +27,14 @@ use Rattle.cat_tokens.specs.Words.{item_word, part_word, word_token}
 use Rattle.cat_tokens.specs.Lexer.{is_layout, ends_name, sign_token, word_front, comment_front, quoted_front, front, after_front, tokens_from}
 use Rattle.source_text.specs.Letters.{is_letter}
 use Rattle.cat_tokens.specs.Tokens.{Placed, tokens_of}
-use Rattle.cat_grammar.specs.Grammar.{Tree, infix_token, postfix_token, spelled, spelled_arguments, show_token, spelled_rec, spelled_tilde, spelled_label, spelled_bound, spelled_group, spelled_parameters, spelled_check, spelled_one, spelled_shown, spelled_item, spelled_items, Limits, NoTitle, has_no_effect}
+use Rattle.cat_grammar.specs.Grammar.{Tree, infix_token, postfix_token, spelled, spelled_arguments, show_token, spelled_rec, spelled_tilde, spelled_label, spelled_bound, spelled_group, spelled_parameters, spelled_check, spelled_one, spelled_shown, spelled_item, spelled_items, Limits, limits, Means, NoTitle, has_no_effect}
+use Rattle.cat_grammar.specs.declared.form.Form.TheVariants as forms
 use Rattle.cat_printing.specs.Printing.{is_binary, is_compound, infix_text, postfix_text, printed_term, printed_terms, label_text, optional_label, tilde_text, word_text, check_text, recursion_text, binding_text, show_text, shown_text, quote, printed_item, printed_model}
 use Rattle.source_text.specs.Joined.{joined, bracketed}
-use Rattle.cat_printing.specs.Written as written
-use Rattle.cat_printing.specs.Written.{IsName, IsTerm, AreTerms, AreNames, IsLabel, AreBindings, IsWritten, AreWritten, IsTextOfItem, IsTextOfModel}
-use Rattle.cat_printing.proofs.PrintedTrees.{grouped, tree_of, trees_of, bound_of, check_of, shown_of, item_of, items_back, all_needs, IsEnough, items_fit}
+use Rattle.cat_laws.specs.Written as written
+use Rattle.cat_laws.specs.Written.{IsName, IsTerm, AreTerms, AreNames, IsLabel, AreBindings, IsWritten, AreWritten, IsWithin, AreWithin, IsTextOfItem, IsTextOfModel, IsItemWithinLimits, IsModelWithinLimits, ReadsItem, ReadsModel}
+use Rattle.cat_laws.proofs.PrintedTrees.{grouped, tree_of, trees_of, bound_of, check_of, shown_of, item_of, items_back, items_fit, enough, is_enough, enough_items}
+use Rattle.text_laws.proofs.Runs.{seam}
 use Rattle.cat_tokens.proofs.Lexed.{tokens_skip}
 
 -- the tokens of a text, without their places
@@ -182,16 +184,12 @@ include_word bs = ap (λ (ts : List Token). tokens.Include ∷ ts) (place_free 0
 letter_is : (b : ℕ) → is_letter b ≡ true → (is_layout b ≡ false) × (b ≢ 42)
 letter_is b h = (grind (arith, nat_tests), grind (arith, nat_tests))
 
-at_seam : (n bs : List ℕ) → get_or (n ++ bs) (length n) 0 ≡ get_or bs 0 0
-at_seam [] bs = refl
-at_seam (c ∷ cs) bs = at_seam cs bs
-
 name_len : (n bs : List ℕ) → IsName n → ends_name (slice_index bs 0) ≡ true → position_or_len ends_name (n ++ bs) ≡ length n
 name_len n bs h e =
     let l = length-append n bs in
     position_or_len_is ends_name (n ++ bs) (length n) 0 (omega arith)
     (λ k lt. ap ends_name (get_or_append_left n bs 0 k lt) ∙ ap not (h.each k lt))
-    (λ _. ap ends_name (at_seam n bs) ∙ e)
+    (λ _. ap ends_name (seam n bs) ∙ e)
 
 second_test : {A : Type 0} (x y : Bool) (a b z : A) → x ≡ false → y ≡ true → (if x then a else (if y then b else z)) ≡ b
 second_test x y a b z p q =
@@ -218,7 +216,7 @@ name (c ∷ cs) bs h e =
     ∙ ap (λ (ts : List Token). tokens.Name (c ∷ cs) ∷ ts) (place_free 0 (1 + length cs) 0 bs)
 
 -- a text between quotes that has none
-front_quote : (path bs : List ℕ) → position_or_len is_quote (path ++ (34 ∷ bs)) ≡ length path → front (34 ∷ (path ++ (34 ∷ bs))) ≡ Lexeme (tokens.Quoted path) (length path + 2)
+pub front_quote : (path bs : List ℕ) → position_or_len is_quote (path ++ (34 ∷ bs)) ≡ length path → front (34 ∷ (path ++ (34 ∷ bs))) ≡ Lexeme (tokens.Quoted path) (length path + 2)
 unfolding front
 front_quote path bs h =
     let l = length-append path (34 ∷ bs) in
@@ -463,18 +461,26 @@ model_tokens (c ∷ cs) h =
 item_tokens : (c : Clause) → IsWritten c → read (printed_item c) ≡ spelled_items (item_of c ∷ []) (tokens.End ∷ [])
 item_tokens c h = ap read (sym (append-nil (printed_item c))) ∙ item_back c [] h (end_stops true) ∙ ap (spelled_item (item_of c)) no_bytes
 
--- limits that are wide enough for these items
-abbrev enough : List Clause → Limits
-enough cs = record { nesting = (all_needs cs).nesting; operators = (all_needs cs).operators; items = length cs; names = (all_needs cs).names; parameters = (all_needs cs).parameters }
+-- a text of these items, where they keep the limits
+item_means : (most : Limits) (c : Clause) → IsWritten c → IsWithin most c → Means most forms.Item (read (printed_item c)) (c ∷ [])
+item_means most c h w =
+    record { title = NoTitle; items = item_of c ∷ []; form_is = (refl, refl); each = items_fit most (c ∷ []) (h, tt) (w, tt); whole = item_tokens c h; meant = items_back (c ∷ []) (h, tt) }
 
-is_enough : (cs : List Clause) → IsEnough (all_needs cs) (enough cs)
-is_enough cs = record { nesting = omega arith; operators = omega arith; names = omega arith; parameters = omega arith }
+model_means : (most : Limits) (cs : List Clause) → AreWritten cs → length cs ≤ most.items → AreWithin most cs → Means most forms.Model (read (printed_model cs)) cs
+model_means most cs h few w =
+    let l = length-map cs item_of in
+    record { title = NoTitle; items = map item_of cs; form_is = omega arith; each = items_fit most cs h w; whole = model_tokens cs h; meant = items_back cs h }
 
 pub item_is_read : (c : Clause) → IsWritten c → IsTextOfItem (printed_item c) c
-item_is_read c h =
-    (enough (c ∷ []), record { title = NoTitle; items = item_of c ∷ []; form_is = (refl, refl); each = items_fit (c ∷ []) (h, tt) (enough (c ∷ [])) (is_enough (c ∷ [])); whole = item_tokens c h; meant = items_back (c ∷ []) (h, tt) })
+item_is_read c h = (enough (c ∷ []), item_means (enough (c ∷ [])) c h (is_enough (c ∷ [])).0)
 
 pub model_is_read : (cs : List Clause) → AreWritten cs → IsTextOfModel (printed_model cs) cs
 model_is_read cs h =
-    let l = length-map cs item_of in
-    (enough cs, record { title = NoTitle; items = map item_of cs; form_is = omega arith; each = items_fit cs h (enough cs) (is_enough cs); whole = model_tokens cs h; meant = items_back cs h })
+    let e = enough_items cs in
+    (enough cs, model_means (enough cs) cs h (omega arith) (is_enough cs))
+
+pub item_reads : (c : Clause) → IsWritten c → IsItemWithinLimits c → ReadsItem (printed_item c) c
+item_reads c h w = record { short = w.short; means = item_means limits c h w.fits }
+
+pub model_reads : (cs : List Clause) → AreWritten cs → IsModelWithinLimits cs → ReadsModel (printed_model cs) cs
+model_reads cs h w = record { short = w.short; means = model_means limits cs h w.few w.fits }

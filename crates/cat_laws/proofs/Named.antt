@@ -17,11 +17,12 @@ use Rattle.cat_values.specs.Value.{Terms, NoTerm, OneMore, Clause}
 use Rattle.cat_tokens.specs.Words.{item_word, part_word, is_definition_word, is_other_word, name_or_broken, word_or, word_token}
 use Rattle.cat_tokens.specs.Lexer.{is_layout, is_name_byte, ends_name, comment_front, quoted_front, word_front, sign_token, front, after_front, tokens_from, lexed}
 use Rattle.source_text.specs.Letters.{is_letter}
+use Rattle.text_laws.proofs.Runs.{tested}
 use Rattle.cat_grammar.specs.Grammar as grammar
 use Rattle.cat_tokens.specs.Tokens.{Placed, tokens_of}
-use Rattle.cat_grammar.specs.Grammar.{Tree, Trees, Word, Underscore, Zero, Braces, Pair, Post, Prefix, Group, Square, Application, Last, More, infix_token, postfix_token, spelled, spelled_arguments, meaning, meanings, Limits, Bound, CheckTree, ItemTree, Let, Check, Flag, Show, Include, show_token, spelled_rec, spelled_tilde, spelled_label, spelled_bound, spelled_group, spelled_parameters, spelled_check, spelled_one, spelled_shown, spelled_item, spelled_items, group_meaning, shown_meaning, item_meaning, items_meaning, IsItem, AreItems, Title, NoTitle, NameTitle, StringTitle, spelled_title, Means}
-use Rattle.cat_printing.specs.Written as written
-use Rattle.cat_printing.specs.Written.{IsName, IsTerm, AreTerms, AreOthers, AreNames, IsLabel, AreBindings, IsWritten, AreWritten, IsTextOfItem, IsTextOfModel}
+use Rattle.cat_grammar.specs.Grammar.{Tree, Trees, Word, Underscore, Zero, Braces, Pair, Post, Prefix, Group, Square, Application, Last, More, infix_token, postfix_token, spelled, spelled_arguments, meaning, meanings, Limits, limits, Bound, CheckTree, ItemTree, Let, Check, Flag, Show, Include, show_token, spelled_rec, spelled_tilde, spelled_label, spelled_bound, spelled_group, spelled_parameters, spelled_check, spelled_one, spelled_shown, spelled_item, spelled_items, group_meaning, shown_meaning, item_meaning, items_meaning, IsItem, AreItems, Title, NoTitle, NameTitle, StringTitle, spelled_title, Means}
+use Rattle.cat_laws.specs.Written as written
+use Rattle.cat_laws.specs.Written.{IsName, IsTerm, AreTerms, AreOthers, AreNames, IsLabel, AreBindings, IsWritten, AreWritten, IsTextOfItem, IsTextOfModel, ReadsItem, ReadsModel}
 
 -- ---- tokens
 
@@ -40,11 +41,6 @@ IsNamedFront (Lexeme t n) = IsNamed t
 abbrev IsNamedOption : Option Token → Type 0
 IsNamedOption None = Unit {0}
 IsNamedOption (Some t) = IsNamed t
-
--- by a test
-tested : {A : Type 0} (P : A → Type 0) (b : Bool) (x y : A) → (b ≡ true → P x) → (b ≡ false → P y) → P (if b then x else y)
-tested P true x y p q = p refl
-tested P false x y p q = q refl
 
 either : {A : Type 0} (P : A → Type 0) (b : Bool) (x y : A) → P x → P y → P (if b then x else y)
 either P true x y p q = p
@@ -93,10 +89,10 @@ module _ (n : List ℕ) (first : is_letter (slice_index n 0) ≡ true) (each : (
   pub word_named : IsNamed (word_token n)
   word_named = by_item (item_word n) (item_named n) refl
 
-letter_in_name : (b : ℕ) → is_letter b ≡ true → is_name_byte b ≡ true
+pub letter_in_name : (b : ℕ) → is_letter b ≡ true → is_name_byte b ≡ true
 letter_in_name b h = grind (arith, nat_tests)
 
-first_of : (b : ℕ) (bs : List ℕ) → is_letter b ≡ true → slice_index (take (position_or_len ends_name (b ∷ bs)) (b ∷ bs)) 0 ≡ b
+pub first_of : (b : ℕ) (bs : List ℕ) → is_letter b ≡ true → slice_index (take (position_or_len ends_name (b ∷ bs)) (b ∷ bs)) 0 ≡ b
 first_of b bs h =
     let some : position_or_len ends_name (b ∷ bs) ≡ suc (position_or_len ends_name bs) = ap (λ (x : Bool). if x then 1 + position_or_len ends_name bs else 0) (twice (is_name_byte b) ∙ letter_in_name b h) ∙ one_more (position_or_len ends_name bs) in
     ap (λ (k : ℕ). slice_index (take k (b ∷ bs)) 0) some
@@ -112,7 +108,7 @@ name_byte : (b : Bool) → not b ≡ false → b ≡ true
 name_byte true h = refl
 name_byte false h = sym h
 
-each_of : (bs : List ℕ) (k : ℕ) → k < length (take (position_or_len ends_name bs) bs) → is_name_byte (slice_index (take (position_or_len ends_name bs) bs) k) ≡ true
+pub each_of : (bs : List ℕ) (k : ℕ) → k < length (take (position_or_len ends_name bs) bs) → is_name_byte (slice_index (take (position_or_len ends_name bs) bs) k) ≡ true
 each_of bs k lt =
     let n = position_or_len ends_name bs in
     let l = length-take n bs in
@@ -290,3 +286,9 @@ item_is_written bytes c h = (meant_is_written bytes h.0 forms.Item (c ∷ []) h.
 
 pub model_is_written : (bytes : List ℕ) (cs : List Clause) → IsTextOfModel bytes cs → AreWritten cs
 model_is_written bytes cs h = meant_is_written bytes h.0 forms.Model cs h.1
+
+pub item_was_written : (bytes : List ℕ) (c : Clause) → ReadsItem bytes c → IsWritten c
+item_was_written bytes c r = (meant_is_written bytes limits forms.Item (c ∷ []) r.means).0
+
+pub model_was_written : (bytes : List ℕ) (cs : List Clause) → ReadsModel bytes cs → AreWritten cs
+model_was_written bytes cs r = meant_is_written bytes limits forms.Model cs r.means

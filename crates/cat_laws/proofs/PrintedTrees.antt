@@ -1,5 +1,5 @@
 -- The tree that is printed for an item: it is grouped, and it means the item.
-use Rattle.std.proofs.Common.{◌≡◌, ℕ, ◌≤◌, Bool, true, false, List, [], ◌∷◌, length, refl, ap, ◌∙◌, arith}
+use Rattle.std.proofs.Common.{◌≡◌, ℕ, ◌+◌, ◌≤◌, Bool, true, false, List, [], ◌∷◌, length, refl, ap, ◌∙◌, arith}
 use Rattle.std.specs.Prelude.{map, max, Option}
 use Rattle.std.proofs.lemmas.List.{length-map}
 use Rattle.cat_values.specs.declared.model.Infix.{Infix}
@@ -7,10 +7,10 @@ use Rattle.cat_values.specs.declared.model.Infix.TheVariants.{Union, Sequence, D
 use Rattle.cat_values.specs.Value as value
 use Rattle.cat_values.specs.Value.{Term, Terms, Atom, AllEvents, EmptyRelation, EmptySet, Join, Mark, Not, On, Apply, NoTerm, OneMore, Checked, Clause, Binding, Checking, Flagging, Showing, Including}
 use Rattle.cat_grammar.specs.Grammar as grammar
-use Rattle.cat_grammar.specs.Grammar.{Tree, Trees, Word, Underscore, Zero, Braces, Pair, Post, Prefix, Group, Square, Application, Last, More, meaning, meanings, left_level, right_level, tightness, IsGrouped, AreGrouped, depth, operators, Limits, IsExpression, Bound, CheckTree, ItemTree, Let, Check, Flag, Show, Include, group_meaning, shown_meaning, item_meaning, items_meaning, AreBound, IsItem, AreItems}
+use Rattle.cat_grammar.specs.Grammar.{Tree, Trees, Word, Underscore, Zero, Braces, Pair, Post, Prefix, Group, Square, Application, Last, More, meaning, meanings, left_level, right_level, tightness, IsGrouped, AreGrouped, depth, depths, operators, operators_of, Limits, IsExpression, Bound, CheckTree, ItemTree, Let, Check, Flag, Show, Include, group_meaning, shown_meaning, item_meaning, items_meaning, AreBound, IsItem, AreItems}
 use Rattle.cat_printing.specs.Printing.{is_binary, is_compound}
-use Rattle.cat_printing.specs.Written as written
-use Rattle.cat_printing.specs.Written.{IsTerm, AreTerms, AreBindings, IsWritten, AreWritten}
+use Rattle.cat_laws.specs.Written as written
+use Rattle.cat_laws.specs.Written.{IsTerm, AreTerms, AreBindings, IsWritten, AreWritten, one_where, nesting, nestings, joins, joins_of, deepest, most_joins, bodies, name_count, parameter_count, IsWithin, AreWithin}
 
 abbrev pub grouped : Bool → Tree → Tree
 grouped true t = Group t
@@ -166,89 +166,163 @@ pub items_back : (cs : List Clause) → AreWritten cs → items_meaning (map ite
 items_back [] h = refl
 items_back (c ∷ cs) h = ap (λ (x : Clause). x ∷ items_meaning (map item_of cs)) (item_back c h.0) ∙ ap (λ (x : List Clause). c ∷ x) (items_back cs h.1)
 
--- ---- limits that are wide enough
+-- ---- limits
 
-abbrev need : Tree → ℕ → ℕ → Limits
-need t names parameters = record { nesting = depth t; operators = operators t; items = 0; names = names; parameters = parameters }
+depth-grouped : (b : Bool) (t : Tree) → depth (grouped b t) ≡ depth t + one_where b
+depth-grouped true t = refl
+depth-grouped false t = omega arith
 
-abbrev no_need : Limits
-no_need = need Underscore 0 0
+operators-grouped : (b : Bool) (t : Tree) → operators (grouped b t) ≡ operators t
+operators-grouped true t = refl
+operators-grouped false t = refl
 
-abbrev widest : Limits → Limits → Limits
-widest a b = record { nesting = max a.nesting b.nesting; operators = max a.operators b.operators; items = 0; names = max a.names b.names; parameters = max a.parameters b.parameters }
+mutual
+  depth_is : (v : Term) → depth (tree_of v) ≡ nesting v
+  depth_is (Atom n) = refl
+  depth_is AllEvents = refl
+  depth_is EmptyRelation = refl
+  depth_is EmptySet = refl
+  depth_is (Join op a b) =
+      let x = depth-grouped (is_binary a) (tree_of a) in
+      let y = depth-grouped (is_binary b) (tree_of b) in
+      let u = depth_is a in
+      let v = depth_is b in
+      omega arith
+  depth_is (Mark op a) =
+      let x = depth-grouped (is_compound a) (tree_of a) in
+      let u = depth_is a in
+      omega arith
+  depth_is (Not a) =
+      let x = depth-grouped (is_binary a) (tree_of a) in
+      let u = depth_is a in
+      omega arith
+  depth_is (On a) =
+      let u = depth_is a in
+      omega arith
+  depth_is (Apply n arguments) =
+      let u = depths_are arguments in
+      omega arith
 
-abbrev group_needs : List (List ℕ × Term) → Limits
-group_needs [] = no_need
-group_needs (b ∷ bs) = widest (need (tree_of b.1) 0 0) (group_needs bs)
+  depths_are : (vs : Terms) → depths (trees_of vs) ≡ nestings vs
+  depths_are NoTerm = refl
+  depths_are (OneMore a NoTerm) =
+      let u = depth_is a in
+      omega arith
+  depths_are (OneMore a (OneMore b others)) =
+      let u = depth_is a in
+      let v = depths_are (OneMore b others) in
+      omega arith
 
-abbrev shown_needs : List (Term × Option (List ℕ)) → Limits
-shown_needs [] = no_need
-shown_needs (s ∷ ss) = widest (need (tree_of s.0) 0 0) (shown_needs ss)
+mutual
+  operators_are : (v : Term) → operators (tree_of v) ≡ joins v
+  operators_are (Atom n) = refl
+  operators_are AllEvents = refl
+  operators_are EmptyRelation = refl
+  operators_are EmptySet = refl
+  operators_are (Join op a b) =
+      let x = operators-grouped (is_binary a) (tree_of a) in
+      let y = operators-grouped (is_binary b) (tree_of b) in
+      let u = operators_are a in
+      let v = operators_are b in
+      omega arith
+  operators_are (Mark op a) =
+      let x = operators-grouped (is_compound a) (tree_of a) in
+      let u = operators_are a in
+      omega arith
+  operators_are (Not a) = operators-grouped (is_binary a) (tree_of a) ∙ operators_are a
+  operators_are (On a) = operators_are a
+  operators_are (Apply n arguments) = operators_of_all arguments
 
-abbrev needs : Clause → Limits
-needs (Binding recursive group) = widest (need Underscore (length group) 0) (group_needs group)
-needs (value.Function n parameters body) = need (tree_of body) 0 (length parameters)
-needs (Checking check label) = need (tree_of check.body) 0 0
-needs (Flagging check label) = need (tree_of check.body) 0 0
-needs (Showing hidden shown) = shown_needs shown
-needs (Including path) = no_need
+  operators_of_all : (vs : Terms) → operators_of (trees_of vs) ≡ joins_of vs
+  operators_of_all NoTerm = refl
+  operators_of_all (OneMore a NoTerm) =
+      let u = operators_are a in
+      omega arith
+  operators_of_all (OneMore a (OneMore b others)) =
+      let u = operators_are a in
+      let v = operators_of_all (OneMore b others) in
+      omega arith
 
-abbrev pub all_needs : List Clause → Limits
-all_needs [] = no_need
-all_needs (c ∷ cs) = widest (needs c) (all_needs cs)
+fits : (most : Limits) (v : Term) → nesting v ≤ most.nesting → joins v ≤ most.operators → IsExpression most (tree_of v)
+fits most v deep many =
+    let x = depth_is v in
+    let y = operators_are v in
+    record { grouped = IsGrouped-tree_of v; shallow = omega arith; short = omega arith }
 
--- at least as much may be open, joined and listed, however many items there may be
-pub record IsEnough (a b : Limits) : Type 0 where
-  pub nesting : a.nesting ≤ b.nesting
-  pub operators : a.operators ≤ b.operators
-  pub names : a.names ≤ b.names
-  pub parameters : a.parameters ≤ b.parameters
+group_fits : (most : Limits) (group : List (List ℕ × Term)) → deepest (map (λ b. b.1) group) ≤ most.nesting → most_joins (map (λ b. b.1) group) ≤ most.operators → AreBound most (map bound_of group)
+group_fits most [] deep many = tt
+group_fits most (b ∷ bs) deep many = (fits most b.1 (omega arith) (omega arith), group_fits most bs (omega arith) (omega arith))
 
-enough_left : (a b most : Limits) → IsEnough (widest a b) most → IsEnough a most
-enough_left a b most h =
-    let n = h.nesting in
-    let o = h.operators in
-    let m = h.names in
-    let p = h.parameters in
-    record { nesting = omega arith; operators = omega arith; names = omega arith; parameters = omega arith }
+shown_fits : (most : Limits) (shown : List (Term × Option (List ℕ))) → deepest (map (λ s. s.0) shown) ≤ most.nesting → most_joins (map (λ s. s.0) shown) ≤ most.operators → grammar.AreShown most (map shown_of shown)
+shown_fits most [] deep many = tt
+shown_fits most (s ∷ ss) deep many = (fits most s.0 (omega arith) (omega arith), shown_fits most ss (omega arith) (omega arith))
 
-enough_right : (a b most : Limits) → IsEnough (widest a b) most → IsEnough b most
-enough_right a b most h =
-    let n = h.nesting in
-    let o = h.operators in
-    let m = h.names in
-    let p = h.parameters in
-    record { nesting = omega arith; operators = omega arith; names = omega arith; parameters = omega arith }
+one_fits : (most : Limits) (v : Term) → deepest (v ∷ []) ≤ most.nesting → most_joins (v ∷ []) ≤ most.operators → IsExpression most (tree_of v)
+one_fits most v deep many = fits most v (omega arith) (omega arith)
 
-fits : (v : Term) (names parameters : ℕ) (most : Limits) → IsEnough (need (tree_of v) names parameters) most → IsExpression most (tree_of v)
-fits v names parameters most h = record { grouped = IsGrouped-tree_of v; shallow = h.nesting; short = h.operators }
-
-group_fits : (group : List (List ℕ × Term)) (most : Limits) → IsEnough (group_needs group) most → AreBound most (map bound_of group)
-group_fits [] most h = tt
-group_fits (b ∷ bs) most h =
-    (fits b.1 0 0 most (enough_left (need (tree_of b.1) 0 0) (group_needs bs) most h), group_fits bs most (enough_right (need (tree_of b.1) 0 0) (group_needs bs) most h))
-
-shown_fits : (shown : List (Term × Option (List ℕ))) (most : Limits) → IsEnough (shown_needs shown) most → grammar.AreShown most (map shown_of shown)
-shown_fits [] most h = tt
-shown_fits (s ∷ ss) most h =
-    (fits s.0 0 0 most (enough_left (need (tree_of s.0) 0 0) (shown_needs ss) most h), shown_fits ss most (enough_right (need (tree_of s.0) 0 0) (shown_needs ss) most h))
-
-item_fits : (c : Clause) → IsWritten c → (most : Limits) → IsEnough (needs c) most → IsItem most (item_of c)
-item_fits (Binding recursive group) h most e =
-    let n = (enough_left (need Underscore (length group) 0) (group_needs group) most e).names in
+item_fits : (most : Limits) (c : Clause) → IsWritten c → IsWithin most c → IsItem most (item_of c)
+item_fits most (Binding recursive group) h w =
     let l = length-map group bound_of in
     let some = h.0 in
-    (omega arith, omega arith, group_fits group most (enough_right (need Underscore (length group) 0) (group_needs group) most e))
-item_fits (value.Function n parameters body) h most e = (h.1, e.parameters, fits body 0 (length parameters) most e)
-item_fits (Checking check label) h most e = fits check.body 0 0 most e
-item_fits (Flagging check label) h most e = fits check.body 0 0 most e
-item_fits (Showing hidden shown) h most e =
+    let few = w.names in
+    (omega arith, omega arith, group_fits most group w.shallow w.few)
+item_fits most (value.Function n parameters body) h w = (h.1, w.parameters, one_fits most body w.shallow w.few)
+item_fits most (Checking check label) h w = one_fits most check.body w.shallow w.few
+item_fits most (Flagging check label) h w = one_fits most check.body w.shallow w.few
+item_fits most (Showing hidden shown) h w =
     let l = length-map shown shown_of in
     let some = h.0 in
-    (omega arith, shown_fits shown most e)
-item_fits (Including path) h most e = h
+    (omega arith, shown_fits most shown w.shallow w.few)
+item_fits most (Including path) h w = h
 
-pub items_fit : (cs : List Clause) → AreWritten cs → (most : Limits) → IsEnough (all_needs cs) most → AreItems most (map item_of cs)
-items_fit [] h most e = tt
-items_fit (c ∷ cs) h most e =
-    (item_fits c h.0 most (enough_left (needs c) (all_needs cs) most e), items_fit cs h.1 most (enough_right (needs c) (all_needs cs) most e))
+pub items_fit : (most : Limits) (cs : List Clause) → AreWritten cs → AreWithin most cs → AreItems most (map item_of cs)
+items_fit most [] h w = tt
+items_fit most (c ∷ cs) h w = (item_fits most c h.0 w.0, items_fit most cs h.1 w.1)
+
+-- ---- limits that are wide enough
+
+-- these items keep them, however many items there may be
+abbrev widened : Limits → Clause → Limits
+widened a c = record {
+  nesting = max a.nesting (deepest (bodies c));
+  operators = max a.operators (most_joins (bodies c));
+  items = a.items + 1;
+  names = max a.names (name_count c);
+  parameters = max a.parameters (parameter_count c);
+}
+
+abbrev pub enough : List Clause → Limits
+enough [] = record { nesting = 0; operators = 0; items = 0; names = 0; parameters = 0 }
+enough (c ∷ cs) = widened (enough cs) c
+
+-- wider limits in all but the number of items
+record IsWider (a b : Limits) : Type 0 where
+  nesting : a.nesting ≤ b.nesting
+  operators : a.operators ≤ b.operators
+  names : a.names ≤ b.names
+  parameters : a.parameters ≤ b.parameters
+
+within_wider : (a b : Limits) → IsWider a b → (cs : List Clause) → AreWithin a cs → AreWithin b cs
+within_wider a b h [] w = tt
+within_wider a b h (c ∷ cs) w =
+    let w1 = w.0.shallow in
+    let w2 = w.0.few in
+    let w3 = w.0.names in
+    let w4 = w.0.parameters in
+    let h1 = h.nesting in
+    let h2 = h.operators in
+    let h3 = h.names in
+    let h4 = h.parameters in
+    (record { shallow = omega arith; few = omega arith; names = omega arith; parameters = omega arith }, within_wider a b h cs w.1)
+
+pub is_enough : (cs : List Clause) → AreWithin (enough cs) cs
+is_enough [] = tt
+is_enough (c ∷ cs) =
+    let wider : IsWider (enough cs) (widened (enough cs) c) = record { nesting = omega arith; operators = omega arith; names = omega arith; parameters = omega arith } in
+    (record { shallow = omega arith; few = omega arith; names = omega arith; parameters = omega arith }, within_wider (enough cs) (widened (enough cs) c) wider cs (is_enough cs))
+
+pub enough_items : (cs : List Clause) → (enough cs).items ≡ length cs
+enough_items [] = refl
+enough_items (c ∷ cs) =
+    let e = enough_items cs in
+    omega arith
