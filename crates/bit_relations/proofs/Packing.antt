@@ -11,7 +11,7 @@ use Rattle.std.proofs.lemmas.List.Folds.{length-flat_map-take}
 use Rattle.std.proofs.Math.Seq.{take-append_seam, drop-append_seam}
 use Rattle.bit_relations.specs.Packing.{high_rows, packed, starts_from, ArePacked, padded, relation_of, unpacked}
 use Rattle.bit_relations.specs.Relation.{Bit, Has, Relation, IsRegular, IsRelation, AreColumns, no_slot, joined, wide, low_words, high_words}
-use Rattle.bit_relations.specs.Rows.{Stored}
+use Rattle.bit_relations.specs.Rows.{Stored, AreStored}
 use Rattle.bit_relations.proofs.Bits.{Bit-zero, same_word, word_fits}
 use Rattle.bit_relations.proofs.Laws.{same_relation}
 use Rattle.bit_relations.proofs.Wide.{Bit-low, Bit-high}
@@ -324,22 +324,15 @@ stored_here ws start r g low high a b = (
     more : 64 ≤ b → b ≡ b - 64 + 64
     more ge = omega arith
 
--- what is read is the relation that was kept
-pub read_again : {ns ss ws : List ℕ} {rs : List Relation} (k : ℕ) (d v : Relation) → ArePacked ns ss ws rs → k < length rs → IsRelation v (get_or ns k 0) (Stored ws (get_or ss k 0) (get_or ns k 0)) → v ≡ get_or rs k d
-read_again {ns} {ss} {ws} {rs} k d v p lt read =
-    same_relation v r read.regular g (read.count ∙ count) (λ a b. (
-      (λ h. (here a b).0 (subst (λ (n : ℕ). Stored ws (get_or ss k 0) n a b) count ((read.pairs a b).0 h))),
-      (λ h. (read.pairs a b).1 (subst (λ (n : ℕ). Stored ws (get_or ss k 0) n a b) (sym count) ((here a b).1 h))),
-    ))
+-- the words of one of them stand in the list
+pub stored_there : {ns ss ws : List ℕ} {rs : List Relation} (k : ℕ) (d : Relation) → ArePacked ns ss ws rs → k < length rs → AreStored ws (get_or ss k 0) (get_or rs k d)
+stored_there {ns} {ss} {ws} {rs} k d p lt = record { low = low; high = high }
   where
     r : Relation
     r = get_or rs k d
 
     g : IsRegular r
     g = p.regular k d lt
-
-    count : get_or ns k 0 ≡ r.count
-    count = count_there k d p lt
 
     size : length (packed r) ≡ r.count + high_rows r.count
     size = length-packed r g
@@ -359,8 +352,62 @@ read_again {ns} {ss} {ws} {rs} k d v p lt read =
         let e : get_or ss k 0 + r.count + a ≡ get_or ss k 0 + (r.count + a) = omega arith in
         ap (λ (x : ℕ). get_or ws x 0) e ∙ word (r.count + a) (omega (arith, size, h, less)) ∙ packed_high r g over a less
 
+-- what is read is the relation that was kept
+pub read_again : {ns ss ws : List ℕ} {rs : List Relation} (k : ℕ) (d v : Relation) → ArePacked ns ss ws rs → k < length rs → IsRelation v (get_or ns k 0) (Stored ws (get_or ss k 0) (get_or ns k 0)) → v ≡ get_or rs k d
+read_again {ns} {ss} {ws} {rs} k d v p lt read =
+    same_relation v r read.regular g (read.count ∙ count) (λ a b. (
+      (λ h. (here a b).0 (subst (λ (n : ℕ). Stored ws (get_or ss k 0) n a b) count ((read.pairs a b).0 h))),
+      (λ h. (read.pairs a b).1 (subst (λ (n : ℕ). Stored ws (get_or ss k 0) n a b) (sym count) ((here a b).1 h))),
+    ))
+  where
+    r : Relation
+    r = get_or rs k d
+
+    g : IsRegular r
+    g = p.regular k d lt
+
+    count : get_or ns k 0 ≡ r.count
+    count = count_there k d p lt
+
+    there : AreStored ws (get_or ss k 0) r
+    there = stored_there k d p lt
+
     here : (a b : ℕ) → Stored ws (get_or ss k 0) r.count a b ↔ Has r a b
-    here = stored_here ws (get_or ss k 0) r g low high
+    here = stored_here ws (get_or ss k 0) r g there.low there.high
+
+-- relations on as many events whose words stand in one part of the list are the same
+pub stored_once : (ws : List ℕ) (start : ℕ) (r s : Relation) → IsRegular r → IsRegular s → r.count ≡ s.count → AreStored ws start r → AreStored ws start s → r ≡ s
+stored_once ws start r s g h count left right =
+    same_relation r s g h count (λ a b. (
+      (λ x. (stored_here ws start s h right.low right.high a b).0 (subst (λ (n : ℕ). Stored ws start n a b) count ((stored_here ws start r g left.low left.high a b).1 x))),
+      (λ x. (stored_here ws start r g left.low left.high a b).0 (subst (λ (n : ℕ). Stored ws start n a b) (sym count) ((stored_here ws start s h right.low right.high a b).1 x))),
+    ))
+
+-- the columns of words of a relation, one by one
+pub low_word : (low high : List ℕ) (a : ℕ) → low_words (wide low high) ≡ low → get_or low a 0 ≡ get_or (wide low high) a 0 % 2 ^ 64
+low_word low high a kept = ap (λ (ws : List ℕ). get_or ws a 0) (sym kept) ∙ get_or-low (wide low high) a
+
+pub high_word : (low high : List ℕ) (a : ℕ) → high_words (wide low high) ≡ high → get_or high a 0 ≡ get_or (wide low high) a 0 / 2 ^ 64
+high_word low high a kept = ap (λ (ws : List ℕ). get_or ws a 0) (sym kept) ∙ get_or-high (wide low high) a
+
+-- the words of a relation stand in a list where its columns of words do
+pub are_stored : (n : ℕ) (low high list : List ℕ) (at end : ℕ) → AreColumns n low high → (64 < n → end ≡ n) → ((a : ℕ) → a < n → get_or list (at + a) 0 ≡ get_or low a 0) → ((a : ℕ) → a < end → get_or list (at + n + a) 0 ≡ get_or high a 0) → AreStored list at (of_words n low high)
+are_stored n low high list at end c all first then = record {
+  low = λ a lt. first a lt ∙ low_word low high a c.low_kept;
+  high = λ over a lt. then a (rw (all over) lt) ∙ high_word low high a c.high_kept;
+}
+
+pub stored_low : (n : ℕ) (low high list : List ℕ) (at : ℕ) → AreColumns n low high → AreStored list at (of_words n low high) → (a : ℕ) → a < n → get_or list (at + a) 0 ≡ get_or low a 0
+stored_low n low high list at c s a lt = s.low a lt ∙ sym (low_word low high a c.low_kept)
+
+pub stored_high : (n : ℕ) (low high list : List ℕ) (at end : ℕ) → AreColumns n low high → (n ≤ 64 → end ≡ 0) → (64 < n → end ≡ n) → AreStored list at (of_words n low high) → (a : ℕ) → a < end → get_or list (at + n + a) 0 ≡ get_or high a 0
+stored_high n low high list at end c none all s a lt = elim (cases_lt 64 n) [
+  | inl over ↦ s.high over a (rw (← all over) lt) ∙ sym (high_word low high a c.high_kept)
+  | inr under ↦ absurd (nothing (none under))
+]
+  where
+    nothing : end ≡ 0 → ⊥
+    nothing e = omega arith
 
 -- after a push
 pub pushed : {ns ss ws ns' ss' ms ts vs : List ℕ} {n s : ℕ} (r : Relation) → ArePacked ns ss ws (unpacked ns ws) → IsRegular r → ns' ≡ ns → ss' ≡ ss → n ≡ r.count → s ≡ length ws → ms ≡ ns' ++ n ∷ [] → ts ≡ ss' ++ s ∷ [] → vs ≡ ws ++ packed r → ArePacked ms ts vs (unpacked ms vs)
@@ -445,3 +492,28 @@ put_behind {xs} {xs'} {ys} {zs} {ls} {hs} n low high end c none all same is_low 
     ∙ ap (λ (ws : List ℕ). xs ++ (ws ++ hs)) is_low
     ∙ ap (λ (ws : List ℕ). xs ++ (take n low ++ ws)) is_high
     ∙ ap (λ (ws : List ℕ). xs ++ ws) (appended n low high end c none all)
+
+-- one of them is a relation where the words of that stand in its part of the list
+pub same_there : {ns ss ws zs : List ℕ} {vs : List Relation} (k x y : ℕ) (r : Relation) → ArePacked ns ss ws (unpacked ns ws) → unpacked ns ws ≡ vs → k < length vs → x ≡ get_or ns k x → y ≡ get_or ss k y → zs ≡ ws → x ≡ r.count → IsRegular r → AreStored zs y r ↔ (get_or vs k no_slot ≡ r)
+same_there {ns} {ss} {ws} {zs} {vs} k x y r p e lt is at same count g = (
+  (λ h. stored_once ws (get_or ss k 0) (get_or vs k no_slot) r regular g counted here (subst (λ (xs : List ℕ). AreStored xs (get_or ss k 0) r) same (subst (λ (s : ℕ). AreStored zs s r) (start_at k y p e lt at) h))),
+  (λ t. subst (λ (s : ℕ). AreStored zs s r) (sym (start_at k y p e lt at)) (subst (λ (xs : List ℕ). AreStored xs (get_or ss k 0) r) (sym same) (subst (λ (v : Relation). AreStored ws (get_or ss k 0) v) t here))),
+)
+  where
+    all : ArePacked ns ss ws vs
+    all = subst (λ (xs : List Relation). ArePacked ns ss ws xs) e p
+
+    regular : IsRegular (get_or vs k no_slot)
+    regular = all.regular k no_slot lt
+
+    counted : (get_or vs k no_slot).count ≡ r.count
+    counted = sym (count_there k no_slot all lt) ∙ sym (count_at k x p e lt is) ∙ count
+
+    here : AreStored ws (get_or ss k 0) (get_or vs k no_slot)
+    here = stored_there k no_slot all lt
+
+pub counts_differ : {ns ss ws : List ℕ} {vs : List Relation} (k x : ℕ) (r : Relation) → ArePacked ns ss ws (unpacked ns ws) → unpacked ns ws ≡ vs → k < length vs → x ≡ get_or ns k x → (x ≡ r.count → ⊥) → get_or vs k no_slot ≡ r → ⊥
+counts_differ {ns} {ss} {ws} {vs} k x r p e lt is other t = other (count_at k x p e lt is ∙ count_there k no_slot all lt ∙ ap (λ (v : Relation). v.count) t)
+  where
+    all : ArePacked ns ss ws vs
+    all = subst (λ (xs : List Relation). ArePacked ns ss ws xs) e p

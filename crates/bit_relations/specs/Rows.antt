@@ -1,6 +1,6 @@
 -- Words of bits as pairs.
-use Rattle.std.specs.Prelude.{ℕ, ◌≡◌, ◌<◌, ◌≤◌, ◌+◌, ◌-◌, ◌^◌, ◌↔◌, ◌⊎◌, List, length, slice_index}
-use Rattle.bit_relations.specs.Relation.{Bit}
+use Rattle.std.specs.Prelude.{ℕ, ◌≡◌, ◌<◌, ◌≤◌, ◌+◌, ◌-◌, ◌/◌, ◌%◌, ◌^◌, ◌↔◌, ◌⊎◌, List, length, slice_index}
+use Rattle.bit_relations.specs.Relation.{Bit, Relation}
 
 abbrev pub RowsHave : List ℕ → ℕ → ℕ → Type 0
 RowsHave rows a b = Bit (slice_index rows a) b
@@ -60,6 +60,11 @@ Read list at all a b = Bit (slice_index list (at + a)) b × Bit all b
 abbrev pub Stored : List ℕ → ℕ → ℕ → ℕ → ℕ → Type 0
 Stored list at n a b =
     (a < n) × (b < n) × (((b < 64) × Bit (slice_index list (at + a)) b) ⊎ ((k : ℕ) × (b ≡ k + 64) × Bit (slice_index list (at + n + a)) k))
+
+-- the words of a relation stand in a list from an offset on: the low words, and where it is on over 64 events the high ones
+pub record AreStored (list : List ℕ) (at : ℕ) (r : Relation) : Type 0 where
+  pub low : (a : ℕ) → a < r.count → slice_index list (at + a) ≡ slice_index r.rows a % 2 ^ 64
+  pub high : 64 < r.count → (a : ℕ) → a < r.count → slice_index list (at + r.count + a) ≡ slice_index r.rows a / 2 ^ 64
 
 -- the bits of words, and those of the words of others, from a place on, that the lowest bits of S name
 abbrev pub JoinedFrom : ℕ → ℕ → (ℕ → ℕ → Type 0) → (ℕ → ℕ → Type 0) → (ℕ → ℕ → Type 0) → ℕ → ℕ → Type 0

@@ -96,6 +96,19 @@ impl PackedRelations {
         place.read_from(count, self.words.as_slice(), start);
     }
 
+    /// Whether one of them is this relation.
+    pub fn is_same_at(&self, k: usize, relation: &Rel) -> bool
+        requires { k < length self.now }
+        ensures { IsTrue result ↔ (slice_index_or self.now k no_slot ≡ relation.now) }
+    {
+        let count = self.counts[k] as usize;
+        let offset = self.starts[k];
+        if count != relation.count() {
+            return false;
+        }
+        relation.is_stored(self.words.as_slice(), offset)
+    }
+
     /// Whether both have the same relations in the same order.
     pub fn is_same(&self, other: &PackedRelations) -> bool
         ensures { IsTrue result ↔ (self.now ≡ other.now) }

@@ -2,7 +2,7 @@
 ghost use Rattle.std.specs.Prelude.{◌≡◌, ℕ, ◌<◌, ◌≤◌, ◌+◌, ◌++◌, ◌↔◌, length, slice_index, IsTrue, OnOk, OnErr};
 ghost use Rattle.bit_relations.specs.Packing.{packed};
 ghost use Rattle.bit_relations.specs.Relation.{Bit, Relation, Has, IsRegular, IsRelation, IsMember};
-ghost use Rattle.bit_relations.specs.Rows.{Stored};
+ghost use Rattle.bit_relations.specs.Rows.{Stored, AreStored};
 ghost use Rattle.bit_relations.specs.Pairs.{Added, Identity, Union, Inter, Minus, Composed, Complement, Inverse, Opt, On, Product, Restricted, Plus, Star, IsIrreflexive, IsAcyclic, IsEmpty};
 
 use crate::lanes::blocks_of;
@@ -430,5 +430,18 @@ impl Rel {
         let high = lowest_bits(in_high(count));
         words::read(&mut self.low, list, at, low, count);
         words::read(&mut self.high, list, at + count, high, end_of_high(count));
+    }
+
+    /// Whether the words of its rows stand in a list from an offset on, the low ones first.
+    pub(crate) fn is_stored(&self, list: &[u64], at: usize) -> bool
+        requires low { at + self.now.count ≤ length list.now }
+        requires high { 64 < self.now.count → at + self.now.count + self.now.count ≤ length list.now }
+        ensures { IsTrue result ↔ AreStored list.now at self.now }
+    {
+        if words::are_at(&self.low, list, at, self.count) {
+            words::are_at(&self.high, list, at + self.count, end_of_high(self.count))
+        } else {
+            false
+        }
     }
 }

@@ -167,6 +167,20 @@ pub fn are_same(words: &[u64; MAX_EVENTS], others: &[u64; MAX_EVENTS], end: usiz
     true
 }
 
+/// Whether the words below the end stand in a list from an offset on.
+pub fn are_at(words: &[u64; MAX_EVENTS], list: &[u64], at: usize, end: usize) -> bool
+    requires end { end ≤ 128 }
+    requires room { at + end ≤ length list.now }
+    ensures { IsTrue result ↔ ((a : ℕ) → a < end → slice_index list.now (at + a) ≡ slice_index words.now a) }
+{
+    for a in 0..end {
+        if words[a] != list[at + a] {
+            return false;
+        }
+    }
+    true
+}
+
 /// The words below an end.
 pub fn first(words: &[u64; MAX_EVENTS], end: usize) -> &[u64]
     requires { end ≤ 128 }

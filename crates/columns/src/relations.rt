@@ -61,7 +61,7 @@ impl RunColumn {
         ensures kept { OnErr result (self.new ≡ self.old) }
     {
         let runs = self.ends.len();
-        if 0 < runs && is_at(&self.values, runs - 1, value) {
+        if 0 < runs && self.values.is_same_at(runs - 1, value) {
             self.ends[runs - 1] = end;
         } else {
             self.ends.reserve(1)?;
@@ -119,17 +119,4 @@ impl RunColumn {
         }
         true
     }
-}
-
-/// Whether a relation of a list is another.
-fn is_at(values: &PackedRelations, k: usize, value: &Rel) -> bool
-    requires { k < length values.now }
-    ensures { IsTrue result ↔ (value_at values.now k ≡ value.now) }
-{
-    if values.count_at(k) != value.count() {
-        return false;
-    }
-    let mut place = Rel::empty(0);
-    values.read_into(k, &mut place);
-    place.is_same(value)
 }

@@ -44,6 +44,11 @@ fn show_three<R: Print + AllocGlobal>(rt: &R, count: usize) -> io::Result<()>
     show_list(rt, &list)?;
     let again = three(rt.alloc(), count)?;
     println!(rt; "same {}", list.is_same(&again))?;
+    if 2 < list.len() {
+        let here = list.is_same_at(2, &Rel::identity(count));
+        let there = list.is_same_at(2, &others(5));
+        println!(rt; "same at 2: {here}, of the one at 1: {there}")?;
+    }
     list.push(&Rel::empty(count))?;
     println!(rt; "same with one more {}", list.is_same(&again))
 }
