@@ -4,10 +4,9 @@ use Rattle.std.specs.declared.alloc.Global.{Global}
 use Rattle.litmus_values.specs.declared.test.Test.{Test}
 use Rattle.litmus_values.specs.Value.{formula_of}
 use Rattle.litmus_printing.specs.Printing.{condition_text}
-use Rattle.candidates.specs.declared.fault.SpaceFault.TheVariants as space_faults
 use Rattle.candidates.specs.Space.{shown_in}
 use Rattle.candidates.specs.declared.candidate.Space.{Space}
-use Rattle.candidates.specs.Candidates.{IsTestSpace, IsTestRefusal}
+use Rattle.candidates.specs.Listed.{ListsExecutions, IsRefusal}
 use Rattle.binding_kinds.specs.declared.fault.ModelFault.{ModelFault}
 use Rattle.binding_graph.specs.declared.resolved.ResolvedItem.{ResolvedItem}
 use Rattle.verdict.specs.Evaluated.{IsEvaluation, IsOutcome}
@@ -35,8 +34,8 @@ IsSaid space test o = (checks : List (List Bool)) × (flags : List Flag) × IsOu
 -- space
 abbrev pub IsResult : Test → OutcomeResult → Type 0
 IsResult test (Refused (refusals.Model k)) = Unit {0}
-IsResult test (Refused (refusals.Space r)) = IsTestRefusal test (space_faults.Refused r)
-IsResult test (Evaluated e) = (space : Space) × IsTestSpace test space × (checks : List (List Bool)) × (flags : List Flag) × IsEvaluationFrom space test checks flags e
+IsResult test (Refused (refusals.Space r)) = IsRefusal test r
+IsResult test (Evaluated e) = (space : Space) × ListsExecutions test space × (checks : List (List Bool)) × (flags : List Flag) × IsEvaluationFrom space test checks flags e
 
 -- an outcome of the test: its condition as it is printed, and a result
 pub record IsCell (test : Test) (o : Outcome) : Type 0 where
@@ -52,7 +51,7 @@ IsEvaluationBy items space test e =
 
 -- likewise, on those of the test
 abbrev pub IsEvaluationOver : List ResolvedItem → Test → Evaluation → Type 0
-IsEvaluationOver items test e = (space : Space) × IsTestSpace test space × IsEvaluationBy items space test e
+IsEvaluationOver items test e = (space : Space) × ListsExecutions test space × IsEvaluationBy items space test e
 
 -- what is said of the model is this: the first case where it is its fault that is answered, and else the second, and of an
 -- evaluation the third too

@@ -1,13 +1,13 @@
 -- What a test says under a model, evaluated from nothing: `eval_cell` gives it. Read before it, in this order: the first
--- fault (binding_kinds, specs/Faults), the items (binding_graph, specs/Resolved), the candidates (candidates, specs/Candidates),
--- the answers of checks and flags (specs/Answers), states, counts and words (verdict, specs/Evaluated).
+-- fault (binding_kinds, specs/Faults), the items (binding_graph, specs/Resolved), the executions (candidates,
+-- specs/Executions and Listed), the answers of checks and flags (specs/Answers), states, counts and words (verdict,
+-- specs/Evaluated).
 use Rattle.std.specs.Prelude.{◌≡◌, List, [], map, reverse}
 use Rattle.litmus_values.specs.declared.test.Test.{Test}
 use Rattle.litmus_values.specs.Value.{formula_of}
 use Rattle.litmus_printing.specs.Printing.{condition_text}
-use Rattle.candidates.specs.declared.fault.SpaceFault.TheVariants as space_faults
 use Rattle.candidates.specs.declared.candidate.Space.{Space}
-use Rattle.candidates.specs.Candidates.{IsTestSpace, IsTestRefusal}
+use Rattle.candidates.specs.Listed.{ListsExecutions, IsRefusal}
 use Rattle.cat_values.specs.declared.model.ModelText.{ModelText}
 use Rattle.cat_values.specs.declared.predefined.TheConstants.{PREDEFINED}
 use Rattle.binding_kinds.specs.declared.fault.ModelFault.{ModelFault}
@@ -43,12 +43,12 @@ AreItemsOf model items = AreResolved [] [] outermost 0 (clauses_of model) items 
 
 -- the evaluation of the test's condition on its candidates that the checks of the model keep
 abbrev pub IsEvaluationOf : Test → ModelText → Evaluation → Type 0
-IsEvaluationOf test model e = (items : List ResolvedItem) × AreItemsOf model items × (space : Space) × IsTestSpace test space × IsEvaluationBy items space test e
+IsEvaluationOf test model e = (items : List ResolvedItem) × AreItemsOf model items × (space : Space) × ListsExecutions test space × IsEvaluationBy items space test e
 
 -- the first fault of the model; where it has none, why the test has no candidates; and else the evaluation
 abbrev pub IsResultOf : Test → ModelText → OutcomeResult → Type 0
 IsResultOf test model (Refused (refusals.Model k)) = IsFaultOf model k
-IsResultOf test model (Refused (refusals.Space r)) = IsFaultless model × IsTestRefusal test (space_faults.Refused r)
+IsResultOf test model (Refused (refusals.Space r)) = IsFaultless model × IsRefusal test r
 IsResultOf test model (Evaluated e) = IsFaultless model × IsEvaluationOf test model e
 
 -- the outcome: the kind of the test's condition, the condition as it is printed, and that result
