@@ -108,6 +108,10 @@ impl<K: StoreName> Bench<K> {
         self.graph.renew();
     }
 
+    pub fn all_settled(&self) -> bool {
+        self.graph.all_settled()
+    }
+
     /// What the cell of a row shows, if it is there and settled.
     pub fn shown(&self, name: u64) -> Option<u64> {
         match find_row(self.graph.texts.rows.as_slice(), name) {

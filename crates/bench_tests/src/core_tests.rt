@@ -102,7 +102,9 @@ fn two_rows<R: Abort + Wait, K: StoreName>(rt: &R, alloc: Global, bench: &mut Be
     assert_eq!(rt; edited(rt, alloc, bench, Change::Put(2, 7)), 2);
     assert_eq!(rt; edited(rt, alloc, bench, Change::SetBase(25)), 3);
     assert!(rt; bench.shown(1) == None);
+    assert!(rt; !bench.all_settled());
     assert_eq!(rt; settle(rt, alloc, bench), 3);
+    assert!(rt; bench.all_settled());
     assert!(rt; bench.shown(1) == Some(7));
     assert!(rt; bench.shown(2) == Some(9));
     assert!(rt; bench.shown(3) == None);

@@ -1,4 +1,4 @@
-use Rattle.std.proofs.Common.{◌≡◌, ◌≤◌}
+use Rattle.std.proofs.Common.{◌≤◌}
 use Rattle.memo_core.specs.Marks.{IsIdle}
 use Rattle.memo_core.proofs.work.work_between.Given as goal
 
