@@ -2,8 +2,9 @@
 
 use binding_graph::ModelFault;
 use cat_syntax::CatRule;
+use compare_report::outcome_log;
 use litmus_ppc::{Name, Quantifier};
-use litmusbench::{EvalFault, eval, outcome_log};
+use litmusbench::{EvalFault, eval};
 use ppc_semantics::EvalRefusal;
 use std::alloc::{AllocError, Global};
 use std::io;

@@ -5,7 +5,6 @@ mod cut;
 mod fault;
 mod form;
 pub mod laws;
-mod log;
 mod sink;
 mod source;
 mod stream;
@@ -13,7 +12,6 @@ mod texts;
 
 pub use fault::{EvalFault, SessionFault};
 pub use form::{Form, form_of};
-pub use log::outcome_log;
 pub use sink::{ByteSink, MemorySink, OfWrite, write_whole};
 pub use source::{ByteSource, CallFailed, MemorySource, OfRead, ReadFault, read_front};
 pub use stream::{eval_stream, read_text, write_answer};

@@ -2,10 +2,10 @@
 
 ghost use Rattle.std.specs.Prelude.{◌≡◌, ◌++◌, OnOk, IfOk, codes, length, decimal};
 ghost use Rattle.std.specs.List.{flat_map};
-ghost use Rattle.litmusbench.specs.Log.{kind_word, observation_word, met_word, line_end, state_line, flag_line, state_lines, witness_lines, counts, condition_line, observation_line, evaluation_lines, head_line, refusal_line, log_of};
+ghost use Rattle.compare_report.specs.Log.{kind_word, observation_word, met_word, line_end, state_line, flag_line, state_lines, witness_lines, observation_text, observation_label, condition_line, observation_line, evaluation_lines, head_line, refusal_text, refusal_line, log_of};
 
-use litmus_ppc::{Name, Quantifier};
-use source_text::{put_bytes, put_decimal};
+use litmus_values::Quantifier;
+use source_text::{Name, put_bytes, put_decimal};
 use std::alloc::{AllocError, Global};
 use verdict::{CountedState, Evaluation, Observation, Outcome, OutcomeResult, Refusal};
 
@@ -38,20 +38,28 @@ fn met_word(ok: bool) -> &'static [u8]
     if ok { b"Ok" } else { b"No" }
 }
 
-fn put_refusal(text: &mut Vec<u8>, refusal: Refusal) -> Result<(), AllocError>
-    ensures { OnOk result (text.new.items ≡ text.old.items ++ refusal_line refusal) }
+// The letter and the number of a refusal.
+pub fn put_refusal(text: &mut Vec<u8>, refusal: Refusal) -> Result<(), AllocError>
+    ensures { OnOk result (text.new.items ≡ text.old.items ++ refusal_text refusal) }
 {
     let number = match refusal {
         Refusal::Model(fault) => {
-            put_bytes(text, b"Refused M")?;
+            put_bytes(text, b"M")?;
             fault.number()
         }
         Refusal::Space(refusal) => {
-            put_bytes(text, b"Refused E")?;
+            put_bytes(text, b"E")?;
             refusal.number()
         }
     };
-    put_decimal(text, u64::from(number))?;
+    put_decimal(text, u64::from(number))
+}
+
+pub fn put_refusal_line(text: &mut Vec<u8>, refusal: Refusal) -> Result<(), AllocError>
+    ensures { OnOk result (text.new.items ≡ text.old.items ++ refusal_line refusal) }
+{
+    put_bytes(text, b"Refused ")?;
+    put_refusal(text, refusal)?;
     put_bytes(text, b"\n")
 }
 
@@ -101,7 +109,7 @@ fn put_flag(text: &mut Vec<u8>, name: &Name) -> Result<(), AllocError>
     put_bytes(text, b"\n")
 }
 
-fn put_flags(text: &mut Vec<u8>, flags: &[Name]) -> Result<(), AllocError>
+pub fn put_flags(text: &mut Vec<u8>, flags: &[Name]) -> Result<(), AllocError>
     ensures { OnOk result (text.new.items ≡ text.old.items ++ flat_map flag_line flags.now) }
 {
     for flag in flags {
@@ -110,31 +118,37 @@ fn put_flags(text: &mut Vec<u8>, flags: &[Name]) -> Result<(), AllocError>
     Ok(())
 }
 
-#[tactic(auto, unfolding(crate::specs::Log::counts))]
-fn put_counts(text: &mut Vec<u8>, found: &Evaluation) -> Result<(), AllocError>
-    ensures { OnOk result (text.new.items ≡ text.old.items ++ counts found.now) }
+// The word of the observation and the two counts.
+#[tactic(auto, unfolding(crate::specs::Log::observation_text))]
+pub fn put_observation(text: &mut Vec<u8>, found: &Evaluation) -> Result<(), AllocError>
+    ensures { OnOk result (text.new.items ≡ text.old.items ++ observation_text found.now) }
 {
+    put_bytes(text, observation_word(found.observation))?;
     put_bytes(text, b" ")?;
     put_decimal(text, found.positive)?;
     put_bytes(text, b" ")?;
-    put_decimal(text, found.negative)?;
-    put_bytes(text, b"\n")
+    put_decimal(text, found.negative)
 }
 
-fn put_label(text: &mut Vec<u8>, label: &[u8], word: &[u8]) -> Result<(), AllocError>
-    ensures { OnOk result (text.new.items ≡ text.old.items ++ (label.now ++ word.now)) }
+fn put_label(text: &mut Vec<u8>, name: &[u8]) -> Result<(), AllocError>
+    ensures { OnOk result (text.new.items ≡ text.old.items ++ observation_label name.now) }
 {
-    put_bytes(text, label)?;
-    put_bytes(text, word)
+    put_bytes(text, b"Observation ")?;
+    put_bytes(text, name)?;
+    put_bytes(text, b" ")?;
+    Ok(())
 }
 
-fn put_observation(text: &mut Vec<u8>, name: &[u8], found: &Evaluation) -> Result<(), AllocError>
+fn put_observation_line(
+    text: &mut Vec<u8>,
+    name: &[u8],
+    found: &Evaluation,
+) -> Result<(), AllocError>
     ensures { OnOk result (text.new.items ≡ text.old.items ++ observation_line name.now found.now) }
 {
-    put_label(text, b"Observation ", name)?;
-    put_label(text, b" ", observation_word(found.observation))?;
-    put_counts(text, found)?;
-    Ok(())
+    put_label(text, name)?;
+    put_observation(text, found)?;
+    put_bytes(text, b"\n")
 }
 
 #[tactic(auto, unfolding(crate::specs::Log::condition_line))]
@@ -158,7 +172,7 @@ fn put_evaluation(
     put_witnesses(text, found)?;
     put_flags(text, &found.flags)?;
     put_condition(text, condition)?;
-    put_observation(text, name, found)
+    put_observation_line(text, name, found)
 }
 
 #[tactic(auto, unfolding(crate::specs::Log::head_line))]
@@ -179,7 +193,7 @@ pub fn outcome_log(alloc: Global, name: &[u8], outcome: &Outcome) -> Result<Vec<
     let mut text = Vec::new(alloc);
     put_head(&mut text, name, outcome.kind)?;
     match &outcome.result {
-        OutcomeResult::Refused(refusal) => put_refusal(&mut text, *refusal)?,
+        OutcomeResult::Refused(refusal) => put_refusal_line(&mut text, *refusal)?,
         OutcomeResult::Evaluated(found) => {
             put_evaluation(&mut text, name, &outcome.condition, found)?;
         }

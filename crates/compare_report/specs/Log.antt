@@ -52,12 +52,15 @@ unfoldable pub witness_lines : Evaluation → List ℕ
 witness_lines e =
     met_word e.ok ++ codes "\nWitnesses\nPositive: " ++ decimal e.positive ++ codes " Negative: " ++ decimal e.negative ++ line_end
 
--- how many kept candidates satisfy the proposition, and how many do not
-unfoldable pub counts : Evaluation → List ℕ
-counts e = codes " " ++ decimal e.positive ++ codes " " ++ decimal e.negative ++ line_end
+-- the word of the observation, how many kept candidates satisfy the proposition, and how many do not
+unfoldable pub observation_text : Evaluation → List ℕ
+observation_text e = observation_word e.observation ++ codes " " ++ decimal e.positive ++ codes " " ++ decimal e.negative
 
-unfoldable pub observation_line : List ℕ → Evaluation → List ℕ
-observation_line name e = codes "Observation " ++ name ++ (codes " " ++ observation_word e.observation) ++ counts e
+unfoldable pub observation_label : List ℕ → List ℕ
+observation_label name = codes "Observation " ++ name ++ codes " "
+
+abbrev pub observation_line : List ℕ → Evaluation → List ℕ
+observation_line name e = observation_label name ++ observation_text e ++ line_end
 
 unfoldable pub condition_line : List ℕ → List ℕ
 condition_line condition = codes "Condition " ++ condition ++ line_end
@@ -70,10 +73,13 @@ evaluation_lines name condition e =
 unfoldable pub head_line : List ℕ → Quantifier → List ℕ
 head_line name kind = codes "Test " ++ name ++ codes " " ++ kind_word kind ++ line_end
 
--- a refusal of a model or of a test, with its number
+-- a refusal of a model or of a test: its letter and its number
+abbrev pub refusal_text : Refusal → List ℕ
+refusal_text (Model fault) = codes "M" ++ decimal (fault_number fault)
+refusal_text (Space refusal) = codes "E" ++ decimal (refusal_number refusal)
+
 abbrev pub refusal_line : Refusal → List ℕ
-refusal_line (Model fault) = codes "Refused M" ++ decimal (fault_number fault) ++ line_end
-refusal_line (Space refusal) = codes "Refused E" ++ decimal (refusal_number refusal) ++ line_end
+refusal_line refusal = codes "Refused " ++ refusal_text refusal ++ line_end
 
 -- what stands behind the head, of a test of this name and this printed condition
 abbrev pub result_text : List ℕ → List ℕ → OutcomeResult → List ℕ
