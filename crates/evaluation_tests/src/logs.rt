@@ -3,8 +3,9 @@
 use binding_graph::ModelFault;
 use candidates::EvalRefusal;
 use cat_syntax::CatRule;
+use compare_report::outcome_log;
 use litmus_ppc::{Name, Quantifier};
-use litmusbench::{EvalFault, eval, outcome_log};
+use litmusbench::{EvalFault, eval};
 use std::alloc::{AllocError, Global};
 use std::io;
 use verdict::{CountedState, Evaluation, FinalValue, Observation, Outcome, OutcomeResult, Refusal};

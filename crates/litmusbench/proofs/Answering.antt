@@ -30,7 +30,7 @@ use Rattle.litmusbench.specs.declared.stream.Answer.{Answer}
 use Rattle.memo_graph.specs.FromScratch.{IsFromScratch}
 use Rattle.litmusbench.specs.Answer.{IsLogOf, IsModel, IsModelRefused, IsTestRefused, IsAnswer, RefusesModel, RefusesTest, IsRefusal, IsWritten, IsStreamed, refused_line}
 use Rattle.litmusbench.specs.Cut.{IsCut}
-use Rattle.litmusbench.specs.Log.{log_of}
+use Rattle.compare_report.specs.Log.{log_of}
 
 -- the log of an outcome, by the test's name
 pub log_said : (r : Result (Vec ℕ Global) AllocError) (test : Test) (model : ModelText) (o : Outcome) (name : List ℕ) → IsFromScratch test model o → name ≡ test.name → IfOk r (λ log. log.items ≡ log_of name o) → IfOk r (λ log. IsLogOf test model log.items)

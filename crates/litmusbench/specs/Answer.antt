@@ -20,7 +20,7 @@ use Rattle.litmusbench.specs.declared.fault.EvalFault.TheVariants as eval_faults
 use Rattle.litmusbench.specs.declared.fault.SessionFault.{SessionFault}
 use Rattle.litmusbench.specs.declared.fault.SessionFault.TheVariants as session_faults
 use Rattle.litmusbench.specs.Cut.{IsCut}
-use Rattle.litmusbench.specs.Log.{line_end, log_of}
+use Rattle.compare_report.specs.Log.{line_end, log_of}
 use Rattle.litmusbench.specs.Written.{WritesFront}
 
 -- ---- what a test that was read says under a model that was read

@@ -3,18 +3,24 @@
 
 mod cut;
 mod fault;
+mod file;
 mod form;
 pub mod laws;
-mod log;
+mod reading;
+mod report;
 mod sink;
 mod source;
+mod status;
 mod stream;
 mod texts;
 
 pub use fault::{EvalFault, SessionFault};
+pub use file::TextFile;
 pub use form::{Form, form_of};
-pub use log::outcome_log;
+pub use reading::NamedModel;
+pub use report::{Report, difference_report, table_report, write_report};
 pub use sink::{ByteSink, MemorySink, OfWrite, write_whole};
 pub use source::{ByteSource, CallFailed, MemorySource, OfRead, ReadFault, read_front};
+pub use status::{RunEnd, exit_status};
 pub use stream::{eval_stream, read_text, write_answer};
 pub use texts::eval;

@@ -18,8 +18,14 @@ struct Answer {
     is_refused: bool,
 }
 
+// The line of a refusal.
 #[tactic(auto, unfolding(crate::specs::Answer::refused_line))]
-fn put_refusal(text: &mut Vec<u8>, letter: u8, number: u8, place: usize) -> Result<(), AllocError>
+pub fn put_refusal(
+    text: &mut Vec<u8>,
+    letter: u8,
+    number: u8,
+    place: usize,
+) -> Result<(), AllocError>
     ensures { OnOk result (text.new.items ≡ text.old.items ++ refused_line letter number place) }
 {
     put_bytes(text, b"refused ")?;

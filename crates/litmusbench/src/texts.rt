@@ -9,8 +9,8 @@ ghost use Rattle.litmus_values.specs.Value.{content_of};
 ghost use Rattle.litmusbench.specs.Answer.{IsLogOf, IsLog, IsRefusal, IsOfModel, IsOfTest};
 
 use crate::fault::EvalFault;
-use crate::log::outcome_log;
 use cat_syntax::{CatFault, ModelText, read_model};
+use compare_report::outcome_log;
 use litmus_ppc::{LitmusFault, Test, read_test};
 use memo_graph::eval_cell;
 use std::alloc::{AllocError, Global};

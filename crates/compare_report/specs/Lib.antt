@@ -1,0 +1,4 @@
+pub mod Cells
+pub mod Columns
+pub mod Differences
+pub mod Log

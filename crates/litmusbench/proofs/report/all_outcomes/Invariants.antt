@@ -1,0 +1,8 @@
+use Rattle.std.proofs.Common.{take, map}
+use Rattle.std.specs.List.{AllZip}
+use Rattle.litmusbench.specs.Outcomes.{row_said}
+use Rattle.litmusbench.specs.Reports.{IsRow}
+use Rattle.litmusbench.proofs.report.all_outcomes.Given as goal
+
+abbrev pub invariant-loop-test : goal.invariant-loop-test
+invariant-loop-test l = AllZip (IsRow l.models) (take l.test-index l.tests) (map row_said l.rows.items)

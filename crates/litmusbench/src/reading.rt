@@ -1,0 +1,118 @@
+//! Models and tests from files.
+
+ghost use Rattle.std.specs.Prelude.{◌≡◌, ◌++◌, ◌∷◌, [], IfOk, OnOk};
+ghost use Rattle.litmusbench.specs.Files.{model_name};
+ghost use Rattle.litmusbench.specs.Reports.{AddsModel, AreModels, AddsTest, AreTests};
+
+use crate::file::{TextFile, model_name, put_fault};
+use cat_syntax::{CatFault, ModelText, read_model};
+use litmus_ppc::{LitmusFault, Name, Test, read_test};
+use std::alloc::{AllocError, Global};
+
+/// A model and the name by which it is called.
+#[derive(Drop)]
+pub struct NamedModel {
+    /// The name.
+    pub name: Name,
+    /// The model.
+    pub model: ModelText,
+}
+
+/// The models of some files, and the lines of the files that are refused.
+#[derive(Drop)]
+pub struct ReadModels {
+    pub models: Vec<NamedModel>,
+    pub faults: Vec<u8>,
+}
+
+/// The tests of some files, and the lines of the files that are refused.
+#[derive(Drop)]
+pub struct ReadTests {
+    pub tests: Vec<Test>,
+    pub faults: Vec<u8>,
+}
+
+fn push_model(
+    models: &mut Vec<NamedModel>,
+    alloc: Global,
+    path: &str,
+    model: ModelText,
+) -> Result<(), AllocError>
+    ensures { OnOk result (models.new.items ≡ models.old.items ++ record { name = model_name path.now; model = model } ∷ []) }
+{
+    let name = Name::new(alloc, model_name(path.as_bytes()))?;
+    models.push(NamedModel { name, model })?;
+    Ok(())
+}
+
+fn read_model_file(
+    alloc: Global,
+    file: &TextFile<'_>,
+    read: &mut ReadModels,
+) -> Result<(), AllocError>
+    ensures { OnOk result (AddsModel file.now read.old.models.items read.old.faults.items read.new.models.items read.new.faults.items) }
+{
+    match read_model(alloc, &file.text) {
+        Ok(model) => push_model(&mut read.models, alloc, file.path, model),
+        Err(CatFault::OutOfMemory(e)) => Err(e),
+        Err(CatFault::Refused { rule, place }) => {
+            put_fault(&mut read.faults, file, b'C', rule.number(), place)
+        }
+    }
+}
+
+/// The models of the files, in order. Errors: want of memory.
+pub fn read_models(alloc: Global, files: &[TextFile<'_>]) -> Result<ReadModels, AllocError>
+    ensures { IfOk result (λ r. AreModels files.now r.models.items r.faults.items) }
+{
+    let mut read = ReadModels {
+        models: Vec::new(alloc),
+        faults: Vec::new(alloc),
+    };
+    for file in files {
+        read_model_file(alloc, file, &mut read)?;
+    }
+    Ok(read)
+}
+
+fn push_test(tests: &mut Vec<Test>, test: Test) -> Result<(), AllocError>
+    ensures { OnOk result (tests.new.items ≡ tests.old.items ++ test ∷ []) }
+{
+    tests.push(test)?;
+    Ok(())
+}
+
+fn read_test_file(
+    alloc: Global,
+    file: &TextFile<'_>,
+    read: &mut ReadTests,
+) -> Result<(), AllocError>
+    ensures { OnOk result (AddsTest file.now read.old.tests.items read.old.faults.items read.new.tests.items read.new.faults.items) }
+{
+    match read_test(alloc, &file.text) {
+        Ok(test) => push_test(&mut read.tests, test),
+        Err(LitmusFault::OutOfMemory(e)) => Err(e),
+        Err(LitmusFault::Refused { rule, place }) => {
+            put_fault(&mut read.faults, file, b'L', rule.number(), place)
+        }
+    }
+}
+
+/// The tests of the files, in order; the lines of those that are refused go behind these. Errors:
+/// want of memory.
+pub fn read_tests(
+    alloc: Global,
+    files: &[TextFile<'_>],
+    faults: Vec<u8>,
+) -> Result<ReadTests, AllocError>
+    ensures { IfOk result (λ r. AreTests faults.items files.now r.tests.items r.faults.items) }
+{
+    let mut read = ReadTests {
+        tests: Vec::new(alloc),
+        faults,
+    };
+    for file in files {
+        read_test_file(alloc, file, &mut read)?;
+    }
+    Ok(read)
+}

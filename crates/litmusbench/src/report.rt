@@ -1,0 +1,245 @@
+//! Tables and differences over files.
+
+ghost use Rattle.std.specs.Prelude.{◌≡◌, ◌^◌, ◌-◌, ◌<◌, ◌++◌, ◌==◌, not, IfOk, OnOk, length, map, slice_index_or};
+ghost use Rattle.std.specs.List.{AllZip};
+ghost use Rattle.std.specs.Io.KnownBytes.{Appends};
+ghost use Rattle.compare_report.specs.Cells as cells;
+ghost use Rattle.compare_report.specs.Cells.{cell_of};
+ghost use Rattle.compare_report.specs.Columns.{row_of, table_of};
+ghost use Rattle.compare_report.specs.Differences.{pair_of, difference_of};
+ghost use Rattle.litmusbench.specs.Outcomes.{row_said};
+ghost use Rattle.litmusbench.specs.Reports.{IsRow, AreRead, names_of, IsTable, pair_in, difference_under, IsDifference};
+ghost use Rattle.litmusbench.specs.Written.{WritesFront};
+
+use crate::fault::SessionFault;
+use crate::file::TextFile;
+use crate::reading::{NamedModel, read_models, read_tests};
+use crate::sink::{ByteSink, write_whole};
+use compare_report::{Shown, TestPair, TestRow, difference_text, table_text};
+use litmus_ppc::{Name, Test};
+use memo_graph::eval_cell;
+use std::alloc::{AllocError, Global};
+use verdict::Outcome;
+
+/// What is said of files of models and tests.
+#[derive(Drop)]
+pub struct Report {
+    /// The text that was asked for.
+    pub text: Vec<u8>,
+    /// A line for each file that is refused.
+    pub faults: Vec<u8>,
+}
+
+/// The outcomes of a test, in the order of the models.
+#[derive(Drop)]
+struct TestOutcomes {
+    name: Name,
+    outcomes: Vec<Outcome>,
+}
+
+/// What was read and evaluated.
+#[derive(Drop)]
+struct EvaluatedFiles {
+    models: Vec<NamedModel>,
+    rows: Vec<TestOutcomes>,
+    faults: Vec<u8>,
+}
+
+fn outcomes_of(
+    alloc: Global,
+    test: &Test,
+    models: &[NamedModel],
+) -> Result<TestOutcomes, AllocError>
+    ensures { IfOk result (λ r. IsRow models.now test.now (row_said r)) }
+{
+    let name = test.name.copied(alloc)?;
+    let mut outcomes = Vec::with_capacity(alloc, models.len())?;
+    for model in models {
+        outcomes.push(eval_cell(alloc, test, &model.model)?)?;
+    }
+    Ok(TestOutcomes { name, outcomes })
+}
+
+fn all_outcomes(
+    alloc: Global,
+    tests: &[Test],
+    models: &[NamedModel],
+) -> Result<Vec<TestOutcomes>, AllocError>
+    ensures { IfOk result (λ v. AllZip (IsRow models.now) tests.now (map row_said v.items)) }
+{
+    let mut rows = Vec::with_capacity(alloc, tests.len())?;
+    for test in tests {
+        rows.push(outcomes_of(alloc, test, models)?)?;
+    }
+    Ok(rows)
+}
+
+fn evaluate_files(
+    alloc: Global,
+    models: &[TextFile<'_>],
+    tests: &[TextFile<'_>],
+) -> Result<EvaluatedFiles, AllocError>
+    ensures { IfOk result (λ e. AreRead models.now tests.now e.models.items (map row_said e.rows.items) e.faults.items) }
+{
+    let known = read_models(alloc, models)?;
+    let read = read_tests(alloc, tests, known.faults)?;
+    let rows = all_outcomes(alloc, &read.tests, &known.models)?;
+    Ok(EvaluatedFiles {
+        models: known.models,
+        rows,
+        faults: read.faults,
+    })
+}
+
+fn cells_of<'a>(alloc: Global, outcomes: &'a [Outcome]) -> Result<Vec<Shown<'a>>, AllocError>
+    ensures { IfOk result (λ v. map cell_of v.items ≡ map cells.Settled outcomes.now) }
+{
+    let mut cells = Vec::with_capacity(alloc, outcomes.len())?;
+    for outcome in outcomes {
+        cells.push(Shown::Settled(outcome))?;
+    }
+    Ok(cells)
+}
+
+fn test_row<'a>(alloc: Global, row: &'a TestOutcomes) -> Result<TestRow<'a>, AllocError>
+    ensures { IfOk result (λ r. row_of r ≡ row_said row.now) }
+{
+    Ok(TestRow {
+        name: row.name.as_bytes(),
+        cells: cells_of(alloc, &row.outcomes)?,
+    })
+}
+
+fn test_rows<'a>(alloc: Global, rows: &'a [TestOutcomes]) -> Result<Vec<TestRow<'a>>, AllocError>
+    ensures { IfOk result (λ v. map row_of v.items ≡ map row_said rows.now) }
+{
+    let mut found = Vec::with_capacity(alloc, rows.len())?;
+    for row in rows {
+        found.push(test_row(alloc, row)?)?;
+    }
+    Ok(found)
+}
+
+fn names(alloc: Global, models: &[NamedModel]) -> Result<Vec<Name>, AllocError>
+    ensures { IfOk result (λ v. v.items ≡ names_of models.now) }
+{
+    let mut names = Vec::with_capacity(alloc, models.len())?;
+    for model in models {
+        names.push(model.name.copied(alloc)?)?;
+    }
+    Ok(names)
+}
+
+fn table_of_rows(
+    alloc: Global,
+    models: &[NamedModel],
+    rows: &[TestOutcomes],
+) -> Result<Vec<u8>, AllocError>
+    ensures { IfOk result (λ v. v.items ≡ table_of (names_of models.now) (map row_said rows.now)) }
+{
+    let names = names(alloc, models)?;
+    let rows = test_rows(alloc, rows)?;
+    table_text(alloc, &names, &rows)
+}
+
+/// The table of the tests of some files under the models of others. Errors: want of memory.
+pub fn table_report(
+    alloc: Global,
+    models: &[TextFile<'_>],
+    tests: &[TextFile<'_>],
+) -> Result<Report, AllocError>
+    ensures { IfOk result (λ r. IsTable models.now tests.now r.text.items r.faults.items) }
+{
+    let found = evaluate_files(alloc, models, tests)?;
+    let text = table_of_rows(alloc, &found.models, &found.rows)?;
+    Ok(Report {
+        text,
+        faults: found.faults,
+    })
+}
+
+fn cell_at<'a>(outcomes: &'a [Outcome], index: usize) -> Shown<'a>
+    ensures { cell_of result ≡ slice_index_or (map cells.Settled outcomes.now) index cells.NoCell }
+{
+    match outcomes.get(index) {
+        Some(outcome) => Shown::Settled(outcome),
+        None => Shown::NoCell,
+    }
+}
+
+fn test_pair<'a>(row: &'a TestOutcomes) -> TestPair<'a>
+    ensures { pair_of result ≡ pair_in (row_said row.now) }
+{
+    TestPair {
+        name: row.name.as_bytes(),
+        first: cell_at(&row.outcomes, 0),
+        second: cell_at(&row.outcomes, 1),
+    }
+}
+
+fn test_pairs<'a>(alloc: Global, rows: &'a [TestOutcomes]) -> Result<Vec<TestPair<'a>>, AllocError>
+    ensures { IfOk result (λ v. map pair_of v.items ≡ map pair_in (map row_said rows.now)) }
+{
+    let mut pairs = Vec::with_capacity(alloc, rows.len())?;
+    for row in rows {
+        pairs.push(test_pair(row))?;
+    }
+    Ok(pairs)
+}
+
+fn difference_of_rows(
+    alloc: Global,
+    models: &[NamedModel],
+    rows: &[TestOutcomes],
+) -> Result<Vec<u8>, AllocError>
+    ensures { IfOk result (λ v. v.items ≡ difference_under models.now (map row_said rows.now)) }
+{
+    if models.len() != 2 {
+        return Ok(Vec::new(alloc));
+    }
+    let pairs = test_pairs(alloc, rows)?;
+    difference_text(alloc, &pairs)
+}
+
+/// Where the two models of two files tell the tests of other files apart; no text where one of the
+/// models is refused. Errors: want of memory.
+pub fn difference_report(
+    alloc: Global,
+    models: &[TextFile<'_>],
+    tests: &[TextFile<'_>],
+) -> Result<Report, AllocError>
+    ensures { IfOk result (λ r. IsDifference models.now tests.now r.text.items r.faults.items) }
+{
+    let found = evaluate_files(alloc, models, tests)?;
+    let text = difference_of_rows(alloc, &found.models, &found.rows)?;
+    Ok(Report {
+        text,
+        faults: found.faults,
+    })
+}
+
+/// Writes the lines of the refused files to one sink, then the text to another. Whether a file was
+/// refused. Errors: `Write` where a call failed; then what was written is a front.
+pub fn write_report<W: ByteSink, E: ByteSink>(
+    report: &Report,
+    output: &mut W,
+    errors: &mut E,
+) -> Result<bool, SessionFault>
+    requires output { W.failed_calls output.old < 2 ^ 64 - 1 }
+    requires errors { E.failed_calls errors.old < 2 ^ 64 - 1 }
+    // A file was refused just where there is a line for one.
+    ensures refused { IfOk result (λ r. r ≡ not (length report.now.faults.items == 0)) }
+    // All is written, or a front where a write failed.
+    ensures text { OnOk result (Appends (W.contents output.old) (W.contents output.new) report.now.text.items) }
+    ensures faults { OnOk result (Appends (E.contents errors.old) (E.contents errors.new) report.now.faults.items) }
+    ensures text_front { WritesFront (W.contents output.old) (W.contents output.new) report.now.text.items }
+    ensures faults_front { WritesFront (E.contents errors.old) (E.contents errors.new) report.now.faults.items }
+{
+    if write_whole(errors, &report.faults).is_err() {
+        return Err(SessionFault::Write);
+    }
+    if write_whole(output, &report.text).is_err() {
+        return Err(SessionFault::Write);
+    }
+    Ok(!report.faults.is_empty())
+}
