@@ -1,12 +1,14 @@
 //! Prints how long one evaluation takes, from the two texts to the log, for each pair of a model's
 //! file and a test's file that its words name. With the word `relations` it prints how long the
 //! operations on relations take beside plain loops, and without words whether both give the same.
+//! After the word `--phases` it prints for each pair how the time of one evaluation is spent.
 #![tactic(auto)]
 
+mod phases;
 mod plain;
 mod relations;
 
-use litmusbench::eval;
+use phases::{PHASES, Phase};
 use std::alloc::{AllocError, Global};
 use std::rt::{Clock, Env, Files};
 use std::time::Instant;
@@ -25,12 +27,17 @@ struct Timing {
     microseconds: u128,
 }
 
-fn time_pair<R: Clock + AllocGlobal>(rt: &R, model: &[u8], test: &[u8]) -> io::Result<Timing> {
+/// Takes evaluations as far as a phase until enough time has passed.
+fn time_phase<R: Clock + AllocGlobal>(
+    rt: &R,
+    phase: Phase,
+    model: &[u8],
+    test: &[u8],
+) -> io::Result<Timing> {
     let start = Instant::now(rt)?;
     let mut microseconds = 0;
     for count in 1..MOST {
-        let log = eval(rt.alloc(), model, test);
-        drop(log);
+        phase.evaluate(rt.alloc(), model, test);
         microseconds = start.elapsed(rt)?.as_micros();
         if microseconds > LONG_ENOUGH {
             return Ok(Timing {
@@ -48,10 +55,35 @@ fn time_pair<R: Clock + AllocGlobal>(rt: &R, model: &[u8], test: &[u8]) -> io::R
 fn show<R: Files + Clock + Print + AllocGlobal>(rt: &R, model: &str, test: &str) -> io::Result<()> {
     let model_text = fs::read(rt, model)?;
     let test_text = fs::read(rt, test)?;
-    let timing = time_pair(rt, &model_text, &test_text)?;
+    let timing = time_phase(rt, Phase::Log, &model_text, &test_text)?;
     let evaluations = timing.evaluations;
     let microseconds = timing.microseconds;
     println!(rt; "{test} under {model}: {evaluations} evaluations in {microseconds} microseconds")
+}
+
+/// The nanoseconds of one evaluation.
+fn nanoseconds_of(timing: Timing) -> u128 {
+    (timing.microseconds.min(u128::from(u64::MAX)) * 1000) / u128::from(timing.evaluations.max(1))
+}
+
+/// Prints for each phase by how much an evaluation takes longer for it.
+fn show_phases<R: Files + Clock + Print + AllocGlobal>(
+    rt: &R,
+    model: &str,
+    test: &str,
+) -> io::Result<()> {
+    let model_text = fs::read(rt, model)?;
+    let test_text = fs::read(rt, test)?;
+    println!(rt; "{test} under {model}, in nanoseconds:")?;
+    let mut before = 0;
+    for phase in PHASES {
+        let time = nanoseconds_of(time_phase(rt, phase, &model_text, &test_text)?);
+        let name = phase.name();
+        let more = time.saturating_sub(before);
+        println!(rt; "  {name}: {more}")?;
+        before = time;
+    }
+    Ok(())
 }
 
 fn words_of<R: Env + AllocGlobal>(rt: &R) -> io::Result<Vec<String>> {
@@ -62,22 +94,38 @@ fn words_of<R: Env + AllocGlobal>(rt: &R) -> io::Result<Vec<String>> {
     Ok(words)
 }
 
+/// Prints what is asked of each pair of a model's file and a test's file.
+fn show_pairs<R: Files + Clock + Print + AllocGlobal>(
+    rt: &R,
+    words: &[String],
+    by_phases: bool,
+) -> io::Result<()> {
+    for pair in words.chunks_exact(2) {
+        if let [model, test] = pair {
+            if by_phases {
+                show_phases(rt, model.as_str(), test.as_str())?;
+            } else {
+                show(rt, model.as_str(), test.as_str())?;
+            }
+        }
+    }
+    Ok(())
+}
+
 fn run<R: Files + Env + Clock + Print + AllocGlobal>(rt: &R) -> io::Result<()> {
     let words = words_of(rt)?;
     if words.len() == 2 && words[1].as_str() == "relations" {
         return relations::show_all(rt, true);
     }
     if words.len() < 3 {
-        println!(rt; "evaluation_times MODEL TEST MODEL TEST ..")?;
+        println!(rt; "evaluation_times [--phases] MODEL TEST MODEL TEST ..")?;
         println!(rt; "evaluation_times relations")?;
         return relations::show_all(rt, false);
     }
-    for pair in words[1..].chunks_exact(2) {
-        if let [model, test] = pair {
-            show(rt, model.as_str(), test.as_str())?;
-        }
+    if words[1].as_str() == "--phases" {
+        return show_pairs(rt, &words[2..], true);
     }
-    Ok(())
+    show_pairs(rt, &words[1..], false)
 }
 
 fn main(rt: HostRuntime) -> io::Result<()> {

@@ -1,5 +1,5 @@
 use Rattle.std.proofs.Common.{◌<◌, length, arith, ◌∙◌}
-use Rattle.bit_relations.proofs.Packing.{same_there, counts_differ, start_within, low_read, high_read}
+use Rattle.bit_relations.proofs.Packing.{same_there, start_within, low_read, high_read}
 use Rattle.bit_relations.proofs.packed.PackedRelations.is_same_at.Goals as goal
 
 pub index-offset-requires : goal.index-offset-requires
