@@ -43,11 +43,11 @@ holds_sign false = codes ":>"
 
 -- a state with its count, on a line
 abbrev pub count_line : CountedState → List ℕ
-count_line s = decimal s.count ++ holds_sign s.holds ++ s.text.items ++ line_end
+count_line s = decimal s.count ++ holds_sign s.holds ++ s.text ++ line_end
 
 abbrev pub result_counts : OutcomeResult → List ℕ
 result_counts (Refused refusal) = refusal_line refusal
-result_counts (Evaluated e) = flat_map count_line e.states.items
+result_counts (Evaluated e) = flat_map count_line e.states
 
 -- the counts of a cell
 abbrev pub cell_counts : Cell → List ℕ

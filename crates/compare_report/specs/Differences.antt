@@ -5,7 +5,7 @@ use Rattle.std.specs.List.{flat_map, list_any}
 use Rattle.std.specs.declared.cmp.Ordering.{Ordering}
 use Rattle.std.specs.declared.cmp.Ordering.TheVariants.{Less, Equal, Greater}
 use Rattle.binding_kinds.specs.Numbers.{number as fault_number}
-use Rattle.ppc_semantics.specs.Numbers.{number as refusal_number}
+use Rattle.candidates.specs.Faults.{number as refusal_number}
 use Rattle.verdict.specs.declared.answer.CountedState.{CountedState}
 use Rattle.verdict.specs.declared.answer.Evaluation.{Evaluation}
 use Rattle.verdict.specs.declared.answer.Outcome.{Outcome}
@@ -27,13 +27,13 @@ pub record SharedState : Type 0 where
   pub second : ℕ
 
 abbrev pub of_first : CountedState → SharedState
-of_first s = record { text = s.text.items; first = s.count; second = 0 }
+of_first s = record { text = s.text; first = s.count; second = 0 }
 
 abbrev pub of_second : CountedState → SharedState
-of_second s = record { text = s.text.items; first = 0; second = s.count }
+of_second s = record { text = s.text; first = 0; second = s.count }
 
 abbrev pub of_both : CountedState → CountedState → SharedState
-of_both s t = record { text = s.text.items; first = s.count; second = t.count }
+of_both s t = record { text = s.text; first = s.count; second = t.count }
 
 -- the lesser of two first states goes before the states behind it; two equal ones are one
 abbrev pub by_order : Ordering → CountedState → CountedState → List SharedState → List SharedState → List SharedState → List SharedState
@@ -46,13 +46,13 @@ abbrev pub merged : List CountedState → List CountedState → List SharedState
 merged [] second = map of_second second
 merged (s ∷ first) [] = map of_first (s ∷ first)
 merged (s ∷ first) (t ∷ second) =
-    by_order (state_cmp s.values.items t.values.items) s t (merged first (t ∷ second)) (merged first second) (merged (s ∷ first) second)
+    by_order (state_cmp s.values t.values) s t (merged first (t ∷ second)) (merged first second) (merged (s ∷ first) second)
 
 -- ---- the cells of a test
 
 abbrev pub result_states : OutcomeResult → List CountedState
 result_states (Refused refusal) = []
-result_states (Evaluated e) = e.states.items
+result_states (Evaluated e) = e.states
 
 -- the states of a cell, none where it is open or refused
 abbrev pub states_of : Cell → List CountedState
@@ -73,12 +73,12 @@ is_same_refusal (Space r) (Model g) = false
 is_same_refusal (Space r) (Space s) = refusal_number r == refusal_number s
 
 abbrev pub flag_lines : Evaluation → List ℕ
-flag_lines e = flat_map flag_line e.flags.items
+flag_lines e = flat_map flag_line e.flags
 
 -- whether a state's counts differ, or the flags
 abbrev pub evaluations_differ : Evaluation → Evaluation → Bool
 evaluations_differ e f =
-    list_any has_other_count (merged e.states.items f.states.items) || not (pointwise nat_eq (flag_lines e) (flag_lines f))
+    list_any has_other_count (merged e.states f.states) || not (pointwise nat_eq (flag_lines e) (flag_lines f))
 
 -- whether two outcomes of a test differ
 abbrev pub results_differ : OutcomeResult → OutcomeResult → Bool
