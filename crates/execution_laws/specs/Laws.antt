@@ -9,7 +9,7 @@ use Rattle.ppc_semantics.specs.Lowering.{IsProgram}
 use Rattle.candidates.specs.declared.fault.EvalRefusal.{EvalRefusal}
 use Rattle.thread_runs.specs.ValueSet.{IsOne}
 use Rattle.thread_runs.specs.Runs.{Thread, Run, IsRun, run_of}
-use Rattle.candidates.specs.Executions.{Execution, IsExecution, AreExecutions, Does, events, loads, stores, over_runs}
+use Rattle.candidates.specs.Executions.{Execution, IsExecution, AreExecutions, Does, events, stores, over_runs}
 use Rattle.candidates.specs.Lists.{IsFiltered}
 use Rattle.candidates.specs.Events.{thread_events, CannotRead}
 use Rattle.candidates.specs.Space.{shown_by, ShowTheSame}
