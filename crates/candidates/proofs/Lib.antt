@@ -1,13 +1,9 @@
 pub mod Alike
-pub mod AllListed
-pub mod Addresses
-pub mod AnyValues
 pub mod Arising
 pub mod Choosing
 pub mod Coherence
 pub mod Comparing
 pub mod Counting
-pub mod Covering
 pub mod Cycles
 pub mod Deciding
 pub mod Deriving
@@ -24,15 +20,11 @@ pub mod Kept
 pub mod Keying
 pub mod Laying
 pub mod Listing
-pub mod LoadValues
 pub mod Members
 pub mod Needs
-pub mod NoLocation
 pub mod Numbers
-pub mod OneOutcome
 pub mod OneProgram
 pub mod OrderLaws
-pub mod Outcomes
 pub mod Parting
 pub mod Places
 pub mod Products
@@ -45,7 +37,6 @@ pub mod Small
 pub mod Sole
 pub mod Spaces
 pub mod StepEvents
-pub mod StepValues
 pub mod Stores
 pub mod Telling
 pub mod Totals

@@ -1,6 +1,6 @@
 -- What `space` says of the executions of a test, and how a space shows them: its clauses `executions` and `refused` cite
--- `ListsExecutions` and `IsRefusedFor`. Read `Events` and `Executions` first. The laws at the end are those of `laws`.
-use Rattle.std.specs.Prelude.{ℕ, Some, ◌≡◌, ◌<◌, ◌≤◌, ◌↔◌, List, [], map, length, slice_get, Contains}
+-- `ListsExecutions` and `IsRefusedFor`. Read `Events` and `Executions` first.
+use Rattle.std.specs.Prelude.{ℕ, ◌≡◌, ◌<◌, ◌≤◌, ◌↔◌, List, map, length, Contains}
 use Rattle.std.specs.List.{AllPairs, AllZip, flat_map}
 use Rattle.litmus_values.specs.declared.test.Test.{Test}
 use Rattle.thread_runs.specs.declared.instruction.Program.{Program}
@@ -14,15 +14,12 @@ use Rattle.candidates.specs.declared.fault.EvalRefusal.TheVariants.{TooManyEvent
 use Rattle.candidates.specs.declared.fault.SpaceFault.{SpaceFault}
 use Rattle.candidates.specs.declared.fault.SpaceFault.TheVariants.{Refused, OutOfMemory}
 use Rattle.dataflow.specs.Chains.{Executed, IsAddr, IsData, IsCtrl, IsCtrlIsync, IsNeed, IsPairBefore}
-use Rattle.thread_runs.specs.ValueSet.{IsOne}
-use Rattle.thread_runs.specs.Runs.{Thread, Run, IsRun, run_of}
-use Rattle.candidates.specs.Executions.{Execution, IsExecution, AreExecutions, HasFault, IsDependency, IsOrder, Does, MayRead, events, loads, stores, maps, orders, locations_from, over_runs}
+use Rattle.thread_runs.specs.Runs.{Thread, Run, IsRun}
+use Rattle.candidates.specs.Executions.{Execution, IsExecution, AreExecutions, HasFault, IsDependency, IsOrder, MayRead, events, loads, maps, orders, locations_from, over_runs}
 use Rattle.candidates.specs.Lists.{IsFiltered}
-use Rattle.candidates.specs.Events.{thread_events, ReadsFrom, CannotRead}
+use Rattle.candidates.specs.Events.{ReadsFrom}
 use Rattle.bit_relations.specs.Pairs.{Union, IsAcyclic}
-use Rattle.candidates.specs.Space.{Shown, shown_by, shown_in, ShowTheSame}
-use Rattle.candidates.specs.declared.candidate.Action.TheVariants.{Write}
-use Rattle.candidates.specs.declared.candidate.Execution as shown
+use Rattle.candidates.specs.Space.{Shown, shown_in}
 use Rattle.candidates.specs.declared.candidate.Space.{Space}
 
 -- the executions of the test: those of its threads over its domain
@@ -95,24 +92,6 @@ abbrev pub IsRefusedFor : Test → SpaceFault → Type 0
 IsRefusedFor t (Refused r) = IsRefusal t r
 IsRefusedFor t (OutOfMemory e) = Unit {0}
 
--- LAWS of these definitions
-
--- the law of the domain: what is shown, where the loads of the execution take any values whatever, is an execution over
--- the domain of the test
-abbrev pub LosesNoValue : Test → shown.Execution → Type 0
-LosesNoValue t e =
-    (p : Program) (V : List Value) (x : Execution) → IsProgram t p → IsDomain p V → Shows p.initial.items x (shown_by e)
-    → IsExecution p.initial.items (threads_of p) IsOne x → IsExecution p.initial.items (threads_of p) (Contains V) x
-
--- a test has one list of executions
-abbrev pub HasOneList : List Value → List Thread → List Value → Type 0
-HasOneList initial threads V = (xs ys : List Execution) → AreExecutions initial threads V xs → AreExecutions initial threads V ys → xs ≡ ys
-
--- runs with a load that no store serves are in no execution
-abbrev pub LosesNoExecution : List Value → List Thread → List Value → List Run → Type 0
-LosesNoExecution initial threads V runs =
-    AllZip (λ t r. IsRun t (Contains V) r) threads runs → CannotRead (events initial runs) → IsFiltered (IsExecution initial threads (Contains V)) (over_runs initial runs) []
-
 -- reads-from and coherence are chosen apart: the executions of some runs are each reads-from, that is one, with each
 -- coherence, that is one
 abbrev pub IsReadsFrom : List Value → List Run → List ℕ → Type 0
@@ -130,37 +109,3 @@ ChoosesApart initial threads V runs =
     → IsFiltered (IsReadsFrom initial runs) (maps (events initial runs)) reads
     → IsFiltered (IsCoherence initial runs) (orders (events initial runs) initial) coherences
     → IsFiltered (IsExecution initial threads (Contains V)) (over_runs initial runs) (flat_map (λ r. map (λ c. record { runs = runs; reads_from = r; coherence = c }) coherences) reads)
-
--- no event of a run of a thread is left out of the events of an execution
-abbrev pub DropsNoEvent : Thread → Run → Type 0
-DropsNoEvent t r = (thread : ℕ) → run_of t.lines t.first r.values ≡ Some r.outcome → length (thread_events thread r.outcome.walk.events) ≡ length r.outcome.walk.events
-
--- a store of an execution stands in the coherence of its location
-pub record IsCovered (initial : List Value) (x : Execution) (store : ℕ) : Type 0 where
-  pub location : ℕ
-  pub value : Value
-  pub stores : Does (events initial x.runs) store (Write location value)
-  pub order : List ℕ
-  pub coherence : slice_get x.coherence location ≡ Some order
-  pub there : Contains order store
-
--- each does: an execution makes no store but at a location of the test
-abbrev pub CoversEachStore : Test → Type 0
-CoversEachStore t =
-    (p : Program) (V : List Value) (x : Execution) → IsProgram t p → IsDomain p V → IsExecution p.initial.items (threads_of p) IsOne x
-    → (store : ℕ) → Contains (stores (events p.initial.items x.runs)) store → IsCovered p.initial.items x store
-
--- a test has one outcome: a space or a refusal, and one refusal at most
-pub record HasOneOutcome (t : Test) : Type 0 where
-  pub listed_or_refused : (s : Space) (r : EvalRefusal) → ListsExecutions t s → IsRefusal t r → ⊥
-  pub one_refusal : (q r : EvalRefusal) → IsRefusal t q → IsRefusal t r → q ≡ r
-
--- two spaces of one test show the same
-abbrev pub ShowOneTest : Test → Space → Space → Type 0
-ShowOneTest t r s = ListsExecutions t r → ListsExecutions t s → ShowTheSame r s
-
--- the list of the executions of a test has just those whose loads take any values whatever
-abbrev pub HasAllExecutions : Test → Type 0
-HasAllExecutions t =
-    (initial : List Value) (xs : List Execution) (h : AreTestExecutions t initial xs) (x : Execution)
-    → Contains xs x ↔ IsExecution initial (threads_of h.program) IsOne x

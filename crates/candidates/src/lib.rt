@@ -3,7 +3,7 @@
 //! 36(2), 2014).
 //!
 //! Read `specs/Executions` first, what an execution is, and then `specs/Listed`, what `space` says.
-//! Other crates may cite the laws of `laws`.
+//! The laws of these stand in `execution_laws`.
 #![tactic(auto)]
 
 ghost use Rattle.std.specs.Prelude.{ℕ, ◌≡◌, List, Option, map, IfOk, IfErr};
@@ -18,7 +18,6 @@ ghost use Rattle.candidates.specs.Candidates.{AreSmall, HasEnds, IsAnswer, IsLay
 mod candidate;
 mod fault;
 mod keys;
-pub mod laws;
 mod layout;
 mod orders;
 mod part;

@@ -26,9 +26,9 @@ use Rattle.thread_runs.specs.ValueSet.{IsOne}
 use Rattle.ppc_semantics.specs.Domain.{IsDomain, threads_from, threads_of}
 use Rattle.ppc_semantics.specs.Lowering.{IsProgram, Starts, AreRegisters, value_of, test_names, entry_names, place_names, value_names, formula_names}
 use Rattle.litmus_values.specs.Value.{formula_of}
-use Rattle.candidates.proofs.AnyValues.{over_domain, zip_as, thread_of_run, RunOf}
+use Rattle.execution_laws.proofs.AnyValues.{over_domain, zip_as, thread_of_run, RunOf}
 use Rattle.candidates.proofs.Elements.{member_first, no_member, joined_there}
-use Rattle.candidates.proofs.LoadValues.{read_in, read_more, values_read}
+use Rattle.execution_laws.proofs.LoadValues.{read_in, read_more, values_read}
 use Rattle.candidates.proofs.Places.{along}
 use Rattle.candidates.specs.Executions.{Execution, IsExecution}
 

@@ -17,7 +17,8 @@ use Rattle.candidates.proofs.OneProgram.{Alike, programs_alike, test_executions_
 use Rattle.candidates.proofs.Sole.{first_rises, rest_rises, same_rising, less_apart, runs_sole}
 use Rattle.candidates.specs.Executions.{Execution}
 use Rattle.candidates.specs.Faults.{refusal_of}
-use Rattle.candidates.specs.Listed.{AreTestExecutions, ListsExecutions, HasManyExecutions, HasFaultedExecution, HasNoDomain, IsRefusal, HasOneOutcome}
+use Rattle.candidates.specs.Listed.{AreTestExecutions, ListsExecutions, HasManyExecutions, HasFaultedExecution, HasNoDomain, IsRefusal}
+use Rattle.execution_laws.specs.Laws.{HasOneOutcome}
 use Rattle.candidates.specs.declared.candidate.Space.{Space}
 use Rattle.candidates.specs.declared.fault.EvalRefusal.{EvalRefusal}
 use Rattle.candidates.specs.declared.fault.EvalRefusal.TheVariants.{TooManyEvents, TooManyValues, TooManyRuns, TooManyCandidates, AddressFault, TooManyCombinations}

@@ -12,16 +12,16 @@ use Rattle.thread_runs.specs.declared.instruction.Event as run
 use Rattle.thread_runs.specs.declared.instruction.Event.TheVariants.{Reads, Writes, Orders}
 use Rattle.thread_runs.specs.Runs.{Run, started}
 use Rattle.ppc_semantics.specs.Domain.{threads_of, load_total}
-use Rattle.candidates.proofs.Addresses.{AllBelow, one_below, run_kept, begins_kept, domain_below}
-use Rattle.candidates.proofs.AnyValues.{RunOf, thread_of_run}
+use Rattle.execution_laws.proofs.Addresses.{AllBelow, one_below, run_kept, begins_kept, domain_below}
+use Rattle.execution_laws.proofs.AnyValues.{RunOf, thread_of_run}
 use Rattle.candidates.proofs.Counting.{or_parts}
 use Rattle.candidates.proofs.Elements.{member_cases, member_first, member_later, no_member, joined}
-use Rattle.candidates.proofs.NoLocation.{over_any_domain}
+use Rattle.execution_laws.proofs.NoLocation.{over_any_domain}
 use Rattle.candidates.proofs.Numbers.{Numbered, contained, number_there}
-use Rattle.candidates.proofs.OneOutcome.{without, one_fewer, still_there}
+use Rattle.execution_laws.proofs.OneOutcome.{without, one_fewer, still_there}
 use Rattle.candidates.specs.Events.{AreDistinct, has_store, action_in, with_action, thread_events, initial_stores, is_store, writes_to}
 use Rattle.candidates.specs.Executions.{IsExecution, IsOrder, events, events_from, stores_at, locations_from}
-use Rattle.candidates.specs.Listed.{CoversEachStore}
+use Rattle.execution_laws.specs.Laws.{CoversEachStore}
 use Rattle.candidates.specs.declared.candidate.Action.{Action}
 use Rattle.candidates.specs.declared.candidate.Action.TheVariants.{Read, Write, Fence}
 use Rattle.candidates.specs.declared.candidate.Event.{Event}

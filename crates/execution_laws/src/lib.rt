@@ -1,10 +1,14 @@
-//! Laws of the executions of a test.
+//! Laws of the executions of a test: what `candidates::space` lists, and that its outcome is one. Read
+//! `Executions` and `Listed` of `candidates/specs` first, then specs/Laws.
+#![tactic(auto)]
+
 ghost use Rattle.std.specs.Prelude.{List};
 ghost use Rattle.thread_runs.specs.declared.value.Value.{Value};
 ghost use Rattle.thread_runs.specs.Runs.{Thread, Run};
-ghost use Rattle.candidates.specs.Listed.{HasAllExecutions, CoversEachStore, LosesNoValue, HasOneOutcome, HasOneList, ShowOneTest, LosesNoExecution, ChoosesApart, DropsNoEvent};
+ghost use Rattle.candidates.specs.Listed.{ChoosesApart};
+ghost use Rattle.execution_laws.specs.Laws.{HasAllExecutions, CoversEachStore, LosesNoValue, HasOneOutcome, HasOneList, ShowOneTest, LosesNoExecution, DropsNoEvent};
 
-use crate::candidate::{Execution, Space};
+use candidates::{Execution, Space};
 use litmus_values::Test;
 
 /// The domain of a test loses none of its executions: one whose loads take any values whatever is one over the domain.

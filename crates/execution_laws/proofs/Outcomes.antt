@@ -10,7 +10,8 @@ use Rattle.candidates.specs.Space.{Shown, shown_in}
 use Rattle.ppc_semantics.specs.Lowering.{test_names}
 use Rattle.std.specs.List.{AllZip}
 use Rattle.candidates.specs.Executions.{Execution}
-use Rattle.candidates.specs.Listed.{Shows, ArePairs, ShowOneTest}
+use Rattle.candidates.specs.Listed.{Shows, ArePairs}
+use Rattle.execution_laws.specs.Laws.{ShowOneTest}
 use Rattle.candidates.specs.declared.candidate.Space.{Space}
 
 -- pairs in rising order are one list

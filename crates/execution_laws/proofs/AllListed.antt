@@ -7,12 +7,12 @@ use Rattle.thread_runs.specs.declared.value.Value.{Value}
 use Rattle.thread_runs.specs.Runs.{Thread, Run, IsRun, AreRuns}
 use Rattle.thread_runs.specs.ValueSet.{IsOne}
 use Rattle.ppc_semantics.specs.Domain.{threads_of}
-use Rattle.candidates.proofs.NoLocation.{over_any_domain}
+use Rattle.execution_laws.proofs.NoLocation.{over_any_domain}
 use Rattle.candidates.proofs.Elements.{member_cases, member_later, member_first, no_member, mapped_there, joined_there}
 use Rattle.candidates.proofs.Numbers.{number_there}
 use Rattle.candidates.specs.Events.{is_store, writes}
 use Rattle.candidates.specs.Executions.{Execution, IsExecution, IsOrder, MayRead, loads, stores, stores_at, locations_from, events, product, maps, rows, orders, over_runs}
-use Rattle.candidates.specs.Listed.{HasAllExecutions}
+use Rattle.execution_laws.specs.Laws.{HasAllExecutions}
 use Rattle.candidates.specs.Lists.{IsFiltered, none, kept, left}
 use Rattle.candidates.specs.declared.candidate.Action.TheVariants.{Write}
 use Rattle.candidates.specs.declared.candidate.Event.{Event}

@@ -25,11 +25,11 @@ use Rattle.dataflow.specs.Chains.{IsNeed, event_place}
 use Rattle.dataflow.specs.Execution.{Way}
 use Rattle.dataflow.proofs.DomainLaw.{all_there, stored_freely}
 use Rattle.candidates.proofs.Elements.{member_cases, member_later, member_first, no_member, behind_first, within_first}
-use Rattle.candidates.proofs.LoadValues.{read_in, values_read, loads_few}
+use Rattle.execution_laws.proofs.LoadValues.{read_in, values_read, loads_few}
 use Rattle.candidates.proofs.Needs.{event_of_run, needed_load, load_is}
 use Rattle.candidates.proofs.Numbers.{number_there, as_many}
 use Rattle.candidates.proofs.StepEvents.{in_run}
-use Rattle.candidates.proofs.StepValues.{StoredAt, stored_at, loaded_there}
+use Rattle.execution_laws.proofs.StepValues.{StoredAt, stored_at, loaded_there}
 use Rattle.candidates.proofs.Whole.{AreLocated, run_located}
 use Rattle.candidates.specs.Events.{thread_events, with_action, action_in, initial_stores, reads, is_load, ReadsFrom}
 use Rattle.candidates.specs.Executions.{Execution, IsExecution, IsDependency, MayRead, loads, events, events_from}
