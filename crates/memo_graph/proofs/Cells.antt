@@ -14,7 +14,7 @@ use Rattle.binding_graph.specs.declared.resolved.ResolvedItem.{ResolvedItem}
 use Rattle.binding_kinds.specs.Faults.{HasNoFault}
 use Rattle.binding_graph.specs.Resolved.{AreResolved, AreLabelled}
 use Rattle.candidates.specs.declared.candidate.Space.{Space}
-use Rattle.candidates.specs.Candidates.{IsTestSpace}
+use Rattle.candidates.specs.Listed.{ListsExecutions}
 use Rattle.verdict.specs.Evaluated.{IsEvaluation, IsEvaluatedAs, IsOutcome}
 use Rattle.verdict.specs.declared.answer.Evaluation.{Evaluation}
 use Rattle.verdict.specs.declared.answer.Outcome.{Outcome}
@@ -31,11 +31,11 @@ use Rattle.memo_graph.specs.Cell.{IsSaid, IsResult, IsCell, IsEvaluationBy, IsEv
 use Rattle.memo_graph.proofs.Ordered.{resolved_ordered}
 use Rattle.memo_graph.proofs.Rising.{resolved_rising}
 
-result_said : (test : Test) (space : Space) (checks : List (Vec Bool Global)) (flags : List Raised) (r : OutcomeResult) → IsTestSpace test space → IsEvaluatedAs (IsEvaluation space test.condition test.observed.items checks flags) r → IsResult test r
+result_said : (test : Test) (space : Space) (checks : List (Vec Bool Global)) (flags : List Raised) (r : OutcomeResult) → ListsExecutions test space → IsEvaluatedAs (IsEvaluation space test.condition test.observed.items checks flags) r → IsResult test r
 result_said test space checks flags (Refused _) own h = absurd h
 result_said test space checks flags (Evaluated e) own h = (space, own, checks, flags, h)
 
-pub cell_said : (test : Test) (space : Space) (o : Outcome) → IsTestSpace test space → IsSaid space test o → IsCell test o
+pub cell_said : (test : Test) (space : Space) (o : Outcome) → ListsExecutions test space → IsSaid space test o → IsCell test o
 cell_said test space o own h = record {
   kind = h.2.kind;
   text = h.2.text;
@@ -64,11 +64,11 @@ outcome_said items test space answers observed checks given raised flags (Ok o) 
 outcome_said items test space answers observed checks given raised flags (Err e) seen same from gives on said h = tt
 
 -- an evaluation over that space, where the items are ordered
-over_space : (items : List ResolvedItem) (test : Test) (space : Space) (P : Evaluation → Type 0) (r : OutcomeResult) → IsTestSpace test space → IsEvaluatedAs P r → (AreSound items → IsEvaluatedAs (IsEvaluationBy items space test) r) → OfModel (λ _. ⊥) (Unit {0}) (λ e. AreSound items → IsEvaluationOver items test e) r
+over_space : (items : List ResolvedItem) (test : Test) (space : Space) (P : Evaluation → Type 0) (r : OutcomeResult) → ListsExecutions test space → IsEvaluatedAs P r → (AreSound items → IsEvaluatedAs (IsEvaluationBy items space test) r) → OfModel (λ _. ⊥) (Unit {0}) (λ e. AreSound items → IsEvaluationOver items test e) r
 over_space items test space P (Refused _) own h f = absurd h
 over_space items test space P (Evaluated e) own h f = (tt, λ ordered. (space, own, f ordered))
 
-pub model_over : (items : List ResolvedItem) (test : Test) (space : Space) (r : Result Outcome AllocError) → IsTestSpace test space → IfOk r (IsSaid space test) → (AreSound items → IfOk r (λ o. IsEvaluatedAs (IsEvaluationBy items space test) o.result)) → IfOk r (λ o. OfModel (λ _. ⊥) (Unit {0}) (λ e. AreSound items → IsEvaluationOver items test e) o.result)
+pub model_over : (items : List ResolvedItem) (test : Test) (space : Space) (r : Result Outcome AllocError) → ListsExecutions test space → IfOk r (IsSaid space test) → (AreSound items → IfOk r (λ o. IsEvaluatedAs (IsEvaluationBy items space test) o.result)) → IfOk r (λ o. OfModel (λ _. ⊥) (Unit {0}) (λ e. AreSound items → IsEvaluationOver items test e) o.result)
 model_over items test space (Ok o) own said f = over_space items test space _ o.result own said.2.result f
 model_over items test space (Err e) own said f = tt
 

@@ -4,9 +4,8 @@ use Rattle.std.specs.declared.alloc.Global.{Global}
 use Rattle.litmus_values.specs.declared.test.Test.{Test}
 use Rattle.litmus_values.specs.Value.{formula_of}
 use Rattle.litmus_printing.specs.Printing.{condition_text}
-use Rattle.candidates.specs.declared.fault.SpaceFault.TheVariants as space_faults
 use Rattle.candidates.specs.declared.candidate.Space.{Space}
-use Rattle.candidates.specs.Candidates.{IsTestSpace, IsTestRefusal}
+use Rattle.candidates.specs.Listed.{ListsExecutions, IsRefusal}
 use Rattle.cat_values.specs.declared.model.Item.{Item}
 use Rattle.binding_kinds.specs.declared.fault.ModelFault.{ModelFault}
 use Rattle.binding_kinds.specs.Value.{Naming, clause_of}
@@ -29,8 +28,8 @@ IsSaid space test o = (checks : List (Vec Bool Global)) × (flags : List Raised)
 -- space
 abbrev pub IsResult : Test → OutcomeResult → Type 0
 IsResult test (Refused (refusals.Model k)) = Unit {0}
-IsResult test (Refused (refusals.Space r)) = IsTestRefusal test (space_faults.Refused r)
-IsResult test (Evaluated e) = (space : Space) × IsTestSpace test space × (checks : List (Vec Bool Global)) × (flags : List Raised) × IsEvaluation space test.condition test.observed.items checks flags e
+IsResult test (Refused (refusals.Space r)) = IsRefusal test r
+IsResult test (Evaluated e) = (space : Space) × ListsExecutions test space × (checks : List (Vec Bool Global)) × (flags : List Raised) × IsEvaluation space test.condition test.observed.items checks flags e
 
 -- an outcome of the test: its condition as it is printed, and a result
 pub record IsCell (test : Test) (o : Outcome) : Type 0 where
@@ -47,7 +46,7 @@ IsEvaluationBy items space test e =
 
 -- likewise, on those of the test
 abbrev pub IsEvaluationOver : List ResolvedItem → Test → Evaluation → Type 0
-IsEvaluationOver items test e = (space : Space) × IsTestSpace test space × IsEvaluationBy items space test e
+IsEvaluationOver items test e = (space : Space) × ListsExecutions test space × IsEvaluationBy items space test e
 
 -- the evaluation of the test under a model of these items, of which the first sees those names: that of what they are
 -- resolved to, with the checks negated and the flags named as in the text

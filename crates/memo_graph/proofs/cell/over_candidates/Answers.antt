@@ -5,11 +5,11 @@ use Rattle.memo_graph.proofs.Cells.{cell_said, cell_refused, model_over}
 use Rattle.memo_graph.proofs.cell.over_candidates.Goals as goal
 
 pub returns-in-Ok-clause-cell : goal.returns-in-Ok-clause-cell
-returns-in-Ok-clause-cell c = IfOk-weaker c.evaluated.result (IsSaid c.in-Ok.space c.args.test.now) (IsCell c.args.test.now) (λ o h. cell_said c.args.test.now c.in-Ok.space o c.in-Ok.ensures.space h) c.evaluated.ensures.said
+returns-in-Ok-clause-cell c = IfOk-weaker c.evaluated.result (IsSaid c.in-Ok.space c.args.test.now) (IsCell c.args.test.now) (λ o h. cell_said c.args.test.now c.in-Ok.space o c.in-Ok.ensures.executions h) c.evaluated.ensures.said
 
 pub returns-in-Ok-clause-model : goal.returns-in-Ok-clause-model
-returns-in-Ok-clause-model c = model_over c.args.resolved.now.items.items c.args.test.now c.in-Ok.space c.evaluated.result c.in-Ok.ensures.space c.evaluated.ensures.said c.evaluated.ensures.answers
+returns-in-Ok-clause-model c = model_over c.args.resolved.now.items.items c.args.test.now c.in-Ok.space c.evaluated.result c.in-Ok.ensures.executions c.evaluated.ensures.said c.evaluated.ensures.answers
 
 pub returns-in-Err-Refused-clause-cell : goal.returns-in-Err-Refused-clause-cell
 returns-in-Err-Refused-clause-cell c =
-    cell_refused c.args.test.now (refusals.Space c.in-Err-Refused.refusal) c.refused.result (rw c.in-Err-Refused.field-0-is at c.in-Err-Refused.ensures.refusal) c.refused.ensures.kind c.refused.ensures.text c.refused.ensures.refusal
+    cell_refused c.args.test.now (refusals.Space c.in-Err-Refused.refusal) c.refused.result (rw c.in-Err-Refused.field-0-is at c.in-Err-Refused.ensures.refused) c.refused.ensures.kind c.refused.ensures.text c.refused.ensures.refusal
