@@ -1,11 +1,13 @@
 pub mod Alike
 pub mod AllListed
+pub mod Addresses
 pub mod AnyValues
 pub mod Arising
 pub mod Choosing
 pub mod Coherence
 pub mod Comparing
 pub mod Counting
+pub mod Covering
 pub mod Cycles
 pub mod Deciding
 pub mod Deriving

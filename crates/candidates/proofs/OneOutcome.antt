@@ -23,18 +23,18 @@ use Rattle.candidates.specs.declared.fault.EvalRefusal.{EvalRefusal}
 use Rattle.candidates.specs.declared.fault.EvalRefusal.TheVariants.{TooManyEvents, TooManyValues, TooManyRuns, TooManyCandidates, AddressFault, TooManyCombinations}
 
 -- a list without one element
-without : {X : Type 0} → List X → ℕ → List X
+pub without : {X : Type 0} → List X → ℕ → List X
 without [] k = []
 without (y ∷ ys) zero = ys
 without {X} (y ∷ ys) (suc k) = y ∷ without {X = X} ys k
 
-one_fewer : {X : Type 0} (ys : List X) (k : ℕ) → k < length ys → length ys ≡ suc (length (without ys k))
+pub one_fewer : {X : Type 0} (ys : List X) (k : ℕ) → k < length ys → length ys ≡ suc (length (without ys k))
 unfolding without
 one_fewer [] k lt = absurd (omega (arith, lt))
 one_fewer (y ∷ ys) zero lt = refl
 one_fewer (y ∷ ys) (suc k) lt = ap (λ (n : ℕ). suc n) (one_fewer ys k (omega (arith, lt)))
 
-still_there : {X : Type 0} (ys : List X) (k : ℕ) (x z : X) → k < length ys → get_or ys k x ≡ x → (x ≡ z → ⊥) → Contains ys z → Contains (without ys k) z
+pub still_there : {X : Type 0} (ys : List X) (k : ℕ) (x z : X) → k < length ys → get_or ys k x ≡ x → (x ≡ z → ⊥) → Contains ys z → Contains (without ys k) z
 unfolding without
 still_there [] k x z lt at other c = c
 still_there (y ∷ ys) zero x z lt at other c = elim (member_cases y ys z c) [ inl e ↦ absurd (other (sym at ∙ e)) | inr d ↦ d ]
@@ -44,7 +44,7 @@ still_there {X} (y ∷ ys) (suc k) x z lt at other c = elim (member_cases y ys z
 ]
 
 -- elements that differ, all of them in the other list, are no more than those
-no_more_of : {X : Type 0} (R : X → X → Type 0) → ((x : X) → R x x → ⊥) → (xs ys : List X) → AllPairs R xs → ((z : X) → Contains xs z → Contains ys z) → length xs ≤ length ys
+pub no_more_of : {X : Type 0} (R : X → X → Type 0) → ((x : X) → R x x → ⊥) → (xs ys : List X) → AllPairs R xs → ((z : X) → Contains xs z → Contains ys z) → length xs ≤ length ys
 no_more_of R apart [] ys h there = omega arith
 no_more_of {X} R apart (x ∷ xs) ys h there =
     let c : Contains ys x = there x (member_first x xs) in

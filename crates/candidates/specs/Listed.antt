@@ -1,6 +1,6 @@
 -- What `space` says of the executions of a test, and how a space shows them: its clauses `executions` and `refused` cite
 -- `ListsExecutions` and `IsRefusedFor`. Read `Events` and `Executions` first. The laws at the end are those of `laws`.
-use Rattle.std.specs.Prelude.{ℕ, Some, ◌≡◌, ◌<◌, ◌≤◌, ◌↔◌, List, [], map, length, Contains}
+use Rattle.std.specs.Prelude.{ℕ, Some, ◌≡◌, ◌<◌, ◌≤◌, ◌↔◌, List, [], map, length, slice_get, Contains}
 use Rattle.std.specs.List.{AllPairs, AllZip, flat_map}
 use Rattle.litmus_values.specs.declared.test.Test.{Test}
 use Rattle.thread_runs.specs.declared.instruction.Program.{Program}
@@ -16,11 +16,12 @@ use Rattle.candidates.specs.declared.fault.SpaceFault.TheVariants.{Refused, OutO
 use Rattle.dataflow.specs.Chains.{Executed, IsAddr, IsData, IsCtrl, IsCtrlIsync, IsNeed, IsPairBefore}
 use Rattle.thread_runs.specs.ValueSet.{IsOne}
 use Rattle.thread_runs.specs.Runs.{Thread, Run, IsRun, run_of}
-use Rattle.candidates.specs.Executions.{Execution, IsExecution, AreExecutions, HasFault, IsDependency, IsOrder, MayRead, events, loads, maps, orders, locations_from, over_runs}
+use Rattle.candidates.specs.Executions.{Execution, IsExecution, AreExecutions, HasFault, IsDependency, IsOrder, Does, MayRead, events, loads, stores, maps, orders, locations_from, over_runs}
 use Rattle.candidates.specs.Lists.{IsFiltered}
 use Rattle.candidates.specs.Events.{thread_events, ReadsFrom, CannotRead}
 use Rattle.bit_relations.specs.Pairs.{Union, IsAcyclic}
 use Rattle.candidates.specs.Space.{Shown, shown_by, shown_in, ShowTheSame}
+use Rattle.candidates.specs.declared.candidate.Action.TheVariants.{Write}
 use Rattle.candidates.specs.declared.candidate.Execution as shown
 use Rattle.candidates.specs.declared.candidate.Space.{Space}
 
@@ -133,6 +134,21 @@ ChoosesApart initial threads V runs =
 -- no event of a run of a thread is left out of the events of an execution
 abbrev pub DropsNoEvent : Thread → Run → Type 0
 DropsNoEvent t r = (thread : ℕ) → run_of t.lines t.first r.values ≡ Some r.outcome → length (thread_events thread r.outcome.walk.events) ≡ length r.outcome.walk.events
+
+-- a store of an execution stands in the coherence of its location
+pub record IsCovered (initial : List Value) (x : Execution) (store : ℕ) : Type 0 where
+  pub location : ℕ
+  pub value : Value
+  pub stores : Does (events initial x.runs) store (Write location value)
+  pub order : List ℕ
+  pub coherence : slice_get x.coherence location ≡ Some order
+  pub there : Contains order store
+
+-- each does: an execution makes no store but at a location of the test
+abbrev pub CoversEachStore : Test → Type 0
+CoversEachStore t =
+    (p : Program) (V : List Value) (x : Execution) → IsProgram t p → IsDomain p V → IsExecution p.initial.items (threads_of p) IsOne x
+    → (store : ℕ) → Contains (stores (events p.initial.items x.runs)) store → IsCovered p.initial.items x store
 
 -- a test has one outcome: a space or a refusal, and one refusal at most
 pub record HasOneOutcome (t : Test) : Type 0 where

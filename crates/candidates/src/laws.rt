@@ -2,7 +2,7 @@
 ghost use Rattle.std.specs.Prelude.{List};
 ghost use Rattle.thread_runs.specs.declared.value.Value.{Value};
 ghost use Rattle.thread_runs.specs.Runs.{Thread, Run};
-ghost use Rattle.candidates.specs.Listed.{HasAllExecutions, LosesNoValue, HasOneOutcome, HasOneList, ShowOneTest, LosesNoExecution, ChoosesApart, DropsNoEvent};
+ghost use Rattle.candidates.specs.Listed.{HasAllExecutions, CoversEachStore, LosesNoValue, HasOneOutcome, HasOneList, ShowOneTest, LosesNoExecution, ChoosesApart, DropsNoEvent};
 
 use crate::candidate::{Execution, Space};
 use litmus_values::Test;
@@ -41,6 +41,13 @@ pub fn executions_are_a_product()
 pub fn events_are_whole()
     ensures { (t : Thread) (r : Run) → DropsNoEvent t r }
 {}
+
+/// Each store of an execution stands in the coherence of its location.
+pub fn coherence_covers_each_store(test: &Test)
+    ensures { CoversEachStore test.now }
+{
+    let _test = test;
+}
 
 /// A test has one outcome: where it has a space it has no refusal, and it has no two refusals.
 pub fn outcomes_exclude_one_another(test: &Test)

@@ -80,7 +80,7 @@ own_turn Greater e = absurd (let f : ordering_index Greater ≡ ordering_index L
 name_itself : (n : List ℕ) → name_cmp n n ≡ Equal
 name_itself n = own_turn (name_cmp n n) (order.antisymm n n)
 
-number_at : (names : List (List ℕ)) (k : ℕ) → AllPairs IsBefore names → k < length names → k ≡ number_of names (get_or names k [])
+pub number_at : (names : List (List ℕ)) (k : ℕ) → AllPairs IsBefore names → k < length names → k ≡ number_of names (get_or names k [])
 number_at names k rising lt = number_found names (get_or names k []) k rising lt (λ d. subst (λ (n : List ℕ). name_cmp n (get_or names k []) ≡ Equal) (get_or_default names k [] d lt) (name_itself (get_or names k [])))
 
 name_step : (x name : List ℕ) (xs : List (List ℕ)) (b : Bool) (k : ℕ) → is_eq (name_cmp x name) ≡ b → ((k : ℕ) → k < length xs → number_of xs name ≡ k → name ≡ get_or xs k []) → k < suc (length xs)
