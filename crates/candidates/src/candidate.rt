@@ -11,9 +11,9 @@ use std::alloc::{AllocError, Global};
 /// What an event does.
 #[derive(Clone, Copy)]
 pub enum Action {
-    /// A load of the value from the location, by its place among the test's.
+    /// A load of the value from the location, by its index among the test's.
     Read { location: usize, value: Value },
-    /// A store of the value at the location, by its place among the test's.
+    /// A store of the value at the location, by its index among the test's.
     Write { location: usize, value: Value },
     /// A fence.
     Fence(Fence),
@@ -44,7 +44,7 @@ pub struct Combination {
     pub ctrl_pairs: Vec<(usize, usize)>,
     /// Control dependencies by an `isync`.
     pub ctrlisync_pairs: Vec<(usize, usize)>,
-    /// For each thread, the place of its run in `Space::registers`.
+    /// For each thread, the index of its run in `Space::registers`.
     pub runs: Vec<usize>,
     /// Each a way to read: for each load in event order, the number of the store that it reads.
     pub sources: Vec<Vec<u8>>,
@@ -94,30 +94,30 @@ impl Combination {
         self.sources.len().saturating_mul(self.orders.len())
     }
 
-    /// Whether it has a candidate at this place.
-    fn has(&self, place: usize) -> bool
-        ensures { IsTrue result ↔ (place < length (candidates_of self.now)) }
+    /// Whether it has a candidate at this index.
+    fn has(&self, index: usize) -> bool
+        ensures { IsTrue result ↔ (index < length (candidates_of self.now)) }
     {
         let orders = self.orders.len();
         if orders == 0 {
             return false;
         }
-        place / orders < self.sources.len()
+        index / orders < self.sources.len()
     }
 
-    /// The candidate at this place among those of the combination.
+    /// The candidate at this index among those of the combination.
     fn execution(
         &self,
         alloc: Global,
         registers: &[Vec<[Value; 32]>],
-        place: usize,
+        index: usize,
     ) -> Result<Execution, AllocError>
-        requires { place < length (candidates_of self.now) }
-        ensures { IfOk result (λ e. HoldsAt (λ t. IsExecution registers.now self.now t e) (candidates_of self.now) place) }
+        requires { index < length (candidates_of self.now) }
+        ensures { IfOk result (λ e. HoldsAt (λ t. IsExecution registers.now self.now t e) (candidates_of self.now) index) }
     {
         let orders = self.orders.len();
-        let sources = &self.sources[place / orders];
-        let order = &self.orders[place % orders];
+        let sources = &self.sources[index / orders];
+        let order = &self.orders[index % orders];
         Ok(Execution {
             events: Vec::from_slice(alloc, &self.events)?,
             addr_pairs: Vec::from_slice(alloc, &self.addr_pairs)?,
@@ -191,13 +191,13 @@ impl Space {
         )
     }
 
-    /// The candidate at a place, from 0; `None` where there are no more than `place`. Errors: want
+    /// The candidate at an index, from 0; `None` where there are no more than `index`. Errors: want
     /// of memory.
-    pub fn execution(&self, alloc: Global, place: usize) -> Result<Option<Execution>, AllocError>
-        ensures some { IfOk result (λ o. IfSome o (λ e. (place < candidate_count self.now) × IsShown self.now place e)) }
-        ensures none { IfOk result (λ o. IfNone o (candidate_count self.now ≤ place)) }
+    pub fn execution(&self, alloc: Global, index: usize) -> Result<Option<Execution>, AllocError>
+        ensures some { IfOk result (λ o. IfSome o (λ e. (index < candidate_count self.now) × IsShown self.now index e)) }
+        ensures none { IfOk result (λ o. IfNone o (candidate_count self.now ≤ index)) }
     {
-        let mut left = place;
+        let mut left = index;
         for combination in &self.combinations {
             if combination.has(left) {
                 let found = combination.execution(alloc, &self.registers, left)?;

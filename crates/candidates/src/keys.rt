@@ -116,27 +116,27 @@ impl KeySet {
     }
 }
 
-/// The place of the value among these, or how many they are.
-fn place_of(values: &[Value], value: Value) -> usize
+/// The index of the value among these, or how many they are.
+fn index_of(values: &[Value], value: Value) -> usize
     ensures { result ≡ position_or_len (λ v. same_value v value) values.now }
 {
-    for place in 0..values.len() {
-        if is_same(values[place], value) {
-            return place;
+    for index in 0..values.len() {
+        if is_same(values[index], value) {
+            return index;
         }
     }
     values.len()
 }
 
-/// The number of the pair of a location and a value, by the place of the value among these; none
+/// The number of the pair of a location and a value, by the index of the value among these; none
 /// past 128 locations and 16 values.
 fn key_of(values: &[Value], location: usize, value: Value) -> Option<usize>
     ensures number { result ≡ key_in values.now location value }
     ensures within { IfSome result (λ key. key < 2048) }
 {
-    let place = place_of(values, value);
-    if location < 128 && place < 16 {
-        Some(location * 16 + place)
+    let index = index_of(values, value);
+    if location < 128 && index < 16 {
+        Some(location * 16 + index)
     } else {
         None
     }

@@ -16,7 +16,7 @@ use std::alloc::{AllocError, Global};
 /// A run of a thread that may be part of a candidate.
 #[derive(Drop)]
 pub struct Part {
-    /// The place of the run among the runs of its thread.
+    /// The index of the run among the runs of its thread.
     pub run: usize,
     pub events: Vec<Event>,
     pub links: Links,
@@ -28,7 +28,7 @@ pub struct Part {
     pub is_faulted: bool,
 }
 
-/// A run by its place among the runs of its thread, with what its loads read and its stores store.
+/// A run by its index among the runs of its thread, with what its loads read and its stores store.
 #[derive(Clone, Copy)]
 pub struct Sketch {
     pub run: usize,
@@ -70,9 +70,9 @@ fn events_in(run: &Run) -> &[ppc_semantics::Event]
     &run.events
 }
 
-/// What the events of the run at this place read and store.
-fn sketch_of(values: &[Value], place: usize, run: &Run) -> Sketch
-    ensures place { result.run ≡ place }
+/// What the events of the run at this index read and store.
+fn sketch_of(values: &[Value], index: usize, run: &Run) -> Sketch
+    ensures index { result.run ≡ index }
     ensures keys { (thread : ℕ) → AreKeys (bit_of values.now) (thread_events thread run.now.events.items) result.reads result.writes }
 {
     let mut reads = KeySet::empty();
@@ -84,7 +84,7 @@ fn sketch_of(values: &[Value], place: usize, run: &Run) -> Sketch
         }
     }
     Sketch {
-        run: place,
+        run: index,
         reads,
         writes,
     }
@@ -95,8 +95,8 @@ pub fn sketches(alloc: Global, values: &[Value], runs: &[Run]) -> Result<Vec<Ske
     ensures { IfOk result (λ v. AreSketches values.now runs.now v.items) }
 {
     let mut made = Vec::with_capacity(alloc, runs.len())?;
-    for place in 0..runs.len() {
-        made.push(sketch_of(values, place, &runs[place]))?;
+    for index in 0..runs.len() {
+        made.push(sketch_of(values, index, &runs[index]))?;
     }
     Ok(made)
 }

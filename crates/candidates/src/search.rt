@@ -95,7 +95,7 @@ fn copied(alloc: Global, made: &Combination) -> Result<Combination, AllocError>
     })
 }
 
-/// Adds the run at this place among those of the next thread.
+/// Adds the run at this index among those of the next thread.
 fn add_run(made: &mut Combination, run: usize, part: &Part) -> Result<(), AllocError>
     ensures { OnOk result (seen made.new ≡ joined_run run part.now (seen made.old)) }
 {

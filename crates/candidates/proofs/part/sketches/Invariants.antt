@@ -1,5 +1,5 @@
 use Rattle.candidates.proofs.Parting.{AreFirst}
 use Rattle.candidates.proofs.part.sketches.Given as goal
 
-abbrev pub invariant-loop-place : goal.invariant-loop-place
-invariant-loop-place l = AreFirst l.values l.runs l.place l.made.items
+abbrev pub invariant-loop-index : goal.invariant-loop-index
+invariant-loop-index l = AreFirst l.values l.runs l.index l.made.items
