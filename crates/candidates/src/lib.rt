@@ -13,7 +13,7 @@ ghost use Rattle.candidates.specs.Listed.{ListsExecutions, IsRefusedFor};
 ghost use Rattle.candidates.specs.Events.{initial_stores};
 ghost use Rattle.candidates.specs.Search.{all_combinations, location_count};
 ghost use Rattle.candidates.specs.Space.{seen, ordered};
-ghost use Rattle.candidates.specs.Candidates.{AreSmall, HasEnds, IsAnswer, IsLayoutFault, IsReady, IsTestSpace, IsTestRefusal};
+ghost use Rattle.candidates.specs.Candidates.{AreSmall, HasEnds, IsAnswer, IsLayoutFault, IsReady};
 
 mod candidate;
 mod fault;
@@ -95,8 +95,6 @@ fn layout_of(alloc: Global, test: &Test) -> Result<Layout, SpaceFault>
 pub fn space(alloc: Global, test: &Test) -> Result<Space, SpaceFault>
     ensures executions { IfOk result (ListsExecutions test.now) }
     ensures refused { IfErr result (IsRefusedFor test.now) }
-    ensures space { IfOk result (IsTestSpace test.now) }
-    ensures refusal { IfErr result (IsTestRefusal test.now) }
 {
     match layout_of(alloc, test) {
         Err(fault) => Err(fault),
