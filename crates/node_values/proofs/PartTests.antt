@@ -1,5 +1,5 @@
 -- The space of a test depends on its parts alone.
-use Rattle.std.proofs.Common.{ℕ, ◌<◌, ◌≡◌, ◌⊎◌, List, length, get_or, map, Vec, Global, vec_len, inl, inr, refl, sym, ap, subst, ◌∙◌}
+use Rattle.std.proofs.Common.{ℕ, ◌<◌, ◌≡◌, ◌⊎◌, List, length, get_or, map, Vec, Global, vec_len, refl, sym, ap, subst, ◌∙◌}
 use Rattle.std.proofs.Math.ListN.{get_or-map}
 use Rattle.std.proofs.lemmas.List.{length-map}
 use Rattle.litmus_values.specs.declared.test.InitEntry.{InitEntry}
@@ -9,13 +9,15 @@ use Rattle.litmus_values.specs.declared.test.Thread.{Thread}
 use Rattle.litmus_values.specs.Value.{steps_of}
 use Rattle.thread_runs.specs.declared.instruction.Line.{Line}
 use Rattle.thread_runs.specs.declared.instruction.Program.{Program}
+use Rattle.thread_runs.specs.declared.value.Value.{Value}
 use Rattle.ppc_semantics.specs.Lowering.{IsProgram, AreNames, AreInitial, AreThreads, AreFiles, AreLines, test_names}
-use Rattle.candidates.specs.Candidates.{IsTestSpace, IsTestRefusal}
 use Rattle.candidates.specs.declared.candidate.Space.{Space}
 use Rattle.candidates.specs.declared.fault.EvalRefusal.{EvalRefusal}
-use Rattle.candidates.specs.declared.fault.SpaceFault.TheVariants.{Refused}
-use Rattle.candidates.specs.Listed.{ListsExecutions}
-use Rattle.candidates.proofs.Outcomes.{shown_alike}
+use Rattle.candidates.specs.declared.fault.EvalRefusal.TheVariants.{TooManyEvents, TooManyValues, TooManyRuns, TooManyCandidates, AddressFault, TooManyCombinations}
+use Rattle.ppc_semantics.specs.declared.fault.DomainRefusal.{DomainRefusal}
+use Rattle.candidates.specs.Executions.{Execution}
+use Rattle.candidates.specs.Listed.{ListsExecutions, AreTestExecutions, HasNoDomain, IsRefusal}
+use Rattle.execution_laws.proofs.Outcomes.{shown_alike}
 use Rattle.node_values.specs.Laws.{HasOneSpace, IsOfEachTest}
 use Rattle.node_values.specs.Parts.{SpacePartsContent, HasParts, IsPartSpace, IsPartRefusal}
 use Rattle.node_values.specs.Spaces.{SpaceContent, space_content}
@@ -53,34 +55,49 @@ module _ (parts : SpacePartsContent) (t u : Test) (h : HasParts parts t) (k : Ha
     registers = subst (λ (m : ℕ). AreFiles u.init.items p.locations.items m p.registers.items) counts (subst (λ (l : List InitEntry). AreFiles l p.locations.items (vec_len t.threads) p.registers.items) inits is.registers);
   }
 
-  pub same_space : (s : Space) → IsTestSpace t s → IsTestSpace u s
-  same_space s h = (h.0, (h.1.0, h.1.1, h.1.2, same_program h.1.0 h.1.3, h.1.4, h.1.5, h.1.6), h.2)
+  same_executions : (initial : List Value) (xs : List Execution) → AreTestExecutions t initial xs → AreTestExecutions u initial xs
+  same_executions initial xs h = record {
+    program = h.program;
+    values = h.values;
+    of_test = same_program h.program h.of_test;
+    starts = h.starts;
+    domain = h.domain;
+    executions = h.executions;
+  }
 
   pub same_lists : (s : Space) → ListsExecutions t s → ListsExecutions u s
   same_lists s h = record {
     initial = h.initial;
     all = h.all;
-    executions = record {
-      program = h.executions.program;
-      values = h.executions.values;
-      of_test = same_program h.executions.program h.executions.of_test;
-      starts = h.executions.starts;
-      domain = h.executions.domain;
-      executions = h.executions.executions;
-    };
+    executions = same_executions h.initial h.all h.executions;
     few = h.few;
     sound = h.sound;
     shown = h.shown;
     locations = same_names s.locations.items h.locations;
   }
 
-  pub same_refusal : (r : EvalRefusal) → IsTestRefusal t (Refused r) → IsTestRefusal u (Refused r)
-  same_refusal r (inl f) = inl (f.0, f.1, (f.2.0, same_program f.2.0 f.2.1, f.2.2))
-  same_refusal r (inr f) = inr (f.0, (f.1.0, f.1.1, f.1.2, same_program f.1.0 f.1.3, f.1.4, f.1.5, f.1.6), f.2)
+  no_domain : (r : DomainRefusal) → HasNoDomain t r → HasNoDomain u r
+  no_domain r h = (h.0, same_program h.0 h.1, h.2)
+
+  pub same_refusal : (r : EvalRefusal) → IsRefusal t r → IsRefusal u r
+  same_refusal TooManyEvents h = no_domain _ h
+  same_refusal TooManyValues h = no_domain _ h
+  same_refusal TooManyRuns h = no_domain _ h
+  same_refusal TooManyCombinations h = no_domain _ h
+  same_refusal TooManyCandidates h = record { initial = h.initial; all = h.all; executions = same_executions h.initial h.all h.executions; many = h.many }
+  same_refusal AddressFault h = record {
+    initial = h.initial;
+    all = h.all;
+    executions = same_executions h.initial h.all h.executions;
+    few = h.few;
+    execution = h.execution;
+    there = h.there;
+    fault = h.fault;
+  }
 
 pub of_each : (parts : SpacePartsContent) (t : Test) → IsOfEachTest parts t
 of_each parts t has = (
-  (λ s h. record { space = h.space; of_test = same_space parts h.test t h.has_parts has h.space h.of_test; lists = same_lists parts h.test t h.has_parts has h.space h.lists; content = h.content }),
+  (λ s h. record { space = h.space; lists = same_lists parts h.test t h.has_parts has h.space h.lists; content = h.content }),
   (λ r h. same_refusal parts h.test t h.has_parts has r h.of_test),
 )
 

@@ -3,9 +3,7 @@ use Rattle.std.specs.Prelude.{◌≡◌, List}
 use Rattle.litmus_values.specs.declared.test.Test.{Test}
 use Rattle.candidates.specs.declared.candidate.Space.{Space}
 use Rattle.candidates.specs.declared.fault.EvalRefusal.{EvalRefusal}
-use Rattle.candidates.specs.declared.fault.SpaceFault.TheVariants.{Refused}
-use Rattle.candidates.specs.Candidates.{IsTestSpace, IsTestRefusal}
-use Rattle.candidates.specs.Listed.{ListsExecutions}
+use Rattle.candidates.specs.Listed.{ListsExecutions, IsRefusal}
 use Rattle.node_values.specs.Givens.{VerdictPartsContent, ForVerdict}
 use Rattle.node_values.specs.Makes.{Makes}
 use Rattle.node_values.specs.Parts.{SpacePartsContent, HasParts, IsPartSpace, IsPartRefusal}
@@ -19,13 +17,12 @@ HasOneSpace parts = (s r : SpaceContent) → IsPartSpace parts s → IsPartSpace
 -- a space of a test, which shows this
 pub record IsSpaceOf (t : Test) (s : SpaceContent) : Type 0 where
   pub space : Space
-  pub of_test : IsTestSpace t space
   pub lists : ListsExecutions t space
   pub content : s ≡ space_content space
 
 -- the space of some parts, or why they have none, is that of each test that has them
 abbrev pub IsOfEachTest : SpacePartsContent → Test → Type 0
-IsOfEachTest parts t = HasParts parts t → ((s : SpaceContent) → IsPartSpace parts s → IsSpaceOf t s) × ((r : EvalRefusal) → IsPartRefusal parts r → IsTestRefusal t (Refused r))
+IsOfEachTest parts t = HasParts parts t → ((s : SpaceContent) → IsPartSpace parts s → IsSpaceOf t s) × ((r : EvalRefusal) → IsPartRefusal parts r → IsRefusal t r)
 
 -- a verdict gives one outcome, from the values of its inputs
 abbrev pub HasOneVerdict : VerdictPartsContent → List NodeContent → Type 0

@@ -7,11 +7,9 @@ use Rattle.litmus_values.specs.declared.test.Test.{Test}
 use Rattle.litmus_values.specs.declared.test.Thread.{Thread}
 use Rattle.litmus_values.specs.Value.{steps_of}
 use Rattle.candidates.specs.declared.fault.EvalRefusal.{EvalRefusal}
-use Rattle.candidates.specs.declared.fault.SpaceFault.TheVariants.{Refused}
 use Rattle.ppc_semantics.specs.Lowering.{entry_names, test_names}
 use Rattle.candidates.specs.declared.candidate.Space.{Space}
-use Rattle.candidates.specs.Candidates.{IsTestSpace, IsTestRefusal}
-use Rattle.candidates.specs.Listed.{ListsExecutions}
+use Rattle.candidates.specs.Listed.{ListsExecutions, IsRefusal}
 use Rattle.node_values.specs.Spaces.{SpaceContent, space_content}
 
 -- the initial values, the threads, and the names of locations
@@ -34,11 +32,10 @@ pub record IsPartSpace (parts : SpacePartsContent) (s : SpaceContent) : Type 0 w
   pub test : Test
   pub has_parts : HasParts parts test
   pub space : Space
-  pub of_test : IsTestSpace test space
   pub lists : ListsExecutions test space
   pub content : s ≡ space_content space
 
 pub record IsPartRefusal (parts : SpacePartsContent) (r : EvalRefusal) : Type 0 where
   pub test : Test
   pub has_parts : HasParts parts test
-  pub of_test : IsTestRefusal test (Refused r)
+  pub of_test : IsRefusal test r
