@@ -2,7 +2,7 @@
 use Rattle.std.specs.Prelude.{◌≡◌, List, [], length, map, reverse}
 use Rattle.cat_values.specs.declared.predefined.TheConstants.{PREDEFINED}
 use Rattle.cat_values.specs.declared.model.Item.{Item}
-use Rattle.binding_kinds.specs.Value.{Naming, clause_of, AreNoFunctions}
+use Rattle.binding_kinds.specs.Value.{Naming, clause_of}
 use Rattle.binding_kinds.specs.Outermost.{naming_of}
 use Rattle.binding_kinds.specs.Faults.{HasNoFault, FirstFault}
 use Rattle.binding_graph.specs.declared.resolved.ResolvedItem.{ResolvedItem}
@@ -20,7 +20,7 @@ predefined_names = reverse (map naming_of PREDEFINED)
 pub record AreSound (items : List Item) (resolved : List ResolvedItem) : Type 0 where
   pub whole : length resolved ≡ length items
   pub no_fault : HasNoFault [] predefined_names 0 (map clause_of items)
-  pub as_resolved : AreNoFunctions (map clause_of items) → AreResolved [] predefined_names 0 (map clause_of items) resolved
+  pub as_resolved : AreResolved [] [] predefined_names 0 (map clause_of items) resolved
   pub labelled : AreLabelled items resolved
 
 -- the items resolved, with the indexes of those that checks and flags reach, or their first fault

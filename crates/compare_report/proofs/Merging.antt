@@ -24,28 +24,28 @@ split (x ∷ xs) s some e =
 pub order_is : (x y : List FinalValue) (o : Ordering) → o ≡ slice_cmp ((value_ord.ghosts).cmp) x y → o ≡ state_cmp x y
 order_is x y o e = e ∙ ap (λ R. slice_cmp R x y) value_orders
 
-both_split : (a b xs ys : List CountedState) (s t : CountedState) → a ≡ s ∷ xs → b ≡ t ∷ ys → merged a b ≡ by_order (state_cmp s.values.items t.values.items) s t (merged xs b) (merged xs ys) (merged a ys)
+both_split : (a b xs ys : List CountedState) (s t : CountedState) → a ≡ s ∷ xs → b ≡ t ∷ ys → merged a b ≡ by_order (state_cmp s.values t.values) s t (merged xs b) (merged xs ys) (merged a ys)
 both_split a b xs ys s t p q =
     ap (λ (l : List CountedState). merged l b) p ∙ ap (λ (l : List CountedState). merged (s ∷ xs) l) q
-    ∙ ap (λ (l : List CountedState). by_order (state_cmp s.values.items t.values.items) s t (merged xs l) (merged xs ys) (merged (s ∷ xs) ys)) (sym q)
-    ∙ ap (λ (l : List CountedState). by_order (state_cmp s.values.items t.values.items) s t (merged xs b) (merged xs ys) (merged l ys)) (sym p)
+    ∙ ap (λ (l : List CountedState). by_order (state_cmp s.values t.values) s t (merged xs l) (merged xs ys) (merged (s ∷ xs) ys)) (sym q)
+    ∙ ap (λ (l : List CountedState). by_order (state_cmp s.values t.values) s t (merged xs b) (merged xs ys) (merged l ys)) (sym p)
 
-in_order : (a b : List CountedState) (s t : CountedState) (o : Ordering) → 0 < length a → 0 < length b → s ≡ get_or a 0 s → t ≡ get_or b 0 t → o ≡ state_cmp s.values.items t.values.items → merged a b ≡ by_order o s t (merged (rest_of a) b) (merged (rest_of a) (rest_of b)) (merged a (rest_of b))
+in_order : (a b : List CountedState) (s t : CountedState) (o : Ordering) → 0 < length a → 0 < length b → s ≡ get_or a 0 s → t ≡ get_or b 0 t → o ≡ state_cmp s.values t.values → merged a b ≡ by_order o s t (merged (rest_of a) b) (merged (rest_of a) (rest_of b)) (merged a (rest_of b))
 in_order a b s t o some more p q e =
     both_split a b (rest_of a) (rest_of b) s t (split a s some p) (split b t more q)
     ∙ ap (λ (c : Ordering). by_order c s t (merged (rest_of a) b) (merged (rest_of a) (rest_of b)) (merged a (rest_of b))) (sym e)
 
-pub first_is_less : (a b : List CountedState) (s t : CountedState) (o : Ordering) (r : SharedState) → 0 < length a → 0 < length b → s ≡ get_or a 0 s → t ≡ get_or b 0 t → o ≡ state_cmp s.values.items t.values.items → o ≡ Less → r ≡ of_first s → merged a b ≡ r ∷ merged (rest_of a) b
+pub first_is_less : (a b : List CountedState) (s t : CountedState) (o : Ordering) (r : SharedState) → 0 < length a → 0 < length b → s ≡ get_or a 0 s → t ≡ get_or b 0 t → o ≡ state_cmp s.values t.values → o ≡ Less → r ≡ of_first s → merged a b ≡ r ∷ merged (rest_of a) b
 first_is_less a b s t o r some more p q e is found =
     in_order a b s t o some more p q e ∙ ap (λ (c : Ordering). by_order c s t (merged (rest_of a) b) (merged (rest_of a) (rest_of b)) (merged a (rest_of b))) is
     ∙ ap (λ (x : SharedState). x ∷ merged (rest_of a) b) (sym found)
 
-pub states_are_equal : (a b : List CountedState) (s t : CountedState) (o : Ordering) (r : SharedState) → 0 < length a → 0 < length b → s ≡ get_or a 0 s → t ≡ get_or b 0 t → o ≡ state_cmp s.values.items t.values.items → o ≡ Equal → r ≡ of_both s t → merged a b ≡ r ∷ merged (rest_of a) (rest_of b)
+pub states_are_equal : (a b : List CountedState) (s t : CountedState) (o : Ordering) (r : SharedState) → 0 < length a → 0 < length b → s ≡ get_or a 0 s → t ≡ get_or b 0 t → o ≡ state_cmp s.values t.values → o ≡ Equal → r ≡ of_both s t → merged a b ≡ r ∷ merged (rest_of a) (rest_of b)
 states_are_equal a b s t o r some more p q e is found =
     in_order a b s t o some more p q e ∙ ap (λ (c : Ordering). by_order c s t (merged (rest_of a) b) (merged (rest_of a) (rest_of b)) (merged a (rest_of b))) is
     ∙ ap (λ (x : SharedState). x ∷ merged (rest_of a) (rest_of b)) (sym found)
 
-pub second_is_less : (a b : List CountedState) (s t : CountedState) (o : Ordering) (r : SharedState) → 0 < length a → 0 < length b → s ≡ get_or a 0 s → t ≡ get_or b 0 t → o ≡ state_cmp s.values.items t.values.items → o ≡ Greater → r ≡ of_second t → merged a b ≡ r ∷ merged a (rest_of b)
+pub second_is_less : (a b : List CountedState) (s t : CountedState) (o : Ordering) (r : SharedState) → 0 < length a → 0 < length b → s ≡ get_or a 0 s → t ≡ get_or b 0 t → o ≡ state_cmp s.values t.values → o ≡ Greater → r ≡ of_second t → merged a b ≡ r ∷ merged a (rest_of b)
 second_is_less a b s t o r some more p q e is found =
     in_order a b s t o some more p q e ∙ ap (λ (c : Ordering). by_order c s t (merged (rest_of a) b) (merged (rest_of a) (rest_of b)) (merged a (rest_of b))) is
     ∙ ap (λ (x : SharedState). x ∷ merged a (rest_of b)) (sym found)
