@@ -1,5 +1,5 @@
 -- The space of a test depends on its parts alone.
-use Rattle.std.proofs.Common.{ℕ, ◌<◌, ◌≡◌, ◌⊎◌, List, length, get_or, map, Vec, Global, vec_len, refl, sym, ap, subst, ◌∙◌}
+use Rattle.std.proofs.Common.{ℕ, ◌<◌, ◌≡◌, List, length, get_or, map, vec_len, sym, ap, subst, ◌∙◌}
 use Rattle.std.proofs.Math.ListN.{get_or-map}
 use Rattle.std.proofs.lemmas.List.{length-map}
 use Rattle.litmus_values.specs.declared.test.InitEntry.{InitEntry}
@@ -7,20 +7,20 @@ use Rattle.litmus_values.specs.declared.test.Step.{Step}
 use Rattle.litmus_values.specs.declared.test.Test.{Test}
 use Rattle.litmus_values.specs.declared.test.Thread.{Thread}
 use Rattle.litmus_values.specs.Value.{steps_of}
-use Rattle.thread_runs.specs.declared.instruction.Line.{Line}
 use Rattle.thread_runs.specs.declared.instruction.Program.{Program}
 use Rattle.thread_runs.specs.declared.value.Value.{Value}
-use Rattle.ppc_semantics.specs.Lowering.{IsProgram, AreNames, AreInitial, AreThreads, AreFiles, AreLines, test_names}
+use Rattle.ppc_semantics.specs.Lowering.{IsProgram, AreNames, AreInitial, AreFiles, AreLines, test_names}
 use Rattle.candidates.specs.declared.candidate.Space.{Space}
 use Rattle.candidates.specs.declared.fault.EvalRefusal.{EvalRefusal}
 use Rattle.candidates.specs.declared.fault.EvalRefusal.TheVariants.{TooManyEvents, TooManyValues, TooManyRuns, TooManyCandidates, AddressFault, TooManyCombinations}
 use Rattle.ppc_semantics.specs.declared.fault.DomainRefusal.{DomainRefusal}
+use Rattle.ppc_semantics.specs.declared.fault.DomainRefusal.TheVariants as domains
 use Rattle.candidates.specs.Executions.{Execution}
 use Rattle.candidates.specs.Listed.{ListsExecutions, AreTestExecutions, HasNoDomain, IsRefusal}
 use Rattle.execution_laws.proofs.Outcomes.{shown_alike}
 use Rattle.node_values.specs.Laws.{HasOneSpace, IsOfEachTest}
-use Rattle.node_values.specs.Parts.{SpacePartsContent, HasParts, IsPartSpace, IsPartRefusal}
-use Rattle.node_values.specs.Spaces.{SpaceContent, space_content}
+use Rattle.node_values.specs.Parts.{SpacePartsContent, HasParts}
+use Rattle.node_values.specs.Spaces.{space_content}
 
 module _ (parts : SpacePartsContent) (t u : Test) (h : HasParts parts t) (k : HasParts parts u) where
   inits : t.init.items ≡ u.init.items
@@ -80,10 +80,10 @@ module _ (parts : SpacePartsContent) (t u : Test) (h : HasParts parts t) (k : Ha
   no_domain r h = (h.0, same_program h.0 h.1, h.2)
 
   pub same_refusal : (r : EvalRefusal) → IsRefusal t r → IsRefusal u r
-  same_refusal TooManyEvents h = no_domain _ h
-  same_refusal TooManyValues h = no_domain _ h
-  same_refusal TooManyRuns h = no_domain _ h
-  same_refusal TooManyCombinations h = no_domain _ h
+  same_refusal TooManyEvents h = no_domain domains.TooManyEvents h
+  same_refusal TooManyValues h = no_domain domains.TooManyValues h
+  same_refusal TooManyRuns h = no_domain domains.TooManyRuns h
+  same_refusal TooManyCombinations h = no_domain domains.TooManyCombinations h
   same_refusal TooManyCandidates h = record { initial = h.initial; all = h.all; executions = same_executions h.initial h.all h.executions; many = h.many }
   same_refusal AddressFault h = record {
     initial = h.initial;

@@ -17,7 +17,7 @@ use Rattle.verdict.specs.declared.answer.OutcomeResult.TheVariants.{Refused}
 use Rattle.verdict.specs.declared.answer.Refusal.{Refusal}
 use Rattle.verdict.specs.declared.answer.Refusal.TheVariants as refusals
 use Rattle.verdict.specs.Evaluated.{IsOutcome}
-use Rattle.node_values.specs.Givens.{VerdictPartsContent, FaultPartsContent, GivenContent, ForSpace, ForItem, ForVerdict, ForFault}
+use Rattle.node_values.specs.Givens.{VerdictPartsContent, GivenContent, ForSpace, ForItem, ForVerdict, ForFault}
 use Rattle.node_values.specs.Items.{ItemContent, RoleContent, Group, Check, Silent, item_content}
 use Rattle.node_values.specs.Parts.{SpacePartsContent, IsPartSpace, IsPartRefusal}
 use Rattle.node_values.specs.Spaces.{SpaceContent, space_content}

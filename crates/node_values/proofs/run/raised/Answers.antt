@@ -1,4 +1,4 @@
-use Rattle.std.proofs.Common.{ℕ, ◌<◌, ◌≤◌, min, length, arith}
+use Rattle.std.proofs.Common.{◌<◌, ◌≤◌, min, length, arith}
 use Rattle.std.proofs.lemmas.List.{get_or_default}
 use Rattle.node_values.proofs.Making.{raised_more, all_raised}
 use Rattle.node_values.proofs.run.raised.Goals as goal
