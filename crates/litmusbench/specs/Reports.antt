@@ -16,7 +16,8 @@ use Rattle.litmus_values.specs.declared.test.Test.{Test}
 use Rattle.litmus_values.specs.Value.{content_of}
 use Rattle.litmusbench.specs.declared.file.TextFile.{TextFile}
 use Rattle.litmusbench.specs.declared.reading.NamedModel.{NamedModel}
-use Rattle.litmusbench.specs.Answer.{IsSaid, IsModelRefused, IsTestRefused}
+use Rattle.litmusbench.specs.Answer.{IsModelRefused, IsTestRefused}
+use Rattle.memo_graph.specs.FromScratch.{IsFromScratch}
 use Rattle.litmusbench.specs.Files.{model_name, fault_line}
 
 -- ---- files that are read in turn
@@ -46,7 +47,7 @@ pub data AreTests (before : List ℕ) : List TextFile → List Test → List ℕ
 abbrev pub IsCellUnder : Test → NamedModel → Cell → Type 0
 IsCellUnder test m NoCell = ⊥
 IsCellUnder test m Open = ⊥
-IsCellUnder test m (Settled o) = IsSaid test m.model o
+IsCellUnder test m (Settled o) = IsFromScratch test m.model o
 
 -- the row of a test under these models
 pub record IsRow (models : List NamedModel) (test : Test) (row : Row) : Type 0 where

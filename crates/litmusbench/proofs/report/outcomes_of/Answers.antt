@@ -7,4 +7,4 @@ use Rattle.litmusbench.proofs.report.outcomes_of.Goals as goal
 pub loop-model-preserved : goal.loop-model-preserved
 loop-model-preserved c =
     zip_more (IsCellUnder c.args.test.now) Settled c.args.models.now c.loop-model.model-index c.model-item.result c.loop-model.outcomes.items c.push.new.self.items c.in_ok-eval_cell.field-0 (search rules) (search rules) (search rules) c.loop-model.invariant
-    (record { judged = c.in_ok-eval_cell.ensures.judged; cell = c.in_ok-eval_cell.ensures.cell; of_model = c.in_ok-eval_cell.ensures.model })
+    c.in_ok-eval_cell.ensures
