@@ -7,6 +7,7 @@ mod bindings;
 mod cells;
 mod logs;
 mod outcomes;
+mod reports;
 mod streams;
 mod values;
 
@@ -67,6 +68,7 @@ fn run<R: Files + Print + AllocGlobal>(rt: &R) -> io::Result<()> {
     }
     let input = fs::read(rt, "MP.txt")?;
     streams::show(rt, &input)?;
+    reports::show(rt)?;
     logs::show(rt)
 }
 
