@@ -1,6 +1,6 @@
 -- What the words of a command line ask for. The first word is the program's own name. A word that begins with `-` and goes on
 -- is no path, but behind `--`.
-use Rattle.std.specs.Prelude.{ℕ, ◌+◌, ◌==◌, ◌&&◌, List, [], ◌∷◌, Bool, true, false, not, Option, Some, None, if◌then◌else◌, nat_eq, nat_lt, length, map, take, drop, slice_index, slice_index_or, codes}
+use Rattle.std.specs.Prelude.{ℕ, ◌+◌, ◌==◌, ◌&&◌, List, [], Bool, true, false, not, Option, Some, None, if◌then◌else◌, nat_eq, nat_lt, length, map, take, drop, slice_index, slice_index_or, codes}
 use Rattle.std.specs.Cmp.Lexicographic.{pointwise}
 use Rattle.std.specs.List.{list_all, position_or_len}
 use denote.Ref.{Bor}

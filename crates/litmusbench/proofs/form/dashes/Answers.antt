@@ -1,4 +1,4 @@
-use Rattle.std.proofs.Common.{rules, arith, below_more}
+use Rattle.std.proofs.Common.{rules, below_more}
 use Rattle.litmusbench.proofs.Forms.{found, absent}
 use Rattle.litmusbench.proofs.form.dashes.Goals as goal
 

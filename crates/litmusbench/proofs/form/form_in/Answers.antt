@@ -1,4 +1,4 @@
-use Rattle.std.proofs.Common.{rules, arith, option_map}
+use Rattle.std.proofs.Common.{arith, option_map}
 use Rattle.std.proofs.lemmas.Grind.{common_steps}
 use Rattle.litmusbench.proofs.Forms.{is_command}
 use Rattle.litmusbench.specs.Forms.{asked_by}

@@ -1,4 +1,4 @@
-use Rattle.std.proofs.Common.{rules, arith}
+use Rattle.std.proofs.Common.{arith}
 use Rattle.std.proofs.lemmas.Grind.{common_steps}
 use Rattle.litmusbench.proofs.Forms.{is_table, is_no_table}
 use Rattle.litmusbench.proofs.form.table_form.Goals as goal
