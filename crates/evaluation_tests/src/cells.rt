@@ -54,6 +54,26 @@ fn words_of(alloc: Global, text: &str) -> Result<Vec<&str>, AllocError> {
     Ok(words)
 }
 
+fn put_words(answer: &mut Vec<u8>, words: &[&str]) -> Result<(), AllocError> {
+    for word in words {
+        put_bytes(answer, b" ")?;
+        put_bytes(answer, word.as_bytes())?;
+    }
+    Ok(())
+}
+
+fn put_files(
+    answer: &mut Vec<u8>,
+    command: &[u8],
+    models: &[&str],
+    tests: &[&str],
+) -> Result<(), AllocError> {
+    put_bytes(answer, command)?;
+    put_words(answer, models)?;
+    put_bytes(answer, b" over")?;
+    put_words(answer, tests)
+}
+
 fn put_form_of(alloc: Global, answer: &mut Vec<u8>, words: &[&str]) -> Result<(), AllocError> {
     match form_of(alloc, words) {
         Ok(Form::Stream) => put_bytes(answer, b"stream"),
@@ -63,6 +83,8 @@ fn put_form_of(alloc: Global, answer: &mut Vec<u8>, words: &[&str]) -> Result<()
             put_bytes(answer, b" ")?;
             put_bytes(answer, test.as_bytes())
         }
+        Ok(Form::Table { models, tests }) => put_files(answer, b"table", models, tests),
+        Ok(Form::Diff { models, tests }) => put_files(answer, b"diff", models, tests),
         Err(_) => put_bytes(answer, b"usage"),
     }
 }

@@ -8,6 +8,7 @@ mod cells;
 mod logs;
 mod nodes;
 mod outcomes;
+mod reports;
 mod streams;
 mod values;
 
@@ -71,6 +72,7 @@ fn run<R: Files + Print + AllocGlobal>(rt: &R) -> io::Result<()> {
     }
     let input = fs::read(rt, "MP.txt")?;
     streams::show(rt, &input)?;
+    reports::show(rt)?;
     logs::show(rt)
 }
 

@@ -1,5 +1,5 @@
 -- What is said of files of models and files of tests. A file whose text is refused is one line, and the others go on.
-use Rattle.std.specs.Prelude.{◌≡◌, ℕ, ◌-◌, List, [], ◌∷◌, ◌++◌, length, map, slice_index_or}
+use Rattle.std.specs.Prelude.{◌≡◌, ℕ, List, [], ◌∷◌, ◌++◌, map, slice_index_or}
 use Rattle.std.specs.List.{AllZip}
 use Rattle.cat_grammar.specs.declared.form.Form.TheVariants.{Model}
 use Rattle.cat_syntax.specs.Reads.{Reads}

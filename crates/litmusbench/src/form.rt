@@ -1,14 +1,21 @@
 //! What the words of a command line ask for.
 
+ghost use Rattle.std.specs.Prelude.{◌≡◌, ◌≤◌, ◌+◌, Some, None, IfOk, OnErr, length, option_map};
+ghost use Rattle.litmusbench.specs.Forms.{texts_of, asked_by, is_word, is_path, are_paths, dashes, word_at, eval_of, table_of, diff_of, by_command, asked_in};
+
+use clap::error::ErrorKind;
 use clap::{Arg, ArgAction, Command, Error};
-use std::alloc::Global;
+use std::alloc::{AllocError, Global};
 
 const ABOUT: &str =
     "Says which final states a memory model allows a litmus test to end in. With no \
     words, standard input holds the model, a line that is exactly `.`, and the test.";
 
-const AFTER: &str = "The log goes to standard output. Exit status: 0 done, 1 a text was refused, \
-    2 usage or help, 3 a fault of reading, writing or memory.";
+const AFTER: &str = "What was asked for goes to standard output. Exit status: 0 done, 1 a text was \
+    refused, 2 usage or help, 3 a fault of reading, writing or memory. A path that begins with `-` \
+    is written `./-..`.\n\nExample: pipitsolder table sc.cat power.cat -- MP.litmus CoWR.litmus";
+
+const VERSION: &str = "0.1.0";
 
 /// What the program is asked to do.
 #[derive(Clone, Copy, Debug, PartialEq, Eq)]
@@ -16,34 +23,208 @@ pub enum Form<'a> {
     /// A model and a test stand on standard input, with a line `.` between them.
     Stream,
     /// A model and a test stand in two files.
-    Eval { model: &'a str, test: &'a str },
+    Eval {
+        model: &'a str,
+        test: &'a str,
+    },
+    /// The tests of some files in a table, under the models of others.
+    Table {
+        models: &'a [&'a str],
+        tests: &'a [&'a str],
+    },
+    /// Where the models of two files tell the tests of others apart.
+    Diff {
+        models: &'a [&'a str],
+        tests: &'a [&'a str],
+    },
 }
 
-/// The form that these words have, the program's own name first. An `Err` is clap's: usage, help or
-/// want of memory.
-pub fn form_of<'a>(alloc: Global, words: &'a [&'a str]) -> Result<Form<'a>, Error> {
-    let model = Arg::new(alloc, "MODEL")
-        .help("A file that holds a model in the cat language")
+fn is_path(word: &str) -> bool
+    ensures { result ≡ is_path word.now }
+{
+    let bytes = word.as_bytes();
+    !(bytes.len() > 1 && bytes[0] == b'-')
+}
+
+fn are_paths(words: &[&str]) -> bool
+    ensures { result ≡ are_paths (texts_of words.now) }
+{
+    for i in 0..words.len() {
+        if !is_path(word_at(words, i)) {
+            return false;
+        }
+    }
+    true
+}
+
+// Where the first `--` is, or the number of words.
+fn dashes(words: &[&str]) -> usize
+    ensures value { result ≡ dashes (texts_of words.now) }
+    ensures within { result ≤ length words.now }
+{
+    for i in 0..words.len() {
+        if word_at(words, i) == "--" {
+            return i;
+        }
+    }
+    words.len()
+}
+
+// The word of this index, or the empty word.
+fn word_at<'w, 'a>(words: &'w [&'a str], index: usize) -> &'a str
+    ensures { result.now ≡ word_at (texts_of words.now) index }
+{
+    match words.get(index) {
+        Some(word) => *word,
+        None => "",
+    }
+}
+
+fn eval_form<'a>(words: &'a [&'a str]) -> Option<Form<'a>>
+    ensures { option_map asked_by result ≡ eval_of (texts_of words.now) }
+{
+    if words.len() == 2 && are_paths(words) {
+        return Some(Form::Eval {
+            model: word_at(words, 0),
+            test: word_at(words, 1),
+        });
+    }
+    None
+}
+
+fn table_form<'a>(words: &'a [&'a str]) -> Option<Form<'a>>
+    ensures { option_map asked_by result ≡ table_of (texts_of words.now) (dashes (texts_of words.now)) }
+{
+    let split = dashes(words);
+    if split == 0 || words.len() - split < 2 {
+        return None;
+    }
+    let models = &words[..split];
+    if are_paths(models) {
+        return Some(Form::Table {
+            models,
+            tests: &words[split + 1..],
+        });
+    }
+    None
+}
+
+fn diff_form<'a>(words: &'a [&'a str]) -> Option<Form<'a>>
+    ensures { option_map asked_by result ≡ diff_of (texts_of words.now) }
+{
+    if words.len() > 2 && are_paths(words) {
+        return Some(Form::Diff {
+            models: &words[..2],
+            tests: &words[2..],
+        });
+    }
+    None
+}
+
+fn command_form<'a>(command: &str, words: &'a [&'a str]) -> Option<Form<'a>>
+    ensures { option_map asked_by result ≡ by_command command.now (texts_of words.now) }
+{
+    if command == "eval" {
+        eval_form(words)
+    } else if command == "table" {
+        table_form(words)
+    } else if command == "diff" {
+        diff_form(words)
+    } else {
+        None
+    }
+}
+
+fn form_in<'a>(words: &'a [&'a str]) -> Option<Form<'a>>
+    ensures { option_map asked_by result ≡ asked_in (texts_of words.now) }
+{
+    if words.len() < 2 {
+        return Some(Form::Stream);
+    }
+    command_form(word_at(words, 1), &words[2..])
+}
+
+fn path<'a>(alloc: Global, name: &'static str, help: &'static str) -> Arg<'a> {
+    Arg::new(alloc, name)
+        .help(help)
         .required(true)
-        .action(ArgAction::Set);
-    let test = Arg::new(alloc, "TEST")
-        .help("A file that holds a litmus test for Power (PPC)")
-        .required(true)
-        .action(ArgAction::Set);
-    let eval = Command::new(alloc, "eval")
+        .action(ArgAction::Set)
+}
+
+fn eval_command<'a>(alloc: Global) -> Result<Command<'a>, AllocError> {
+    let model = path(
+        alloc,
+        "MODEL",
+        "A file that holds a model in the cat language",
+    );
+    let test = path(
+        alloc,
+        "TEST",
+        "A file that holds a litmus test for Power (PPC)",
+    );
+    Command::new(alloc, "eval")
         .about("The same, with the model and the test in two files")
         .arg(model)?
-        .arg(test)?;
-    let program = Command::new(alloc, "pipitsolder")
+        .arg(test)
+}
+
+fn table_command<'a>(alloc: Global) -> Result<Command<'a>, AllocError> {
+    let models = path(alloc, "MODEL", "Files of models").num_args(1..);
+    let tests = path(alloc, "TEST", "Files of tests, behind `--`")
+        .num_args(1..)
+        .last(true);
+    Command::new(alloc, "table")
+        .about("A table of the tests of some files under the models of others")
+        .arg(models)?
+        .arg(tests)
+}
+
+fn diff_command<'a>(alloc: Global) -> Result<Command<'a>, AllocError> {
+    let first = path(alloc, "FIRST", "The file of a model");
+    let second = path(alloc, "SECOND", "The file of another model");
+    let tests = path(alloc, "TEST", "Files of tests").num_args(1..);
+    Command::new(alloc, "diff")
+        .about("Which tests two models tell apart, and by which final states")
+        .arg(first)?
+        .arg(second)?
+        .arg(tests)
+}
+
+fn program<'a>(alloc: Global) -> Result<Command<'a>, AllocError> {
+    Command::new(alloc, "pipitsolder")
         .about(ABOUT)
         .after_help(AFTER)
-        .subcommand(eval)?;
-    let matches = program.try_get_matches_from(words)?;
-    match matches.subcommand() {
-        Some(("eval", given)) => Ok(Form::Eval {
-            model: given.get_str("MODEL").unwrap_or(""),
-            test: given.get_str("TEST").unwrap_or(""),
-        }),
-        _ => Ok(Form::Stream),
+        .version(VERSION)
+        .subcommand(eval_command(alloc)?)?
+        .subcommand(table_command(alloc)?)?
+        .subcommand(diff_command(alloc)?)
+}
+
+// What clap says of words that have no form. It takes a few such words, as `eval -- A B`.
+fn refusal<'a>(alloc: Global, words: &'a [&'a str]) -> Result<Error, AllocError> {
+    let mut program = program(alloc)?;
+    match program.try_get_matches_from_mut(words) {
+        Ok(_) => program.error(ErrorKind::UnknownArgument, "no form has these words"),
+        Err(error) => Ok(error),
+    }
+}
+
+fn usage<'a>(alloc: Global, words: &'a [&'a str]) -> Error {
+    match refusal(alloc, words) {
+        Ok(error) => error,
+        Err(error) => Error::from(error),
+    }
+}
+
+/// The form that these words have, the program's own name first. Errors: clap's usage, help or
+/// version, for words that have no form.
+pub fn form_of<'a>(alloc: Global, words: &'a [&'a str]) -> Result<Form<'a>, Error>
+    // A form is answered just where the words have one, and it is that one.
+    ensures form { IfOk result (λ f. asked_in (texts_of words.now) ≡ Some (asked_by f)) }
+    ensures none { OnErr result (asked_in (texts_of words.now) ≡ None) }
+{
+    match form_in(words) {
+        Some(form) => Ok(form),
+        None => Err(usage(alloc, words)),
     }
 }

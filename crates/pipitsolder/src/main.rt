@@ -4,46 +4,39 @@
 use clap::Error;
 use clap::error::ErrorKind;
 use litmusbench::{
-    Form, OfRead, OfWrite, SessionFault, eval_stream, form_of, read_text, write_answer,
+    Form, OfRead, OfWrite, Report, RunEnd, SessionFault, TextFile, difference_report, eval_stream,
+    exit_status, form_of, read_text, table_report, write_answer, write_report,
 };
+use std::alloc::AllocError;
 use std::fs::File;
 use std::process::ExitCode;
 use std::rt::{Env, Files};
 use std::{env, io};
 
-const DONE: u8 = 0;
-
-const REFUSED: u8 = 1;
-
-const USAGE: u8 = 2;
-
-const FAULT: u8 = 3;
-
-fn tell_fault<R: Eprint>(rt: &R, fault: SessionFault) -> u8 {
+fn tell_fault<R: Eprint>(rt: &R, fault: SessionFault) -> RunEnd {
     let _ = rt.eprintln(format_args!("fault: {fault}"));
-    FAULT
+    RunEnd::Fault(fault)
 }
 
-fn tell_usage<R: Eprint>(rt: &R, error: &Error) -> u8 {
+fn tell_usage<R: Eprint>(rt: &R, error: &Error) -> RunEnd {
     if matches!(error.kind(), ErrorKind::OutOfMemory) {
         return tell_fault(rt, SessionFault::Memory);
     }
     let _ = rt.eprint(error);
-    USAGE
+    RunEnd::Usage
 }
 
-fn tell_words<R: Eprint>(rt: &R, error: &io::Error) -> u8 {
+fn tell_words<R: Eprint>(rt: &R, error: &io::Error) -> RunEnd {
     if matches!(error.kind(), io::ErrorKind::OutOfMemory) {
         return tell_fault(rt, SessionFault::Memory);
     }
     let _ = rt.eprintln("error: a word is not UTF-8");
-    USAGE
+    RunEnd::Usage
 }
 
-fn tell_done<R: Eprint>(rt: &R, answered: Result<bool, SessionFault>) -> u8 {
+fn tell_done<R: Eprint>(rt: &R, answered: Result<bool, SessionFault>) -> RunEnd {
     match answered {
-        Ok(false) => DONE,
-        Ok(true) => REFUSED,
+        Ok(is_refused) => RunEnd::Answered(is_refused),
         Err(fault) => tell_fault(rt, fault),
     }
 }
@@ -72,15 +65,77 @@ fn eval_files<R: AllocGlobal + Files + Print>(
     write_answer(rt.alloc(), &model, &test, &mut sink)
 }
 
-fn answer<R: AllocGlobal + Eprint + Files + Input + Print>(rt: &R, words: &[&str]) -> u8 {
+fn files_of<'a, R: AllocGlobal + Files>(
+    rt: &R,
+    paths: &[&'a str],
+) -> Result<Vec<TextFile<'a>>, SessionFault> {
+    let mut files = Vec::new(rt.alloc());
+    for path in paths {
+        let text = text_of_file(rt, *path)?;
+        if files.push(TextFile { path: *path, text }).is_err() {
+            return Err(SessionFault::Memory);
+        }
+    }
+    Ok(files)
+}
+
+fn write_both<R: Print, E: Print>(
+    rt: &R,
+    errors: &E,
+    report: Result<Report, AllocError>,
+) -> Result<bool, SessionFault> {
+    match report {
+        Ok(report) => {
+            let mut output = OfWrite::new(io::writer(rt));
+            let mut lines = OfWrite::new(io::writer(errors));
+            write_report(&report, &mut output, &mut lines)
+        }
+        Err(_) => Err(SessionFault::Memory),
+    }
+}
+
+fn table_files<R: AllocGlobal + Files + Print, E: Print>(
+    rt: &R,
+    errors: &E,
+    models: &[&str],
+    tests: &[&str],
+) -> Result<bool, SessionFault> {
+    let models = files_of(rt, models)?;
+    let tests = files_of(rt, tests)?;
+    write_both(rt, errors, table_report(rt.alloc(), &models, &tests))
+}
+
+fn diff_files<R: AllocGlobal + Files + Print, E: Print>(
+    rt: &R,
+    errors: &E,
+    models: &[&str],
+    tests: &[&str],
+) -> Result<bool, SessionFault> {
+    let models = files_of(rt, models)?;
+    let tests = files_of(rt, tests)?;
+    write_both(rt, errors, difference_report(rt.alloc(), &models, &tests))
+}
+
+fn answer<R: AllocGlobal + Eprint + Files + Input + Print, E: Print>(
+    rt: &R,
+    errors: &E,
+    words: &[&str],
+) -> RunEnd {
     match form_of(rt.alloc(), words) {
         Ok(Form::Stream) => tell_done(rt, stream(rt)),
         Ok(Form::Eval { model, test }) => tell_done(rt, eval_files(rt, model, test)),
+        Ok(Form::Table { models, tests }) => {
+            tell_done(rt, table_files(rt, errors, models, tests))
+        }
+        Ok(Form::Diff { models, tests }) => tell_done(rt, diff_files(rt, errors, models, tests)),
         Err(error) => tell_usage(rt, &error),
     }
 }
 
-fn run<R: AllocGlobal + Env + Eprint + Files + Input + Print>(rt: &R) -> u8 {
+fn run<R: AllocGlobal + Env + Eprint + Files + Input + Print, E: Print>(
+    rt: &R,
+    errors: &E,
+) -> RunEnd {
     let words: Vec<String> = match env::args(rt) {
         Ok(words) => match words.collect(rt.alloc()) {
             Ok(words) => words,
@@ -92,9 +147,9 @@ fn run<R: AllocGlobal + Env + Eprint + Files + Input + Print>(rt: &R) -> u8 {
         Ok(texts) => texts,
         Err(_) => return tell_fault(rt, SessionFault::Memory),
     };
-    answer(rt, &texts)
+    answer(rt, errors, &texts)
 }
 
 fn main(rt: HostRuntime) -> ExitCode {
-    ExitCode::from(run(&rt))
+    ExitCode::from(exit_status(run(&rt, &rt.stderr())))
 }

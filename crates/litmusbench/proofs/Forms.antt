@@ -1,0 +1,95 @@
+-- What words ask for.
+use Rattle.std.proofs.Common.{◌≡◌, ℕ, ◌+◌, ◌-◌, ◌<◌, ◌≤◌, ◌&&◌, List, [], ◌∷◌, zero, suc, length, get_or, take, drop, Bool, true, false, Option, Some, None, ltb, refl, sym, ap, ◌∙◌, arith, length-drop, codes}
+use Rattle.std.proofs.lemmas.Grind.{common_steps}
+use Rattle.std.proofs.lemmas.List.{take_all, take-map, drop-map, length-map}
+use Rattle.std.proofs.lemmas.List.Sums.{position_or_len_is}
+use Rattle.std.specs.List.{list_all}
+use denote.Ref.{Bor}
+use Rattle.litmusbench.specs.Forms.{Asked, Table, texts_of, is_word, is_path, are_paths, dashes, word_at, asked_if, table_of, by_command, asked_in}
+
+count : (words : List (Bor (List ℕ))) → length (texts_of words) ≡ length words
+count words = length-map words (λ w. w.now)
+
+-- ---- the first `--`
+
+pub found : (words : List (Bor (List ℕ))) (i : ℕ) → i < length words → ((k : ℕ) → k < i → is_word (word_at (texts_of words) k) (codes "--") ≡ false) → is_word (word_at (texts_of words) i) (codes "--") ≡ true → i ≡ dashes (texts_of words)
+found words i inside before here =
+    let n = count words in
+    sym (position_or_len_is (λ w. is_word w (codes "--")) (texts_of words) i [] (omega arith) before (λ h. here))
+
+pub absent : (words : List (Bor (List ℕ))) (i : ℕ) → i ≡ length words → ((k : ℕ) → k < i → is_word (word_at (texts_of words) k) (codes "--") ≡ false) → length words ≡ dashes (texts_of words)
+absent words i end before =
+    let n = count words in
+    sym end ∙ sym (position_or_len_is (λ w. is_word w (codes "--")) (texts_of words) i [] (omega arith) before (λ h. absurd (omega arith)))
+
+-- ---- paths
+
+both_true : (a b : Bool) → a ≡ true → b ≡ true → (a && b) ≡ true
+both_true a b p q = ap (λ (x : Bool). x && b) p ∙ q
+
+second_false : (a b : Bool) → b ≡ false → (a && b) ≡ false
+second_false true b q = q
+second_false false b q = refl
+
+all_pass : (p : List ℕ → Bool) (xs : List (List ℕ)) → ((k : ℕ) → k < length xs → p (get_or xs k []) ≡ true) → list_all p xs ≡ true
+all_pass p [] h = refl
+all_pass p (x ∷ xs) h = both_true (p x) (list_all p xs) (h 0 (omega arith)) (all_pass p xs (λ k g. h (suc k) (omega arith)))
+
+one_fails : (p : List ℕ → Bool) (xs : List (List ℕ)) (k : ℕ) → k < length xs → p (get_or xs k []) ≡ false → list_all p xs ≡ false
+one_fails p [] k h e = absurd (omega arith)
+one_fails p (x ∷ xs) zero h e = ap (λ (b : Bool). b && list_all p xs) e
+one_fails p (x ∷ xs) (suc k) h e = second_false (p x) (list_all p xs) (one_fails p xs k (omega arith) e)
+
+pub all_paths : (words : List (Bor (List ℕ))) (i : ℕ) → i ≡ length words → ((k : ℕ) → k < i → is_path (word_at (texts_of words) k) ≡ true) → true ≡ are_paths (texts_of words)
+all_paths words i end before = let n = count words in sym (all_pass is_path (texts_of words) (λ k h. before k (omega arith)))
+
+pub no_path : (words : List (Bor (List ℕ))) (i : ℕ) → i < length words → is_path (word_at (texts_of words) i) ≡ false → false ≡ are_paths (texts_of words)
+no_path words i inside e = let n = count words in sym (one_fails is_path (texts_of words) i (omega arith) e)
+
+-- ---- a table
+
+all_true : (a b c : Bool) (x : Asked) → a ≡ true → b ≡ true → c ≡ true → asked_if (a && b && c) x ≡ Some x
+all_true a b c x p q r = rw (p, q, r) refl
+
+last_false : (a b c : Bool) (x : Asked) → c ≡ false → asked_if (a && b && c) x ≡ None
+last_false true true c x r = ap (λ (b : Bool). asked_if b x) r
+last_false true false c x r = refl
+last_false false true c x r = refl
+last_false false false c x r = refl
+
+less_is_true : (m n : ℕ) → m < n → ltb m n ≡ true
+less_is_true m n h = grind (arith, common_steps)
+
+more_is_false : (m n : ℕ) → n ≤ m → ltb m n ≡ false
+more_is_false m n h = grind (arith, common_steps)
+
+behind : (words : List (Bor (List ℕ))) (n : ℕ) → texts_of (take (length words - n) (drop n words)) ≡ drop n (texts_of words)
+behind words n =
+    ap (λ (l : List (Bor (List ℕ))). texts_of l) (take_all (length words - n) (drop n words) (let h = length-drop n words in omega arith)) ∙ sym (drop-map (λ w. w.now) n words)
+
+before_split : (words : List (Bor (List ℕ))) (n : ℕ) → texts_of (take n words) ≡ take n (texts_of words)
+before_split words n = sym (take-map (λ w. w.now) n words)
+
+pub is_table : (words : List (Bor (List ℕ))) (k : ℕ) (b : Bool) → 0 < k → k + 1 < length words → k ≡ dashes (texts_of words) → b ≡ are_paths (texts_of (take k words)) → b ≡ true
+    → Some (Table (texts_of (take k words)) (texts_of (take (length words - (k + 1)) (drop (k + 1) words)))) ≡ table_of (texts_of words) (dashes (texts_of words))
+is_table words k b some more split paths is_true =
+    let n = count words in
+    let are : are_paths (take k (texts_of words)) ≡ true = ap are_paths (sym (before_split words k)) ∙ sym paths ∙ is_true in
+    ap (λ (l : List (List ℕ)). Some (Table l (texts_of (take (length words - (k + 1)) (drop (k + 1) words))))) (before_split words k)
+    ∙ ap (λ (l : List (List ℕ)). Some (Table (take k (texts_of words)) l)) (behind words (k + 1))
+    ∙ sym (all_true (ltb 0 k) (ltb (k + 1) (length (texts_of words))) (are_paths (take k (texts_of words))) (Table (take k (texts_of words)) (drop (k + 1) (texts_of words))) (less_is_true 0 k some) (less_is_true (k + 1) (length (texts_of words)) (omega arith)) are)
+    ∙ ap (λ (m : ℕ). table_of (texts_of words) m) split
+
+pub is_no_table : (words : List (Bor (List ℕ))) (k : ℕ) (b : Bool) → k ≡ dashes (texts_of words) → b ≡ are_paths (texts_of (take k words)) → b ≡ false → None ≡ table_of (texts_of words) (dashes (texts_of words))
+is_no_table words k b split paths is_false =
+    let are : are_paths (take k (texts_of words)) ≡ false = ap are_paths (sym (before_split words k)) ∙ sym paths ∙ is_false in
+    sym (last_false (ltb 0 k) (ltb (k + 1) (length (texts_of words))) (are_paths (take k (texts_of words))) (Table (take k (texts_of words)) (drop (k + 1) (texts_of words))) are) ∙ ap (λ (m : ℕ). table_of (texts_of words) m) split
+
+-- ---- a command
+
+pub is_command : (words : List (Bor (List ℕ))) (r : Option Asked) (w : List ℕ) → 2 ≤ length words → w ≡ word_at (texts_of words) 1 → r ≡ by_command w (texts_of (take (length words - 2) (drop 2 words))) → r ≡ asked_in (texts_of words)
+is_command words r w long first given =
+    let n = count words in
+    let not_short : ltb (length (texts_of words)) 2 ≡ false = more_is_false (length (texts_of words)) 2 (omega arith) in
+    given ∙ ap (λ (t : List ℕ). by_command t (texts_of (take (length words - 2) (drop 2 words)))) first ∙ ap (λ (l : List (List ℕ)). by_command (word_at (texts_of words) 1) l) (behind words 2)
+    ∙ rw not_short refl
