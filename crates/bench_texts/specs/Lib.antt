@@ -6,3 +6,4 @@ pub mod Changes
 pub mod Edits
 pub mod Answers
 pub mod Numbers
+pub mod Printed

@@ -13,6 +13,7 @@ mod prepare;
 mod prepare_edit;
 mod prepare_items;
 mod prepare_models;
+mod print;
 mod read_change;
 mod reading;
 mod texts;

@@ -97,6 +97,19 @@ pub fn put_items(
     }
 }
 
+/// Appends the items of the model of that name, as the bench prints them.
+pub fn put_printed(
+    alloc: Global,
+    answer: &mut Vec<u8>,
+    texts: &Texts,
+    name: &[u8],
+) -> Result<(), AllocError> {
+    match texts.models().get(texts.model_index(name)) {
+        Some(model) => put_bytes(answer, &model.print_items(alloc)?),
+        None => put_bytes(answer, b"no model"),
+    }
+}
+
 // Appends the numbers of the items that checks and flags reach, or the number of the first fault.
 fn put_used(answer: &mut Vec<u8>, model: &NamedModel) -> Result<(), AllocError> {
     match model.reading() {

@@ -51,6 +51,7 @@ fn answer_line(
     let made = match verb {
         "names" => return answers::put_names(answer, texts),
         "items" => return answers::put_items(alloc, answer, texts, name.as_bytes()),
+        "printed" => return answers::put_printed(alloc, answer, texts, name.as_bytes()),
         "show" => return answers::put_test(alloc, answer, texts, name.as_bytes()),
         "reading" => return answers::put_reading(answer, texts, name.as_bytes()),
         "tests" => put_tests(alloc, texts, name.parse::<u64>().unwrap_or(0)),

@@ -1,0 +1,38 @@
+//! Prints the items of a model with their numbers.
+
+ghost use Rattle.std.specs.Prelude.{◌≡◌, ◌++◌, ◌∷◌, [], OnOk};
+ghost use Rattle.cat_values.specs.Values.{clause_of};
+ghost use Rattle.bench_texts.specs.Printed.{numbered_line, printed_items};
+
+use crate::model::NamedModel;
+use cat_syntax::print_item;
+use cat_values::Item;
+use source_text::{put_bytes, put_decimal};
+use std::alloc::{AllocError, Global};
+
+// Appends the line of an item.
+fn put_line(alloc: Global, text: &mut Vec<u8>, number: u64, item: &Item) -> Result<(), AllocError>
+    ensures { OnOk result (text.new.items ≡ text.old.items ++ (numbered_line (record { number = number; clause = clause_of item.now }) ++ 10 ∷ [])) }
+{
+    put_decimal(text, number)?;
+    put_bytes(text, b" ")?;
+    put_bytes(text, &print_item(alloc, item)?)?;
+    put_bytes(text, b"\n")
+}
+
+impl NamedModel {
+    ghost use Rattle.std.specs.Prelude.{IfOk};
+    ghost use Rattle.bench_texts.specs.Held.{model_of};
+
+    /// The printed items in their order, each on a line of its own: its number, a space, the item. Errors: want of
+    /// memory.
+    pub fn print_items(&self, alloc: Global) -> Result<Vec<u8>, AllocError>
+        ensures { IfOk result (λ v. v.items ≡ printed_items (model_of self.now).items) }
+    {
+        let mut text = Vec::new(alloc);
+        for (number, item) in self.numbers().iter().zip(self.text().items.iter()) {
+            put_line(alloc, &mut text, *number, item)?;
+        }
+        Ok(text)
+    }
+}
