@@ -79,6 +79,12 @@ fn item_values(
     Ok(ItemValues { values, flags })
 }
 
+/// What a node gives that uses no other.
+fn run_alone(alloc: Global, given: &Given) -> Result<Vec<NodeValue>, AllocError> {
+    let none: Vec<&NodeValue> = Vec::new(alloc);
+    run_node(alloc, given, &none)
+}
+
 fn space_of(alloc: Global, test: Test) -> Result<Vec<NodeValue>, AllocError> {
     let locations = program(alloc, &test)?.locations;
     let parts = SpaceParts {
@@ -87,7 +93,7 @@ fn space_of(alloc: Global, test: Test) -> Result<Vec<NodeValue>, AllocError> {
         locations,
     };
     let given = Given::new(alloc, GivenParts::Space(parts))?;
-    run_node(alloc, &given, &[])
+    run_alone(alloc, &given)
 }
 
 /// The values of all nodes, the space first.
@@ -140,7 +146,7 @@ fn verdict(
                 fault,
             };
             let given = Given::new(alloc, GivenParts::Fault(parts))?;
-            run_node(alloc, &given, &[])
+            run_alone(alloc, &given)
         }
         Err(ResolveFault::OutOfMemory(fault)) => Err(fault),
     }
