@@ -19,7 +19,7 @@ use Rattle.base_env.specs.Known.{Known}
 use Rattle.cat_eval.specs.declared.column.Column.{Column}
 use Rattle.cat_eval.specs.declared.column.Column.TheVariants as columns
 use Rattle.cat_eval.specs.Candidates.{name_count}
-use Rattle.cat_eval.specs.Columns.{HasValue, ColumnsOf, HasOwn}
+use Rattle.cat_eval.specs.Columns.{HasValue, ColumnsOf}
 use Rattle.cat_eval.specs.Held.{HaveHeldValues, AreHeldColumns, IsHeldMeaning}
 use Rattle.cat_eval.specs.Least.{IsLeast, AreMonotone}
 use Rattle.cat_eval.specs.Meaning.{MeansSet, Means}
@@ -49,22 +49,6 @@ one_column_more bodies cs i body column long lt here kind empty before j less b 
         let none : j - length cs ≡ 0 = omega (arith, same, long) in
         get_or-append_right cs (column ∷ []) j c past ∙ ap (λ (n : ℕ). get_or (column ∷ []) n c) none
 
--- what was evaluated is what the code means
-pub meant_is : (inputs : List (Bor Column)) (base : Known) (k : ℕ) (steps : List Step) (s : Events) (r : Relation) (us : List Events) (vs : List Relation)
-    → ((t : SetTree) → steps ≡ set_code t [] → (v : Events) × (us ≡ v ∷ []) × IsEvents v base.count (MeansSet base.count (EventsIn base inputs k) t))
-    → ((t : RelTree) → steps ≡ rel_code t [] → (v : Relation) × (vs ≡ v ∷ []) × IsRelation v base.count (Means base.count (EventsIn base inputs k) (WithOwn (PairsOutside base inputs k) (Of base.count [])) t))
-    → ((v : Events) (rest : List Events) → us ≡ v ∷ rest → s ≡ v) → ((v : Relation) (rest : List Relation) → vs ≡ v ∷ rest → r ≡ v)
-    → (kind : Kind) → IsHeldMeaning kind steps inputs base k s r
-meant_is inputs base k steps s r us vs sets rels set_is rel_is kinds.OfSet = λ t code.
-    let made = sets t code in
-    subst (λ (v : Events). IsEvents v base.count (MeansSet base.count (EventsIn base inputs k) t)) (sym (set_is made.0 [] made.1)) made.2
-meant_is inputs base k steps s r us vs sets rels set_is rel_is kinds.OfRelation = λ t code.
-    let made = rels t code in
-    subst (λ (v : Relation). IsRelation v base.count (Means base.count (EventsIn base inputs k) (WithOwn (PairsOutside base inputs k) (Of base.count [])) t)) (sym (rel_is made.0 [] made.1)) made.2
-meant_is inputs base k steps s r us vs sets rels set_is rel_is kinds.OfAny = λ t code.
-    let made = rels t code in
-    subst (λ (v : Relation). IsRelation v base.count (Means base.count (EventsIn base inputs k) (WithOwn (PairsOutside base inputs k) (Of base.count [])) t)) (sym (rel_is made.0 [] made.1)) made.2
-
 pub get_kept : {X : Type 0} (xs ys : List X) (k : ℕ) (x : X) → slice_get xs k ≡ Some x → slice_get (xs ++ ys) k ≡ Some x
 get_kept [] ys k x e = absurd cc
 get_kept (z ∷ zs) ys zero x e = e
@@ -74,7 +58,7 @@ pub get_last : {X : Type 0} (xs : List X) (x : X) → slice_get (xs ++ x ∷ [])
 get_last [] x = refl
 get_last (z ∷ zs) x = get_last zs x
 
-one_of : {X : Type 0} (xs : List X) (j : ℕ) → j < length xs → X
+pub one_of : {X : Type 0} (xs : List X) (j : ℕ) → j < length xs → X
 one_of [] j lt = absurd (omega (arith, lt))
 one_of (x ∷ xs) j lt = x
 
@@ -176,33 +160,8 @@ module _ (bodies : List Body) (inputs : List (Bor Column)) (bases : List Known) 
       let c = one_of olds 0 some in
       taken some c ∙ before.long 0 lt c
 
-  -- each body was evaluated once
-  pub evaluated_more : (recursive : Bool) → recursive ≡ false → AreHeldColumns recursive bodies inputs bases olds
-      → ((j : ℕ) → j < length bodies → j < length olds → (c : Column) (b : Body) → (s : Events) × (r : Relation) × Adds (get_or olds j c) (get_or news j c) s r × IsHeldMeaning (get_or bodies j b).code.kind (get_or bodies j b).code.steps.items inputs base k s r)
-      → AreHeldColumns recursive bodies inputs (bases ++ base ∷ []) news
-  evaluated_more true is before added = absurd cc
-  evaluated_more false is before added = columns_more bodies inputs olds news each false bases base many before now
-    where
-      inside : (j : ℕ) → j < length bodies → j < length olds
-      inside j lt = rw before.as_many lt
-
-      each : (j : ℕ) → j < length bodies → (c : Column) → (s : Events) × (r : Relation) × Adds (get_or olds j c) (get_or news j c) s r
-      each j lt c =
-          let (s, r, adds, meant) = added j lt (inside j lt) c (one_of bodies j lt) in
-          (s, r, adds)
-
-      now : HaveHeldValues false bodies inputs base (length bases) news
-      now j lt c b =
-          let (s, r, adds, meant) = added j lt (inside j lt) c b in
-          let at : k ≡ length bases = number false before (omega (arith, lt)) in (
-            s,
-            r,
-            adds_new (get_or olds j c) (get_or news j c) s r adds (length bases) (sym (before.long j lt c)),
-            subst (λ (n : ℕ). IsHeldMeaning (get_or bodies j b).code.kind (get_or bodies j b).code.steps.items inputs base n s r) at meant,
-          )
-
   -- the equations were solved
-  pub solved_more : (recursive : Bool) (own values : List Relation) → recursive ≡ true → HasOwn recursive bodies own → AreHeldColumns recursive bodies inputs bases olds
+  pub solved_more : (recursive : Bool) (own values : List Relation) → recursive ≡ true → length own ≡ length bodies → AreHeldColumns recursive bodies inputs bases olds
       → ((j : ℕ) → j < length own → j < length olds → (c : Column) → (s : Events) × Adds (get_or olds j c) (get_or news j c) s (get_or values j no_slot))
       → (length own ≡ length bodies → (trees : List RelTree) → AreCodes trees bodies → AreMonotone trees → IsLeast base.count (EventsIn base inputs k) (PairsOutside base inputs k) trees values)
       → AreHeldColumns recursive bodies inputs (bases ++ base ∷ []) news
@@ -240,17 +199,6 @@ columns_moved p q b d x y e f g bases cs h =
     subst (λ (r : Bool). AreHeldColumns r d.now y.now bases cs) e
     (subst (λ (z : Bor (List Body)). AreHeldColumns p z.now y.now bases cs) f
     (subst (λ (z : Bor (List (Bor Column))). AreHeldColumns p b.now z.now bases cs) g h))
-
-pub own_moved : (p q : Bool) (b d : Bor (List Body)) → p ≡ q → b ≡ d → (own : List Relation) → HasOwn p b.now own → HasOwn q d.now own
-own_moved p q b d e f own h = subst (λ (r : Bool). HasOwn r d.now own) e (subst (λ (z : Bor (List Body)). HasOwn p z.now own) f h)
-
-pub own_long : (recursive : Bool) (bodies : List Body) (own new : List Relation) → recursive ≡ true → length new ≡ length own → HasOwn recursive bodies own → HasOwn recursive bodies new
-own_long true bodies own new is long h = long ∙ h
-own_long false bodies own new is long h = absurd cc
-
-pub own_none : (recursive : Bool) (bodies : List Body) (own : List Relation) → recursive ≡ false → HasOwn recursive bodies own → own ≡ []
-own_none true bodies own is h = absurd cc
-own_none false bodies own is h = h
 
 pub columns_named : (role : Role) (inputs : List (Bor Column)) (space : Space) (cs : List Column) → ColumnsOf role inputs space cs → length cs ≡ name_count role
 columns_named (roles.Group recursive bodies) inputs space cs h = h.as_many

@@ -54,18 +54,18 @@ worlds_long names reads orders [] (c ∷ cs) h = absurd h
 worlds_long names reads orders (b ∷ bs) [] h = absurd h
 worlds_long names reads orders (b ∷ bs) (c ∷ cs) h = let e : length bs ≡ length cs = worlds_long names reads orders bs cs h.1 in omega (arith, e)
 
--- worlds that hold some names hold those that are listed among them
-pub worlds_listed : (list some : List Predefined) → AreListed list some → (reads orders : Bool) (bases : List Known) (cs : List Candidate) → AreWorlds list reads orders bases cs → AreWorlds some reads orders bases cs
-worlds_listed list some listed reads orders [] [] h = tt
-worlds_listed list some listed reads orders [] (c ∷ cs) h = absurd h
-worlds_listed list some listed reads orders (b ∷ bs) [] h = absurd h
-worlds_listed list some listed reads orders (b ∷ bs) (c ∷ cs) h = (
+-- worlds that hold some names hold those that are listed among them, where no more changes
+pub worlds_fewer : (list some : List Predefined) → AreListed list some → (reads orders read order : Bool) → (IsTrue read → IsTrue reads) → (IsTrue order → IsTrue orders) → (bases : List Known) (cs : List Candidate) → AreWorlds list reads orders bases cs → AreWorlds some read order bases cs
+worlds_fewer list some listed reads orders read order r o [] [] h = tt
+worlds_fewer list some listed reads orders read order r o [] (c ∷ cs) h = absurd h
+worlds_fewer list some listed reads orders read order r o (b ∷ bs) [] h = absurd h
+worlds_fewer list some listed reads orders read order r o (b ∷ bs) (c ∷ cs) h = (
   record {
     ready = record { known = h.0.ready.known; held = held_listed b list some listed h.0.ready.held; entered = h.0.ready.entered };
-    reading = h.0.reading;
-    ordered = h.0.ordered;
+    reading = λ t. h.0.reading (r t);
+    ordered = λ t. h.0.ordered (o t);
   },
-  worlds_listed list some listed reads orders bs cs h.1,
+  worlds_fewer list some listed reads orders read order r o bs cs h.1,
 )
 
 -- one item of a list further

@@ -1,10 +1,13 @@
 pub mod Agreeing
 pub mod Among
+pub mod Bodies
 pub mod Codes
 pub mod Columns
 pub mod Entering
 pub mod Evaluated
 pub mod Exact
+pub mod Filling
+pub mod Founding
 pub mod Growing
 pub mod Grown
 pub mod Likeness
@@ -15,5 +18,6 @@ pub mod Same
 pub mod Standing
 pub mod Stacks
 pub mod Steps
+pub mod Tops
 pub mod Turns
 pub mod Visits

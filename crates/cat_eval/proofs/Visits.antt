@@ -15,6 +15,7 @@ use Rattle.cat_values.specs.declared.model.CheckWord.TheVariants as words
 use Rattle.binding_graph.specs.declared.resolved.CheckCode.{CheckCode}
 use Rattle.base_env.specs.Known.{Known}
 use Rattle.cat_eval.specs.declared.column.Column.{Column}
+use Rattle.cat_eval.specs.Asked.{IsAsked}
 use Rattle.cat_eval.specs.Checks.{Holds, IsEmptySet}
 use Rattle.cat_eval.specs.Held.{IsHeldAnswer, AreHeldAnswers}
 use Rattle.cat_eval.specs.Values.{Unless}
@@ -31,27 +32,6 @@ get_within [] y k e = absurd cc
 get_within (z ∷ zs) y zero e = omega arith
 get_within (z ∷ zs) y (suc k) e = let lt : k < length zs = get_within zs y k e in omega (arith, lt)
 
-pub answers_more : (check : CheckCode) (inputs : List (Bor Column)) (bases : List Known) (answers : List Bool) (base : Known) (answer : Bool) → AreHeldAnswers check inputs bases answers → IsHeldAnswer check inputs base (length answers) check.code.kind answer → AreHeldAnswers check inputs (bases ++ base ∷ []) (answers ++ answer ∷ [])
-answers_more check inputs bases answers base answer before now = (
-  length-append answers (answer ∷ []) ∙ ap (λ (n : ℕ). n + 1) before.0 ∙ sym (length-append bases (base ∷ [])),
-  (λ k b a at_b at_a. elim (get_more bases base b k at_b) [
-    | inl old_b ↦ elim (get_more answers answer a k at_a) [
-      | inl old_a ↦ before.1 k b a old_b old_a
-      | inr t ↦ absurd (apart k (get_within bases b k old_b) t.0)
-    ]
-    | inr new_b ↦ elim (get_more answers answer a k at_a) [
-      | inl old_a ↦ absurd (apart_too k (get_within answers a k old_a) new_b.0)
-      | inr t ↦ rw (t.0, ← new_b.1, ← t.1) now
-    ]
-  ]),
-)
-  where
-    apart : (k : ℕ) → k < length bases → k ≡ length answers → ⊥
-    apart k lt e = omega (arith, lt, e, before.0)
-
-    apart_too : (k : ℕ) → k < length answers → k ≡ length bases → ⊥
-    apart_too k lt e = omega (arith, lt, e, before.0)
-
 pub holds_same : (word : CheckWord) (R S : ℕ → ℕ → Type 0) → Same R S → Holds word R ↔ Holds word S
 holds_same words.Acyclic R S s = ((λ h a p. h a (plus_wider S R (λ x y. (s x y).1) a a p)), (λ h a p. h a (plus_wider R S (λ x y. (s x y).0) a a p)))
 holds_same words.Irreflexive R S s = ((λ h a p. h a ((s a a).1 p)), (λ h a p. h a ((s a a).0 p)))
@@ -67,43 +47,29 @@ turned_if true false P h = ((λ _. h.0 refl), (λ _. refl))
 turned_if false true P h = ((λ _ p. false≢true (h.1 p)), (λ _. refl))
 turned_if false false P h = ((λ e. absurd (false≢true e)), h.1)
 
-module _ (check : CheckCode) (inputs : List (Bor Column)) (base : Known) (k : ℕ) (met : Bool) (us : List Events) (vs : List Relation) where
-  -- what the steps leave, asked as the check's word says
-  pub answer_is : ((t : SetTree) → check.code.steps.items ≡ set_code t [] → (v : Events) × (us ≡ v ∷ []) × IsEvents v base.count (MeansSet base.count (EventsIn base inputs k) t))
+module _ (check : CheckCode) (inputs : List (Bor Column)) (base : Known) (k : ℕ) (answer : Bool) (us : List Events) (vs : List Relation) where
+  -- what the steps leave, as the check asks for it
+  pub asked_is : ((t : SetTree) → check.code.steps.items ≡ set_code t [] → (v : Events) × (us ≡ v ∷ []) × IsEvents v base.count (MeansSet base.count (EventsIn base inputs k) t))
       → ((t : RelTree) → check.code.steps.items ≡ rel_code t [] → (v : Relation) × (vs ≡ v ∷ []) × IsRelation v base.count (Means base.count (EventsIn base inputs k) (WithOwn (PairsOutside base inputs k) (Of base.count [])) t))
-      → ((s : Events) (rest : List Events) → check.code.kind ≡ kinds.OfSet → us ≡ s ∷ rest → IsTrue met ↔ IsEmptySet (IsMember s))
-      → ((r : Relation) (rest : List Relation) → (check.code.kind ≡ kinds.OfSet → ⊥) → vs ≡ r ∷ rest → IsTrue met ↔ Holds check.word (Has r))
-      → (kind : Kind) → check.code.kind ≡ kind → IsHeldAnswer check inputs base k kind (not (beq met check.negated))
-  answer_is sets rels set_met rel_met kinds.OfSet is = λ t code.
+      → IsAsked check us vs answer → (kind : Kind) → check.code.kind ≡ kind → IsHeldAnswer check inputs base k kind answer
+  asked_is sets rels asked kinds.OfSet is = λ t code.
       let made = sets t code in
-      let same = set_met made.0 [] is made.1 in
+      let (met, told, same) = asked.set made.0 [] is made.1 in
       let other = empty_same (IsMember made.0) (MeansSet base.count (EventsIn base inputs k) t) made.2.members in
-      turned_if met check.negated _ ((λ h. other.0 (same.0 h)), (λ h. same.1 (other.1 h)))
-  answer_is sets rels set_met rel_met kinds.OfRelation is = λ t code.
+      rw told (turned_if met check.negated _ ((λ h. other.0 (same.0 h)), (λ h. same.1 (other.1 h))))
+  asked_is sets rels asked kinds.OfRelation is = λ t code.
       let made = rels t code in
-      let same = rel_met made.0 [] (λ e. not_set (sym is ∙ e)) made.1 in
+      let (met, told, same) = asked.relation made.0 [] (λ e. not_set (sym is ∙ e)) made.1 in
       let other = holds_same check.word (Has made.0) (Means base.count (EventsIn base inputs k) (WithOwn (PairsOutside base inputs k) (Of base.count [])) t) made.2.pairs in
-      turned_if met check.negated _ ((λ h. other.0 (same.0 h)), (λ h. same.1 (other.1 h)))
+      rw told (turned_if met check.negated _ ((λ h. other.0 (same.0 h)), (λ h. same.1 (other.1 h))))
     where
       not_set : kinds.OfRelation ≡ kinds.OfSet → ⊥
       not_set e = absurd cc
-  answer_is sets rels set_met rel_met kinds.OfAny is = λ t code.
+  asked_is sets rels asked kinds.OfAny is = λ t code.
       let made = rels t code in
-      let same = rel_met made.0 [] (λ e. not_set (sym is ∙ e)) made.1 in
+      let (met, told, same) = asked.relation made.0 [] (λ e. not_set (sym is ∙ e)) made.1 in
       let other = holds_same check.word (Has made.0) (Means base.count (EventsIn base inputs k) (WithOwn (PairsOutside base inputs k) (Of base.count [])) t) made.2.pairs in
-      turned_if met check.negated _ ((λ h. other.0 (same.0 h)), (λ h. same.1 (other.1 h)))
+      rw told (turned_if met check.negated _ ((λ h. other.0 (same.0 h)), (λ h. same.1 (other.1 h))))
     where
       not_set : kinds.OfAny ≡ kinds.OfSet → ⊥
       not_set e = absurd cc
-
--- before the first candidate
-pub no_answers : (check : CheckCode) (inputs : List (Bor Column)) → AreHeldAnswers check inputs [] []
-no_answers check inputs = (refl, (λ k base answer at_b at_a. absurd (none k base at_b)))
-  where
-    none : (k : ℕ) (base : Known) → slice_get [] k ≡ Some base → ⊥
-    none k base e = absurd (omega (arith, get_within [] base k e))
-
--- the same check and inputs, by another name
-pub answers_moved : (c d : Bor CheckCode) (xs ys : Bor (List (Bor Column))) → c ≡ d → xs ≡ ys → (bases : List Known) (answers : List Bool) → AreHeldAnswers c.now xs.now bases answers → AreHeldAnswers d.now ys.now bases answers
-answers_moved c d xs ys e f bases answers h =
-    subst (λ (x : Bor CheckCode). AreHeldAnswers x.now ys.now bases answers) e (subst (λ (y : Bor (List (Bor Column))). AreHeldAnswers c.now y.now bases answers) f h)

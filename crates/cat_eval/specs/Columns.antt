@@ -43,8 +43,3 @@ abbrev pub ColumnsOf : Role → List (Bor Column) → Space → List Column → 
 ColumnsOf (roles.Group recursive bodies) inputs space cs = AreColumns recursive bodies.items inputs (candidates_in space.combinations.items) cs
 ColumnsOf (roles.Check check) inputs space cs = cs ≡ []
 ColumnsOf roles.Silent inputs space cs = cs ≡ []
-
--- a recursive group keeps a present value for each name, another group none
-abbrev pub HasOwn : Bool → List Body → List Relation → Type 0
-HasOwn true bodies own = length own ≡ length bodies
-HasOwn false bodies own = own ≡ []

@@ -1,4 +1,6 @@
 pub mod Alike
+pub mod Asked
+pub mod BaseColumns
 pub mod Candidates
 pub mod Checks
 pub mod Columns
@@ -8,8 +10,10 @@ pub mod Least
 pub mod Meaning
 pub mod Named
 pub mod Needed
+pub mod Plain
 pub mod Rising
 pub mod Running
 pub mod Uses
 pub mod Values
+pub mod Windows
 pub mod Worlds

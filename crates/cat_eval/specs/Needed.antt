@@ -1,8 +1,9 @@
 -- Which predefined names change with what the loads read, and which with the order of the stores.
-use Rattle.std.specs.Prelude.{Bool, true, false, List, [], ◌∷◌, Contains}
+use Rattle.std.specs.Prelude.{Bool, true, false, IsTrue, List, [], ◌∷◌, Contains}
 use Rattle.std.specs.List.{list_any, flat_map}
 use Rattle.cat_values.specs.declared.predefined.Predefined.{Predefined}
 use Rattle.cat_values.specs.declared.predefined.Predefined.TheVariants as names
+use Rattle.cat_eval.specs.declared.needs.Needs.{Needs}
 use Rattle.binding_graph.specs.declared.resolved.Body.{Body}
 use Rattle.binding_graph.specs.declared.resolved.Role.{Role}
 use Rattle.binding_graph.specs.declared.resolved.Role.TheVariants as roles
@@ -112,3 +113,9 @@ role_names roles.Silent = []
 -- all of these names are listed
 abbrev pub AreListed : List Predefined → List Predefined → Type 0
 AreListed list some = (name : Predefined) → Contains some name → Contains list name
+
+-- what the expressions of an item use is needed
+pub record Covers (needs : Needs) (role : Role) : Type 0 where
+  pub names : AreListed needs.names.items (role_names role)
+  pub reads : IsTrue (role_reads role) → IsTrue needs.reads
+  pub orders : IsTrue (role_orders role) → IsTrue needs.orders

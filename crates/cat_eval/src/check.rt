@@ -1,69 +1,65 @@
 //! Whether a check holds.
 
-ghost use Rattle.std.specs.Prelude.{◌≡◌, ℕ, List, IfOk};
+ghost use Rattle.std.specs.Prelude.{◌≡◌, ℕ, ◌<◌, List, length, IfOk};
 ghost use Rattle.base_env.specs.Known.{Known};
-ghost use Rattle.cat_eval.specs.Values.{AnswersOf};
+ghost use Rattle.cat_eval.specs.Asked.{IsAnsweredAt};
+ghost use Rattle.cat_eval.specs.BaseColumns.{AreBaseColumns, IsBaseOf, held_names};
 ghost use Rattle.cat_eval.specs.Held.{AreHeldAnswers};
+ghost use Rattle.cat_eval.specs.Needed.{AreListed, names_in};
+ghost use Rattle.cat_eval.specs.Values.{AnswersOf};
 
+use crate::base::BaseColumns;
 use crate::column::Column;
-use crate::machine::Machine;
-use crate::names::Names;
-use crate::needs::Needs;
-use crate::walk::{Visit, visit_all};
-use base_env::Base;
+use crate::made::{Window, window_len};
+use crate::windows::WindowMachine;
 use binding_graph::{CheckCode, ResolvedItem, Role};
 use candidates::Space;
 use std::alloc::{AllocError, Global};
 
-/// A check on its way through the candidates.
-#[derive(Drop)]
-struct CheckRun<'a> {
-    check: &'a CheckCode,
+/// Whether a check holds, for each candidate whose predefined names are given.
+fn answers_of<'a>(
+    alloc: Global,
+    check: &CheckCode,
+    base: &'a BaseColumns,
     inputs: &'a [&'a Column],
-    machine: Machine,
-    answers: Vec<bool>,
-}
-
-impl Visit for CheckRun<'_> {
-    ghost has_taken = { λ first bases run. (run.check ≡ first.check) × (run.inputs ≡ first.inputs) × AreHeldAnswers first.check.now first.inputs.now bases run.answers.items };
-
-    fn visit(&mut self, base: &Base) -> Result<(), AllocError> {
-        let names = Names {
+    machine: &mut WindowMachine,
+) -> Result<Vec<bool>, AllocError>
+    ensures { IfOk result (λ v. (bases : List Known) → AreBaseColumns bases base.now → AreListed (held_names base.now.held.items) (names_in check.now.code.steps.items) → AreHeldAnswers check.now inputs.now bases v.items) }
+{
+    let mut answers = Vec::new(alloc);
+    let total = base.all.len();
+    let mut low = 0;
+    'windows: while low < total {
+        let count = window_len(base, low).min(total - low);
+        let window = Window {
             base,
-            inputs: self.inputs,
-            own: &[],
-            candidate: self.answers.len(),
+            inputs,
+            low,
+            count,
         };
-        self.machine.run(&self.check.code.steps, &names)?;
-        let met = self
-            .machine
-            .is_as_asked(self.check.code.kind, self.check.word, base.count());
-        self.answers.push(met != self.check.negated)?;
-        Ok(())
+        machine.run(alloc, &check.code.steps, &window)?;
+        machine.push_answers(check, count, &mut answers)?;
+        low += count;
     }
+    Ok(answers)
 }
 
 /// Whether a check or flag holds, for each candidate of a space. `inputs` are the values of the
-/// item's inputs, in their order. An item of another kind has no answers. Errors: want of memory.
-pub fn eval_check(
+/// item's inputs, in their order, and `base` has the predefined names that it uses. An item of
+/// another kind has no answers. Errors: want of memory.
+pub fn eval_check<'a>(
     alloc: Global,
     item: &ResolvedItem,
     space: &Space,
-    inputs: &[&Column],
+    base: &'a BaseColumns,
+    inputs: &'a [&'a Column],
+    machine: &mut WindowMachine,
 ) -> Result<Vec<bool>, AllocError>
-    ensures { IfOk result (λ v. AnswersOf item.now.role inputs.now space.now v.items) }
+    ensures { IsBaseOf space.now item.now.role base.now → IfOk result (λ v. AnswersOf item.now.role inputs.now space.now v.items) }
 {
+    let _space = space;
     match &item.role {
-        Role::Check(check) => {
-            let mut run = CheckRun {
-                check,
-                inputs,
-                machine: Machine::new(alloc),
-                answers: Vec::new(alloc),
-            };
-            visit_all(alloc, space, &Needs::of(alloc, item)?, &mut run)?;
-            Ok(run.answers)
-        }
+        Role::Check(check) => answers_of(alloc, check, base, inputs, machine),
         Role::Group { .. } | Role::Silent => Ok(Vec::new(alloc)),
     }
 }

@@ -1,21 +1,26 @@
 //! The values of the names of a group.
 
-ghost use Rattle.std.specs.Prelude.{◌≡◌, ℕ, ◌<◌, ◌≤◌, List, [], true, false, length, slice_index_or, IfOk, OnOk};
+ghost use Rattle.std.specs.Prelude.{◌≡◌, ℕ, ◌<◌, ◌≤◌, List, [], true, false, Vec, length, slice_index_or, IfOk, OnOk};
 ghost use Rattle.base_env.specs.Known.{Known};
 ghost use Rattle.bit_relations.specs.Relation.{Relation, Events, IsRelation, IsEvents, no_slot};
 ghost use Rattle.binding_graph.specs.Trees.{RelTree};
 ghost use Rattle.cat_eval.specs.Candidates.{name_count};
-ghost use Rattle.cat_eval.specs.Columns.{ColumnsOf, HasOwn};
+ghost use Rattle.candidates.specs.Space.{candidates_in};
+ghost use Rattle.cat_eval.specs.BaseColumns.{IsBaseOf};
+ghost use Rattle.cat_eval.specs.Columns.{AreColumns, ColumnsOf};
 ghost use Rattle.cat_eval.specs.Held.{AreHeldColumns, IsHeldMeaning};
 ghost use Rattle.cat_eval.specs.Least.{IsLeast, AreMonotone};
 ghost use Rattle.cat_eval.specs.Named.{EventsIn, PairsOutside};
 ghost use Rattle.cat_eval.specs.Rising.{AreCodes};
 ghost use Rattle.cat_eval.specs.Values.{Adds, IsFor, column_len};
 
+use crate::base::BaseColumns;
 use crate::column::Column;
 use crate::needs::Needs;
+use crate::plain::plain_columns;
 use crate::solver::Solver;
 use crate::walk::{Visit, visit_all};
+use crate::windows::WindowMachine;
 use base_env::Base;
 use binding_graph::{Body, Kind, ResolvedItem, Role};
 use bit_relations::{EventSet, Rel};
@@ -27,7 +32,6 @@ use std::alloc::{AllocError, Global};
 struct GroupRun<'a> {
     bodies: &'a [Body],
     inputs: &'a [&'a Column],
-    recursive: bool,
     solver: Solver,
     columns: Vec<Column>,
 }
@@ -74,43 +78,9 @@ fn taken(columns: &[Column]) -> usize
 }
 
 impl GroupRun<'_> {
-    /// Evaluates one body.
-    fn evaluate_one(
-        &mut self,
-        base: &Base,
-        candidate: usize,
-        position: usize,
-    ) -> Result<(), AllocError>
-        requires { position < length self.old.bodies.now }
-        ensures fixed { (self.new.bodies ≡ self.old.bodies) × (self.new.inputs ≡ self.old.inputs) × (self.new.recursive ≡ self.old.recursive) × (self.new.solver.own ≡ self.old.solver.own) }
-        ensures long { length self.new.columns.items ≡ length self.old.columns.items }
-        ensures others { (j : ℕ) → (j ≡ position → ⊥) → (c : Column) → slice_index_or self.new.columns.items j c ≡ slice_index_or self.old.columns.items j c }
-        ensures added { OnOk result (self.old.solver.own.items ≡ [] → position < length self.old.columns.items → (c : Column) (b : Body) → (s : Events) × (r : Relation) × Adds (slice_index_or self.old.columns.items position c) (slice_index_or self.new.columns.items position c) s r × IsHeldMeaning (slice_index_or self.old.bodies.now position b).code.kind (slice_index_or self.old.bodies.now position b).code.steps.items self.old.inputs.now base.now candidate s r) }
-    {
-        let bodies = self.bodies;
-        let inputs = self.inputs;
-        self.solver
-            .evaluate(&bodies[position], base, inputs, candidate)?;
-        let set = self.solver.set(base.count());
-        put(&mut self.columns, position, &set, self.solver.relation())?;
-        Ok(())
-    }
-
-    /// Evaluates each body once.
-    fn evaluate_each(&mut self, base: &Base, candidate: usize) -> Result<(), AllocError>
-        ensures fixed { (self.new.bodies ≡ self.old.bodies) × (self.new.inputs ≡ self.old.inputs) × (self.new.recursive ≡ self.old.recursive) × (self.new.solver.own ≡ self.old.solver.own) }
-        ensures long { length self.new.columns.items ≡ length self.old.columns.items }
-        ensures added { OnOk result (self.old.solver.own.items ≡ [] → (j : ℕ) → j < length self.old.bodies.now → j < length self.old.columns.items → (c : Column) (b : Body) → (s : Events) × (r : Relation) × Adds (slice_index_or self.old.columns.items j c) (slice_index_or self.new.columns.items j c) s r × IsHeldMeaning (slice_index_or self.old.bodies.now j b).code.kind (slice_index_or self.old.bodies.now j b).code.steps.items self.old.inputs.now base.now candidate s r) }
-    {
-        for position in 0..self.bodies.len() {
-            self.evaluate_one(base, candidate, position)?;
-        }
-        Ok(())
-    }
-
     /// Makes the names the least values that satisfy the equations.
     fn solve(&mut self, base: &Base, candidate: usize) -> Result<(), AllocError>
-        ensures fixed { (self.new.bodies ≡ self.old.bodies) × (self.new.inputs ≡ self.old.inputs) × (self.new.recursive ≡ self.old.recursive) × (length self.new.solver.own.items ≡ length self.old.solver.own.items) }
+        ensures fixed { (self.new.bodies ≡ self.old.bodies) × (self.new.inputs ≡ self.old.inputs) × (length self.new.solver.own.items ≡ length self.old.solver.own.items) }
         ensures long { length self.new.columns.items ≡ length self.old.columns.items }
         ensures added { OnOk result ((j : ℕ) → j < length self.old.solver.own.items → j < length self.old.columns.items → (c : Column) → (s : Events) × Adds (slice_index_or self.old.columns.items j c) (slice_index_or self.new.columns.items j c) s (slice_index_or self.new.solver.own.items j no_slot)) }
         ensures least { OnOk result (length self.old.solver.own.items ≡ length self.old.bodies.now → (trees : List RelTree) → AreCodes trees self.old.bodies.now → AreMonotone trees → IsLeast base.now.count (EventsIn base.now self.old.inputs.now candidate) (PairsOutside base.now self.old.inputs.now candidate) trees self.new.solver.own.items) }
@@ -123,15 +93,11 @@ impl GroupRun<'_> {
 }
 
 impl Visit for GroupRun<'_> {
-    ghost has_taken = { λ first bases run. (run.bodies ≡ first.bodies) × (run.inputs ≡ first.inputs) × (run.recursive ≡ first.recursive) × HasOwn first.recursive first.bodies.now run.solver.own.items × AreHeldColumns first.recursive first.bodies.now first.inputs.now bases run.columns.items };
+    ghost has_taken = { λ first bases run. (run.bodies ≡ first.bodies) × (run.inputs ≡ first.inputs) × (length run.solver.own.items ≡ length first.bodies.now) × AreHeldColumns true first.bodies.now first.inputs.now bases run.columns.items };
 
     fn visit(&mut self, base: &Base) -> Result<(), AllocError> {
         let candidate = taken(&self.columns);
-        if self.recursive {
-            self.solve(base, candidate)?;
-        } else {
-            self.evaluate_each(base, candidate)?;
-        }
+        self.solve(base, candidate)?;
         Ok(())
     }
 }
@@ -159,40 +125,49 @@ fn column_for(alloc: Global, kind: Kind) -> Column
     }
 }
 
-/// Where the bodies of a group are evaluated.
-fn solver_of(alloc: Global, recursive: bool, bodies: &[Body]) -> Result<Solver, AllocError>
-    ensures { IfOk result (λ s. HasOwn recursive bodies.now s.own.items) }
-{
-    if recursive {
-        Solver::of_group(alloc, bodies)
-    } else {
-        Ok(Solver::new(alloc))
-    }
-}
-
-/// The value of each name of a group, for each candidate of a space. `inputs` are the values of
-/// the item's inputs, in their order. The names of a `let rec` have the least values that satisfy
-/// its equations. An item of another kind has no names. Errors: want of memory.
-pub fn eval_group(
+/// The least values that satisfy the equations of a recursive group, for each candidate of a space.
+fn least_columns(
     alloc: Global,
     item: &ResolvedItem,
+    bodies: &[Body],
     space: &Space,
     inputs: &[&Column],
 ) -> Result<Vec<Column>, AllocError>
-    ensures values { IfOk result (λ v. ColumnsOf item.now.role inputs.now space.now v.items) }
+    ensures { (all : Vec Body Global) → all.items ≡ bodies.now → item.now.role ≡ Role.Group true all → IfOk result (λ v. AreColumns true bodies.now inputs.now (candidates_in space.now.combinations.items) v.items) }
+{
+    let needs = Needs::of(alloc, item)?;
+    let mut run = GroupRun {
+        bodies,
+        inputs,
+        solver: Solver::of_group(alloc, bodies)?,
+        columns: columns_of(alloc, bodies)?,
+    };
+    visit_all(alloc, space, &needs, &mut run)?;
+    Ok(run.columns)
+}
+
+/// The value of each name of a group, for each candidate of a space. `inputs` are the values of
+/// the item's inputs, in their order, and `base` has the predefined names that it uses. The names
+/// of a `let rec` have the least values that satisfy its equations. An item of another kind has no
+/// names. Errors: want of memory.
+pub fn eval_group<'a>(
+    alloc: Global,
+    item: &ResolvedItem,
+    space: &Space,
+    base: &'a BaseColumns,
+    inputs: &'a [&'a Column],
+    machine: &mut WindowMachine,
+) -> Result<Vec<Column>, AllocError>
+    ensures values { IsBaseOf space.now item.now.role base.now → IfOk result (λ v. ColumnsOf item.now.role inputs.now space.now v.items) }
     ensures long { IfOk result (λ v. length v.items ≡ name_count item.now.role) }
 {
     match &item.role {
         Role::Group { recursive, bodies } => {
-            let mut run = GroupRun {
-                bodies,
-                inputs,
-                recursive: *recursive,
-                solver: solver_of(alloc, *recursive, bodies)?,
-                columns: columns_of(alloc, bodies)?,
-            };
-            visit_all(alloc, space, &Needs::of(alloc, item)?, &mut run)?;
-            Ok(run.columns)
+            if *recursive {
+                least_columns(alloc, item, bodies, space, inputs)
+            } else {
+                plain_columns(alloc, bodies, base, inputs, machine)
+            }
         }
         Role::Check(_) | Role::Silent => Ok(Vec::new(alloc)),
     }

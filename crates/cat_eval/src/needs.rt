@@ -1,8 +1,8 @@
 //! Which predefined names an item uses, and what they change with.
 
-ghost use Rattle.std.specs.Prelude.{◌≡◌, ◌++◌, ◌∷◌, ◌||◌, [], IfOk, OnOk, IsTrue, Contains, List};
+ghost use Rattle.std.specs.Prelude.{◌≡◌, ◌++◌, ◌∷◌, ◌||◌, ℕ, [], IfOk, OnOk, IsTrue, Contains, List, Some, false, slice_get};
 ghost use Rattle.cat_values.specs.declared.predefined.Predefined.{Predefined};
-ghost use Rattle.cat_eval.specs.Needed.{changes_with_reads, changes_with_orders, step_passes, steps_read, steps_order, bodies_read, bodies_order, role_reads, role_orders, step_names, names_in, bodies_names, role_names, AreListed};
+ghost use Rattle.cat_eval.specs.Needed.{changes_with_reads, changes_with_orders, step_passes, steps_read, steps_order, bodies_read, bodies_order, role_reads, role_orders, step_names, names_in, bodies_names, role_names, AreListed, Covers};
 
 use binding_graph::{Body, ResolvedItem, Role, Source, Step};
 use cat_values::Predefined;
@@ -59,22 +59,55 @@ fn is_listed(names: &[Predefined], name: Predefined) -> bool
 }
 
 impl Needs {
-    /// What an item needs.
-    pub(crate) fn of(alloc: Global, item: &ResolvedItem) -> Result<Needs, AllocError>
-        ensures changes { IfOk result (λ needs. (needs.reads ≡ role_reads item.now.role) × (needs.orders ≡ role_orders item.now.role)) }
-        ensures names { IfOk result (λ needs. AreListed needs.names.items (role_names item.now.role)) }
+    /// No name.
+    fn none(alloc: Global) -> Needs
+        ensures names { result.names.items ≡ [] }
+        ensures reads { result.reads ≡ false }
+        ensures orders { result.orders ≡ false }
     {
-        let mut needs = Needs {
+        Needs {
             names: Vec::new(alloc),
             reads: false,
             orders: false,
-        };
-        match &item.role {
-            Role::Group { bodies, .. } => needs.add_bodies(bodies)?,
-            Role::Check(check) => needs.add_all(&check.code.steps)?,
-            Role::Silent => {}
+        }
+    }
+
+    /// What an item needs.
+    pub(crate) fn of(alloc: Global, item: &ResolvedItem) -> Result<Needs, AllocError>
+        ensures { IfOk result (λ needs. Covers needs item.now.role) }
+    {
+        let mut needs = Needs::none(alloc);
+        needs.add_role(&item.role)?;
+        Ok(needs)
+    }
+
+    /// What the items of a model that are used need.
+    pub(crate) fn of_items(
+        alloc: Global,
+        items: &[ResolvedItem],
+        used: &[usize],
+    ) -> Result<Needs, AllocError>
+        ensures { IfOk result (λ needs. (at : ℕ) (item : ResolvedItem) → Contains used.now at → slice_get items.now at ≡ Some item → Covers needs item.role) }
+    {
+        let mut needs = Needs::none(alloc);
+        for at in used {
+            if let Some(item) = items.get(*at) {
+                needs.add_role(&item.role)?;
+            }
         }
         Ok(needs)
+    }
+
+    /// Adds what an item needs.
+    fn add_role(&mut self, role: &Role) -> Result<(), AllocError>
+        ensures changes { OnOk result ((self.new.reads ≡ (self.old.reads || role_reads role.now)) × (self.new.orders ≡ (self.old.orders || role_orders role.now))) }
+        ensures names { OnOk result (AreListed self.new.names.items (self.old.names.items ++ role_names role.now)) }
+    {
+        match role {
+            Role::Group { bodies, .. } => self.add_bodies(bodies),
+            Role::Check(check) => self.add_all(&check.code.steps),
+            Role::Silent => Ok(()),
+        }
     }
 
     /// Adds what the bodies of a group need.

@@ -114,3 +114,16 @@ on_err (Err e) P p = p
 
 pub pushes_kept : {A : Type 0} (d : A) (old mid new : List A) (n : ℕ) (P : ℕ → A → Type 0) → new ≡ mid → Pushes d old mid n P → Pushes d old new n P
 pushes_kept d old mid new n P e h = rw e h
+
+-- the values of another column
+pub copy_step : {A : Type 0} (d : A) (of old mid new : List A) (at done base read end : ℕ) (v : A)
+    → Pushes d old mid done (λ k w. w ≡ get_or of (at + k) d) → base ≡ length old
+    → v ≡ get_or of (at + done) d → ((k : ℕ) → at + done ≤ k → k < read → get_or of k d ≡ get_or of (at + done) d)
+    → done < end → end ≤ read - at
+    → new ≡ mid ++ replicate ((base + end) - length mid) v
+    → Pushes d old new end (λ k w. w ≡ get_or of (at + k) d)
+copy_step {A} d of old mid new at done base read end v h start is same above within added =
+    let P : ℕ → A → Type 0 = λ k w. w ≡ get_or of (at + k) d in
+    pushes_run d old mid new done end ((base + end) - length mid) v P h
+    (omega (arith, pushes_long d old mid done P h)) added
+    (λ k a b. is ∙ sym (same (at + k) (omega arith) (omega arith)))

@@ -9,8 +9,10 @@ mod runs;
 mod set_operations;
 mod sets;
 
-pub use operations::{Join, Registers, Turn, join_runs, map_runs};
+pub use operations::{Join, Registers, Turn, copy_runs, join_runs, map_runs};
 pub use relations::RunColumn;
 pub use runs::Cursor;
-pub use set_operations::{Relate, SetJoin, found_runs, found_set_runs, join_set_runs, relate_runs};
+pub use set_operations::{
+    Relate, SetJoin, copy_set_runs, found_runs, found_set_runs, join_set_runs, relate_runs,
+};
 pub use sets::SetRuns;

@@ -149,3 +149,27 @@ pub fn map_runs(
     }
     Ok(())
 }
+
+/// Adds the values of a column, for so many candidates from one on.
+pub fn copy_runs(
+    of: &RunColumn,
+    at: usize,
+    count: usize,
+    out: &mut RunColumn,
+    place: &mut Rel,
+) -> Result<(), AllocError>
+    requires of { at + count ≤ length of.now }
+    requires out { length out.old + count < 2 ^ 64 }
+    ensures { OnOk result (Pushes no_slot out.old out.new count (λ k v. v ≡ value_at of.now (at + k))) }
+{
+    let _of = of.len();
+    let base = out.len();
+    let mut cursor = Cursor::new();
+    let mut done = 0;
+    'runs: while done < count {
+        let end = (of.read(&mut cursor, at + done, place) - at).min(count);
+        out.push_run(place, base + end)?;
+        done = end;
+    }
+    Ok(())
+}

@@ -229,3 +229,27 @@ pub fn found_set_runs(
     }
     Ok(())
 }
+
+/// Adds the values of a column of sets, for so many candidates from one on.
+pub fn copy_set_runs(
+    of: &SetRuns,
+    at: usize,
+    count: usize,
+    out: &mut SetRuns,
+) -> Result<(), AllocError>
+    requires of { at + count ≤ length of.now }
+    requires out { length out.old + count < 2 ^ 64 }
+    ensures { OnOk result (Pushes no_set out.old out.new count (λ k v. v ≡ set_at of.now (at + k))) }
+{
+    let _of = of.len();
+    let base = out.len();
+    let mut cursor = Cursor::new();
+    let mut done = 0;
+    'runs: while done < count {
+        let (value, of_end) = of.read(&mut cursor, at + done);
+        let end = (of_end - at).min(count);
+        out.push_run(&value, base + end)?;
+        done = end;
+    }
+    Ok(())
+}

@@ -4,7 +4,7 @@ use crate::put_bool;
 use binding_graph::{Resolved, ResolvedItem, resolve};
 use bit_relations::{EventSet, Rel};
 use candidates::{Space, space};
-use cat_eval::{Column, eval_check, eval_group};
+use cat_eval::{BaseColumns, Column, WindowMachine, eval_check, eval_group};
 use cat_syntax::read_model;
 use columns::{Cursor, RunColumn, SetRuns};
 use litmus_ppc::read_test;
@@ -93,6 +93,15 @@ fn inputs_of<'a>(
     Ok(inputs)
 }
 
+/// The predefined names that any item of a model uses.
+fn base_of(alloc: Global, space: &Space, resolved: &Resolved) -> Result<BaseColumns, AllocError> {
+    let mut every = Vec::new(alloc);
+    for at in 0..resolved.items.len() {
+        every.push(at)?;
+    }
+    BaseColumns::of(alloc, space, &resolved.items, &every)
+}
+
 /// Appends the values of the names of the last item of a model.
 fn put_last_values(
     alloc: Global,
@@ -100,10 +109,12 @@ fn put_last_values(
     space: &Space,
     resolved: &Resolved,
 ) -> Result<(), AllocError> {
+    let base = base_of(alloc, space, resolved)?;
+    let mut machine = WindowMachine::new(alloc);
     let mut columns = Vec::new(alloc);
     for item in &resolved.items {
         let inputs = inputs_of(alloc, item, &columns)?;
-        let values = eval_group(alloc, item, space, &inputs)?;
+        let values = eval_group(alloc, item, space, &base, &inputs, &mut machine)?;
         drop(inputs);
         columns.push(values)?;
     }
@@ -123,7 +134,10 @@ fn put_first_answers(
     resolved: &Resolved,
 ) -> Result<(), AllocError> {
     if let Some(item) = resolved.items.first() {
-        for (index, holds) in eval_check(alloc, item, space, &[])?.iter().enumerate() {
+        let base = base_of(alloc, space, resolved)?;
+        let mut machine = WindowMachine::new(alloc);
+        let answers = eval_check(alloc, item, space, &base, &[], &mut machine)?;
+        for (index, holds) in answers.iter().enumerate() {
             put_between(answer, b" ", index)?;
             put_bool(answer, *holds)?;
         }

@@ -4,6 +4,7 @@ ghost use denote.Ref.{Bor};
 ghost use Rattle.std.specs.Prelude.{◌≡◌, ◌<◌, ◌∷◌, ◌++◌, ℕ, [], List, Vec, IfOk, OnOk, map, option_map, reverse, slice_index_or, vec_len};
 ghost use Rattle.litmus_values.specs.Value.{formula_of};
 ghost use Rattle.litmus_printing.specs.Printing.{condition_text};
+ghost use Rattle.cat_eval.specs.BaseColumns.{IsBaseOf};
 ghost use Rattle.cat_eval.specs.Columns.{ColumnsOf};
 ghost use Rattle.cat_eval.specs.Values.{AnswersOf};
 ghost use Rattle.verdict.specs.Evaluated.{IsEvaluatedAs};
@@ -15,7 +16,7 @@ ghost use Rattle.memo_graph.specs.Cell.{IsSaid, IsCell, IsEvaluationBy, IsEvalua
 
 use binding_graph::{CheckCode, Input, ResolveFault, Resolved, ResolvedItem, Role, resolve, used};
 use candidates::{Space, SpaceFault, space};
-use cat_eval::{Column, eval_check, eval_group};
+use cat_eval::{BaseColumns, Column, WindowMachine, eval_check, eval_group};
 use cat_values::ModelText;
 use litmus_printing::print_condition;
 use litmus_values::Test;
@@ -88,12 +89,14 @@ fn group_columns(
     alloc: Global,
     space: &Space,
     item: &ResolvedItem,
+    base: &BaseColumns,
     columns: &[Vec<Column>],
+    machine: &mut WindowMachine,
 ) -> Result<Vec<Column>, AllocError>
-    ensures { IfOk result (λ v. (inputs : List (Bor Column)) × AreFound columns.now item.now.inputs.items inputs × ColumnsOf item.now.role inputs space.now v.items) }
+    ensures { IsBaseOf space.now item.now.role base.now → IfOk result (λ v. (inputs : List (Bor Column)) × AreFound columns.now item.now.inputs.items inputs × ColumnsOf item.now.role inputs space.now v.items) }
 {
     let inputs = inputs(alloc, columns, item)?;
-    eval_group(alloc, item, space, &inputs)
+    eval_group(alloc, item, space, base, &inputs, machine)
 }
 
 // Whether the check holds, for each candidate.
@@ -101,12 +104,14 @@ fn check_answers(
     alloc: Global,
     space: &Space,
     item: &ResolvedItem,
+    base: &BaseColumns,
     columns: &[Vec<Column>],
+    machine: &mut WindowMachine,
 ) -> Result<Vec<bool>, AllocError>
-    ensures { IfOk result (λ v. (inputs : List (Bor Column)) × AreFound columns.now item.now.inputs.items inputs × AnswersOf item.now.role inputs space.now v.items) }
+    ensures { IsBaseOf space.now item.now.role base.now → IfOk result (λ v. (inputs : List (Bor Column)) × AreFound columns.now item.now.inputs.items inputs × AnswersOf item.now.role inputs space.now v.items) }
 {
     let inputs = inputs(alloc, columns, item)?;
-    eval_check(alloc, item, space, &inputs)
+    eval_check(alloc, item, space, base, &inputs, machine)
 }
 
 // The answers of one check more.
@@ -132,14 +137,16 @@ fn push_flag<'a>(
 fn answer_check<'a>(
     alloc: Global,
     space: &Space,
+    base: &BaseColumns,
     at: usize,
     item: &ResolvedItem,
     check: &'a CheckCode,
     answers: &mut ItemAnswers<'a>,
+    machine: &mut WindowMachine,
 ) -> Result<(), AllocError>
-    ensures { item.now.role ≡ Role.Check check.now → OnOk result (IsAnswered space.now at item.now answers.old answers.new) }
+    ensures { IsBaseOf space.now item.now.role base.now → item.now.role ≡ Role.Check check.now → OnOk result (IsAnswered space.now at item.now answers.old answers.new) }
 {
-    let holds = check_answers(alloc, space, item, &answers.columns)?;
+    let holds = check_answers(alloc, space, item, base, &answers.columns, machine)?;
     match &check.flag {
         Some(name) => push_flag(&mut answers.flags, name, holds),
         None => push_check(&mut answers.checks, holds),
@@ -159,19 +166,23 @@ fn put_columns(columns: &mut Vec<Vec<Column>>, at: usize, found: Vec<Column>)
 fn answer_item<'a>(
     alloc: Global,
     space: &Space,
+    base: &BaseColumns,
     at: usize,
     item: &'a ResolvedItem,
     answers: &mut ItemAnswers<'a>,
+    machine: &mut WindowMachine,
 ) -> Result<(), AllocError>
-    ensures { OnOk result (IsAnswered space.now at item.now answers.old answers.new) }
+    ensures { IsBaseOf space.now item.now.role base.now → OnOk result (IsAnswered space.now at item.now answers.old answers.new) }
 {
     match &item.role {
         Role::Group { .. } => {
-            let found = group_columns(alloc, space, item, &answers.columns)?;
+            let found = group_columns(alloc, space, item, base, &answers.columns, machine)?;
             put_columns(&mut answers.columns, at, found);
             Ok(())
         }
-        Role::Check(check) => answer_check(alloc, space, at, item, check, answers),
+        Role::Check(check) => {
+            answer_check(alloc, space, base, at, item, check, answers, machine)
+        }
         Role::Silent => Ok(()),
     }
 }
@@ -186,8 +197,11 @@ fn answers<'a>(
 {
     let mut answers = no_answers(alloc, resolved.items.len())?;
     let places = used(alloc, resolved)?;
+    let base = BaseColumns::of(alloc, space, &resolved.items, &places)?;
+    let mut machine = WindowMachine::new(alloc);
     for at in &places {
-        answer_item(alloc, space, *at, &resolved.items[*at], &mut answers)?;
+        let item = &resolved.items[*at];
+        answer_item(alloc, space, &base, *at, item, &mut answers, &mut machine)?;
     }
     Ok(answers)
 }

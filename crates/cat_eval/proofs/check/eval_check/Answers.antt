@@ -1,17 +1,10 @@
-use Rattle.std.proofs.Common.{◌≡◌, ◌∙◌, refl, ap}
-use Rattle.cat_eval.specs.Needed.{AreListed, steps_read, steps_order, names_in, role_reads, role_orders}
-use Rattle.cat_eval.proofs.Entering.{worlds_listed}
+use Rattle.std.proofs.Common.{Bool, Vec, Global}
+use Rattle.candidates.specs.Space.{candidates_in}
+use Rattle.cat_eval.specs.BaseColumns.{IsBaseOf}
+use Rattle.cat_eval.specs.Values.{AreAnswers}
 use Rattle.cat_eval.proofs.Exact.{answers_exact}
-use Rattle.cat_eval.proofs.Visits.{no_answers}
+use Rattle.cat_eval.proofs.Founding.{if_ok_weaker}
 use Rattle.cat_eval.proofs.check.eval_check.Goals as goal
 
-pub returns-in_ok-visit_all-in-Check : goal.returns-in_ok-visit_all-in-Check
-returns-in_ok-visit_all-in-Check c =
-    let needs = c.in_ok-of-in-Check.field-0 in
-    let steps = c.in-Check.check.code.steps.items in
-    let reads : needs.reads ≡ steps_read steps = c.in_ok-of-in-Check.ensures.changes.0 ∙ ap role_reads c.in-Check.is in
-    let orders : needs.orders ≡ steps_order steps = c.in_ok-of-in-Check.ensures.changes.1 ∙ ap role_orders c.in-Check.is in
-    let listed : AreListed needs.names.items (names_in steps) = rw c.in-Check.is at c.in_ok-of-in-Check.ensures.names in
-    let (bases, worlds, taken) = c.in_ok-visit_all-in-Check.ensures (refl, refl, rw c.new-in-Check.ensures.items (no_answers c.in-Check.check c.args.inputs.now)) in
-    let exact = rw (reads, orders) at (worlds_listed needs.names.items (names_in steps) listed needs.reads needs.orders bases _ worlds) in
-    rw c.in-Check.is (answers_exact c.in-Check.check c.args.inputs.now bases _ _ exact taken.2)
+pub returns-in-Check : goal.returns-in-Check
+returns-in-Check c = rw c.in-Check.is (λ told. if_ok_weaker {Q = λ (v : Vec Bool Global). AreAnswers c.in-Check.check c.args.inputs.now (candidates_in c.args.space.now.combinations.items) v.items} c.answers_of.result c.answers_of.ensures (λ v answered. answers_exact c.in-Check.check c.args.inputs.now told.bases _ v.items told.worlds (answered told.bases told.told told.listed)))

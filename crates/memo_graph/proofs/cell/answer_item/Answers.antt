@@ -2,4 +2,4 @@ use Rattle.memo_graph.proofs.Knowing.{answered_silent}
 use Rattle.memo_graph.proofs.cell.answer_item.Goals as goal
 
 pub returns-in-Silent : goal.returns-in-Silent
-returns-in-Silent c = answered_silent c.args.space.now c.args.at c.args.item.now c.args.answers.now c.in-Silent.is
+returns-in-Silent c = λ told. answered_silent c.args.space.now c.args.at c.args.item.now c.args.answers.now c.in-Silent.is

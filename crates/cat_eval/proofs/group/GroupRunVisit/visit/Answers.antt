@@ -1,35 +1,18 @@
-use Rattle.std.proofs.Common.{◌∙◌, ◌++◌, ◌∷◌, [], sym}
-use Rattle.cat_eval.proofs.Columns.{evaluated_more, solved_more, columns_moved, own_moved, own_long, own_none}
+use Rattle.std.proofs.Common.{◌≡◌, ◌∙◌, ◌++◌, ◌∷◌, [], true, length, refl, ap, sym}
+use Rattle.cat_eval.proofs.Columns.{solved_more, columns_moved}
 use Rattle.cat_eval.proofs.group.GroupRunVisit.visit.Goals as goal
 
-pub returns-in_ok-solve : goal.returns-in_ok-solve
-returns-in_ok-solve c = λ first bases taken.
+pub returns : goal.returns
+returns c = λ first bases taken.
     let run = c.args.self.now in
     let new = c.solve.new.self in
     let fixed = c.solve.ensures.fixed in
-    let columns = columns_moved first.recursive run.recursive first.bodies run.bodies first.inputs run.inputs (sym taken.2) (sym taken.0) (sym taken.1) bases run.columns.items taken.4 in
-    let own = own_moved first.recursive run.recursive first.bodies run.bodies (sym taken.2) (sym taken.0) run.solver.own.items taken.3 in
+    let columns = columns_moved true true first.bodies run.bodies first.inputs run.inputs refl (sym taken.0) (sym taken.1) bases run.columns.items taken.3 in
+    let own : length run.solver.own.items ≡ length run.bodies.now = rw taken.0 taken.2 in
     let now = solved_more run.bodies.now run.inputs.now bases c.args.base.now run.columns.items new.columns.items c.taken-candidate.result c.solve.ensures.long (rw c.deref.ensures.value at c.taken-candidate.ensures)
-    run.recursive run.solver.own.items new.solver.own.items c.if-self.true own columns c.in_ok-solve.ensures.added c.in_ok-solve.ensures.least in (
+    true run.solver.own.items new.solver.own.items refl own columns c.in_ok-solve.ensures.added c.in_ok-solve.ensures.least in (
       fixed.0 ∙ taken.0,
       fixed.1 ∙ taken.1,
       fixed.2 ∙ taken.2,
-      own_moved run.recursive first.recursive run.bodies first.bodies taken.2 taken.0 new.solver.own.items (own_long run.recursive run.bodies.now run.solver.own.items new.solver.own.items c.if-self.true fixed.3 own),
-      columns_moved run.recursive first.recursive run.bodies first.bodies run.inputs first.inputs taken.2 taken.0 taken.1 (bases ++ c.args.base.now ∷ []) new.columns.items now,
-    )
-
-pub returns-in_ok-evaluate_each : goal.returns-in_ok-evaluate_each
-returns-in_ok-evaluate_each c = λ first bases taken.
-    let run = c.args.self.now in
-    let new = c.evaluate_each.new.self in
-    let fixed = c.evaluate_each.ensures.fixed in
-    let columns = columns_moved first.recursive run.recursive first.bodies run.bodies first.inputs run.inputs (sym taken.2) (sym taken.0) (sym taken.1) bases run.columns.items taken.4 in
-    let none = own_none run.recursive run.bodies.now run.solver.own.items c.if-self.false (own_moved first.recursive run.recursive first.bodies run.bodies (sym taken.2) (sym taken.0) run.solver.own.items taken.3) in
-    let now = evaluated_more run.bodies.now run.inputs.now bases c.args.base.now run.columns.items new.columns.items c.taken-candidate.result c.evaluate_each.ensures.long (rw c.deref.ensures.value at c.taken-candidate.ensures)
-    run.recursive c.if-self.false columns (c.in_ok-evaluate_each.ensures.added none) in (
-      fixed.0 ∙ taken.0,
-      fixed.1 ∙ taken.1,
-      fixed.2 ∙ taken.2,
-      rw fixed.3 taken.3,
-      columns_moved run.recursive first.recursive run.bodies first.bodies run.inputs first.inputs taken.2 taken.0 taken.1 (bases ++ c.args.base.now ∷ []) new.columns.items now,
+      columns_moved true true run.bodies first.bodies run.inputs first.inputs refl taken.0 taken.1 (bases ++ c.args.base.now ∷ []) new.columns.items now,
     )

@@ -1,0 +1,10 @@
+use Rattle.std.proofs.Common.{ℕ, ◌≡◌, ◌<◌, length, slice_index_or}
+use Rattle.binding_graph.specs.declared.resolved.Body.{Body}
+use Rattle.cat_eval.specs.declared.column.Column.{Column}
+use Rattle.cat_eval.specs.Plain.{IsBodyColumn}
+use Rattle.cat_eval.proofs.plain.plain_columns.Given as goal
+
+abbrev pub invariant-loop-body : goal.invariant-loop-body
+invariant-loop-body l =
+    (length l.columns.items ≡ l.body-index)
+    × ((j : ℕ) → j < l.body-index → (b : Body) (c : Column) → IsBodyColumn (slice_index_or l.bodies j b).code l.base l.inputs (slice_index_or l.columns.items j c))
