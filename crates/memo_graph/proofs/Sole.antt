@@ -1,5 +1,5 @@
 -- There is one first fault, and one list of least values.
-use Rattle.std.proofs.Common.{ℕ, ◌≡◌, ◌<◌, ◌≤◌, ◌⊎◌, inl, inr, List, [], ◌∷◌, length, Bool, true, false, IsTrue, Option, Some, None, get_or, refl, sym, ap, ◌∙◌, subst, arith}
+use Rattle.std.proofs.Common.{ℕ, ◌≡◌, ◌<◌, ◌≤◌, ◌⊎◌, ◌↔◌, inl, inr, suc, List, [], ◌∷◌, length, Bool, true, false, IsTrue, Option, Some, None, get_or, refl, sym, ap, ◌∙◌, subst, arith}
 use Rattle.std.specs.Prelude.{◌&&◌, nat_eq, slice_get, slice_index}
 use Rattle.std.specs.Int.{bit_at}
 use Rattle.std.proofs.lemmas.Bool.Decides.{nat_tests}
@@ -12,7 +12,16 @@ use Rattle.binding_kinds.specs.Value.{Naming, Clause}
 use Rattle.binding_kinds.specs.Senses.{Sense}
 use Rattle.binding_kinds.specs.Faults.{rank, FirstFault, HasNoFault}
 use Rattle.binding_graph.specs.declared.resolved.Source.{Source}
+use denote.Ref.{Bor}
+use Rattle.binding_kinds.specs.declared.kinds.Kind.{Kind}
+use Rattle.binding_kinds.specs.declared.kinds.Kind.TheVariants as kinds
+use Rattle.binding_graph.specs.declared.resolved.CheckCode.{CheckCode}
 use Rattle.binding_graph.specs.Trees.{RelTree}
+use Rattle.candidates.specs.declared.candidate.Space.{Space}
+use Rattle.candidates.specs.Space.{candidates_in, Candidate}
+use Rattle.cat_eval.specs.declared.column.Column.{Column}
+use Rattle.cat_eval.specs.Executions.{events_of, EventsAt, PairsAt}
+use Rattle.cat_eval.specs.Values.{IsAnswer}
 use Rattle.cat_eval.specs.Least.{IsLeast, AreMonotone, body}
 use Rattle.cat_eval.specs.Named.{PairsFound, Of}
 use Rattle.cat_eval.proofs.Monotone.{monotone}
@@ -20,7 +29,7 @@ use Rattle.verdict.specs.declared.answer.OutcomeResult.{OutcomeResult}
 use Rattle.verdict.specs.declared.answer.OutcomeResult.TheVariants.{Refused, Evaluated}
 use Rattle.verdict.specs.declared.answer.Refusal.TheVariants as refusals
 use Rattle.memo_graph.specs.FromScratch.{IsFaultOf, IsResultOf}
-use Rattle.memo_graph.specs.Laws.{HasOneRefusal}
+use Rattle.memo_graph.specs.Laws.{HasOneRefusal, HasTree, HasOneAnswer}
 
 -- ---- the first fault
 
@@ -106,3 +115,35 @@ one_least n sets outer trees values others rises h g x lt a b pair =
     let test : ℕ → ℕ → ℕ → Bool = λ y c d. is_found (slice_get others y) n c d in
     found_so (slice_get others x) n a b (h.inside test (λ y y_lt c d meant. so_found (slice_get others y) n c d ((g.solves y y_lt c d).1
     (monotone n sets outer (λ z i j. IsTrue (test z i j)) (Of n others) (λ z i j t. found_so (slice_get others z) n i j t) (body trees y) (rises y y_lt) c d meant))) x lt a b pair)
+
+-- ---- answers
+
+same_bool : (P : Type 0) (a b : Bool) → IsTrue a ↔ P → IsTrue b ↔ P → a ≡ b
+same_bool P true true f g = refl
+same_bool P true false f g = absurd (let e : false ≡ true = g.1 (f.0 refl) in cc)
+same_bool P false true f g = absurd (let e : false ≡ true = f.1 (g.0 refl) in cc)
+same_bool P false false f g = refl
+
+-- one answer for each candidate, each of which is told by the candidate
+same_answers : (P : ℕ → Candidate → Bool → Type 0) → ((k : ℕ) (one : Candidate) (a b : Bool) → P k one a → P k one b → a ≡ b) → (cs : List Candidate) (xs ys : List Bool) → length xs ≡ length cs → length ys ≡ length cs
+    → ((k : ℕ) (one : Candidate) (a : Bool) → slice_get cs k ≡ Some one → slice_get xs k ≡ Some a → P k one a) → ((k : ℕ) (one : Candidate) (b : Bool) → slice_get cs k ≡ Some one → slice_get ys k ≡ Some b → P k one b) → xs ≡ ys
+same_answers P told [] [] [] m n f g = refl
+same_answers P told [] [] (b ∷ ys) m n f g = absurd (omega (arith, n))
+same_answers P told [] (a ∷ xs) ys m n f g = absurd (omega (arith, m))
+same_answers P told (c ∷ cs) [] ys m n f g = absurd (omega (arith, m))
+same_answers P told (c ∷ cs) (a ∷ xs) [] m n f g = absurd (omega (arith, n))
+same_answers P told (c ∷ cs) (a ∷ xs) (b ∷ ys) m n f g =
+    let here : a ≡ b = told 0 c a b (f 0 c a refl refl) (g 0 c b refl refl) in
+    let rest : xs ≡ ys = same_answers (λ k. P (suc k)) (λ k. told (suc k)) cs xs ys (omega (arith, m)) (omega (arith, n)) (λ k. f (suc k)) (λ k. g (suc k)) in
+    ap (λ (x : Bool). x ∷ xs) here ∙ ap (λ (zs : List Bool). b ∷ zs) rest
+
+told_by_kind : (check : CheckCode) (n : ℕ) (sets : Source → ℕ → Type 0) (outer : Source → ℕ → ℕ → Type 0) (kind : Kind) (a b : Bool) → HasTree kind check.code.steps.items → IsAnswer check n sets outer kind a → IsAnswer check n sets outer kind b → a ≡ b
+told_by_kind check n sets outer kinds.OfSet a b t f g = same_bool _ a b (f t.0 t.1) (g t.0 t.1)
+told_by_kind check n sets outer kinds.OfRelation a b t f g = same_bool _ a b (f t.0 t.1) (g t.0 t.1)
+told_by_kind check n sets outer kinds.OfAny a b t f g = same_bool _ a b (f t.0 t.1) (g t.0 t.1)
+
+pub one_answer : (check : CheckCode) (inputs : List (Bor Column)) (space : Space) → HasOneAnswer check inputs space
+one_answer check inputs space answers others tree h g =
+    same_answers (λ k one a. IsAnswer check (events_of one) (EventsAt (events_of one) one inputs k) (PairsAt (events_of one) one inputs k) check.code.kind a)
+    (λ k one a b. told_by_kind check (events_of one) (EventsAt (events_of one) one inputs k) (PairsAt (events_of one) one inputs k) check.code.kind a b tree)
+    (candidates_in space.combinations.items) answers others h.0 g.0 h.1 g.1

@@ -1,11 +1,18 @@
 -- Laws of what evaluating from nothing gives: `laws` proves them. The relation itself is in specs/FromScratch.
-use Rattle.std.specs.Prelude.{◌≡◌, ℕ, ◌<◌, List, length}
+use Rattle.std.specs.Prelude.{◌≡◌, ℕ, ◌<◌, Bool, List, [], length}
 use denote.Ref.{Bor}
 use Rattle.litmus_values.specs.declared.test.Test.{Test}
 use Rattle.bit_relations.specs.Relation.{Relation}
 use Rattle.cat_values.specs.declared.model.ModelText.{ModelText}
 use Rattle.binding_kinds.specs.declared.fault.ModelFault.{ModelFault}
-use Rattle.binding_graph.specs.Trees.{RelTree}
+use Rattle.binding_kinds.specs.declared.kinds.Kind.{Kind}
+use Rattle.binding_kinds.specs.declared.kinds.Kind.TheVariants as kinds
+use Rattle.binding_graph.specs.declared.resolved.CheckCode.{CheckCode}
+use Rattle.binding_graph.specs.declared.resolved.Role.TheVariants as roles
+use Rattle.binding_graph.specs.declared.resolved.Step.{Step}
+use Rattle.binding_graph.specs.Trees.{SetTree, RelTree, set_code, rel_code}
+use Rattle.candidates.specs.declared.candidate.Space.{Space}
+use Rattle.cat_eval.specs.Values.{AnswersOf}
 use Rattle.candidates.specs.Space.{Candidate}
 use Rattle.cat_eval.specs.declared.column.Column.{Column}
 use Rattle.cat_eval.specs.Executions.{events_of, EventsAt, PairsAt}
@@ -35,3 +42,14 @@ HasOneLeast one inputs index trees =
     → IsLeast (events_of one) (EventsAt (events_of one) one inputs index) (PairsAt (events_of one) one inputs index) trees values
     → IsLeast (events_of one) (EventsAt (events_of one) one inputs index) (PairsAt (events_of one) one inputs index) trees others
     → (x : ℕ) → x < length trees → (a b : ℕ) → Of (events_of one) values x a b → Of (events_of one) others x a b
+
+-- the steps of a check are those of a tree of its kind
+abbrev pub HasTree : Kind → List Step → Type 0
+HasTree kinds.OfSet steps = (t : SetTree) × (steps ≡ set_code t [])
+HasTree kinds.OfRelation steps = (t : RelTree) × (steps ≡ rel_code t [])
+HasTree kinds.OfAny steps = (t : RelTree) × (steps ≡ rel_code t [])
+
+-- a check has one list of answers over a space, where the names of other items have these columns
+abbrev pub HasOneAnswer : CheckCode → List (Bor Column) → Space → Type 0
+HasOneAnswer check inputs space =
+    (answers others : List Bool) → HasTree check.code.kind check.code.steps.items → AnswersOf (roles.Check check) inputs space answers → AnswersOf (roles.Check check) inputs space others → answers ≡ others

@@ -4,8 +4,10 @@ ghost use denote.Ref.{Bor};
 ghost use Rattle.std.specs.Prelude.{ℕ, List};
 ghost use Rattle.binding_graph.specs.Trees.{RelTree};
 ghost use Rattle.candidates.specs.Space.{Candidate};
-ghost use Rattle.memo_graph.specs.Laws.{HasOneFault, HasOneRefusal, HasOneLeast};
+ghost use Rattle.memo_graph.specs.Laws.{HasOneFault, HasOneRefusal, HasOneLeast, HasOneAnswer};
 
+use binding_graph::CheckCode;
+use candidates::Space;
 use cat_eval::Column;
 use cat_values::ModelText;
 use litmus_values::Test;
@@ -29,3 +31,11 @@ pub fn refusals_of_models_are_one(test: &Test, model: &ModelText)
 pub fn least_values_are_one()
     ensures { (one : Candidate) (inputs : List (Bor Column)) (index : ℕ) (trees : List RelTree) → HasOneLeast one inputs index trees }
 {}
+
+/// A check has one list of answers.
+pub fn answers_are_one(check: &CheckCode, space: &Space)
+    ensures { (inputs : List (Bor Column)) → HasOneAnswer check.now inputs space.now }
+{
+    let _check = check;
+    let _space = space;
+}
