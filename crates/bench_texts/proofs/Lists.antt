@@ -78,38 +78,12 @@ held_at f P xs i x b e h = subst (λ y. P (f y)) (sym e) (get_or-map-held f P xs
 abbrev pub IsSearched : {A B : Type 0} (p : B → Bool) (f : A → B) → List A → ℕ → Type 0
 IsSearched p f xs i = position_or_len p (map f xs) ≡ i + position_or_len p (map f (drop i xs))
 
--- ---- a change that is undone
-
-pub set-undone : {A : Type 0} (xs : List A) (i : ℕ) (y d : A) → set (set xs i y) i (get_or xs i d) ≡ xs
-set-undone [] zero y d = refl
-set-undone [] (suc i) y d = refl
-set-undone (x ∷ xs) zero y d = refl
-set-undone (x ∷ xs) (suc i) y d = ap (λ r. x ∷ r) (set-undone xs i y d)
-
-pub insert-undone : {A : Type 0} (xs : List A) (i : ℕ) (y : A) → i ≤ length xs → remove (insert xs i y) i ≡ xs
-insert-undone [] zero y b = refl
-insert-undone [] (suc i) y b = grind arith
-insert-undone (x ∷ xs) zero y b = refl
-insert-undone (x ∷ xs) (suc i) y b = let l : i ≤ length xs = omega arith in ap (λ r. x ∷ r) (insert-undone xs i y l)
-
-pub remove-undone : {A : Type 0} (xs : List A) (i : ℕ) (d : A) → i < length xs → insert (remove xs i) i (get_or xs i d) ≡ xs
-remove-undone [] i d b = grind arith
-remove-undone (x ∷ xs) zero d b = refl
-remove-undone (x ∷ xs) (suc i) d b = let l : i < length xs = omega arith in ap (λ r. x ∷ r) (remove-undone xs i d l)
-
-pub ruleset undone_lemmas = (set-undone, insert-undone, remove-undone)
-
 -- what holds at the index of an element holds of it
 pub held_plain : {A : Type 0} (P : A → Type 0) → (xs : List A) (i : ℕ) (x : A) → x ≡ get_or xs i x → HoldsAt P xs i → P x
 held_plain P xs i x e h = subst P (sym e) (h x)
 
--- an element changed in nothing that the function sees
-pub map-kept : {A B : Type 0} (f : A → B) → (xs : List A) (i : ℕ) (x y : A) → i < length xs → x ≡ get_or xs i x → f y ≡ f x → map f (set xs i y) ≡ map f xs
-map-kept f [] i x y b e h = grind arith
-map-kept f (z ∷ zs) zero x y b e h = ap (λ r. r ∷ map f zs) (h ∙ ap f e)
-map-kept f (z ∷ zs) (suc i) x y b e h = let l : i < length zs = omega arith in ap (λ r. f z ∷ r) (map-kept f zs i x y l e h)
-
-pub held_set : {A : Type 0} (P : A → Type 0) → (xs : List A) (i : ℕ) (y : A) → i < length xs → P y → HoldsAt P (set xs i y) i
-held_set P [] i y b h = grind arith
-held_set P (z ∷ zs) zero y b h = λ d. h
-held_set P (z ∷ zs) (suc i) y b h = let l : i < length zs = omega arith in held_set P zs i y l h
+-- an element in the place of another is that other one changed
+pub put_at-changed : {A B : Type 0} (f : A → B) (g : B → B) → (xs : List A) (i : ℕ) (x : A) (y : B) → i < length xs → x ≡ get_or xs i x → y ≡ g (f x) → put_at i y (map f xs) ≡ changed_at i g (map f xs)
+put_at-changed f g [] i x y b e h = grind arith
+put_at-changed f g (z ∷ zs) zero x y b e h = ap (λ r. r ∷ map f zs) (h ∙ ap (λ w. g (f w)) e)
+put_at-changed f g (z ∷ zs) (suc i) x y b e h = let l : i < length zs = omega arith in ap (λ r. f z ∷ r) (put_at-changed f g zs i x y l e h)

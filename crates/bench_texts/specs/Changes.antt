@@ -1,16 +1,16 @@
 -- What an edit that was prepared changes, by the indexes of what it changes.
-use Rattle.std.specs.Prelude.{◌≡◌, ◌+◌, ◌<◌, ◌≤◌, ◌^◌, length, insert, remove, slice_set, vec_len, vec_capacity, Option, MatchOption}
+use Rattle.std.specs.Prelude.{◌≡◌, ◌+◌, ◌<◌, ◌≤◌, ◌^◌, length, insert, remove, vec_len, vec_capacity}
 use Rattle.std.specs.List.{HoldsAt}
 use Rattle.litmus_values.specs.Value.{content_of, steps_of, formula_of}
 use Rattle.cat_values.specs.Values.{clause_of}
 use Rattle.bench_texts.specs.declared.change.Change.{Change}
 use Rattle.bench_texts.specs.declared.change.Change.TheVariants as changes
 use Rattle.bench_texts.specs.declared.change.Prepared.{Prepared}
-use Rattle.bench_texts.specs.declared.reading.Reading.{Reading}
+use Rattle.bench_texts.specs.declared.change.Replacement.{Replacement}
+use Rattle.bench_texts.specs.declared.change.Replacement.TheVariants as made
 use Rattle.bench_texts.specs.declared.texts.Texts.{Texts}
 use Rattle.bench_texts.specs.BenchTexts.{BenchTexts, put_at, changed_at, with_init, with_thread, with_condition, with_observed, with_items, with_tests, with_models}
 use Rattle.bench_texts.specs.Held.{model_of, texts_of, IsRead}
-use Rattle.bench_texts.specs.Readings.{IsReading}
 
 -- the texts after the change
 abbrev pub texts_after : Change → BenchTexts → BenchTexts
@@ -44,16 +44,31 @@ IsReady t (changes.InsertItem at index item) =
     (at < vec_len t.models) × HoldsAt (λ m. index ≤ length m.items) (texts_of t).models at × HoldsAt (λ m. length m.items < 256) (texts_of t).models at × (t.next + 1 < 2 ^ 64)
 IsReady t (changes.RemoveItem at index) = (at < vec_len t.models) × HoldsAt (λ m. index < length m.items) (texts_of t).models at
 
--- Where it changes an item, it has what the items of the model are resolved to afterwards.
-abbrev pub HasReading : Texts → Change → Option Reading → Type 0
-HasReading t (changes.SetItem at index number item) r =
-    MatchOption r ⊥ (λ reading. HoldsAt (λ m. IsReading (slice_set m.text.items.items index item) reading) t.models.items at)
-HasReading t (changes.InsertItem at index item) r =
-    MatchOption r ⊥ (λ reading. HoldsAt (λ m. IsReading (insert m.text.items.items index item) reading) t.models.items at)
-HasReading t (changes.RemoveItem at index) r =
-    MatchOption r ⊥ (λ reading. HoldsAt (λ m. IsReading (remove m.text.items.items index) reading) t.models.items at)
-HasReading t _ r = Unit {0}
+-- ---- what is put in the place of what
+
+-- the texts with the replacement made
+abbrev pub texts_with : Replacement → BenchTexts → BenchTexts
+texts_with (made.PutTest at test) t = with_tests (put_at at (content_of test)) t
+texts_with (made.DropTest at) t = with_tests (λ ts. remove ts at) t
+texts_with (made.SetInit at init) t = with_tests (changed_at at (with_init init.items)) t
+texts_with (made.SetThread at thread other) t = with_tests (changed_at at (with_thread thread (steps_of other))) t
+texts_with (made.SetCond at c) t = with_tests (changed_at at (with_condition (c.quantifier, formula_of c.proposition))) t
+texts_with (made.SetObserved at observed) t = with_tests (changed_at at (with_observed observed.items)) t
+texts_with (made.PutModel at model next) t = with_models (put_at at (model_of model)) next t
+texts_with (made.DropModel at) t = with_models (λ ms. remove ms at) t.next t
+
+-- What it replaces is there, there is room for one more where it adds one, and a model that it puts is read.
+abbrev pub IsReplaceable : Texts → Replacement → Type 0
+IsReplaceable t (made.PutTest at test) = (at ≤ vec_len t.tests) × (at ≡ vec_len t.tests → vec_len t.tests < vec_capacity t.tests)
+IsReplaceable t (made.DropTest at) = at < vec_len t.tests
+IsReplaceable t (made.SetInit at init) = at < vec_len t.tests
+IsReplaceable t (made.SetThread at thread other) = (at < vec_len t.tests) × HoldsAt (λ c. thread < length c.threads) (texts_of t).tests at
+IsReplaceable t (made.SetCond at c) = at < vec_len t.tests
+IsReplaceable t (made.SetObserved at observed) = at < vec_len t.tests
+IsReplaceable t (made.PutModel at model next) =
+    (at ≤ vec_len t.models) × (at ≡ vec_len t.models → vec_len t.models < vec_capacity t.models) × IsRead model
+IsReplaceable t (made.DropModel at) = at < vec_len t.models
 
 -- It was prepared on these texts.
 abbrev pub IsPrepared : Texts → Prepared → Type 0
-IsPrepared t p = IsReady t p.change × HasReading t p.change p.reading
+IsPrepared t p = IsReplaceable t p.replacement

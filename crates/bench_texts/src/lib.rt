@@ -14,8 +14,8 @@ mod prepare_edit;
 mod prepare_items;
 mod prepare_models;
 mod print;
-mod read_change;
 mod reading;
+mod replace;
 mod texts;
 
 pub use change::Prepared;

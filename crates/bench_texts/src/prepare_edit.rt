@@ -2,7 +2,7 @@
 
 ghost use Rattle.std.specs.Prelude.{◌≡◌, IfOk, MatchResult};
 ghost use Rattle.bench_texts.specs.Held.{texts_of, AreRead};
-ghost use Rattle.bench_texts.specs.Changes.{texts_after, IsReady, IsPrepared};
+ghost use Rattle.bench_texts.specs.Changes.{texts_with, IsReady, IsPrepared};
 ghost use Rattle.bench_texts.specs.Edits.{edit_of, Applies, Refuses};
 ghost use Rattle.bench_texts.specs.Answers.{Answers};
 
@@ -22,7 +22,7 @@ impl Texts {
         spent: bool,
     ) -> Result<Prepared, EditFault>
         // It is accepted, and these are the texts that `commit` makes, or it is refused.
-        ensures answer { MatchResult result (λ p. Applies (texts_of self.old) spent (edit_of edit.now) (texts_after p.change (texts_of self.old))) (Refuses (texts_of self.old) spent (edit_of edit.now)) }
+        ensures answer { MatchResult result (λ p. Applies (texts_of self.old) spent (edit_of edit.now) (texts_with p.replacement (texts_of self.old))) (Refuses (texts_of self.old) spent (edit_of edit.now)) }
         // `commit` can be called.
         ensures ready { IfOk result (IsPrepared self.new) }
         // No text is changed.
@@ -31,8 +31,8 @@ impl Texts {
         ensures read { AreRead self.old → AreRead self.new }
     {
         match self.prepare_change(alloc, edit, spent) {
-            Ok(change) => match self.read_change(alloc, change) {
-                Ok(prepared) => Ok(prepared),
+            Ok(change) => match self.replacement_of(alloc, change) {
+                Ok(replacement) => Ok(Prepared { replacement }),
                 Err(error) => Err(EditFault::OutOfMemory(error)),
             },
             Err(fault) => Err(fault),
