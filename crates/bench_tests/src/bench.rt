@@ -23,9 +23,9 @@ impl<K: StoreName> Model for Bench<K> {
 
     ghost Value = { Plain };
 
-    ghost view = { λ b. bench_of b.graph.texts b.graph.memos.entries b.graph.claims.items b.graph.taken };
+    ghost view = { λ b. bench_of b.graph.texts b.graph.memos.entries b.graph.claims.entries b.graph.taken };
 
-    ghost invariant = { λ b. IsSoundBench b.graph.texts b.graph.memos.entries b.graph.claims.items b.graph.taken };
+    ghost invariant = { λ b. IsSoundBench b.graph.texts b.graph.memos.entries b.graph.claims.entries b.graph.taken };
 }
 
 /// A return, which only `run` makes.

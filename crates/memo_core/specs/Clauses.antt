@@ -11,22 +11,22 @@ use Rattle.memo_core.specs.declared.job.Done.{Done}
 use Rattle.memo_core.specs.Graph.{at, named_values, IsSettled}
 use Rattle.memo_core.specs.Right.{Making, ArePresent, IsRight, IsCounted, IsMadeNow}
 use Rattle.memo_core.specs.Views.{as_memos, shown_outputs, shown_values}
-use Rattle.memo_core.specs.Step.{State, Return, state, return_of, Gives, open_claims}
+use Rattle.memo_core.specs.Step.{State, Return, state, return_of, Gives, open_claims, AreNumbered}
 use Rattle.memo_core.specs.Run.{IsFreshFrom}
 use Rattle.memo_core.specs.Marks.{IsMarkedTo}
 
 module _ {K T V G E P F : Type 0} {k : NameGhosts K} {t : Ghosts T V G E P F} where
   -- what the texts say, what is kept, what is out, and how many numbers are taken
   abbrev pub state_of : Graph K T V G E P F k t → State V G
-  state_of g = state (t.net g.texts) g.memos.entries g.claims.items g.taken
+  state_of g = state (t.net g.texts) g.memos.entries g.claims.entries g.taken
 
   -- the texts are valid, and each memo was computed from values that its inputs have as long as their stamps are the present ones
   abbrev pub HasRightMemos : Graph K T V G E P F k t → Type 0
   HasRightMemos g = t.is_valid g.texts × IsRight (IsCounted t.since t.net t.makes g.texts) (t.net g.texts) (as_memos g.memos.entries) g.taken
 
-  -- no claim that is out repeats another, or what a memo holds
+  -- no claim that is out repeats another, or what a memo holds, and its number was given
   abbrev pub HasFreshClaims : Graph K T V G E P F k t → Type 0
-  HasFreshClaims g = IsFreshFrom (as_memos g.memos.entries) (open_claims g.claims.items)
+  HasFreshClaims g = IsFreshFrom (as_memos g.memos.entries) (open_claims g.claims.entries) × AreNumbered g.taken (open_claims g.claims.entries)
 
   -- the marks say which used nodes are settled
   abbrev pub IsMarked : Graph K T V G E P F k t → Type 0

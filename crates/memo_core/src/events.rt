@@ -6,7 +6,6 @@ ghost use Rattle.memo_core.specs.Step.{Has, Loses, Renews, Edits, IsWork};
 ghost use Rattle.memo_core.specs.Clauses.{state_of, HasRightMemos, HasFreshClaims, IsMarked, GivesJob, IsSettledIn, ShowsSolved};
 
 use crate::claims::{Claim, ClaimFault};
-use crate::finds::claim_index;
 use crate::graph::{Graph, LAST};
 use crate::job::Job;
 use crate::keys::{Node, Output};
@@ -17,6 +16,7 @@ use crate::texts::Texts;
 use crate::work::{current_inputs, earlier_tokens, find_work, hold_all, present_keys};
 use indexmap::IndexMap;
 use std::alloc::Global;
+use std::collections::BTreeMap;
 use std::sync::Arc;
 use value_store::{Store, StoreName, Token};
 
@@ -35,7 +35,7 @@ impl<K: StoreName, T: Texts> Graph<K, T> {
         Graph {
             texts,
             memos: IndexMap::new(alloc),
-            claims: Vec::new(alloc),
+            claims: BTreeMap::new(alloc),
             taken: 0,
             next: 0,
             store,
@@ -90,7 +90,7 @@ impl<K: StoreName, T: Texts> Graph<K, T> {
             return Err(ClaimFault::Spent);
         }
         let memos = &self.memos;
-        let at = match find_work(&self.texts, memos, self.claims.as_slice(), self.next) {
+        let at = match find_work(&self.texts, memos, &self.claims, self.next) {
             None => return Ok(None),
             Some(at) => at,
         };
@@ -106,12 +106,9 @@ impl<K: StoreName, T: Texts> Graph<K, T> {
         let store = Arc::try_clone(&self.store)?;
         self.memos.reserve(self.claims.len() + 1)?;
         let number = self.taken + 1;
-        let claim = Claim {
-            number,
-            node,
-            inputs,
-        };
-        self.claims.push(claim)?;
+        let _ = self.claims.insert(number, Claim { node, inputs })?;
+        let open = self.claims.len();
+        prove!(open < 0x8000_0000_0000_0000);
         self.taken = number;
         self.next = at;
         Ok(Some(Job {
@@ -138,13 +135,8 @@ impl<K: StoreName, T: Texts> Graph<K, T> {
         ensures taken { self.new.taken ≡ self.old.taken }
         ensures step { Loses (state_of self.old) claim result (state_of self.new) }
     {
-        match claim_index(self.claims.as_slice(), claim) {
-            None => false,
-            Some(at) => {
-                let _ = self.claims.remove(at);
-                true
-            }
-        }
+        let closed = self.claims.remove(&claim);
+        closed.is_some()
     }
 
     /// Empties every memo and closes every claim.

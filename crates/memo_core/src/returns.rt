@@ -5,7 +5,7 @@ ghost use Rattle.memo_core.specs.Step.{IsJudged, Finishes};
 ghost use Rattle.memo_core.specs.Clauses.{state_of, return_from, IsComputed, HasRightMemos, HasFreshClaims, IsMarked};
 
 use crate::claims::{Claim, Finish, Judgement, values_are};
-use crate::finds::{claim_index, first_stale, keys_are};
+use crate::finds::{first_stale, keys_are};
 use crate::graph::Graph;
 use crate::job::Done;
 use crate::keys::is_same_node;
@@ -21,21 +21,20 @@ impl<K: StoreName, T: Texts> Graph<K, T> {
         requires { HasRightMemos self.now }
         ensures { IsJudged (state_of self.now) (return_from done.now) result }
     {
-        let at = match claim_index(self.claims.as_slice(), done.claim) {
-            Some(at) => at,
+        let claim = match self.claims.get(&done.claim) {
+            Some(claim) => claim,
             None => return Judgement::Undue,
         };
-        let claim = &self.claims[at];
         if !is_same_node(claim.node, done.node) {
             return Judgement::Undue;
         }
         if !self.texts.is_used(done.node) {
-            return Judgement::Late(at, None);
+            return Judgement::Late(None);
         }
         let memos = &self.memos;
         if !are_present(&self.texts, memos, done.node, claim.inputs.as_slice()) {
             let stamp = first_stale(&self.texts, memos, done.node, claim.inputs.as_slice());
-            return Judgement::Late(at, Some(stamp));
+            return Judgement::Late(Some(stamp));
         }
         if !keys_are(&self.texts, done.node, done.keys.as_slice()) {
             return Judgement::Undue;
@@ -47,25 +46,28 @@ impl<K: StoreName, T: Texts> Graph<K, T> {
         if !values_are::<K, T>(&self.store, memos, done.keys.as_slice(), values) {
             return Judgement::Undue;
         }
-        Judgement::Due(at)
+        Judgement::Due
     }
 
     /// Takes a return that is due.
-    fn accept(&mut self, at: usize, done: Done<K, T>) -> Finish
+    fn accept(&mut self, done: Done<K, T>) -> Finish
         requires right { HasRightMemos self.old }
         requires fresh { HasFreshClaims self.old }
         requires marks { IsMarked self.old }
         requires computed { IsComputed T.makes done }
         requires empty { vec_len done.names ≡ 0 }
         requires room { length done.outputs.items ≤ vec_capacity done.names }
-        requires due { IsJudged (state_of self.old) (return_from done) (Judgement.Due at) }
+        requires due { IsJudged (state_of self.old) (return_from done) Judgement.Due }
         ensures texts { self.new.texts ≡ self.old.texts }
         ensures right { HasRightMemos self.new }
         ensures fresh { HasFreshClaims self.new }
         ensures marks { IsMarked self.new }
         ensures step { Finishes (state_of self.old) (return_from done) result (state_of self.new) }
     {
-        let claim = self.claims.remove(at);
+        let claim = match self.claims.remove(&done.claim) {
+            Some(claim) => claim,
+            None => unreachable!(),
+        };
         self.taken += 1;
         let Done {
             claim: _,
@@ -76,11 +78,7 @@ impl<K: StoreName, T: Texts> Graph<K, T> {
             mut outputs,
             mut names,
         } = done;
-        let Claim {
-            number: _,
-            node: _,
-            inputs,
-        } = claim;
+        let Claim { node: _, inputs } = claim;
         let memos = &self.memos;
         restamp_all::<K, T>(
             &self.store,
@@ -120,11 +118,11 @@ impl<K: StoreName, T: Texts> Graph<K, T> {
     {
         match self.judge(&done) {
             Judgement::Undue => Finish::Unknown,
-            Judgement::Late(at, stamp) => {
-                let _ = self.claims.remove(at);
+            Judgement::Late(stamp) => {
+                let _ = self.claims.remove(&done.claim);
                 Finish::Stale(stamp)
             }
-            Judgement::Due(at) => self.accept(at, done),
+            Judgement::Due => self.accept(done),
         }
     }
 }
