@@ -1,6 +1,8 @@
 //! What is handed out to be computed, and what comes back.
 
 ghost use Rattle.std.specs.Prelude.{◌≡◌, ◌≤◌, IfOk, IfErr, length, vec_len, vec_capacity};
+ghost use Rattle.std.specs.List.{AllByRecursion as Each};
+ghost use Rattle.memo_core.specs.Views.{KeepsToken};
 ghost use Rattle.memo_core.specs.Clauses.{IsComputed, IsOfJob, return_from};
 
 use crate::keys::{Key, Node, Output};
@@ -47,6 +49,7 @@ impl<K: StoreName, T: Texts> Job<K, T> {
     pub fn run<R: Wait>(self, rt: &R, alloc: Global) -> Result<Done<K, T>, (Job<K, T>, StoreFault)>
         ensures same { IfOk result (IsOfJob self) }
         ensures computed { IfOk result (λ done. IsComputed T.makes done) }
+        ensures kept { IfOk result (λ done. Each (λ o. KeepsToken self.before.items o.name o.value) done.outputs.items) }
         ensures empty { IfOk result (λ done. vec_len done.names ≡ 0) }
         ensures room { IfOk result (λ done. length done.outputs.items ≤ vec_capacity done.names) }
         ensures err { IfErr result (λ refusal. refusal.0 ≡ self) }
