@@ -1,29 +1,23 @@
 -- What is made for a combination stands for another with the same events and dependencies.
 use Rattle.std.proofs.Common.{ℕ, ◌≡◌, ◌∙◌, List, length, ap, sym, subst}
-use Rattle.std.specs.Prelude.{min}
 use Rattle.cat_values.specs.declared.predefined.Predefined.{Predefined}
 use Rattle.cat_values.specs.declared.predefined.Predefined.TheVariants as names
 use Rattle.candidates.specs.declared.candidate.Combination.{Combination}
 use Rattle.candidates.specs.declared.candidate.Event.{Event}
 use Rattle.base_env.specs.Candidate.{IsEntered, SetIn, SharedIn}
-use Rattle.base_env.specs.Events.{At}
+use Rattle.dataflow.specs.DependencyLists.{DependencyLists, dependency_lists}
+use Rattle.base_env.specs.Events.{At, Listed}
 use Rattle.base_env.specs.Known.{Known}
 use Rattle.base_env.specs.Names.{IsIn, Fixed}
 
 pub record HasSame (c d : Combination) : Type 0 where
   pub events : c.events.items ≡ d.events.items
-  pub addr : c.addr_pairs.items ≡ d.addr_pairs.items
-  pub data_pairs : c.data_pairs.items ≡ d.data_pairs.items
-  pub ctrl : c.ctrl_pairs.items ≡ d.ctrl_pairs.items
-  pub ctrlisync : c.ctrlisync_pairs.items ≡ d.ctrlisync_pairs.items
+  pub dependencies : dependency_lists c.dependencies ≡ dependency_lists d.dependencies
 
 same_back : (c d : Combination) → HasSame c d → HasSame d c
 same_back c d h = record {
   events = sym h.events;
-  addr = sym h.addr;
-  data_pairs = sym h.data_pairs;
-  ctrl = sym h.ctrl;
-  ctrlisync = sym h.ctrlisync;
+  dependencies = sym h.dependencies;
 }
 
 set_same : (n : ℕ) (name : Predefined) (c d : Combination) → HasSame c d → (a : ℕ) → SetIn c n name a → SetIn d n name a
@@ -36,10 +30,10 @@ fixed_same names.SameLocation n c d same a b h = rw (← same.events) h
 fixed_same names.ProgramOrderSameLocation n c d same a b h = rw (← same.events) h
 fixed_same names.Internal n c d same a b h = rw (← same.events) h
 fixed_same names.External n c d same a b h = rw (← same.events) h
-fixed_same names.AddressDependency n c d same a b h = rw (← same.addr) h
-fixed_same names.DataDependency n c d same a b h = rw (← same.data_pairs) h
-fixed_same names.ControlDependency n c d same a b h = rw (← same.ctrl) h
-fixed_same names.ControlIsyncDependency n c d same a b h = rw (← same.ctrlisync) h
+fixed_same names.AddressDependency n c d same a b h = subst (λ (x : DependencyLists). Listed x.addr_pairs a b) same.dependencies h
+fixed_same names.DataDependency n c d same a b h = subst (λ (x : DependencyLists). Listed x.data_pairs a b) same.dependencies h
+fixed_same names.ControlDependency n c d same a b h = subst (λ (x : DependencyLists). Listed x.ctrl_pairs a b) same.dependencies h
+fixed_same names.ControlIsyncDependency n c d same a b h = subst (λ (x : DependencyLists). Listed x.ctrlisync_pairs a b) same.dependencies h
 fixed_same names.SyncOrder n c d same a b h = rw (← same.events) h
 fixed_same names.LwsyncOrder n c d same a b h = rw (← same.events) h
 fixed_same names.EieioOrder n c d same a b h = rw (← same.events) h
@@ -51,7 +45,7 @@ shared_same n name c d same a b h = (h.0, h.1, fixed_same name n c d same a b h.
 
 pub entered_as : (base : Known) (c d : Combination) → HasSame c d → IsEntered base c → IsEntered base d
 entered_as base c d same h = record {
-  count = h.count ∙ ap (λ (es : List Event). min (length es) 128) same.events;
+  count = h.count ∙ ap (λ (es : List Event). length es) same.events;
   sets = λ name held a. (
     (λ x. set_same base.count name c d same a ((h.sets name held a).0 x)),
     (λ x. (h.sets name held a).1 (set_same base.count name d c (same_back c d same) a x)),

@@ -1,5 +1,5 @@
 -- When the names that are held are those of a candidate.
-use Rattle.std.specs.Prelude.{ℕ, ◌≡◌, ◌<◌, ◌↔◌, List, length, get_or, min, Contains, Option, Some, None, false}
+use Rattle.std.specs.Prelude.{ℕ, ◌≡◌, ◌<◌, ◌↔◌, List, length, get_or, Contains, Option, Some, None, false}
 use Rattle.cat_values.specs.declared.predefined.Predefined.{Predefined}
 use Rattle.candidates.specs.declared.candidate.Combination.{Combination}
 use Rattle.bit_relations.specs.Relation.{IsRelation, IsEvents}
@@ -30,7 +30,7 @@ AreShared xs n c = (i : ℕ) → i < length xs → (d : Shared) → IsRelation (
 
 -- what does not depend on the candidate is that of the combination
 pub record IsEntered (known : Known) (c : Combination) : Type 0 where
-  pub count : known.count ≡ min (length c.events.items) 128
+  pub count : known.count ≡ length c.events.items
   pub sets : (name : Predefined) → Contains (set_names known.sets) name → (a : ℕ) → EventsOf known name a ↔ SetIn c known.count name a
   pub shared : (name : Predefined) → Contains (shared_names known.shared) name → (a b : ℕ) → SharedPairs known name a b ↔ SharedIn c known.count name a b
 

@@ -2,6 +2,7 @@
 use Rattle.std.specs.Prelude.{ℕ, ◌≡◌, ◌<◌, List}
 use Rattle.bit_relations.specs.Relation.{IsRelation, IsEvents}
 use Rattle.cat_values.specs.declared.predefined.Predefined.TheVariants as names
+use Rattle.dataflow.specs.DependencyLists.{dependency_lists}
 use Rattle.candidates.specs.declared.candidate.Combination.{Combination}
 use Rattle.candidates.specs.declared.candidate.Execution.{Execution}
 use Rattle.base_env.specs.declared.env.BaseEnv.{BaseEnv}
@@ -10,10 +11,7 @@ use Rattle.base_env.specs.Candidate.{SetIn, RelationIn}
 -- the combination has the events and the dependencies of the execution
 pub record HasFacts (c : Combination) (e : Execution) : Type 0 where
   pub events : c.events.items ≡ e.events.items
-  pub addr_pairs : c.addr_pairs.items ≡ e.addr_pairs.items
-  pub data_pairs : c.data_pairs.items ≡ e.data_pairs.items
-  pub ctrl_pairs : c.ctrl_pairs.items ≡ e.ctrl_pairs.items
-  pub ctrlisync_pairs : c.ctrlisync_pairs.items ≡ e.ctrlisync_pairs.items
+  pub dependencies : dependency_lists c.dependencies ≡ dependency_lists e.dependencies
 
 -- each set and each relation is that of its name among the first n events of the candidate
 pub record IsEnvironment (env : BaseEnv) (n : ℕ) (c : Combination) (sources order : List ℕ) : Type 0 where

@@ -1,6 +1,6 @@
 //! The predefined names of one candidate.
 
-ghost use Rattle.std.specs.Prelude.{◌≡◌, List, ℕ, min, length, IfOk, IsTrue, Contains, false};
+ghost use Rattle.std.specs.Prelude.{◌≡◌, List, ℕ, length, IfOk, IsTrue, Contains, false};
 ghost use Rattle.bit_relations.specs.Relation.{IsRelation};
 ghost use Rattle.cat_values.specs.PredefinedNames.{is_set};
 ghost use Rattle.candidates.specs.Space.{IsExecution};
@@ -103,10 +103,7 @@ fn combination(alloc: Global, execution: &Execution) -> Result<Combination, Allo
 {
     Ok(Combination {
         events: Vec::from_slice(alloc, &execution.events)?,
-        addr_pairs: Vec::from_slice(alloc, &execution.addr_pairs)?,
-        data_pairs: Vec::from_slice(alloc, &execution.data_pairs)?,
-        ctrl_pairs: Vec::from_slice(alloc, &execution.ctrl_pairs)?,
-        ctrlisync_pairs: Vec::from_slice(alloc, &execution.ctrlisync_pairs)?,
+        dependencies: execution.dependencies.copied(alloc)?,
         runs: Vec::new(alloc),
         sources: Vec::new(alloc),
         orders: Vec::new(alloc),
@@ -155,9 +152,9 @@ fn env_of(base: &Base) -> BaseEnv
     }
 }
 
-/// All predefined names of a candidate, over its first 128 events. Errors: want of memory.
+/// All predefined names of a candidate, over its events. Errors: want of memory.
 pub fn base(alloc: Global, execution: &Execution) -> Result<Box<BaseEnv>, AllocError>
-    ensures { IfOk result (λ env. (threads : _) (c : _) (t : _) → IsExecution threads c t execution.now → IsEnvironment env.value (min (length c.events.items) 128) c t.0 t.1) }
+    ensures { IfOk result (λ env. (threads : _) (c : _) (t : _) → IsExecution threads c t execution.now → IsEnvironment env.value (length c.events.items) c t.0 t.1) }
 {
     let combination = combination(alloc, execution)?;
     let mut base = Base::new(alloc, &combination)?;

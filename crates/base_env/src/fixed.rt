@@ -192,10 +192,13 @@ pub fn write_fixed(place: &mut Rel, name: Predefined, count: usize, combination:
             put_linked(place, Predefined::Internal, events);
             place.turn();
         }
-        Predefined::AddressDependency => put_pairs(place, &combination.addr_pairs),
-        Predefined::DataDependency => put_pairs(place, &combination.data_pairs),
-        Predefined::ControlDependency => put_pairs(place, &combination.ctrl_pairs),
-        Predefined::ControlIsyncDependency => put_pairs(place, &combination.ctrlisync_pairs),
+        Predefined::AddressDependency => put_pairs(place, &combination.dependencies.addr_pairs),
+        Predefined::DataDependency => put_pairs(place, &combination.dependencies.data_pairs),
+        Predefined::ControlDependency => put_pairs(place, &combination.dependencies.ctrl_pairs),
+        Predefined::ControlIsyncDependency => put_pairs(
+            place,
+            &combination.dependencies.ctrlisync_pairs,
+        ),
         Predefined::SyncOrder => put_fenced(place, events, Fence::Sync),
         Predefined::LwsyncOrder => put_fenced(place, events, Fence::LightweightSync),
         Predefined::EieioOrder => put_fenced(place, events, Fence::Eieio),

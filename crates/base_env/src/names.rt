@@ -11,7 +11,7 @@ ghost use Rattle.base_env.specs.Candidate.{AreSets, AreShared, IsEntered, IsRead
 use crate::changing::{write_order, write_reads};
 use crate::fixed::write_fixed;
 use crate::sets::set_of;
-use bit_relations::{EventSet, MAX_EVENTS, Rel};
+use bit_relations::{EventSet, Rel};
 use candidates::Combination;
 use cat_values::{PREDEFINED, Predefined};
 use std::alloc::{AllocError, Global};
@@ -225,7 +225,7 @@ impl Base {
         ensures sets { set_names self.new.sets ≡ set_names self.old.sets }
         ensures shared { shared_names self.new.shared ≡ shared_names self.old.shared }
     {
-        let count = combination.events.len().min(MAX_EVENTS);
+        let count = combination.events.len();
         self.count = count;
         put_sets(&mut self.sets, count, combination);
         put_shared(&mut self.shared, count, combination);

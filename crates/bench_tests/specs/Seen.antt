@@ -9,7 +9,7 @@ use Rattle.memo_core.specs.declared.claims.Claim.{Claim}
 use Rattle.memo_core.specs.Graph.{Memo, named_values}
 use Rattle.memo_core.specs.Right.{IsRight, IsCounted}
 use Rattle.memo_core.specs.Views.{Slot, as_memos, shown_outputs}
-use Rattle.memo_core.specs.Step.{OpenClaim, open_claims}
+use Rattle.memo_core.specs.Step.{OpenClaim, open_claims, AreNumbered}
 use Rattle.memo_core.specs.Run.{IsFreshFrom}
 use Rattle.memo_core.specs.Marks.{IsMarkedTo}
 use Rattle.bench_tests.specs.declared.sheet.Sheet.{Sheet}
@@ -22,13 +22,13 @@ pub record Bench : Type 0 where
   pub claims : List OpenClaim
   pub taken : ℕ
 
-abbrev pub bench_of : Sheet → List (Slot ℕ) → List Claim → ℕ → Bench
+abbrev pub bench_of : Sheet → List (Slot ℕ) → List (ℕ × Claim) → ℕ → Bench
 bench_of sheet memos claims taken = record { sheet = sheet; memos = as_memos memos; claims = open_claims claims; taken = taken }
 
 -- its memos are right, its claims apart, its marks true
-pub record IsSoundBench (sheet : Sheet) (memos : List (Slot ℕ)) (claims : List Claim) (taken : ℕ) : Type 0 where
+pub record IsSoundBench (sheet : Sheet) (memos : List (Slot ℕ)) (claims : List (ℕ × Claim)) (taken : ℕ) : Type 0 where
   pub right : IsValid sheet × IsRight (IsCounted IsSince net_of makes sheet) (net_of sheet) (as_memos memos) taken
-  pub fresh : IsFreshFrom (as_memos memos) (open_claims claims)
+  pub fresh : IsFreshFrom (as_memos memos) (open_claims claims) × AreNumbered taken (open_claims claims)
   pub marks : IsMarkedTo (net_of sheet) memos []
 
 -- a return's outputs are what running its node makes, with room for their names

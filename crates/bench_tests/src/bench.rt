@@ -5,9 +5,9 @@ ghost use Rattle.std.specs.Prelude.{◌≡◌, IfOk};
 use crate::nodes::cell;
 use crate::rows::find_row;
 use crate::sheet::{Change, Sheet, SheetFault};
+use memo_bench::graph::Graph;
+use memo_bench::job::{Done, Job};
 use memo_core::claims::{ClaimFault, Finish};
-use memo_core::graph::Graph;
-use memo_core::job::{Done, Job};
 use std::alloc::{AllocError, Global};
 use std::marker::Model;
 use std::sync::{Arc, Wait};
@@ -23,9 +23,9 @@ impl<K: StoreName> Model for Bench<K> {
 
     ghost Value = { Plain };
 
-    ghost view = { λ b. bench_of b.graph.texts b.graph.memos.entries b.graph.claims.items b.graph.taken };
+    ghost view = { λ b. bench_of b.graph.texts b.graph.memos.entries b.graph.claims.entries b.graph.taken };
 
-    ghost invariant = { λ b. IsSoundBench b.graph.texts b.graph.memos.entries b.graph.claims.items b.graph.taken };
+    ghost invariant = { λ b. IsSoundBench b.graph.texts b.graph.memos.entries b.graph.claims.entries b.graph.taken };
 }
 
 /// A return, which only `run` makes.
@@ -38,7 +38,7 @@ impl<K: StoreName> Model for Answer<K> {
     ghost use Rattle.std.specs.Prelude.{ℕ};
     ghost use Rattle.memo_core.specs.Views.{shown_values};
     ghost use Rattle.memo_core.specs.Step.{Return};
-    ghost use Rattle.memo_core.specs.Clauses.{return_from};
+    ghost use Rattle.memo_bench.specs.Clauses.{return_from};
     ghost use Rattle.bench_tests.specs.Seen.{IsAnswer};
 
     ghost Value = { Return ℕ ℕ };

@@ -1,7 +1,7 @@
 -- Lists with one element changed, seen through a function.
 use Rattle.std.proofs.Common.{◌≡◌, ℕ, zero, suc, ◌+◌, ◌<◌, ◌≤◌, List, [], ◌∷◌, ◌++◌, ◌-◌, max, length, map, drop, get_or, refl, ap, sym, subst, ◌∙◌, arith, Bool}
 use Rattle.std.proofs.Math.ListN.{set}
-use Rattle.std.specs.List.{remove, insert, HoldsAt, position_or_len}
+use Rattle.std.specs.List.{remove, HoldsAt, position_or_len}
 use Rattle.bench_texts.specs.BenchTexts.{put_at, changed_at}
 
 pub map-put_at : {A B : Type 0} (f : A → B) → (xs : List A) (i : ℕ) (y : A) → i < length xs → map f (set xs i y) ≡ put_at i (f y) (map f xs)
@@ -14,6 +14,17 @@ map-put_at-push f [] zero y e = refl
 map-put_at-push f [] (suc i) y e = grind arith
 map-put_at-push f (x ∷ xs) zero y e = grind arith
 map-put_at-push f (x ∷ xs) (suc i) y e = let l : i ≡ length xs = omega arith in ap (λ r. f x ∷ r) (map-put_at-push f xs i y l)
+
+pub set-put_at : {A : Type 0} (xs : List A) (i : ℕ) (y : A) → i < length xs → set xs i y ≡ put_at i y xs
+set-put_at [] i y b = grind arith
+set-put_at (x ∷ xs) zero y b = refl
+set-put_at (x ∷ xs) (suc i) y b = let l : i < length xs = omega arith in ap (λ r. x ∷ r) (set-put_at xs i y l)
+
+pub push-put_at : {A : Type 0} (xs : List A) (i : ℕ) (y : A) → i ≡ length xs → xs ++ y ∷ [] ≡ put_at i y xs
+push-put_at [] zero y e = refl
+push-put_at [] (suc i) y e = grind arith
+push-put_at (x ∷ xs) zero y e = grind arith
+push-put_at (x ∷ xs) (suc i) y e = let l : i ≡ length xs = omega arith in ap (λ r. x ∷ r) (push-put_at xs i y l)
 
 pub map-remove : {A B : Type 0} (f : A → B) → (xs : List A) (i : ℕ) → map f (remove xs i) ≡ remove (map f xs) i
 map-remove f [] zero = refl
@@ -68,7 +79,7 @@ held_here f P [] i x b e h = grind arith
 held_here f P (y ∷ ys) zero x b e h = λ d. subst (λ z. P (f z)) e h
 held_here f P (y ∷ ys) (suc i) x b e h = let l : i < length ys = omega arith in held_here f P ys i x l e h
 
-pub ruleset list_lemmas = (map-put_at, map-put_at-push, map-remove, map-changed_at, length-changed_at)
+pub ruleset list_lemmas = (map-put_at, map-put_at-push, set-put_at, push-put_at, map-remove, map-changed_at, length-changed_at)
 
 -- what the index of an element says of the element
 pub held_at : {A B : Type 0} (f : A → B) (P : B → Type 0) → (xs : List A) (i : ℕ) (x : A) → i < length xs → x ≡ get_or xs i x → HoldsAt P (map f xs) i → P (f x)
@@ -78,38 +89,12 @@ held_at f P xs i x b e h = subst (λ y. P (f y)) (sym e) (get_or-map-held f P xs
 abbrev pub IsSearched : {A B : Type 0} (p : B → Bool) (f : A → B) → List A → ℕ → Type 0
 IsSearched p f xs i = position_or_len p (map f xs) ≡ i + position_or_len p (map f (drop i xs))
 
--- ---- a change that is undone
-
-pub set-undone : {A : Type 0} (xs : List A) (i : ℕ) (y d : A) → set (set xs i y) i (get_or xs i d) ≡ xs
-set-undone [] zero y d = refl
-set-undone [] (suc i) y d = refl
-set-undone (x ∷ xs) zero y d = refl
-set-undone (x ∷ xs) (suc i) y d = ap (λ r. x ∷ r) (set-undone xs i y d)
-
-pub insert-undone : {A : Type 0} (xs : List A) (i : ℕ) (y : A) → i ≤ length xs → remove (insert xs i y) i ≡ xs
-insert-undone [] zero y b = refl
-insert-undone [] (suc i) y b = grind arith
-insert-undone (x ∷ xs) zero y b = refl
-insert-undone (x ∷ xs) (suc i) y b = let l : i ≤ length xs = omega arith in ap (λ r. x ∷ r) (insert-undone xs i y l)
-
-pub remove-undone : {A : Type 0} (xs : List A) (i : ℕ) (d : A) → i < length xs → insert (remove xs i) i (get_or xs i d) ≡ xs
-remove-undone [] i d b = grind arith
-remove-undone (x ∷ xs) zero d b = refl
-remove-undone (x ∷ xs) (suc i) d b = let l : i < length xs = omega arith in ap (λ r. x ∷ r) (remove-undone xs i d l)
-
-pub ruleset undone_lemmas = (set-undone, insert-undone, remove-undone)
-
 -- what holds at the index of an element holds of it
 pub held_plain : {A : Type 0} (P : A → Type 0) → (xs : List A) (i : ℕ) (x : A) → x ≡ get_or xs i x → HoldsAt P xs i → P x
 held_plain P xs i x e h = subst P (sym e) (h x)
 
--- an element changed in nothing that the function sees
-pub map-kept : {A B : Type 0} (f : A → B) → (xs : List A) (i : ℕ) (x y : A) → i < length xs → x ≡ get_or xs i x → f y ≡ f x → map f (set xs i y) ≡ map f xs
-map-kept f [] i x y b e h = grind arith
-map-kept f (z ∷ zs) zero x y b e h = ap (λ r. r ∷ map f zs) (h ∙ ap f e)
-map-kept f (z ∷ zs) (suc i) x y b e h = let l : i < length zs = omega arith in ap (λ r. f z ∷ r) (map-kept f zs i x y l e h)
-
-pub held_set : {A : Type 0} (P : A → Type 0) → (xs : List A) (i : ℕ) (y : A) → i < length xs → P y → HoldsAt P (set xs i y) i
-held_set P [] i y b h = grind arith
-held_set P (z ∷ zs) zero y b h = λ d. h
-held_set P (z ∷ zs) (suc i) y b h = let l : i < length zs = omega arith in held_set P zs i y l h
+-- an element in the place of another is that other one changed
+pub put_at-changed : {A B : Type 0} (f : A → B) (g : B → B) → (xs : List A) (i : ℕ) (x : A) (y : B) → i < length xs → x ≡ get_or xs i x → y ≡ g (f x) → put_at i y (map f xs) ≡ changed_at i g (map f xs)
+put_at-changed f g [] i x y b e h = grind arith
+put_at-changed f g (z ∷ zs) zero x y b e h = ap (λ r. r ∷ map f zs) (h ∙ ap (λ w. g (f w)) e)
+put_at-changed f g (z ∷ zs) (suc i) x y b e h = let l : i < length zs = omega arith in ap (λ r. f z ∷ r) (put_at-changed f g zs i x y l e h)

@@ -1,5 +1,5 @@
 -- Items with their numbers, after a change of both lists.
-use Rattle.std.proofs.Common.{◌≡◌, ℕ, zero, suc, ◌+◌, ◌<◌, ◌≤◌, List, [], ◌∷◌, ◌++◌, add-one, length, take, drop, refl, ap, arith, ◌==◌}
+use Rattle.std.proofs.Common.{◌≡◌, ℕ, zero, suc, ◌+◌, ◌<◌, ◌≤◌, List, [], ◌∷◌, ◌++◌, add-one, length, take, drop, refl, ap, arith, ◌==◌, ◌∙◌}
 use Rattle.std.proofs.Math.ListN.{set}
 use Rattle.std.proofs.lemmas.List.FromFn.{length-range_with_len}
 use Rattle.std.specs.List.{sum_by, insert, remove, position_or_len, range_with_len}
@@ -101,4 +101,36 @@ outputs-numbered n (i ∷ is) =
     let a = sum_by-cons (λ i. clause_outputs i.clause) (record { number = n; clause = clause_of i }) (numbered_items (n + 1) (clauses_of is)) in
     let b = sum_by-cons (λ i. clause_outputs (clause_of i)) i is in let r = outputs-numbered (n + 1) is in cc
 
-pub ruleset numbered_lemmas = (length-items_of, items_of-set, items_of-insert, items_of-remove, item_index-items_of, outputs-take, outputs-drop, outputs-items_of, range-more, length-range)
+-- items that say the same
+pub items_of-same : (ns : List ℕ) (is js : List Item) → clauses_of is ≡ clauses_of js → items_of ns is ≡ items_of ns js
+items_of-same [] is js e = refl
+items_of-same (n ∷ ns) [] [] e = refl
+items_of-same (n ∷ ns) [] (j ∷ js) e = grind arith
+items_of-same (n ∷ ns) (i ∷ is) [] e = grind arith
+items_of-same (n ∷ ns) (i ∷ is) (j ∷ js) e =
+    let h : clause_of i ≡ clause_of j = grind arith in let r : clauses_of is ≡ clauses_of js = grind arith in
+    ap (λ c. record { number = n; clause = c } ∷ items_of ns is) h ∙ ap (λ l. record { number = n; clause = clause_of j } ∷ l) (items_of-same ns is js r)
+
+pub length-same : (is js : List Item) → clauses_of is ≡ clauses_of js → length is ≡ length js
+length-same [] [] e = refl
+length-same [] (j ∷ js) e = grind arith
+length-same (i ∷ is) [] e = grind arith
+length-same (i ∷ is) (j ∷ js) e = let r : clauses_of is ≡ clauses_of js = grind arith in ap suc (length-same is js r)
+
+-- a change of copies of items is the change of the items
+pub copies-set : (ns : List ℕ) (is cs : List Item) (k n : ℕ) (i : Item) → length ns ≡ length is → clauses_of cs ≡ clauses_of is → k < length is → items_of (set ns k n) (set cs k i) ≡ put_at k (record { number = n; clause = clause_of i }) (items_of ns is)
+copies-set ns is cs k n i e same b =
+    let l = length-same cs is same in let h : length ns ≡ length cs = omega arith in let w : k < length cs = omega arith in
+    items_of-set ns cs k n i h w ∙ ap (λ xs. put_at k (record { number = n; clause = clause_of i }) xs) (items_of-same ns cs is same)
+
+pub copies-insert : (ns : List ℕ) (is cs : List Item) (k n : ℕ) (i : Item) → length ns ≡ length is → clauses_of cs ≡ clauses_of is → k ≤ length is → items_of (insert ns k n) (insert cs k i) ≡ insert (items_of ns is) k (record { number = n; clause = clause_of i })
+copies-insert ns is cs k n i e same b =
+    let l = length-same cs is same in let h : length ns ≡ length cs = omega arith in let w : k ≤ length cs = omega arith in
+    items_of-insert ns cs k n i h w ∙ ap (λ xs. insert xs k (record { number = n; clause = clause_of i })) (items_of-same ns cs is same)
+
+pub copies-remove : (ns : List ℕ) (is cs : List Item) (k : ℕ) → length ns ≡ length is → clauses_of cs ≡ clauses_of is → items_of (remove ns k) (remove cs k) ≡ remove (items_of ns is) k
+copies-remove ns is cs k e same =
+    let l = length-same cs is same in let h : length ns ≡ length cs = omega arith in
+    items_of-remove ns cs k h ∙ ap (λ xs. remove xs k) (items_of-same ns cs is same)
+
+pub ruleset numbered_lemmas = (length-items_of, items_of-set, items_of-insert, items_of-remove, item_index-items_of, outputs-take, outputs-drop, outputs-items_of, range-more, length-range, items_of-same, length-same, copies-set, copies-insert, copies-remove)

@@ -1,16 +1,13 @@
--- What an edit that was prepared changes, by the indexes of what it changes.
-use Rattle.std.specs.Prelude.{◌≡◌, ◌+◌, ◌<◌, ◌≤◌, ◌^◌, length, insert, remove, slice_set, vec_len, vec_capacity, Option, MatchOption}
+-- What an edit changes, by the indexes of what it changes.
+use Rattle.std.specs.Prelude.{◌≡◌, ◌+◌, ◌<◌, ◌≤◌, ◌^◌, length, insert, remove, vec_len, vec_capacity}
 use Rattle.std.specs.List.{HoldsAt}
 use Rattle.litmus_values.specs.Value.{content_of, steps_of, formula_of}
 use Rattle.cat_values.specs.Values.{clause_of}
 use Rattle.bench_texts.specs.declared.change.Change.{Change}
 use Rattle.bench_texts.specs.declared.change.Change.TheVariants as changes
-use Rattle.bench_texts.specs.declared.change.Prepared.{Prepared}
-use Rattle.bench_texts.specs.declared.reading.Reading.{Reading}
 use Rattle.bench_texts.specs.declared.texts.Texts.{Texts}
 use Rattle.bench_texts.specs.BenchTexts.{BenchTexts, put_at, changed_at, with_init, with_thread, with_condition, with_observed, with_items, with_tests, with_models}
 use Rattle.bench_texts.specs.Held.{model_of, texts_of, IsRead}
-use Rattle.bench_texts.specs.Readings.{IsReading}
 
 -- the texts after the change
 abbrev pub texts_after : Change → BenchTexts → BenchTexts
@@ -43,17 +40,3 @@ IsReady t (changes.SetItem at index number item) = (at < vec_len t.models) × Ho
 IsReady t (changes.InsertItem at index item) =
     (at < vec_len t.models) × HoldsAt (λ m. index ≤ length m.items) (texts_of t).models at × HoldsAt (λ m. length m.items < 256) (texts_of t).models at × (t.next + 1 < 2 ^ 64)
 IsReady t (changes.RemoveItem at index) = (at < vec_len t.models) × HoldsAt (λ m. index < length m.items) (texts_of t).models at
-
--- Where it changes an item, it has what the items of the model are resolved to afterwards.
-abbrev pub HasReading : Texts → Change → Option Reading → Type 0
-HasReading t (changes.SetItem at index number item) r =
-    MatchOption r ⊥ (λ reading. HoldsAt (λ m. IsReading (slice_set m.text.items.items index item) reading) t.models.items at)
-HasReading t (changes.InsertItem at index item) r =
-    MatchOption r ⊥ (λ reading. HoldsAt (λ m. IsReading (insert m.text.items.items index item) reading) t.models.items at)
-HasReading t (changes.RemoveItem at index) r =
-    MatchOption r ⊥ (λ reading. HoldsAt (λ m. IsReading (remove m.text.items.items index) reading) t.models.items at)
-HasReading t _ r = Unit {0}
-
--- It was prepared on these texts.
-abbrev pub IsPrepared : Texts → Prepared → Type 0
-IsPrepared t p = IsReady t p.change × HasReading t p.change p.reading

@@ -50,6 +50,20 @@ edit_of (edits.SetItem model item text) = SetItem model.items item text.items
 edit_of (edits.InsertItem model before text) = InsertItem model.items before text.items
 edit_of (edits.RemoveItem model item) = RemoveItem model.items item
 
+-- the edit puts or drops a test or a model as a whole
+abbrev pub is_whole : Edit → Bool
+is_whole (PutTest text) = true
+is_whole (DropTest test) = true
+is_whole (SetInit test text) = false
+is_whole (SetThread test thread text) = false
+is_whole (SetCond test text) = false
+is_whole (SetLocations test text) = false
+is_whole (PutModel model text) = true
+is_whole (DropModel model) = true
+is_whole (SetItem model item text) = false
+is_whole (InsertItem model before text) = false
+is_whole (RemoveItem model item) = false
+
 -- ---- what is there
 
 abbrev pub has_test : BenchTexts → List ℕ → Bool

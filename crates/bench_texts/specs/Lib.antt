@@ -7,3 +7,4 @@ pub mod Edits
 pub mod Answers
 pub mod Numbers
 pub mod Printed
+pub mod Replacements

@@ -1,5 +1,7 @@
 //! Edits of the bench.
 
+ghost use Rattle.std.specs.Prelude.{◌≡◌};
+
 /// An edit of the bench: a whole replacement of a named part. Tests and models go by their names, threads by their
 /// number from 0 on, items by their number on the bench.
 #[derive(Debug, Drop)]
@@ -60,4 +62,27 @@ pub enum Edit {
         model: Vec<u8>,
         item: u64,
     },
+}
+
+impl Edit {
+    ghost use Rattle.bench_texts.specs.Edits.{edit_of, is_whole};
+
+    /// Whether it puts or drops a test or a model as a whole.
+    pub fn is_whole(&self) -> bool
+        ensures { result ≡ is_whole (edit_of self.now) }
+    {
+        match self {
+            Edit::PutTest { .. } => true,
+            Edit::DropTest { .. } => true,
+            Edit::SetInit { .. } => false,
+            Edit::SetThread { .. } => false,
+            Edit::SetCond { .. } => false,
+            Edit::SetLocations { .. } => false,
+            Edit::PutModel { .. } => true,
+            Edit::DropModel { .. } => true,
+            Edit::SetItem { .. } => false,
+            Edit::InsertItem { .. } => false,
+            Edit::RemoveItem { .. } => false,
+        }
+    }
 }

@@ -3,6 +3,8 @@
 #![tactic(auto)]
 
 mod change;
+mod changed_tests;
+mod commit;
 mod count;
 mod edit;
 mod fault;
@@ -13,15 +15,20 @@ mod prepare;
 mod prepare_edit;
 mod prepare_items;
 mod prepare_models;
+mod prepared;
 mod print;
-mod read_change;
 mod reading;
+mod replace;
+mod replace_items;
+mod replace_parts;
+mod replacement;
 mod texts;
 
-pub use change::Prepared;
 pub use edit::Edit;
 pub use fault::EditFault;
 pub use limits::{MAX_MODELS, MAX_OUTPUTS, MAX_TESTS};
 pub use model::{MAX_ITEMS, NamedModel};
+pub use prepared::Prepared;
 pub use reading::{Reading, read_items};
+pub use replacement::Replacement;
 pub use texts::Texts;

@@ -5,8 +5,9 @@ ghost use Rattle.std.specs.Prelude.{◌≡◌, ◌==◌, ◌<◌, ◌≤◌, ◌
 ghost use Rattle.std.specs.List.{position_or_len, range_with_len};
 
 use crate::count::count_items;
-use crate::reading::{Reading, Trial, read_items, try_insert, try_remove, try_set};
+use crate::reading::{Reading, read_items};
 use cat_values::{Item, ModelText};
+use item_copies::copied_items;
 use source_text::Name;
 use std::alloc::{AllocError, Global};
 use std::mem::replace;
@@ -14,8 +15,7 @@ use std::mem::replace;
 /// The most items that a model has.
 pub const MAX_ITEMS: usize = 256;
 
-/// A model on the bench: its name, and its items with their numbers and what they are resolved to. It has room for 256
-/// items.
+/// A model on the bench: its name, and its items with their numbers and what they are resolved to.
 #[derive(Drop)]
 pub struct NamedModel {
     name: Name,
@@ -23,8 +23,6 @@ pub struct NamedModel {
     numbers: Vec<u64>,
     reading: Reading,
     ghost paired: { vec_len numbers ≡ vec_len text.items },
-    ghost room_for_items: { 256 ≤ vec_capacity text.items },
-    ghost room_for_numbers: { 256 ≤ vec_capacity numbers },
 }
 
 impl NamedModel {
@@ -32,7 +30,7 @@ impl NamedModel {
     ghost use Rattle.bench_texts.specs.Held.{model_of, IsRead};
     ghost use Rattle.bench_texts.specs.Readings.{IsReading};
     ghost use Rattle.cat_values.specs.Values.{clause_of, clauses_of};
-    ghost use Rattle.bench_texts.specs.BenchTexts.{item_index, numbered_items, put_at, with_items};
+    ghost use Rattle.bench_texts.specs.BenchTexts.{item_index, numbered_items, items_of, put_at, with_items};
     ghost use Rattle.bench_texts.specs.Limits.{items_outputs};
 
     /// The model of a name and a text, whose items are numbered from `first` on.
@@ -47,12 +45,22 @@ impl NamedModel {
         ensures read { IfOk result IsRead }
     {
         let name = Name::new(alloc, name)?;
+        let numbers = numbers_from(alloc, first, text.items.len())?;
+        NamedModel::of_items(alloc, name, text, numbers)
+    }
+
+    // The model of a name, of items and of their numbers.
+    fn of_items(
+        alloc: Global,
+        name: Name,
+        text: ModelText,
+        numbers: Vec<u64>,
+    ) -> Result<NamedModel, AllocError>
+        requires { vec_len numbers ≡ vec_len text.items }
+        ensures value { IfOk result (λ m. model_of m ≡ record { name = name; items = items_of numbers.items text.items.items }) }
+        ensures read { IfOk result IsRead }
+    {
         let reading = read_items(alloc, &text)?;
-        let ModelText { mut items } = text;
-        let mut numbers = numbers_from(alloc, first, items.len())?;
-        numbers.reserve(MAX_ITEMS.saturating_sub(items.len()))?;
-        items.reserve(MAX_ITEMS.saturating_sub(items.len()))?;
-        let text = ModelText { items };
         Ok(NamedModel {
             name,
             text,
@@ -121,80 +129,70 @@ impl NamedModel {
         count_items(front).saturating_add(count_items(back))
     }
 
-    /// Puts an item, and its number, in the place of another, which is returned.
-    pub(crate) fn set_item(
-        &mut self,
+    /// This model with an item, and its number, in the place of another. Errors: want of memory.
+    pub(crate) fn with_set(
+        &self,
+        alloc: Global,
         index: usize,
         number: u64,
         item: Item,
-        reading: Reading,
-    ) -> Item
-        requires index { index < length (model_of self.old).items }
-        requires reading { IsReading (slice_set self.old.text.items.items index item) reading }
-        ensures value { model_of self.new ≡ with_items (put_at index (record { number = number; clause = clause_of item })) (model_of self.old) }
-        ensures read { IsRead self.new }
+    ) -> Result<NamedModel, AllocError>
+        requires { index < length (model_of self.now).items }
+        ensures value { IfOk result (λ m. model_of m ≡ with_items (put_at index (record { number = number; clause = clause_of item })) (model_of self.now)) }
+        ensures read { IfOk result IsRead }
     {
-        self.reading = reading;
-        self.numbers[index] = number;
-        replace(&mut self.text.items[index], item)
+        let mut items = copied_items(alloc, &self.text.items, 0)?;
+        let mut numbers = Vec::from_slice(alloc, &self.numbers)?;
+        drop(replace(&mut items[index], item));
+        numbers[index] = number;
+        NamedModel::of_items(
+            alloc,
+            self.name.copied(alloc)?,
+            ModelText { items },
+            numbers,
+        )
     }
 
-    /// Puts one item more before the one of that index.
-    pub(crate) fn insert_item(&mut self, index: usize, number: u64, item: Item, reading: Reading)
-        requires index { index ≤ length (model_of self.old).items }
-        requires room { length (model_of self.old).items < 256 }
-        requires reading { IsReading (insert self.old.text.items.items index item) reading }
-        ensures value { model_of self.new ≡ with_items (λ is. insert is index (record { number = number; clause = clause_of item })) (model_of self.old) }
-        ensures read { IsRead self.new }
+    /// This model with one item more before the one of that index. Errors: want of memory.
+    pub(crate) fn with_inserted(
+        &self,
+        alloc: Global,
+        index: usize,
+        number: u64,
+        item: Item,
+    ) -> Result<NamedModel, AllocError>
+        requires { index ≤ length (model_of self.now).items }
+        ensures value { IfOk result (λ m. model_of m ≡ with_items (λ is. insert is index (record { number = number; clause = clause_of item })) (model_of self.now)) }
+        ensures read { IfOk result IsRead }
     {
-        self.reading = reading;
-        let _ = self.numbers.insert(index, number);
-        let _ = self.text.items.insert(index, item);
+        let mut items = copied_items(alloc, &self.text.items, 1)?;
+        let mut numbers = Vec::from_slice(alloc, &self.numbers)?;
+        items.insert(index, item)?;
+        numbers.insert(index, number)?;
+        NamedModel::of_items(
+            alloc,
+            self.name.copied(alloc)?,
+            ModelText { items },
+            numbers,
+        )
     }
 
-    /// Takes an item away, which is returned.
-    pub(crate) fn remove_item(&mut self, index: usize, reading: Reading) -> Item
-        requires index { index < length (model_of self.old).items }
-        requires reading { IsReading (remove self.old.text.items.items index) reading }
-        ensures value { model_of self.new ≡ with_items (λ is. remove is index) (model_of self.old) }
-        ensures read { IsRead self.new }
+    /// This model without one item. Errors: want of memory.
+    pub(crate) fn with_removed(&self, alloc: Global, index: usize) -> Result<NamedModel, AllocError>
+        requires { index < length (model_of self.now).items }
+        ensures value { IfOk result (λ m. model_of m ≡ with_items (λ is. remove is index) (model_of self.now)) }
+        ensures read { IfOk result IsRead }
     {
-        self.reading = reading;
-        self.numbers.remove(index);
-        self.text.items.remove(index)
-    }
-
-    /// What the items are resolved to with this one in the place of another. The model is as before.
-    pub(crate) fn try_set(&mut self, alloc: Global, index: usize, item: Item) -> Trial
-        requires { index < length (model_of self.old).items }
-        ensures item { result.item ≡ item }
-        ensures reading { IfOk result.reading (IsReading (slice_set self.new.text.items.items index item)) }
-        ensures kept { model_of self.new ≡ model_of self.old }
-        ensures read { IsRead self.old → IsRead self.new }
-    {
-        try_set(alloc, &mut self.text, index, item)
-    }
-
-    /// What the items are resolved to with one more before the one of that index. The model is as before.
-    pub(crate) fn try_insert(&mut self, alloc: Global, index: usize, item: Item) -> Trial
-        requires index { index ≤ length (model_of self.old).items }
-        requires room { length (model_of self.old).items < 256 }
-        ensures item { result.item ≡ item }
-        ensures reading { IfOk result.reading (IsReading (insert self.new.text.items.items index item)) }
-        ensures kept { model_of self.new ≡ model_of self.old }
-        ensures read { IsRead self.old → IsRead self.new }
-    {
-        try_insert(alloc, &mut self.text, index, item)
-    }
-
-    /// What the items are resolved to without one. The model is as before.
-    pub(crate) fn try_remove(&mut self, alloc: Global, index: usize) -> Result<Reading, AllocError>
-        requires { index < length (model_of self.old).items }
-        ensures reading { IfOk result (IsReading (remove self.new.text.items.items index)) }
-        ensures kept { model_of self.new ≡ model_of self.old }
-        ensures read { IsRead self.old → IsRead self.new }
-    {
-        try_remove(alloc, &mut self.text, index)
+        let mut items = copied_items(alloc, &self.text.items, 0)?;
+        let mut numbers = Vec::from_slice(alloc, &self.numbers)?;
+        drop(items.remove(index));
+        numbers.remove(index);
+        NamedModel::of_items(
+            alloc,
+            self.name.copied(alloc)?,
+            ModelText { items },
+            numbers,
+        )
     }
 }
 

@@ -2,13 +2,15 @@
 
 ghost use Rattle.std.specs.Prelude.{◌≡◌, IfOk, MatchResult};
 ghost use Rattle.bench_texts.specs.Held.{texts_of, AreRead};
-ghost use Rattle.bench_texts.specs.Changes.{texts_after, IsReady, IsPrepared};
-ghost use Rattle.bench_texts.specs.Edits.{edit_of, Applies, Refuses};
+ghost use Rattle.bench_texts.specs.Changes.{IsReady};
+ghost use Rattle.bench_texts.specs.Replacements.{texts_with, IsReplaceable};
+ghost use Rattle.bench_texts.specs.Edits.{edit_of, is_whole, Applies, Refuses};
 ghost use Rattle.bench_texts.specs.Answers.{Answers};
 
-use crate::change::{Change, Prepared};
+use crate::change::Change;
 use crate::edit::Edit;
 use crate::fault::EditFault;
+use crate::prepared::Prepared;
 use crate::texts::Texts;
 use std::alloc::Global;
 
@@ -22,17 +24,22 @@ impl Texts {
         spent: bool,
     ) -> Result<Prepared, EditFault>
         // It is accepted, and these are the texts that `commit` makes, or it is refused.
-        ensures answer { MatchResult result (λ p. Applies (texts_of self.old) spent (edit_of edit.now) (texts_after p.change (texts_of self.old))) (Refuses (texts_of self.old) spent (edit_of edit.now)) }
+        ensures answer { MatchResult result (λ p. Applies (texts_of self.old) spent (edit_of edit.now) (texts_with p.replacement (texts_of self.old))) (Refuses (texts_of self.old) spent (edit_of edit.now)) }
         // `commit` can be called.
-        ensures ready { IfOk result (IsPrepared self.new) }
+        ensures ready { IfOk result (λ p. IsReplaceable self.new p.replacement) }
+        // It is known whether the edit puts or drops a whole test or model.
+        ensures whole { IfOk result (λ p. p.whole ≡ is_whole (edit_of edit.now)) }
         // No text is changed.
         ensures kept { texts_of self.new ≡ texts_of self.old }
         // Each model holds what its items are resolved to.
         ensures read { AreRead self.old → AreRead self.new }
     {
         match self.prepare_change(alloc, edit, spent) {
-            Ok(change) => match self.read_change(alloc, change) {
-                Ok(prepared) => Ok(prepared),
+            Ok(change) => match self.replacement_of(alloc, change) {
+                Ok(replacement) => match Prepared::new(alloc, replacement, edit.is_whole()) {
+                    Ok(prepared) => Ok(prepared),
+                    Err(error) => Err(EditFault::OutOfMemory(error)),
+                },
                 Err(error) => Err(EditFault::OutOfMemory(error)),
             },
             Err(fault) => Err(fault),

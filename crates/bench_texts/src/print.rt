@@ -1,10 +1,12 @@
 //! Prints the items of a model with their numbers.
 
-ghost use Rattle.std.specs.Prelude.{◌≡◌, ◌++◌, ◌∷◌, [], OnOk};
+ghost use Rattle.std.specs.Prelude.{◌≡◌, ◌++◌, ◌∷◌, [], OnOk, IfOk, option_map};
 ghost use Rattle.cat_values.specs.Values.{clause_of};
 ghost use Rattle.bench_texts.specs.Printed.{numbered_line, printed_items};
+ghost use Rattle.bench_texts.specs.Replacements.{printed_by};
 
 use crate::model::NamedModel;
+use crate::replacement::Replacement;
 use cat_syntax::print_item;
 use cat_values::Item;
 use source_text::{put_bytes, put_decimal};
@@ -21,7 +23,6 @@ fn put_line(alloc: Global, text: &mut Vec<u8>, number: u64, item: &Item) -> Resu
 }
 
 impl NamedModel {
-    ghost use Rattle.std.specs.Prelude.{IfOk};
     ghost use Rattle.bench_texts.specs.Held.{model_of};
 
     /// The printed items in their order, each on a line of its own: its number, a space, the item. Errors: want of
@@ -34,5 +35,20 @@ impl NamedModel {
             put_line(alloc, &mut text, *number, item)?;
         }
         Ok(text)
+    }
+}
+
+// The printed items of a model that is put. Errors: want of memory.
+pub(crate) fn print_put(
+    alloc: Global,
+    replacement: &Replacement,
+) -> Result<Option<Vec<u8>>, AllocError>
+    ensures { IfOk result (λ o. option_map (λ v. v.items) o ≡ printed_by replacement.now) }
+{
+    match replacement {
+        Replacement::PutModel { model, .. } => Ok(Some(model.print_items(alloc)?)),
+        Replacement::PutTest { .. } => Ok(None),
+        Replacement::DropTest { .. } => Ok(None),
+        Replacement::DropModel { .. } => Ok(None),
     }
 }

@@ -33,14 +33,16 @@ impl Texts {
 
     /// The tests, in their order.
     pub fn tests(&self) -> &[Test]
-        ensures { map content_of result.now ≡ (texts_of self.now).tests }
+        ensures texts { map content_of result.now ≡ (texts_of self.now).tests }
+        ensures tests { result.now ≡ self.now.tests.items }
     {
         &self.tests
     }
 
     /// The models, in their order.
     pub fn models(&self) -> &[NamedModel]
-        ensures { map model_of result.now ≡ (texts_of self.now).models }
+        ensures texts { map model_of result.now ≡ (texts_of self.now).models }
+        ensures models { result.now ≡ self.now.models.items }
     {
         &self.models
     }

@@ -1,5 +1,5 @@
 -- What a name with arguments in a body stands for.
-use Rattle.std.proofs.Common.{ℕ, ◌≡◌, ◌<◌, ◌+◌, List, length, get_or, map, reverse, drop, Bool, true, false, Option, Some, None, Result, Ok, Err, refl, sym, ap, ◌∙◌, subst}
+use Rattle.std.proofs.Common.{ℕ, ◌≡◌, List, map, reverse, Bool, true, false, Option, Some, None, Result, Ok, Err, refl, sym, ap, subst}
 use Rattle.std.specs.Prelude.{nat_eq, slice_get, if◌then◌else◌, option_map}
 use Rattle.std.proofs.lemmas.Bool.{eqb-true}
 use Rattle.std.proofs.lemmas.Option.{slice_get-map}
@@ -15,12 +15,10 @@ use Rattle.binding_kinds.specs.declared.scope.Binder.TheVariants as binders
 use Rattle.binding_kinds.specs.Value.{Naming}
 use Rattle.binding_kinds.specs.Kinds.{found}
 use Rattle.binding_kinds.specs.Meanings.{parameter_of}
-use Rattle.binding_kinds.specs.Verdict.{or_else}
-use Rattle.binding_kinds.specs.First.{first_of_body, first_of_bodies}
 use Rattle.binding_kinds.specs.Applicable.{applied, applied_binder, applied_found, applied_of}
 use Rattle.binding_kinds.specs.Senses.{Sense, IsKept, AreKept, with_arity, sense_of_binder, sense_of}
 use Rattle.binding_kinds.specs.Functions.{sense_seen}
-use Rattle.binding_kinds.proofs.Applications.{kept_at, kept_none, next, or_else_assoc}
+use Rattle.binding_kinds.proofs.Applications.{kept_at, kept_none}
 
 abbrev pub terms_in : List Expression → Terms
 terms_in xs = gathered (map term_of xs)
@@ -78,11 +76,3 @@ seen_by fs ss names ps n x None kept e = at_result (sense_of ss n (found names x
 pub told_by : (fs : List Function) (ss : List Sense) (names : List Naming) (ps : List (List ℕ)) (n : ℕ) (x : List ℕ) (r : Result ℕ ModelFault) → AreKept fs ss → r ≡ applied_of (λ i. slice_get (map (λ (g : Function). g.arity) fs) i) n (parameter_of (reverse ps) x) (found names x)
     → Tells fs ss n (sense_seen ss names ps n x) r
 told_by fs ss names ps n x r kept e = subst (λ (q : Result ℕ ModelFault). Tells fs ss n (sense_seen ss names ps n x) q) (sym e) (seen_by fs ss names ps n x (parameter_of (reverse ps) x) kept refl)
-
--- one more argument is looked through for the first fault
-pub fault_more : (ss : List Sense) (names : List Naming) (ps : List (List ℕ)) (xs : List Expression) (i : ℕ) (e : Expression) (now new total : Option ModelFault) → i < length xs → e ≡ get_or xs i e → new ≡ or_else now (first_of_body ss names ps (term_of e))
-    → or_else now (first_of_bodies ss names ps (terms_in (drop i xs))) ≡ total → or_else new (first_of_bodies ss names ps (terms_in (drop (i + 1) xs))) ≡ total
-fault_more ss names ps xs i e now new total lt is new_is inv =
-    ap (λ (o : Option ModelFault). or_else o (first_of_bodies ss names ps (terms_in (drop (i + 1) xs)))) new_is
-    ∙ (or_else_assoc now (first_of_body ss names ps (term_of e)) (first_of_bodies ss names ps (terms_in (drop (i + 1) xs)))
-    ∙ (sym (ap (λ (t : Terms). or_else now (first_of_bodies ss names ps t)) (next xs i e lt is)) ∙ inv))

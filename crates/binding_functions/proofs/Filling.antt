@@ -1,6 +1,6 @@
 -- Templates as they grow, and the body of a function with arguments in the places of its parameters.
 use Rattle.std.proofs.Common.{ℕ, zero, suc, ◌≡◌, ◌<◌, ◌≤◌, ◌+◌, ◌⊎◌, inl, inr, List, [], ◌∷◌, ◌++◌, append_assoc, length, map, take, get_or, Bool, true, false, ◌||◌, Option, Some, None, Result, Ok, Err, Vec, Global, refl, sym, ap, ◌∙◌, subst, arith, length-append}
-use Rattle.std.specs.Prelude.{slice_get, nat_lt, nat_eq, bytes_eq, cond, reverse, if◌then◌else◌, OnOk, IfOk}
+use Rattle.std.specs.Prelude.{slice_get, nat_lt, nat_eq, bytes_eq, cond, reverse, if◌then◌else◌, OnOk}
 use Rattle.std.specs.List.{AllZip, count_by}
 use Rattle.std.proofs.lemmas.List.{append-nil, take_more, take_all, map-append, length-reverse}
 use Rattle.std.proofs.lemmas.List.Sums.{sum_by-append}
@@ -10,15 +10,13 @@ use Rattle.cat_values.specs.declared.model.Expression.TheVariants as expressions
 use Rattle.cat_values.specs.Values.{term_of}
 use Rattle.cat_values.specs.Value.{Term, Terms, Atom, AllEvents, EmptyRelation, EmptySet, Join, Mark, Not, On, Apply, NoTerm, OneMore, gathered}
 use Rattle.cat_values.proofs.Arguments.{applied_term}
-use Rattle.binding_kinds.specs.declared.fault.ModelFault.{ModelFault}
 use Rattle.binding_kinds.specs.declared.scope.Found.{Found}
 use Rattle.binding_kinds.specs.declared.scope.Binder.{Binder}
 use Rattle.binding_kinds.specs.declared.scope.Binder.TheVariants as binders
 use Rattle.binding_kinds.specs.declared.function.Piece.{Piece}
 use Rattle.binding_kinds.specs.declared.function.Piece.TheVariants as pieces
-use Rattle.binding_kinds.specs.declared.sight.Meaning.TheVariants as meanings
 use Rattle.binding_kinds.specs.Value.{Naming}
-use Rattle.binding_kinds.specs.Meanings.{parameter_of, meaning_of, meaning_found}
+use Rattle.binding_kinds.specs.Meanings.{parameter_of}
 use Rattle.binding_kinds.specs.Applicable.{is_no_parameter, is_parameter_at}
 use Rattle.binding_kinds.specs.Formula.{Formula, Value, Parameter, Everything, NoPairs, NoEvents, Joined, Marked, Complement, Identity, filled, constant_of, factor_of, HasParameters, postfix}
 use Rattle.binding_kinds.specs.declared.function.Function.{Function}
@@ -56,9 +54,6 @@ grown_then a b c xs ys L M N left right f g = record {
     at_later (inl e) = at_earlier (f.large e)
     at_later (inr m) = inr (right m)
 
-pub grown_none : (t : Template) (L : Type 0) → IsGrown t t [] L
-grown_none t L = record { fits = λ e. (e, sym (append-nil t.pieces.items)); large = λ e. inl e }
-
 -- a whole template is what it has grown by
 pub whole_template : (old new : Template) (more : List Piece) (L : Type 0) → old.pieces.items ≡ [] → old.is_oversized ≡ false → (L → 4096 < length more) → 0 < length more → IsGrown old new more L → IsTemplate new more
 whole_template old new more L none fits large some g = record {
@@ -79,36 +74,6 @@ too_long t u whole h same over long = record { some = h.some; fits = λ e. absur
     at_flag false e = let l = ap length (h.fits e) in omega (arith, l, long)
 
 -- ---- names
-
-by_binder : (f g : Found) (b : Binder) → Ok (meanings.Value f) ≡ meaning_found g b → postfix (bound_formula g b) ≡ pieces.Value f ∷ []
-by_binder f g (binders.Predefined p) e = let same : g ≡ f = cc in ap (λ (x : Found). pieces.Value x ∷ []) same
-by_binder f g (binders.Bound i) e = let same : g ≡ f = cc in ap (λ (x : Found). pieces.Value x ∷ []) same
-by_binder f g (binders.Applicable h) e = absurd (let bad : Ok (meanings.Value f) ≡ Err _ = e in cc)
-
-pub value_piece : (p : Option ℕ) (o : Option Found) (f : Found) → Ok (meanings.Value f) ≡ meaning_of p o → pieces.Value f ∷ [] ≡ postfix (named_formula p o)
-value_piece (Some i) o f e = absurd (let bad : meanings.Value f ≡ meanings.Parameter i = cc in cc)
-value_piece None None f e = absurd (let bad : Ok (meanings.Value f) ≡ Err _ = e in cc)
-value_piece None (Some g) f e = sym (by_binder f g g.binder e)
-
-parameter_binder : (i : ℕ) (g : Found) (b : Binder) → Ok (meanings.Parameter i) ≡ meaning_found g b → ⊥
-parameter_binder i g (binders.Predefined p) e = let bad : meanings.Parameter i ≡ meanings.Value g = cc in cc
-parameter_binder i g (binders.Bound j) e = let bad : meanings.Parameter i ≡ meanings.Value g = cc in cc
-parameter_binder i g (binders.Applicable h) e = let bad : Ok (meanings.Parameter i) ≡ Err _ = e in cc
-
-pub parameter_piece : (p : Option ℕ) (o : Option Found) (i : ℕ) → Ok (meanings.Parameter i) ≡ meaning_of p o → pieces.Parameter i ∷ [] ≡ postfix (named_formula p o)
-parameter_piece (Some j) o i e = let same : i ≡ j = cc in ap (λ (k : ℕ). pieces.Parameter k ∷ []) same
-parameter_piece None None i e = absurd (let bad : Ok (meanings.Parameter i) ≡ Err _ = e in cc)
-parameter_piece None (Some g) i e = absurd (parameter_binder i g g.binder e)
-
-fault_binder : (k : ModelFault) (g : Found) (b : Binder) → Err k ≡ meaning_found g b → pieces.NoPairs ∷ [] ≡ postfix (bound_formula g b)
-fault_binder k g (binders.Predefined p) e = absurd (let bad : Err k ≡ Ok (meanings.Value g) = e in cc)
-fault_binder k g (binders.Bound j) e = absurd (let bad : Err k ≡ Ok (meanings.Value g) = e in cc)
-fault_binder k g (binders.Applicable h) e = refl
-
-pub fault_piece : (p : Option ℕ) (o : Option Found) (k : ModelFault) → Err k ≡ meaning_of p o → pieces.NoPairs ∷ [] ≡ postfix (named_formula p o)
-fault_piece (Some j) o k e = absurd (let bad : Err k ≡ Ok (meanings.Parameter j) = e in cc)
-fault_piece None None k e = refl
-fault_piece None (Some g) k e = fault_binder k g g.binder e
 
 -- ---- bodies
 
@@ -222,9 +187,6 @@ body_bounded old now new ws ps i start start_is same flag inv = at_flags now.is_
 pub body_left : (old new : Template) (ws : List (List Piece)) (ps : List Piece) (i : ℕ) → new.is_oversized ≡ true → IsGrown old new (pieces_with ws (take i ps)) (4096 < length (pieces_with ws ps)) → IsGrown old new (pieces_with ws ps) (4096 < length (pieces_with ws ps))
 body_left old new ws ps i over inv = record { fits = λ e. absurd (let bad : true ≡ false = sym over ∙ e in cc); large = inv.large }
 
-pub body_done : (old new : Template) (ws : List (List Piece)) (ps : List Piece) (i : ℕ) → length ps ≤ i → IsGrown old new (pieces_with ws (take i ps)) (4096 < length (pieces_with ws ps)) → IsGrown old new (pieces_with ws ps) (4096 < length (pieces_with ws ps))
-body_done old new ws ps i past inv = grown_as old new (pieces_with ws (take i ps)) (pieces_with ws ps) _ _ (ap (pieces_with ws) (take_all i ps past)) (λ l. l) inv
-
 -- ---- applications
 
 argument_postfix : (fs : List Formula) (i : ℕ) → get_or (map postfix fs) i (pieces.NoPairs ∷ []) ≡ postfix (get_or fs i NoPairs)
@@ -309,10 +271,6 @@ some_pieces ss names ps t = some_piece (formula_in ss names ps t)
 pub on_ok_as : {T E : Type 0} (r : Result T E) (P Q : Type 0) → (P → Q) → OnOk r P → OnOk r Q
 on_ok_as (Ok x) P Q to p = to p
 on_ok_as (Err e) P Q to p = tt
-
-pub if_ok_as : {T E : Type 0} (r : Result T E) (P Q : T → Type 0) → ((x : T) → P x → Q x) → IfOk r P → IfOk r Q
-if_ok_as (Ok x) P Q to p = to x p
-if_ok_as (Err e) P Q to p = tt
 
 -- ---- functions
 

@@ -1,9 +1,7 @@
 -- The parameters that stand under a complement are marked.
-use Rattle.std.proofs.Common.{ℕ, ◌≡◌, ◌<◌, ◌≤◌, ◌+◌, suc, List, length, set, get_or, drop, Bool, true, false, ◌||◌, ◌&&◌, Option, Some, None, refl, sym, ap, ◌∙◌, arith, add-one, inl, inr, ◌⊎◌, Vec, Global}
-use Rattle.std.specs.Prelude.{nat_eq, is_some}
-use Rattle.std.proofs.lemmas.Bool.{cases_eq, eqb-true, eq-eqb}
-use Rattle.std.proofs.lemmas.Grind.{get_or-set_at}
-use Rattle.std.proofs.lemmas.List.{get_or-set_other, drop_all, length-set}
+use Rattle.std.proofs.Common.{ℕ, ◌≡◌, ◌<◌, ◌≤◌, ◌+◌, suc, List, length, get_or, drop, Bool, true, false, ◌||◌, ◌&&◌, Option, Some, None, refl, sym, ap, ◌∙◌, add-one, Vec, Global}
+use Rattle.std.specs.Prelude.{is_some}
+use Rattle.std.proofs.lemmas.List.{drop_all}
 use Rattle.cat_values.specs.declared.model.Expression.{Expression}
 use Rattle.cat_values.specs.declared.model.Expression.TheVariants as expressions
 use Rattle.cat_values.specs.Values.{term_of}
@@ -27,60 +25,12 @@ or_over false b c = refl
 pub marked_same : (old new : List Bool) (f : ℕ → Bool) → new ≡ old → ((p : ℕ) → f p ≡ false) → AreMarked old new f
 marked_same old new f e none = record { count = ap length e; marked = λ long p lt. ap (λ (l : List Bool). get_or l p false) e ∙ (or_false (get_or old p false) ∙ ap (λ (b : Bool). get_or old p false || b) (sym (none p))) }
 
-pub marked_both : (old now new : List Bool) (f g : ℕ → Bool) → AreMarked old now f → AreMarked now new g → AreMarked old new (λ p. f p || g p)
-marked_both old now new f g a b = record { count = b.count ∙ a.count; marked = λ long p lt. b.marked (a.count ∙ long) p lt ∙ (ap (λ (x : Bool). x || g p) (a.marked long p lt) ∙ or_over (get_or old p false) (f p) (g p)) }
-
-pub marked_as : (old new last : List Bool) (f g : ℕ → Bool) → last ≡ new → ((p : ℕ) → f p ≡ g p) → AreMarked old new f → AreMarked old last g
-marked_as old new last f g e same h = record { count = ap length e ∙ h.count; marked = λ long p lt. ap (λ (l : List Bool). get_or l p false) e ∙ (h.marked long p lt ∙ ap (λ (b : Bool). get_or old p false || b) (same p)) }
-
--- one place is marked
-pub marked_one : (old : List Bool) (place : ℕ) (under : Bool) → under ≡ true → place < 8 → AreMarked old (set old place true) (λ other. under && nat_eq place other)
-marked_one old place under is lt = record { count = length-set old place true; marked = λ long p below. at_place long p (cases_eq p place) }
-  where
-    both : (b : Bool) → true ≡ (b || true)
-    both true = refl
-    both false = refl
-
-    at_place : length old ≡ 8 → (p : ℕ) → (p ≡ place) ⊎ (p ≡ place → ⊥) → get_or (set old place true) p false ≡ (get_or old p false || (under && nat_eq place p))
-    at_place long p (inl same) =
-        get_or-set_at old place p true false same (omega (arith, lt, long))
-        ∙ (both (get_or old p false) ∙ ap (λ (b : Bool). get_or old p false || b) (sym (ap (λ (b : Bool). b && nat_eq place p) is ∙ eq-eqb place p (sym same))))
-    at_place long p (inr other) =
-        get_or-set_other old place p true false other
-        ∙ (or_false (get_or old p false) ∙ ap (λ (b : Bool). get_or old p false || b) (sym (at_test (nat_eq place p) (λ t. other (sym (eqb-true place p t))))))
-      where
-        at_test : (b : Bool) → (b ≡ true → ⊥) → (under && b) ≡ false
-        at_test true e = absurd (e refl)
-        at_test false e = at_under under
-          where
-            at_under : (u : Bool) → (u && false) ≡ false
-            at_under true = refl
-            at_under false = refl
-
-pub marked_none : (old : List Bool) (place : ℕ) (under : Bool) → under ≡ false → AreMarked old old (λ other. under && nat_eq place other)
-marked_none old place under is = marked_same old old (λ other. under && nat_eq place other) refl (λ p. ap (λ (b : Bool). b && nat_eq place p) is)
-
-pub marked_past : (old : List Bool) (place : ℕ) (under : Bool) → 8 ≤ place → AreMarked old old (λ other. under && nat_eq place other)
-marked_past old place under past = record { count = refl; marked = λ long p lt. or_false (get_or old p false) ∙ ap (λ (b : Bool). get_or old p false || b) (sym (at_test (nat_eq place p) (λ t. let e = eqb-true place p t in omega (arith, e, lt, past)))) }
-  where
-    at_under : (u : Bool) → (u && false) ≡ false
-    at_under true = refl
-    at_under false = refl
-
-    at_test : (b : Bool) → (b ≡ true → ⊥) → (under && b) ≡ false
-    at_test true e = absurd (e refl)
-    at_test false e = at_under under
-
 -- ---- parts of an expression
 
 -- nothing is marked by an expression without parameters
 pub part_none : (ss : List Sense) (names : List Naming) (ps : List (List ℕ)) (under : Bool) (e : Expression) (t : Term) (old new : List Bool) → term_of e ≡ t → ((p : ℕ) → is_under_in ss names ps p under t ≡ false) → new ≡ old
     → AreMarked old new (λ p. is_under_in ss names ps p under (term_of e))
 part_none ss names ps under e t old new is none same = marked_same old new (λ p. is_under_in ss names ps p under (term_of e)) same (λ p. ap (is_under_in ss names ps p under) is ∙ none p)
-
-pub part_as : (ss : List Sense) (names : List Naming) (ps : List (List ℕ)) (under : Bool) (e : Expression) (t : Term) (old new last : List Bool) (f : ℕ → Bool) → term_of e ≡ t → last ≡ new → ((p : ℕ) → f p ≡ is_under_in ss names ps p under t) → AreMarked old new f
-    → AreMarked old last (λ p. is_under_in ss names ps p under (term_of e))
-part_as ss names ps under e t old new last f is same agree h = marked_as old new last f (λ p. is_under_in ss names ps p under (term_of e)) same (λ p. agree p ∙ sym (ap (is_under_in ss names ps p under) is)) h
 
 -- ---- arguments
 
@@ -100,9 +50,6 @@ marked_more ss names ps under turned xs i e old now new inner lt is inner_is one
       ∙ (or_over (get_or now p false) (is_under_in ss names ps p (under || turned i) (term_of e)) (is_under_among ss names ps p under turned (suc i) others)
       ∙ (sym (ap (λ (t : Terms). get_or now p false || is_under_among ss names ps p under turned i t) (next xs i e lt is)) ∙ inv.rest long p below)));
 }
-
-pub marked_start : (ss : List Sense) (names : List Naming) (ps : List (List ℕ)) (under : Bool) (turned : ℕ → Bool) (xs : List Expression) (old now : List Bool) → now ≡ old → AreMarkedTo ss names ps under turned xs 0 old now
-marked_start ss names ps under turned xs old now same = record { count = ap length same; rest = λ long p lt. ap (λ (l : List Bool). get_or l p false || is_under_among ss names ps p under turned 0 (terms_in xs)) same }
 
 -- all arguments are marked
 pub marked_all : (ss : List Sense) (names : List Naming) (ps : List (List ℕ)) (under : Bool) (e : Expression) (n : List ℕ) (args : Vec Expression Global) (xs : List Expression) (s : Sense) (count i : ℕ) (old now last : List Bool) → e ≡ expressions.Applied n args → xs ≡ args.items → count ≡ length args.items

@@ -23,7 +23,7 @@ fn name_fault(sight: &Sight, name: &Name) -> Option<ModelFault>
     }
 }
 
-/// The first fault of the body of a function, by its place in the text: a name that is unbound, or
+/// The first fault of the body of a function, in the order of the text: a name that is unbound, or
 /// with another number of arguments than it takes. Kinds, sizes and complements count where the
 /// function is applied.
 pub fn body_fault(sight: &Sight, term: &Expression) -> Option<ModelFault>

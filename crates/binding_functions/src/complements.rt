@@ -20,36 +20,36 @@ pub struct Marks {
     pub of: [bool; MAX_PARAMETERS],
 }
 
-/// Whether an argument at that place of an application must not grow.
-fn is_inner_under(sight: &Sight, function: usize, place: usize, under: bool) -> bool
-    ensures { (one : Function) → slice_get sight.now.functions.now function ≡ Some one → result ≡ (under || get_or one.under place false) }
+/// Whether an argument at that index of an application must not grow.
+fn is_inner_under(sight: &Sight, function: usize, index: usize, under: bool) -> bool
+    ensures { (one : Function) → slice_get sight.now.functions.now function ≡ Some one → result ≡ (under || get_or one.under index false) }
 {
-    under || sight.is_under(function, place)
+    under || sight.is_under(function, index)
 }
 
 impl Marks {
-    /// Marks the parameter at that place, if it stands under a complement.
-    fn mark(&mut self, place: usize, under: bool)
-        ensures { AreMarked self.old.of self.new.of (λ other. under && nat_eq place other) }
+    /// Marks the parameter at that index, if it stands under a complement.
+    fn mark(&mut self, index: usize, under: bool)
+        ensures { AreMarked self.old.of self.new.of (λ other. under && nat_eq index other) }
     {
-        if under && place < MAX_PARAMETERS {
-            self.of[place] = true;
+        if under && index < MAX_PARAMETERS {
+            self.of[index] = true;
         }
     }
 
     /// Marks a name, if it is a parameter that stands under a complement.
     fn mark_name(&mut self, sight: &Sight, under: bool, name: &Name)
-        ensures { AreMarked self.old.of self.new.of (λ place. under && is_at place (parameter_of (reverse sight.now.parameters.now) name.now)) }
+        ensures { AreMarked self.old.of self.new.of (λ index. under && is_at index (parameter_of (reverse sight.now.parameters.now) name.now)) }
     {
-        if let Ok(Meaning::Parameter(place)) = sight.value(name) {
-            self.mark(place, under);
+        if let Ok(Meaning::Parameter(index)) = sight.value(name) {
+            self.mark(index, under);
         }
     }
 
     /// Marks the parameters that stand under a complement or right of a difference in an expression,
     /// which does so itself or not.
     pub fn mark_term(&mut self, sight: &Sight, under: bool, term: &Expression)
-        ensures { let names = reverse (map entry_of sight.now.entries.now) in (senses : List Sense) → AreKept sight.now.functions.now senses → AreMarked self.old.of self.new.of (λ place. is_under_in senses names sight.now.parameters.now place under (term_of term.now)) }
+        ensures { let names = reverse (map entry_of sight.now.entries.now) in (senses : List Sense) → AreKept sight.now.functions.now senses → AreMarked self.old.of self.new.of (λ index. is_under_in senses names sight.now.parameters.now index under (term_of term.now)) }
     {
         match term {
             Expression::Named(name) => self.mark_name(sight, under, name),
@@ -65,8 +65,8 @@ impl Marks {
             Expression::Identity(operand) => self.mark_term(sight, under, operand),
             Expression::Applied(name, arguments) => {
                 if let Ok(function) = sight.function(name, arguments.len()) {
-                    for (place, argument) in arguments.iter().enumerate() {
-                        let inner = is_inner_under(sight, function, place, under);
+                    for (index, argument) in arguments.iter().enumerate() {
+                        let inner = is_inner_under(sight, function, index, under);
                         self.mark_term(sight, inner, argument);
                     }
                 }
@@ -77,7 +77,7 @@ impl Marks {
 
 /// The parameters that stand under a complement or right of a difference in the body of a function.
 pub fn complemented(sight: &Sight, body: &Expression) -> [bool; MAX_PARAMETERS]
-    ensures { let names = reverse (map entry_of sight.now.entries.now) in (senses : List Sense) (place : ℕ) → AreKept sight.now.functions.now senses → place < 8 → get_or result place false ≡ is_under_in senses names sight.now.parameters.now place false (term_of body.now) }
+    ensures { let names = reverse (map entry_of sight.now.entries.now) in (senses : List Sense) (index : ℕ) → AreKept sight.now.functions.now senses → index < 8 → get_or result index false ≡ is_under_in senses names sight.now.parameters.now index false (term_of body.now) }
 {
     let mut marks = Marks {
         of: [false; MAX_PARAMETERS],

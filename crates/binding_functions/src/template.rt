@@ -50,7 +50,7 @@ impl Template {
     {
         match sight.value(name) {
             Err(_) => self.put(Piece::NoPairs),
-            Ok(Meaning::Parameter(place)) => self.put(Piece::Parameter(place)),
+            Ok(Meaning::Parameter(index)) => self.put(Piece::Parameter(index)),
             Ok(Meaning::Value(found)) => self.put(Piece::Value(found)),
         }
     }

@@ -75,20 +75,6 @@ searched_more ss old before after fs gs items i d f lt m none is names kept =
           ∙ ap (λ (n : List Naming). first later n (i + 1) (map clause_of (drop (i + 1) items))) (sym (names m.senses m.kept none))));
     }
 
--- the fault that is found is the first
-pub searched_fault : (ss : List Sense) (old : List Naming) (before : List Entry) (fs : List Function) (items : List Item) (i : ℕ) (d : Item) (f : Option ModelFault) → i < length items → AreSearched ss old (reverse (map entry_of before)) fs items i → is_some f ≡ true
-    → ((senses : List Sense) → AreKept fs senses → f ≡ first_of_item senses (reverse (map entry_of before)) i (clause_of (get_or items i d)))
-    → f ≡ first ss old 0 (map clause_of items)
-searched_fault ss old before fs items i d f lt m some is =
-    let c = clause_of (get_or items i d) in
-    let now = reverse (map entry_of before) in
-    let rest = first (senses_after m.senses now c) (extended m.senses now i c) (i + 1) (map clause_of (drop (i + 1) items)) in
-    sym (m.first ∙ (ap (λ (l : List Item). first m.senses now i (map clause_of l)) (drop_next items i d lt) ∙ (ap (λ (q : Option ModelFault). or_else q rest) (sym (is m.senses m.kept)) ∙ there f some rest)))
-  where
-    there : (o : Option ModelFault) → is_some o ≡ true → (q : Option ModelFault) → or_else o q ≡ o
-    there None e q = absurd (let g : false ≡ true = e in cc)
-    there (Some k) e q = refl
-
 -- behind the last item there is no fault
 pub searched_all : (ss : List Sense) (old now : List Naming) (fs : List Function) (items : List Item) (i : ℕ) → length items ≤ i → AreSearched ss old now fs items i → None ≡ first ss old 0 (map clause_of items)
 searched_all ss old now fs items i past m = sym (m.first ∙ ap (λ (l : List Item). first m.senses now i (map clause_of l)) (drop_all i items past))

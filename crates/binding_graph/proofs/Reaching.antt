@@ -124,25 +124,10 @@ marks_new m w i lt off =
         let o = one in
         omega arith
 
-same_marked : (m : List Bool) (i : ℕ) → get_or m i false ≡ true → (k : ℕ) → i ≡ k → k < length m → IsMarked m k
-same_marked m i is k e lt = subst (λ (j : ℕ). IsMarked m j) e is
-
-pub marks_old : (m : List Bool) (w : List ℕ) (i : ℕ) → get_or m i false ≡ true → Marks (λ k. i ≡ k) m m w w
-marks_old m w i is = marks_none (λ k. i ≡ k) m w (same_marked m i is)
-
-past_marked : (m : List Bool) (i : ℕ) → length m ≤ i → (k : ℕ) → i ≡ k → k < length m → IsMarked m k
-past_marked m i le k e lt = absurd (omega arith)
-
-pub marks_past : (m : List Bool) (w : List ℕ) (i : ℕ) → length m ≤ i → Marks (λ k. i ≡ k) m m w w
-marks_past m w i le = marks_none (λ k. i ≡ k) m w (past_marked m i le)
-
 -- ---- one more of a list
 
 no_element : (k : ℕ) → Contains {X = ℕ} [] k → ⊥
 no_element k h = let lt = h.1 in omega arith
-
-pub marks_start : (m : List Bool) (w : List ℕ) → Marks (Contains []) m m w w
-marks_start m w = marks_none (Contains []) m w (λ k h lt. absurd (no_element k h))
 
 pub marks_more : (ns : List ℕ) (n : ℕ) (a b c : List Bool) (u v w : List ℕ) → Marks (Contains ns) a b u v → Marks (λ k. n ≡ k) b c v w → Marks (Contains (ns ++ n ∷ [])) a c u w
 marks_more ns n a b c u v w m one =

@@ -4,6 +4,7 @@ pub mod Usages
 pub mod Meaning
 pub mod Lowering
 pub mod Resolved
+pub mod Contents
 pub mod Stacks
 pub mod Reach
 pub mod Refusals

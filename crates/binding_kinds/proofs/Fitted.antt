@@ -12,11 +12,11 @@ use Rattle.binding_kinds.specs.declared.scope.Binder.TheVariants as binders
 use Rattle.cat_values.specs.Value.{Term, Terms, Atom, AllEvents, EmptyRelation, EmptySet, Join, Mark, Not, On, Apply, NoTerm, OneMore}
 use Rattle.binding_kinds.specs.Value.{Naming, Bound, Clause, Group, Check, Mute, Defined}
 use Rattle.binding_kinds.specs.Kinds.{found, takes, takes_body, is_relation, is_set, is_turned, joined, marked, narrowed, kind_found}
-use Rattle.binding_kinds.specs.Senses.{Sense, size_with, sense_of_binder, sense_of, count_of, sizes_in, kind_in, kinds_in, kind_applied, fault_applied, first_within, first_among, under_of}
+use Rattle.binding_kinds.specs.Senses.{Sense, size_with, sense_of, count_of, sizes_in, kind_in, kinds_in, kind_applied, fault_applied, first_within, first_among, under_of}
 use Rattle.binding_kinds.specs.Faults.{with_own, with_all, extended, senses_after}
 use Rattle.binding_kinds.specs.Verdict.{or_else, unless, of_parameters}
 use Rattle.binding_kinds.specs.First.{of_binding, first_in, first_of_body, first_of_item}
-use Rattle.binding_kinds.specs.Fits.{IsKnown, IsValue, IsKnownValue, IsPlain, ArePlain, IsPlainClause, IsFitApplied, IsFit, AreFitArguments, AreFit, AreSound, kind_of, IsTyped, AreKnown, IsFitClause}
+use Rattle.binding_kinds.specs.Fits.{IsKnown, IsValue, IsKnownValue, IsFitApplied, IsFit, AreFitArguments, AreFit, AreSound, kind_of, IsTyped, AreKnown, IsFitClause}
 use Rattle.binding_kinds.specs.Formula.{Formula}
 use Rattle.binding_kinds.specs.Functions.{sense_seen, bound_formula, named_formula, applied_formula, formula_in, formulas_in, sense_of_function}
 use Rattle.binding_kinds.proofs.Applications.{found_arity}
@@ -132,38 +132,6 @@ mutual
 -- what fits is a set or a relation
 pub fit_known : (ss : List Sense) (names : List Naming) (t : Term) → AreSound ss → IsFit ss names t → IsKnown (kind_in ss names t)
 fit_known ss names t sound h = let l = fit_typed ss names t sound h in subst IsKnown l.1 (typed_known [] (formula_in ss names [] t) l.0)
-
--- where there are no functions, what fits applies none
-no_sense : (n : ℕ) (o : Option Found) (sizes : List ℕ) (kinds : List Kind) → IsFitApplied (sense_of [] n o) sizes kinds → ⊥
-no_sense n None sizes kinds h = h
-no_sense n (Some f) sizes kinds h = at_binder f.binder h
-  where
-    at_binder : (b : Binder) → IsFitApplied (sense_of_binder [] n b) sizes kinds → ⊥
-    at_binder (binders.Predefined p) h = h
-    at_binder (binders.Bound i) h = h
-    at_binder (binders.Applicable g) h = h
-
-pub fit_plain : (names : List Naming) (t : Term) → IsFit [] names t → IsPlain t
-fit_plain names (Atom x) h = tt
-fit_plain names AllEvents h = tt
-fit_plain names EmptyRelation h = tt
-fit_plain names EmptySet h = tt
-fit_plain names (Join op a b) h = (fit_plain names a h.0, fit_plain names b h.1)
-fit_plain names (Mark op a) h = fit_plain names a h.0
-fit_plain names (Not a) h = fit_plain names a h
-fit_plain names (On a) h = fit_plain names a h.0
-fit_plain names (Apply x ts) h = absurd (no_sense (count_of ts) (found names x) (sizes_in [] names ts) (kinds_in [] names ts) h.0)
-
-pub fit_all_plain : (names : List Naming) (bs : List Bound) → AreFit [] names bs → ArePlain bs
-fit_all_plain names [] h = tt
-fit_all_plain names (b ∷ bs) h = (fit_plain names b.body h.0, fit_all_plain names bs h.1)
-
-pub plain_clause : (names own : List Naming) (c : Clause) → IsFitClause [] names own c → IsPlainClause c
-plain_clause names own (Group true bs) h = fit_all_plain own bs h
-plain_clause names own (Group false bs) h = fit_all_plain names bs h
-plain_clause names own (Check w e) h = fit_plain names e h
-plain_clause names own Mute h = tt
-plain_clause names own (Defined n ps b) h = tt
 
 pub fit_in : (ss : List Sense) (names : List Naming) (from : ℕ) (recursive : Bool) (seen : List (List ℕ)) (bs : List Bound) → AreKnown names → first_in ss names from recursive seen bs ≡ None → AreFit ss names bs
 fit_in ss names from recursive seen [] h e = tt

@@ -10,10 +10,8 @@ use Rattle.binding_kinds.specs.declared.kinds.Kind.TheVariants.{OfSet, OfRelatio
 use Rattle.binding_kinds.specs.declared.scope.Found.{Found}
 use Rattle.binding_kinds.specs.declared.scope.Binder.{Binder}
 use Rattle.binding_kinds.specs.declared.scope.Binder.TheVariants as binders
-use Rattle.binding_kinds.specs.Value.{Naming, Clause, Group, Check, Mute, Defined, IsNoFunction}
-use Rattle.binding_kinds.specs.Kinds.{found, takes, is_relation, is_set, joined, marked, narrowed, kind_found}
-use Rattle.binding_kinds.specs.Senses.{Sense}
-use Rattle.binding_kinds.specs.Faults.{senses_after}
+use Rattle.binding_kinds.specs.Value.{Naming}
+use Rattle.binding_kinds.specs.Kinds.{found, takes, is_relation, is_set, joined, marked, narrowed}
 use Rattle.binding_kinds.specs.Verdict.{or_else, unless, of_use, of_name}
 use Rattle.binding_kinds.specs.Fits.{IsKnown, IsValue, IsKnownValue, kind_of, IsTyped, IsKnownUnlessFunction, AreKnown}
 use Rattle.binding_kinds.specs.Formula.{Formula, Value, Parameter, Everything, NoPairs, NoEvents, Joined, Marked, Complement, Identity}
@@ -103,17 +101,6 @@ narrowed_known : (k : Kind) → IsKnown k → IsTrue (is_set k) → IsKnown (nar
 narrowed_known OfSet k t = tt
 narrowed_known OfRelation k t = cc
 narrowed_known OfAny k t = absurd k
-
-pub known_value : (o : Option Found) → IsKnownValue o → IsKnown (kind_found o)
-known_value None h = absurd h
-known_value (Some f) h = h.1
-
--- an item that defines no function leaves the functions as they are
-pub same_senses : (ss : List Sense) (names : List Naming) (c : Clause) → IsNoFunction c → senses_after ss names c ≡ ss
-same_senses ss names (Group r bs) h = refl
-same_senses ss names (Check w b) h = refl
-same_senses ss names Mute h = refl
-same_senses ss names (Defined n ps b) h = absurd h
 
 -- ---- with the functions put in
 

@@ -59,12 +59,6 @@ filled_typed js fs ks (Marked op a) all h = let l = filled_typed js fs ks a all 
 filled_typed js fs ks (Complement a) all h = filled_typed js fs ks a all h
 filled_typed js fs ks (Identity a) all h = let l = filled_typed js fs ks a all h.0 in ((l.0, same_true _ _ (ap is_set l.1) h.1), ap narrowed l.1)
 
-typed_long : (js : List Kind) (fs : List Formula) (ks : List Kind) → AreTyped js fs ks → length fs ≡ length ks
-typed_long js [] [] h = refl
-typed_long js [] (k ∷ ks) h = absurd h
-typed_long js (f ∷ fs) [] h = absurd h
-typed_long js (f ∷ fs) (k ∷ ks) h = ap suc (typed_long js fs ks h.1)
-
 pub typed_all_known : (js : List Kind) (fs : List Formula) (ks : List Kind) → AreTyped js fs ks → AreKnownKinds ks
 typed_all_known js [] [] h = tt
 typed_all_known js [] (k ∷ ks) h = absurd h

@@ -1,10 +1,10 @@
 -- Tables for all combinations of kinds, an entry at a time.
-use Rattle.std.proofs.Common.{ℕ, suc, ◌≡◌, ◌<◌, ◌≤◌, ◌+◌, ◌*◌, ◌^◌, inl, inr, ◌⊎◌, List, [], ◌∷◌, ◌++◌, length, map, take, reverse, get_or, replicate, Bool, true, false, ◌||◌, Option, Some, None, Result, Vec, Global, subst, refl, sym, ap, ◌∙◌, arith, length-append, length-take}
+use Rattle.std.proofs.Common.{ℕ, suc, ◌≡◌, ◌<◌, ◌≤◌, ◌+◌, ◌*◌, ◌^◌, inl, inr, ◌⊎◌, List, [], ◌∷◌, ◌++◌, length, map, take, reverse, get_or, Bool, true, false, ◌||◌, Option, Some, None, Result, Vec, Global, subst, refl, sym, ap, ◌∙◌, arith, length-append, length-take}
 use Rattle.std.specs.declared.alloc.AllocError.{AllocError}
 use Rattle.std.specs.Prelude.{if◌then◌else◌, bytes_eq, IfOk}
 use Rattle.std.proofs.lemmas.Result.{IfOk-weaker}
 use Rattle.std.proofs.lemmas.Bool.{cases_lt}
-use Rattle.std.proofs.lemmas.List.{get_or_push, get_or_append_left, get_or_default, get_or-replicate, length-replicate, take_more, reverse-append, length-reverse}
+use Rattle.std.proofs.lemmas.List.{get_or_push, get_or_append_left, get_or_default, take_more, reverse-append, length-reverse}
 use Rattle.std.proofs.Math.Nat.{pow-succ', mul_assoc, mul_comm}
 use Rattle.cat_values.specs.declared.model.Expression.{Expression}
 use Rattle.cat_values.specs.declared.model.Expression.TheVariants as expressions
@@ -28,9 +28,6 @@ use Rattle.binding_kinds.specs.Functions.{with_parameters, sense_seen, kind_of_s
 use Rattle.binding_kinds.specs.Columns.{IsFilled, plain, of_infix, of_postfix, of_identity, of_applied, with_one, signature_in, gathered_in}
 use Rattle.binding_kinds.proofs.Applications.{below_power, below_table, count_arguments}
 
-pub filled_none : {X : Type 0} (d : X) (arity : ℕ) (made : List Kind → X) → IsFilled d arity 0 made []
-filled_none d arity made = record { long = refl; entries = λ ks e lt. absurd (omega (arith, lt)) }
-
 -- one more entry
 pub filled_more : {X : Type 0} (d : X) (arity n : ℕ) (made : List Kind → X) (xs ys : List X) (y : X) → ys ≡ xs ++ y ∷ [] → IsFilled d arity n made xs → ((ks : List Kind) → length ks ≡ arity → number_of ks ≡ n → y ≡ made ks) → IsFilled d arity (n + 1) made ys
 filled_more {X} d arity n made xs ys y is h new = record {
@@ -41,12 +38,6 @@ filled_more {X} d arity n made xs ys y is h new = record {
     at_place : (ks : List Kind) → length ks ≡ arity → number_of ks < n + 1 → (number_of ks < n) ⊎ (n ≤ number_of ks) → get_or (xs ++ y ∷ []) (number_of ks) d ≡ made ks
     at_place ks e lt (inl less) = let k = h.long in get_or_append_left xs (y ∷ []) d (number_of ks) (omega (arith, less, k)) ∙ h.entries ks e less
     at_place ks e lt (inr more) = let same : number_of ks ≡ n = omega (arith, lt, more) in get_or_push xs y d (number_of ks) (h.long ∙ sym same) ∙ new ks e same
-
-pub filled_same : {X : Type 0} (d x : X) (arity w : ℕ) (xs : List X) → w ≡ 3 ^ arity → xs ≡ replicate w x → IsFilled d arity (3 ^ arity) (λ ks. x) xs
-filled_same {X} d x arity w xs w_is is = record {
-  long = ap length is ∙ (length-replicate w x ∙ w_is);
-  entries = λ ks e lt. ap (λ (l : List X). get_or l (number_of ks) d) is ∙ get_or-replicate w (number_of ks) x d (omega (arith, lt, w_is));
-}
 
 pub filled_as : {X : Type 0} (d : X) (arity n : ℕ) (f g : List Kind → X) (xs : List X) → ((ks : List Kind) → length ks ≡ arity → f ks ≡ g ks) → IsFilled d arity n f xs → IsFilled d arity n g xs
 filled_as d arity n f g xs same h = record { long = h.long; entries = λ ks e lt. h.entries ks e lt ∙ same ks e }

@@ -39,14 +39,14 @@ is_no_parameter (pieces.Marked op) = true
 is_no_parameter pieces.Complement = true
 is_no_parameter pieces.Identity = true
 
--- the piece is the parameter at that place
+-- the piece is the parameter at that index
 abbrev pub is_parameter_at : ℕ → Piece → Bool
-is_parameter_at place (pieces.Value f) = false
-is_parameter_at place (pieces.Parameter p) = nat_eq p place
-is_parameter_at place pieces.Everything = false
-is_parameter_at place pieces.NoPairs = false
-is_parameter_at place pieces.NoEvents = false
-is_parameter_at place (pieces.Joined op) = false
-is_parameter_at place (pieces.Marked op) = false
-is_parameter_at place pieces.Complement = false
-is_parameter_at place pieces.Identity = false
+is_parameter_at index (pieces.Value f) = false
+is_parameter_at index (pieces.Parameter p) = nat_eq p index
+is_parameter_at index pieces.Everything = false
+is_parameter_at index pieces.NoPairs = false
+is_parameter_at index pieces.NoEvents = false
+is_parameter_at index (pieces.Joined op) = false
+is_parameter_at index (pieces.Marked op) = false
+is_parameter_at index pieces.Complement = false
+is_parameter_at index pieces.Identity = false

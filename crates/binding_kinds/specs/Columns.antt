@@ -34,9 +34,9 @@ of_identity s = record { kind = narrowed s.kind; clashes = s.clashes || not (is_
 abbrev pub none_gathered : Gathered
 none_gathered = record { combination = 0; clashes = false }
 
--- with the argument at that place
+-- with the argument at that index
 abbrev pub with_one : ℕ → Gathered → Signature → Gathered
-with_one place g s = record { combination = g.combination + digit s.kind * 3 ^ place; clashes = g.clashes || s.clashes }
+with_one index g s = record { combination = g.combination + digit s.kind * 3 ^ index; clashes = g.clashes || s.clashes }
 
 -- what the function makes of its arguments
 abbrev pub of_applied : Function → Gathered → Signature
@@ -54,4 +54,5 @@ signature_in ss names ps t ks = record { kind = kind_of_body ss names ps ks t; c
 
 -- these arguments there
 abbrev pub gathered_in : List Sense → List Naming → List (List ℕ) → Terms → List Kind → Gathered
-gathered_in ss names ps ts ks = record { combination = number_of (kinds_of_body ss names ps ks ts); clashes = clash_among ss names ps ks ts }
+gathered_in ss names ps ts ks =
+    record { combination = number_of (kinds_of_body ss names ps ks ts); clashes = clash_among ss names ps ks ts }

@@ -46,7 +46,8 @@ IsFaultOfName from under (Some f) k = IsFaultOfUse f.binder from under f.slot k
 -- body that does not take its operands.
 abbrev pub IsFaultOfApplication : Result Sense ModelFault → List ℕ → List Kind → ModelFault → Type 0
 IsFaultOfApplication (Err l) sizes kinds k = k ≡ l
-IsFaultOfApplication (Ok s) sizes kinds k = ((4096 < size_with s sizes) × (k ≡ faults.TooLarge)) ⊎ (IsTrue (s.clashes kinds) × (k ≡ faults.Kind))
+IsFaultOfApplication (Ok s) sizes kinds k =
+    ((4096 < size_with s sizes) × (k ≡ faults.TooLarge)) ⊎ (IsTrue (s.clashes kinds) × (k ≡ faults.Kind))
 
 abbrev mutual
   -- The expression, seen under a complement or not, has this fault at this place.
@@ -84,28 +85,28 @@ IsAmong (n ∷ ns) x = (n ≡ x) ⊎ IsAmong ns x
 
 -- The binding's own name has this fault: it stands earlier in the group, or its recursive body is a set.
 abbrev pub IsFaultOfBinding : List Sense → List Naming → Bool → List (List ℕ) → Bound → ModelFault → Type 0
-IsFaultOfBinding ss names recursive seen b k =
-    (IsAmong seen b.name × (k ≡ faults.Duplicate))
+IsFaultOfBinding ss names recursive earlier b k =
+    (IsAmong earlier b.name × (k ≡ faults.Duplicate))
     ⊎ (IsTrue recursive × (kind_in ss names b.body ≡ OfSet) × (k ≡ faults.SetInRec))
 
 -- The bindings, after those of the names seen, have this fault: a name, its body, and the rest follow one another.
 abbrev pub IsFaultIn : List Sense → List Naming → ℕ → Bool → List (List ℕ) → List Bound → ℕ → ModelFault → Type 0
-IsFaultIn ss names from recursive seen [] place k = ⊥
-IsFaultIn ss names from recursive seen (b ∷ bs) place k =
-    ((place ≡ 0) × IsFaultOfBinding ss names recursive seen b k)
+IsFaultIn ss names from recursive earlier [] place k = ⊥
+IsFaultIn ss names from recursive earlier (b ∷ bs) place k =
+    ((place ≡ 0) × IsFaultOfBinding ss names recursive earlier b k)
     ⊎ (((after : ℕ) × (place ≡ 1 + after) × IsFaultAt ss names from false b.body after k)
-    ⊎ ((after : ℕ) × (place ≡ 1 + width b.body + after) × IsFaultIn ss names from recursive (b.name ∷ seen) bs after k))
+    ⊎ ((after : ℕ) × (place ≡ 1 + width b.body + after) × IsFaultIn ss names from recursive (b.name ∷ earlier) bs after k))
 
 -- A parameter, after those seen, has this fault: it stands twice, or it is the ninth.
 abbrev pub IsFaultOfParameter : List (List ℕ) → List ℕ → ModelFault → Type 0
-IsFaultOfParameter seen p k = (IsAmong seen p × (k ≡ faults.Duplicate)) ⊎ ((8 ≤ length seen) × (k ≡ faults.TooLarge))
+IsFaultOfParameter earlier p k = (IsAmong earlier p × (k ≡ faults.Duplicate)) ⊎ ((8 ≤ length earlier) × (k ≡ faults.TooLarge))
 
 -- The parameters, after those seen, have this fault at this place.
 abbrev pub IsFaultOfParameters : List (List ℕ) → List (List ℕ) → ℕ → ModelFault → Type 0
-IsFaultOfParameters seen [] place k = ⊥
-IsFaultOfParameters seen (p ∷ ps) place k =
-    ((place ≡ 0) × IsFaultOfParameter seen p k)
-    ⊎ ((after : ℕ) × (place ≡ 1 + after) × IsFaultOfParameters (p ∷ seen) ps after k)
+IsFaultOfParameters earlier [] place k = ⊥
+IsFaultOfParameters earlier (p ∷ ps) place k =
+    ((place ≡ 0) × IsFaultOfParameter earlier p k)
+    ⊎ ((after : ℕ) × (place ≡ 1 + after) × IsFaultOfParameters (p ∷ earlier) ps after k)
 
 -- A name of a body that is no parameter: nothing binds it, or it is a function without arguments.
 abbrev pub IsFaultInside : Option ℕ → Option Found → ModelFault → Type 0
@@ -143,17 +144,20 @@ abbrev mutual
       IsFaultOfBody ss names ps a place k
       ⊎ ((after : ℕ) × (place ≡ width a + after) × IsFaultOfBodies ss names ps others after k)
 
+-- the name that a binding at that position of the item is
+abbrev pub naming_at : ℕ → ℕ → Bound → Kind → Naming
+naming_at item at b kind = record { name = b.name; kind = kind; binder = binders.Bound (record { item = item; position = at }) }
+
 -- the recursive names of a group, from that position of the item on, seen after the names
 abbrev pub with_own : List Naming → ℕ → ℕ → List Bound → List Naming
 with_own names item at [] = names
-with_own names item at (b ∷ bs) =
-    with_own (record { name = b.name; kind = OfRelation; binder = binders.Bound (record { item = item; position = at }) } ∷ names) item (suc at) bs
+with_own names item at (b ∷ bs) = with_own (naming_at item at b OfRelation ∷ names) item (suc at) bs
 
 -- the names of a group that is not recursive, whose bodies see the outer names
 abbrev pub with_all : List Sense → List Naming → List Naming → ℕ → ℕ → List Bound → List Naming
 with_all ss outer names item at [] = names
 with_all ss outer names item at (b ∷ bs) =
-    with_all ss outer (record { name = b.name; kind = kind_in ss outer b.body; binder = binders.Bound (record { item = item; position = at }) } ∷ names) item (suc at) bs
+    with_all ss outer (naming_at item at b (kind_in ss outer b.body) ∷ names) item (suc at) bs
 
 -- the names that are seen after the item of that number
 abbrev pub extended : List Sense → List Naming → ℕ → Clause → List Naming

@@ -28,18 +28,6 @@ abbrev pub IsKnownValue : Option Found → Type 0
 IsKnownValue None = ⊥
 IsKnownValue (Some f) = IsValue f.binder × IsKnown f.kind
 
--- the expression applies no function
-abbrev pub IsPlain : Term → Type 0
-IsPlain (Atom x) = Unit {0}
-IsPlain AllEvents = Unit {0}
-IsPlain EmptyRelation = Unit {0}
-IsPlain EmptySet = Unit {0}
-IsPlain (Join op a b) = IsPlain a × IsPlain b
-IsPlain (Mark op a) = IsPlain a
-IsPlain (Not a) = IsPlain a
-IsPlain (On a) = IsPlain a
-IsPlain (Apply x arguments) = ⊥
-
 -- the kind of an expression whose parameters have these kinds
 abbrev pub kind_of : List Kind → Formula → Kind
 kind_of ks (Value f) = f.kind
@@ -70,7 +58,9 @@ AreKnownKinds (k ∷ ks) = IsKnown k × AreKnownKinds ks
 
 -- with arguments of known kinds that clash nowhere, the function's body is typed, and has the kind that is said of it
 abbrev pub IsSound : Sense → Type 0
-IsSound s = (ks : List Kind) → length ks ≡ s.arity → AreKnownKinds ks → s.clashes ks ≡ false → IsTyped ks s.formula × (s.kind_with ks ≡ kind_of ks s.formula)
+IsSound s =
+    (ks : List Kind) → length ks ≡ s.arity → AreKnownKinds ks → s.clashes ks ≡ false → IsTyped ks s.formula
+    × (s.kind_with ks ≡ kind_of ks s.formula)
 
 abbrev pub AreSound : List Sense → Type 0
 AreSound [] = Unit {0}
@@ -93,7 +83,8 @@ abbrev mutual
   IsFit ss names (Not a) = IsFit ss names a
   IsFit ss names (On a) = IsFit ss names a × IsTrue (is_set (kind_in ss names a))
   IsFit ss names (Apply x arguments) =
-      IsFitApplied (sense_of ss (count_of arguments) (found names x)) (sizes_in ss names arguments) (kinds_in ss names arguments) × AreFitArguments ss names arguments
+      IsFitApplied (sense_of ss (count_of arguments) (found names x)) (sizes_in ss names arguments) (kinds_in ss names arguments)
+      × AreFitArguments ss names arguments
 
   pub AreFitArguments : List Sense → List Naming → Terms → Type 0
   AreFitArguments ss names NoTerm = Unit {0}
@@ -102,17 +93,6 @@ abbrev mutual
 abbrev pub AreFit : List Sense → List Naming → List Bound → Type 0
 AreFit ss names [] = Unit {0}
 AreFit ss names (b ∷ bs) = IsFit ss names b.body × AreFit ss names bs
-
-abbrev pub ArePlain : List Bound → Type 0
-ArePlain [] = Unit {0}
-ArePlain (b ∷ bs) = IsPlain b.body × ArePlain bs
-
--- the item applies no function
-abbrev pub IsPlainClause : Clause → Type 0
-IsPlainClause (Group r bs) = ArePlain bs
-IsPlainClause (Check w e) = IsPlain e
-IsPlainClause Mute = Unit {0}
-IsPlainClause (Defined n ps b) = Unit {0}
 
 -- what a name stands for has a kind, unless it is a function
 abbrev pub IsKnownUnlessFunction : Binder → Kind → Type 0

@@ -44,15 +44,15 @@ constant_of (Identity a) = constant_of a + 1
 
 -- how often the parameter stands in it
 abbrev pub factor_of : Formula → ℕ → ℕ
-factor_of (Value f) place = 0
-factor_of (Parameter index) place = if nat_eq index place then 1 else 0
-factor_of Everything place = 0
-factor_of NoPairs place = 0
-factor_of NoEvents place = 0
-factor_of (Joined op a b) place = factor_of a place + factor_of b place
-factor_of (Marked op a) place = factor_of a place
-factor_of (Complement a) place = factor_of a place
-factor_of (Identity a) place = factor_of a place
+factor_of (Value f) index = 0
+factor_of (Parameter other) index = if nat_eq other index then 1 else 0
+factor_of Everything index = 0
+factor_of NoPairs index = 0
+factor_of NoEvents index = 0
+factor_of (Joined op a b) index = factor_of a index + factor_of b index
+factor_of (Marked op a) index = factor_of a index
+factor_of (Complement a) index = factor_of a index
+factor_of (Identity a) index = factor_of a index
 
 -- its parameters are among so many
 abbrev pub HasParameters : ℕ → Formula → Type 0

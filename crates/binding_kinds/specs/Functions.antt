@@ -68,44 +68,47 @@ abbrev mutual
   clashes_in ss names ps ks EmptyRelation = false
   clashes_in ss names ps ks EmptySet = false
   clashes_in ss names ps ks (Join op a b) =
-      clashes_in ss names ps ks a || clashes_in ss names ps ks b || not (takes op (kind_of_body ss names ps ks a) (kind_of_body ss names ps ks b))
+      clashes_in ss names ps ks a || clashes_in ss names ps ks b
+      || not (takes op (kind_of_body ss names ps ks a) (kind_of_body ss names ps ks b))
   clashes_in ss names ps ks (Mark op a) = clashes_in ss names ps ks a || not (is_relation (kind_of_body ss names ps ks a))
   clashes_in ss names ps ks (Not a) = clashes_in ss names ps ks a
   clashes_in ss names ps ks (On a) = clashes_in ss names ps ks a || not (is_set (kind_of_body ss names ps ks a))
-  clashes_in ss names ps ks (Apply x ts) = clash_of_sense (sense_seen ss names ps (count_of ts) x) (clash_among ss names ps ks ts) (kinds_of_body ss names ps ks ts)
+  clashes_in ss names ps ks (Apply x ts) =
+      clash_of_sense (sense_seen ss names ps (count_of ts) x) (clash_among ss names ps ks ts) (kinds_of_body ss names ps ks ts)
 
   pub clash_among : List Sense → List Naming → List (List ℕ) → List Kind → Terms → Bool
   clash_among ss names ps ks NoTerm = false
   clash_among ss names ps ks (OneMore a others) = clashes_in ss names ps ks a || clash_among ss names ps ks others
 
 abbrev pub is_at : ℕ → Option ℕ → Bool
-is_at place None = false
-is_at place (Some p) = nat_eq p place
+is_at index None = false
+is_at index (Some p) = nat_eq p index
 
 abbrev pub under_at : Option Sense → ℕ → Bool
 under_at None i = false
 under_at (Some s) i = s.is_under i
 
 abbrev mutual
-  -- the parameter at that place stands under a complement or right of a difference
+  -- the parameter at that index stands under a complement or right of a difference
   pub is_under_in : List Sense → List Naming → List (List ℕ) → ℕ → Bool → Term → Bool
-  is_under_in ss names ps place under (Atom x) = under && is_at place (parameter_of (reverse ps) x)
-  is_under_in ss names ps place under AllEvents = false
-  is_under_in ss names ps place under EmptyRelation = false
-  is_under_in ss names ps place under EmptySet = false
-  is_under_in ss names ps place under (Join op a b) = is_under_in ss names ps place under a || is_under_in ss names ps place (is_turned op under) b
-  is_under_in ss names ps place under (Mark op a) = is_under_in ss names ps place under a
-  is_under_in ss names ps place under (Not a) = is_under_in ss names ps place true a
-  is_under_in ss names ps place under (On a) = is_under_in ss names ps place under a
-  is_under_in ss names ps place under (Apply x ts) =
+  is_under_in ss names ps index under (Atom x) = under && is_at index (parameter_of (reverse ps) x)
+  is_under_in ss names ps index under AllEvents = false
+  is_under_in ss names ps index under EmptyRelation = false
+  is_under_in ss names ps index under EmptySet = false
+  is_under_in ss names ps index under (Join op a b) =
+      is_under_in ss names ps index under a || is_under_in ss names ps index (is_turned op under) b
+  is_under_in ss names ps index under (Mark op a) = is_under_in ss names ps index under a
+  is_under_in ss names ps index under (Not a) = is_under_in ss names ps index true a
+  is_under_in ss names ps index under (On a) = is_under_in ss names ps index under a
+  is_under_in ss names ps index under (Apply x ts) =
       let s = sense_seen ss names ps (count_of ts) x in
-      is_some s && is_under_among ss names ps place under (under_at s) 0 ts
+      is_some s && is_under_among ss names ps index under (under_at s) 0 ts
 
   -- the arguments from that one on
   pub is_under_among : List Sense → List Naming → List (List ℕ) → ℕ → Bool → (ℕ → Bool) → ℕ → Terms → Bool
-  is_under_among ss names ps place under turned i NoTerm = false
-  is_under_among ss names ps place under turned i (OneMore a others) =
-      is_under_in ss names ps place (under || turned i) a || is_under_among ss names ps place under turned (suc i) others
+  is_under_among ss names ps index under turned i NoTerm = false
+  is_under_among ss names ps index under turned i (OneMore a others) =
+      is_under_in ss names ps index (under || turned i) a || is_under_among ss names ps index under turned (suc i) others
 
 abbrev pub bound_formula : Found → Binder → Formula
 bound_formula f (binders.Predefined p) = Value f
@@ -145,6 +148,6 @@ sense_of_function ss names ps body = record {
   arity = length ps;
   kind_with = λ ks. if has_any ks then OfAny else kind_of_body ss names ps ks body;
   clashes = λ ks. clashes_in ss names ps ks body;
-  is_under = λ place. is_under_in ss names ps place false body;
+  is_under = λ index. is_under_in ss names ps index false body;
   formula = formula_in ss names ps body;
 }

@@ -8,7 +8,7 @@ use Rattle.binding_kinds.specs.declared.scope.Binder.TheVariants as binders
 use Rattle.binding_kinds.specs.declared.sight.Meaning.{Meaning}
 use Rattle.binding_kinds.specs.declared.sight.Meaning.TheVariants as meanings
 
--- the place of the parameter of that name, of parameters of which the latest is the first
+-- the index of the parameter of that name, of parameters of which the latest is the first
 abbrev pub parameter_of : List (List ℕ) → List ℕ → Option ℕ
 parameter_of [] x = None
 parameter_of (p ∷ ps) x = if bytes_eq p x then Some (length ps) else parameter_of ps x

@@ -26,10 +26,10 @@ pub record Sense : Type 0 where
   pub is_under : ℕ → Bool
   pub formula : Formula
 
--- the sizes of arguments from that place on, each as often as its parameter stands in the body
+-- the sizes of arguments from that index on, each as often as its parameter stands in the body
 abbrev pub size_of_arguments : (ℕ → ℕ) → ℕ → List ℕ → ℕ
-size_of_arguments factor place [] = 0
-size_of_arguments factor place (s ∷ ss) = factor place * s + size_of_arguments factor (suc place) ss
+size_of_arguments factor index [] = 0
+size_of_arguments factor index (s ∷ ss) = factor index * s + size_of_arguments factor (suc index) ss
 
 -- the size of the body with each parameter counted as its argument
 abbrev pub size_with : Sense → List ℕ → ℕ
@@ -101,7 +101,7 @@ abbrev mutual
 -- what of the parameters of a function stands under a complement or right of a difference
 abbrev pub under_of : Result Sense ModelFault → ℕ → Bool
 under_of (Ok s) = s.is_under
-under_of (Err k) = λ place. false
+under_of (Err k) = λ index. false
 
 -- The first fault of an application stands at its name, or else in its arguments.
 abbrev pub fault_applied : Result Sense ModelFault → List ℕ → List Kind → Option ModelFault → Option ModelFault
@@ -118,19 +118,21 @@ abbrev mutual
   first_within ss names from under EmptySet = None
   first_within ss names from under (Join op a b) =
       or_else (first_within ss names from under a)
-      (or_else (unless (takes op (kind_in ss names a) (kind_in ss names b)) faults.Kind) (first_within ss names from (is_turned op under) b))
-  first_within ss names from under (Mark op a) = or_else (first_within ss names from under a) (unless (is_relation (kind_in ss names a)) faults.Kind)
+      (or_else (unless (takes op (kind_in ss names a) (kind_in ss names b)) faults.Kind)
+      (first_within ss names from (is_turned op under) b))
+  first_within ss names from under (Mark op a) =
+      or_else (first_within ss names from under a) (unless (is_relation (kind_in ss names a)) faults.Kind)
   first_within ss names from under (Not a) = first_within ss names from true a
   first_within ss names from under (On a) = or_else (unless (is_set (kind_in ss names a)) faults.Kind) (first_within ss names from under a)
   first_within ss names from under (Apply x arguments) =
       let f = sense_of ss (count_of arguments) (found names x) in
       fault_applied f (sizes_in ss names arguments) (kinds_in ss names arguments) (first_among ss names from under (under_of f) 0 arguments)
 
-  -- the first fault of the arguments from that place on
+  -- the first fault of the arguments from that index on
   pub first_among : List Sense → List Naming → ℕ → Bool → (ℕ → Bool) → ℕ → Terms → Option ModelFault
-  first_among ss names from under is_under place NoTerm = None
-  first_among ss names from under is_under place (OneMore a others) =
-      or_else (first_within ss names from (under || is_under place) a) (first_among ss names from under is_under (suc place) others)
+  first_among ss names from under is_under index NoTerm = None
+  first_among ss names from under is_under index (OneMore a others) =
+      or_else (first_within ss names from (under || is_under index) a) (first_among ss names from under is_under (suc index) others)
 
 abbrev pub ArePositive : List ℕ → Type 0
 ArePositive [] = Unit {0}
@@ -140,13 +142,14 @@ ArePositive (s ∷ ss) = (0 < s) × ArePositive ss
 pub record IsKept (f : Function) (s : Sense) : Type 0 where
   pub arity : f.arity ≡ s.arity
   pub few : s.arity ≤ 8
-  pub kinds : (kinds : List Kind) → length kinds ≡ s.arity → get_or f.signatures.items (number_of kinds) unknown ≡ record { kind = s.kind_with kinds; clashes = s.clashes kinds }
-  pub under : (place : ℕ) → place < s.arity → get_or f.under place false ≡ s.is_under place
+  pub kinds : (kinds : List Kind) → length kinds ≡ s.arity
+      → get_or f.signatures.items (number_of kinds) unknown ≡ record { kind = s.kind_with kinds; clashes = s.clashes kinds }
+  pub under : (index : ℕ) → index < s.arity → get_or f.under index false ≡ s.is_under index
   pub within : HasParameters s.arity s.formula
   pub large : f.is_oversized ≡ true → 4096 < length (postfix s.formula)
   pub template : f.is_oversized ≡ false → f.template.items ≡ postfix s.formula
   pub constant : f.is_oversized ≡ false → f.constant ≡ constant_of s.formula
-  pub factor : f.is_oversized ≡ false → (place : ℕ) → place < s.arity → get_or f.factors place 0 ≡ factor_of s.formula place
+  pub factor : f.is_oversized ≡ false → (index : ℕ) → index < s.arity → get_or f.factors index 0 ≡ factor_of s.formula index
 
 abbrev pub AreKept : List Function → List Sense → Type 0
 AreKept [] [] = Unit {0}

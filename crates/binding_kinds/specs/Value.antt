@@ -1,5 +1,5 @@
 -- A model as plain data, without where it lies in memory.
-use Rattle.std.specs.Prelude.{ℕ, List, [], ◌∷◌, Bool, map}
+use Rattle.std.specs.Prelude.{ℕ, List, Bool, map}
 use Rattle.cat_values.specs.declared.model.CheckWord.{CheckWord}
 use Rattle.cat_values.specs.declared.model.Binding as code_binding
 use Rattle.cat_values.specs.declared.model.Item as code_item
@@ -41,14 +41,3 @@ clause_of (items.Include n) = Mute
 
 abbrev pub entry_of : code_entry.Entry → Naming
 entry_of e = record { name = e.name; kind = e.kind; binder = e.binder }
-
--- the item defines no function
-abbrev pub IsNoFunction : Clause → Type 0
-IsNoFunction (Group r bs) = Unit {0}
-IsNoFunction (Check w e) = Unit {0}
-IsNoFunction Mute = Unit {0}
-IsNoFunction (Defined n ps b) = ⊥
-
-abbrev pub AreNoFunctions : List Clause → Type 0
-AreNoFunctions [] = Unit {0}
-AreNoFunctions (c ∷ cs) = IsNoFunction c × AreNoFunctions cs

@@ -24,7 +24,7 @@ use std::alloc::{AllocError, Global};
 /// What is known of the arguments of an application, for one combination.
 #[derive(Clone, Copy, Debug, PartialEq, Eq)]
 struct Gathered {
-    /// Their kinds, weighed by place.
+    /// Their kinds, weighed by index.
     combination: usize,
     /// Whether an operator in one of them does not take its operands.
     clashes: bool,
@@ -58,12 +58,12 @@ fn constant(alloc: Global, arity: usize, kind: Kind) -> Result<Vec<Signature>, A
 }
 
 /// The kinds of a parameter.
-fn of_parameter(alloc: Global, arity: usize, place: usize) -> Result<Vec<Signature>, AllocError>
-    ensures { (other : Kind) → arity ≤ 8 → place < arity → IfOk result (λ v. IsFilled unknown arity (3 ^ arity) (λ kinds. plain (get_or kinds place other)) v.items) }
+fn of_parameter(alloc: Global, arity: usize, index: usize) -> Result<Vec<Signature>, AllocError>
+    ensures { (other : Kind) → arity ≤ 8 → index < arity → IfOk result (λ v. IsFilled unknown arity (3 ^ arity) (λ kinds. plain (get_or kinds index other)) v.items) }
 {
     let mut column = Vec::new(alloc);
     for combination in 0..weight(arity) {
-        column.push(plain(kind_at(combination, place)))?;
+        column.push(plain(kind_at(combination, index)))?;
     }
     Ok(column)
 }
@@ -78,7 +78,7 @@ fn named(
     ensures { let names = reverse (map entry_of sight.now.entries.now) in arity ≡ length sight.now.parameters.now → arity ≤ 8 → IfOk result (λ v. IsFilled unknown arity (3 ^ arity) (λ kinds. plain (kind_found (found (with_parameters sight.now.parameters.now kinds names) name.now))) v.items) }
 {
     match parameter(sight.parameters, name) {
-        Some(place) => of_parameter(alloc, arity, place),
+        Some(index) => of_parameter(alloc, arity, index),
         None => constant(alloc, arity, kind_found(find(sight.entries, name))),
     }
 }
@@ -165,28 +165,28 @@ fn no_arguments(alloc: Global, arity: usize) -> Result<Vec<Gathered>, AllocError
     vec![in alloc; none; weight(arity)]
 }
 
-/// With one more argument, which stands at that place.
-fn with_one(known: Gathered, place: usize, more: Signature) -> Gathered
-    ensures { place < 8 → known.combination < 6561 → result ≡ with_one place known more }
+/// With one more argument, which stands at that index.
+fn with_one(known: Gathered, index: usize, more: Signature) -> Gathered
+    ensures { index < 8 → known.combination < 6561 → result ≡ with_one index known more }
 {
     Gathered {
-        combination: known.combination.saturating_add(weighed(more.kind, place)),
+        combination: known.combination.saturating_add(weighed(more.kind, index)),
         clashes: either(known.clashes, more.clashes),
     }
 }
 
-/// With the column of the argument at that place.
+/// With the column of the argument at that index.
 fn with_argument(
     alloc: Global,
     all: &[Gathered],
-    place: usize,
+    index: usize,
     one: &[Signature],
 ) -> Result<Vec<Gathered>, AllocError>
-    ensures { (arity : ℕ) (before : List Kind → Gathered) (more : List Kind → Signature) → place < 8 → ((kinds : List Kind) → (before kinds).combination < 6561) → IsFilled none_gathered arity (3 ^ arity) before all.now → IsFilled unknown arity (3 ^ arity) more one.now → IfOk result (λ v. IsFilled none_gathered arity (3 ^ arity) (λ kinds. with_one place (before kinds) (more kinds)) v.items) }
+    ensures { (arity : ℕ) (before : List Kind → Gathered) (more : List Kind → Signature) → index < 8 → ((kinds : List Kind) → (before kinds).combination < 6561) → IsFilled none_gathered arity (3 ^ arity) before all.now → IsFilled unknown arity (3 ^ arity) more one.now → IfOk result (λ v. IsFilled none_gathered arity (3 ^ arity) (λ kinds. with_one index (before kinds) (more kinds)) v.items) }
 {
     let mut column = Vec::new(alloc);
     for (combination, known) in all.iter().enumerate() {
-        column.push(with_one(*known, place, at(one, combination)))?;
+        column.push(with_one(*known, index, at(one, combination)))?;
     }
     Ok(column)
 }
@@ -263,9 +263,9 @@ fn column_of(
                 None => constant(alloc, arity, Kind::OfAny),
                 Some(function) => {
                     let mut all = no_arguments(alloc, arity)?;
-                    for (place, argument) in arguments.iter().enumerate() {
+                    for (index, argument) in arguments.iter().enumerate() {
                         let one = column_of(alloc, sight, arity, argument)?;
-                        all = with_argument(alloc, &all, place, &one)?;
+                        all = with_argument(alloc, &all, index, &one)?;
                     }
                     applied_column(alloc, function, &all)
                 }

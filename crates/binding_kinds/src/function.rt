@@ -39,7 +39,7 @@ pub enum Piece {
 /// A function.
 #[derive(Drop)]
 pub struct Function {
-    /// The place of its item in the model.
+    /// The index of its item in the model.
     pub item: usize,
     /// How many parameters it has.
     pub arity: usize,
@@ -78,20 +78,20 @@ impl Function {
     }
 
     /// Whether the parameter stands under a complement or right of a difference.
-    pub fn is_under(&self, place: usize) -> bool
-        ensures { result ≡ get_or self.now.under place false }
+    pub fn is_under(&self, index: usize) -> bool
+        ensures { result ≡ get_or self.now.under index false }
     {
-        match self.under.get(place) {
+        match self.under.get(index) {
             Some(under) => *under,
             None => false,
         }
     }
 
     /// How often the parameter counts in the size of an application.
-    pub fn factor(&self, place: usize) -> usize
-        ensures { result ≡ get_or self.now.factors place 0 }
+    pub fn factor(&self, index: usize) -> usize
+        ensures { result ≡ get_or self.now.factors index 0 }
     {
-        match self.factors.get(place) {
+        match self.factors.get(index) {
             Some(factor) => *factor,
             None => 0,
         }
@@ -99,12 +99,12 @@ impl Function {
 }
 
 impl Piece {
-    /// Whether it is the parameter at that place.
-    fn is_parameter_at(self, place: usize) -> bool
-        ensures { result ≡ is_parameter_at place self }
+    /// Whether it is the parameter at that index.
+    fn is_parameter_at(self, index: usize) -> bool
+        ensures { result ≡ is_parameter_at index self }
     {
         match self {
-            Piece::Parameter(other) => other == place,
+            Piece::Parameter(other) => other == index,
             Piece::Value(_) => false,
             Piece::Everything => false,
             Piece::NoPairs => false,
@@ -135,12 +135,12 @@ impl Piece {
 }
 
 /// How often the parameter stands in a template.
-fn count_parameter(template: &[Piece], place: usize) -> usize
-    ensures { result ≡ count_by (is_parameter_at place) template.now }
+fn count_parameter(template: &[Piece], index: usize) -> usize
+    ensures { result ≡ count_by (is_parameter_at index) template.now }
 {
     let mut count = 0usize;
     for piece in template {
-        if piece.is_parameter_at(place) {
+        if piece.is_parameter_at(index) {
             count += 1;
         }
     }
@@ -163,11 +163,11 @@ fn count_others(template: &[Piece]) -> usize
 /// Counts the parts of a template: those that are no parameter, and each parameter.
 pub fn count_parts(template: &[Piece]) -> (usize, [usize; MAX_PARAMETERS])
     ensures constant { result.0 ≡ count_by is_no_parameter template.now }
-    ensures factors { (place : ℕ) → place < 8 → get_or result.1 place 0 ≡ count_by (is_parameter_at place) template.now }
+    ensures factors { (index : ℕ) → index < 8 → get_or result.1 index 0 ≡ count_by (is_parameter_at index) template.now }
 {
     let mut factors = [0usize; MAX_PARAMETERS];
-    for place in 0..MAX_PARAMETERS {
-        factors[place] = count_parameter(template, place);
+    for index in 0..MAX_PARAMETERS {
+        factors[index] = count_parameter(template, index);
     }
     (count_others(template), factors)
 }

@@ -25,14 +25,14 @@ pub struct Judged {
     pub kind: Kind,
     /// How many names, signs and operators it has, with the bodies of functions put in.
     pub size: usize,
-    /// The first by place, if there is one.
+    /// The first in the order of the text, if there is one.
     pub fault: Option<ModelFault>,
 }
 
 /// What is known of the arguments of an application so far.
 #[derive(Clone, Copy, Debug, PartialEq, Eq)]
 struct Arguments {
-    /// Their kinds, weighed by place.
+    /// Their kinds, weighed by index.
     combination: usize,
     /// The size of the application.
     size: usize,
@@ -169,15 +169,15 @@ impl Arguments {
         }
     }
 
-    /// With the argument at that place.
-    fn with(self, function: &Function, place: usize, one: Judged) -> Arguments
-        ensures combination { place < 8 → self.combination < 6561 → result.combination ≡ self.combination + digit one.kind * 3 ^ place }
-        ensures size { IsAlike result.size (self.size + get_or function.now.factors place 0 * one.size) }
+    /// With the argument at that index.
+    fn with(self, function: &Function, index: usize, one: Judged) -> Arguments
+        ensures combination { index < 8 → self.combination < 6561 → result.combination ≡ self.combination + digit one.kind * 3 ^ index }
+        ensures size { IsAlike result.size (self.size + get_or function.now.factors index 0 * one.size) }
         ensures fault { result.fault ≡ or_else self.fault one.fault }
     {
-        let more = function.factor(place).saturating_mul(one.size);
+        let more = function.factor(index).saturating_mul(one.size);
         Arguments {
-            combination: self.combination.saturating_add(weighed(one.kind, place)),
+            combination: self.combination.saturating_add(weighed(one.kind, index)),
             size: self.size.saturating_add(more),
             fault: or_else(self.fault, one.fault),
         }
@@ -297,10 +297,10 @@ pub fn judge(
                 Err(fault) => faulty(fault),
                 Ok(function) => {
                     let mut all = Arguments::of(function);
-                    for (place, argument) in arguments.iter().enumerate() {
-                        let inner = either(under, function.is_under(place));
+                    for (index, argument) in arguments.iter().enumerate() {
+                        let inner = either(under, function.is_under(index));
                         let one = judge(entries, functions, from, inner, argument);
-                        all = all.with(function, place, one);
+                        all = all.with(function, index, one);
                     }
                     all.applied(function)
                 }
@@ -313,13 +313,13 @@ pub fn judge(
 fn is_seen(before: &[Binding], name: &Name) -> bool
     ensures { result ≡ is_seen (names_of before.now) name.now }
 {
-    let mut seen = false;
+    let mut is_found = false;
     for binding in before {
         if binding.name.is_same(name) {
-            seen = true;
+            is_found = true;
         }
     }
-    seen
+    is_found
 }
 
 /// The first fault of a binding's own name.
@@ -350,9 +350,9 @@ pub fn group_fault(
 ) -> Option<ModelFault>
     ensures { (senses : List Sense) → AreKept functions.now senses → result ≡ first_in senses (reverse (map entry_of entries.now)) from recursive [] (map bound_of group.now) }
 {
-    for (place, binding) in group.iter().enumerate() {
+    for (index, binding) in group.iter().enumerate() {
         let body = judge(entries, functions, from, false, &binding.body);
-        let own = binding_fault(body.kind, recursive, &group[..place], binding);
+        let own = binding_fault(body.kind, recursive, &group[..index], binding);
         let fault = or_else(own, body.fault);
         if fault.is_some() {
             return fault;
@@ -366,13 +366,13 @@ pub fn group_fault(
 fn is_among(before: &[Name], name: &Name) -> bool
     ensures { result ≡ is_seen (reverse before.now) name.now }
 {
-    let mut seen = false;
+    let mut is_found = false;
     for parameter in before {
         if parameter.as_bytes() == name.as_bytes() {
-            seen = true;
+            is_found = true;
         }
     }
-    seen
+    is_found
 }
 
 /// The fault of a parameter after those before it.
@@ -390,8 +390,8 @@ fn one_parameter_fault(before: &[Name], parameter: &Name) -> Option<ModelFault>
 pub fn parameter_fault(parameters: &[Name]) -> Option<ModelFault>
     ensures { result ≡ of_parameters [] parameters.now }
 {
-    for (place, parameter) in parameters.iter().enumerate() {
-        let fault = one_parameter_fault(&parameters[..place], parameter);
+    for (index, parameter) in parameters.iter().enumerate() {
+        let fault = one_parameter_fault(&parameters[..index], parameter);
         if fault.is_some() {
             return fault;
         }

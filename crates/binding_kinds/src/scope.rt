@@ -11,7 +11,7 @@ use cat_values::{PREDEFINED, Predefined};
 use source_text::Name;
 use std::alloc::{AllocError, Global};
 
-/// A name of another item: the item's place in the model, and the name's position in its group.
+/// A name of another item: the item's index in the model, and the name's position in its group.
 #[derive(Clone, Copy, Debug, PartialEq, Eq)]
 pub struct Input {
     /// From 0, in the order of the text.
@@ -27,7 +27,7 @@ pub enum Binder {
     Predefined(Predefined),
     /// A name of a group.
     Bound(Input),
-    /// A function, by its place among the functions of the scope.
+    /// A function, by its index among the functions of the scope.
     Applicable(usize),
 }
 
@@ -42,7 +42,7 @@ pub struct Entry {
     pub binder: Binder,
 }
 
-/// Where a name is bound, as a place in the scope, and what it stands for there.
+/// Where a name is bound, as an index in the scope, and what it stands for there.
 #[derive(Clone, Copy, Debug, PartialEq, Eq)]
 pub struct Found {
     /// From 0.
@@ -53,16 +53,16 @@ pub struct Found {
     pub binder: Binder,
 }
 
-/// A name of another item that an item uses, by its slot and by its place in that item.
+/// A name of another item that an item uses, by its slot and by its index in that item.
 #[derive(Clone, Copy, Debug, PartialEq, Eq)]
 pub struct Used {
-    /// Its place in the scope.
+    /// Its index in the scope.
     pub slot: usize,
     /// Its item and its position there.
     pub input: Input,
 }
 
-/// The names that are seen, the latest last. A name's place, its slot, stays the same as the
+/// The names that are seen, the latest last. A name's index, its slot, stays the same as the
 /// scope grows.
 #[derive(Drop)]
 pub struct Scope {

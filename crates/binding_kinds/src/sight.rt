@@ -27,21 +27,21 @@ pub struct Sight<'a> {
 /// What a name without arguments stands for.
 #[derive(Clone, Copy, PartialEq, Eq)]
 pub enum Meaning {
-    /// A parameter, by its place.
+    /// A parameter, by its index.
     Parameter(usize),
     /// A name of the scope that is no function.
     Value(Found),
 }
 
-/// The place of the parameter of that name.
+/// The index of the parameter of that name.
 #[tactic(auto, using(crate::proofs::Scopes::rev_next))]
 pub(crate) fn parameter(parameters: &[Name], name: &Name) -> Option<usize>
     ensures { result ≡ parameter_of (reverse parameters.now) name.now }
 {
     let mut last = None;
-    for (place, one) in parameters.iter().enumerate() {
+    for (index, one) in parameters.iter().enumerate() {
         if one.as_bytes() == name.as_bytes() {
-            last = Some(place);
+            last = Some(index);
         }
     }
     last
@@ -53,8 +53,8 @@ impl Sight<'_> {
     pub fn value(&self, name: &Name) -> Result<Meaning, ModelFault>
         ensures { result ≡ meaning_of (parameter_of (reverse self.now.parameters.now) name.now) (found (reverse (map entry_of self.now.entries.now)) name.now) }
     {
-        if let Some(place) = parameter(self.parameters, name) {
-            return Ok(Meaning::Parameter(place));
+        if let Some(index) = parameter(self.parameters, name) {
+            return Ok(Meaning::Parameter(index));
         }
         match find(self.entries, name) {
             None => Err(ModelFault::Unbound),
@@ -87,12 +87,12 @@ impl Sight<'_> {
     }
 
     /// Whether the function has that parameter under a complement or right of a difference.
-    pub fn is_under(&self, function: usize, place: usize) -> bool
-        ensures there { (one : Function) → slice_get self.now.functions.now function ≡ Some one → result ≡ get_or one.under place false }
+    pub fn is_under(&self, function: usize, index: usize) -> bool
+        ensures there { (one : Function) → slice_get self.now.functions.now function ≡ Some one → result ≡ get_or one.under index false }
         ensures none { slice_get self.now.functions.now function ≡ None → result ≡ false }
     {
         match self.functions.get(function) {
-            Some(one) => one.is_under(place),
+            Some(one) => one.is_under(index),
             None => false,
         }
     }

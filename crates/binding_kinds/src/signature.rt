@@ -14,13 +14,13 @@ pub struct Signature {
     pub clashes: bool,
 }
 
-/// Three to the power of a place, up to the eighth.
-pub fn weight(place: usize) -> usize
-    ensures power { place ≤ 8 → result ≡ 3 ^ place }
+/// Three to the power of an index, up to the eighth.
+pub fn weight(index: usize) -> usize
+    ensures power { index ≤ 8 → result ≡ 3 ^ index }
     ensures low { 0 < result }
     ensures high { result ≤ 6561 }
 {
-    match place {
+    match index {
         0 => 1,
         1 => 3,
         2 => 9,
@@ -33,11 +33,11 @@ pub fn weight(place: usize) -> usize
     }
 }
 
-/// The kind at that place of a combination of kinds.
-pub fn kind_at(combination: usize, place: usize) -> Kind
-    ensures { (kinds : List Kind) → (other : Kind) → combination ≡ number_of kinds → place < length kinds → length kinds ≤ 8 → result ≡ get_or kinds place other }
+/// The kind at that index of a combination of kinds.
+pub fn kind_at(combination: usize, index: usize) -> Kind
+    ensures { (kinds : List Kind) → (other : Kind) → combination ≡ number_of kinds → index < length kinds → length kinds ≤ 8 → result ≡ get_or kinds index other }
 {
-    let digit = combination / weight(place) % 3;
+    let digit = combination / weight(index) % 3;
     if digit == 0 {
         Kind::OfSet
     } else if digit == 1 {
@@ -47,15 +47,15 @@ pub fn kind_at(combination: usize, place: usize) -> Kind
     }
 }
 
-/// What a kind at that place adds to a combination.
-pub fn weighed(kind: Kind, place: usize) -> usize
+/// What a kind at that index adds to a combination.
+pub fn weighed(kind: Kind, index: usize) -> usize
     ensures small { result ≤ 13122 }
-    ensures power { place ≤ 8 → result ≡ digit kind * 3 ^ place }
+    ensures power { index ≤ 8 → result ≡ digit kind * 3 ^ index }
 {
     match kind {
         Kind::OfSet => 0,
-        Kind::OfRelation => weight(place),
-        Kind::OfAny => 2 * weight(place),
+        Kind::OfRelation => weight(index),
+        Kind::OfAny => 2 * weight(index),
     }
 }
 
@@ -64,8 +64,8 @@ pub fn has_any(combination: usize, arity: usize) -> bool
     ensures { (kinds : List Kind) → combination ≡ number_of kinds → arity ≡ length kinds → length kinds ≤ 8 → result ≡ has_any kinds }
 {
     let mut any = false;
-    for place in 0..arity {
-        if kind_at(combination, place).is_any() {
+    for index in 0..arity {
+        if kind_at(combination, index).is_any() {
             any = true;
         }
     }

@@ -8,7 +8,7 @@ use Rattle.candidates.specs.Executions.{product}
 use Rattle.candidates.specs.Events.{CannotRead}
 use Rattle.candidates.specs.Layouts.{ArePartsOf, AreThreadsOf, AreChosen, chosen_events, HasRun, HaveParts, IsLaidOut}
 use Rattle.candidates.specs.Parts.{IsPartOf}
-use Rattle.candidates.specs.Search.{Begun, with_run, combinations, start, all_combinations}
+use Rattle.candidates.specs.Search.{PrefixLists, with_run, combinations, start, all_combinations}
 use Rattle.candidates.specs.declared.candidate.Event.{Event}
 use Rattle.thread_runs.specs.declared.instruction.Program.{Program}
 use Rattle.candidates.specs.declared.layout.Layout.{Layout}
@@ -18,29 +18,29 @@ use Rattle.candidates.proofs.Searching.{going_on}
 
 -- the combination goes on from another one with parts of these runs, which stand among those of the threads from this
 -- one on
-abbrev pub GoesOnWith : ℕ → Begun → List ThreadParts → List Run → Begun → Type 0
+abbrev pub GoesOnWith : ℕ → PrefixLists → List ThreadParts → List Run → PrefixLists → Type 0
 GoesOnWith thread b [] [] c = c ≡ b
 GoesOnWith thread b [] (r ∷ rs) c = ⊥
 GoesOnWith thread b (t ∷ ts) [] c = ⊥
 GoesOnWith thread b (t ∷ ts) (r ∷ rs) c = (at : ℕ) × (p : Part) × ((slice_get t.parts.items at ≡ Some p) × IsPartOf thread r p) × GoesOnWith (thread + 1) (with_run at p b) ts rs c
 
 -- each choice of runs in turn is that of the next combination, or it has a load that no store serves
-pub data AreChoices (thread : ℕ) (b : Begun) (ts : List ThreadParts) : List (List Run) → List Begun → Type 0 where
+pub data AreChoices (thread : ℕ) (b : PrefixLists) (ts : List ThreadParts) : List (List Run) → List PrefixLists → Type 0 where
   over : AreChoices thread b ts [] []
-  next : {rs : List Run} {rss : List (List Run)} {c : Begun} {cs : List Begun} → GoesOnWith thread b ts rs c → AreChoices thread b ts rss cs → AreChoices thread b ts (rs ∷ rss) (c ∷ cs)
-  skipped : {rs : List Run} {rss : List (List Run)} {cs : List Begun} → CannotRead (b.seen.events ++ chosen_events thread rs) → AreChoices thread b ts rss cs → AreChoices thread b ts (rs ∷ rss) cs
+  next : {rs : List Run} {rss : List (List Run)} {c : PrefixLists} {cs : List PrefixLists} → GoesOnWith thread b ts rs c → AreChoices thread b ts rss cs → AreChoices thread b ts (rs ∷ rss) (c ∷ cs)
+  skipped : {rs : List Run} {rss : List (List Run)} {cs : List PrefixLists} → CannotRead (b.combination.events ++ chosen_events thread rs) → AreChoices thread b ts rss cs → AreChoices thread b ts (rs ∷ rss) cs
 
-choices_append : (thread : ℕ) (b : Begun) (ts : List ThreadParts) (xs us : List (List Run)) (cs ds : List Begun) → AreChoices thread b ts xs cs → AreChoices thread b ts us ds → AreChoices thread b ts (xs ++ us) (cs ++ ds)
+choices_append : (thread : ℕ) (b : PrefixLists) (ts : List ThreadParts) (xs us : List (List Run)) (cs ds : List PrefixLists) → AreChoices thread b ts xs cs → AreChoices thread b ts us ds → AreChoices thread b ts (xs ++ us) (cs ++ ds)
 choices_append thread b ts [] us cs ds over k = k
 choices_append thread b ts (x ∷ xs) us cs ds (next {cs = es} g h) k = next g (choices_append thread b ts xs us es ds h k)
 choices_append thread b ts (x ∷ xs) us cs ds (skipped n h) k = skipped n (choices_append thread b ts xs us cs ds h k)
 
 -- with a part of a run before them
-events_with : (thread at : ℕ) (b : Begun) (r : Run) (p : Part) (rs : List Run) → IsPartOf thread r p → (with_run at p b).seen.events ++ chosen_events (thread + 1) rs ≡ b.seen.events ++ chosen_events thread (r ∷ rs)
+events_with : (thread at : ℕ) (b : PrefixLists) (r : Run) (p : Part) (rs : List Run) → IsPartOf thread r p → (with_run at p b).combination.events ++ chosen_events (thread + 1) rs ≡ b.combination.events ++ chosen_events thread (r ∷ rs)
 events_with thread at b r p rs is =
-    append_assoc b.seen.events p.events.items (chosen_events (thread + 1) rs) ∙ ap (λ (es : List Event). b.seen.events ++ (es ++ chosen_events (thread + 1) rs)) is.events
+    append_assoc b.combination.events p.events.items (chosen_events (thread + 1) rs) ∙ ap (λ (es : List Event). b.combination.events ++ (es ++ chosen_events (thread + 1) rs)) is.events
 
-with_part : (thread at : ℕ) (b : Begun) (t : ThreadParts) (ts : List ThreadParts) (r : Run) (p : Part) → slice_get t.parts.items at ≡ Some p → IsPartOf thread r p → (rss : List (List Run)) (cs : List Begun) → AreChoices (thread + 1) (with_run at p b) ts rss cs → AreChoices thread b (t ∷ ts) (map (λ (rs : List Run). r ∷ rs) rss) cs
+with_part : (thread at : ℕ) (b : PrefixLists) (t : ThreadParts) (ts : List ThreadParts) (r : Run) (p : Part) → slice_get t.parts.items at ≡ Some p → IsPartOf thread r p → (rss : List (List Run)) (cs : List PrefixLists) → AreChoices (thread + 1) (with_run at p b) ts rss cs → AreChoices thread b (t ∷ ts) (map (λ (rs : List Run). r ∷ rs) rss) cs
 with_part thread at b t ts r p e is [] cs over = over
 with_part thread at b t ts r p e is (rs ∷ rss) cs (next {cs = ds} g h) = next (at, p, (e, is), g) (with_part thread at b t ts r p e is rss ds h)
 with_part thread at b t ts r p e is (rs ∷ rss) cs (skipped n h) = skipped (subst CannotRead (events_with thread at b r p rs is) n) (with_part thread at b t ts r p e is rss cs h)
@@ -86,7 +86,7 @@ all_chosen [] = one_more [] tt no_more
 all_chosen (v ∷ vs) = chosen_rows v vs (product (runs_in vs)) (all_chosen vs) 0 v.items (from_start v.items)
 
 -- choices of which none can read
-none_read_with : (thread : ℕ) (b : Begun) (ts : List ThreadParts) (r : Run) (vs : List (Vec Run Global)) → ((ks : List ℕ) (rs : List Run) → AreChosen vs ks rs → CannotRead (b.seen.events ++ chosen_events thread (r ∷ rs))) → (rss : List (List Run)) → AllChosen vs rss → AreChoices thread b ts (map (λ (rs : List Run). r ∷ rs) rss) []
+none_read_with : (thread : ℕ) (b : PrefixLists) (ts : List ThreadParts) (r : Run) (vs : List (Vec Run Global)) → ((ks : List ℕ) (rs : List Run) → AreChosen vs ks rs → CannotRead (b.combination.events ++ chosen_events thread (r ∷ rs))) → (rss : List (List Run)) → AllChosen vs rss → AreChoices thread b ts (map (λ (rs : List Run). r ∷ rs) rss) []
 none_read_with thread b ts r vs stuck [] no_more = over
 none_read_with thread b ts r vs stuck (rs ∷ rss) (one_more ks c h) = skipped (stuck ks rs c) (none_read_with thread b ts r vs stuck rss h)
 
@@ -111,7 +111,7 @@ no_part_past thread all k (p ∷ ps) h parts =
 abbrev LeavesOut : ℕ → List Event → List (Vec Run Global) → List ThreadParts → Type 0
 LeavesOut thread front vs ts = (ks : List ℕ) (rs : List Run) → AreChosen vs ks rs → HaveParts ts ks ⊎ CannotRead (front ++ chosen_events thread rs)
 
-module _ (thread : ℕ) (b : Begun) (v : Vec Run Global) (vs : List (Vec Run Global)) (t : ThreadParts) (ts : List ThreadParts) (each : (at k : ℕ) (r : Run) (p : Part) → slice_get v.items k ≡ Some r → IsPartOf thread r p → AreChoices (thread + 1) (with_run at p b) ts (product (runs_in vs)) (combinations (with_run at p b) ts)) (out : (k : ℕ) (ks : List ℕ) (r : Run) (rs : List Run) → slice_get v.items k ≡ Some r → AreChosen vs ks rs → (HasRun t.parts.items k × HaveParts ts ks) ⊎ CannotRead (b.seen.events ++ chosen_events thread (r ∷ rs))) where
+module _ (thread : ℕ) (b : PrefixLists) (v : Vec Run Global) (vs : List (Vec Run Global)) (t : ThreadParts) (ts : List ThreadParts) (each : (at k : ℕ) (r : Run) (p : Part) → slice_get v.items k ≡ Some r → IsPartOf thread r p → AreChoices (thread + 1) (with_run at p b) ts (product (runs_in vs)) (combinations (with_run at p b) ts)) (out : (k : ℕ) (ks : List ℕ) (r : Run) (rs : List Run) → slice_get v.items k ≡ Some r → AreChosen vs ks rs → (HasRun t.parts.items k × HaveParts ts ks) ⊎ CannotRead (b.combination.events ++ chosen_events thread (r ∷ rs))) where
   -- the choices that take a run of the thread that has no part
   none_here : (k : ℕ) (r : Run) → slice_get v.items k ≡ Some r → (HasRun t.parts.items k → ⊥) → AreChoices thread b (t ∷ ts) (map (λ (rs : List Run). r ∷ rs) (product (runs_in vs))) []
   none_here k r e never =
@@ -144,7 +144,7 @@ module _ (thread : ℕ) (b : Begun) (v : Vec Run Global) (vs : List (Vec Run Glo
       some_is e = cc
 
 -- so all combinations are all choices, but for those that cannot read
-pub choices_made : (thread : ℕ) (vs : List (Vec Run Global)) (ts : List ThreadParts) (b : Begun) → AreThreadsOf thread vs ts → LeavesOut thread b.seen.events vs ts → AreChoices thread b ts (product (runs_in vs)) (combinations b ts)
+pub choices_made : (thread : ℕ) (vs : List (Vec Run Global)) (ts : List ThreadParts) (b : PrefixLists) → AreThreadsOf thread vs ts → LeavesOut thread b.combination.events vs ts → AreChoices thread b ts (product (runs_in vs)) (combinations b ts)
 choices_made thread [] [] b h out = next refl over
 choices_made thread [] (t ∷ ts) b h out = absurd h
 choices_made thread (v ∷ vs) [] b h out = absurd h

@@ -7,8 +7,8 @@ use Rattle.candidates.proofs.Elements.{member_cases, member_later, member_first,
 use Rattle.candidates.specs.Candidates.{AreCombinations, nothing_left, with_ways, without}
 use Rattle.candidates.specs.Events.{numbers, is_load, is_store, ReadsFrom}
 use Rattle.candidates.specs.Lists.{tuples, IsFiltered, none, kept, left}
-use Rattle.candidates.specs.Search.{Begun}
-use Rattle.candidates.specs.Space.{Seen}
+use Rattle.candidates.specs.Search.{PrefixLists}
+use Rattle.candidates.specs.Space.{CombinationLists}
 use Rattle.candidates.specs.Ways.{AreWays, IsWay, accesses_in}
 use Rattle.candidates.specs.declared.candidate.Event.{Event}
 
@@ -230,10 +230,10 @@ filtered {X} P each (x ∷ xs) = go (each x) (filtered P each xs)
     go (inr n) f = (f.0, left n f.1)
 
 -- so there are the combinations
-pub combined : (n : ℕ) (bs : List Begun) → (cs : List Seen) × AreCombinations n bs cs
+pub combined : (n : ℕ) (bs : List PrefixLists) → (cs : List CombinationLists) × AreCombinations n bs cs
 combined n [] = ([], nothing_left)
-combined n (b ∷ bs) = go (filtered (IsWay (accesses_in b.seen.events b.needs)) (way_decided b.seen.events b.needs) (tuples [] (accesses_in b.seen.events b.needs).sources)) (combined n bs)
+combined n (b ∷ bs) = go (filtered (IsWay (accesses_in b.combination.events b.needs)) (way_decided b.combination.events b.needs) (tuples [] (accesses_in b.combination.events b.needs).sources)) (combined n bs)
   where
-    go : ((ways : List (List ℕ)) × AreWays b.seen.events b.needs ways) → ((cs : List Seen) × AreCombinations n bs cs) → (cs : List Seen) × AreCombinations n (b ∷ bs) cs
+    go : ((ways : List (List ℕ)) × AreWays b.combination.events b.needs ways) → ((cs : List CombinationLists) × AreCombinations n bs cs) → (cs : List CombinationLists) × AreCombinations n (b ∷ bs) cs
     go ([], are) rest = (rest.0, without are rest.1)
     go ((w ∷ ws), are) rest = (_, with_ways are rest.1)

@@ -6,6 +6,7 @@ use Rattle.thread_runs.specs.declared.value.Value.{Value}
 use Rattle.thread_runs.specs.declared.run.Run as made
 use Rattle.thread_runs.specs.Runs.{Thread, Run, IsRun}
 use Rattle.dataflow.specs.Chains.{IsNeed}
+use Rattle.dataflow.specs.DependencyLists.{no_dependencies}
 use Rattle.candidates.proofs.Choosing.{AreChoices, GoesOnWith, over, next, skipped}
 use Rattle.candidates.proofs.Executing.{executed_so, executions_found, orders_at, orders_filtered}
 use Rattle.candidates.proofs.Facts.{events_are}
@@ -20,8 +21,8 @@ use Rattle.candidates.specs.Candidates.{AreSmall, AreCombinations, nothing_left,
 use Rattle.candidates.specs.Executions.{Execution, IsExecution, IsDependency, IsOrder, MayRead, product, maps, orders, over_runs, loads, locations_from, events}
 use Rattle.candidates.specs.Lists.{IsFiltered, none, left}
 use Rattle.candidates.specs.Events.{initial_stores, ReadsFrom, CannotRead}
-use Rattle.candidates.specs.Search.{Begun, start}
-use Rattle.candidates.specs.Space.{Seen, ordered}
+use Rattle.candidates.specs.Search.{PrefixLists, start}
+use Rattle.candidates.specs.Space.{CombinationLists, ordered}
 use Rattle.candidates.specs.Ways.{AreWays, accesses_in}
 use Rattle.candidates.specs.declared.candidate.Event.{Event}
 
@@ -31,9 +32,9 @@ none_of_less P Q less [] none = none
 none_of_less P Q less (x ∷ xs) (left fails f) = left (λ q. fails (less x q)) (none_of_less P Q less xs f)
 
 -- these events alone, and no needs
-abbrev bare : List Event → Begun
-bare es = record {
-  seen = record { events = es; addr_pairs = []; data_pairs = []; ctrl_pairs = []; ctrlisync_pairs = []; runs = []; sources = []; orders = [] };
+abbrev events_alone : List Event → PrefixLists
+events_alone es = record {
+  combination = record { events = es; dependencies = no_dependencies; runs = []; sources = []; orders = [] };
   needs = [];
   faulted = false;
 }
@@ -53,31 +54,31 @@ none_executed initial threads V rs are stuck =
     (maps (events initial rs)) [] (orders (events initial rs) initial) (product (orders_at (events initial rs) initial))
     (none_of_less (Reading (events initial rs) (accesses_in (events initial rs) []).Need) (Reading (events initial rs) (IsDependency IsNeed initial rs))
     (λ way h. (h.0, acyclic_as (Union (accesses_in (events initial rs) []).Need (ReadsFrom (loads (events initial rs)) way)) (Union (IsDependency IsNeed initial rs) (ReadsFrom (loads (events initial rs)) way)) (λ a b u. elim u [ inl n ↦ absurd (no_need (events initial rs) a b n) | inr y ↦ inr y ]) h.1))
-    (maps (events initial rs)) (reads_found (events initial rs) [] (accesses_in (events initial rs) []).Need (λ a b n. n) (λ a b n. n) [] (no_ways stuck.0 stuck.1 (bare (events initial rs)) (stuck.2, stuck.3))))
+    (maps (events initial rs)) (reads_found (events initial rs) [] (accesses_in (events initial rs) []).Need (λ a b n. n) (λ a b n. n) [] (no_ways stuck.0 stuck.1 (events_alone (events initial rs)) (stuck.2, stuck.3))))
     (orders_filtered initial rs)
 
 -- one combination of runs, with its ways to read, and the executions that these make with the orders of the stores
-pub record IsListed (n : ℕ) (initial : List Value) (threads : List Thread) (V : List Value) (ts : List ThreadParts) (b : Begun) (rs : List Run) : Type 0 where
+pub record IsListed (n : ℕ) (initial : List Value) (threads : List Thread) (V : List Value) (ts : List ThreadParts) (b : PrefixLists) (rs : List Run) : Type 0 where
   pub made : List made.Run
   pub one : AreOne V threads made rs
   pub goes : GoesOnWith 0 (start (initial_stores 0 initial)) ts made b
-  pub few : length b.seen.events ≤ 128
-  pub events : b.seen.events ≡ events initial rs
+  pub few : length b.combination.events ≤ 128
+  pub events : b.combination.events ≡ events initial rs
 
 -- the executions are those of these combinations, one after another: each way to read with each order of the stores
-pub data AreListed (n : ℕ) (initial : List Value) (threads : List Thread) (V : List Value) (ts : List ThreadParts) : List Begun → List Seen → List Execution → Type 0 where
+pub data AreListed (n : ℕ) (initial : List Value) (threads : List Thread) (V : List Value) (ts : List ThreadParts) : List PrefixLists → List CombinationLists → List Execution → Type 0 where
   no_more : AreListed n initial threads V ts [] [] []
-  one_more : {b : Begun} {bs : List Begun} {cs : List Seen} {xs : List Execution} {way : List ℕ} {ways : List (List ℕ)} (rs : List Run) → IsListed n initial threads V ts b rs → AreWays b.seen.events b.needs (way ∷ ways) → AreListed n initial threads V ts bs cs xs → AreListed n initial threads V ts (b ∷ bs) (ordered n (record b.seen { sources = way ∷ ways }) ∷ cs) (flat_map (λ w. map (executed_so initial rs w) (product (orders_at (events initial rs) initial))) (way ∷ ways) ++ xs)
-  not_one : {b : Begun} {bs : List Begun} {cs : List Seen} {xs : List Execution} → AreWays b.seen.events b.needs [] → AreListed n initial threads V ts bs cs xs → AreListed n initial threads V ts (b ∷ bs) cs xs
+  one_more : {b : PrefixLists} {bs : List PrefixLists} {cs : List CombinationLists} {xs : List Execution} {way : List ℕ} {ways : List (List ℕ)} (rs : List Run) → IsListed n initial threads V ts b rs → AreWays b.combination.events b.needs (way ∷ ways) → AreListed n initial threads V ts bs cs xs → AreListed n initial threads V ts (b ∷ bs) (ordered n (record b.combination { sources = way ∷ ways }) ∷ cs) (flat_map (λ w. map (executed_so initial rs w) (product (orders_at (events initial rs) initial))) (way ∷ ways) ++ xs)
+  not_one : {b : PrefixLists} {bs : List PrefixLists} {cs : List CombinationLists} {xs : List Execution} → AreWays b.combination.events b.needs [] → AreListed n initial threads V ts bs cs xs → AreListed n initial threads V ts (b ∷ bs) cs xs
 
 -- all executions
-pub record Listing (n : ℕ) (initial : List Value) (threads : List Thread) (V : List Value) (ts : List ThreadParts) (bs : List Begun) (cs : List Seen) (rss : List (List Run)) : Type 0 where
+pub record Listing (n : ℕ) (initial : List Value) (threads : List Thread) (V : List Value) (ts : List ThreadParts) (bs : List PrefixLists) (cs : List CombinationLists) (rss : List (List Run)) : Type 0 where
   pub all : List Execution
   pub executions : IsFiltered (IsExecution initial threads (Contains V)) (flat_map (over_runs initial) rss) all
   pub listed : AreListed n initial threads V ts bs cs all
 
 module _ (n : ℕ) (initial : List Value) (threads : List Thread) (V : List Value) (ts : List ThreadParts) where
-  one_listed : (ms : List made.Run) (rs : List Run) (b : Begun) → AreOne V threads ms rs → GoesOnWith 0 (start (initial_stores 0 initial)) ts ms b → length b.seen.events ≤ 128 → IsListed n initial threads V ts b rs
+  one_listed : (ms : List made.Run) (rs : List Run) (b : PrefixLists) → AreOne V threads ms rs → GoesOnWith 0 (start (initial_stores 0 initial)) ts ms b → length b.combination.events ≤ 128 → IsListed n initial threads V ts b rs
   one_listed ms rs b one g few = record {
     made = ms;
     one = one;
@@ -86,12 +87,12 @@ module _ (n : ℕ) (initial : List Value) (threads : List Thread) (V : List Valu
     events = events_are 0 (start (initial_stores 0 initial)) b ts ms g ∙ ap (λ (l : List Event). initial_stores 0 initial ++ l) (same_events V threads 0 ms rs one);
   }
 
-  executions_of : (b : Begun) (rs : List Run) (ways : List (List ℕ)) → IsListed n initial threads V ts b rs → AreWays b.seen.events b.needs ways → IsFiltered (IsExecution initial threads (Contains V)) (over_runs initial rs) (flat_map (λ w. map (executed_so initial rs w) (product (orders_at (events initial rs) initial))) ways)
+  executions_of : (b : PrefixLists) (rs : List Run) (ways : List (List ℕ)) → IsListed n initial threads V ts b rs → AreWays b.combination.events b.needs ways → IsFiltered (IsExecution initial threads (Contains V)) (over_runs initial rs) (flat_map (λ w. map (executed_so initial rs w) (product (orders_at (events initial rs) initial))) ways)
   executions_of b rs ways i are =
       executions_found initial rs threads V b.needs (one_run_each V threads i.made rs i.one) (λ x y. (needs_are V threads ts i.made rs initial b i.one i.goes i.few x y).0) (λ x y. (needs_are V threads ts i.made rs initial b i.one i.goes i.few x y).1) ways
       (subst (λ (l : List Event). AreWays l b.needs ways) i.events are)
 
-  pub all_listed : (mss : List (List made.Run)) (rss : List (List Run)) (bs : List Begun) (cs : List Seen) → AllZip (AreOne V threads) mss rss → AreChoices 0 (start (initial_stores 0 initial)) ts mss bs → AreSmall bs → AreCombinations n bs cs → Listing n initial threads V ts bs cs rss
+  pub all_listed : (mss : List (List made.Run)) (rss : List (List Run)) (bs : List PrefixLists) (cs : List CombinationLists) → AllZip (AreOne V threads) mss rss → AreChoices 0 (start (initial_stores 0 initial)) ts mss bs → AreSmall bs → AreCombinations n bs cs → Listing n initial threads V ts bs cs rss
   all_listed [] [] bs cs same over small nothing_left = record { all = []; executions = none; listed = no_more }
   all_listed [] (rs ∷ rss) bs cs same h small k = absurd same
   all_listed (ms ∷ mss) [] bs cs same h small k = absurd same

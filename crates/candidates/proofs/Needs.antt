@@ -12,11 +12,11 @@ use Rattle.candidates.proofs.Choosing.{GoesOnWith}
 use Rattle.candidates.proofs.Elements.{behind_first, in_first}
 use Rattle.candidates.proofs.Facts.{need, facts}
 use Rattle.candidates.proofs.Kept.{AreOne, one_run_each}
-use Rattle.candidates.proofs.StepEvents.{Stands, events_stand, stores as stores_to}
+use Rattle.candidates.proofs.StepEvents.{Stands, events_stand}
 use Rattle.candidates.proofs.Numbers.{number_there}
-use Rattle.candidates.specs.Events.{thread_events, initial_stores, is_load, is_store}
+use Rattle.candidates.specs.Events.{thread_events, initial_stores, is_load, is_store, stores_to}
 use Rattle.candidates.specs.Executions.{IsDependency, loads, stores, events, events_from}
-use Rattle.candidates.specs.Search.{Begun, start}
+use Rattle.candidates.specs.Search.{PrefixLists, start}
 use Rattle.candidates.specs.Ways.{accesses_in}
 use Rattle.candidates.specs.declared.candidate.Event.{Event}
 use Rattle.candidates.specs.declared.layout.ThreadParts.{ThreadParts}
@@ -81,12 +81,12 @@ store_is (Branch c l) p h = absurd h
 store_is (Jump l) p h = absurd h
 
 module _ (P : Value → Type 0) (threads : List Thread) (initial : List Value) (rs : List Run) (are : AllZip (λ t r. IsRun t P r) threads rs) where
-  stands : (its : ℕ) (r : Run) (n : ℕ) → slice_get rs its ≡ Some r → is_event (executed r.outcome.walk.steps n) ≡ true → Stands its r.outcome.walk.steps r.outcome.walk.events n
+  pub stands : (its : ℕ) (r : Run) (n : ℕ) → slice_get rs its ≡ Some r → is_event (executed r.outcome.walk.steps n) ≡ true → Stands its r.outcome.walk.steps r.outcome.walk.events n
   stands its r n there is =
       let t : (t : Thread) × IsRun t P r = thread_of_run P threads rs its r are there in
       events_stand its t.0.lines t.0.first r.values r.outcome t.1.1 n is
 
-  at : (its : ℕ) (r : Run) (n : ℕ) → slice_get rs its ≡ Some r → (s : Stands its r.outcome.walk.steps r.outcome.walk.events n) → slice_get (events initial rs) (length (events initial (take its rs)) + event_place (executed r.outcome.walk.steps) n) ≡ Some s.event
+  pub at : (its : ℕ) (r : Run) (n : ℕ) → slice_get rs its ≡ Some r → (s : Stands its r.outcome.walk.steps r.outcome.walk.events n) → slice_get (events initial rs) (length (events initial (take its rs)) + event_place (executed r.outcome.walk.steps) n) ≡ Some s.event
   at its r n there s =
       let z : 0 + its ≡ its = omega arith in
       event_of_run (initial_stores 0 initial) 0 rs its (event_place (executed r.outcome.walk.steps) n) r s.event there (ap (λ (t : ℕ). slice_get (thread_events t r.outcome.walk.events) (event_place (executed r.outcome.walk.steps) n)) z ∙ s.there)
@@ -105,7 +105,7 @@ module _ (P : Value → Type 0) (threads : List Thread) (initial : List Value) (
       subst (λ (k : ℕ). Contains (stores (events initial rs)) k) (z ∙ sym h.to) (number_there is_store 0 (events initial rs) (length (events initial (take h.thread rs)) + event_place (executed h.run.outcome.walk.steps) h.second) s.event (at h.thread h.run h.second h.its_run s) (s.kind.stores k.0))
 
 -- so the pairs of a combination are just those
-pub needs_are : (V : List Value) (threads : List Thread) (ts : List ThreadParts) (ms : List made.Run) (rs : List Run) (initial : List Value) (c : Begun) → AreOne V threads ms rs → GoesOnWith 0 (start (initial_stores 0 initial)) ts ms c → length c.seen.events ≤ 128 → (x y : ℕ) → IsDependency IsNeed initial rs x y ↔ (accesses_in (events initial rs) c.needs).Need x y
+pub needs_are : (V : List Value) (threads : List Thread) (ts : List ThreadParts) (ms : List made.Run) (rs : List Run) (initial : List Value) (c : PrefixLists) → AreOne V threads ms rs → GoesOnWith 0 (start (initial_stores 0 initial)) ts ms c → length c.combination.events ≤ 128 → (x y : ℕ) → IsDependency IsNeed initial rs x y ↔ (accesses_in (events initial rs) c.needs).Need x y
 needs_are V threads ts ms rs initial c one g few x y = (
   λ h. ((facts need V threads ts ms rs initial c one g few x y).1 h, needed_load (Contains V) threads initial rs are x y h, needing_store (Contains V) threads initial rs are x y h),
   λ h. (facts need V threads ts ms rs initial c one g few x y).0 h.0,

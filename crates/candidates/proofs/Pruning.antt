@@ -9,7 +9,7 @@ use Rattle.candidates.specs.Lists.{tuples, IsFiltered, none}
 use Rattle.candidates.specs.Events.{numbers, reads, is_load, HasLoad, HasStore}
 use Rattle.candidates.specs.Ways.{AreWays, IsWay, accesses_in, sources_of, may_read, same_value}
 use Rattle.candidates.specs.Keys.{HasKey, IsWithin, HasWrites, AreKeys, PartsAreKeyed, ThreadsAreKeyed, IsKeyed, IsRead, IsStored, TellsWithin}
-use Rattle.candidates.specs.Search.{Begun, begun, with_run, start, HasJoined}
+use Rattle.candidates.specs.Search.{PrefixLists, prefix_lists, with_run, start, HasJoined}
 use Rattle.candidates.specs.declared.candidate.Action.{Action}
 use Rattle.candidates.specs.declared.candidate.Action.TheVariants.{Read, Write, Fence}
 use Rattle.candidates.specs.declared.candidate.Event.{Event}
@@ -17,7 +17,7 @@ use Rattle.candidates.specs.declared.keys.KeySet.{KeySet}
 use Rattle.candidates.specs.declared.layout.Layout.{Layout}
 use Rattle.candidates.specs.declared.layout.ThreadParts.{ThreadParts}
 use Rattle.candidates.specs.declared.part.Part.{Part}
-use Rattle.candidates.specs.declared.search.Front.{Front}
+use Rattle.candidates.specs.declared.search.Prefix.{Prefix}
 
 -- loads and stores of lists one after another
 pub load_front : (l : ℕ) (v : Value) (es fs : List Event) → HasLoad l v es → HasLoad l v (es ++ fs)
@@ -51,7 +51,7 @@ value_is NoValue (Number n) e = absurd cc
 value_is NoValue (Address n) e = absurd cc
 value_is NoValue NoValue e = refl
 
-is_store_of : (l : ℕ) (v : Value) (a : Action) → may_read (Read l v) a ≡ true → a ≡ Write l v
+pub is_store_of : (l : ℕ) (v : Value) (a : Action) → may_read (Read l v) a ≡ true → a ≡ Write l v
 is_store_of l v (Read place value) e = absurd cc
 is_store_of l v (Fence fence) e = absurd cc
 is_store_of l v (Write place written) e =
@@ -100,16 +100,16 @@ loads_alone l v all (e ∷ es) never (inr h) = go (is_load e) (filter is_load es
     go false rest k = k
 
 -- a load, and no store that it may read
-abbrev pub IsStuck : ℕ → Value → Begun → Type 0
-IsStuck l v b = HasLoad l v b.seen.events × (HasStore l v b.seen.events → ⊥)
+abbrev pub IsStuck : ℕ → Value → PrefixLists → Type 0
+IsStuck l v b = HasLoad l v b.combination.events × (HasStore l v b.combination.events → ⊥)
 
-pub no_ways : (l : ℕ) (v : Value) (b : Begun) → IsStuck l v b → AreWays b.seen.events b.needs []
+pub no_ways : (l : ℕ) (v : Value) (b : PrefixLists) → IsStuck l v b → AreWays b.combination.events b.needs []
 no_ways l v b s =
-    subst (λ (ts : List (List ℕ)). IsFiltered (IsWay (accesses_in b.seen.events b.needs)) ts [])
-    (sym (no_tuples (accesses_in b.seen.events b.needs).sources (loads_alone l v b.seen.events b.seen.events s.1 s.0) [])) none
+    subst (λ (ts : List (List ℕ)). IsFiltered (IsWay (accesses_in b.combination.events b.needs)) ts [])
+    (sym (no_tuples (accesses_in b.combination.events b.needs).sources (loads_alone l v b.combination.events b.combination.events s.1 s.0) [])) none
 
-pub run_stuck : (l : ℕ) (v : Value) (i : ℕ) (p : Part) (b : Begun) → IsStuck l v b → (HasStore l v p.events.items → ⊥) → IsStuck l v (with_run i p b)
-run_stuck l v i p b s never = (load_front l v b.seen.events p.events.items s.0, λ h. elim (store_split l v b.seen.events p.events.items h) [ inl x ↦ s.1 x | inr x ↦ never x ])
+pub run_stuck : (l : ℕ) (v : Value) (i : ℕ) (p : Part) (b : PrefixLists) → IsStuck l v b → (HasStore l v p.events.items → ⊥) → IsStuck l v (with_run i p b)
+run_stuck l v i p b s never = (load_front l v b.combination.events p.events.items s.0, λ h. elim (store_split l v b.combination.events p.events.items h) [ inl x ↦ s.1 x | inr x ↦ never x ])
 
 -- no run of the threads has a store of the location and value
 abbrev pub PartsLack : ℕ → Value → List Part → Type 0
@@ -129,33 +129,33 @@ threads_lack key l v a b e after [] w k never = tt
 threads_lack key l v a b e after (t ∷ ts) w k never = (parts_lack key l v a b e t.writes t.parts.items k.0 (λ h. never (w.0 a b h)), threads_lack key l v a b e after ts w.1 k.1 never)
 
 -- what does not fit is stuck, and so is all that goes on from it
-pub record Stuck (b : Begun) (ts : List ThreadParts) : Type 0 where
+pub record Stuck (b : PrefixLists) (ts : List ThreadParts) : Type 0 where
   pub location : ℕ
   pub value : Value
   pub stuck : IsStuck location value b
   pub lack : ThreadsLack location value ts
 
-pub does_not_fit : (key : ℕ → Value → Option (ℕ × ℕ)) (f : Front) (p : Part) (after : KeySet) (ts : List ThreadParts) (i : ℕ) → AreKeys key f.made.events.items f.reads f.writes → AreKeys key p.events.items p.reads p.writes → ThreadsAreKeyed key ts → HasWrites after ts → TellsWithin false (IsRead f p) (IsStored f p after) → Stuck (with_run i p (begun f)) ts
+pub does_not_fit : (key : ℕ → Value → Option (ℕ × ℕ)) (f : Prefix) (p : Part) (after : KeySet) (ts : List ThreadParts) (i : ℕ) → AreKeys key f.runs.events.items f.reads f.writes → AreKeys key p.events.items p.reads p.writes → ThreadsAreKeyed key ts → HasWrites after ts → TellsWithin false (IsRead f p) (IsStored f p after) → Stuck (with_run i p (prefix_lists f)) ts
 does_not_fit key f p after ts i fk pk tk w m =
     elim m.2 [
       | inl r ↦
-          let g : (l : ℕ) × (v : Value) × (key l v ≡ Some (m.0, m.1)) × HasLoad l v f.made.events.items = fk.loads m.0 m.1 r in
-          go g.0 g.1 g.2 (load_front g.0 g.1 f.made.events.items p.events.items g.3)
+          let g : (l : ℕ) × (v : Value) × (key l v ≡ Some (m.0, m.1)) × HasLoad l v f.runs.events.items = fk.loads m.0 m.1 r in
+          go g.0 g.1 g.2 (load_front g.0 g.1 f.runs.events.items p.events.items g.3)
       | inr r ↦
           let g : (l : ℕ) × (v : Value) × (key l v ≡ Some (m.0, m.1)) × HasLoad l v p.events.items = pk.loads m.0 m.1 r in
-          go g.0 g.1 g.2 (load_behind g.0 g.1 f.made.events.items p.events.items g.3)
+          go g.0 g.1 g.2 (load_behind g.0 g.1 f.runs.events.items p.events.items g.3)
     ]
   where
-    go : (l : ℕ) (v : Value) → key l v ≡ Some (m.0, m.1) → HasLoad l v (f.made.events.items ++ p.events.items) → Stuck (with_run i p (begun f)) ts
+    go : (l : ℕ) (v : Value) → key l v ≡ Some (m.0, m.1) → HasLoad l v (f.runs.events.items ++ p.events.items) → Stuck (with_run i p (prefix_lists f)) ts
     go l v e load = record {
       location = l;
       value = v;
-      stuck = (load, λ h. elim (store_split l v f.made.events.items p.events.items h) [ inl x ↦ m.3 (inl (inr (fk.stores l v m.0 m.1 x e))) | inr x ↦ m.3 (inr (pk.stores l v m.0 m.1 x e)) ]);
+      stuck = (load, λ h. elim (store_split l v f.runs.events.items p.events.items h) [ inl x ↦ m.3 (inl (inr (fk.stores l v m.0 m.1 x e))) | inr x ↦ m.3 (inr (pk.stores l v m.0 m.1 x e)) ]);
       lack = threads_lack key l v m.0 m.1 e after ts w tk (λ h. m.3 (inl (inl h)));
     }
 
 -- the answer of the test
-pub told : (f : Front) (p : Part) (after s t r : KeySet) (is : Bool) → ((a b : ℕ) → HasKey s a b ↔ (HasKey after a b ⊎ HasKey f.writes a b)) → ((a b : ℕ) → HasKey t a b ↔ (HasKey s a b ⊎ HasKey p.writes a b)) → ((a b : ℕ) → HasKey r a b ↔ (HasKey f.reads a b ⊎ HasKey p.reads a b)) → TellsWithin is (HasKey r) (HasKey t) → TellsWithin is (IsRead f p) (IsStored f p after)
+pub told : (f : Prefix) (p : Part) (after s t r : KeySet) (is : Bool) → ((a b : ℕ) → HasKey s a b ↔ (HasKey after a b ⊎ HasKey f.writes a b)) → ((a b : ℕ) → HasKey t a b ↔ (HasKey s a b ⊎ HasKey p.writes a b)) → ((a b : ℕ) → HasKey r a b ↔ (HasKey f.reads a b ⊎ HasKey p.reads a b)) → TellsWithin is (HasKey r) (HasKey t) → TellsWithin is (IsRead f p) (IsStored f p after)
 told f p after s t r true js jt jr tells = λ a b h. elim ((jt a b).0 (tells a b ((jr a b).1 h))) [ inl x ↦ inl ((js a b).0 x) | inr y ↦ inr y ]
 told f p after s t r false js jt jr tells = (tells.0, tells.1, (jr tells.0 tells.1).0 tells.2, λ h. tells.3 ((jt tells.0 tells.1).1 (elim h [ inl x ↦ inl ((js tells.0 tells.1).1 x) | inr y ↦ inr y ])))
 
@@ -173,20 +173,20 @@ writes_more ts i t s u lt is h j =
     subst (λ (l : List ThreadParts). HasWrites u l) (sym (take_more ts i t lt ∙ ap (λ (q : ThreadParts). take i ts ++ q ∷ []) (sym is)))
     (writes_append (take i ts) t s u (λ a b k. (j a b).1 (inl k)) (λ a b k. (j a b).1 (inr k)) h)
 
--- the sets of the front
-pub first_keys : (key : ℕ → Value → Option (ℕ × ℕ)) (l : Layout) (f : Front) → begun f ≡ start l.initial.items → ((a b : ℕ) → HasKey f.reads a b → ⊥) × (f.writes ≡ l.initial_writes) → IsKeyed key l → AreKeys key f.made.events.items f.reads f.writes
+-- the sets of the prefix
+pub first_keys : (key : ℕ → Value → Option (ℕ × ℕ)) (l : Layout) (f : Prefix) → prefix_lists f ≡ start l.initial.items → ((a b : ℕ) → HasKey f.reads a b → ⊥) × (f.writes ≡ l.initial_writes) → IsKeyed key l → AreKeys key f.runs.events.items f.reads f.writes
 first_keys key l f e s k = record {
   loads = λ a b h. absurd (s.0 a b h);
-  stores = λ place v a b h is. subst (λ (w : KeySet). HasKey w a b) (sym s.1) (k.initial place v a b (subst (λ (es : List Event). HasStore place v es) (ap (λ (b : Begun). b.seen.events) e) h) is);
+  stores = λ place v a b h is. subst (λ (w : KeySet). HasKey w a b) (sym s.1) (k.initial place v a b (subst (λ (es : List Event). HasStore place v es) (ap (λ (b : PrefixLists). b.combination.events) e) h) is);
 }
 
-pub longer_keys : (key : ℕ → Value → Option (ℕ × ℕ)) (f : Front) (p : Part) (g : Front) (i : ℕ) → begun g ≡ with_run i p (begun f) → HasJoined f p g → AreKeys key f.made.events.items f.reads f.writes → AreKeys key p.events.items p.reads p.writes → AreKeys key g.made.events.items g.reads g.writes
-longer_keys key f p g i e j fk pk = subst (λ (es : List Event). AreKeys key es g.reads g.writes) (sym (ap (λ (b : Begun). b.seen.events) e)) (record {
+pub longer_keys : (key : ℕ → Value → Option (ℕ × ℕ)) (f : Prefix) (p : Part) (g : Prefix) (i : ℕ) → prefix_lists g ≡ with_run i p (prefix_lists f) → HasJoined f p g → AreKeys key f.runs.events.items f.reads f.writes → AreKeys key p.events.items p.reads p.writes → AreKeys key g.runs.events.items g.reads g.writes
+longer_keys key f p g i e j fk pk = subst (λ (es : List Event). AreKeys key es g.reads g.writes) (sym (ap (λ (b : PrefixLists). b.combination.events) e)) (record {
   loads = λ a b h. elim ((j.0 a b).0 h) [
-    | inl r ↦ let x : (l : ℕ) × (v : Value) × (key l v ≡ Some (a, b)) × HasLoad l v f.made.events.items = fk.loads a b r in (x.0, x.1, x.2, load_front x.0 x.1 f.made.events.items p.events.items x.3)
-    | inr r ↦ let x : (l : ℕ) × (v : Value) × (key l v ≡ Some (a, b)) × HasLoad l v p.events.items = pk.loads a b r in (x.0, x.1, x.2, load_behind x.0 x.1 f.made.events.items p.events.items x.3)
+    | inl r ↦ let x : (l : ℕ) × (v : Value) × (key l v ≡ Some (a, b)) × HasLoad l v f.runs.events.items = fk.loads a b r in (x.0, x.1, x.2, load_front x.0 x.1 f.runs.events.items p.events.items x.3)
+    | inr r ↦ let x : (l : ℕ) × (v : Value) × (key l v ≡ Some (a, b)) × HasLoad l v p.events.items = pk.loads a b r in (x.0, x.1, x.2, load_behind x.0 x.1 f.runs.events.items p.events.items x.3)
   ];
-  stores = λ l v a b h is. elim (store_split l v f.made.events.items p.events.items h) [
+  stores = λ l v a b h is. elim (store_split l v f.runs.events.items p.events.items h) [
     | inl x ↦ (j.1 a b).1 (inl (fk.stores l v a b x is))
     | inr x ↦ (j.1 a b).1 (inr (pk.stores l v a b x is))
   ];

@@ -5,7 +5,7 @@ use Rattle.std.proofs.lemmas.List.{map-append}
 use Rattle.bit_relations.specs.Pairs.{Union, Path, IsAcyclic}
 use Rattle.thread_runs.specs.declared.value.Value.{Value}
 use Rattle.thread_runs.specs.declared.value.Value.TheVariants.{Number, Address, NoValue}
-use Rattle.candidates.proofs.Counting.{eq_true}
+use Rattle.candidates.proofs.Pruning.{is_store_of}
 use Rattle.candidates.proofs.Products.{FilteredEach, filter_of_products, filter_twice, filter_as}
 use Rattle.candidates.specs.Executions.{MayRead, product, maps, loads, stores}
 use Rattle.candidates.specs.Lists.{tuples, IsFiltered, none, kept, left}
@@ -31,30 +31,6 @@ numbers_filtered p q P more at (e ∷ es) same = go (p e) (q e) refl refl (numbe
     go true false f g ns ms rest = left (λ x. true_false (sym (here.0 x) ∙ g)) rest
     go false true f g ns ms rest = absurd (true_false (sym (more e g) ∙ f))
     go false false f g ns ms rest = rest
-
--- what a load may read is a store of its location and value
-both_true : (a b : Bool) → (a && b) ≡ true → (a ≡ true) × (b ≡ true)
-both_true true true e = (refl, refl)
-both_true true false e = absurd cc
-both_true false b e = absurd cc
-
-value_is : (w v : Value) → same_value w v ≡ true → w ≡ v
-value_is (Number m) (Number n) e = ap (λ (k : ℕ). Number k) (eq_true m n e)
-value_is (Number m) (Address n) e = absurd cc
-value_is (Number m) NoValue e = absurd cc
-value_is (Address m) (Number n) e = absurd cc
-value_is (Address m) (Address n) e = ap (λ (k : ℕ). Address k) (eq_true m n e)
-value_is (Address m) NoValue e = absurd cc
-value_is NoValue (Number n) e = absurd cc
-value_is NoValue (Address n) e = absurd cc
-value_is NoValue NoValue e = refl
-
-is_store_of : (l : ℕ) (v : Value) (a : Action) → may_read (Read l v) a ≡ true → a ≡ Write l v
-is_store_of l v (Read place value) e = absurd cc
-is_store_of l v (Fence fence) e = absurd cc
-is_store_of l v (Write place written) e =
-    let b : (nat_eq place l ≡ true) × (same_value written v ≡ true) = both_true (nat_eq place l) (same_value written v) e in
-    ap (λ (k : ℕ). Write k written) (eq_true place l b.0) ∙ ap (λ (w : Value). Write l w) (value_is written v b.1)
 
 same_number : (n : ℕ) → nat_eq n n ≡ true
 same_number n = eq-eqb n n refl

@@ -20,7 +20,8 @@ use Rattle.candidates.proofs.Places.{places_are_events}
 use Rattle.candidates.proofs.StepEvents.{in_run, place_few}
 use Rattle.candidates.proofs.Whole.{none_left_out}
 use Rattle.candidates.specs.Events.{initial_stores}
-use Rattle.candidates.specs.Search.{Begun, with_run, start, moved}
+use Rattle.dataflow.specs.DependencyLists.{renumbered_pairs}
+use Rattle.candidates.specs.Search.{PrefixLists, with_run, start}
 use Rattle.candidates.specs.declared.layout.ThreadParts.{ThreadParts}
 use Rattle.candidates.specs.declared.part.Part.{Part}
 
@@ -81,20 +82,20 @@ module _ (d : facts.Listed) (base : ℕ) (steps : List RunStep) (ps : List (ℕ 
       before (inl lt) a b c e = inl (subst (λ (n : ℕ). n < min (base + q.0) (2 ^ 64 - 1)) (sym a) (subst (λ (n : ℕ). base + p.0 < n) (sym c) (omega (arith, lt))))
       before (inr h) a b c e = inr (a ∙ ap (λ (n : ℕ). base + n) h.0 ∙ sym c, subst (λ (n : ℕ). n < min (base + q.1) (2 ^ 64 - 1)) (sym b) (subst (λ (n : ℕ). base + p.1 < n) (sym e) (omega (arith, h.1))))
 
-  moved_rises : AllPairs IsPairBefore (moved base ps)
+  moved_rises : AllPairs IsPairBefore (renumbered_pairs base ps)
   moved_rises i j d lt l =
-      let n : length (moved base ps) ≡ length ps = length-map ps shift in
+      let n : length (renumbered_pairs base ps) ≡ length ps = length-map ps shift in
       let li : i < length ps = omega (arith, lt, l, n) in
       let lj : j < length ps = omega (arith, l, n) in
-      let at_i : get_or (moved base ps) i d ≡ shift (get_or ps i (0, 0)) = other_default (moved base ps) i d (shift (0, 0)) (omega (arith, lt, l)) ∙ get_or-map shift ps i (0, 0) in
-      let at_j : get_or (moved base ps) j d ≡ shift (get_or ps j (0, 0)) = other_default (moved base ps) j d (shift (0, 0)) l ∙ get_or-map shift ps j (0, 0) in
+      let at_i : get_or (renumbered_pairs base ps) i d ≡ shift (get_or ps i (0, 0)) = other_default (renumbered_pairs base ps) i d (shift (0, 0)) (omega (arith, lt, l)) ∙ get_or-map shift ps i (0, 0) in
+      let at_j : get_or (renumbered_pairs base ps) j d ≡ shift (get_or ps j (0, 0)) = other_default (renumbered_pairs base ps) j d (shift (0, 0)) l ∙ get_or-map shift ps j (0, 0) in
       let h : IsPairBefore (shift (get_or ps i (0, 0))) (shift (get_or ps j (0, 0))) = shifted (get_or ps i (0, 0)) (get_or ps j (0, 0)) (lies _ (Contains-get_or ps i (0, 0) li)) (lies _ (Contains-get_or ps j (0, 0) lj)) (are.rising i j lt lj) in
-      subst (λ (p : ℕ × ℕ). IsPairBefore p (get_or (moved base ps) j d)) (sym at_i) (subst (λ (q : ℕ × ℕ). IsPairBefore (shift (get_or ps i (0, 0))) q) (sym at_j) h)
+      subst (λ (p : ℕ × ℕ). IsPairBefore p (get_or (renumbered_pairs base ps) j d)) (sym at_i) (subst (λ (q : ℕ × ℕ). IsPairBefore (shift (get_or ps i (0, 0))) q) (sym at_j) h)
 
-  numbered_on : Rises (moved base ps) base (base + most)
+  numbered_on : Rises (renumbered_pairs base ps) base (base + most)
   numbered_on = record { rising = moved_rises; above = λ p c. (bounds p c).0; below = λ p c. (bounds p c).1 }
     where
-      bounds : (p : ℕ × ℕ) → Contains (moved base ps) p → (base ≤ p.0) × (p.0 < base + most)
+      bounds : (p : ℕ × ℕ) → Contains (renumbered_pairs base ps) p → (base ≤ p.0) × (p.0 < base + most)
       bounds p c =
           let (q, there, is) = mapped shift ps p c in
           let l : Lies q = lies q there in
@@ -103,21 +104,21 @@ module _ (d : facts.Listed) (base : ℕ) (steps : List RunStep) (ps : List (ℕ 
           (omega (arith, f), omega (arith, f, l.from))
 
 module _ (d : facts.Listed) (V : List Value) where
-  one_rises : (thread : ℕ) (b : Begun) (t : Thread) (m : made.Run) (r : Run) (at : ℕ) (p : Part) → facts.OneMore d V thread b t m r at p → Rises (d.all b) 0 (length b.seen.events) → Rises (d.all (with_run at p b)) 0 (length (with_run at p b).seen.events)
+  one_rises : (thread : ℕ) (b : PrefixLists) (t : Thread) (m : made.Run) (r : Run) (at : ℕ) (p : Part) → facts.OneMore d V thread b t m r at p → Rises (d.all b) 0 (length b.combination.events) → Rises (d.all (with_run at p b)) 0 (length (with_run at p b).combination.events)
   one_rises thread b t m r at p o h =
       let ps : List (ℕ × ℕ) = d.own p.links in
       let steps : List RunStep = r.outcome.walk.steps in
-      let on : Rises (moved (length b.seen.events) ps) (length b.seen.events) (length b.seen.events + event_place (executed steps) (length steps)) =
-      numbered_on d (length b.seen.events) steps ps (facts.links d V thread b t m r at p o) (facts.low d V thread b t m r at p o) (facts.run_few d V thread b t m r at p o) in
-      let long : length (with_run at p b).seen.events ≡ length b.seen.events + event_place (executed steps) (length steps) =
+      let on : Rises (renumbered_pairs (length b.combination.events) ps) (length b.combination.events) (length b.combination.events + event_place (executed steps) (length steps)) =
+      numbered_on d (length b.combination.events) steps ps (facts.links d V thread b t m r at p o) (facts.low d V thread b t m r at p o) (facts.run_few d V thread b t m r at p o) in
+      let long : length (with_run at p b).combination.events ≡ length b.combination.events + event_place (executed steps) (length steps) =
       (let all = none_left_out thread t.lines t.first r.values r.outcome o.same.1.1 in
       let places = places_are_events t.lines t.first r.values r.outcome o.same.1.1 in
       omega (arith, facts.longer d V thread b t m r at p o, all, places)) in
-      subst (λ (l : List (ℕ × ℕ)). Rises l 0 (length (with_run at p b).seen.events)) (sym (d.grows at p b))
-      (subst (λ (n : ℕ). Rises (d.all b ++ moved (length b.seen.events) ps) 0 n) (sym long) (joined_rise (d.all b) (moved (length b.seen.events) ps) 0 (length b.seen.events) _ h on (omega arith) (omega arith)))
+      subst (λ (l : List (ℕ × ℕ)). Rises l 0 (length (with_run at p b).combination.events)) (sym (d.grows at p b))
+      (subst (λ (n : ℕ). Rises (d.all b ++ renumbered_pairs (length b.combination.events) ps) 0 n) (sym long) (joined_rise (d.all b) (renumbered_pairs (length b.combination.events) ps) 0 (length b.combination.events) _ h on (omega arith) (omega arith)))
 
-  rise_on : (threads : List Thread) (thread : ℕ) (ts : List ThreadParts) (ms : List made.Run) (rs : List Run) (b c : Begun) → AreOne V threads ms rs → GoesOnWith thread b ts ms c → length c.seen.events ≤ 128 → Rises (d.all b) 0 (length b.seen.events) → Rises (d.all c) 0 (length c.seen.events)
-  rise_on [] thread [] [] [] b c one e few h = subst (λ (k : Begun). Rises (d.all k) 0 (length k.seen.events)) (sym e) h
+  rise_on : (threads : List Thread) (thread : ℕ) (ts : List ThreadParts) (ms : List made.Run) (rs : List Run) (b c : PrefixLists) → AreOne V threads ms rs → GoesOnWith thread b ts ms c → length c.combination.events ≤ 128 → Rises (d.all b) 0 (length b.combination.events) → Rises (d.all c) 0 (length c.combination.events)
+  rise_on [] thread [] [] [] b c one e few h = subst (λ (k : PrefixLists). Rises (d.all k) 0 (length k.combination.events)) (sym e) h
   rise_on [] thread (t ∷ ts) [] [] b c one e few h = absurd e
   rise_on [] thread ts [] (r ∷ rs) b c one e few h = absurd one
   rise_on [] thread ts (m ∷ ms) rs b c one e few h = absurd one
@@ -128,7 +129,7 @@ module _ (d : facts.Listed) (V : List Value) where
       rise_on threads (thread + 1) ts ms rs (with_run g.0 g.1 b) c one.1 g.3 few
       (one_rises thread b q m r g.0 g.1 (record { same = one.0; is = g.2.1; few = facts.few_on (thread + 1) ts ms (with_run g.0 g.1 b) c g.3 few }) h)
 
-  pub pairs_rise : (threads : List Thread) (ts : List ThreadParts) (ms : List made.Run) (rs : List Run) (initial : List Value) (c : Begun) → AreOne V threads ms rs → GoesOnWith 0 (start (initial_stores 0 initial)) ts ms c → length c.seen.events ≤ 128 → AllPairs IsPairBefore (d.all c)
+  pub pairs_rise : (threads : List Thread) (ts : List ThreadParts) (ms : List made.Run) (rs : List Run) (initial : List Value) (c : PrefixLists) → AreOne V threads ms rs → GoesOnWith 0 (start (initial_stores 0 initial)) ts ms c → length c.combination.events ≤ 128 → AllPairs IsPairBefore (d.all c)
   pairs_rise threads ts ms rs initial c one g few =
-      let s : Begun = start (initial_stores 0 initial) in
-      (rise_on threads 0 ts ms rs s c one g few (subst (λ (l : List (ℕ × ℕ)). Rises l 0 (length s.seen.events)) (sym (d.first (initial_stores 0 initial))) (none_rise 0 (length s.seen.events)))).rising
+      let s : PrefixLists = start (initial_stores 0 initial) in
+      (rise_on threads 0 ts ms rs s c one g few (subst (λ (l : List (ℕ × ℕ)). Rises l 0 (length s.combination.events)) (sym (d.first (initial_stores 0 initial))) (none_rise 0 (length s.combination.events)))).rising

@@ -25,8 +25,8 @@ use Rattle.candidates.specs.Listed.{Shows, ArePairs}
 use Rattle.candidates.proofs.RisingPairs.{pairs_rise}
 use Rattle.dataflow.specs.Chains.{IsPairBefore}
 use Rattle.candidates.specs.Orders.{all_orders, stores_of, AreApart}
-use Rattle.candidates.specs.Search.{Begun, with_run, start}
-use Rattle.candidates.specs.Space.{Seen, seen, ordered, pairs, candidates_of, candidates_in, end_at, registers_at, shown_of}
+use Rattle.candidates.specs.Search.{PrefixLists, with_run, start}
+use Rattle.candidates.specs.Space.{CombinationLists, combination_lists, ordered, pairs, candidates_of, candidates_in, end_at, registers_at, shown_of}
 use Rattle.candidates.specs.Ways.{IsWay, accesses_in}
 use Rattle.candidates.specs.declared.candidate.Combination.{Combination}
 use Rattle.candidates.specs.declared.candidate.Event.{Event}
@@ -60,8 +60,8 @@ end_there [] k p e = absurd cc
 end_there (q ∷ ps) zero p e = let same : q ≡ p = cc in ap (λ (x : Part). x.registers) same
 end_there (q ∷ ps) (suc k) p e = end_there ps k p e
 
-run_ends : (V : List Value) (threads : List Thread) (thread : ℕ) (ts : List ThreadParts) (ms : List made.Run) (rs : List Run) (b c : Begun) → AreOne V threads ms rs → GoesOnWith thread b ts ms c → Ends ts rs b.seen.runs c.seen.runs
-run_ends V [] thread [] [] [] b c one g = record { places = []; added = ap (λ (x : Begun). x.seen.runs) g ∙ sym (append-nil b.seen.runs); found = λ vs e. none vs e }
+run_ends : (V : List Value) (threads : List Thread) (thread : ℕ) (ts : List ThreadParts) (ms : List made.Run) (rs : List Run) (b c : PrefixLists) → AreOne V threads ms rs → GoesOnWith thread b ts ms c → Ends ts rs b.combination.runs c.combination.runs
+run_ends V [] thread [] [] [] b c one g = record { places = []; added = ap (λ (x : PrefixLists). x.combination.runs) g ∙ sym (append-nil b.combination.runs); found = λ vs e. none vs e }
   where
     none : (vs : List (Vec (List Value) Global)) → map items_of vs ≡ [] → registers_at vs [] ≡ []
     none [] e = refl
@@ -73,17 +73,17 @@ run_ends V (q ∷ threads) thread ts [] rs b c one g = absurd one
 run_ends V (q ∷ threads) thread ts (m ∷ ms) [] b c one g = absurd one
 run_ends V (q ∷ threads) thread [] (m ∷ ms) (r ∷ rs) b c one g = absurd g
 run_ends V (q ∷ threads) thread (t ∷ ts) (m ∷ ms) (r ∷ rs) b c one g =
-    let rest : Ends ts rs (with_run g.0 g.1 b).seen.runs c.seen.runs = run_ends V threads (thread + 1) ts ms rs (with_run g.0 g.1 b) c one.1 g.3 in
+    let rest : Ends ts rs (with_run g.0 g.1 b).combination.runs c.combination.runs = run_ends V threads (thread + 1) ts ms rs (with_run g.0 g.1 b) c one.1 g.3 in
     record {
       places = g.0 ∷ rest.places;
-      added = rest.added ∙ append_assoc b.seen.runs (g.0 ∷ []) rest.places;
+      added = rest.added ∙ append_assoc b.combination.runs (g.0 ∷ []) rest.places;
       found = λ vs e. here vs rest e;
     }
   where
     own : g.1.registers ≡ final r
     own = g.2.1.registers ∙ ap (λ (s : Shown). s.registers) one.0.0.shows
 
-    here : (vs : List (Vec (List Value) Global)) (rest : Ends ts rs (with_run g.0 g.1 b).seen.runs c.seen.runs) → map items_of vs ≡ map files (t ∷ ts) → registers_at vs (g.0 ∷ rest.places) ≡ map final (r ∷ rs)
+    here : (vs : List (Vec (List Value) Global)) (rest : Ends ts rs (with_run g.0 g.1 b).combination.runs c.combination.runs) → map items_of vs ≡ map files (t ∷ ts) → registers_at vs (g.0 ∷ rest.places) ≡ map final (r ∷ rs)
     here [] rest e = absurd cc
     here (v ∷ vs) rest e =
         ap (λ (l : List (List Value)). end_at l g.0 ∷ registers_at vs rest.places) (heads e)
@@ -106,8 +106,8 @@ or_right : (a b : Bool) → b ≡ true → (a || b) ≡ true
 or_right true b e = refl
 or_right false b e = e
 
-run_faults : (V : List Value) (threads : List Thread) (thread : ℕ) (ts : List ThreadParts) (ms : List made.Run) (rs : List Run) (b c : Begun) → AreOne V threads ms rs → GoesOnWith thread b ts ms c → (c.faulted ≡ true) ↔ ((b.faulted ≡ true) ⊎ SomeFault rs)
-run_faults V [] thread [] [] [] b c one g = ((λ f. inl (sym (ap (λ (x : Begun). x.faulted) g) ∙ f)), (λ u. elim u [ inl f ↦ ap (λ (x : Begun). x.faulted) g ∙ f | inr s ↦ absurd (no_member s.0 s.1) ]))
+run_faults : (V : List Value) (threads : List Thread) (thread : ℕ) (ts : List ThreadParts) (ms : List made.Run) (rs : List Run) (b c : PrefixLists) → AreOne V threads ms rs → GoesOnWith thread b ts ms c → (c.faulted ≡ true) ↔ ((b.faulted ≡ true) ⊎ SomeFault rs)
+run_faults V [] thread [] [] [] b c one g = ((λ f. inl (sym (ap (λ (x : PrefixLists). x.faulted) g) ∙ f)), (λ u. elim u [ inl f ↦ ap (λ (x : PrefixLists). x.faulted) g ∙ f | inr s ↦ absurd (no_member s.0 s.1) ]))
 run_faults V [] thread (t ∷ ts) [] [] b c one g = absurd g
 run_faults V [] thread ts [] (r ∷ rs) b c one g = absurd one
 run_faults V [] thread ts (m ∷ ms) rs b c one g = absurd one
@@ -140,13 +140,13 @@ module _ (n : ℕ) (initial : List Value) (threads : List Thread) (V : List Valu
   abbrev orders_of_runs : List Run → List (List (List ℕ))
   orders_of_runs rs = product (orders_at (events initial rs) initial)
 
-  orders_are : n ≡ length initial → (b : Begun) (rs : List Run) → IsListed n initial threads V ts b rs → map flat (orders_of_runs rs) ≡ all_orders b.seen.events n
+  orders_are : n ≡ length initial → (b : PrefixLists) (rs : List Run) → IsListed n initial threads V ts b rs → map flat (orders_of_runs rs) ≡ all_orders b.combination.events n
   orders_are e b rs i =
       orders_flat (events initial rs) initial (subst (λ (l : List Event). length l ≤ 128) i.events i.few)
       ∙ ap (λ (k : ℕ). all_orders (events initial rs) k) (sym e)
       ∙ ap (λ (l : List Event). all_orders l n) (sym i.events)
 
-  faulted_is : (b : Begun) (rs : List Run) → IsListed n initial threads V ts b rs → (b.faulted ≡ true) ↔ SomeFault rs
+  faulted_is : (b : PrefixLists) (rs : List Run) → IsListed n initial threads V ts b rs → (b.faulted ≡ true) ↔ SomeFault rs
   faulted_is b rs i =
       let f : (b.faulted ≡ true) ↔ ((false ≡ true) ⊎ SomeFault rs) = run_faults V threads 0 ts i.made rs (start (initial_stores 0 initial)) b i.one i.goes in
       ((λ h. only (f.0 h)), (λ s. f.1 (inr s)))
@@ -161,7 +161,7 @@ module _ (n : ℕ) (initial : List Value) (threads : List Thread) (V : List Valu
       let (o, found, is) = mapped (executed_so initial rs w) (orders_of_runs rs) x in_row in
       sym (ap (λ (y : Execution). y.runs) is)
 
-  pub fault_among : (bs : List Begun) (ss : List Seen) (xs : List Execution) → AreListed n initial threads V ts bs ss xs → (x : Execution) → Contains xs x → HasFault x → HasFaultAmong bs
+  pub fault_among : (bs : List PrefixLists) (ss : List CombinationLists) (xs : List Execution) → AreListed n initial threads V ts bs ss xs → (x : Execution) → Contains xs x → HasFault x → HasFaultAmong bs
   fault_among [] ss xs no_more x c f = absurd (no_member x c)
   fault_among (b ∷ bs) ss xs (not_one are h) x c f = inr (fault_among bs ss xs h x c f)
   fault_among (b ∷ bs) (s ∷ ss) xs (one_more {xs = ys} {way = way} {ways = ways} rs i are h) x c f =
@@ -170,7 +170,7 @@ module _ (n : ℕ) (initial : List Value) (threads : List Thread) (V : List Valu
         | inr d ↦ inr (fault_among bs ss ys h x d f)
       ]
 
-  some_orders : n ≡ length initial → (b : Begun) (rs : List Run) → IsListed n initial threads V ts b rs → (o : List (List ℕ)) × Contains (orders_of_runs rs) o
+  some_orders : n ≡ length initial → (b : PrefixLists) (rs : List Run) → IsListed n initial threads V ts b rs → (o : List (List ℕ)) × Contains (orders_of_runs rs) o
   unfolding stores_of
   some_orders e b rs i = first (orders_of_runs rs) many
     where
@@ -190,9 +190,9 @@ module _ (n : ℕ) (initial : List Value) (threads : List Thread) (V : List Valu
           let q : length (map flat (orders_of_runs rs)) ≡ length (all_orders (events initial rs) (length initial)) = ap (λ (l : List (List ℕ)). length l) (orders_flat (events initial rs) initial few) in
           omega (arith, p, q, length-map (orders_of_runs rs) flat)
 
-  pub faulted_execution : n ≡ length initial → (bs : List Begun) (ss : List Seen) (xs : List Execution) → AreListed n initial threads V ts bs ss xs → HasFaultAmong bs → (x : Execution) × Contains xs x × HasFault x
+  pub faulted_execution : n ≡ length initial → (bs : List PrefixLists) (ss : List CombinationLists) (xs : List Execution) → AreListed n initial threads V ts bs ss xs → HasFaultAmong bs → (x : Execution) × Contains xs x × HasFault x
   faulted_execution e [] ss xs no_more f = absurd f
-  faulted_execution e (b ∷ bs) ss xs (not_one are h) (inl f) = absurd (some_none (IsFiltered-unique (IsWay (accesses_in b.seen.events b.needs)) (tuples [] (accesses_in b.seen.events b.needs).sources) (f.1 ∷ f.2) [] f.3 are))
+  faulted_execution e (b ∷ bs) ss xs (not_one are h) (inl f) = absurd (some_none (IsFiltered-unique (IsWay (accesses_in b.combination.events b.needs)) (tuples [] (accesses_in b.combination.events b.needs).sources) (f.1 ∷ f.2) [] f.3 are))
     where
       some_none : {w : List ℕ} {ws : List (List ℕ)} → (w ∷ ws) ≡ [] → ⊥
       some_none e = cc
@@ -211,7 +211,7 @@ abbrev pub AreShown : List Value → List (Vec (List Value) Global) → Executio
 AreShown initial registers x c = Shows initial x (shown_of registers c)
 
 module _ (n : ℕ) (initial : List Value) (threads : List Thread) (V : List Value) (ts : List ThreadParts) (registers : List (Vec (List Value) Global)) (files_are : map items_of registers ≡ map files ts) where
-  shown_pairs : (d : dependencies.Listed) (b : Begun) (rs : List Run) → IsListed n initial threads V ts b rs → (x : Execution) → rs ≡ x.runs → (shown : List (ℕ × ℕ)) → shown ≡ d.all b → ArePairs d.Related initial x shown
+  shown_pairs : (d : dependencies.Listed) (b : PrefixLists) (rs : List Run) → IsListed n initial threads V ts b rs → (x : Execution) → rs ≡ x.runs → (shown : List (ℕ × ℕ)) → shown ≡ d.all b → ArePairs d.Related initial x shown
   shown_pairs d b rs i x are shown e = record {
     rising = subst (λ (l : List (ℕ × ℕ)). AllPairs IsPairBefore l) (sym e) (pairs_rise d V threads ts i.made rs initial b i.one i.goes i.few);
     exact = λ p.
@@ -219,26 +219,26 @@ module _ (n : ℕ) (initial : List Value) (threads : List Thread) (V : List Valu
         (subst (λ (l : List (ℕ × ℕ)). Contains l p ↔ IsDependency d.Related initial rs p.0 p.1) (sym e) (dependencies.facts d V threads ts i.made rs initial b i.one i.goes i.few p.0 p.1));
   }
 
-  one_shown : (b : Begun) (rs : List Run) → IsListed n initial threads V ts b rs → (c : Combination) (ways : List (List ℕ)) → seen c ≡ ordered n (record b.seen { sources = ways }) → (way : List ℕ) (order : List (List ℕ)) → AreShown initial registers (executed_so initial rs way order) (c, (way, flat order))
+  one_shown : (b : PrefixLists) (rs : List Run) → IsListed n initial threads V ts b rs → (c : Combination) (ways : List (List ℕ)) → combination_lists c ≡ ordered n (record b.combination { sources = ways }) → (way : List ℕ) (order : List (List ℕ)) → AreShown initial registers (executed_so initial rs way order) (c, (way, flat order))
   one_shown b rs i c ways eq way order =
-      let ends : Ends ts rs [] b.seen.runs = run_ends V threads 0 ts i.made rs (start (initial_stores 0 initial)) b i.one i.goes in
+      let ends : Ends ts rs [] b.combination.runs = run_ends V threads 0 ts i.made rs (start (initial_stores 0 initial)) b i.one i.goes in
       record {
-        events = ap (λ (x : Seen). x.events) eq ∙ i.events;
-        addr = shown_pairs dependencies.addr b rs i (executed_so initial rs way order) refl c.addr_pairs.items (ap (λ (x : Seen). x.addr_pairs) eq);
-        «data» = shown_pairs dependencies.data_listed b rs i (executed_so initial rs way order) refl c.data_pairs.items (ap (λ (x : Seen). x.data_pairs) eq);
-        ctrl = shown_pairs dependencies.ctrl b rs i (executed_so initial rs way order) refl c.ctrl_pairs.items (ap (λ (x : Seen). x.ctrl_pairs) eq);
-        ctrlisync = shown_pairs dependencies.ctrlisync b rs i (executed_so initial rs way order) refl c.ctrlisync_pairs.items (ap (λ (x : Seen). x.ctrlisync_pairs) eq);
+        events = ap (λ (x : CombinationLists). x.events) eq ∙ i.events;
+        addr = shown_pairs dependencies.addr b rs i (executed_so initial rs way order) refl c.dependencies.addr_pairs.items (ap (λ (x : CombinationLists). x.dependencies.addr_pairs) eq);
+        «data» = shown_pairs dependencies.data_listed b rs i (executed_so initial rs way order) refl c.dependencies.data_pairs.items (ap (λ (x : CombinationLists). x.dependencies.data_pairs) eq);
+        ctrl = shown_pairs dependencies.ctrl b rs i (executed_so initial rs way order) refl c.dependencies.ctrl_pairs.items (ap (λ (x : CombinationLists). x.dependencies.ctrl_pairs) eq);
+        ctrlisync = shown_pairs dependencies.ctrlisync b rs i (executed_so initial rs way order) refl c.dependencies.ctrlisync_pairs.items (ap (λ (x : CombinationLists). x.dependencies.ctrlisync_pairs) eq);
         reads_from = refl;
         coherence = refl;
-        registers = ap (λ (l : List ℕ). registers_at registers l) (ap (λ (x : Seen). x.runs) eq ∙ ends.added) ∙ ends.found registers files_are;
+        registers = ap (λ (l : List ℕ). registers_at registers l) (ap (λ (x : CombinationLists). x.runs) eq ∙ ends.added) ∙ ends.found registers files_are;
       }
 
   -- each way with each order
-  row_shown : (b : Begun) (rs : List Run) → IsListed n initial threads V ts b rs → (c : Combination) (ways : List (List ℕ)) → seen c ≡ ordered n (record b.seen { sources = ways }) → (way : List ℕ) (os : List (List (List ℕ))) → AllZip (AreShown initial registers) (map (executed_so initial rs way) os) (map (λ t. (c, t)) (map (λ y. (way, y)) (map flat os)))
+  row_shown : (b : PrefixLists) (rs : List Run) → IsListed n initial threads V ts b rs → (c : Combination) (ways : List (List ℕ)) → combination_lists c ≡ ordered n (record b.combination { sources = ways }) → (way : List ℕ) (os : List (List (List ℕ))) → AllZip (AreShown initial registers) (map (executed_so initial rs way) os) (map (λ t. (c, t)) (map (λ y. (way, y)) (map flat os)))
   row_shown b rs i c ways eq way [] = tt
   row_shown b rs i c ways eq way (o ∷ os) = (one_shown b rs i c ways eq way o, row_shown b rs i c ways eq way os)
 
-  rows_shown : (b : Begun) (rs : List Run) → IsListed n initial threads V ts b rs → (c : Combination) (ways : List (List ℕ)) → seen c ≡ ordered n (record b.seen { sources = ways }) → (some : List (List ℕ)) (os : List (List (List ℕ))) → AllZip (AreShown initial registers) (flat_map (λ w. map (executed_so initial rs w) os) some) (map (λ t. (c, t)) (pairs some (map flat os)))
+  rows_shown : (b : PrefixLists) (rs : List Run) → IsListed n initial threads V ts b rs → (c : Combination) (ways : List (List ℕ)) → combination_lists c ≡ ordered n (record b.combination { sources = ways }) → (some : List (List ℕ)) (os : List (List (List ℕ))) → AllZip (AreShown initial registers) (flat_map (λ w. map (executed_so initial rs w) os) some) (map (λ t. (c, t)) (pairs some (map flat os)))
   rows_shown b rs i c ways eq [] os = tt
   rows_shown b rs i c ways eq (w ∷ some) os =
       subst (λ (l : List (Combination × (List ℕ × List ℕ))). AllZip (AreShown initial registers) (map (executed_so initial rs w) os ++ flat_map (λ w. map (executed_so initial rs w) os) some) l)
@@ -246,13 +246,13 @@ module _ (n : ℕ) (initial : List Value) (threads : List Thread) (V : List Valu
       (zip_both (AreShown initial registers) (map (executed_so initial rs w) os) (flat_map (λ w. map (executed_so initial rs w) os) some) (map (λ t. (c, t)) (map (λ y. (w, y)) (map flat os))) (map (λ t. (c, t)) (pairs some (map flat os)))
       (row_shown b rs i c ways eq w os) (rows_shown b rs i c ways eq some os))
 
-  candidates_are : n ≡ length initial → (b : Begun) (rs : List Run) → IsListed n initial threads V ts b rs → (c : Combination) (ways : List (List ℕ)) → seen c ≡ ordered n (record b.seen { sources = ways }) → candidates_of c ≡ pairs ways (map flat (orders_of_runs n initial threads V ts rs))
+  candidates_are : n ≡ length initial → (b : PrefixLists) (rs : List Run) → IsListed n initial threads V ts b rs → (c : Combination) (ways : List (List ℕ)) → combination_lists c ≡ ordered n (record b.combination { sources = ways }) → candidates_of c ≡ pairs ways (map flat (orders_of_runs n initial threads V ts rs))
   unfolding candidates_of
   candidates_are e b rs i c ways eq =
-      ap (λ (l : List (List ℕ)). pairs l (lists_of c.orders.items)) (ap (λ (x : Seen). x.sources) eq)
-      ∙ ap (λ (l : List (List ℕ)). pairs ways l) (ap (λ (x : Seen). x.orders) eq ∙ sym (orders_are n initial threads V ts e b rs i))
+      ap (λ (l : List (List ℕ)). pairs l (lists_of c.orders.items)) (ap (λ (x : CombinationLists). x.sources) eq)
+      ∙ ap (λ (l : List (List ℕ)). pairs ways l) (ap (λ (x : CombinationLists). x.orders) eq ∙ sym (orders_are n initial threads V ts e b rs i))
 
-  pub all_shown : n ≡ length initial → (bs : List Begun) (ss : List Seen) (xs : List Execution) (cs : List Combination) → map seen cs ≡ ss → AreListed n initial threads V ts bs ss xs → AllZip (AreShown initial registers) xs (candidates_in cs)
+  pub all_shown : n ≡ length initial → (bs : List PrefixLists) (ss : List CombinationLists) (xs : List Execution) (cs : List Combination) → map combination_lists cs ≡ ss → AreListed n initial threads V ts bs ss xs → AllZip (AreShown initial registers) xs (candidates_in cs)
   all_shown e [] [] xs [] eq no_more = tt
   all_shown e [] [] xs (c ∷ cs) eq h = absurd cc
   all_shown e [] (s ∷ ss) xs cs eq h = elim h [ ]

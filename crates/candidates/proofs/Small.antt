@@ -22,7 +22,7 @@ use Rattle.thread_runs.specs.AllRuns.{Shown, shown, shown_of, ShowsRuns, lines_a
 use Rattle.ppc_semantics.specs.Domain.{makes_event, has_event, IsDomain}
 use Rattle.candidates.specs.Events.{action_in, with_action, thread_events, initial_stores}
 use Rattle.candidates.specs.Layouts.{AreAllRuns, ArePartsOf, AreThreadsOf, IsLaidOut}
-use Rattle.candidates.specs.Search.{Begun, with_run, combinations, start, all_combinations}
+use Rattle.candidates.specs.Search.{PrefixLists, with_run, combinations, start, all_combinations}
 use Rattle.candidates.specs.Candidates.{AreSmall, HasLayout}
 use Rattle.candidates.specs.declared.candidate.Action.{Action}
 use Rattle.candidates.specs.declared.candidate.Event.{Event}
@@ -154,23 +154,23 @@ threads_few thread (v ∷ vs) (l ∷ ls) [] e few h = absurd h
 threads_few thread (v ∷ vs) (l ∷ ls) (t ∷ ts) e few h = (parts_few thread v.items 0 (count_by has_event l.items) t.parts.items (few 0 v refl) h.0, threads_few (thread + 1) vs ls ts (omega (arith, e)) (λ j w g. few (suc j) w g) h.1)
 
 -- so all combinations are small
-both_small : (xs ys : List Begun) → AreSmall xs → AreSmall ys → AreSmall (xs ++ ys)
+both_small : (xs ys : List PrefixLists) → AreSmall xs → AreSmall ys → AreSmall (xs ++ ys)
 both_small [] ys h k = k
 both_small (x ∷ xs) ys h k = (h.0, both_small xs ys h.1 k)
 
-goes_small : (b : Begun) (ts : List ThreadParts) (n m : ℕ) → ((c : Begun) → length c.seen.events ≤ m → AreSmall (combinations c ts)) → length b.seen.events + n ≤ m → (at : ℕ) (ps : List Part) → AreFew n ps → AreSmall (going_on b ts at ps)
+goes_small : (b : PrefixLists) (ts : List ThreadParts) (n m : ℕ) → ((c : PrefixLists) → length c.combination.events ≤ m → AreSmall (combinations c ts)) → length b.combination.events + n ≤ m → (at : ℕ) (ps : List Part) → AreFew n ps → AreSmall (going_on b ts at ps)
 goes_small b ts n m each le at [] few = tt
 goes_small b ts n m each le at (p ∷ ps) few =
     let a : length p.events.items ≤ n = few.0 in
-    both_small (combinations (with_run at p b) ts) (going_on b ts (at + 1) ps) (each (with_run at p b) (omega (arith, le, a, length-append b.seen.events p.events.items))) (goes_small b ts n m each le (at + 1) ps few.1)
+    both_small (combinations (with_run at p b) ts) (going_on b ts (at + 1) ps) (each (with_run at p b) (omega (arith, le, a, length-append b.combination.events p.events.items))) (goes_small b ts n m each le (at + 1) ps few.1)
 
-all_small : (ls : List (Vec Line Global)) (ts : List ThreadParts) (b : Begun) → ThreadsFew ls ts → length b.seen.events + sum_by (λ (lines : Vec Line Global). count_by has_event lines.items) ls ≤ 128 → AreSmall (combinations b ts)
+all_small : (ls : List (Vec Line Global)) (ts : List ThreadParts) (b : PrefixLists) → ThreadsFew ls ts → length b.combination.events + sum_by (λ (lines : Vec Line Global). count_by has_event lines.items) ls ≤ 128 → AreSmall (combinations b ts)
 all_small [] [] b few le = (omega (arith, le), tt)
 all_small [] (t ∷ ts) b few le = absurd few
 all_small (l ∷ ls) [] b few le = absurd few
 all_small (l ∷ ls) (t ∷ ts) b few le =
     let s : sum_by (λ (lines : Vec Line Global). count_by has_event lines.items) (l ∷ ls) ≡ count_by has_event l.items + sum_by (λ (lines : Vec Line Global). count_by has_event lines.items) ls = sum_by-cons (λ (lines : Vec Line Global). count_by has_event lines.items) l ls in
-    goes_small b ts (count_by has_event l.items) (length b.seen.events + count_by has_event l.items) (λ c small. all_small ls ts c few.1 (omega (arith, small, le, s))) (omega arith) 0 t.parts.items few.0
+    goes_small b ts (count_by has_event l.items) (length b.combination.events + count_by has_event l.items) (λ c small. all_small ls ts c few.1 (omega (arith, small, le, s))) (omega arith) 0 t.parts.items few.0
 
 initial_length : (at : ℕ) (vs : List Value) → length (initial_stores at vs) ≡ length vs
 initial_length at [] = refl

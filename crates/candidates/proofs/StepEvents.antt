@@ -1,5 +1,5 @@
 -- What stands at the event place of a step of a run: a load where the step is a load, a store where it is a store.
-use Rattle.std.proofs.Common.{ℕ, zero, suc, ◌≡◌, ◌<◌, ◌≤◌, ◌+◌, Bool, true, false, cond, not, List, [], ◌∷◌, ◌++◌, length, Some, slice_get, refl, ap, sym, subst, ◌∙◌, inl, inr, arith}
+use Rattle.std.proofs.Common.{ℕ, zero, suc, ◌≡◌, ◌<◌, ◌≤◌, ◌+◌, Bool, true, false, cond, not, List, [], ◌∷◌, ◌++◌, length, Some, None, slice_get, refl, ap, sym, subst, ◌∙◌, inl, inr, arith}
 use Rattle.std.proofs.lemmas.Bool.{cases_eq, cases_lt}
 use Rattle.std.proofs.lemmas.List.{length-append, get_or_append_left, get_or_at, get_or_past}
 use Rattle.std.proofs.lemmas.List.Concat.{flat_map-append}
@@ -18,61 +18,59 @@ use Rattle.dataflow.specs.Chains.{Executed, event_place, is_event}
 use Rattle.candidates.proofs.Elements.{behind_first, in_first}
 use Rattle.candidates.proofs.Places.{along, Placed, placed_more, places_same}
 use Rattle.candidates.proofs.Whole.{AreLocated, located_both, event_located, located_all}
-use Rattle.candidates.specs.Events.{thread_events, with_action, action_in, is_load, is_store}
+use Rattle.litmus_values.specs.declared.instruction.Fence.{Fence}
+use Rattle.candidates.specs.Events.{thread_events, with_action, action_in, stores_to, fence_of, IsKind}
+use Rattle.candidates.specs.declared.candidate.Action.TheVariants.{Fence as FenceAction}
 use Rattle.candidates.specs.declared.candidate.Event.{Event}
-
-abbrev pub stores : Instruction → Bool
-stores (Store d a) = true
-stores (StoreIndexed d a b) = true
-stores _ = false
-
--- the event is of the kind of the instruction
-pub record IsKind (i : Instruction) (e : Event) : Type 0 where
-  pub loads : loads i ≡ true → is_load e ≡ true
-  pub stores : stores i ≡ true → is_store e ≡ true
 
 -- the events of an instruction that is one
 pub record Alone (t : ℕ) (i : Instruction) (es : List run.Event) : Type 0 where
   pub event : Event
   pub alone : thread_events t es ≡ event ∷ []
-  pub kind : IsKind i event
+  pub kind : IsKind t i event
 
-read_alone : (t : ℕ) (i : Instruction) (x v : Value) → stores i ≡ false → not (is_address x) ≡ false → Alone t i (Reads x v ∷ [])
-read_alone t i (Number n) v never h = absurd cc
-read_alone t i (Address l) v never h = record { event = _; alone = refl; kind = record { loads = λ e. refl; stores = λ e. absurd (true_false (sym e ∙ never)) } }
+no_fence : {f : Fence} → Some f ≡ None → ⊥
+no_fence e = cc
+
+fence_is : {f g : Fence} → Some f ≡ Some g → f ≡ g
+fence_is e = cc
+
+read_alone : (t : ℕ) (i : Instruction) (x v : Value) → stores_to i ≡ false → fence_of i ≡ None → not (is_address x) ≡ false → Alone t i (Reads x v ∷ [])
+read_alone t i (Number n) v never unfenced h = absurd cc
+read_alone t i (Address l) v never unfenced h = record { event = _; alone = refl; kind = record { of_thread = refl; loads = λ e. refl; stores = λ e. absurd (true_false (sym e ∙ never)); fences = λ f e. absurd (no_fence (sym e ∙ unfenced)) } }
   where
     true_false : true ≡ false → ⊥
     true_false h = cc
-read_alone t i NoValue v never h = absurd cc
+read_alone t i NoValue v never unfenced h = absurd cc
 
-write_alone : (t : ℕ) (i : Instruction) (x v : Value) → loads i ≡ false → not (is_address x) ≡ false → Alone t i (Writes x v ∷ [])
-write_alone t i (Number n) v never h = absurd cc
-write_alone t i (Address l) v never h = record { event = _; alone = refl; kind = record { loads = λ e. absurd (true_false (sym e ∙ never)); stores = λ e. refl } }
+write_alone : (t : ℕ) (i : Instruction) (x v : Value) → loads i ≡ false → fence_of i ≡ None → not (is_address x) ≡ false → Alone t i (Writes x v ∷ [])
+write_alone t i (Number n) v never unfenced h = absurd cc
+write_alone t i (Address l) v never unfenced h = record { event = _; alone = refl; kind = record { of_thread = refl; loads = λ e. absurd (true_false (sym e ∙ never)); stores = λ e. refl; fences = λ f e. absurd (no_fence (sym e ∙ unfenced)) } }
   where
     true_false : true ≡ false → ⊥
     true_false h = cc
-write_alone t i NoValue v never h = absurd cc
+write_alone t i NoValue v never unfenced h = absurd cc
 
 alone : (t : ℕ) (i : Instruction) (v : Value) (s : State) → is_fault i s ≡ false → is_event i ≡ true → Alone t i (event_of i v s)
 alone t (Immediate d n) v s h e = absurd cc
 alone t (Move d a) v s h e = absurd cc
 alone t (AddImmediate d a n) v s h e = absurd cc
 alone t (Operate o d a b) v s h e = absurd cc
-alone t (Load d a) v s h e = read_alone t (Load d a) (register s a) v refl h
-alone t (LoadIndexed d a b) v s h e = read_alone t (LoadIndexed d a b) (sum_of (register s a) (register s b)) v refl h
-alone t (Store d a) v s h e = write_alone t (Store d a) (register s a) (register s d) refl h
-alone t (StoreIndexed d a b) v s h e = write_alone t (StoreIndexed d a b) (sum_of (register s a) (register s b)) (register s d) refl h
+alone t (Load d a) v s h e = read_alone t (Load d a) (register s a) v refl refl h
+alone t (LoadIndexed d a b) v s h e = read_alone t (LoadIndexed d a b) (sum_of (register s a) (register s b)) v refl refl h
+alone t (Store d a) v s h e = write_alone t (Store d a) (register s a) (register s d) refl refl h
+alone t (StoreIndexed d a b) v s h e = write_alone t (StoreIndexed d a b) (sum_of (register s a) (register s b)) (register s d) refl refl h
 alone t (Compare a b) v s h e = absurd cc
 alone t (CompareImmediate a n) v s h e = absurd cc
 alone t (Branch c l) v s h e = absurd cc
 alone t (Jump l) v s h e = absurd cc
-alone t (Barrier f) v s h e = record { event = _; alone = refl; kind = record { loads = λ e. absurd cc; stores = λ e. absurd cc } }
+alone t (Barrier f) v s h e = record { event = _; alone = refl; kind = record { of_thread = refl; loads = λ e. absurd cc; stores = λ e. absurd cc; fences = λ g e. ap (λ (x : Fence). FenceAction x) (fence_is e) } }
 
 -- at the place of each step that is an event stands its event
 pub record Stands (t : ℕ) (steps : List RunStep) (es : List run.Event) (n : ℕ) : Type 0 where
   pub event : Event
   pub there : slice_get (thread_events t es) (event_place (executed steps) n) ≡ Some event
-  pub kind : IsKind (executed steps n) event
+  pub kind : IsKind t (executed steps n) event
 
 record Stand (t : ℕ) (w : Walk) : Type 0 where
   placed : Placed w
@@ -109,7 +107,7 @@ module _ (t : ℕ) (i : Instruction) (b : Bool) (v : Value) (w : Walk) (sound : 
             ∙ ap (λ (l : List Event). slice_get l (length (thread_events t w.events) + 0)) events
             ∙ behind_first (thread_events t w.events) (thread_events t (event_of i v w.state)) 0
             ∙ ap (λ (l : List Event). slice_get l 0) a.alone;
-        kind = subst (λ (j : Instruction). IsKind j a.event) (sym last) a.kind;
+        kind = subst (λ (j : Instruction). IsKind t j a.event) (sym last) a.kind;
       }
 
   old_stands : (n : ℕ) → n < length w.steps → Stands t w.steps w.events n → Stands t (w.steps ++ one ∷ []) (w.events ++ event_of i v w.state) n
@@ -119,7 +117,7 @@ module _ (t : ℕ) (i : Instruction) (b : Bool) (v : Value) (w : Walk) (sound : 
         ap (λ (k : ℕ). slice_get (thread_events t (w.events ++ event_of i v w.state)) k) (place n (omega (arith, lt)))
         ∙ ap (λ (l : List Event). slice_get l (event_place (executed w.steps) n)) events
         ∙ in_first (thread_events t w.events) (thread_events t (event_of i v w.state)) (event_place (executed w.steps) n) s.event s.there;
-    kind = subst (λ (j : Instruction). IsKind j s.event) (sym (earlier n lt)) s.kind;
+    kind = subst (λ (j : Instruction). IsKind t j s.event) (sym (earlier n lt)) s.kind;
   }
 
   stand_more : Stand t (advanced i b v w)

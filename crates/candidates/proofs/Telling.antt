@@ -34,20 +34,20 @@ use Rattle.ppc_semantics.specs.declared.fault.DomainRefusal.TheVariants as no_do
 use Rattle.ppc_semantics.specs.declared.fault.DomainFault.TheVariants as domain_faults
 use Rattle.candidates.specs.Orders.{all_orders}
 use Rattle.candidates.specs.Events.{initial_stores}
-use Rattle.candidates.specs.Search.{Begun, start, all_combinations, location_count}
-use Rattle.candidates.specs.Space.{Seen, seen, Candidate, candidates_in, shown_of}
+use Rattle.candidates.specs.Search.{PrefixLists, start, all_combinations, location_count}
+use Rattle.candidates.specs.Space.{CombinationLists, combination_lists, Candidate, candidates_in, shown_of}
 use Rattle.candidates.specs.declared.candidate.Space.{Space}
 use Rattle.candidates.specs.declared.candidate.Event.{Event}
 use Rattle.candidates.specs.declared.layout.Layout.{Layout}
 use Rattle.candidates.specs.declared.layout.ThreadParts.{ThreadParts}
 
 -- the executions of a test, and the combinations that list them
-pub record Told (t : Test) (l : Layout) (cs : List Seen) (h : HasLayout t l) : Type 0 where
+pub record Told (t : Test) (l : Layout) (cs : List CombinationLists) (h : HasLayout t l) : Type 0 where
   pub all : List Execution
   pub executions : AreTestExecutions t h.0.initial.items all
   pub listed : AreListed (location_count l) h.0.initial.items (threads_of h.0) h.1 l.threads.items (all_combinations l) cs all
 
-pub layout_told : (t : Test) (l : Layout) (cs : List Seen) (h : HasLayout t l) → AreCombinations (location_count l) (all_combinations l) cs → Told t l cs h
+pub layout_told : (t : Test) (l : Layout) (cs : List CombinationLists) (h : HasLayout t l) → AreCombinations (location_count l) (all_combinations l) cs → Told t l cs h
 layout_told t l cs h found =
     let p : Program = h.0 in
     let V : List Value = h.1 in
@@ -75,20 +75,20 @@ length_rows {Z = Z} f ys (x ∷ xs) =
     let s : suc (length xs) * length ys ≡ length xs * length ys + length ys = suc-mul (length xs) (length ys) in
     omega (arith, a, m, r, s)
 
-pub as_many : (n : ℕ) (initial : List Value) (threads : List Thread) (V : List Value) (ts : List ThreadParts) (bs : List Begun) (cs : List Seen) (xs : List Execution) → n ≡ length initial → AreListed n initial threads V ts bs cs xs → length xs ≡ candidate_total cs
+pub as_many : (n : ℕ) (initial : List Value) (threads : List Thread) (V : List Value) (ts : List ThreadParts) (bs : List PrefixLists) (cs : List CombinationLists) (xs : List Execution) → n ≡ length initial → AreListed n initial threads V ts bs cs xs → length xs ≡ candidate_total cs
 as_many n initial threads V ts [] [] xs e no_more = refl
 as_many n initial threads V ts [] (c ∷ cs) xs e h = elim h [ ]
 as_many n initial threads V ts (b ∷ bs) (c ∷ cs) xs e (one_more {xs = ys} {way = way} {ways = rest} rs i are h) =
     let ways : List (List ℕ) = way ∷ rest in
     let os : List (List (List ℕ)) = product (orders_at (events initial rs) initial) in
     let f : length (events initial rs) ≤ 128 = subst (λ (l : List Event). length l ≤ 128) i.events i.few in
-    let o : length os ≡ length (all_orders b.seen.events n) =
+    let o : length os ≡ length (all_orders b.combination.events n) =
     sym (length-map os flat) ∙ ap (λ (l : List (List ℕ)). length l) (orders_flat (events initial rs) initial f) ∙ ap (λ (k : ℕ). length (all_orders (events initial rs) k)) (sym e) ∙ ap (λ (l : List Event). length (all_orders l n)) (sym i.events) in
     let a : length (flat_map (λ w. map (executed_so initial rs w) os) ways ++ ys) ≡ length (flat_map (λ w. map (executed_so initial rs w) os) ways) + length ys = length-append (flat_map (λ w. map (executed_so initial rs w) os) ways) ys in
     let r : length (flat_map (λ w. map (executed_so initial rs w) os) ways) ≡ length ways * length os = length_rows (executed_so initial rs) os ways in
-    let m : length ways * length os ≡ length ways * length (all_orders b.seen.events n) = ap (λ (k : ℕ). length ways * k) o in
+    let m : length ways * length os ≡ length ways * length (all_orders b.combination.events n) = ap (λ (k : ℕ). length ways * k) o in
     let later : length ys ≡ candidate_total cs = as_many n initial threads V ts bs cs ys e h in
-    a ∙ ap (λ (k : ℕ). k + length ys) (r ∙ m) ∙ ap (λ (k : ℕ). length ways * length (all_orders b.seen.events n) + k) later
+    a ∙ ap (λ (k : ℕ). k + length ys) (r ∙ m) ∙ ap (λ (k : ℕ). length ways * length (all_orders b.combination.events n) + k) later
 as_many n initial threads V ts (b ∷ bs) cs xs e (not_one are h) = as_many n initial threads V ts bs cs xs e h
 
 initial_long : (at : ℕ) (vs : List Value) → length (initial_stores at vs) ≡ length vs
@@ -116,18 +116,18 @@ pub space_lists : (t : Test) (s : Space) → IsTestSpace t s → ListsExecutions
 space_lists t s h =
     let l : Layout = h.0 in
     let initial : List Value = h.1.0.initial.items in
-    let are : AreCandidates (location_count l) (all_combinations l) (map seen s.combinations.items) = h.2.0 in
-    let told : Told t l (map seen s.combinations.items) h.1 = layout_told t l (map seen s.combinations.items) h.1 are.combinations in
+    let are : AreCandidates (location_count l) (all_combinations l) (map combination_lists s.combinations.items) = h.2.0 in
+    let told : Told t l (map combination_lists s.combinations.items) h.1 = layout_told t l (map combination_lists s.combinations.items) h.1 are.combinations in
     let n : location_count l ≡ length initial = locations_counted t l h.1 in
-    let c : length told.all ≡ candidate_total (map seen s.combinations.items) = as_many (location_count l) initial (threads_of h.1.0) h.1.1 l.threads.items (all_combinations l) (map seen s.combinations.items) told.all n told.listed in
+    let c : length told.all ≡ candidate_total (map combination_lists s.combinations.items) = as_many (location_count l) initial (threads_of h.1.0) h.1.1 l.threads.items (all_combinations l) (map combination_lists s.combinations.items) told.all n told.listed in
     let shown : AllZip (AreShown initial s.registers.items) told.all (candidates_in s.combinations.items) =
-    all_shown (location_count l) initial (threads_of h.1.0) h.1.1 l.threads.items s.registers.items h.2.1.0 n (all_combinations l) (map seen s.combinations.items) told.all s.combinations.items refl told.listed in
+    all_shown (location_count l) initial (threads_of h.1.0) h.1.1 l.threads.items s.registers.items h.2.1.0 n (all_combinations l) (map combination_lists s.combinations.items) told.all s.combinations.items refl told.listed in
     record {
       initial = initial;
       all = told.all;
       executions = told.executions;
-      few = let f : candidate_total (map seen s.combinations.items) ≤ 16384 = are.few in omega (arith, c, f);
-      sound = λ x there f. are.sound (fault_among (location_count l) initial (threads_of h.1.0) h.1.1 l.threads.items (all_combinations l) (map seen s.combinations.items) told.all told.listed x there f);
+      few = let f : candidate_total (map combination_lists s.combinations.items) ≤ 16384 = are.few in omega (arith, c, f);
+      sound = λ x there f. are.sound (fault_among (location_count l) initial (threads_of h.1.0) h.1.1 l.threads.items (all_combinations l) (map combination_lists s.combinations.items) told.all told.listed x there f);
       shown = all_shown_in initial s.registers.items told.all (candidates_in s.combinations.items) shown;
       locations = subst (λ (names : Vec Name Global). AreNames (test_names t) names.items) (sym (h.2.1.1 ∙ h.1.6.locations)) h.1.3.locations;
     }
@@ -136,7 +136,7 @@ space_lists t s h =
 many_told : (t : Test) (l : Layout) → HasLayout t l → AreTooMany (location_count l) (all_combinations l) → HasManyExecutions t
 many_told t l h many =
     let initial : List Value = h.0.initial.items in
-    let found : (cs : List Seen) × AreCombinations (location_count l) (all_combinations l) cs = combined (location_count l) (all_combinations l) in
+    let found : (cs : List CombinationLists) × AreCombinations (location_count l) (all_combinations l) cs = combined (location_count l) (all_combinations l) in
     let told : Told t l found.0 h = layout_told t l found.0 h found.1 in
     let c : length told.all ≡ candidate_total found.0 = as_many (location_count l) initial (threads_of h.0) h.1 l.threads.items (all_combinations l) found.0 told.all (locations_counted t l h) told.listed in
     let g : 16384 < candidate_total found.0 = many found.0 found.1 in

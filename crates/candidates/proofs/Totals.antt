@@ -18,8 +18,8 @@ use Rattle.candidates.specs.Layouts.{AreAllRuns, IsLaidOut}
 use Rattle.candidates.specs.declared.candidate.Space.{Space}
 use Rattle.candidates.specs.Ways.{AreWays, IsWay, accesses_in}
 use Rattle.candidates.specs.Lists.{tuples}
-use Rattle.candidates.specs.Search.{Begun, Tally, Fits, AllFit, tallied, with_run, combinations, Searched, none, more, AreTooMuch, now, later, nothing, tally, start, all_combinations, location_count}
-use Rattle.candidates.specs.Space.{Seen, seen, ordered}
+use Rattle.candidates.specs.Search.{PrefixLists, Tally, Fits, AllFit, tally_with, with_run, combinations, Searched, none, more, AreTooMuch, now, later, nothing, tally, start, all_combinations, location_count}
+use Rattle.candidates.specs.Space.{CombinationLists, combination_lists, ordered}
 use Rattle.candidates.specs.Candidates.{AreCombinations, nothing_left, with_ways, without, candidate_total, HasFault, AreCandidates, AreTooMany, AreFaulted, AreSmall, IsAnswer, IsReady, IsLayoutFault, IsTestSpace, IsTestRefusal}
 use Rattle.candidates.specs.Faults.{fault_of}
 use Rattle.ppc_semantics.specs.declared.fault.DomainFault.{DomainFault}
@@ -32,27 +32,27 @@ use Rattle.candidates.specs.declared.part.Part.{Part}
 use Rattle.candidates.specs.declared.search.Found.{Found}
 use Rattle.candidates.proofs.Counting.{or_parts, numbers_above}
 use Rattle.candidates.proofs.Filters.{IsFiltered-unique}
-use Rattle.candidates.proofs.Searching.{going_on}
+use Rattle.candidates.proofs.Searching.{going_on, small_front, small_rest}
 use Rattle.candidates.proofs.Small.{layout_small}
 
 -- what was found of combinations, one after another
-pub record Sum (n : ℕ) (bs : List Begun) (t u : Tally) : Type 0 where
-  pub all : List Seen
+pub record Sum (n : ℕ) (bs : List PrefixLists) (t u : Tally) : Type 0 where
+  pub all : List CombinationLists
   pub are : AreCombinations n bs all
   pub count : u.count ≡ t.count + candidate_total all
   pub kept : u.faulted ≡ false → (map (ordered n) u.kept ≡ map (ordered n) t.kept ++ all) × (HasFault bs → ⊥) × (t.faulted ≡ false)
   pub fault : u.faulted ≡ true → (t.faulted ≡ true) ⊎ HasFault bs
 
-same_ways : (b : Begun) (xs ys : List (List ℕ)) → AreWays b.seen.events b.needs xs → AreWays b.seen.events b.needs ys → xs ≡ ys
-same_ways b xs ys h k = IsFiltered-unique (IsWay (accesses_in b.seen.events b.needs)) (tuples [] (accesses_in b.seen.events b.needs).sources) xs ys h k
+same_ways : (b : PrefixLists) (xs ys : List (List ℕ)) → AreWays b.combination.events b.needs xs → AreWays b.combination.events b.needs ys → xs ≡ ys
+same_ways b xs ys h k = IsFiltered-unique (IsWay (accesses_in b.combination.events b.needs)) (tuples [] (accesses_in b.combination.events b.needs).sources) xs ys h k
 
-seens_nil : (xs : List Seen) → xs ≡ xs ++ []
+seens_nil : (xs : List CombinationLists) → xs ≡ xs ++ []
 seens_nil [] = refl
-seens_nil (x ∷ xs) = ap (λ (l : List Seen). x ∷ l) (seens_nil xs)
+seens_nil (x ∷ xs) = ap (λ (l : List CombinationLists). x ∷ l) (seens_nil xs)
 
-map_pushed : (n : ℕ) (xs : List Seen) (x : Seen) → map (ordered n) (xs ++ x ∷ []) ≡ map (ordered n) xs ++ ordered n x ∷ []
+map_pushed : (n : ℕ) (xs : List CombinationLists) (x : CombinationLists) → map (ordered n) (xs ++ x ∷ []) ≡ map (ordered n) xs ++ ordered n x ∷ []
 map_pushed n [] x = refl
-map_pushed n (y ∷ xs) x = ap (λ (l : List Seen). ordered n y ∷ l) (map_pushed n xs x)
+map_pushed n (y ∷ xs) x = ap (λ (l : List CombinationLists). ordered n y ∷ l) (map_pushed n xs x)
 
 true_not_false : (b : Bool) → b ≡ true → b ≡ false → ⊥
 true_not_false true t f = cc
@@ -65,11 +65,11 @@ either_true false b h = inr h
 wayless : {x : List ℕ} {xs : List (List ℕ)} → (x ∷ xs) ≡ [] → ⊥
 wayless e = cc
 
-pub summed : (n : ℕ) (bs : List Begun) (t u : Tally) → Searched n bs t u → Sum n bs t u
+pub summed : (n : ℕ) (bs : List PrefixLists) (t u : Tally) → Searched n bs t u → Sum n bs t u
 summed n [] t u none = record { all = []; are = nothing_left; count = omega arith; kept = λ f. (seens_nil (map (ordered n) t.kept), (λ h. h), f); fault = λ f. inl f }
 summed n (b ∷ bs) t v (more {u = w} j h) = step j.0 j.1 j.2 (summed n bs w v h)
   where
-    step : (ways : List (List ℕ)) → AreWays b.seen.events b.needs ways → w ≡ tallied n b ways t → Sum n bs w v → Sum n (b ∷ bs) t v
+    step : (ways : List (List ℕ)) → AreWays b.combination.events b.needs ways → w ≡ tally_with n b ways t → Sum n bs w v → Sum n (b ∷ bs) t v
     step [] are e s = record {
       all = s.all;
       are = without are s.are;
@@ -80,18 +80,18 @@ summed n (b ∷ bs) t v (more {u = w} j h) = step j.0 j.1 j.2 (summed n bs w v h
       fault = λ f. elim (s.fault f) [ inl y ↦ inl (sym (ap (λ (x : Tally). x.faulted) e) ∙ y) | inr y ↦ inr (inr y) ];
     }
     step (way ∷ ways) are e s = record {
-      all = ordered n (record b.seen { sources = way ∷ ways }) ∷ s.all;
+      all = ordered n (record b.combination { sources = way ∷ ways }) ∷ s.all;
       are = with_ways are s.are;
       count =
-          let c : w.count ≡ t.count + length (way ∷ ways) * length (all_orders b.seen.events n) = ap (λ (x : Tally). x.count) e in
+          let c : w.count ≡ t.count + length (way ∷ ways) * length (all_orders b.combination.events n) = ap (λ (x : Tally). x.count) e in
           let d : v.count ≡ w.count + candidate_total s.all = s.count in
           omega (arith, c, d);
       kept = λ f.
           let k : (map (ordered n) v.kept ≡ map (ordered n) w.kept ++ s.all) × (HasFault bs → ⊥) × (w.faulted ≡ false) = s.kept f in
           let o : (t.faulted || b.faulted) ≡ false = sym (ap (λ (x : Tally). x.faulted) e) ∙ k.2 in
           let p : (t.faulted ≡ false) × (b.faulted ≡ false) = or_parts t.faulted b.faulted o in
-          let q : w.kept ≡ t.kept ++ record b.seen { sources = way ∷ ways } ∷ [] = ap (λ (x : Tally). x.kept) e ∙ ap (λ (x : Bool). if x then t.kept else t.kept ++ record b.seen { sources = way ∷ ways } ∷ []) o in (
-            k.0 ∙ ap (λ (l : List Seen). map (ordered n) l ++ s.all) q ∙ ap (λ (l : List Seen). l ++ s.all) (map_pushed n t.kept (record b.seen { sources = way ∷ ways })) ∙ append_assoc (map (ordered n) t.kept) (ordered n (record b.seen { sources = way ∷ ways }) ∷ []) s.all,
+          let q : w.kept ≡ t.kept ++ record b.combination { sources = way ∷ ways } ∷ [] = ap (λ (x : Tally). x.kept) e ∙ ap (λ (x : Bool). if x then t.kept else t.kept ++ record b.combination { sources = way ∷ ways } ∷ []) o in (
+            k.0 ∙ ap (λ (l : List CombinationLists). map (ordered n) l ++ s.all) q ∙ ap (λ (l : List CombinationLists). l ++ s.all) (map_pushed n t.kept (record b.combination { sources = way ∷ ways })) ∙ append_assoc (map (ordered n) t.kept) (ordered n (record b.combination { sources = way ∷ ways }) ∷ []) s.all,
             (λ x. elim x [ inl y ↦ true_not_false b.faulted y.0 p.1 | inr y ↦ k.1 y ]),
             p.0,
           );
@@ -101,26 +101,26 @@ summed n (b ∷ bs) t v (more {u = w} j h) = step j.0 j.1 j.2 (summed n bs w v h
       ];
     }
 
-pub over_all : (n : ℕ) (bs : List Begun) (t : Tally) → AreTooMuch n bs t → (cs : List Seen) → AreCombinations n bs cs → 16384 < t.count + candidate_total cs
+pub over_all : (n : ℕ) (bs : List PrefixLists) (t : Tally) → AreTooMuch n bs t → (cs : List CombinationLists) → AreCombinations n bs cs → 16384 < t.count + candidate_total cs
 over_all n [] t h cs k = elim h [ ]
 over_all n (b ∷ bs) t (now h) cs (with_ways {cs = ds} {way = w} {ways = ws} are rest) =
-    let g : 16384 < t.count + length (w ∷ ws) * length (all_orders b.seen.events n) = h (w ∷ ws) are in omega (arith, g)
+    let g : 16384 < t.count + length (w ∷ ws) * length (all_orders b.combination.events n) = h (w ∷ ws) are in omega (arith, g)
 over_all n (b ∷ bs) t (now h) cs (without are rest) =
-    let g : 16384 < t.count + length (let l : List (List ℕ) = [] in l) * length (all_orders b.seen.events n) = h [] are in omega (arith, g)
+    let g : 16384 < t.count + length (let l : List (List ℕ) = [] in l) * length (all_orders b.combination.events n) = h [] are in omega (arith, g)
 over_all n (b ∷ bs) t (later {u = u} j h) cs (with_ways {cs = ds} {way = w} {ways = ws} are rest) =
     let g : 16384 < u.count + candidate_total ds = over_all n bs u h ds rest in
-    let e : u.count ≡ t.count + length (w ∷ ws) * length (all_orders b.seen.events n) = ap (λ (x : Tally). x.count) (j.2 ∙ ap (λ (l : List (List ℕ)). tallied n b l t) (same_ways b j.0 (w ∷ ws) j.1 are)) in
+    let e : u.count ≡ t.count + length (w ∷ ws) * length (all_orders b.combination.events n) = ap (λ (x : Tally). x.count) (j.2 ∙ ap (λ (l : List (List ℕ)). tally_with n b l t) (same_ways b j.0 (w ∷ ws) j.1 are)) in
     omega (arith, g, e)
 over_all n (b ∷ bs) t (later {u = u} j h) cs (without are rest) =
     let g : 16384 < u.count + candidate_total cs = over_all n bs u h cs rest in
-    let e : u.count ≡ t.count = ap (λ (x : Tally). x.count) (j.2 ∙ ap (λ (l : List (List ℕ)). tallied n b l t) (same_ways b j.0 [] j.1 are)) in
+    let e : u.count ≡ t.count = ap (λ (x : Tally). x.count) (j.2 ∙ ap (λ (l : List (List ℕ)). tally_with n b l t) (same_ways b j.0 [] j.1 are)) in
     omega (arith, g, e)
 
 -- nothing was found before
-pub too_many : (n : ℕ) (bs : List Begun) → AreTooMuch n bs nothing → AreTooMany n bs
+pub too_many : (n : ℕ) (bs : List PrefixLists) → AreTooMuch n bs nothing → AreTooMany n bs
 too_many n bs h cs k = let g : 16384 < 0 + candidate_total cs = over_all n bs nothing h cs k in omega (arith, g)
 
-pub faulted : (n : ℕ) (bs : List Begun) (t : Tally) → Searched n bs nothing t → t.count ≤ 16384 → t.faulted ≡ true → AreFaulted n bs
+pub faulted : (n : ℕ) (bs : List PrefixLists) (t : Tally) → Searched n bs nothing t → t.count ≤ 16384 → t.faulted ≡ true → AreFaulted n bs
 faulted n bs t h few f =
     let s : Sum n bs nothing t = summed n bs nothing t h in
     let c : t.count ≡ 0 + candidate_total s.all = s.count in
@@ -129,11 +129,11 @@ faulted n bs t h few f =
     never : false ≡ true → ⊥
     never e = cc
 
-pub all_candidates : (n : ℕ) (bs : List Begun) (t : Tally) (cs : List Seen) → Searched n bs nothing t → t.count ≤ 16384 → t.faulted ≡ false → cs ≡ map (ordered n) t.kept → AreCandidates n bs cs
+pub all_candidates : (n : ℕ) (bs : List PrefixLists) (t : Tally) (cs : List CombinationLists) → Searched n bs nothing t → t.count ≤ 16384 → t.faulted ≡ false → cs ≡ map (ordered n) t.kept → AreCandidates n bs cs
 all_candidates n bs t cs h few f e =
     let s : Sum n bs nothing t = summed n bs nothing t h in
     let c : t.count ≡ 0 + candidate_total s.all = s.count in
-    subst (λ (l : List Seen). AreCandidates n bs l) (sym (e ∙ (s.kept f).0)) (record { combinations = s.are; few = omega (arith, c, few); sound = (s.kept f).1 })
+    subst (λ (l : List CombinationLists). AreCandidates n bs l) (sym (e ∙ (s.kept f).0)) (record { combinations = s.are; few = omega (arith, c, few); sound = (s.kept f).1 })
 
 -- the initial stores are no stores of threads
 abbrev pub AreInitial : List Event → Type 0
@@ -152,36 +152,28 @@ none_before l (suc m) at (e ∷ init) rest k i lt lm =
     ∙ none_before l m (at + 1) init rest k i.1 (omega (arith, lt)) (omega (arith, lm))
 
 -- combinations that begin with the initial stores
-abbrev pub Begins : List Event → Begun → Type 0
-Begins init b = (rest : List Event) × (b.seen.events ≡ init ++ rest)
+abbrev pub Begins : List Event → PrefixLists → Type 0
+Begins init b = (rest : List Event) × (b.combination.events ≡ init ++ rest)
 
-begun_fits : (n : ℕ) (init : List Event) (b : Begun) → AreInitial init → n ≡ min (length init) 128 → Begins init b → length b.seen.events ≤ 128 → Fits n b
+begun_fits : (n : ℕ) (init : List Event) (b : PrefixLists) → AreInitial init → n ≡ min (length init) 128 → Begins init b → length b.combination.events ≤ 128 → Fits n b
 unfolding stores_of
 begun_fits n init b i e s few = record {
   few = few;
   apart = λ location lt. subst (λ (es : List Event). has_store (numbers (is_thread_store location) 0 (take 128 es)) location ≡ false) (sym s.1) (none_before location 128 0 init s.0 location i (omega (arith, lt, e)) (omega (arith, lt, e)));
 }
 
-small_front : (xs ys : List Begun) → AreSmall (xs ++ ys) → AreSmall xs
-small_front [] ys h = tt
-small_front (x ∷ xs) ys h = (h.0, small_front xs ys h.1)
-
-small_rest : (xs ys : List Begun) → AreSmall (xs ++ ys) → AreSmall ys
-small_rest [] ys h = h
-small_rest (x ∷ xs) ys h = small_rest xs ys h.1
-
-fit_both : (n : ℕ) (xs ys : List Begun) → AllFit n xs → AllFit n ys → AllFit n (xs ++ ys)
+fit_both : (n : ℕ) (xs ys : List PrefixLists) → AllFit n xs → AllFit n ys → AllFit n (xs ++ ys)
 fit_both n [] ys h k = k
 fit_both n (x ∷ xs) ys h k = (h.0, fit_both n xs ys h.1 k)
 
-runs_fit : (n : ℕ) (init : List Event) (b : Begun) (ts : List ThreadParts) → ((c : Begun) → Begins init c → AreSmall (combinations c ts) → AllFit n (combinations c ts)) → Begins init b → (at : ℕ) (ps : List Part) → AreSmall (going_on b ts at ps) → AllFit n (going_on b ts at ps)
+runs_fit : (n : ℕ) (init : List Event) (b : PrefixLists) (ts : List ThreadParts) → ((c : PrefixLists) → Begins init c → AreSmall (combinations c ts) → AllFit n (combinations c ts)) → Begins init b → (at : ℕ) (ps : List Part) → AreSmall (going_on b ts at ps) → AllFit n (going_on b ts at ps)
 runs_fit n init b ts each s at [] small = tt
 runs_fit n init b ts each s at (p ∷ ps) small =
     fit_both n (combinations (with_run at p b) ts) (going_on b ts (at + 1) ps)
     (each (with_run at p b) (s.0 ++ p.events.items, ap (λ (l : List Event). l ++ p.events.items) s.1 ∙ append_assoc init s.0 p.events.items) (small_front (combinations (with_run at p b) ts) (going_on b ts (at + 1) ps) small))
     (runs_fit n init b ts each s (at + 1) ps (small_rest (combinations (with_run at p b) ts) (going_on b ts (at + 1) ps) small))
 
-all_fit : (n : ℕ) (init : List Event) → AreInitial init → n ≡ min (length init) 128 → (ts : List ThreadParts) (b : Begun) → Begins init b → AreSmall (combinations b ts) → AllFit n (combinations b ts)
+all_fit : (n : ℕ) (init : List Event) → AreInitial init → n ≡ min (length init) 128 → (ts : List ThreadParts) (b : PrefixLists) → Begins init b → AreSmall (combinations b ts) → AllFit n (combinations b ts)
 all_fit n init i e [] b s small = (begun_fits n init b i e s small.0, tt)
 all_fit n init i e (t ∷ ts) b s small = runs_fit n init b ts (λ c d k. all_fit n init i e ts c d k) s 0 t.parts.items small
 
@@ -193,9 +185,9 @@ pub layout_fits : (init : List Event) (ts : List ThreadParts) → AreInitial ini
 layout_fits init ts i small = all_fit (min (length init) 128) init i refl ts (start init) ([], events_nil init) small
 
 -- the answers
-pub seen_ordered : (n : ℕ) (cs : List Combination) → map (λ c. ordered n (seen c)) cs ≡ map (ordered n) (map seen cs)
+pub seen_ordered : (n : ℕ) (cs : List Combination) → map (λ c. ordered n (combination_lists c)) cs ≡ map (ordered n) (map combination_lists cs)
 seen_ordered n [] = refl
-seen_ordered n (c ∷ cs) = ap (λ (l : List Seen). ordered n (seen c) ∷ l) (seen_ordered n cs)
+seen_ordered n (c ∷ cs) = ap (λ (l : List CombinationLists). ordered n (combination_lists c) ∷ l) (seen_ordered n cs)
 
 pub fits_layout : (l : Layout) (vs : List Value) → l.initial.items ≡ initial_stores 0 vs → AreSmall (all_combinations l) → AllFit (location_count l) (all_combinations l)
 fits_layout l vs e small = layout_fits l.initial.items l.threads.items (subst (λ (es : List Event). AreInitial es) (sym e) (all_initial 0 vs)) small
@@ -213,10 +205,10 @@ some_searched l o f e h = subst (λ (x : Option Found). IsSearched l x) e h
 pub fault_searched : (l : Layout) (o : Option Found) (f : Found) → o ≡ Some f → f.is_faulted ≡ true → IsSearched l o → AreFaulted (location_count l) (all_combinations l)
 fault_searched l o f e b h = let s : Searched (location_count l) (all_combinations l) nothing (tally f) × (f.count ≤ 16384) = some_searched l o f e h in faulted (location_count l) (all_combinations l) (tally f) s.0 s.1 b
 
-pub all_searched : (l : Layout) (o : Option Found) (f : Found) (cs : List Combination) → o ≡ Some f → f.is_faulted ≡ false → IsSearched l o → map seen cs ≡ map (λ c. ordered (location_count l) (seen c)) f.combinations.items → AreCandidates (location_count l) (all_combinations l) (map seen cs)
+pub all_searched : (l : Layout) (o : Option Found) (f : Found) (cs : List Combination) → o ≡ Some f → f.is_faulted ≡ false → IsSearched l o → map combination_lists cs ≡ map (λ c. ordered (location_count l) (combination_lists c)) f.combinations.items → AreCandidates (location_count l) (all_combinations l) (map combination_lists cs)
 all_searched l o f cs e b h m =
     let s : Searched (location_count l) (all_combinations l) nothing (tally f) × (f.count ≤ 16384) = some_searched l o f e h in
-    all_candidates (location_count l) (all_combinations l) (tally f) (map seen cs) s.0 s.1 b (m ∙ seen_ordered (location_count l) f.combinations.items)
+    all_candidates (location_count l) (all_combinations l) (tally f) (map combination_lists cs) s.0 s.1 b (m ∙ seen_ordered (location_count l) f.combinations.items)
 
 -- what the test says
 pub test_fault : (t : Test) (p : Program) (e : DomainFault) (f : SpaceFault) → f ≡ fault_of e → IsProgram t p → IsFault p e → IsLayoutFault t f
@@ -232,10 +224,10 @@ ready t p values l h d r = ((p, values, r.0, h, d, r.1, r.2), bit_of values, p.i
 
 -- what the space of a layout says of the test
 abbrev pub Answers : Layout → Result (Result Space EvalRefusal) AllocError → Type 0
-Answers l r = (key : ℕ → Value → Option (ℕ × ℕ)) (initial : List Value) → IsKeyed key l → l.initial.items ≡ initial_stores 0 initial → AreSmall (all_combinations l) → IfOk r (λ a. IsAnswer l a)
+Answers l r = (key : ℕ → Value → Option (ℕ × ℕ)) (initial : List Value) → IsKeyed key l → l.initial.items ≡ initial_stores 0 initial → IfOk r (λ a. IsAnswer l a)
 
 told : (t : Test) (l : Layout) (r : Result (Result Space EvalRefusal) AllocError) (a : Result Space EvalRefusal) → r ≡ Ok a → IsReady t l → Answers l r → IsAnswer l a
-told t l r a e h f = subst (λ (x : Result (Result Space EvalRefusal) AllocError). IfOk x (λ b. IsAnswer l b)) e (f h.1 h.2 h.3 h.4 (layout_small t l h.0))
+told t l r a e h f = subst (λ (x : Result (Result Space EvalRefusal) AllocError). IfOk x (λ b. IsAnswer l b)) e (f h.1 h.2 h.3 h.4)
 
 pub space_told : (t : Test) (l : Layout) (r : Result (Result Space EvalRefusal) AllocError) (s : Space) → r ≡ Ok (Ok s) → IsReady t l → Answers l r → IsTestSpace t s
 space_told t l r s e h f = (l, h.0, told t l r (Ok s) e h f)

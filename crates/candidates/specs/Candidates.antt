@@ -18,48 +18,48 @@ use Rattle.candidates.specs.Keys.{IsKeyed}
 use Rattle.candidates.specs.Events.{initial_stores}
 use Rattle.candidates.specs.Layouts.{AreAllRuns, IsLaidOut}
 use Rattle.candidates.specs.Ways.{AreWays}
-use Rattle.candidates.specs.Search.{Begun, all_combinations, location_count}
-use Rattle.candidates.specs.Space.{Seen, seen, ordered}
+use Rattle.candidates.specs.Search.{PrefixLists, all_combinations, location_count}
+use Rattle.candidates.specs.Space.{CombinationLists, combination_lists, ordered}
 use Rattle.candidates.specs.declared.candidate.Space.{Space}
 use Rattle.candidates.specs.declared.layout.Layout.{Layout}
 
 -- each combination of runs that has a way to read, with its ways and its orders of the stores
-pub data AreCombinations (n : ℕ) : List Begun → List Seen → Type 0 where
+pub data AreCombinations (n : ℕ) : List PrefixLists → List CombinationLists → Type 0 where
   nothing_left : AreCombinations n [] []
-  with_ways : {b : Begun} {bs : List Begun} {cs : List Seen} {way : List ℕ} {ways : List (List ℕ)} → AreWays b.seen.events b.needs (way ∷ ways) → AreCombinations n bs cs → AreCombinations n (b ∷ bs) (ordered n (record b.seen { sources = way ∷ ways }) ∷ cs)
-  without : {b : Begun} {bs : List Begun} {cs : List Seen} → AreWays b.seen.events b.needs [] → AreCombinations n bs cs → AreCombinations n (b ∷ bs) cs
+  with_ways : {b : PrefixLists} {bs : List PrefixLists} {cs : List CombinationLists} {way : List ℕ} {ways : List (List ℕ)} → AreWays b.combination.events b.needs (way ∷ ways) → AreCombinations n bs cs → AreCombinations n (b ∷ bs) (ordered n (record b.combination { sources = way ∷ ways }) ∷ cs)
+  without : {b : PrefixLists} {bs : List PrefixLists} {cs : List CombinationLists} → AreWays b.combination.events b.needs [] → AreCombinations n bs cs → AreCombinations n (b ∷ bs) cs
 
 -- how many candidates they have: each way with each order is one
-abbrev pub candidate_total : List Seen → ℕ
+abbrev pub candidate_total : List CombinationLists → ℕ
 candidate_total [] = 0
 candidate_total (c ∷ cs) = length c.sources * length c.orders + candidate_total cs
 
 -- some candidate holds a run that stopped at a fault
-abbrev pub HasFault : List Begun → Type 0
+abbrev pub HasFault : List PrefixLists → Type 0
 HasFault [] = ⊥
-HasFault (b ∷ bs) = ((b.faulted ≡ true) × (way : List ℕ) × (ways : List (List ℕ)) × AreWays b.seen.events b.needs (way ∷ ways)) ⊎ HasFault bs
+HasFault (b ∷ bs) = ((b.faulted ≡ true) × (way : List ℕ) × (ways : List (List ℕ)) × AreWays b.combination.events b.needs (way ∷ ways)) ⊎ HasFault bs
 
 -- all candidates: at most 16,384, of which none holds a fault
-pub record AreCandidates (n : ℕ) (bs : List Begun) (cs : List Seen) : Type 0 where
+pub record AreCandidates (n : ℕ) (bs : List PrefixLists) (cs : List CombinationLists) : Type 0 where
   pub combinations : AreCombinations n bs cs
   pub few : candidate_total cs ≤ 16384
   pub sound : HasFault bs → ⊥
 
 -- there are more
-abbrev pub AreTooMany : ℕ → List Begun → Type 0
-AreTooMany n bs = (cs : List Seen) → AreCombinations n bs cs → 16384 < candidate_total cs
+abbrev pub AreTooMany : ℕ → List PrefixLists → Type 0
+AreTooMany n bs = (cs : List CombinationLists) → AreCombinations n bs cs → 16384 < candidate_total cs
 
 -- there are no more, and one of them holds a fault
-pub record AreFaulted (n : ℕ) (bs : List Begun) : Type 0 where
-  pub all : List Seen
+pub record AreFaulted (n : ℕ) (bs : List PrefixLists) : Type 0 where
+  pub all : List CombinationLists
   pub combinations : AreCombinations n bs all
   pub few : candidate_total all ≤ 16384
   pub fault : HasFault bs
 
 -- no combination has over 128 events
-abbrev pub AreSmall : List Begun → Type 0
+abbrev pub AreSmall : List PrefixLists → Type 0
 AreSmall [] = Unit {0}
-AreSmall (b ∷ bs) = (length b.seen.events ≤ 128) × AreSmall bs
+AreSmall (b ∷ bs) = (length b.combination.events ≤ 128) × AreSmall bs
 
 -- the registers at the ends of the runs, and the locations
 abbrev pub HasEnds : Layout → Space → Type 0
@@ -67,7 +67,7 @@ HasEnds l s = (map (λ v. v.items) s.registers.items ≡ map (λ t. map (λ p. p
 
 -- the space of a layout, or why there is none
 abbrev pub IsSpaceOf : Layout → Space → Type 0
-IsSpaceOf l s = AreCandidates (location_count l) (all_combinations l) (map seen s.combinations.items) × HasEnds l s
+IsSpaceOf l s = AreCandidates (location_count l) (all_combinations l) (map combination_lists s.combinations.items) × HasEnds l s
 
 abbrev pub IsRefusedAs : Layout → EvalRefusal → Type 0
 IsRefusedAs l TooManyCandidates = AreTooMany (location_count l) (all_combinations l)

@@ -4,6 +4,10 @@ use Rattle.std.specs.Prelude.{ℕ, ◌≡◌, ◌<◌, ◌+◌, ◌⊎◌, Bool,
 use Rattle.std.specs.List.{flat_map, list_any}
 use Rattle.thread_runs.specs.declared.value.Value.{Value}
 use Rattle.thread_runs.specs.declared.value.Value.TheVariants.{Address}
+use Rattle.litmus_values.specs.declared.instruction.Fence as kinds
+use Rattle.thread_runs.specs.Machine as machine
+use Rattle.thread_runs.specs.declared.instruction.Instruction.{Instruction}
+use Rattle.thread_runs.specs.declared.instruction.Instruction.TheVariants.{Store, StoreIndexed, Barrier}
 use Rattle.thread_runs.specs.declared.instruction.Event as run
 use Rattle.thread_runs.specs.declared.instruction.Event.TheVariants.{Reads, Writes, Orders}
 use Rattle.candidates.specs.declared.candidate.Action.{Action}
@@ -81,3 +85,20 @@ HasStore location value (e ∷ es) = (e.action ≡ Write location value) ⊎ Has
 -- some load has a location and a value that no store has
 abbrev pub CannotRead : List Event → Type 0
 CannotRead es = (location : ℕ) × (value : Value) × HasLoad location value es × (HasStore location value es → ⊥)
+
+-- the kind of event that an instruction makes
+abbrev pub stores_to : Instruction → Bool
+stores_to (Store d a) = true
+stores_to (StoreIndexed d a b) = true
+stores_to _ = false
+
+abbrev pub fence_of : Instruction → Option kinds.Fence
+fence_of (Barrier fence) = Some fence
+fence_of _ = None
+
+-- the event is one of the thread, and of the kind of the instruction
+pub record IsKind (thread : ℕ) (i : Instruction) (e : Event) : Type 0 where
+  pub of_thread : e.thread ≡ Some thread
+  pub loads : machine.is_load i ≡ true → is_load e ≡ true
+  pub stores : stores_to i ≡ true → is_store e ≡ true
+  pub fences : (fence : kinds.Fence) → fence_of i ≡ Some fence → e.action ≡ Fence fence

@@ -44,8 +44,12 @@ abbrev pub locations_from : ℕ → List Value → List ℕ
 locations_from location [] = []
 locations_from location (v ∷ vs) = location ∷ locations_from (location + 1) vs
 
--- A dependency: two steps of the run of a thread are so related, and the events are theirs. The events of the run are
--- numbered on from those of the initial stores and of the threads before it
+-- The number of the event of a step of the run of a thread, if the step is an event: the events of the run are numbered on
+-- from those of the initial stores and of the threads before it
+abbrev pub event_number : List Value → List Run → ℕ → Run → ℕ → ℕ
+event_number initial runs thread run step = length (events initial (take thread runs)) + event_place (executed run.outcome.walk.steps) step
+
+-- A dependency: two steps of the run of a thread are so related, and the events are theirs
 pub record IsDependency (R : Executed → ℕ → ℕ → Type 0) (initial : List Value) (runs : List Run) (a b : ℕ) : Type 0 where
   pub thread : ℕ
   pub run : Run
@@ -53,8 +57,8 @@ pub record IsDependency (R : Executed → ℕ → ℕ → Type 0) (initial : Lis
   pub first : ℕ
   pub second : ℕ
   pub related : R (executed run.outcome.walk.steps) first second
-  pub from : a ≡ length (events initial (take thread runs)) + event_place (executed run.outcome.walk.steps) first
-  pub to : b ≡ length (events initial (take thread runs)) + event_place (executed run.outcome.walk.steps) second
+  pub from : a ≡ event_number initial runs thread run first
+  pub to : b ≡ event_number initial runs thread run second
 
 -- the event of this number does this
 abbrev pub Does : List Event → ℕ → Action → Type 0

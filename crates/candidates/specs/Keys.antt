@@ -10,7 +10,7 @@ use Rattle.candidates.specs.declared.keys.KeySet.{KeySet}
 use Rattle.candidates.specs.declared.layout.Layout.{Layout}
 use Rattle.candidates.specs.declared.layout.ThreadParts.{ThreadParts}
 use Rattle.candidates.specs.declared.part.Part.{Part}
-use Rattle.candidates.specs.declared.search.Front.{Front}
+use Rattle.candidates.specs.declared.search.Prefix.{Prefix}
 
 -- the set has the bit of a word
 abbrev pub HasKey : KeySet → ℕ → ℕ → Type 0
@@ -70,10 +70,10 @@ pub record IsKeyed (key : ℕ → Value → Option (ℕ × ℕ)) (l : Layout) : 
   pub initial : (location : ℕ) (value : Value) (a b : ℕ) → HasStore location value l.initial.items → key location value ≡ Some (a, b) → HasKey l.initial_writes a b
   pub threads : ThreadsAreKeyed key l.threads.items
 
--- a load of the front or of the run reads it
-abbrev pub IsRead : Front → Part → ℕ → ℕ → Type 0
+-- a load of the prefix or of the run reads it
+abbrev pub IsRead : Prefix → Part → ℕ → ℕ → Type 0
 IsRead f p a b = HasKey f.reads a b ⊎ HasKey p.reads a b
 
--- the front, the run or a later thread stores it
-abbrev pub IsStored : Front → Part → KeySet → ℕ → ℕ → Type 0
+-- the prefix, the run or a later thread stores it
+abbrev pub IsStored : Prefix → Part → KeySet → ℕ → ℕ → Type 0
 IsStored f p after a b = (HasKey after a b ⊎ HasKey f.writes a b) ⊎ HasKey p.writes a b

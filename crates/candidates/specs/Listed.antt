@@ -39,10 +39,10 @@ pub record ArePairs (R : Executed → ℕ → ℕ → Type 0) (initial : List Va
 -- what is shown is this execution
 pub record Shows (initial : List Value) (x : Execution) (e : Shown) : Type 0 where
   pub events : e.events ≡ events initial x.runs
-  pub addr : ArePairs IsAddr initial x e.addr_pairs
-  pub «data» : ArePairs IsData initial x e.data_pairs
-  pub ctrl : ArePairs IsCtrl initial x e.ctrl_pairs
-  pub ctrlisync : ArePairs IsCtrlIsync initial x e.ctrlisync_pairs
+  pub addr : ArePairs IsAddr initial x e.dependencies.addr_pairs
+  pub «data» : ArePairs IsData initial x e.dependencies.data_pairs
+  pub ctrl : ArePairs IsCtrl initial x e.dependencies.ctrl_pairs
+  pub ctrlisync : ArePairs IsCtrlIsync initial x e.dependencies.ctrlisync_pairs
   pub reads_from : e.sources ≡ x.reads_from
   pub coherence : e.order ≡ flat_map (λ order. order) x.coherence
   pub registers : e.registers ≡ map (λ r. r.outcome.walk.state.registers) x.runs

@@ -35,9 +35,3 @@ IsNext old new o = MatchOption o (left_in old ≡ []) (λ c. left_in old ≡ cho
 -- what they show
 abbrev pub shown_left : List (Vec (List Value) Global) → Candidates → List Shown
 shown_left threads c = map (shown_of threads) (left_in c)
-
--- the same dependencies
-abbrev pub AreSameDependencies : Combination → Combination → Type 0
-AreSameDependencies c d =
-    (c.addr_pairs.items ≡ d.addr_pairs.items) × (c.data_pairs.items ≡ d.data_pairs.items)
-    × (c.ctrl_pairs.items ≡ d.ctrl_pairs.items) × (c.ctrlisync_pairs.items ≡ d.ctrlisync_pairs.items)

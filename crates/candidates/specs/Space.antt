@@ -4,6 +4,7 @@ use Rattle.std.specs.List.{flat_map, zip}
 use Rattle.std.specs.declared.alloc.Global.{Global}
 use Rattle.thread_runs.specs.declared.value.Value.{Value}
 use Rattle.thread_runs.specs.declared.value.Value.TheVariants.{NoValue}
+use Rattle.dataflow.specs.DependencyLists.{DependencyLists, dependency_lists}
 use Rattle.candidates.specs.Lists.{lists_of}
 use Rattle.candidates.specs.Orders.{all_orders}
 use Rattle.candidates.specs.declared.candidate.Event.{Event}
@@ -35,39 +36,30 @@ abbrev pub registers_at : List (Vec (List Value) Global) → List ℕ → List (
 registers_at threads runs = map (λ p. end_at p.0.items p.1) (zip threads runs)
 
 -- a combination as plain data
-pub record Seen : Type 0 where
+pub record CombinationLists : Type 0 where
   pub events : List Event
-  pub addr_pairs : List (ℕ × ℕ)
-  pub data_pairs : List (ℕ × ℕ)
-  pub ctrl_pairs : List (ℕ × ℕ)
-  pub ctrlisync_pairs : List (ℕ × ℕ)
+  pub dependencies : DependencyLists
   pub runs : List ℕ
   pub sources : List (List ℕ)
   pub orders : List (List ℕ)
 
-abbrev pub seen : Combination → Seen
-seen c = record {
+abbrev pub combination_lists : Combination → CombinationLists
+combination_lists c = record {
   events = c.events.items;
-  addr_pairs = c.addr_pairs.items;
-  data_pairs = c.data_pairs.items;
-  ctrl_pairs = c.ctrl_pairs.items;
-  ctrlisync_pairs = c.ctrlisync_pairs.items;
+  dependencies = dependency_lists c.dependencies;
   runs = c.runs.items;
   sources = lists_of c.sources.items;
   orders = lists_of c.orders.items;
 }
 
 -- the combination with the orders of its stores, of the first locations
-abbrev pub ordered : ℕ → Seen → Seen
+abbrev pub ordered : ℕ → CombinationLists → CombinationLists
 ordered n s = record s { orders = all_orders s.events n }
 
 -- the execution is this candidate of the combination, where each thread has runs with these registers at their ends
 pub record IsExecution (threads : List (Vec (List Value) Global)) (c : Combination) (t : List ℕ × List ℕ) (e : Execution) : Type 0 where
   pub events : e.events.items ≡ c.events.items
-  pub addr_pairs : e.addr_pairs.items ≡ c.addr_pairs.items
-  pub data_pairs : e.data_pairs.items ≡ c.data_pairs.items
-  pub ctrl_pairs : e.ctrl_pairs.items ≡ c.ctrl_pairs.items
-  pub ctrlisync_pairs : e.ctrlisync_pairs.items ≡ c.ctrlisync_pairs.items
+  pub dependencies : dependency_lists e.dependencies ≡ dependency_lists c.dependencies
   pub sources : e.sources.items ≡ t.0
   pub order : e.order.items ≡ t.1
   pub registers : e.registers.items ≡ registers_at threads c.runs.items
@@ -75,10 +67,7 @@ pub record IsExecution (threads : List (Vec (List Value) Global)) (c : Combinati
 -- what an execution shows, as plain data
 pub record Shown : Type 0 where
   pub events : List Event
-  pub addr_pairs : List (ℕ × ℕ)
-  pub data_pairs : List (ℕ × ℕ)
-  pub ctrl_pairs : List (ℕ × ℕ)
-  pub ctrlisync_pairs : List (ℕ × ℕ)
+  pub dependencies : DependencyLists
   pub sources : List ℕ
   pub order : List ℕ
   pub registers : List (List Value)
@@ -86,10 +75,7 @@ pub record Shown : Type 0 where
 abbrev pub shown_by : Execution → Shown
 shown_by e = record {
   events = e.events.items;
-  addr_pairs = e.addr_pairs.items;
-  data_pairs = e.data_pairs.items;
-  ctrl_pairs = e.ctrl_pairs.items;
-  ctrlisync_pairs = e.ctrlisync_pairs.items;
+  dependencies = dependency_lists e.dependencies;
   sources = e.sources.items;
   order = e.order.items;
   registers = e.registers.items;
@@ -99,10 +85,7 @@ shown_by e = record {
 abbrev pub shown_of : List (Vec (List Value) Global) → Candidate → Shown
 shown_of threads x = record {
   events = x.0.events.items;
-  addr_pairs = x.0.addr_pairs.items;
-  data_pairs = x.0.data_pairs.items;
-  ctrl_pairs = x.0.ctrl_pairs.items;
-  ctrlisync_pairs = x.0.ctrlisync_pairs.items;
+  dependencies = dependency_lists x.0.dependencies;
   sources = x.1.0;
   order = x.1.1;
   registers = registers_at threads x.0.runs.items;

@@ -1,8 +1,9 @@
 //! Candidate executions, shared by combinations of runs.
 ghost use Rattle.std.specs.Prelude.{◌≡◌, ◌-◌, ◌^◌, ◌<◌, ◌≤◌, ◌↔◌, min, length, IsTrue, IfOk, IfSome, IfNone, HoldsAt};
-ghost use Rattle.candidates.specs.Space.{candidates_of, candidate_count, end_at, registers_at, IsExecution, IsShown, ShowTheSame};
 
+use crate::ends::final_registers;
 use crate::same::{Candidates, are_same, are_same_names};
+use dataflow::Dependencies;
 use litmus_values::Fence;
 use ppc_semantics::Value;
 use source_text::Name;
@@ -31,19 +32,13 @@ pub struct Event {
 /// One run for each thread, with all ways to read and all orders of the stores that make
 /// candidates of it: each way to read with each order is one candidate, the ways outside.
 /// Events are numbered: initial stores by location, then threads in order, each in program
-/// order. There are at most 128.
+/// order.
 #[derive(Drop)]
 pub struct Combination {
     /// The events, by their numbers.
     pub events: Vec<Event>,
-    /// Address dependencies, by the numbers of their events, as are the next three.
-    pub addr_pairs: Vec<(usize, usize)>,
-    /// Data dependencies.
-    pub data_pairs: Vec<(usize, usize)>,
-    /// Control dependencies.
-    pub ctrl_pairs: Vec<(usize, usize)>,
-    /// Control dependencies by an `isync`.
-    pub ctrlisync_pairs: Vec<(usize, usize)>,
+    /// The dependencies, by the numbers of their events.
+    pub dependencies: Dependencies,
     /// For each thread, the index of its run in `Space::registers`.
     pub runs: Vec<usize>,
     /// Each a way to read: for each load in event order, the number of the store that it reads.
@@ -51,6 +46,8 @@ pub struct Combination {
     /// Each an order of the stores: those of each location after one another, locations in order,
     /// the initial store first.
     pub orders: Vec<Vec<u8>>,
+    /// There are at most 128 events.
+    pub ghost few: { length events.items ≤ 128 },
 }
 
 /// All candidates of a test: those of each combination in turn.
@@ -70,23 +67,21 @@ pub struct Space {
 pub struct Execution {
     /// The events, numbered as those of a combination.
     pub events: Vec<Event>,
-    /// Address dependencies, by the numbers of their events, as are the next three.
-    pub addr_pairs: Vec<(usize, usize)>,
-    /// Data dependencies.
-    pub data_pairs: Vec<(usize, usize)>,
-    /// Control dependencies.
-    pub ctrl_pairs: Vec<(usize, usize)>,
-    /// Control dependencies by an `isync`.
-    pub ctrlisync_pairs: Vec<(usize, usize)>,
+    /// The dependencies, by the numbers of their events.
+    pub dependencies: Dependencies,
     /// For each load in event order, the number of the store that it reads.
     pub sources: Vec<u8>,
     /// The stores of each location after one another, in coherence order.
     pub order: Vec<u8>,
     /// For each thread, what the registers hold at the end.
     pub registers: Vec<[Value; 32]>,
+    /// There are at most 128 events.
+    pub ghost few: { length events.items ≤ 128 },
 }
 
 impl Combination {
+    ghost use Rattle.candidates.specs.Space.{candidates_of, IsExecution};
+
     /// How many candidates it has, or the greatest number where that is less.
     pub fn candidate_count(&self) -> usize
         ensures { result ≡ min (length (candidates_of self.now)) (2 ^ 64 - 1) }
@@ -120,10 +115,7 @@ impl Combination {
         let order = &self.orders[index % orders];
         Ok(Execution {
             events: Vec::from_slice(alloc, &self.events)?,
-            addr_pairs: Vec::from_slice(alloc, &self.addr_pairs)?,
-            data_pairs: Vec::from_slice(alloc, &self.data_pairs)?,
-            ctrl_pairs: Vec::from_slice(alloc, &self.ctrl_pairs)?,
-            ctrlisync_pairs: Vec::from_slice(alloc, &self.ctrlisync_pairs)?,
+            dependencies: self.dependencies.copied(alloc)?,
             sources: Vec::from_slice(alloc, sources)?,
             order: Vec::from_slice(alloc, order)?,
             registers: final_registers(alloc, registers, &self.runs)?,
@@ -131,32 +123,9 @@ impl Combination {
     }
 }
 
-/// What the registers hold at the end of the run at this index; no values where there is none.
-pub(crate) fn registers_of(ends: &[[Value; 32]], run: usize) -> [Value; 32]
-    ensures { result ≡ end_at ends.now run }
-{
-    match ends.get(run) {
-        Some(registers) => *registers,
-        None => [Value::NoValue; 32],
-    }
-}
-
-/// What the registers of each thread hold at the end of its run.
-fn final_registers(
-    alloc: Global,
-    registers: &[Vec<[Value; 32]>],
-    runs: &[usize],
-) -> Result<Vec<[Value; 32]>, AllocError>
-    ensures { IfOk result (λ v. v.items ≡ registers_at registers.now runs.now) }
-{
-    let mut found = Vec::with_capacity(alloc, runs.len())?;
-    for thread in 0..runs.len().min(registers.len()) {
-        found.push(registers_of(&registers[thread], runs[thread]))?;
-    }
-    Ok(found)
-}
-
 impl Space {
+    ghost use Rattle.candidates.specs.Space.{candidate_count, IsShown, ShowTheSame};
+
     /// How many candidates there are, or the greatest number where that is less.
     pub fn len(&self) -> usize
         ensures { result ≡ min (candidate_count self.now) (2 ^ 64 - 1) }

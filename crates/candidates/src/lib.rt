@@ -12,10 +12,11 @@ ghost use Rattle.candidates.specs.Keys.{IsKeyed};
 ghost use Rattle.candidates.specs.Listed.{ListsExecutions, IsRefusedFor};
 ghost use Rattle.candidates.specs.Events.{initial_stores};
 ghost use Rattle.candidates.specs.Search.{all_combinations, location_count};
-ghost use Rattle.candidates.specs.Space.{seen, ordered};
+ghost use Rattle.candidates.specs.Space.{combination_lists, ordered};
 ghost use Rattle.candidates.specs.Candidates.{AreSmall, HasEnds, IsAnswer, IsLayoutFault, IsReady};
 
 mod candidate;
+mod ends;
 mod fault;
 mod keys;
 mod layout;
@@ -26,6 +27,7 @@ mod same;
 mod search;
 
 pub use candidate::{Action, Combination, Event, Execution, Space};
+pub use dataflow::Dependencies;
 pub use fault::{EvalRefusal, SpaceFault};
 use layout::{Layout, registers};
 use litmus_values::Test;
@@ -43,7 +45,7 @@ fn space_with(
     layout: Layout,
     combinations: Vec<Combination>,
 ) -> Result<Space, AllocError>
-    ensures { IfOk result (λ s. (map seen s.combinations.items ≡ map (λ c. ordered (location_count layout) (seen c)) combinations.items) × HasEnds layout s) }
+    ensures { IfOk result (λ s. (map combination_lists s.combinations.items ≡ map (λ c. ordered (location_count layout) (combination_lists c)) combinations.items) × HasEnds layout s) }
 {
     let combinations = with_orders(alloc, combinations, layout.initial.len())?;
     let registers = registers(alloc, &layout.threads)?;
@@ -56,7 +58,8 @@ fn space_with(
 
 /// The space of a layout, or why it has none.
 fn space_of(alloc: Global, layout: Layout) -> Result<Result<Space, EvalRefusal>, AllocError>
-    ensures { (key : ℕ → Value → Option (ℕ × ℕ)) (initial : List Value) → IsKeyed key layout → layout.initial.items ≡ initial_stores 0 initial → AreSmall (all_combinations layout) → IfOk result (λ r. IsAnswer layout r) }
+    requires { AreSmall (all_combinations layout) }
+    ensures { (key : ℕ → Value → Option (ℕ × ℕ)) (initial : List Value) → IsKeyed key layout → layout.initial.items ≡ initial_stores 0 initial → IfOk result (λ r. IsAnswer layout r) }
 {
     match search(alloc, &layout)? {
         None => Ok(Err(EvalRefusal::TooManyCandidates)),

@@ -4,7 +4,7 @@ ghost use Rattle.std.specs.List.{flat_map};
 ghost use Rattle.candidates.specs.Lists.{lists_of, joined_with};
 ghost use Rattle.candidates.specs.Orders.{with_new, AreOrders, is_thread_store, stores_of, all_orders, AreApart};
 ghost use Rattle.candidates.specs.Orders as definitions;
-ghost use Rattle.candidates.specs.Space.{seen, ordered};
+ghost use Rattle.candidates.specs.Space.{combination_lists, ordered};
 
 use crate::candidate::{Action, Combination, Event};
 use bit_relations::MAX_EVENTS;
@@ -173,7 +173,7 @@ pub fn with_orders(
     combinations: Vec<Combination>,
     locations: usize,
 ) -> Result<Vec<Combination>, AllocError>
-    ensures { IfOk result (λ v. map seen v.items ≡ map (λ c. ordered (min locations 128) (seen c)) combinations.items) }
+    ensures { IfOk result (λ v. map combination_lists v.items ≡ map (λ c. ordered (min locations 128) (combination_lists c)) combinations.items) }
 {
     let mut made = Vec::with_capacity(alloc, combinations.len())?;
     for mut combination in combinations {

@@ -2,9 +2,10 @@
 
 ghost use Rattle.std.specs.Prelude.{◌≡◌, ◌↔◌, IsTrue};
 ghost use Rattle.candidates.specs.Space.{registers_at, shown_of, candidates_in};
-ghost use Rattle.candidates.specs.Same.{left_in, chosen, shown_left, AreSameDependencies, IsNext};
+ghost use Rattle.candidates.specs.Same.{left_in, chosen, shown_left, IsNext};
 
-use crate::candidate::{Action, Combination, Event, registers_of};
+use crate::candidate::{Action, Combination, Event};
+use crate::ends::registers_of;
 use crate::reading::is_same;
 use ppc_semantics::Value;
 use source_text::Name;
@@ -27,12 +28,6 @@ pub struct Chosen<'a> {
 }
 
 fn are_same_bytes(first: &[u8], second: &[u8]) -> bool
-    ensures { IsTrue result ↔ (first.now ≡ second.now) }
-{
-    first == second
-}
-
-fn are_same_pairs(first: &[(usize, usize)], second: &[(usize, usize)]) -> bool
     ensures { IsTrue result ↔ (first.now ≡ second.now) }
 {
     first == second
@@ -177,15 +172,6 @@ impl<'a> Candidates<'a> {
     }
 }
 
-fn are_same_dependencies(first: &Combination, second: &Combination) -> bool
-    ensures { IsTrue result ↔ AreSameDependencies first.now second.now }
-{
-    are_same_pairs(&first.addr_pairs, &second.addr_pairs)
-        && are_same_pairs(&first.data_pairs, &second.data_pairs)
-        && are_same_pairs(&first.ctrl_pairs, &second.ctrl_pairs)
-        && are_same_pairs(&first.ctrlisync_pairs, &second.ctrlisync_pairs)
-}
-
 /// Whether two candidates show the same, where the registers hold these values at the ends of runs.
 fn is_same_chosen(
     first: &Chosen,
@@ -200,7 +186,7 @@ fn is_same_chosen(
     are_same_bytes(first.sources, second.sources)
         && are_same_bytes(first.order, second.order)
         && are_same_events(&one.events, &other.events)
-        && are_same_dependencies(one, other)
+        && one.dependencies.is_same(&other.dependencies)
         && are_same_ends(first_ends, &one.runs, second_ends, &other.runs)
 }
 

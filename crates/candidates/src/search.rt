@@ -3,16 +3,18 @@ ghost use Rattle.std.specs.Prelude.{ℕ, ◌≡◌, ◌≤◌, ◌++◌, Option,
 ghost use Rattle.thread_runs.specs.declared.value.Value.{Value};
 ghost use Rattle.candidates.specs.Keys.{HasKey, HasWrites, AreKeys, ThreadsAreKeyed, IsKeyed, IsRead, IsStored, TellsWithin};
 ghost use Rattle.candidates.specs.Lists.{lists_of};
-ghost use Rattle.candidates.specs.Space.{seen};
-ghost use Rattle.candidates.specs.Search.{moved, bare, joined_run, with_run, kept, begun, tally, tallied, Fits, Judged, IsTooMuch, Tells, combinations, AllFit, HasJoined, Searched, AreTooMuch, start, nothing, all_combinations, location_count};
+ghost use Rattle.candidates.specs.Candidates.{AreSmall};
+ghost use Rattle.candidates.specs.Space.{combination_lists};
+ghost use Rattle.candidates.specs.Search.{runs_lists, combination_with_run, with_run, capped_tally_with, prefix_lists, tally, tally_with, Fits, Judged, IsTooMuch, Tells, combinations, AllFit, HasJoined, Searched, AreTooMuch, start, nothing, all_combinations, location_count};
 
 use crate::MAX_CANDIDATES;
-use crate::candidate::Combination;
+use crate::candidate::{Combination, Event};
 use crate::keys::KeySet;
 use crate::layout::{Layout, ThreadParts};
 use crate::orders::order_count;
 use crate::part::Part;
 use crate::reading::Reading;
+use dataflow::{Dependencies, add_pairs};
 use std::alloc::{AllocError, Global};
 
 /// What the search has found: combinations without their orders.
@@ -27,11 +29,21 @@ pub struct Found {
     pub is_faulted: bool,
 }
 
+/// The events and dependencies of runs of the first threads, one of each, numbered as those of a
+/// combination.
+#[derive(Drop)]
+struct PrefixRuns {
+    events: Vec<Event>,
+    dependencies: Dependencies,
+    /// For each thread, the index of its run among its parts.
+    runs: Vec<usize>,
+}
+
 /// Runs of the first threads, one of each.
 #[derive(Drop)]
-struct Front {
-    /// Their combination, without ways to read and without orders.
-    made: Combination,
+struct Prefix {
+    /// Their events and dependencies.
+    runs: PrefixRuns,
     /// A load and a store whose value needs that of the load.
     needs: Vec<(usize, usize)>,
     /// The locations and values that their loads read.
@@ -41,15 +53,15 @@ struct Front {
     is_faulted: bool,
 }
 
-/// Whether the loads of the front and the part can all read what these, the initial stores or the
+/// Whether the loads of the prefix and the part can all read what these, the initial stores or the
 /// later threads store.
-fn fits(front: &Front, part: &Part, later: &KeySet) -> bool
-    ensures { TellsWithin result (IsRead front.now part.now) (IsStored front.now part.now later.now) }
+fn fits(prefix: &Prefix, part: &Part, later: &KeySet) -> bool
+    ensures { TellsWithin result (IsRead prefix.now part.now) (IsStored prefix.now part.now later.now) }
 {
     let mut stored = *later;
-    stored.join(&front.writes);
+    stored.join(&prefix.writes);
     stored.join(&part.writes);
-    let mut read = front.reads;
+    let mut read = prefix.reads;
     read.join(&part.reads);
     read.is_within(&stored)
 }
@@ -65,85 +77,83 @@ fn writes_of(threads: &[ThreadParts]) -> KeySet
     writes
 }
 
-/// Adds pairs of events of a part whose first event has the number `base`.
-fn add_pairs(
-    pairs: &mut Vec<(usize, usize)>,
-    more: &[(usize, usize)],
-    base: usize,
-) -> Result<(), AllocError>
-    ensures { OnOk result (pairs.new.items ≡ pairs.old.items ++ moved base more.now) }
+/// The same once more.
+fn copied(alloc: Global, made: &PrefixRuns) -> Result<PrefixRuns, AllocError>
+    ensures { IfOk result (λ c. runs_lists c ≡ runs_lists made.now) }
 {
-    for (from, to) in more {
-        pairs.push((base.saturating_add(*from), base.saturating_add(*to)))?;
-    }
-    Ok(())
-}
-
-/// The combination with its events and pairs alone.
-fn copied(alloc: Global, made: &Combination) -> Result<Combination, AllocError>
-    ensures { IfOk result (λ c. seen c ≡ bare (seen made.now)) }
-{
-    Ok(Combination {
+    Ok(PrefixRuns {
         events: Vec::from_slice(alloc, &made.events)?,
-        addr_pairs: Vec::from_slice(alloc, &made.addr_pairs)?,
-        data_pairs: Vec::from_slice(alloc, &made.data_pairs)?,
-        ctrl_pairs: Vec::from_slice(alloc, &made.ctrl_pairs)?,
-        ctrlisync_pairs: Vec::from_slice(alloc, &made.ctrlisync_pairs)?,
+        dependencies: made.dependencies.copied(alloc)?,
         runs: Vec::from_slice(alloc, &made.runs)?,
-        sources: Vec::new(alloc),
-        orders: Vec::new(alloc),
     })
 }
 
 /// Adds the run at this index among those of the next thread.
-fn add_run(made: &mut Combination, run: usize, part: &Part) -> Result<(), AllocError>
-    ensures { OnOk result (seen made.new ≡ joined_run run part.now (seen made.old)) }
+fn add_run(made: &mut PrefixRuns, run: usize, part: &Part) -> Result<(), AllocError>
+    ensures { OnOk result (runs_lists made.new ≡ combination_with_run run part.now (runs_lists made.old)) }
 {
     let base = made.events.len();
-    add_pairs(&mut made.addr_pairs, &part.links.addr_pairs, base)?;
-    add_pairs(&mut made.data_pairs, &part.links.data_pairs, base)?;
-    add_pairs(&mut made.ctrl_pairs, &part.links.ctrl_pairs, base)?;
-    add_pairs(&mut made.ctrlisync_pairs, &part.links.ctrlisync_pairs, base)?;
+    made.dependencies.add(&part.links.dependencies, base)?;
     made.events.extend_from_slice(&part.events)?;
     made.runs.push(run)?;
     Ok(())
 }
 
-/// The front with one run more.
-fn extended(alloc: Global, front: &Front, run: usize, part: &Part) -> Result<Front, AllocError>
-    ensures made { IfOk result (λ f. begun f ≡ with_run run part.now (begun front.now)) }
-    ensures keys { IfOk result (λ f. HasJoined front.now part.now f) }
+/// The prefix with one run more.
+fn extended(alloc: Global, prefix: &Prefix, run: usize, part: &Part) -> Result<Prefix, AllocError>
+    ensures made { IfOk result (λ f. prefix_lists f ≡ with_run run part.now (prefix_lists prefix.now)) }
+    ensures keys { IfOk result (λ f. HasJoined prefix.now part.now f) }
 {
-    let mut made = copied(alloc, &front.made)?;
-    let mut needs = Vec::from_slice(alloc, &front.needs)?;
-    add_pairs(&mut needs, &part.links.need_pairs, made.events.len())?;
-    add_run(&mut made, run, part)?;
-    let mut reads = front.reads;
+    let mut runs = copied(alloc, &prefix.runs)?;
+    let mut needs = Vec::from_slice(alloc, &prefix.needs)?;
+    add_pairs(&mut needs, &part.links.need_pairs, runs.events.len())?;
+    add_run(&mut runs, run, part)?;
+    let mut reads = prefix.reads;
     reads.join(&part.reads);
-    let mut writes = front.writes;
+    let mut writes = prefix.writes;
     writes.join(&part.writes);
-    Ok(Front {
-        made,
+    Ok(Prefix {
+        runs,
         needs,
         reads,
         writes,
-        is_faulted: front.is_faulted || part.is_faulted,
+        is_faulted: prefix.is_faulted || part.is_faulted,
     })
+}
+
+/// The combination with these ways to read, without its orders.
+fn combination(alloc: Global, made: PrefixRuns, ways: Vec<Vec<u8>>) -> Combination
+    requires { length made.events.items ≤ 128 }
+    ensures { combination_lists result ≡ record (runs_lists made) { sources = lists_of ways.items } }
+{
+    Combination {
+        events: made.events,
+        dependencies: made.dependencies,
+        runs: made.runs,
+        sources: ways,
+        orders: Vec::new(alloc),
+    }
 }
 
 impl Found {
     /// Keeps the combination with its ways to read, if it has some, and counts its candidates,
     /// which has so many orders.
-    fn keep(&mut self, front: Front, ways: Vec<Vec<u8>>, orders: usize) -> Result<(), AllocError>
-        ensures { OnOk result (tally self.new ≡ kept (begun front) (lists_of ways.items) orders (tally self.old)) }
+    fn keep(
+        &mut self,
+        alloc: Global,
+        prefix: Prefix,
+        ways: Vec<Vec<u8>>,
+        orders: usize,
+    ) -> Result<(), AllocError>
+        requires { length prefix.runs.events.items ≤ 128 }
+        ensures { OnOk result (tally self.new ≡ capped_tally_with (prefix_lists prefix) (lists_of ways.items) orders (tally self.old)) }
     {
         if !ways.is_empty() {
             self.count = self.count.saturating_add(ways.len().saturating_mul(orders));
-            self.is_faulted = self.is_faulted || front.is_faulted;
+            self.is_faulted = self.is_faulted || prefix.is_faulted;
             if !self.is_faulted {
-                let mut made = front.made;
-                made.sources = ways;
-                self.combinations.push(made)?;
+                self.combinations
+                    .push(combination(alloc, prefix.runs, ways))?;
             }
         }
         Ok(())
@@ -151,42 +161,44 @@ impl Found {
 
     /// Counts the candidates of the runs, and keeps the combination if it has some; `false` where
     /// there are too many.
-    fn judge(&mut self, alloc: Global, locations: usize, front: Front) -> Result<bool, AllocError>
-        ensures { Fits (min locations 128) (begun front) → self.old.count ≤ 16384 → IfOk result (λ b. Tells b (Judged (min locations 128) (begun front) (tally self.old) (tally self.new) × (self.new.count ≤ 16384)) (IsTooMuch (min locations 128) (begun front) (tally self.old))) }
+    fn judge(&mut self, alloc: Global, locations: usize, prefix: Prefix) -> Result<bool, AllocError>
+        requires { length prefix.runs.events.items ≤ 128 }
+        ensures { Fits (min locations 128) (prefix_lists prefix) → self.old.count ≤ 16384 → IfOk result (λ b. Tells b (Judged (min locations 128) (prefix_lists prefix) (tally self.old) (tally self.new) × (self.new.count ≤ 16384)) (IsTooMuch (min locations 128) (prefix_lists prefix) (tally self.old))) }
     {
-        let orders = order_count(&front.made.events, locations).max(1);
+        let orders = order_count(&prefix.runs.events, locations).max(1);
         let limit = MAX_CANDIDATES.saturating_sub(self.count) / orders;
-        match Reading::new(alloc, &front.made.events, &front.needs)?.ways(alloc, limit)? {
+        match Reading::new(alloc, &prefix.runs.events, &prefix.needs)?.ways(alloc, limit)? {
             None => Ok(false),
             Some(ways) => {
-                self.keep(front, ways, orders)?;
+                self.keep(alloc, prefix, ways, orders)?;
                 Ok(true)
             }
         }
     }
 }
 
-/// Adds the combinations that begin with the front and go on with a run of each of the threads;
+/// Adds the combinations that begin with the prefix and go on with a run of each of the threads;
 /// `false` where there are too many candidates.
 fn search_from(
     alloc: Global,
     locations: usize,
     threads: &[ThreadParts],
-    front: Front,
+    prefix: Prefix,
     found: &mut Found,
 ) -> Result<bool, AllocError>
-    ensures { (key : ℕ → Value → Option (ℕ × ℕ)) → AreKeys key front.made.events.items front.reads front.writes → ThreadsAreKeyed key threads.now → AllFit (min locations 128) (combinations (begun front) threads.now) → found.old.count ≤ 16384 → IfOk result (λ b. Tells b (Searched (min locations 128) (combinations (begun front) threads.now) (tally found.old) (tally found.new) × (found.new.count ≤ 16384)) (AreTooMuch (min locations 128) (combinations (begun front) threads.now) (tally found.old))) }
+    requires { AreSmall (combinations (prefix_lists prefix) threads.now) }
+    ensures { (key : ℕ → Value → Option (ℕ × ℕ)) → AreKeys key prefix.runs.events.items prefix.reads prefix.writes → ThreadsAreKeyed key threads.now → AllFit (min locations 128) (combinations (prefix_lists prefix) threads.now) → found.old.count ≤ 16384 → IfOk result (λ b. Tells b (Searched (min locations 128) (combinations (prefix_lists prefix) threads.now) (tally found.old) (tally found.new) × (found.new.count ≤ 16384)) (AreTooMuch (min locations 128) (combinations (prefix_lists prefix) threads.now) (tally found.old))) }
 {
     if threads.is_empty() {
-        let is_few = found.judge(alloc, locations, front)?;
+        let is_few = found.judge(alloc, locations, prefix)?;
         return Ok(is_few);
     }
     let thread = &threads[0];
     let others = &threads[1..];
     let later = writes_of(others);
     for (run, part) in thread.parts.iter().enumerate() {
-        if fits(&front, part, &later) {
-            let longer = extended(alloc, &front, run, part)?;
+        if fits(&prefix, part, &later) {
+            let longer = extended(alloc, &prefix, run, part)?;
             if !search_from(alloc, locations, others, longer, found)? {
                 return Ok(false);
             }
@@ -196,20 +208,15 @@ fn search_from(
 }
 
 /// The initial stores alone.
-fn first_front(alloc: Global, layout: &Layout) -> Result<Front, AllocError>
-    ensures made { IfOk result (λ f. begun f ≡ start layout.now.initial.items) }
+fn first_prefix(alloc: Global, layout: &Layout) -> Result<Prefix, AllocError>
+    ensures made { IfOk result (λ f. prefix_lists f ≡ start layout.now.initial.items) }
     ensures keys { IfOk result (λ f. ((a b : ℕ) → HasKey f.reads a b → ⊥) × (f.writes ≡ layout.now.initial_writes)) }
 {
-    Ok(Front {
-        made: Combination {
+    Ok(Prefix {
+        runs: PrefixRuns {
             events: Vec::from_slice(alloc, &layout.initial)?,
-            addr_pairs: Vec::new(alloc),
-            data_pairs: Vec::new(alloc),
-            ctrl_pairs: Vec::new(alloc),
-            ctrlisync_pairs: Vec::new(alloc),
+            dependencies: Dependencies::none(alloc),
             runs: Vec::new(alloc),
-            sources: Vec::new(alloc),
-            orders: Vec::new(alloc),
         },
         needs: Vec::new(alloc),
         reads: KeySet::empty(),
@@ -221,16 +228,17 @@ fn first_front(alloc: Global, layout: &Layout) -> Result<Front, AllocError>
 /// The combinations that have candidates, in the order of their runs, without their orders; `None`
 /// where there are too many candidates.
 pub fn search(alloc: Global, layout: &Layout) -> Result<Option<Found>, AllocError>
+    requires { AreSmall (all_combinations layout.now) }
     ensures { (key : ℕ → Value → Option (ℕ × ℕ)) → IsKeyed key layout.now → AllFit (location_count layout.now) (all_combinations layout.now) → IfOk result (λ o. MatchOption o (AreTooMuch (location_count layout.now) (all_combinations layout.now) nothing) (λ f. Searched (location_count layout.now) (all_combinations layout.now) nothing (tally f) × (f.count ≤ 16384))) }
 {
-    let front = first_front(alloc, layout)?;
+    let prefix = first_prefix(alloc, layout)?;
     let mut found = Found {
         combinations: Vec::new(alloc),
         count: 0,
         is_faulted: false,
     };
     let locations = layout.initial.len();
-    if search_from(alloc, locations, &layout.threads, front, &mut found)? {
+    if search_from(alloc, locations, &layout.threads, prefix, &mut found)? {
         Ok(Some(found))
     } else {
         Ok(None)

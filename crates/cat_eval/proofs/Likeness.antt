@@ -2,34 +2,22 @@
 -- what the loads read or on the order of the stores.
 use Rattle.std.proofs.Common.{ℕ, ◌≡◌, ◌<◌, ◌∙◌, ◌&&◌, eqb, true, List, [], ◌∷◌, length, get_or, refl, sym, ap, subst}
 use lib.Pointwise.{pointwise}
-use Rattle.std.specs.Prelude.{slice_get, Some, min}
+use Rattle.std.specs.Prelude.{slice_get, Some}
 use Rattle.std.proofs.lemmas.Bool.{false≢true, eqb-true, and_parts}
 use Rattle.std.proofs.lemmas.Option.{slice_get-get_or, get_or_from_slice_get}
 use Rattle.cat_values.specs.declared.predefined.Predefined.{Predefined}
 use Rattle.cat_values.specs.declared.predefined.Predefined.TheVariants as names
+use Rattle.dataflow.specs.DependencyLists.{DependencyLists}
 use Rattle.candidates.specs.declared.candidate.Action.{Action}
 use Rattle.candidates.specs.declared.candidate.Action.TheVariants.{Read, Write, Fence}
 use Rattle.candidates.specs.declared.candidate.Combination.{Combination}
 use Rattle.candidates.specs.declared.candidate.Event.{Event}
-use Rattle.base_env.specs.Events.{location_of, IsAccess, IsFence, IsSameThread, IsSameLocation, At, Both, ProgramOrder, Fenced}
+use Rattle.base_env.specs.Events.{location_of, IsAccess, IsFence, IsSameThread, IsSameLocation, At, Both, ProgramOrder, Fenced, Listed}
 use Rattle.base_env.specs.Names.{IsIn, Fixed}
 use Rattle.base_env.specs.Candidate.{IsEntered, SetIn, SharedIn}
 use Rattle.base_env.specs.Known.{Known}
 use Rattle.cat_eval.specs.Alike.{IsActionLike, IsLike, AreEventsLike, AreAlike}
 use Rattle.cat_eval.proofs.Visits.{get_within}
-
--- lists of pairs that a test finds the same
-pub same_pairs : (xs ys : List (ℕ × ℕ)) → pointwise (λ x y. eqb x.0 y.0 && eqb x.1 y.1) xs ys ≡ true → xs ≡ ys
-same_pairs [] [] h = refl
-same_pairs [] (y ∷ ys) h = absurd (false≢true h)
-same_pairs (x ∷ xs) [] h = absurd (false≢true h)
-same_pairs (x ∷ xs) (y ∷ ys) h =
-    let whole = and_parts (eqb x.0 y.0 && eqb x.1 y.1) (pointwise (λ v w. eqb v.0 w.0 && eqb v.1 w.1) xs ys) h in
-    let parts = and_parts (eqb x.0 y.0) (eqb x.1 y.1) whole.0 in
-    let first : x.0 ≡ y.0 = eqb-true x.0 y.0 parts.0 in
-    let second : x.1 ≡ y.1 = eqb-true x.1 y.1 parts.1 in
-    let head : x ≡ y = ap (λ (n : ℕ). let p : ℕ × ℕ = (n, x.1) in p) first ∙ ap (λ (n : ℕ). let p : ℕ × ℕ = (y.0, n) in p) second in
-    ap (λ (v : ℕ × ℕ). v ∷ xs) head ∙ ap (λ (vs : List (ℕ × ℕ)). y ∷ vs) (same_pairs xs ys whole.1)
 
 action_back : (a b : Action) → IsActionLike a b → IsActionLike b a
 action_back (Read l v) (Read m w) h = sym h
@@ -144,10 +132,10 @@ fixed_like names.ProgramOrderSameLocation n c d like a b h = (
 fixed_like names.Internal n c d like a b h = both_like c.events.items d.events.items like.events IsSameThread thread_like a b h
 fixed_like names.External n c d like a b h =
     (h.0, h.1, (λ inside. h.2 (both_like d.events.items c.events.items (events_back c.events.items d.events.items like.events) IsSameThread thread_like a b inside)))
-fixed_like names.AddressDependency n c d like a b h = rw (← like.addr) h
-fixed_like names.DataDependency n c d like a b h = rw (← like.data_pairs) h
-fixed_like names.ControlDependency n c d like a b h = rw (← like.ctrl) h
-fixed_like names.ControlIsyncDependency n c d like a b h = rw (← like.ctrlisync) h
+fixed_like names.AddressDependency n c d like a b h = subst (λ (x : DependencyLists). Listed x.addr_pairs a b) like.dependencies h
+fixed_like names.DataDependency n c d like a b h = subst (λ (x : DependencyLists). Listed x.data_pairs a b) like.dependencies h
+fixed_like names.ControlDependency n c d like a b h = subst (λ (x : DependencyLists). Listed x.ctrl_pairs a b) like.dependencies h
+fixed_like names.ControlIsyncDependency n c d like a b h = subst (λ (x : DependencyLists). Listed x.ctrlisync_pairs a b) like.dependencies h
 fixed_like names.SyncOrder n c d like a b h = fenced_like c.events.items d.events.items like.events _ a b h
 fixed_like names.LwsyncOrder n c d like a b h = fenced_like c.events.items d.events.items like.events _ a b h
 fixed_like names.EieioOrder n c d like a b h = fenced_like c.events.items d.events.items like.events _ a b h
@@ -157,10 +145,7 @@ fixed_like _ n c d like a b h = absurd h
 pub alike_back : (c d : Combination) → AreAlike c d → AreAlike d c
 alike_back c d like = record {
   events = events_back c.events.items d.events.items like.events;
-  addr = sym like.addr;
-  data_pairs = sym like.data_pairs;
-  ctrl = sym like.ctrl;
-  ctrlisync = sym like.ctrlisync;
+  dependencies = sym like.dependencies;
 }
 
 set_like : (n : ℕ) (name : Predefined) (c d : Combination) → AreAlike c d → (a : ℕ) → SetIn c n name a → SetIn d n name a
@@ -172,7 +157,7 @@ shared_like n name c d like a b h = (h.0, h.1, fixed_like name n c d like a b h.
 -- what was made for one of them stands for the other
 pub alike_entered : (base : Known) (c d : Combination) → AreAlike c d → IsEntered base c → IsEntered base d
 alike_entered base c d like h = record {
-  count = h.count ∙ ap (λ (n : ℕ). min n 128) like.events.0;
+  count = h.count ∙ like.events.0;
   sets = λ name held a. (
     (λ x. set_like base.count name c d like a ((h.sets name held a).0 x)),
     (λ x. (h.sets name held a).1 (set_like base.count name d c (alike_back c d like) a x)),

@@ -1,5 +1,6 @@
 -- Combinations of runs that differ in values alone.
 use Rattle.std.specs.Prelude.{ℕ, ◌≡◌, ◌<◌, List, length, slice_index_or}
+use Rattle.dataflow.specs.DependencyLists.{dependency_lists}
 use Rattle.candidates.specs.declared.candidate.Action.{Action}
 use Rattle.candidates.specs.declared.candidate.Action.TheVariants.{Read, Write, Fence}
 use Rattle.candidates.specs.declared.candidate.Combination.{Combination}
@@ -27,7 +28,4 @@ AreEventsLike es fs = (length es ≡ length fs) × ((i : ℕ) → i < length es 
 -- the events are alike one by one, and the dependencies are the same
 pub record AreAlike (c d : Combination) : Type 0 where
   pub events : AreEventsLike c.events.items d.events.items
-  pub addr : c.addr_pairs.items ≡ d.addr_pairs.items
-  pub data_pairs : c.data_pairs.items ≡ d.data_pairs.items
-  pub ctrl : c.ctrl_pairs.items ≡ d.ctrl_pairs.items
-  pub ctrlisync : c.ctrlisync_pairs.items ≡ d.ctrlisync_pairs.items
+  pub dependencies : dependency_lists c.dependencies ≡ dependency_lists d.dependencies

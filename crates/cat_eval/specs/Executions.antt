@@ -1,5 +1,5 @@
 -- What the names of an item stand for in a candidate.
-use Rattle.std.specs.Prelude.{ℕ, List, length, min, slice_get}
+use Rattle.std.specs.Prelude.{ℕ, List, length, slice_get}
 use denote.Ref.{Bor}
 use Rattle.binding_graph.specs.declared.resolved.Source.{Source}
 use Rattle.binding_graph.specs.declared.resolved.Source.TheVariants as sources
@@ -8,11 +8,11 @@ use Rattle.cat_eval.specs.declared.column.Column.{Column}
 use Rattle.candidates.specs.Space.{Candidate}
 use Rattle.cat_eval.specs.Named.{InputEvents, InputPairs}
 
--- over how many of its events: all, where there are at most 128
+-- how many events it has
 abbrev pub events_of : Candidate → ℕ
-events_of one = min (length one.0.events.items) 128
+events_of one = length one.0.events.items
 
--- the events of a name among the first n of the candidate, which is the one of number k for the values of the inputs
+-- the events of a name among the first n events of the candidate, which is the one of number k for the values of the inputs
 abbrev pub EventsAt : ℕ → Candidate → List (Bor Column) → ℕ → Source → ℕ → Type 0
 EventsAt n one inputs k (sources.Predefined name) = SetIn one.0 n name
 EventsAt n one inputs k (sources.Input place) = InputEvents (slice_get inputs place) k n

@@ -1,6 +1,6 @@
 //! Combinations of runs that differ in values alone.
 
-ghost use Rattle.std.specs.Prelude.{◌≡◌, IsTrue};
+ghost use Rattle.std.specs.Prelude.{IsTrue};
 ghost use Rattle.cat_eval.specs.Alike.{IsActionLike, IsLike, AreEventsLike, AreAlike};
 
 use candidates::{Action, Combination, Event};
@@ -51,13 +51,6 @@ fn are_events_like(first: &[Event], second: &[Event]) -> bool
     true
 }
 
-/// Whether two lists of pairs are the same.
-fn are_same_pairs(first: &[(usize, usize)], second: &[(usize, usize)]) -> bool
-    ensures { IsTrue result → first.now ≡ second.now }
-{
-    first == second
-}
-
 /// Whether two combinations differ at most in the values that are read and written. Then all the
 /// predefined names are the same that do not change with the stores that the loads read nor with
 /// the order of the stores.
@@ -67,14 +60,5 @@ pub(crate) fn is_same_shape(first: &Combination, second: &Combination) -> bool
     if !are_events_like(&first.events, &second.events) {
         return false;
     }
-    if !are_same_pairs(&first.addr_pairs, &second.addr_pairs) {
-        return false;
-    }
-    if !are_same_pairs(&first.data_pairs, &second.data_pairs) {
-        return false;
-    }
-    if !are_same_pairs(&first.ctrl_pairs, &second.ctrl_pairs) {
-        return false;
-    }
-    are_same_pairs(&first.ctrlisync_pairs, &second.ctrlisync_pairs)
+    first.dependencies.is_same(&second.dependencies)
 }

@@ -1,6 +1,6 @@
 -- A text is cut in one way: what a piece is decides what the reader takes.
 use Rattle.std.proofs.Common.{◌≡◌, ℕ, suc, ◌+◌, ◌<◌, ◌≤◌, ◌⊎◌, inl, inr, Bool, true, false, List, [], ◌∷◌, ◌++◌, length, drop, refl, sym, ap, ◌∙◌, subst, arith, append_assoc}
-use Rattle.std.specs.Prelude.{Option, Some, None, slice_index, ◌==◌, ◌&&◌, ◌||◌, not, if◌then◌else◌}
+use Rattle.std.specs.Prelude.{Option, Some, None, slice_index, ◌==◌, ◌&&◌, ◌||◌, not}
 use Rattle.std.specs.List.{position_or_len}
 use Rattle.std.proofs.lemmas.Bool.{cases_lt}
 use Rattle.std.proofs.lemmas.List.{append-nil, length-append, get_or_append_left, take_at, drop_at}
@@ -9,7 +9,7 @@ use Rattle.source_text.specs.Letters.{is_letter}
 use Rattle.source_text.specs.Layout.{is_line_end, is_quote, quoted_from, comment_of}
 use Rattle.text_laws.specs.Comments.{LacksQuote, begins_comment, BeginsWithComment}
 use Rattle.text_laws.proofs.Nesting as nesting
-use Rattle.text_laws.proofs.Runs.{equals, or_first, or_second, seam}
+use Rattle.text_laws.proofs.Runs.{equals, or_first, or_second, seam, when_true, when_false, fails, quote_size, open_size}
 use Rattle.cat_tokens.specs.declared.rule.CatRule.TheVariants as rules
 use Rattle.cat_tokens.specs.declared.token.Mark.TheVariants.{Inverse}
 use Rattle.cat_tokens.specs.declared.token.Token.{Token}
@@ -23,17 +23,6 @@ use Rattle.cat_laws.specs.Tokens.{IsWord, is_sign, Spells, Word, String, Sign, I
 use Rattle.cat_laws.proofs.Named.{letter_in_name}
 use Rattle.cat_laws.proofs.Printed.{front_quote}
 use Rattle.cat_laws.proofs.Cuts.{three_bytes, not_sign, skipped, lexeme_bytes}
-
-when_true : {A : Type 0} (x : Bool) (a b : A) → x ≡ true → (if x then a else b) ≡ a
-when_true x a b e = ap (λ (y : Bool). if y then a else b) e
-
-when_false : {A : Type 0} (x : Bool) (a b : A) → x ≡ false → (if x then a else b) ≡ b
-when_false x a b e = ap (λ (y : Bool). if y then a else b) e
-
--- a test fails that cannot pass
-fails : (x : Bool) → (x ≡ true → ⊥) → x ≡ false
-fails true h = absurd (h refl)
-fails false h = refl
 
 -- ---- the reader's front, by its tests
 
@@ -136,20 +125,12 @@ front_of_word (b ∷ bs) rest w gap longest =
 
 -- ---- strings
 
-quote_size : (inside rest : List ℕ) → LacksQuote inside → position_or_len is_quote (inside ++ 34 ∷ rest) ≡ length inside
-quote_size inside rest lacks =
-    let l = length-append inside (34 ∷ rest) in
-    position_or_len_is is_quote (inside ++ 34 ∷ rest) (length inside) 0 (omega arith) (λ k lt. ap is_quote (get_or_append_left inside (34 ∷ rest) 0 k lt) ∙ lacks k lt) (λ _. ap is_quote (seam inside (34 ∷ rest)))
-
 front_of_string : (inside s rest : List ℕ) → LacksQuote inside → s ≡ 34 ∷ (inside ++ 34 ∷ []) → front (s ++ rest) ≡ fronts.Lexeme (tokens.Quoted inside) (length s)
 front_of_string inside s rest lacks is =
     let l = length-append inside (34 ∷ []) in
     let m = ap length is in
     let size : length inside + 2 ≡ length s = omega arith in
     ap (λ (xs : List ℕ). front (xs ++ rest)) is ∙ ap (λ (xs : List ℕ). front (34 ∷ xs)) (append_assoc inside (34 ∷ []) rest) ∙ front_quote inside rest (quote_size inside rest lacks) ∙ ap (fronts.Lexeme (tokens.Quoted inside)) size
-
-open_size : (inside : List ℕ) → LacksQuote inside → position_or_len is_quote inside ≡ length inside
-open_size inside lacks = position_or_len_is is_quote inside (length inside) 0 (omega arith) (λ k lt. lacks k lt) (λ lt. absurd (omega arith))
 
 front_of_open : (inside : List ℕ) → LacksQuote inside → front (34 ∷ inside) ≡ fronts.Lexeme (tokens.Broken rules.Syntax) (length (34 ∷ inside))
 front_of_open inside lacks =

@@ -10,7 +10,7 @@ pub enum CatFault {
     /// The rule that the text breaks, and the byte offset of the first token that cannot stand.
     #[error("the text is refused at byte {place}")]
     Refused { rule: CatRule, place: usize },
-    /// Memory ran out. That it did where this is answered is no promise of a contract.
+    /// Memory ran out.
     #[error("out of memory")]
     OutOfMemory(#[from(alloc)] AllocError),
 }

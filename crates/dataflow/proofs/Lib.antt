@@ -7,3 +7,4 @@ pub mod ReachLoop
 pub mod ControlLoop
 pub mod PairLists
 pub mod LinkLists
+pub mod PairDecision

@@ -6,10 +6,10 @@ use Rattle.bit_relations.specs.Relation.{Bit}
 
 -- each list has just the pairs of its dependency, in rising order
 pub record AreLinks (at : Executed) (links : Links) : Type 0 where
-  pub addr : IsListOf IsAddr at links.addr_pairs.items
-  pub «data» : IsListOf IsData at links.data_pairs.items
-  pub ctrl : IsListOf IsCtrl at links.ctrl_pairs.items
-  pub ctrlisync : IsListOf IsCtrlIsync at links.ctrlisync_pairs.items
+  pub addr : IsListOf IsAddr at links.dependencies.addr_pairs.items
+  pub «data» : IsListOf IsData at links.dependencies.data_pairs.items
+  pub ctrl : IsListOf IsCtrl at links.dependencies.ctrl_pairs.items
+  pub ctrlisync : IsListOf IsCtrlIsync at links.dependencies.ctrlisync_pairs.items
   pub need : IsListOf IsNeed at links.need_pairs.items
 
 -- the pairs of a place whose bit a word has, and the place of the word

@@ -5,3 +5,4 @@ pub mod Taints
 pub mod Within
 pub mod Control
 pub mod Dependencies
+pub mod DependencyLists

@@ -6,5 +6,5 @@ mod lists;
 mod pass;
 mod taints;
 
-pub use lists::Links;
+pub use lists::{Dependencies, Links, add_pairs};
 pub use pass::links;

@@ -9,7 +9,7 @@ ghost use Rattle.dataflow.specs.Taints as taint;
 ghost use Rattle.dataflow.specs.Within.{IsPairWithin, IsWithin};
 ghost use Rattle.thread_runs.specs.Runs as runs;
 
-use crate::lists::Links;
+use crate::lists::{Dependencies, Links};
 use crate::taints::{Taints, is_event, no_taints, note, operands, reach, registers_fit};
 use litmus_values::Fence;
 use std::alloc::{AllocError, Global};
@@ -136,10 +136,7 @@ fn no_links(alloc: Global) -> Links
     ensures { (n : ℕ) → IsWithin n result }
 {
     Links {
-        addr_pairs: Vec::new(alloc),
-        data_pairs: Vec::new(alloc),
-        ctrl_pairs: Vec::new(alloc),
-        ctrlisync_pairs: Vec::new(alloc),
+        dependencies: Dependencies::none(alloc),
         need_pairs: Vec::new(alloc),
     }
 }
@@ -158,10 +155,12 @@ pub fn links(alloc: Global, run: &Run) -> Result<Links, AllocError>
         return Ok(no_links(alloc));
     }
     Ok(Links {
-        addr_pairs: pairs(alloc, &reach(steps, false, false), count)?,
-        data_pairs: pairs(alloc, &reach(steps, false, true), count)?,
-        ctrl_pairs: pairs(alloc, &control_columns(steps, false), count)?,
-        ctrlisync_pairs: pairs(alloc, &control_columns(steps, true), count)?,
+        dependencies: Dependencies {
+            addr_pairs: pairs(alloc, &reach(steps, false, false), count)?,
+            data_pairs: pairs(alloc, &reach(steps, false, true), count)?,
+            ctrl_pairs: pairs(alloc, &control_columns(steps, false), count)?,
+            ctrlisync_pairs: pairs(alloc, &control_columns(steps, true), count)?,
+        },
         need_pairs: pairs(alloc, &reach(steps, true, true), count)?,
     })
 }

@@ -4,10 +4,13 @@ use crate::cells::put_outcome;
 use binding_graph::{Input, ResolveFault, Resolved, ResolvedItem, Role, resolve, used};
 use cat_syntax::{ModelText, read_model};
 use litmus_ppc::{Name, Test, read_test};
-use node_values::{FaultParts, Given, GivenParts, NodeValue, SpaceParts, VerdictParts, run_node};
+use node_values::{
+    FaultParts, Given, GivenParts, NodeValue, SharedItem, SpaceParts, VerdictParts, run_node,
+};
 use ppc_semantics::program;
 use source_text::put_bytes;
 use std::alloc::{AllocError, Global};
+use std::sync::Arc;
 
 /// The values of some names, where they are known, behind the space.
 fn inputs_of<'v>(
@@ -34,9 +37,9 @@ fn run_item(
     alloc: Global,
     space: &[NodeValue],
     columns: &[Vec<NodeValue>],
-    item: ResolvedItem,
+    item: SharedItem,
 ) -> Result<Vec<NodeValue>, AllocError> {
-    let inputs: Vec<Input> = Vec::from_slice(alloc, &item.inputs)?;
+    let inputs: Vec<Input> = Vec::from_slice(alloc, &item.item().inputs)?;
     let given = Given::new(alloc, GivenParts::Item(item))?;
     let values = inputs_of(alloc, space, columns, &inputs)?;
     run_node(alloc, &given, &values)
@@ -65,11 +68,13 @@ fn item_values(
     resolved: Resolved,
 ) -> Result<ItemValues, AllocError> {
     let places = used(alloc, &resolved)?;
+    let resolved = Arc::new(alloc, resolved)?;
     let mut values = Vec::new(alloc);
     let mut flags = Vec::new(alloc);
-    for (at, item) in resolved.items.into_iter().enumerate() {
+    for at in 0..resolved.items.len() {
         if places.contains(&at) {
-            add_flag(alloc, &mut flags, &item)?;
+            add_flag(alloc, &mut flags, &resolved.items[at])?;
+            let item = SharedItem::new(Arc::try_clone(&resolved)?, at);
             let made = run_item(alloc, space, &values, item)?;
             values.push(made)?;
         } else {

@@ -3,6 +3,7 @@ use Rattle.std.proofs.Common.{ℕ, ◌≡◌, List, [], ◌∷◌, refl, inl, in
 use Rattle.litmus_values.specs.declared.test.Test.{Test}
 use Rattle.thread_runs.specs.declared.value.Value.{Value}
 use Rattle.dataflow.specs.Chains.{Executed, IsPairBefore}
+use Rattle.dataflow.proofs.PairDecision.{dependencies_one}
 use Rattle.candidates.proofs.Alike.{shown_one}
 use Rattle.candidates.proofs.OneProgram.{names_one, test_executions_one}
 use Rattle.candidates.proofs.Sole.{same_rising}
@@ -27,10 +28,11 @@ pairs_one R initial x ps qs h k = same_rising IsPairBefore before_apart ps qs h.
 alike : (initial : List Value) (x : Execution) (d e : Shown) → Shows initial x d → Shows initial x e → d ≡ e
 alike initial x d e h k =
     shown_one d e (h.events ∙ sym k.events)
-    (pairs_one _ initial x d.addr_pairs e.addr_pairs h.addr k.addr)
-    (pairs_one _ initial x d.data_pairs e.data_pairs h.«data» k.«data»)
-    (pairs_one _ initial x d.ctrl_pairs e.ctrl_pairs h.ctrl k.ctrl)
-    (pairs_one _ initial x d.ctrlisync_pairs e.ctrlisync_pairs h.ctrlisync k.ctrlisync)
+    (dependencies_one d.dependencies e.dependencies
+    (pairs_one _ initial x d.dependencies.addr_pairs e.dependencies.addr_pairs h.addr k.addr)
+    (pairs_one _ initial x d.dependencies.data_pairs e.dependencies.data_pairs h.«data» k.«data»)
+    (pairs_one _ initial x d.dependencies.ctrl_pairs e.dependencies.ctrl_pairs h.ctrl k.ctrl)
+    (pairs_one _ initial x d.dependencies.ctrlisync_pairs e.dependencies.ctrlisync_pairs h.ctrlisync k.ctrlisync))
     (h.reads_from ∙ sym k.reads_from) (h.coherence ∙ sym k.coherence) (h.registers ∙ sym k.registers)
 
 all_alike : (initial : List Value) (xs : List Execution) (ds es : List Shown) → AllZip (Shows initial) xs ds → AllZip (Shows initial) xs es → ds ≡ es

@@ -1,5 +1,5 @@
 -- Laws of the executions of a test, each the contract of a call of this crate. Read `Executions` and `Listed` of candidates first.
-use Rattle.std.specs.Prelude.{ℕ, Some, ◌≡◌, ◌↔◌, List, [], length, slice_get, Contains}
+use Rattle.std.specs.Prelude.{ℕ, Some, true, ◌≡◌, ◌↔◌, List, [], length, slice_get, Contains}
 use Rattle.std.specs.List.{AllZip}
 use Rattle.litmus_values.specs.declared.test.Test.{Test}
 use Rattle.thread_runs.specs.declared.instruction.Program.{Program}
@@ -8,10 +8,12 @@ use Rattle.ppc_semantics.specs.Domain.{IsDomain, threads_of}
 use Rattle.ppc_semantics.specs.Lowering.{IsProgram}
 use Rattle.candidates.specs.declared.fault.EvalRefusal.{EvalRefusal}
 use Rattle.thread_runs.specs.ValueSet.{IsOne}
-use Rattle.thread_runs.specs.Runs.{Thread, Run, IsRun, run_of}
-use Rattle.candidates.specs.Executions.{Execution, IsExecution, AreExecutions, Does, events, stores, over_runs}
+use Rattle.thread_runs.specs.Runs.{Thread, Run, IsRun, run_of, executed}
+use Rattle.candidates.specs.Executions.{Execution, IsExecution, AreExecutions, Does, events, stores, over_runs, event_number}
 use Rattle.candidates.specs.Lists.{IsFiltered}
-use Rattle.candidates.specs.Events.{thread_events, CannotRead}
+use Rattle.dataflow.specs.Chains.{is_event}
+use Rattle.candidates.specs.Events.{thread_events, CannotRead, IsKind}
+use Rattle.candidates.specs.declared.candidate.Event.{Event}
 use Rattle.candidates.specs.Space.{shown_by, ShowTheSame}
 use Rattle.candidates.specs.declared.candidate.Action.TheVariants.{Write}
 use Rattle.candidates.specs.declared.candidate.Execution as shown
@@ -37,6 +39,13 @@ LosesNoExecution initial threads V runs =
 -- no event of a run of a thread is left out of the events of an execution
 abbrev pub DropsNoEvent : Thread → Run → Type 0
 DropsNoEvent t r = (thread : ℕ) → run_of t.lines t.first r.values ≡ Some r.outcome → length (thread_events thread r.outcome.walk.events) ≡ length r.outcome.walk.events
+
+-- at the number by which a dependency names a step of a run stands the event of that step
+abbrev pub NumbersItsSteps : List Value → List Thread → List Run → Type 0
+NumbersItsSteps initial threads runs =
+    AllZip (λ t r. IsRun t IsOne r) threads runs
+    → (thread step : ℕ) (r : Run) → slice_get runs thread ≡ Some r → is_event (executed r.outcome.walk.steps step) ≡ true
+    → (e : Event) × (slice_get (events initial runs) (event_number initial runs thread r step) ≡ Some e) × IsKind thread (executed r.outcome.walk.steps step) e
 
 -- a store of an execution stands in the coherence of its location
 pub record IsCovered (initial : List Value) (x : Execution) (store : ℕ) : Type 0 where

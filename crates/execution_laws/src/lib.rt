@@ -6,7 +6,7 @@ ghost use Rattle.std.specs.Prelude.{List};
 ghost use Rattle.thread_runs.specs.declared.value.Value.{Value};
 ghost use Rattle.thread_runs.specs.Runs.{Thread, Run};
 ghost use Rattle.candidates.specs.Listed.{ChoosesApart};
-ghost use Rattle.execution_laws.specs.Laws.{HasAllExecutions, CoversEachStore, LosesNoValue, HasOneOutcome, HasOneList, ShowOneTest, LosesNoExecution, DropsNoEvent};
+ghost use Rattle.execution_laws.specs.Laws.{HasAllExecutions, CoversEachStore, LosesNoValue, HasOneOutcome, HasOneList, ShowOneTest, LosesNoExecution, DropsNoEvent, NumbersItsSteps};
 
 use candidates::{Execution, Space};
 use litmus_values::Test;
@@ -44,6 +44,12 @@ pub fn executions_are_a_product()
 /// No event of a run is left out.
 pub fn events_are_whole()
     ensures { (t : Thread) (r : Run) → DropsNoEvent t r }
+{}
+
+/// A dependency names the events of its steps: at the number that it gives a step that is an event stands an event of that
+/// thread and of the kind of the step's instruction.
+pub fn dependencies_name_events_of_their_steps()
+    ensures { (initial : List Value) (threads : List Thread) (runs : List Run) → NumbersItsSteps initial threads runs }
 {}
 
 /// Each store of an execution stands in the coherence of its location.

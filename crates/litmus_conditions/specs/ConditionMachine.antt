@@ -121,7 +121,8 @@ after_constant most fs used b t =
 -- a token behind the word `not`
 abbrev pub after_not : Limits → ℕ → List Frame → ℕ → Token → StepResult
 after_not most threads fs used t =
-    if is_equals t then Goes fs used (WantsValue (places.Location (codes "not"))) else opened most fs (operand most threads (InPrefix ∷ fs) used t)
+    if is_equals t then Goes fs used (WantsValue (places.Location (codes "not")))
+    else opened most fs (operand most threads (InPrefix ∷ fs) used t)
 
 abbrev pub after_place : List Frame → ℕ → Place → Token → StepResult
 after_place fs used p t = if is_equals t then Goes fs used (WantsValue p) else Refuses

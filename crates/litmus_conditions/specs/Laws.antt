@@ -21,7 +21,8 @@ takes_on later ts Refuses = false
 -- whether each of these tokens is taken, one after another
 abbrev pub takes : Limits → ℕ → List Frame → ℕ → Expectation → List Token → Bool
 takes most threads fs used expected [] = true
-takes most threads fs used expected (t ∷ ts) = takes_on (λ gs u h. takes most threads gs u h ts) ts (proposition_step most threads fs used expected t)
+takes most threads fs used expected (t ∷ ts) =
+    takes_on (λ gs u h. takes most threads gs u h ts) ts (proposition_step most threads fs used expected t)
 
 -- these tokens are a proposition, in a test of so many threads, and the end
 pub record IsPropositionText (most : Limits) (threads : ℕ) (ts : List Token) : Type 0 where

@@ -98,9 +98,6 @@ module _ (X : List Token → Type 0) (Q : State → Type 0) (any : Begins X [])
   any_lines : Begins Lines []
   any_lines = any_head true
 
-  some_name : List ℕ
-  some_name = 65 ∷ []
-
   line_end : (name : List ℕ) → is_test_name name ≡ true → (ps : List Placed) (g : Stage) (s : State) → length ps < 18446744073709551616 → run (in_head name g text.TitleEnd) ps ≡ Ok s → Q s → Begins IsHeaded (tokens.Word (codes "PPC") ∷ tokens.Word name ∷ tokens_of ps)
   line_end name i [] g s few e q = let r = any_lines in record { rest = tokens.LineEnd ∷ r.rest; text = record { name = name; is_name = i; lines = r.rest; head = r.text; whole = refl } }
   line_end name i (p ∷ ps) g s few e q = by_token p.token p.offset e

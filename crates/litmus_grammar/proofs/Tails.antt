@@ -25,7 +25,7 @@ use Rattle.litmus_table.specs.Machine as table
 use Rattle.litmus_grammar.specs.declared.parts.ItemExpectation.TheVariants as items
 use Rattle.litmus_grammar.specs.declared.parts.TextKind.{TextKind}
 use Rattle.litmus_grammar.specs.declared.parts.TextKind.TheVariants as kinds
-use Rattle.litmus_grammar.specs.Grammar.{Listed, members, spelled_items, spelled_observed, spelled_condition, AreItems, IsLocationsText}
+use Rattle.litmus_grammar.specs.Grammar.{Listed, members, spelled_items, spelled_observed, spelled_condition, AreItems}
 use Rattle.litmus_grammar.specs.InitMachine as init
 use Rattle.litmus_grammar.specs.TextMachine as text
 use Rattle.litmus_grammar.specs.TextMachine.{Part, Draft, Next, State, Ran, placed, and_then, stepped, part_step, nothing, start, run}
@@ -220,9 +220,6 @@ module _ (name : List ℕ) (block : init.Block) (t : table.State) (few : length 
   list_alike (text.Item (items.Within expected)) h x offset i = item_result_alike h (place_step expected x)
   list_alike (text.Item items.HasItem) h x offset i = ended_alike h x
   list_alike p h x offset i = absurd cc
-
-  abbrev IsList : List Token → Type 0
-  IsList = IsLocationsText threads
 
   abbrev first_draft : Draft
   first_draft = nothing kinds.Locations

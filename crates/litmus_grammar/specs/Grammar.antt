@@ -57,13 +57,16 @@ Lacks (q ∷ qs) p = (q ≡ p → ⊥) × Lacks qs p
 -- Each entry is one, for a place that no entry before it has. Its thread need not be there yet.
 abbrev pub AreEntries : List WrittenPlace → List EntryTree → Type 0
 AreEntries before [] = Unit {0}
-AreEntries before (e ∷ es) = IsPlace e.place × IsValue e.value × Lacks before (written_place e.place) × AreEntries (written_place e.place ∷ before) es
+AreEntries before (e ∷ es) =
+    IsPlace e.place × IsValue e.value × Lacks before (written_place e.place)
+    × AreEntries (written_place e.place ∷ before) es
 
 -- ---- `locations`
 
 abbrev pub spelled_items : Listed PlaceTree → List Token → List Token
 spelled_items l rest =
-    tokens.Word (codes "locations") ∷ tokens.Mark OpenBracket ∷ spelled_place l.first (spelled_others spelled_place l.closed l.others (tokens.Mark CloseBracket ∷ rest))
+    tokens.Word (codes "locations") ∷ tokens.Mark OpenBracket
+    ∷ spelled_place l.first (spelled_others spelled_place l.closed l.others (tokens.Mark CloseBracket ∷ rest))
 
 -- the list, or nothing
 abbrev pub spelled_observed : Option (Listed PlaceTree) → List Token → List Token

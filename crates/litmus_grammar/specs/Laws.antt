@@ -33,7 +33,8 @@ entry_kept e = record { place = place_of (written_place e.place); value = value_
 -- where the entries begin that stand behind these tokens
 abbrev pub AreStarts : List Placed → List Token → List EntryTree → List ℕ → Type 0
 AreStarts all before [] [] = Unit {0}
-AreStarts all before (e ∷ es) (s ∷ ss) = StandsAt all before s × AreStarts all (before ++ spelled_entry e (tokens.Mark Semicolon ∷ [])) es ss
+AreStarts all before (e ∷ es) (s ∷ ss) =
+    StandsAt all before s × AreStarts all (before ++ spelled_entry e (tokens.Mark Semicolon ∷ [])) es ss
 AreStarts all before es ss = ⊥
 
 -- a condition,

@@ -77,7 +77,14 @@ abbrev pub with_table : Draft → table.State → Draft
 with_table h t = record { name = h.name; init = h.init; table = t; observed = h.observed; quantifier = h.quantifier; formula = h.formula }
 
 abbrev pub with_place : Draft → Place → Draft
-with_place h p = record { name = h.name; init = h.init; table = h.table; observed = h.observed ++ p ∷ []; quantifier = h.quantifier; formula = h.formula }
+with_place h p = record {
+  name = h.name;
+  init = h.init;
+  table = h.table;
+  observed = h.observed ++ p ∷ [];
+  quantifier = h.quantifier;
+  formula = h.formula;
+}
 
 abbrev pub with_condition : Draft → Quantifier → Formula → Draft
 with_condition h q a = record { name = h.name; init = h.init; table = h.table; observed = h.observed; quantifier = q; formula = a }
@@ -309,7 +316,14 @@ first_table kinds.Thread = table.widened table.start
 first_table kind = table.start
 
 abbrev pub nothing : TextKind → Draft
-nothing kind = record { name = []; init = init.start; table = first_table kind; observed = []; quantifier = Exists; formula = Constant true }
+nothing kind = record {
+  name = [];
+  init = init.start;
+  table = first_table kind;
+  observed = [];
+  quantifier = Exists;
+  formula = Constant true;
+}
 
 abbrev pub start : TextKind → ℕ → State
 start kind threads = record { kind = kind; threads = threads; stage = first_stage kind; part = first_part kind; draft = nothing kind }

@@ -77,7 +77,8 @@ pub data IsStart (IsText : List Token → Type 0) (start : Stage) (ts : List Tok
   IsWhole : IsText ts → IsStart IsText start ts
   BreaksOff : IsBrokenOff IsText start ts → IsStart IsText start ts
 
-abbrev pub late_of_start : {IsText : List Token → Type 0} {start : Stage} → ((ts : List Token) → IsText ts → Option Late) → (ts : List Token) → IsStart IsText start ts → Option Late
+abbrev pub late_of_start : {IsText : List Token → Type 0} {start : Stage}
+    → ((ts : List Token) → IsText ts → Option Late) → (ts : List Token) → IsStart IsText start ts → Option Late
 late_of_start late ts (IsWhole t) = late ts t
 late_of_start late ts (BreaksOff b) = None
 
@@ -87,13 +88,16 @@ late_of_thread ts t = late_notes [] (thread_notes [] (t.tree.first ∷ t.tree.ot
 -- ---- reading
 
 -- these bytes are a text, read from this part on, that the later checks pass and that has this value
-pub record Reads {V : Type 0} (IsText : List Token → Type 0) (start : Stage) (late : (ts : List Token) → IsText ts → Option Late) (value : (ts : List Token) → IsText ts → V) (bytes : List ℕ) (v : V) : Type 0 where
+pub record Reads {V : Type 0} (IsText : List Token → Type 0) (start : Stage)
+    (late : (ts : List Token) → IsText ts → Option Late) (value : (ts : List Token) → IsText ts → V)
+    (bytes : List ℕ) (v : V) : Type 0 where
   pub short : length bytes ≤ most_bytes
   pub text : IsText (tokens_of (lexed start bytes))
   pub in_time : late (tokens_of (lexed start bytes)) text ≡ None
   pub meant : value (tokens_of (lexed start bytes)) text ≡ v
 
-pub record IsLateFault (IsText : List Token → Type 0) (start : Stage) (late : (ts : List Token) → IsText ts → Option Late) (bytes : List ℕ) (rule : LitmusRule) (offset : ℕ) : Type 0 where
+pub record IsLateFault (IsText : List Token → Type 0) (start : Stage)
+    (late : (ts : List Token) → IsText ts → Option Late) (bytes : List ℕ) (rule : LitmusRule) (offset : ℕ) : Type 0 where
   pub text : IsText (tokens_of (lexed start bytes))
   pub found : Late
   pub is_found : late (tokens_of (lexed start bytes)) text ≡ Some found
@@ -101,9 +105,11 @@ pub record IsLateFault (IsText : List Token → Type 0) (start : Stage) (late : 
   pub stands : StandsAt (lexed start bytes) found.before offset
 
 -- the fault of bytes: too long, else where they stop to begin a text, else the first of the later checks
-pub data IsFaultAt (IsText : List Token → Type 0) (start : Stage) (late : (ts : List Token) → IsText ts → Option Late) (bytes : List ℕ) (rule : LitmusRule) (offset : ℕ) : Type 0 where
+pub data IsFaultAt (IsText : List Token → Type 0) (start : Stage) (late : (ts : List Token) → IsText ts → Option Late)
+    (bytes : List ℕ) (rule : LitmusRule) (offset : ℕ) : Type 0 where
   IsTooLong : most_bytes < length bytes → rule ≡ rules.TooLong → offset ≡ most_bytes → IsFaultAt IsText start late bytes rule offset
-  IsGrammar : length bytes ≤ most_bytes → IsFault IsText start (lexed start bytes) rule offset → IsFaultAt IsText start late bytes rule offset
+  IsGrammar : length bytes ≤ most_bytes → IsFault IsText start (lexed start bytes) rule offset
+      → IsFaultAt IsText start late bytes rule offset
   IsLater : length bytes ≤ most_bytes → IsLateFault IsText start late bytes rule offset → IsFaultAt IsText start late bytes rule offset
 
 -- ---- the five readers
@@ -115,10 +121,12 @@ abbrev pub IsTestFault : List ℕ → LitmusRule → ℕ → Type 0
 IsTestFault bytes rule offset = IsFaultAt (IsStart (IsTestText limits) Magic) Magic (late_of_start late_of_test) bytes rule offset
 
 abbrev pub ReadsInit : ℕ → List ℕ → List InitEntry → Type 0
-ReadsInit threads bytes v = Reads IsInitText (Init true false) (late_of_init threads) (λ ts t. map entry_meaning (members t.entries)) bytes v
+ReadsInit threads bytes v =
+    Reads IsInitText (Init true false) (late_of_init threads) (λ ts t. map entry_meaning (members t.entries)) bytes v
 
 abbrev pub IsInitFault : ℕ → List ℕ → LitmusRule → ℕ → Type 0
-IsInitFault threads bytes rule offset = IsFaultAt (IsStart IsInitText (Init true false)) (Init true false) (late_of_start (late_of_init threads)) bytes rule offset
+IsInitFault threads bytes rule offset =
+    IsFaultAt (IsStart IsInitText (Init true false)) (Init true false) (late_of_start (late_of_init threads)) bytes rule offset
 
 abbrev pub ReadsThread : List ℕ → List Step → Type 0
 ReadsThread bytes v = Reads IsThreadText CellBegins late_of_thread (λ ts t. thread_meaning t.tree) bytes v
@@ -127,7 +135,8 @@ abbrev pub IsThreadFault : List ℕ → LitmusRule → ℕ → Type 0
 IsThreadFault bytes rule offset = IsFaultAt IsThreadText CellBegins late_of_thread bytes rule offset
 
 abbrev pub ReadsCondition : ℕ → List ℕ → Quantifier × Formula → Type 0
-ReadsCondition threads bytes v = Reads (IsConditionText limits threads) Tail (λ ts t. None) (λ ts t. (t.quantifier, meaning t.condition)) bytes v
+ReadsCondition threads bytes v =
+    Reads (IsConditionText limits threads) Tail (λ ts t. None) (λ ts t. (t.quantifier, meaning t.condition)) bytes v
 
 abbrev pub IsConditionFault : ℕ → List ℕ → LitmusRule → ℕ → Type 0
 IsConditionFault threads bytes rule offset = IsFaultAt (IsConditionText limits threads) Tail (λ ts t. None) bytes rule offset

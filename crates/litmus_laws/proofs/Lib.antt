@@ -15,4 +15,5 @@ pub mod Places
 pub mod Read
 pub mod Rows
 pub mod Tokens
+pub mod Unique
 pub mod Whole

@@ -35,7 +35,7 @@ passes : (x : Bool) → not x ≡ false → x ≡ true
 passes true e = refl
 passes false e = absurd cc
 
-stops : (x : Bool) → not x ≡ true → x ≡ false
+pub stops : (x : Bool) → not x ≡ true → x ≡ false
 stops true e = absurd cc
 stops false e = refl
 
@@ -115,10 +115,10 @@ comment_piece s fresh b bs begins None e =
     (omega arith, omega arith, OpenComment (ap begins_comment all ∙ begins) (λ n c. nesting.unended (b ∷ bs) n e (subst (λ (xs : List ℕ). BeginsWithComment xs n) all c)) (drop_all (length (b ∷ bs)) (b ∷ bs) (omega arith)) refl)
 
 -- what has been looked at before the part is
-record IsOpen (b : ℕ) (bs : List ℕ) : Type 0 where
-  ascii : is_not_ascii b ≡ false
-  blank : is_blank b ≡ false
-  comment : begins_comment (b ∷ bs) ≡ false
+pub record IsOpen (b : ℕ) (bs : List ℕ) : Type 0 where
+  pub ascii : is_not_ascii b ≡ false
+  pub blank : is_blank b ≡ false
+  pub comment : begins_comment (b ∷ bs) ≡ false
 
 no_gap : (b : ℕ) (bs : List ℕ) → IsOpen b bs → begins_gap (b ∷ bs) ≡ false
 no_gap b bs o = or_false (is_blank b) (begins_comment (b ∷ bs)) o.blank o.comment
@@ -251,7 +251,7 @@ module _ (s : Stage) (fresh : Bool) (b : ℕ) (bs : List ℕ) (apart : s ≡ Tit
 
 -- ---- words and labels where a cell begins
 
-cons_at : (bs : List ℕ) → slice_index bs 0 ≡ 58 → bs ≡ 58 ∷ drop 1 bs
+pub cons_at : (bs : List ℕ) → slice_index bs 0 ≡ 58 → bs ≡ 58 ∷ drop 1 bs
 cons_at [] e = absurd (omega arith)
 cons_at (b ∷ bs) e = ap (λ (k : ℕ). k ∷ bs) e
 
@@ -423,7 +423,7 @@ record CutAt (s : Stage) (fresh : Bool) (n : ℕ) (bs : List ℕ) (ps : List Pla
   whole : text_of pieces ≡ bs
   tokens : tokens_at n pieces ≡ ps
 
-skipped : (s : Stage) (fresh : Bool) (j n : ℕ) (bs : List ℕ) → j ≤ length bs → tokens_from s fresh (suc j - 1) (n + 1) bs ≡ tokens_from s fresh 0 (n + suc j) (drop j bs)
+pub skipped : (s : Stage) (fresh : Bool) (j n : ℕ) (bs : List ℕ) → j ≤ length bs → tokens_from s fresh (suc j - 1) (n + 1) bs ≡ tokens_from s fresh 0 (n + suc j) (drop j bs)
 skipped s fresh j n bs le =
     ap (λ (k : ℕ). tokens_from s fresh k (n + 1) bs) (let e : suc j - 1 ≡ j = omega arith in e) ∙ tokens_skip s fresh j (n + 1) bs le ∙ ap (λ (k : ℕ). tokens_from s fresh 0 k (drop j bs)) (let e : n + 1 + j ≡ n + suc j = omega arith in e)
 
@@ -499,7 +499,7 @@ label_bytes word s rest x =
     let n = length-append (gaps_text x.gaps) (58 ∷ []) in
     omega arith
 
-lexeme_bytes : (stage : Stage) (fresh : Bool) (t : Token) (s rest : List ℕ) → IsLexeme stage fresh t s rest → 0 < length s
+pub lexeme_bytes : (stage : Stage) (fresh : Bool) (t : Token) (s rest : List ℕ) → IsLexeme stage fresh t s rest → 0 < length s
 lexeme_bytes stage fresh t s rest (FirstWord a raw e) = raw.some
 lexeme_bytes stage fresh t s rest (NameEnd a b c is e) = byte_of b s is
 lexeme_bytes stage fresh t s rest (Keyline a c k e) = keyline_bytes s rest k

@@ -73,9 +73,12 @@ IsRefusal ps rule offset = IsFault (IsStart (IsTestText limits) Magic) Magic ps 
 
 -- it is numbered by the part of this test in which the refused token would stand, behind the tokens before it
 abbrev pub IsOfItsPart : (ps : List Placed) (rule : LitmusRule) (offset : ℕ) → IsRefusal ps rule offset → TestTree → Type 0
-IsOfItsPart ps rule offset f t = (there : Token) (of_part : LitmusRule) → StandsIn (test_parts t) (tokens_of f.before) there of_part → IsNumbered f.here.token of_part rule
+IsOfItsPart ps rule offset f t =
+    (there : Token) (of_part : LitmusRule) → StandsIn (test_parts t) (tokens_of f.before) there of_part
+    → IsNumbered f.here.token of_part rule
 
 -- ---- parts that are read alone: each token that they name no rule for has the part's
 
-abbrev pub IsOfPart : {IsText : List Token → Type 0} {start : Stage} {ps : List Placed} {rule : LitmusRule} {offset : ℕ} → LitmusRule → IsFault IsText start ps rule offset → Type 0
+abbrev pub IsOfPart : {IsText : List Token → Type 0} {start : Stage} {ps : List Placed} {rule : LitmusRule} {offset : ℕ}
+    → LitmusRule → IsFault IsText start ps rule offset → Type 0
 IsOfPart {IsText} {start} {ps} {rule} {offset} of_part f = IsNumbered f.here.token of_part rule

@@ -101,29 +101,47 @@ is_plain s fresh b = true
 
 -- `/\`, `\/` and `=>`
 abbrev pub double_of : ℕ → ℕ → Option mark.Mark
-double_of a b = if a == 47 && b == 92 then Some And else (if a == 92 && b == 47 then Some Or else (if a == 61 && b == 62 then Some Implies else None))
+double_of a b =
+    if a == 47 && b == 92 then Some And else (
+    if a == 92 && b == 47 then Some Or else (
+    if a == 61 && b == 62 then Some Implies else None))
+
+-- where a cell begins, the word is not that of a label
+abbrev pub IsNoLabel : Stage → List ℕ → List ℕ → Type 0
+IsNoLabel stage s rest =
+    stage ≡ CellBegins → (label others : List ℕ) → label ++ others ≡ s ++ rest → IsLabel s label others → ⊥
 
 -- the token of a piece, in a part of a test, on a line that holds nothing but blanks so far or on another
 pub data IsLexeme (stage : Stage) (fresh : Bool) (t : Token) (s rest : List ℕ) : Type 0 where
   FirstWord : is_first stage ≡ true → IsRaw s rest → t ≡ tokens.Word s → IsLexeme stage fresh t s rest
   NameEnd : stage ≡ TitleEnd → (b : ℕ) → is_line_end b ≡ true → s ≡ b ∷ [] → t ≡ tokens.LineEnd → IsLexeme stage fresh t s rest
   Keyline : stage ≡ Head → fresh ≡ true → IsKeyline s rest → t ≡ tokens.Keyline → IsLexeme stage fresh t s rest
-  Quoted : stage ≡ Head → (inside : List ℕ) → LacksQuote inside → s ≡ 34 ∷ (inside ++ 34 ∷ []) → t ≡ tokens.Text → IsLexeme stage fresh t s rest
+  Quoted : stage ≡ Head → (inside : List ℕ) → LacksQuote inside → s ≡ 34 ∷ (inside ++ 34 ∷ []) → t ≡ tokens.Text
+      → IsLexeme stage fresh t s rest
   Word : is_plain stage fresh (slice_index s 0) ≡ true → IsWord s rest
-      → (stage ≡ CellBegins → (label others : List ℕ) → label ++ others ≡ s ++ rest → IsLabel s label others → ⊥) → t ≡ word_token stage s → IsLexeme stage fresh t s rest
+      → IsNoLabel stage s rest → t ≡ word_token stage s → IsLexeme stage fresh t s rest
   Label : stage ≡ CellBegins → (word : List ℕ) → IsLabel word s rest → t ≡ tokens.Label word → IsLexeme stage fresh t s rest
-  Number : is_plain stage fresh (slice_index s 0) ≡ true → 0 < length s → IsRun is_digit s rest → t ≡ tokens.Number false (significant s) → IsLexeme stage fresh t s rest
-  Negative : is_plain stage fresh 45 ≡ true → (digits : List ℕ) → 0 < length digits → IsRun is_digit digits rest → s ≡ 45 ∷ digits → t ≡ tokens.Number true (significant digits) → IsLexeme stage fresh t s rest
-  Double : (a b : ℕ) (m : mark.Mark) → is_plain stage fresh a ≡ true → double_of a b ≡ Some m → s ≡ a ∷ b ∷ [] → t ≡ tokens.Mark m → IsLexeme stage fresh t s rest
-  Single : (b : ℕ) (m : mark.Mark) → is_plain stage fresh b ≡ true → begins_gap (s ++ rest) ≡ false → double_of b (slice_index rest 0) ≡ None → mark_of b ≡ Some m → s ≡ b ∷ [] → t ≡ tokens.Mark m → IsLexeme stage fresh t s rest
+  Number : is_plain stage fresh (slice_index s 0) ≡ true → 0 < length s → IsRun is_digit s rest
+      → t ≡ tokens.Number false (significant s) → IsLexeme stage fresh t s rest
+  Negative : is_plain stage fresh 45 ≡ true → (digits : List ℕ) → 0 < length digits → IsRun is_digit digits rest
+      → s ≡ 45 ∷ digits → t ≡ tokens.Number true (significant digits) → IsLexeme stage fresh t s rest
+  Double : (a b : ℕ) (m : mark.Mark) → is_plain stage fresh a ≡ true → double_of a b ≡ Some m → s ≡ a ∷ b ∷ []
+      → t ≡ tokens.Mark m → IsLexeme stage fresh t s rest
+  Single : (b : ℕ) (m : mark.Mark) → is_plain stage fresh b ≡ true → begins_gap (s ++ rest) ≡ false
+      → double_of b (slice_index rest 0) ≡ None → mark_of b ≡ Some m → s ≡ b ∷ [] → t ≡ tokens.Mark m
+      → IsLexeme stage fresh t s rest
   -- a byte that is not ASCII, wherever it stands, and a comment that does not end, through the end of the text
   NotAscii : (b : ℕ) → is_not_ascii b ≡ true → s ≡ b ∷ [] → t ≡ tokens.Broken rules.NotAscii → IsLexeme stage fresh t s rest
-  OpenComment : begins_comment s ≡ true → ((n : ℕ) → BeginsWithComment s n → ⊥) → rest ≡ [] → t ≡ tokens.Broken rules.OpenComment → IsLexeme stage fresh t s rest
+  OpenComment : begins_comment s ≡ true → ((n : ℕ) → BeginsWithComment s n → ⊥) → rest ≡ []
+      → t ≡ tokens.Broken rules.OpenComment → IsLexeme stage fresh t s rest
   -- what is none of these: behind the name, a line that is no keyline, a quote without its end, and a byte that begins nothing
-  NoNameEnd : stage ≡ TitleEnd → (b : ℕ) → is_line_end b ≡ false → is_not_ascii b ≡ false → begins_gap (s ++ rest) ≡ false → s ≡ b ∷ [] → t ≡ tokens.Bad → IsLexeme stage fresh t s rest
-  NoKeyline : stage ≡ Head → fresh ≡ true → (b : ℕ) → is_letter b ≡ true → (line behind : List ℕ) → IsLine line behind → s ++ rest ≡ line ++ behind → LacksEquals line → s ≡ b ∷ [] → t ≡ tokens.Bad → IsLexeme stage fresh t s rest
+  NoNameEnd : stage ≡ TitleEnd → (b : ℕ) → is_line_end b ≡ false → is_not_ascii b ≡ false
+      → begins_gap (s ++ rest) ≡ false → s ≡ b ∷ [] → t ≡ tokens.Bad → IsLexeme stage fresh t s rest
+  NoKeyline : stage ≡ Head → fresh ≡ true → (b : ℕ) → is_letter b ≡ true → (line behind : List ℕ) → IsLine line behind
+      → s ++ rest ≡ line ++ behind → LacksEquals line → s ≡ b ∷ [] → t ≡ tokens.Bad → IsLexeme stage fresh t s rest
   NoQuoted : stage ≡ Head → LacksQuote rest → s ≡ 34 ∷ [] → t ≡ tokens.Bad → IsLexeme stage fresh t s rest
-  NoToken : (b : ℕ) → is_plain stage fresh b ≡ true → is_not_ascii b ≡ false → begins_gap (s ++ rest) ≡ false → is_line_end b ≡ false → is_word_byte b ≡ false → (b == 45 && is_digit (slice_index rest 0)) ≡ false
+  NoToken : (b : ℕ) → is_plain stage fresh b ≡ true → is_not_ascii b ≡ false → begins_gap (s ++ rest) ≡ false
+      → is_line_end b ≡ false → is_word_byte b ≡ false → (b == 45 && is_digit (slice_index rest 0)) ≡ false
       → double_of b (slice_index rest 0) ≡ None → mark_of b ≡ None → s ≡ b ∷ [] → t ≡ tokens.Bad → IsLexeme stage fresh t s rest
 
 -- ---- a whole text

@@ -115,7 +115,8 @@ Lacks (q ∷ qs) p = (q ≡ p → ⊥) × Lacks qs p
 -- each entry is for a place that no entry before it has
 abbrev pub AreEntries : ℕ → List Place → List InitEntry → Type 0
 AreEntries threads before [] = Unit {0}
-AreEntries threads before (e ∷ es) = IsPlace threads e.place × IsValue e.value × Lacks before e.place × AreEntries threads (e.place ∷ before) es
+AreEntries threads before (e ∷ es) =
+    IsPlace threads e.place × IsValue e.value × Lacks before e.place × AreEntries threads (e.place ∷ before) es
 
 abbrev pub ArePlaces : ℕ → List Place → Type 0
 ArePlaces threads [] = Unit {0}

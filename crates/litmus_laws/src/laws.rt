@@ -79,6 +79,8 @@ pub fn refusals_of_parts()
 pub fn tokens_cover_the_text()
     // The text, read from any part on, is cut into such pieces, and its tokens are theirs.
     ensures cut { (start : Stage) (bytes : List ℕ) → IsCut start bytes (lexed start bytes) }
+    // It is cut in no other way.
+    ensures only { (start : Stage) (bytes : List ℕ) (ps : List Placed) → IsCut start bytes ps → lexed start bytes ≡ ps }
     // Each token begins behind the one before it.
     ensures rising { (start : Stage) (bytes : List ℕ) → AreRising 0 (lexed start bytes) }
 {}

@@ -21,7 +21,8 @@ part_of parts.WantsList = machine.WantsList
 part_of (parts.Item expected) = machine.Item expected
 part_of parts.WantsQuantifier = machine.WantsQuantifier
 part_of parts.AfterTilde = machine.AfterTilde
-part_of (parts.Proposition q frames used expected) = machine.Proposition q (condition.stack_of frames.items) used (condition.expectation_of expected)
+part_of (parts.Proposition q frames used expected) =
+    machine.Proposition q (condition.stack_of frames.items) used (condition.expectation_of expected)
 part_of parts.ListOrEnd = machine.ListOrEnd
 part_of parts.WantsEnd = machine.WantsEnd
 part_of parts.Done = machine.Done

@@ -26,7 +26,14 @@ draft_of h = record {
 
 -- the test of a draft
 abbrev pub test_of : machine.Draft → Content
-test_of h = record { name = h.name; init = h.init.entries; threads = steps_of h.table.threads; observed = h.observed; quantifier = h.quantifier; condition = h.formula }
+test_of h = record {
+  name = h.name;
+  init = h.init.entries;
+  threads = steps_of h.table.threads;
+  observed = h.observed;
+  quantifier = h.quantifier;
+  condition = h.formula;
+}
 
 abbrev pub state_of : Reader → machine.State
 state_of r = record { kind = r.kind; threads = r.threads; stage = r.stage; part = part_of r.part; draft = draft_of r.draft }

@@ -117,8 +117,8 @@ pub fn read_test(alloc: Global, bytes: &[u8]) -> Result<Test, LitmusFault>
     ensures found { IfOk result (λ t. ReadsTest bytes.now (content_of t)) }
     // What means a test is read so, unless memory runs out.
     ensures only { (v : Content) → ReadsTest bytes.now v → MatchResult result (λ t. content_of t ≡ v) IsMemory }
-    // A refusal stands where the text stops to begin one, and has the number of the rule that is broken there; a text
-    // that is one is refused at the first entry of a thread that is not there, or else at the first label or branch
+    // A rejected text is blamed at the first token that no test could have there, by the rule that is broken there. A
+    // test is then refused at its first entry of a thread that does not exist, otherwise at the first label or branch
     // that the checks of labels find.
     ensures fault { IfErr result (IsFaultOf (IsTestFault bytes.now)) }
     // It stands within the text, or at its end.
@@ -152,8 +152,8 @@ pub fn read_thread(alloc: Global, bytes: &[u8]) -> Result<Thread, LitmusFault>
     ensures found { IfOk result (λ t. ReadsThread bytes.now t.steps.items) }
     // What means a thread is read so, unless memory runs out.
     ensures only { (v : List Step) → ReadsThread bytes.now v → MatchResult result (λ t. t.steps.items ≡ v) IsMemory }
-    // A refusal stands where the text stops to begin one, and has the number of the rule that is broken there; a text
-    // that is one is refused at the first label or branch that the checks of labels find.
+    // A rejected text is blamed at the first token that no thread could have there, by the rule that is broken there. A
+    // thread is then refused at the first label or branch that the checks of labels find.
     ensures fault { IfErr result (IsFaultOf (IsThreadFault bytes.now)) }
     // It stands within the text, or at its end.
     ensures within { IfErr result (λ e. IsWithin (length bytes.now) e) }
@@ -180,8 +180,8 @@ pub fn read_init(alloc: Global, bytes: &[u8], threads: usize) -> Result<Vec<Init
     ensures found { IfOk result (λ v. ReadsInit threads bytes.now v.items) }
     // What means initial values is read so, unless memory runs out.
     ensures only { (v : List InitEntry) → ReadsInit threads bytes.now v → MatchResult result (λ r. r.items ≡ v) IsMemory }
-    // A refusal stands where the text stops to begin a block, and has the number of the rule that is broken there; a
-    // text that is one is refused at the first entry of a thread that is not there.
+    // A rejected text is blamed at the first token that no block could have there, by the rule that is broken there. A
+    // block is then refused at its first entry of a thread that does not exist.
     ensures fault { IfErr result (IsFaultOf (IsInitFault threads bytes.now)) }
     // It stands within the text, or at its end.
     ensures within { IfErr result (λ e. IsWithin (length bytes.now) e) }
@@ -208,7 +208,7 @@ pub fn read_cond(alloc: Global, bytes: &[u8], threads: usize) -> Result<Conditio
     ensures found { IfOk result (λ c. ReadsCondition threads bytes.now (c.quantifier, formula_of c.proposition)) }
     // What means a condition is read so, unless memory runs out.
     ensures only { (v : Quantifier × Formula) → ReadsCondition threads bytes.now v → MatchResult result (λ c. (c.quantifier, formula_of c.proposition) ≡ v) IsMemory }
-    // A refusal stands where the text stops to begin one, and has the number of the rule that is broken there.
+    // A rejected text is blamed at the first token that no condition could have there, by the rule it breaks.
     ensures fault { IfErr result (IsFaultOf (IsConditionFault threads bytes.now)) }
     // It stands within the text, or at its end.
     ensures within { IfErr result (λ e. IsWithin (length bytes.now) e) }
@@ -235,7 +235,7 @@ pub fn read_locations(
     ensures found { IfOk result (λ v. ReadsLocations threads bytes.now v.items) }
     // What means a list of places is read so, unless memory runs out.
     ensures only { (v : List Place) → ReadsLocations threads bytes.now v → MatchResult result (λ r. r.items ≡ v) IsMemory }
-    // A refusal stands where the text stops to begin one, and has the number of the rule that is broken there.
+    // A rejected text is blamed at the first token that no such list could have there, by the rule it breaks.
     ensures fault { IfErr result (IsFaultOf (IsLocationsFault threads bytes.now)) }
     // It stands within the text, or at its end.
     ensures within { IfErr result (λ e. IsWithin (length bytes.now) e) }

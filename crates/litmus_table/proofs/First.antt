@@ -10,7 +10,7 @@ use Rattle.litmus_values.specs.declared.test.Step.TheVariants as steps
 use Rattle.std.proofs.Math.Numerals.{add-one}
 use Rattle.std.proofs.Math.Seq.{drop-cons}
 use Rattle.litmus_values.specs.declared.instruction.Instruction.TheVariants as instructions
-use Rattle.litmus_table.specs.Checks.{first_from, label_rule, target_rule, instruction_rule, step_rule, or_later, checked}
+use Rattle.litmus_table.specs.Checks.{first_from, label_rule, target_rule, instruction_rule, step_rule, or_later, first_fault}
 
 abbrev or_there : Option ℕ → Option ℕ → Option ℕ
 or_there (Some k) o = Some k
@@ -79,8 +79,8 @@ module _ (f g : List ℕ → Option ℕ) (same : (w : List ℕ) → f w ≡ g w)
   step_rule-same (steps.Instruction i) = instruction_rule-same i
 
 pub checked_here : (f : List ℕ → Option ℕ) (ss : List Step) (ps : List ℕ) (k : ℕ) (d : Step) (e : ℕ) → k < length ss → k < length ps
-    → checked f k (drop k ss) (drop k ps) ≡ or_later (step_rule f (get_or ss k d) k) (get_or ps k e) (checked f (k + 1) (drop (k + 1) ss) (drop (k + 1) ps))
+    → first_fault f k (drop k ss) (drop k ps) ≡ or_later (step_rule f (get_or ss k d) k) (get_or ps k e) (first_fault f (k + 1) (drop (k + 1) ss) (drop (k + 1) ps))
 checked_here f ss ps k d e lt there =
     let more : suc k ≡ k + 1 = sym (add-one k) in
-    ap (λ (l : List Step). checked f k l (drop k ps)) (drop-cons ss k d lt ∙ ap (λ (n : ℕ). get_or ss k d ∷ drop n ss) more)
-    ∙ ap (λ (l : List ℕ). checked f k (get_or ss k d ∷ drop (k + 1) ss) l) (drop-cons ps k e there ∙ ap (λ (n : ℕ). get_or ps k e ∷ drop n ps) more)
+    ap (λ (l : List Step). first_fault f k l (drop k ps)) (drop-cons ss k d lt ∙ ap (λ (n : ℕ). get_or ss k d ∷ drop n ss) more)
+    ∙ ap (λ (l : List ℕ). first_fault f k (get_or ss k d ∷ drop (k + 1) ss) l) (drop-cons ps k e there ∙ ap (λ (n : ℕ). get_or ps k e ∷ drop n ps) more)

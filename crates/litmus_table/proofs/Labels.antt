@@ -15,7 +15,7 @@ use Rattle.litmus_values.specs.declared.instruction.Instruction.TheVariants as i
 use Rattle.litmus_values.specs.declared.test.Step.{Step}
 use Rattle.litmus_values.specs.declared.test.Step.TheVariants as steps
 use Rattle.litmus_table.specs.declared.late.LateFault.{LateFault}
-use Rattle.litmus_table.specs.Checks.{first_from, label_rule, target_rule, instruction_rule, or_later, checked, IsFoundAt}
+use Rattle.litmus_table.specs.Checks.{first_from, label_rule, target_rule, instruction_rule, or_later, first_fault, IsFoundAt}
 use Rattle.litmus_table.specs.Late.{Late, Note, Defines, Branches, is_in, defined, late_notes}
 use Rattle.litmus_table.specs.Laws.{Mark, Defined, Branched, instruction_marks, marks, AreMarks}
 
@@ -186,12 +186,12 @@ module _ (text : List texts.Placed) where
 
   -- what is found from here on
   abbrev Finds : List Step → List Step → List ℕ → List (List ℕ) → List Note → Type 0
-  Finds done ss ps above ns = IsFoundAt text (checked (λ w. first_from w 0 (done ++ ss)) (length done) ss ps) (late_notes above ns)
+  Finds done ss ps above ns = IsFoundAt text (first_fault (λ w. first_from w 0 (done ++ ss)) (length done) ss ps) (late_notes above ns)
 
-  further : (s : Step) (done ss : List Step) (ps : List ℕ) (above : List (List ℕ)) (ns : List Note) → Finds (done ++ s ∷ []) ss ps above ns → IsFoundAt text (checked (λ w. first_from w 0 (done ++ s ∷ ss)) (length done + 1) ss ps) (late_notes above ns)
+  further : (s : Step) (done ss : List Step) (ps : List ℕ) (above : List (List ℕ)) (ns : List Note) → Finds (done ++ s ∷ []) ss ps above ns → IsFoundAt text (first_fault (λ w. first_from w 0 (done ++ s ∷ ss)) (length done + 1) ss ps) (late_notes above ns)
   further s done ss ps above ns h =
-      subst (λ (k : ℕ). IsFoundAt text (checked (λ w. first_from w 0 (done ++ s ∷ ss)) k ss ps) (late_notes above ns)) (length-append done (s ∷ []))
-      (subst (λ (l : List Step). IsFoundAt text (checked (λ w. first_from w 0 l) (length (done ++ s ∷ [])) ss ps) (late_notes above ns)) (append_assoc done (s ∷ []) ss) h)
+      subst (λ (k : ℕ). IsFoundAt text (first_fault (λ w. first_from w 0 (done ++ s ∷ ss)) k ss ps) (late_notes above ns)) (length-append done (s ∷ []))
+      (subst (λ (l : List Step). IsFoundAt text (first_fault (λ w. first_from w 0 l) (length (done ++ s ∷ [])) ss ps) (late_notes above ns)) (append_assoc done (s ∷ []) ss) h)
 
   abbrev late_at : LitmusRule → List Token → Option Late
   late_at rule b = Some (record { rule = rule; before = b })
@@ -229,7 +229,7 @@ module _ (text : List texts.Placed) where
   late_found (steps.Label v ∷ ss) done (p ∷ ps) above (Defines w b ∷ ns) e a h =
       let less : length ss ≡ length ps = omega arith in
       let s = steps.Label v in
-      let later = checked (λ x. first_from x 0 (done ++ s ∷ ss)) (length done + 1) ss ps in
+      let later = first_fault (λ x. first_from x 0 (done ++ s ∷ ss)) (length done + 1) ss ps in
       let next = further s done ss ps (v ∷ above) ns (late_found ss (done ++ s ∷ []) ps (v ∷ above) ns less a.2 (above_more v above done h)) in
       subst (λ (x : List ℕ). IsFoundAt text (or_later (label_rule (first_from v 0 (done ++ s ∷ ss)) (length done)) p later) (late_notes above (Defines x b ∷ ns))) a.0
       (label_found v done ss p above b ns later h a.1 next)
@@ -238,16 +238,16 @@ module _ (text : List texts.Placed) where
       by_kind i ns a (λ os m. late_found ss (done ++ steps.Instruction i ∷ []) ps above os less m (above_same i above done h)) (λ os m. notes_define os (marks ss ps) m ∙ marks_define ss ps less)
     where
       branch : (j : Instruction) (v : List ℕ) (os : List Note) → AreMarks text os (Branched v p ∷ marks ss ps) → ((ns' : List Note) → AreMarks text ns' (marks ss ps) → Finds (done ++ steps.Instruction j ∷ []) ss ps above ns') → ((ns' : List Note) → AreMarks text ns' (marks ss ps) → defined ns' ≡ labels ss)
-          → IsFoundAt text (or_later (target_rule (first_from v 0 (done ++ steps.Instruction j ∷ ss)) (length done)) p (checked (λ x. first_from x 0 (done ++ steps.Instruction j ∷ ss)) (length done + 1) ss ps)) (late_notes above os)
+          → IsFoundAt text (or_later (target_rule (first_from v 0 (done ++ steps.Instruction j ∷ ss)) (length done)) p (first_fault (λ x. first_from x 0 (done ++ steps.Instruction j ∷ ss)) (length done + 1) ss ps)) (late_notes above os)
       branch j v [] m later same = absurd m
       branch j v (Defines w b ∷ os) m later same = absurd m
       branch j v (Branches w b ∷ os) m later same =
-          let after = checked (λ x. first_from x 0 (done ++ steps.Instruction j ∷ ss)) (length done + 1) ss ps in
+          let after = first_fault (λ x. first_from x 0 (done ++ steps.Instruction j ∷ ss)) (length done + 1) ss ps in
           subst (λ (x : List ℕ). IsFoundAt text (or_later (target_rule (first_from v 0 (done ++ steps.Instruction j ∷ ss)) (length done)) p after) (late_notes above (Branches x b ∷ os))) m.0
           (branch_found v j done ss p above b os after h (same os m.2) m.1 (further (steps.Instruction j) done ss ps above os (later os m.2)))
 
       by_kind : (j : Instruction) (os : List Note) → AreMarks text os (instruction_marks j p ++ marks ss ps) → ((ns' : List Note) → AreMarks text ns' (marks ss ps) → Finds (done ++ steps.Instruction j ∷ []) ss ps above ns') → ((ns' : List Note) → AreMarks text ns' (marks ss ps) → defined ns' ≡ labels ss)
-          → IsFoundAt text (or_later (instruction_rule (λ x. first_from x 0 (done ++ steps.Instruction j ∷ ss)) j (length done)) p (checked (λ x. first_from x 0 (done ++ steps.Instruction j ∷ ss)) (length done + 1) ss ps)) (late_notes above os)
+          → IsFoundAt text (or_later (instruction_rule (λ x. first_from x 0 (done ++ steps.Instruction j ∷ ss)) j (length done)) p (first_fault (λ x. first_from x 0 (done ++ steps.Instruction j ∷ ss)) (length done + 1) ss ps)) (late_notes above os)
       by_kind (instructions.BranchIf condition v) os m later same = branch (instructions.BranchIf condition v) v os m later same
       by_kind (instructions.Branch v) os m later same = branch (instructions.Branch v) v os m later same
       by_kind j os m later same = further (steps.Instruction j) done ss ps above os (later os m)

@@ -4,7 +4,7 @@ use Rattle.std.proofs.lemmas.List.{drop_all}
 use Rattle.litmus_tokens.specs.Texts as texts
 use Rattle.litmus_table.specs.declared.late.LateFault.{LateFault}
 use Rattle.litmus_table.specs.declared.late.PlacedThread.{PlacedThread}
-use Rattle.litmus_table.specs.Checks.{first_from, checked, IsFoundAt}
+use Rattle.litmus_table.specs.Checks.{first_from, first_fault, IsFoundAt}
 use Rattle.litmus_table.specs.Late.{Late, Note, or_else, late_notes, first_late}
 use Rattle.litmus_table.specs.Laws.{AreNoted}
 use Rattle.litmus_table.specs.Machine.{Placed}
@@ -13,7 +13,7 @@ use Rattle.litmus_table.proofs.Labels.{late_found}
 
 -- what the checks find in a thread
 abbrev pub found_in : Placed → Option LateFault
-found_in t = checked (λ w. first_from w 0 t.steps) 0 t.steps t.offsets
+found_in t = first_fault (λ w. first_from w 0 t.steps) 0 t.steps t.offsets
 
 module _ (text : List texts.Placed) where
   none_late : (found : Option LateFault) (late : Option Late) → found ≡ None → IsFoundAt text found late → late ≡ None

@@ -50,10 +50,10 @@ or_later None offset later = later
 or_later (Some rule) offset later = Some (record { rule = rule; offset = offset })
 
 -- the first step from this number on that breaks a rule
-abbrev pub checked : (List ℕ → Option ℕ) → ℕ → List Step → List ℕ → Option LateFault
-checked first i [] offsets = None
-checked first i (s ∷ ss) [] = None
-checked first i (s ∷ ss) (p ∷ ps) = or_later (step_rule first s i) p (checked first (i + 1) ss ps)
+abbrev pub first_fault : (List ℕ → Option ℕ) → ℕ → List Step → List ℕ → Option LateFault
+first_fault first i [] offsets = None
+first_fault first i (s ∷ ss) [] = None
+first_fault first i (s ∷ ss) (p ∷ ps) = or_later (step_rule first s i) p (first_fault first (i + 1) ss ps)
 
 -- what was found is what the definitions find, and its byte is where it stands
 abbrev pub IsFoundAt : List texts.Placed → Option LateFault → Option Late → Type 0

@@ -5,7 +5,7 @@ ghost use Rattle.std.specs.Ordering.{nat_cmp};
 ghost use Rattle.std.specs.Cmp.Lexicographic.{slice_cmp};
 ghost use Rattle.std.specs.BTreeMap.{get_by};
 ghost use Rattle.litmus_values.specs.declared.test.Step as declared_step;
-ghost use Rattle.litmus_table.specs.Checks.{AreFirst, first_from, label_rule, target_rule, instruction_rule, step_rule, checked};
+ghost use Rattle.litmus_table.specs.Checks.{AreFirst, first_from, label_rule, target_rule, instruction_rule, step_rule, first_fault};
 ghost use Rattle.litmus_table.specs.Machine.{fresh, noted};
 ghost use Rattle.litmus_table.specs.Reading.{thread_of};
 ghost use Rattle.litmus_table.specs.Within.{AllAtMost, IsFoundWithin};
@@ -73,7 +73,7 @@ impl PlacedThread {
     /// The first step that defines a label again, or that branches to a label that stands before it or
     /// nowhere in the thread; `None` if no step does.
     pub fn check_labels(&self, alloc: Global) -> Result<Option<LateFault>, AllocError>
-        ensures found { IfOk result (λ f. f ≡ checked (λ w. first_from w 0 self.now.steps.items) 0 self.now.steps.items self.now.offsets.items) }
+        ensures found { IfOk result (λ f. f ≡ first_fault (λ w. first_from w 0 self.now.steps.items) 0 self.now.steps.items self.now.offsets.items) }
         ensures within { (n : ℕ) → AllAtMost n self.now.offsets.items → IfOk result (IsFoundWithin n) }
     {
         let definitions = self.definitions(alloc)?;

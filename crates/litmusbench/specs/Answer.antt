@@ -39,12 +39,12 @@ pub record IsLog (model test log : List ℕ) : Type 0 where
 
 -- ---- refusals
 
--- the text means no model, and stops to begin one at this place, by this rule
+-- the text means no model, and is blamed at this offset, by this rule
 pub record IsModelRefused (model : List ℕ) (rule : CatRule) (place : ℕ) : Type 0 where
   pub unread : (v : List cat_value.Clause) → Reads Model model v → ⊥
   pub fault : FaultAt Model model rule place
 
--- the text means no test that the later checks pass, and its fault is here
+-- the text means no test that the later checks pass, and is blamed at this offset, by this rule
 pub record IsTestRefused (test : List ℕ) (rule : LitmusRule) (place : ℕ) : Type 0 where
   pub unread : (v : Content) → ReadsTest test v → ⊥
   pub fault : IsTestFault test rule place

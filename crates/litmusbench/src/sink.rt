@@ -4,7 +4,7 @@ ghost use Rattle.std.specs.Prelude.{◌≡◌, ◌+◌, ◌-◌, ◌<◌, ◌≤
 ghost use Rattle.std.specs.Io.KnownBytes.{Appends, WriteAppends};
 ghost use Rattle.litmusbench.specs.Written.{WritesFront};
 
-use crate::source::CallFailed;
+use session_script::CallFailed;
 use std::io::Write;
 
 /// A sink of bytes, which counts its failed calls.

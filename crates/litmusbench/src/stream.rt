@@ -6,8 +6,8 @@ ghost use Rattle.litmusbench.specs.Answer.{IsAnswer, IsReadFault, IsWritten, IsS
 use crate::cut::cut_at_dot;
 use crate::fault::{EvalFault, SessionFault};
 use crate::sink::{ByteSink, write_whole};
-use crate::source::{ByteSource, ReadFault, read_front};
 use crate::texts::eval;
+use session_script::{ByteSource, ReadFault, read_front};
 use source_text::{put_bytes, put_decimal};
 use std::alloc::{AllocError, Global};
 

@@ -193,7 +193,7 @@ said_later space items n (suc k) cs fs below le gap h =
 
 -- ---- recursive groups
 
-risen_at : (items : List ResolvedItem) (k : ℕ) (r : ResolvedItem) → slice_get items k ≡ Some r → AllByRecursion (λ s. IsRising s.role) items → IsRising r.role
+pub risen_at : (items : List ResolvedItem) (k : ℕ) (r : ResolvedItem) → slice_get items k ≡ Some r → AllByRecursion (λ s. IsRising s.role) items → IsRising r.role
 risen_at [] k r e h = absurd (omega (arith, slice_get_within [] k r e))
 risen_at (x ∷ xs) zero r e h = let f : Some x ≡ Some r = e in let same : x ≡ r = cc in subst (λ (s : ResolvedItem). IsRising s.role) same h.0
 risen_at (x ∷ xs) (suc k) r e h = risen_at xs k r e h.1
@@ -202,7 +202,7 @@ least_by : (recursive : Bool) (bodies : List Body) (inputs : List (Bor Column)) 
 least_by false bodies inputs candidates cs rising h = tt
 least_by true bodies inputs candidates cs rising h = (rising.0, rising.1, λ k one e. h.values k one e rising.0 rising.1 rising.2)
 
-least_of : (role : Role) (inputs : List (Bor Column)) (space : Space) (cs : List Column) → IsRising role → ColumnsOf role inputs space cs → LeastOf role inputs space cs
+pub least_of : (role : Role) (inputs : List (Bor Column)) (space : Space) (cs : List Column) → IsRising role → ColumnsOf role inputs space cs → LeastOf role inputs space cs
 least_of (roles.Group r b) inputs space cs rising h = least_by r b.items inputs (candidates_in space.combinations.items) cs rising h
 least_of (roles.Check c) inputs space cs rising h = tt
 least_of roles.Silent inputs space cs rising h = tt

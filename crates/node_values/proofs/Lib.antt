@@ -1,4 +1,6 @@
+pub mod Counting
 pub mod Finding
 pub mod Making
 pub mod OneVerdict
 pub mod PartTests
+pub mod Sharing

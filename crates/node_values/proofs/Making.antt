@@ -12,7 +12,7 @@ use Rattle.litmus_values.specs.Value.{formula_of}
 use Rattle.ppc_semantics.specs.Lowering.{place_names, entry_names}
 use Rattle.candidates.specs.Space.{shown_in}
 use Rattle.candidates.specs.declared.candidate.Space.{Space}
-use Rattle.binding_graph.specs.declared.resolved.ResolvedItem.{ResolvedItem}
+use Rattle.binding_graph.specs.declared.resolved.Role.{Role}
 use Rattle.cat_eval.specs.declared.column.Column.{Column}
 use Rattle.cat_eval.specs.Columns.{ColumnsOf}
 use Rattle.cat_eval.specs.Values.{AnswersOf}
@@ -20,7 +20,7 @@ use Rattle.verdict.specs.declared.answer.Outcome.{Outcome}
 use Rattle.verdict.specs.declared.judgement.Raised.{Raised}
 use Rattle.verdict.specs.Evaluated.{IsOutcome}
 use Rattle.verdict.specs.Kept.{Flag, of_raised}
-use Rattle.node_values.specs.Items.{item_content}
+use Rattle.node_values.specs.Items.{role_content}
 use Rattle.node_values.specs.Makes.{HasColumns, HasAnswers, IsVerdict}
 use Rattle.node_values.specs.Spaces.{SpaceContent, space_content, no_executions}
 use Rattle.node_values.specs.Values.{NodeContent, first_space, space_of, columns_of, checks_of, flags_of}
@@ -38,7 +38,7 @@ space_missing values s is none = none ∙ ap (λ (o : Option SpaceContent). unwr
 
 -- ---- columns, answers and outcomes over it
 
-pub columns_over : (r : ResolvedItem) (values : List NodeContent) (s : Space) (inputs found : List (Bor Column)) (x : Result (Vec Column Global) AllocError) → space_content s ≡ space_of values → inputs ≡ found → map (λ c. c.now) found ≡ columns_of values → IfOk x (λ v. ColumnsOf r.role inputs s v.items) → IfOk x (λ v. HasColumns (item_content r) (space_of values) (columns_of values) v.items)
+pub columns_over : (r : Role) (values : List NodeContent) (s : Space) (inputs found : List (Bor Column)) (x : Result (Vec Column Global) AllocError) → space_content s ≡ space_of values → inputs ≡ found → map (λ c. c.now) found ≡ columns_of values → IfOk x (λ v. ColumnsOf r inputs s v.items) → IfOk x (λ v. HasColumns (role_content r) (space_of values) (columns_of values) v.items)
 columns_over r values s inputs found (Ok v) over same are made = record {
   read = r;
   reading = refl;
@@ -50,7 +50,7 @@ columns_over r values s inputs found (Ok v) over same are made = record {
 }
 columns_over r values s inputs found (Err e) over same are made = tt
 
-pub answers_over : (r : ResolvedItem) (values : List NodeContent) (s : Space) (inputs found : List (Bor Column)) (x : Result (Vec Bool Global) AllocError) → space_content s ≡ space_of values → inputs ≡ found → map (λ c. c.now) found ≡ columns_of values → IfOk x (λ v. AnswersOf r.role inputs s v.items) → IfOk x (λ v. HasAnswers (item_content r) (space_of values) (columns_of values) v.items)
+pub answers_over : (r : Role) (values : List NodeContent) (s : Space) (inputs found : List (Bor Column)) (x : Result (Vec Bool Global) AllocError) → space_content s ≡ space_of values → inputs ≡ found → map (λ c. c.now) found ≡ columns_of values → IfOk x (λ v. AnswersOf r inputs s v.items) → IfOk x (λ v. HasAnswers (role_content r) (space_of values) (columns_of values) v.items)
 answers_over r values s inputs found (Ok v) over same are made = record {
   read = r;
   reading = refl;

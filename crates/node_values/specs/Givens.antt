@@ -5,7 +5,7 @@ use Rattle.litmus_values.specs.declared.test.Place.{Place}
 use Rattle.litmus_values.specs.declared.test.Quantifier.{Quantifier}
 use Rattle.litmus_values.specs.Value.{Formula, formula_of}
 use Rattle.binding_kinds.specs.declared.fault.ModelFault.{ModelFault}
-use Rattle.node_values.specs.Items.{ItemContent}
+use Rattle.node_values.specs.Items.{RoleContent}
 use Rattle.node_values.specs.Parts.{SpacePartsContent}
 
 -- a condition, the observables that are shown beside its own, and the names of the model's flags
@@ -28,8 +28,9 @@ asked condition observed flags = record { kind = condition.quantifier; propositi
 abbrev pub faulted : Condition → ModelFault → FaultPartsContent
 faulted condition fault = record { kind = condition.quantifier; proposition = formula_of condition.proposition; fault = fault }
 
+-- An item is given as what it does, wherever it stands among the items.
 pub data GivenContent : Type 0 where
   ForSpace : (parts : SpacePartsContent) → GivenContent
-  ForItem : (item : ItemContent) → GivenContent
+  ForItem : (role : RoleContent) → GivenContent
   ForVerdict : (parts : VerdictPartsContent) → GivenContent
   ForFault : (parts : FaultPartsContent) → GivenContent

@@ -1,45 +1,16 @@
--- A resolved item as plain data.
-use Rattle.std.specs.Prelude.{ℕ, Bool, List, map, Option}
-use Rattle.cat_values.specs.declared.model.CheckWord.{CheckWord}
-use Rattle.binding_kinds.specs.declared.kinds.Kind.{Kind}
-use Rattle.binding_kinds.specs.declared.scope.Input.{Input}
-use Rattle.binding_graph.specs.declared.resolved.Body.{Body}
-use Rattle.binding_graph.specs.declared.resolved.Code.{Code}
+-- What an item does, as plain data.
+use Rattle.std.specs.Prelude.{ℕ, List, [], ◌∷◌, zero, suc}
+use Rattle.std.specs.Arc.{arc_value}
+pub use Rattle.binding_graph.specs.Contents.{CodeContent, BodyContent, RoleContent, Group, Check, Silent, code_content, body_content, role_content}
 use Rattle.binding_graph.specs.declared.resolved.ResolvedItem.{ResolvedItem}
-use Rattle.binding_graph.specs.declared.resolved.Role.{Role}
-use Rattle.binding_graph.specs.declared.resolved.Role.TheVariants as roles
-use Rattle.binding_graph.specs.declared.resolved.Step.{Step}
+use Rattle.node_values.specs.declared.items.SharedItem.{SharedItem}
 
--- an expression of a kind, as steps
-pub record CodeContent : Type 0 where
-  pub kind : Kind
-  pub steps : List Step
+-- what the item at an index does, nothing where none is there
+abbrev pub role_at : List ResolvedItem → ℕ → RoleContent
+role_at [] i = Silent
+role_at (r ∷ rs) zero = role_content r.role
+role_at (r ∷ rs) (suc i) = role_at rs i
 
-pub record BodyContent : Type 0 where
-  pub name : List ℕ
-  pub code : CodeContent
-
-pub data RoleContent : Type 0 where
-  Group : (recursive : Bool) (bodies : List BodyContent) → RoleContent
-  Check : (negated : Bool) (word : CheckWord) (code : CodeContent) (flag : Option (List ℕ)) → RoleContent
-  Silent : RoleContent
-
--- what an item does, the names of other items that it uses, and the functions that it applies
-pub record ItemContent : Type 0 where
-  pub role : RoleContent
-  pub inputs : List Input
-  pub functions : List ℕ
-
-abbrev pub code_content : Code → CodeContent
-code_content c = record { kind = c.kind; steps = c.steps.items }
-
-abbrev pub body_content : Body → BodyContent
-body_content b = record { name = b.name; code = code_content b.code }
-
-abbrev pub role_content : Role → RoleContent
-role_content (roles.Group recursive bodies) = Group recursive (map body_content bodies.items)
-role_content (roles.Check c) = Check c.negated c.word (code_content c.code) c.flag
-role_content roles.Silent = Silent
-
-abbrev pub item_content : ResolvedItem → ItemContent
-item_content r = record { role = role_content r.role; inputs = r.inputs.items; functions = r.functions.items }
+-- what an item of a model does
+abbrev pub shared_role : SharedItem → RoleContent
+shared_role s = role_at (arc_value s.resolved).items.items s.index

@@ -1,11 +1,11 @@
 -- LAWS of what nodes give: what `laws` states.
-use Rattle.std.specs.Prelude.{◌≡◌, List}
+use Rattle.std.specs.Prelude.{◌≡◌, length, List}
 use Rattle.litmus_values.specs.declared.test.Test.{Test}
 use Rattle.candidates.specs.declared.candidate.Space.{Space}
 use Rattle.candidates.specs.declared.fault.EvalRefusal.{EvalRefusal}
 use Rattle.candidates.specs.Listed.{ListsExecutions, IsRefusal}
-use Rattle.node_values.specs.Givens.{VerdictPartsContent, ForVerdict}
-use Rattle.node_values.specs.Makes.{Makes}
+use Rattle.node_values.specs.Givens.{VerdictPartsContent, GivenContent, ForVerdict}
+use Rattle.node_values.specs.Makes.{Makes, output_count}
 use Rattle.node_values.specs.Parts.{SpacePartsContent, HasParts, IsPartSpace, IsPartRefusal}
 use Rattle.node_values.specs.Spaces.{SpaceContent, space_content}
 use Rattle.node_values.specs.Values.{NodeContent}
@@ -27,3 +27,7 @@ IsOfEachTest parts t = HasParts parts t → ((s : SpaceContent) → IsPartSpace 
 -- a verdict gives one outcome, from the values of its inputs
 abbrev pub HasOneVerdict : VerdictPartsContent → List NodeContent → Type 0
 HasOneVerdict parts values = (a b : List NodeContent) → Makes (ForVerdict parts) values a → Makes (ForVerdict parts) values b → a ≡ b
+
+-- a node gives so many values, whatever those of its inputs are
+abbrev pub HasCount : GivenContent → Type 0
+HasCount given = (values outputs : List NodeContent) → Makes given values outputs → length outputs ≡ output_count given

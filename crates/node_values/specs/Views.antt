@@ -1,6 +1,6 @@
 -- What contracts see of what is held and of what is given.
 use Rattle.node_values.specs.Givens.{asked, faulted, VerdictPartsContent, FaultPartsContent, GivenContent, ForSpace, ForItem, ForVerdict, ForFault}
-use Rattle.node_values.specs.Items.{item_content}
+use Rattle.node_values.specs.Items.{shared_role}
 use Rattle.node_values.specs.Parts.{SpacePartsContent, parts_of}
 use Rattle.node_values.specs.Spaces.{space_content}
 use Rattle.node_values.specs.Values.{NodeContent, OfSpace, OfRefusal, OfColumn, OfCheck, OfFlag, OfOutcome}
@@ -31,6 +31,6 @@ fault_parts p = faulted p.condition p.fault
 
 abbrev pub given_content : GivenParts → GivenContent
 given_content (givens.Space parts) = ForSpace (space_parts parts)
-given_content (givens.Item item) = ForItem (item_content item)
+given_content (givens.Item item) = ForItem (shared_role item)
 given_content (givens.Verdict parts) = ForVerdict (verdict_parts parts)
 given_content (givens.Fault parts) = ForFault (fault_parts parts)

@@ -3,14 +3,15 @@
 ghost use Rattle.std.specs.Prelude.{◌≡◌, ◌↔◌, IsTrue, IfOk};
 ghost use Rattle.litmus_values.specs.Value.{formula_of};
 ghost use Rattle.node_values.specs.Givens.{ForSpace, ForItem, ForVerdict, ForFault, asked, faulted};
-ghost use Rattle.node_values.specs.Items.{item_content};
+ghost use Rattle.node_values.specs.Items.{role_content};
 ghost use Rattle.node_values.specs.Parts.{parts_of};
 ghost use Rattle.node_values.specs.Views.{given_content};
 
+use crate::items::SharedItem;
 use crate::same::{
-    same_entries, same_item, same_names, same_places, same_proposition, same_threads,
+    same_entries, same_names, same_places, same_proposition, same_role, same_threads,
 };
-use binding_graph::{ModelFault, ResolvedItem};
+use binding_graph::{ModelFault, Role};
 use litmus_values::{Condition, InitEntry, Place, Thread};
 use source_text::Name;
 use std::alloc::{AllocError, Global};
@@ -53,8 +54,8 @@ pub struct FaultParts {
 pub enum GivenParts {
     /// What the space of a test is given.
     Space(SpaceParts),
-    /// What a group, a check or a flag is given: the item as it is read.
-    Item(ResolvedItem),
+    /// What a group, a check or a flag is given: an item, of which contracts see what it does.
+    Item(SharedItem),
     /// What a verdict is given.
     Verdict(VerdictParts),
     /// What a verdict is given under a model with a fault.
@@ -104,12 +105,12 @@ impl GivenParts {
         }
     }
 
-    fn is_item(&self, item: &ResolvedItem) -> bool
-        ensures { IsTrue result ↔ (ForItem (item_content item.now) ≡ given_content self.now) }
+    fn is_item(&self, role: &Role) -> bool
+        ensures { IsTrue result ↔ (ForItem (role_content role.now) ≡ given_content self.now) }
     {
         match self {
             GivenParts::Space(_) => false,
-            GivenParts::Item(other) => same_item(item, other),
+            GivenParts::Item(item) => same_role(role, &item.item().role),
             GivenParts::Verdict(_) => false,
             GivenParts::Fault(_) => false,
         }
@@ -170,11 +171,11 @@ impl Given {
         self.parts.is_space(init, threads, locations)
     }
 
-    /// Whether it is what a group, a check or a flag is given that is read so.
-    pub fn is_item(&self, item: &ResolvedItem) -> bool
-        ensures { IsTrue result ↔ (ForItem (item_content item.now) ≡ self.now) }
+    /// Whether it is what a group, a check or a flag is given that does this.
+    pub fn is_item(&self, role: &Role) -> bool
+        ensures { IsTrue result ↔ (ForItem (role_content role.now) ≡ self.now) }
     {
-        self.parts.is_item(item)
+        self.parts.is_item(role)
     }
 
     /// Whether it is what a verdict is given with this condition, these observables and these names of flags.

@@ -2,8 +2,8 @@
 
 ghost use Rattle.std.specs.Prelude.{List};
 ghost use Rattle.litmus_values.specs.declared.test.Test.{Test};
-ghost use Rattle.node_values.specs.Laws.{HasOneSpace, IsOfEachTest, HasOneVerdict};
-ghost use Rattle.node_values.specs.Givens.{VerdictPartsContent};
+ghost use Rattle.node_values.specs.Laws.{HasOneSpace, IsOfEachTest, HasOneVerdict, HasCount};
+ghost use Rattle.node_values.specs.Givens.{VerdictPartsContent, GivenContent};
 ghost use Rattle.node_values.specs.Parts.{SpacePartsContent};
 ghost use Rattle.node_values.specs.Values.{NodeContent};
 
@@ -20,4 +20,9 @@ pub fn space_is_of_each_test()
 /// A verdict gives one outcome, from the values of its inputs.
 pub fn verdict_is_one()
     ensures { (parts : VerdictPartsContent) (values : List NodeContent) → HasOneVerdict parts values }
+{}
+
+/// How many values a node gives is known of what it is given.
+pub fn count_is_known()
+    ensures { (given : GivenContent) → HasCount given }
 {}

@@ -3,13 +3,16 @@
 //! value is, then `specs/Makes`, what a node gives.
 #![tactic(auto)]
 
-mod copies;
+mod give;
 mod given;
+mod items;
 pub mod laws;
 mod run;
 mod same;
 mod value;
 
 pub use given::{FaultParts, Given, GivenParts, SpaceParts, VerdictParts};
+pub use items::SharedItem;
 pub use run::run_node;
+pub use same::same_role;
 pub use value::{Held, NodeValue};

@@ -7,14 +7,13 @@ ghost use Rattle.candidates.specs.declared.fault.EvalRefusal.{EvalRefusal};
 ghost use Rattle.verdict.specs.declared.answer.Outcome.{Outcome};
 ghost use Rattle.verdict.specs.declared.answer.Refusal.TheVariants as refusals;
 ghost use Rattle.verdict.specs.Kept.{of_raised};
-ghost use Rattle.node_values.specs.Items.{item_content};
+ghost use Rattle.node_values.specs.Items.{role_content};
 ghost use Rattle.node_values.specs.Makes.{IsSpaceValue, IsMadeBy, HasColumns, HasAnswers, IsVerdict, IsVerdictOver, refused, Makes};
 ghost use Rattle.node_values.specs.Parts.{HasParts};
 ghost use Rattle.node_values.specs.Spaces.{space_content, no_executions};
 ghost use Rattle.node_values.specs.Values.{NodeContent, OfColumn, OfOutcome, first_space, space_of, refusal_of, columns_of, checks_of, flags_of};
 ghost use Rattle.node_values.specs.Views.{held_content, given_content, space_parts, verdict_parts, fault_parts};
 
-use crate::copies::{copied_entries, copied_threads};
 use crate::given::{FaultParts, Given, GivenParts, SpaceParts, VerdictParts};
 use crate::value::NodeValue;
 use binding_graph::{ResolvedItem, Role};
@@ -22,6 +21,7 @@ use candidates::{EvalRefusal, Space, SpaceFault, space};
 use cat_eval::{Column, eval_check, eval_group};
 use litmus_printing::print_condition;
 use litmus_values::{Condition, Place, Proposition, Quantifier, Test};
+use part_copies::{copied_entries, copied_threads};
 use source_text::Name;
 use std::alloc::{AllocError, Global};
 use verdict::{Outcome, OutcomeResult, Raised, Refusal, outcome};
@@ -170,7 +170,7 @@ fn group_columns<'v>(
     item: &'v ResolvedItem,
     values: &[&'v NodeValue],
 ) -> Result<Vec<Column>, AllocError>
-    ensures { let given = map (λ v. v.now) values.now in IfOk result (λ v. HasColumns (item_content item.now) (space_of given) (columns_of given) v.items) }
+    ensures { let given = map (λ v. v.now) values.now in IfOk result (λ v. HasColumns (role_content item.now.role) (space_of given) (columns_of given) v.items) }
 {
     let inputs = columns_of(alloc, values)?;
     match first_space(values) {
@@ -184,7 +184,7 @@ fn check_answers<'v>(
     item: &'v ResolvedItem,
     values: &[&'v NodeValue],
 ) -> Result<Vec<bool>, AllocError>
-    ensures { let given = map (λ v. v.now) values.now in IfOk result (λ v. HasAnswers (item_content item.now) (space_of given) (columns_of given) v.items) }
+    ensures { let given = map (λ v. v.now) values.now in IfOk result (λ v. HasAnswers (role_content item.now.role) (space_of given) (columns_of given) v.items) }
 {
     let inputs = columns_of(alloc, values)?;
     match first_space(values) {
@@ -198,7 +198,7 @@ fn item_values<'v>(
     item: &'v ResolvedItem,
     values: &[&'v NodeValue],
 ) -> Result<Vec<NodeValue>, AllocError>
-    ensures { let given = map (λ v. v.now) values.now in IfOk result (λ v. IsMadeBy (item_content item.now).role (item_content item.now) (space_of given) (columns_of given) v.items) }
+    ensures { let given = map (λ v. v.now) values.now in IfOk result (λ v. IsMadeBy (role_content item.now.role) (space_of given) (columns_of given) v.items) }
 {
     match &item.role {
         Role::Group { .. } => {
@@ -268,7 +268,7 @@ fn made<'v>(
 {
     match parts {
         GivenParts::Space(parts) => one_value(alloc, space_value(alloc, parts)?),
-        GivenParts::Item(item) => item_values(alloc, item, values),
+        GivenParts::Item(item) => item_values(alloc, item.item(), values),
         GivenParts::Verdict(parts) => {
             let outcome = verdict_over(alloc, parts, values)?;
             one_value(alloc, NodeValue::of_outcome(outcome))

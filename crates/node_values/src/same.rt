@@ -2,9 +2,9 @@
 
 ghost use Rattle.std.specs.Prelude.{◌≡◌, ◌↔◌, IsTrue, map};
 ghost use Rattle.litmus_values.specs.Value.{formula_of, steps_of};
-ghost use Rattle.node_values.specs.Items.{code_content, body_content, role_content, item_content};
+ghost use Rattle.node_values.specs.Items.{code_content, body_content, role_content};
 
-use binding_graph::{Body, CheckCode, Code, Input, ResolvedItem, Role, Source, Step as CodeStep};
+use binding_graph::{Body, CheckCode, Code, Role, Source, Step as CodeStep};
 use cat_values::Predefined;
 use litmus_values::{InitEntry, Instruction, Place, Proposition, Step, Thread, Value};
 use source_text::Name;
@@ -460,7 +460,8 @@ fn same_check(this: &CheckCode, that: &CheckCode) -> bool
         && same_label(&this.flag, &that.flag)
 }
 
-fn same_role(this: &Role, that: &Role) -> bool
+/// Whether items do the same.
+pub fn same_role(this: &Role, that: &Role) -> bool
     ensures { IsTrue result ↔ (role_content this.now ≡ role_content that.now) }
 {
     match this {
@@ -483,39 +484,4 @@ fn same_role(this: &Role, that: &Role) -> bool
             Role::Silent => true,
         },
     }
-}
-
-fn same_input(this: &Input, that: &Input) -> bool
-    ensures { IsTrue result ↔ (this.now ≡ that.now) }
-{
-    this.item == that.item && this.position == that.position
-}
-
-fn same_inputs(these: &[Input], those: &[Input]) -> bool
-    ensures { IsTrue result ↔ (these.now ≡ those.now) }
-{
-    if these.len() != those.len() {
-        return false;
-    }
-    for (this, that) in these.iter().zip(those.iter()) {
-        if !same_input(this, that) {
-            return false;
-        }
-    }
-    true
-}
-
-fn same_numbers(these: &[usize], those: &[usize]) -> bool
-    ensures { IsTrue result ↔ (these.now ≡ those.now) }
-{
-    these == those
-}
-
-/// Whether the items are read the same.
-pub fn same_item(this: &ResolvedItem, that: &ResolvedItem) -> bool
-    ensures { IsTrue result ↔ (item_content this.now ≡ item_content that.now) }
-{
-    same_role(&this.role, &that.role)
-        && same_inputs(&this.inputs, &that.inputs)
-        && same_numbers(&this.functions, &that.functions)
 }

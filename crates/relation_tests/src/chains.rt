@@ -8,7 +8,7 @@ use std::io;
 const COUNTS: [usize; 9] = [1, 7, 8, 9, 63, 64, 65, 127, 128];
 
 /// The relation of each event to the next.
-fn chain(count: usize) -> Rel
+pub fn chain(count: usize) -> Rel
     requires { count ≤ 128 }
     ensures { result.count ≡ count }
 {

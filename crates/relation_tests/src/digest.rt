@@ -60,3 +60,12 @@ pub fn show_set<R: Print>(rt: &R, name: &str, set: &EventSet) -> io::Result<()> 
     }
     println!(rt; "{name}: {} events, {}", digest.count, digest.number)
 }
+
+/// Prints events in order.
+pub fn show_events<R: Print>(rt: &R, name: &str, events: &[usize]) -> io::Result<()> {
+    let mut digest = Digest::new();
+    for event in events {
+        digest = digest.with(*event);
+    }
+    println!(rt; "{name}: {} events, {}", digest.count, digest.number)
+}

@@ -4,6 +4,7 @@
 #![tactic(auto)]
 
 mod chains;
+mod cycles;
 mod digest;
 mod operations;
 mod packed;
@@ -14,7 +15,8 @@ use std::io;
 fn run<R: Print + AllocGlobal>(rt: &R) -> io::Result<()> {
     operations::show(rt)?;
     chains::show(rt)?;
-    packed::show(rt)
+    packed::show(rt)?;
+    cycles::show(rt)
 }
 
 fn main(rt: HostRuntime) -> io::Result<()> {

@@ -133,10 +133,10 @@ fn put_named_pairs(
 fn put_links_of(alloc: Global, answer: &mut Vec<u8>, run: &Run) -> Result<(), AllocError> {
     put_events(answer, run)?;
     let found = links(alloc, run)?;
-    put_named_pairs(answer, b"; addr ", &found.addr_pairs)?;
-    put_named_pairs(answer, b"; data ", &found.data_pairs)?;
-    put_named_pairs(answer, b"; ctrl ", &found.ctrl_pairs)?;
-    put_named_pairs(answer, b"; ctrlisync ", &found.ctrlisync_pairs)?;
+    put_named_pairs(answer, b"; addr ", &found.dependencies.addr_pairs)?;
+    put_named_pairs(answer, b"; data ", &found.dependencies.data_pairs)?;
+    put_named_pairs(answer, b"; ctrl ", &found.dependencies.ctrl_pairs)?;
+    put_named_pairs(answer, b"; ctrlisync ", &found.dependencies.ctrlisync_pairs)?;
     put_named_pairs(answer, b"; need ", &found.need_pairs)
 }
 

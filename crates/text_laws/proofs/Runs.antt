@@ -4,8 +4,8 @@ use Rattle.std.specs.Prelude.{slice_index, ◌==◌, ◌&&◌, ◌||◌, not, if
 use Rattle.std.specs.List.{position_or_len}
 use Rattle.std.proofs.lemmas.Bool.{cases_lt}
 use Rattle.std.proofs.lemmas.Bool.Decides.{nat_tests}
-use Rattle.std.proofs.lemmas.List.{length-take, get_or-take, get_or_append_left, take_more}
-use Rattle.std.proofs.lemmas.List.Sums.{fails_before_first, passes_at_first, prefix_len-le-length}
+use Rattle.std.proofs.lemmas.List.{length-take, length-append, get_or-take, get_or_append_left, take_more}
+use Rattle.std.proofs.lemmas.List.Sums.{fails_before_first, passes_at_first, prefix_len-le-length, position_or_len_is}
 use Rattle.source_text.specs.Layout.{is_quote}
 use Rattle.text_laws.specs.Comments.{LacksQuote}
 use Rattle.text_laws.proofs.Nesting.{equal}
@@ -107,3 +107,23 @@ or_second false y e = e
 pub seam : (xs ys : List ℕ) → get_or (xs ++ ys) (length xs) 0 ≡ get_or ys 0 0
 seam [] ys = refl
 seam (x ∷ xs) ys = seam xs ys
+
+pub when_true : {A : Type 0} (x : Bool) (a b : A) → x ≡ true → (if x then a else b) ≡ a
+when_true x a b e = ap (λ (y : Bool). if y then a else b) e
+
+pub when_false : {A : Type 0} (x : Bool) (a b : A) → x ≡ false → (if x then a else b) ≡ b
+when_false x a b e = ap (λ (y : Bool). if y then a else b) e
+
+-- a test fails that cannot pass
+pub fails : (x : Bool) → (x ≡ true → ⊥) → x ≡ false
+fails true h = absurd (h refl)
+fails false h = refl
+
+-- where the first quote stands
+pub quote_size : (inside rest : List ℕ) → LacksQuote inside → position_or_len is_quote (inside ++ 34 ∷ rest) ≡ length inside
+quote_size inside rest lacks =
+    let l = length-append inside (34 ∷ rest) in
+    position_or_len_is is_quote (inside ++ 34 ∷ rest) (length inside) 0 (omega arith) (λ k lt. ap is_quote (get_or_append_left inside (34 ∷ rest) 0 k lt) ∙ lacks k lt) (λ _. ap is_quote (seam inside (34 ∷ rest)))
+
+pub open_size : (inside : List ℕ) → LacksQuote inside → position_or_len is_quote inside ≡ length inside
+open_size inside lacks = position_or_len_is is_quote inside (length inside) 0 (omega arith) (λ k lt. lacks k lt) (λ lt. absurd (omega arith))

@@ -15,10 +15,7 @@ returns c = λ threads k t is.
     let last = c.order.new.self in
     let same : HasSame mine k = record {
       events = facts.events ∙ is.events;
-      addr = facts.addr_pairs ∙ is.addr_pairs;
-      data_pairs = facts.data_pairs ∙ is.data_pairs;
-      ctrl = facts.ctrl_pairs ∙ is.ctrl_pairs;
-      ctrlisync = facts.ctrlisync_pairs ∙ is.ctrlisync_pairs;
+      dependencies = facts.dependencies ∙ is.dependencies;
     } in
     let count : last.count ≡ first.count = c.order.ensures.count ∙ c.read_from.ensures.count in
     let sets : last.sets ≡ first.sets = c.order.ensures.sets ∙ c.read_from.ensures.sets in

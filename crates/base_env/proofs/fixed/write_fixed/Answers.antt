@@ -23,16 +23,16 @@ pub returns-in-Internal : goal.returns-in-Internal
 returns-in-Internal c = rw c.in-Internal.is (linked_is c.args.combination.now names.Internal (λ a b. ((λ h. h), (λ h. h))) c.clear.ensures (rw (c.in-Internal.is, c.as_slice-events.ensures.value) at c.put_linked-in-Internal.ensures))
 
 pub returns-in-AddressDependency : goal.returns-in-AddressDependency
-returns-in-AddressDependency c = rw c.in-AddressDependency.is (from_nothing (Listed c.args.combination.now.addr_pairs.items) c.clear.ensures (rw c.deref.ensures.value at c.put_pairs.ensures))
+returns-in-AddressDependency c = rw c.in-AddressDependency.is (from_nothing (Listed c.args.combination.now.dependencies.addr_pairs.items) c.clear.ensures (rw c.deref.ensures.value at c.put_pairs.ensures))
 
 pub returns-in-DataDependency : goal.returns-in-DataDependency
-returns-in-DataDependency c = rw c.in-DataDependency.is (from_nothing (Listed c.args.combination.now.data_pairs.items) c.clear.ensures (rw c.deref-in-DataDependency.ensures.value at c.put_pairs-in-DataDependency.ensures))
+returns-in-DataDependency c = rw c.in-DataDependency.is (from_nothing (Listed c.args.combination.now.dependencies.data_pairs.items) c.clear.ensures (rw c.deref-in-DataDependency.ensures.value at c.put_pairs-in-DataDependency.ensures))
 
 pub returns-in-ControlDependency : goal.returns-in-ControlDependency
-returns-in-ControlDependency c = rw c.in-ControlDependency.is (from_nothing (Listed c.args.combination.now.ctrl_pairs.items) c.clear.ensures (rw c.deref-in-ControlDependency.ensures.value at c.put_pairs-in-ControlDependency.ensures))
+returns-in-ControlDependency c = rw c.in-ControlDependency.is (from_nothing (Listed c.args.combination.now.dependencies.ctrl_pairs.items) c.clear.ensures (rw c.deref-in-ControlDependency.ensures.value at c.put_pairs-in-ControlDependency.ensures))
 
 pub returns-in-ControlIsyncDependency : goal.returns-in-ControlIsyncDependency
-returns-in-ControlIsyncDependency c = rw c.in-ControlIsyncDependency.is (from_nothing (Listed c.args.combination.now.ctrlisync_pairs.items) c.clear.ensures (rw c.deref-in-ControlIsyncDependency.ensures.value at c.put_pairs-in-ControlIsyncDependency.ensures))
+returns-in-ControlIsyncDependency c = rw c.in-ControlIsyncDependency.is (from_nothing (Listed c.args.combination.now.dependencies.ctrlisync_pairs.items) c.clear.ensures (rw c.deref-in-ControlIsyncDependency.ensures.value at c.put_pairs-in-ControlIsyncDependency.ensures))
 
 pub returns-in-SyncOrder : goal.returns-in-SyncOrder
 returns-in-SyncOrder c = rw c.in-SyncOrder.is (from_nothing (Fenced c.args.combination.now.events.items Sync) c.clear.ensures (rw c.as_slice-events.ensures.value at c.put_fenced.ensures))

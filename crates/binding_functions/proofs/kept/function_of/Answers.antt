@@ -18,10 +18,10 @@ returns-clause-kept c = λ ss kept few.
       arity = refl;
       few = few;
       kinds = λ kinds long. c.in_ok-signatures.ensures ss kinds kept long (omega (arith, few, long));
-      under = λ place lt. c.complemented.ensures ss place kept (omega (arith, few, lt));
+      under = λ index lt. c.complemented.ensures ss index kept (omega (arith, few, lt));
       within = formula_within ss names ps (term_of c.args.body.now);
       large = whole.large;
       template = whole.fits;
       constant = λ e. c.count_parts-constant.ensures.constant ∙ (ap (λ (l : List Piece). count_by is_no_parameter l) (v ∙ whole.fits e) ∙ constant_postfix formula);
-      factor = λ e place lt. c.count_parts-constant.ensures.factors place (omega (arith, few, lt)) ∙ (ap (λ (l : List Piece). count_by (is_parameter_at place) l) (v ∙ whole.fits e) ∙ factor_postfix place formula);
+      factor = λ e index lt. c.count_parts-constant.ensures.factors index (omega (arith, few, lt)) ∙ (ap (λ (l : List Piece). count_by (is_parameter_at index) l) (v ∙ whole.fits e) ∙ factor_postfix index formula);
     }

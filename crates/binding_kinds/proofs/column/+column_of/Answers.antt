@@ -7,17 +7,17 @@ use Rattle.binding_kinds.specs.Columns.{none_gathered, signature_in, gathered_in
 use Rattle.binding_kinds.proofs.Tables.{terms_in, filled_as, gathered_more, gathered_small, of_joined, of_marked, of_on, of_none, of_function}
 use Rattle.binding_kinds.proofs.column.+column_of.Goals as goal
 
-pub loop-place-preserved : goal.loop-place-preserved
-loop-place-preserved t c = λ ss kept arity few count.
+pub loop-index-preserved : goal.loop-index-preserved
+loop-index-preserved t c = λ ss kept arity few count.
     let names = reverse (map entry_of c.args.sight.now.entries.now) in
     let ps = c.args.sight.now.parameters.now in
     let xs = c.deref-argument-items.result.now in
-    let p = c.loop-place.place in
+    let p = c.loop-index.index in
     let e = c.argument-item.result in
-    let lt : p < length xs = omega (arith, c.loop-place-test.true) in
+    let lt : p < length xs = omega (arith, c.loop-index-test.true) in
     filled_as none_gathered c.args.arity (3 ^ c.args.arity) _ _ c.in_ok-all-in-Some-2.all.items (λ ks long. gathered_more ss names ps xs p e ks lt c.argument-item.is)
     (c.in_ok-all-in-Some-2.ensures c.args.arity (gathered_in ss names ps (terms_in (take p xs))) (signature_in ss names ps (values.term_of e)) (omega (arith, lt, count)) (λ ks. gathered_small ss names ps xs p ks count)
-    (rw c.deref-in-loop-place.ensures.value (c.loop-place.invariant ss kept arity few count)) (rw c.deref-in-loop-place-2.ensures.value (c.in_ok-one-in-Some.ensures ss kept arity few)))
+    (rw c.deref-in-loop-index.ensures.value (c.loop-index.invariant ss kept arity few count)) (rw c.deref-in-loop-index-2.ensures.value (c.in_ok-one-in-Some.ensures ss kept arity few)))
 
 pub returns-in_ok-second-in-Joined : goal.returns-in_ok-second-in-Joined
 returns-in_ok-second-in-Joined t c = λ ss kept arity few.
@@ -53,16 +53,16 @@ returns-in-None t c = λ ss kept arity few.
     of_none ss (reverse (map entry_of c.args.sight.now.entries.now)) c.args.sight.now.parameters.now c.args.term.now c.in-Applied.name c.in-Applied.arguments c.len.result c.args.arity c.constant-in-None.result
     c.in-Applied.is (let k = c.in-Applied.arguments.ok in let m = c.len.ensures in omega (arith, k, m)) (c.in-None.ensures ss kept) (c.constant-in-None.ensures few)
 
-pub returns-after-loop-place : goal.returns-after-loop-place
-returns-after-loop-place t c = λ ss kept arity few.
+pub returns-after-loop-index : goal.returns-after-loop-index
+returns-after-loop-index t c = λ ss kept arity few.
     let names = reverse (map entry_of c.args.sight.now.entries.now) in
     let ps = c.args.sight.now.parameters.now in
     let xs = c.deref-argument-items.result.now in
-    let p = c.loop-place.place in
+    let p = c.loop-index.index in
     let h = c.in-Some.ensures ss kept in
     let v = c.deref-argument-items.ensures.value in
     let count : c.len.result ≡ length c.in-Applied.arguments.items = let k = c.in-Applied.arguments.ok in let m = c.len.ensures in omega (arith, k, m) in
     let long : length xs ≤ 8 = let l = ap length v in let f = h.3.few in let a = h.2 in omega (arith, l, f, a, count) in
     of_function ss names ps c.args.term.now c.in-Applied.name c.in-Applied.arguments (take p xs) c.len.result c.args.arity c.in-Some.function.now h.0 c.applied_column.result
-    c.in-Applied.is count (take_all p xs (omega (arith, c.loop-place-test.false)) ∙ v) h.1 h.2 h.3
-    (c.applied_column.ensures c.args.arity (gathered_in ss names ps (terms_in (take p xs))) (rw c.deref-in-Some.ensures.value (c.loop-place.invariant ss kept arity few long)))
+    c.in-Applied.is count (take_all p xs (omega (arith, c.loop-index-test.false)) ∙ v) h.1 h.2 h.3
+    (c.applied_column.ensures c.args.arity (gathered_in ss names ps (terms_in (take p xs))) (rw c.deref-in-Some.ensures.value (c.loop-index.invariant ss kept arity few long)))

@@ -11,8 +11,8 @@ use Rattle.binding_kinds.proofs.column.named.Goals as goal
 pub returns-in-Some : goal.returns-in-Some
 returns-in-Some c = λ arity few.
     let is = c.in-Some.ensures in
-    IfOk-weaker c.of_parameter.result _ _ (λ v h. filled_as unknown c.args.arity (3 ^ c.args.arity) _ _ v.items (λ ks long. ap plain (parameter_kind c.args.sight.now.parameters.now ks (reverse (map entry_of c.args.sight.now.entries.now)) c.args.name.now c.in-Some.place (long ∙ arity) is)) h)
-    (c.of_parameter.ensures OfAny few (let lt = parameter_below c.args.sight.now.parameters.now c.args.name.now c.in-Some.place is in omega (arith, lt, arity)))
+    IfOk-weaker c.of_parameter.result _ _ (λ v h. filled_as unknown c.args.arity (3 ^ c.args.arity) _ _ v.items (λ ks long. ap plain (parameter_kind c.args.sight.now.parameters.now ks (reverse (map entry_of c.args.sight.now.entries.now)) c.args.name.now c.in-Some.index (long ∙ arity) is)) h)
+    (c.of_parameter.ensures OfAny few (let lt = parameter_below c.args.sight.now.parameters.now c.args.name.now c.in-Some.index is in omega (arith, lt, arity)))
 
 pub returns-in-None : goal.returns-in-None
 returns-in-None c = λ arity few.

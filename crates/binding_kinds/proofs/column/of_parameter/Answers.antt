@@ -5,10 +5,10 @@ use Rattle.binding_kinds.proofs.Tables.{filled_more, filled_at}
 use Rattle.binding_kinds.proofs.column.of_parameter.Goals as goal
 
 pub loop-combination-preserved : goal.loop-combination-preserved
-loop-combination-preserved c = λ other few lt. filled_more unknown c.args.arity c.loop-combination.combination (λ ks. plain (get_or ks c.args.place other)) c.loop-combination.column.items c.push.new.self.items c.plain.result c.in_ok-push.ensures.items (c.loop-combination.invariant other few lt)
+loop-combination-preserved c = λ other few lt. filled_more unknown c.args.arity c.loop-combination.combination (λ ks. plain (get_or ks c.args.index other)) c.loop-combination.column.items c.push.new.self.items c.plain.result c.in_ok-push.ensures.items (c.loop-combination.invariant other few lt)
     (λ ks long same. c.plain.ensures ∙ ap plain (c.kind_at.ensures ks other (sym same) (omega (arith, long, lt)) (omega (arith, long, few))))
 
 pub returns : goal.returns
 returns c = λ other few lt.
     let w = c.weight-combination-end.ensures.power few in
-    filled_at unknown c.args.arity c.loop-combination.combination _ (λ ks. plain (get_or ks c.args.place other)) c.loop-combination.column.items (omega (arith, w, c.loop-combination-test.false, c.loop-combination.auto)) (c.loop-combination.invariant other few lt)
+    filled_at unknown c.args.arity c.loop-combination.combination _ (λ ks. plain (get_or ks c.args.index other)) c.loop-combination.column.items (omega (arith, w, c.loop-combination-test.false, c.loop-combination.auto)) (c.loop-combination.invariant other few lt)

@@ -6,4 +6,4 @@ use Rattle.binding_kinds.proofs.column.of_parameter.Given as goal
 
 abbrev pub invariant-loop-combination : goal.invariant-loop-combination
 invariant-loop-combination l =
-    (other : Kind) → l.arity ≤ 8 → l.place < l.arity → IsFilled unknown l.arity l.combination (λ kinds. plain (get_or kinds l.place other)) l.column.items
+    (other : Kind) → l.arity ≤ 8 → l.index < l.arity → IsFilled unknown l.arity l.combination (λ kinds. plain (get_or kinds l.index other)) l.column.items

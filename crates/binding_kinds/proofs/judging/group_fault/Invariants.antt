@@ -5,8 +5,8 @@ use Rattle.binding_kinds.specs.Senses.{Sense, AreKept}
 use Rattle.binding_kinds.specs.First.{first_in}
 use Rattle.binding_kinds.proofs.judging.group_fault.Given as goal
 
-abbrev pub invariant-loop-place : goal.invariant-loop-place
-invariant-loop-place l =
+abbrev pub invariant-loop-index : goal.invariant-loop-index
+invariant-loop-index l =
     (senses : List Sense) → AreKept l.functions senses →
     first_in senses (reverse (map entry_of l.entries)) l.from l.recursive [] (map bound_of l.group)
-    ≡ first_in senses (reverse (map entry_of l.entries)) l.from l.recursive (names_of (take l.place l.group)) (map bound_of (drop l.place l.group))
+    ≡ first_in senses (reverse (map entry_of l.entries)) l.from l.recursive (names_of (take l.index l.group)) (map bound_of (drop l.index l.group))

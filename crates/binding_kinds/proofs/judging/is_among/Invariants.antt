@@ -3,4 +3,4 @@ use Rattle.binding_kinds.specs.Verdict.{is_seen}
 use Rattle.binding_kinds.proofs.judging.is_among.Given as goal
 
 abbrev pub invariant-loop-parameter : goal.invariant-loop-parameter
-invariant-loop-parameter l = l.seen ≡ is_seen (reverse (take l.parameter-index l.before)) l.name
+invariant-loop-parameter l = l.is_found ≡ is_seen (reverse (take l.parameter-index l.before)) l.name

@@ -4,8 +4,8 @@ use Rattle.binding_kinds.proofs.Combinations.{any_yes, any_no}
 use Rattle.binding_kinds.proofs.signature.has_any.Goals.{then-is_any, else-is_any}
 use Rattle.binding_kinds.proofs.signature.has_any.Goals as goal
 
-pub loop-place-preserved : goal.loop-place-preserved
-loop-place-preserved c = λ ks n_is arity_is le. elim c.if-is_any.branch [
-  | then-is_any w ↦ w.any-is ∙ any_yes ks c.loop-place.place OfAny _ (omega arith) (c.kind_at.ensures ks OfAny n_is (omega arith) le) (sym c.is_any.ensures ∙ w.if-is_any.true)
-  | else-is_any w ↦ w.any-is ∙ (c.loop-place.invariant ks n_is arity_is le ∙ any_no ks c.loop-place.place OfAny _ (omega arith) (c.kind_at.ensures ks OfAny n_is (omega arith) le) (sym c.is_any.ensures ∙ w.if-is_any.false))
+pub loop-index-preserved : goal.loop-index-preserved
+loop-index-preserved c = λ ks n_is arity_is le. elim c.if-is_any.branch [
+  | then-is_any w ↦ w.any-is ∙ any_yes ks c.loop-index.index OfAny _ (omega arith) (c.kind_at.ensures ks OfAny n_is (omega arith) le) (sym c.is_any.ensures ∙ w.if-is_any.true)
+  | else-is_any w ↦ w.any-is ∙ (c.loop-index.invariant ks n_is arity_is le ∙ any_no ks c.loop-index.index OfAny _ (omega arith) (c.kind_at.ensures ks OfAny n_is (omega arith) le) (sym c.is_any.ensures ∙ w.if-is_any.false))
 ]

@@ -7,8 +7,8 @@ use Rattle.litmus_grammar.proofs.laws.reads_conditions.Goals as goal
 pub returns-clause-found : goal.returns-clause-found
 returns-clause-found c = λ threads ps s few e d. condition_whole threads few ps s e d
 
-pub returns-clause-taken : goal.returns-clause-taken
-returns-clause-taken c = λ threads ps x few.
+pub returns-clause-complete : goal.returns-clause-complete
+returns-clause-complete c = λ threads ps x few.
     let t = condition_taken threads few ps x in
     record { after = t.0; by = t.1; holds = record { quantifier_is = t.2; formula_is = t.3 } }
 

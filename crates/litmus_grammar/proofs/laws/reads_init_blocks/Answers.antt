@@ -12,8 +12,8 @@ use Rattle.litmus_grammar.proofs.laws.reads_init_blocks.Goals as goal
 pub returns-clause-found : goal.returns-clause-found
 returns-clause-found c = λ threads ps s e d. init_whole threads ps s e d
 
-pub returns-clause-taken : goal.returns-clause-taken
-returns-clause-taken c = λ threads ps x.
+pub returns-clause-complete : goal.returns-clause-complete
+returns-clause-complete c = λ threads ps x.
     let t = init_taken threads x.entries ps x.fine x.whole in
     record { after = t.state; by = t.by; holds = record { entries = t.entries; stand = t.stand } }
 

@@ -10,8 +10,8 @@ use Rattle.litmus_grammar.proofs.laws.reads_lists.Goals as goal
 pub returns-clause-found : goal.returns-clause-found
 returns-clause-found c = λ threads ps s e d. list_whole threads ps Tail (nothing kinds.Locations) s e d
 
-pub returns-clause-taken : goal.returns-clause-taken
-returns-clause-taken c = λ threads ps x few.
+pub returns-clause-complete : goal.returns-clause-complete
+returns-clause-complete c = λ threads ps x few.
     let t = list_taken threads few ps x in
     record { after = t.0; by = t.1; holds = t.2 }
 

@@ -8,8 +8,8 @@ returns-clause-found c = λ ps s few e d.
     let x = test_whole ps s few e d in
     record { tree = x.tree; fine = x.fine; whole = x.whole }
 
-pub returns-clause-taken : goal.returns-clause-taken
-returns-clause-taken c = λ ps x few.
+pub returns-clause-complete : goal.returns-clause-complete
+returns-clause-complete c = λ ps x few.
     let t = test_led x.tree x.fine (few_of x.tree ps x.whole few) ps x.whole in
     record {
       after = _;

@@ -10,8 +10,8 @@ use Rattle.litmus_grammar.proofs.laws.reads_threads.Goals as goal
 pub returns-clause-found : goal.returns-clause-found
 returns-clause-found c = λ threads ps s e d. thread_whole threads ps s e d
 
-pub returns-clause-taken : goal.returns-clause-taken
-returns-clause-taken c = λ threads ps x.
+pub returns-clause-complete : goal.returns-clause-complete
+returns-clause-complete c = λ threads ps x.
     let t = thread_taken threads ps x in
     record { after = _; by = t.by; holds = record { meant = t.meant; noted = t.noted } }
 

@@ -31,11 +31,8 @@ returns c =
     (omega (arith, c.args.self.now.orders.ok.0)) c.requires c.index-sources.ensures c.index-order.ensures
     (record {
       events = c.in_ok-from_slice.ensures.items ∙ c.deref.ensures.value;
-      addr_pairs = c.in_ok-from_slice-2.ensures.items ∙ c.deref-2.ensures.value;
-      data_pairs = c.in_ok-from_slice-3.ensures.items ∙ c.deref-3.ensures.value;
-      ctrl_pairs = c.in_ok-from_slice-4.ensures.items ∙ c.deref-4.ensures.value;
-      ctrlisync_pairs = c.in_ok-from_slice-5.ensures.items ∙ c.deref-5.ensures.value;
-      sources = c.in_ok-from_slice-6.ensures.items ∙ c.deref-6.ensures.value;
-      order = c.in_ok-from_slice-7.ensures.items ∙ c.deref-7.ensures.value;
+      dependencies = c.in_ok-copied.ensures;
+      sources = c.in_ok-from_slice-2.ensures.items ∙ c.deref-2.ensures.value;
+      order = c.in_ok-from_slice-3.ensures.items ∙ c.deref-3.ensures.value;
       registers = search rules;
     })

@@ -3,7 +3,7 @@ use Rattle.std.specs.BTreeMap.{get_by}
 use Rattle.std.specs.Cmp.Lexicographic.{slice_cmp}
 use Rattle.litmus_tokens.specs.declared.rule.LitmusRule.{LitmusRule}
 use Rattle.litmus_values.specs.declared.test.Step.{Step}
-use Rattle.litmus_table.specs.Checks.{first_from, step_rule, or_later, checked}
+use Rattle.litmus_table.specs.Checks.{first_from, step_rule, or_later, first_fault}
 use Rattle.litmus_table.proofs.First.{step_rule-same, checked_here}
 use Rattle.litmus_table.proofs.late.PlacedThread.check_labels.Goals as goal
 
@@ -20,4 +20,4 @@ loop-i-preserved c =
     let found : c.step_rule.result ≡ step_rule f d i
     = c.step_rule.ensures ∙ step_rule-same (λ w. get_by {K = Bor (List ℕ)} (λ k. slice_cmp nat_cmp w k.now) c.in_ok-definitions.definitions) f (λ w. c.in_ok-definitions.ensures w) i d in
     let none : step_rule f (get_or ss i d) i ≡ None = ap (λ (s : Step). step_rule f s i) item ∙ sym found ∙ c.in_default.is in
-    c.loop-i.invariant ∙ checked_here f ss ps i d 0 lt there ∙ ap (λ (o : Option LitmusRule). or_later o (get_or ps i 0) (checked f (i + 1) (drop (i + 1) ss) (drop (i + 1) ps))) none
+    c.loop-i.invariant ∙ checked_here f ss ps i d 0 lt there ∙ ap (λ (o : Option LitmusRule). or_later o (get_or ps i 0) (first_fault f (i + 1) (drop (i + 1) ss) (drop (i + 1) ps))) none

@@ -1,0 +1,211 @@
+-- Where each slot stands behind those that it uses, the nodes of a table keep the laws of `Texts` on nodes.
+use Rattle.std.proofs.Common.{◌≡◌, ◌⊎◌, inl, inr, ℕ, ◌+◌, ◌<◌, Bool, true, false, ◌==◌, ◌&&◌, ◌||◌, List, [], ◌∷◌, ◌++◌, Option, Some, None, refl, ap, sym, ◌∙◌, eq-eqb, arith}
+use Rattle.std.specs.Bool.{⊤}
+use Rattle.std.specs.List.{AllByRecursion as Each}
+use Rattle.memo_core.specs.declared.keys.Kind.{Kind}
+use Rattle.memo_core.specs.declared.keys.Kind.TheVariants.{Space, Group, Check, Verdict}
+use Rattle.memo_core.specs.declared.keys.Key.{Key}
+use Rattle.memo_core.specs.declared.keys.Key.TheVariants.{Part}
+use Rattle.memo_core.specs.declared.keys.Node.{Node}
+use Rattle.memo_core.specs.Graph.{input_nodes}
+use Rattle.memo_core.specs.Laws.{IsUsedClosed, AreUsers, Falls}
+use Rattle.memo_core.specs.Step.{Has}
+use Rattle.memo_core.proofs.JudgeLemmas.{has_yes, has_is}
+use Rattle.bench_nodes.specs.declared.table.NodeTable.{NodeTable}
+use Rattle.bench_nodes.specs.declared.table.Slot.{Slot}
+use Rattle.bench_nodes.specs.declared.table.SlotKey.{SlotKey}
+use Rattle.bench_nodes.specs.declared.table.SlotKey.TheVariants as slots
+use Rattle.bench_nodes.specs.declared.table.TestRow.{TestRow}
+use Rattle.bench_nodes.specs.Nodes.{used, keys_at, is_slot, slot_keys, thread_parts, space_keys, row_of, row_parts, inputs_of, users, has_test, has_slot, slot_index, rank_of, rank, net_of}
+use Rattle.bench_nodes.specs.Order.{IsBehind, AreOrderedAfter, IsOrdered}
+use Rattle.bench_nodes.proofs.Lists.{has_node_at, has_used}
+
+by_cases : (b : Bool) → (b ≡ true) ⊎ (b ≡ false)
+by_cases true = inl refl
+by_cases false = inr refl
+
+-- ---- both or one of two
+
+first_of : (a b : Bool) → a && b ≡ true → a ≡ true
+first_of true b h = refl
+first_of false b h = h
+
+second_of : (a b : Bool) → a && b ≡ true → b ≡ true
+second_of true b h = h
+second_of false b h = cc
+
+both_of : (a b : Bool) → a ≡ true → b ≡ true → a && b ≡ true
+both_of a b h i = rw h i
+
+either_of : (a b : Bool) → a || b ≡ true → (a ≡ true) ⊎ (b ≡ true)
+either_of true b h = inl refl
+either_of false b h = inr h
+
+or_left : (a b : Bool) → a ≡ true → a || b ≡ true
+or_left a b h = rw h refl
+
+or_right : (a b : Bool) → b ≡ true → a || b ≡ true
+or_right true b h = refl
+or_right false b h = h
+
+-- ---- what a used node is
+
+used_test : (t : NodeTable) (n : Node) → Has (used t) n → has_test t.tests.items n.test ≡ true
+used_test t n h = first_of (has_test t.tests.items n.test) (has_slot t.slots.items n.kind n.of) (sym (has_used t.slots.items t.tests.items n) ∙ has_is n (used t) h)
+
+used_slot : (t : NodeTable) (n : Node) → Has (used t) n → has_slot t.slots.items n.kind n.of ≡ true
+used_slot t n h = second_of (has_test t.tests.items n.test) (has_slot t.slots.items n.kind n.of) (sym (has_used t.slots.items t.tests.items n) ∙ has_is n (used t) h)
+
+used_by : (t : NodeTable) (n : Node) → has_test t.tests.items n.test ≡ true → has_slot t.slots.items n.kind n.of ≡ true → Has (used t) n
+used_by t n a b = has_yes n (used t) (has_used t.slots.items t.tests.items n ∙ both_of (has_test t.tests.items n.test) (has_slot t.slots.items n.kind n.of) a b)
+
+-- ---- the inputs of a space are parts
+
+no_nodes_among_threads : (id part : ℕ) (ts : List ℕ) (ks : List Key) → input_nodes (thread_parts id part ts ++ ks) ≡ input_nodes ks
+no_nodes_among_threads id part [] ks = refl
+no_nodes_among_threads id part (t ∷ ts) ks = no_nodes_among_threads id (part + 1) ts ks
+
+no_nodes_in_row : (o : Option TestRow) → input_nodes (row_parts o) ≡ []
+no_nodes_in_row None = refl
+no_nodes_in_row (Some t) = no_nodes_among_threads t.id 6 t.threads.items (Part 4 t.id ∷ [])
+
+no_nodes_in_space : (ts : List TestRow) (id : ℕ) → input_nodes (space_keys ts id) ≡ []
+no_nodes_in_space ts id = no_nodes_in_row (row_of ts id)
+
+-- ---- what holds of each output among keys holds of each node among them
+
+abbrev HoldsOf : (ℕ → Node → Type 0) → ℕ → SlotKey → Type 0
+HoldsOf P test (slots.Test part) = ⊤
+HoldsOf P test (slots.Item number) = ⊤
+HoldsOf P test (slots.Fault id) = ⊤
+HoldsOf P test (slots.Value kind of name) = P test (record { kind = kind; test = test; of = of })
+
+each_node : (P : ℕ → Node → Type 0) (test : ℕ) (ks : List SlotKey) → Each (HoldsOf P test) ks → Each (P test) (input_nodes (keys_at test ks))
+each_node P test [] h = tt
+each_node P test (slots.Test part ∷ ks) h = each_node P test ks h.1
+each_node P test (slots.Item number ∷ ks) h = each_node P test ks h.1
+each_node P test (slots.Fault id ∷ ks) h = each_node P test ks h.1
+each_node P test (slots.Value kind of name ∷ ks) h = (h.0, each_node P test ks h.1)
+
+-- ---- what a slot uses is a slot, before it
+
+-- the key is of the slots before, or of a slot that comes before that index
+abbrev StandsBefore : List Slot → List Slot → ℕ → SlotKey → Type 0
+StandsBefore before ss i (slots.Test part) = ⊤
+StandsBefore before ss i (slots.Item number) = ⊤
+StandsBefore before ss i (slots.Fault id) = ⊤
+StandsBefore before ss i (slots.Value kind of name) = (has_slot before kind of ≡ true) ⊎ ((has_slot ss kind of ≡ true) × (slot_index ss kind of < i))
+
+behind_before : (before ss : List Slot) (i : ℕ) (ks : List SlotKey) → Each (IsBehind before) ks → Each (StandsBefore before ss i) ks
+behind_before before ss i [] h = tt
+behind_before before ss i (slots.Test part ∷ ks) h = (tt, behind_before before ss i ks h.1)
+behind_before before ss i (slots.Item number ∷ ks) h = (tt, behind_before before ss i ks h.1)
+behind_before before ss i (slots.Fault id ∷ ks) h = (tt, behind_before before ss i ks h.1)
+behind_before before ss i (slots.Value kind of name ∷ ks) h = (inl h.0, behind_before before ss i ks h.1)
+
+key_further : (before ss : List Slot) (s : Slot) (i : ℕ) (kind : Kind) (of : ℕ) → (has_slot (s ∷ before) kind of ≡ true) ⊎ ((has_slot ss kind of ≡ true) × (slot_index ss kind of < i)) → (has_slot before kind of ≡ true) ⊎ ((has_slot (s ∷ ss) kind of ≡ true) × (slot_index (s ∷ ss) kind of < i + 1))
+key_further before ss s i kind of h = elim (by_cases (is_slot kind of s)) [
+  | inl e ↦ inr (rw e refl, rw e (omega arith))
+  | inr f ↦ elim h [
+    | inl b ↦ inl (rw f at b)
+    | inr l ↦ inr (rw f l.0, rw f (omega (arith, l.1)))
+  ]
+]
+
+further : (before ss : List Slot) (s : Slot) (i : ℕ) (ks : List SlotKey) → Each (StandsBefore (s ∷ before) ss i) ks → Each (StandsBefore before (s ∷ ss) (i + 1)) ks
+further before ss s i [] h = tt
+further before ss s i (slots.Test part ∷ ks) h = (tt, further before ss s i ks h.1)
+further before ss s i (slots.Item number ∷ ks) h = (tt, further before ss s i ks h.1)
+further before ss s i (slots.Fault id ∷ ks) h = (tt, further before ss s i ks h.1)
+further before ss s i (slots.Value kind of name ∷ ks) h = (key_further before ss s i kind of h.0, further before ss s i ks h.1)
+
+keys_before : (before ss : List Slot) (kind : Kind) (of : ℕ) → AreOrderedAfter before ss → Each (StandsBefore before ss (slot_index ss kind of)) (slot_keys ss kind of)
+keys_before before [] kind of h = tt
+keys_before before (s ∷ ss) kind of h = elim (by_cases (is_slot kind of s)) [
+  | inl e ↦ rw e (behind_before before (s ∷ ss) 0 s.inputs.items h.0)
+  | inr f ↦ rw f (further before ss s (slot_index ss kind of) (slot_keys ss kind of) (keys_before (s ∷ before) ss kind of h.1))
+]
+
+-- ---- the laws
+
+each_used : (t : NodeTable) (test : ℕ) (i : ℕ) (ks : List SlotKey) → has_test t.tests.items test ≡ true → Each (StandsBefore [] t.slots.items i) ks → Each (HoldsOf (λ _ n. Has (used t) n) test) ks
+each_used t test i [] there h = tt
+each_used t test i (slots.Test part ∷ ks) there h = (tt, each_used t test i ks there h.1)
+each_used t test i (slots.Item number ∷ ks) there h = (tt, each_used t test i ks there h.1)
+each_used t test i (slots.Fault id ∷ ks) there h = (tt, each_used t test i ks there h.1)
+each_used t test i (slots.Value kind of name ∷ ks) there h = (
+  elim h.0 [
+    | inl none ↦ cc
+    | inr is ↦ used_by t (record { kind = kind; test = test; of = of }) there is.0
+  ],
+  each_used t test i ks there h.1,
+)
+
+used_among : (t : NodeTable) (kind : Kind) (test of : ℕ) → IsOrdered t → has_test t.tests.items test ≡ true → Each (Has (used t)) (input_nodes (keys_at test (slot_keys t.slots.items kind of)))
+used_among t kind test of o there = each_node (λ _ n. Has (used t) n) test (slot_keys t.slots.items kind of) (each_used t test (slot_index t.slots.items kind of) (slot_keys t.slots.items kind of) there (keys_before [] t.slots.items kind of o))
+
+used_inputs : (t : NodeTable) (kind : Kind) (test of : ℕ) → IsOrdered t → has_test t.tests.items test ≡ true → Each (Has (used t)) (input_nodes (inputs_of t kind test of))
+used_inputs t Space test of o there = rw (no_nodes_in_space t.tests.items test) tt
+used_inputs t Group test of o there = used_among t Group test of o there
+used_inputs t Check test of o there = used_among t Check test of o there
+used_inputs t Verdict test of o there = used_among t Verdict test of o there
+
+-- the inputs of used nodes are used
+pub used_is_closed : {G : Type 0} (t : NodeTable) (gives : Node → G → Bool) → IsOrdered t → IsUsedClosed (net_of t gives)
+used_is_closed t gives o n h = used_inputs t n.kind n.test n.of o (used_test t n h)
+
+lower : (ss : List Slot) (test : ℕ) (i : ℕ) (ks : List SlotKey) → Each (StandsBefore [] ss i) ks → Each (HoldsOf (λ _ m. rank_of ss m.kind m.of < i + 1) test) ks
+lower ss test i [] h = tt
+lower ss test i (slots.Test part ∷ ks) h = (tt, lower ss test i ks h.1)
+lower ss test i (slots.Item number ∷ ks) h = (tt, lower ss test i ks h.1)
+lower ss test i (slots.Fault id ∷ ks) h = (tt, lower ss test i ks h.1)
+lower ss test i (slots.Value kind of name ∷ ks) h = (
+  elim h.0 [
+    | inl none ↦ cc
+    | inr is ↦ low kind is.1
+  ],
+  lower ss test i ks h.1,
+)
+  where
+    low : (kind : Kind) → slot_index ss kind of < i → rank_of ss kind of < i + 1
+    low Space l = omega arith
+    low Group l = omega (arith, l)
+    low Check l = omega (arith, l)
+    low Verdict l = omega (arith, l)
+
+lower_among : (t : NodeTable) (kind : Kind) (test of : ℕ) → IsOrdered t → Each (λ m. rank_of t.slots.items m.kind m.of < slot_index t.slots.items kind of + 1) (input_nodes (keys_at test (slot_keys t.slots.items kind of)))
+lower_among t kind test of o =
+    each_node (λ _ m. rank_of t.slots.items m.kind m.of < slot_index t.slots.items kind of + 1) test (slot_keys t.slots.items kind of)
+    (lower t.slots.items test (slot_index t.slots.items kind of) (slot_keys t.slots.items kind of) (keys_before [] t.slots.items kind of o))
+
+lower_inputs : (t : NodeTable) (kind : Kind) (test of : ℕ) → IsOrdered t → Each (λ m. rank_of t.slots.items m.kind m.of < rank_of t.slots.items kind of) (input_nodes (inputs_of t kind test of))
+lower_inputs t Space test of o = rw (no_nodes_in_space t.tests.items test) tt
+lower_inputs t Group test of o = lower_among t Group test of o
+lower_inputs t Check test of o = lower_among t Check test of o
+lower_inputs t Verdict test of o = lower_among t Verdict test of o
+
+-- a node ranks above its inputs
+pub ranks_fall : {G : Type 0} (t : NodeTable) (gives : Node → G → Bool) → IsOrdered t → Falls (net_of t gives) (rank t)
+ranks_fall t gives o n = lower_inputs t n.kind n.test n.of o
+
+-- the nodes among the inputs of a node are of its test
+node_test : (test : ℕ) (ks : List SlotKey) (n : Node) → Has (input_nodes (keys_at test ks)) n → n.test ≡ test
+node_test test [] n h = absurd h
+node_test test (slots.Test part ∷ ks) n h = node_test test ks n h
+node_test test (slots.Item number ∷ ks) n h = node_test test ks n h
+node_test test (slots.Fault id ∷ ks) n h = node_test test ks n h
+node_test test (slots.Value kind of name ∷ ks) n h = elim h [
+  | inl e ↦ sym (ap (λ (m : Node). m.test) e)
+  | inr l ↦ node_test test ks n l
+]
+
+input_test : (t : NodeTable) (kind : Kind) (test of : ℕ) (n : Node) → Has (input_nodes (inputs_of t kind test of)) n → n.test ≡ test
+input_test t Space test of n h = absurd (rw (no_nodes_in_space t.tests.items test) at h)
+input_test t Group test of n h = node_test test (slot_keys t.slots.items Group of) n h
+input_test t Check test of n h = node_test test (slot_keys t.slots.items Check of) n h
+input_test t Verdict test of n h = node_test test (slot_keys t.slots.items Verdict of) n h
+
+-- the users of a node are among the nodes of its test
+pub users_are_among : {G : Type 0} (t : NodeTable) (gives : Node → G → Bool) → AreUsers (net_of t gives) (users t)
+users_are_among t gives n u h i =
+    has_yes u (users t n) (has_node_at t.slots.items n.test u ∙ both_of (u.test == n.test) (has_slot t.slots.items u.kind u.of) (eq-eqb u.test n.test (sym (input_test t u.kind u.test u.of n i))) (used_slot t u h))

@@ -1,0 +1,23 @@
+-- What a table owes: each slot stands behind those that it uses.
+use Rattle.std.specs.Prelude.{◌≡◌, ⊤, true, List, [], ◌∷◌}
+use Rattle.std.specs.List.{AllByRecursion as Each}
+use Rattle.bench_nodes.specs.declared.table.NodeTable.{NodeTable}
+use Rattle.bench_nodes.specs.declared.table.Slot.{Slot}
+use Rattle.bench_nodes.specs.declared.table.SlotKey.{SlotKey}
+use Rattle.bench_nodes.specs.declared.table.SlotKey.TheVariants as slots
+use Rattle.bench_nodes.specs.Nodes.{has_slot}
+
+-- an input that is an output is one of these slots
+abbrev pub IsBehind : List Slot → SlotKey → Type 0
+IsBehind before (slots.Test part) = ⊤
+IsBehind before (slots.Item number) = ⊤
+IsBehind before (slots.Fault id) = ⊤
+IsBehind before (slots.Value kind of name) = has_slot before kind of ≡ true
+
+-- each slot uses those before it alone, the latest first
+abbrev pub AreOrderedAfter : List Slot → List Slot → Type 0
+AreOrderedAfter before [] = ⊤
+AreOrderedAfter before (s ∷ ss) = Each (IsBehind before) s.inputs.items × AreOrderedAfter (s ∷ before) ss
+
+abbrev pub IsOrdered : NodeTable → Type 0
+IsOrdered t = AreOrderedAfter [] t.slots.items

@@ -1,0 +1,62 @@
+//! Whole models with one item changed, made before the texts change.
+
+ghost use Rattle.std.specs.Prelude.{◌≡◌, IfOk};
+ghost use Rattle.bench_texts.specs.declared.change.Change.TheVariants as changes;
+ghost use Rattle.bench_texts.specs.Held.{texts_of};
+ghost use Rattle.bench_texts.specs.Changes.{texts_after, IsReady};
+ghost use Rattle.bench_texts.specs.Replacements.{texts_with, IsReplaceable};
+
+use crate::replacement::Replacement;
+use crate::texts::Texts;
+use cat_values::Item;
+use std::alloc::{AllocError, Global};
+
+impl Texts {
+    pub(crate) fn replace_set(
+        &self,
+        alloc: Global,
+        at: usize,
+        index: usize,
+        number: u64,
+        item: Item,
+    ) -> Result<Replacement, AllocError>
+        requires { IsReady self.now (changes.SetItem at index number item) }
+        ensures texts { IfOk result (λ r. texts_with r (texts_of self.now) ≡ texts_after (changes.SetItem at index number item) (texts_of self.now)) }
+        ensures ready { IfOk result (IsReplaceable self.now) }
+    {
+        let model = self.models[at].with_set(alloc, index, number, item)?;
+        let next = self.next;
+        Ok(Replacement::PutModel { at, model, next })
+    }
+
+    pub(crate) fn replace_insert(
+        &self,
+        alloc: Global,
+        at: usize,
+        index: usize,
+        item: Item,
+    ) -> Result<Replacement, AllocError>
+        requires { IsReady self.now (changes.InsertItem at index item) }
+        ensures texts { IfOk result (λ r. texts_with r (texts_of self.now) ≡ texts_after (changes.InsertItem at index item) (texts_of self.now)) }
+        ensures ready { IfOk result (IsReplaceable self.now) }
+    {
+        let model = self.models[at].with_inserted(alloc, index, self.next, item)?;
+        let next = self.next + 1;
+        Ok(Replacement::PutModel { at, model, next })
+    }
+
+    pub(crate) fn replace_remove(
+        &self,
+        alloc: Global,
+        at: usize,
+        index: usize,
+    ) -> Result<Replacement, AllocError>
+        requires { IsReady self.now (changes.RemoveItem at index) }
+        ensures texts { IfOk result (λ r. texts_with r (texts_of self.now) ≡ texts_after (changes.RemoveItem at index) (texts_of self.now)) }
+        ensures ready { IfOk result (IsReplaceable self.now) }
+    {
+        let model = self.models[at].with_removed(alloc, index)?;
+        let next = self.next;
+        Ok(Replacement::PutModel { at, model, next })
+    }
+}

@@ -1,0 +1,4 @@
+pub mod Named
+pub mod Reached
+pub mod Held
+pub mod Cells

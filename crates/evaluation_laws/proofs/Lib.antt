@@ -1,0 +1,3 @@
+pub mod Sole
+pub mod Resolving
+pub mod Saying

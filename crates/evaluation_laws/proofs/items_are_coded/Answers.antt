@@ -1,0 +1,5 @@
+use Rattle.evaluation_laws.proofs.Resolving.{coded_items}
+use Rattle.evaluation_laws.proofs.items_are_coded.Goals as goal
+
+pub returns : goal.returns
+returns c = coded_items c.args.model.now

@@ -1,0 +1,5 @@
+pub mod StoreLemmas
+pub mod AcceptLemmas
+pub mod WorkLemmas
+pub mod TokenLemmas
+pub mod MarkLemmas

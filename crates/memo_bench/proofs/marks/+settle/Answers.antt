@@ -1,0 +1,22 @@
+use Rattle.std.proofs.Common.{◌∙◌, sym}
+use Rattle.memo_core.specs.Graph.{present_inputs}
+use Rattle.memo_core.specs.Views.{as_memos}
+use Rattle.memo_bench.proofs.MarkLemmas.{as_memos-with_mark_at, unmarked_count-less, ready_there, passed, marked_on}
+use Rattle.memo_bench.proofs.marks.+settle.Goals as goal
+
+pub returns-then-not-can_mark-clause-marks : goal.returns-then-not-can_mark-clause-marks
+returns-then-not-can_mark-clause-marks g t c =
+    λ valid rest p. passed (g.T.Texts.net c.args.texts.now) c.args.memos.now.entries c.args.node (sym c.can_mark.ensures ∙ c.if-not-can_mark.true) rest p
+
+pub loop-i-init : goal.loop-i-init
+loop-i-init g t c =
+    let net = g.T.Texts.net c.args.texts.now in
+    let ks = c.args.memos.now.entries in
+    let now = sym c.can_mark.ensures ∙ c.if-not-can_mark.false in
+    let r = ready_there net ks c.args.node now in
+    record {
+      same = rw c.mark.ensures.marks (as_memos-with_mark_at c.args.node ks);
+      fewer = rw c.mark.ensures.marks (unmarked_count-less c.args.node ks (present_inputs net (as_memos ks) (net.inputs c.args.node)) r.1 r.0);
+      marks = λ valid rest p. rw c.mark.ensures.marks (marked_on net ks c.args.node (g.T.Texts.users c.args.texts.now) (λ u has on. g.met.T.Texts.users_are c.args.texts.now valid c.args.node u has on) now rest p);
+      room = c.mark.ensures.room;
+    }

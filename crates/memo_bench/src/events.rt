@@ -1,0 +1,197 @@
+//! The calls that change a graph, returns aside, and what it shows.
+
+ghost use Rattle.std.specs.Prelude.{◌≡◌, ◌<◌, ◌≤◌, leb, ℕ, IsTrue, IsFalse, IfOk, OnOk, OnErr, IfErr, IfSome, IfNone, Err, Some};
+ghost use Rattle.memo_core.specs.declared.keys.Node.{Node};
+ghost use Rattle.memo_core.specs.Step.{Has, Loses, Renews, Edits, IsWork};
+ghost use Rattle.memo_bench.specs.Clauses.{state_of, HasRightMemos, HasFreshClaims, IsMarked, GivesJob, IsSettledIn, ShowsStored, ShowsSolved};
+
+use crate::graph::{Graph, LAST};
+use crate::job::Job;
+use crate::marks::{are_used_marked, is_marked, settle_all};
+use crate::stores::drop_gone;
+use crate::work::{current_inputs, earlier_tokens, find_work, hold_all, present_keys};
+use indexmap::IndexMap;
+use memo_core::claims::{Claim, ClaimFault};
+use memo_core::keys::{Node, Output};
+use memo_core::table::stored_outputs;
+use memo_core::texts::Texts;
+use std::alloc::Global;
+use std::collections::BTreeMap;
+use std::sync::Arc;
+use value_store::{Store, StoreName, Token};
+
+impl<K: StoreName, T: Texts> Graph<K, T> {
+    /// Nothing is kept and nothing is out yet.
+    pub fn new(alloc: Global, texts: T, store: Arc<Store<K, T::Value>, Global>) -> Self
+        requires new { (p q : ℕ) → (T.net texts).part p q ≡ 0 }
+        requires last { T.last texts ≡ 0 }
+        requires valid { T.is_valid texts }
+        ensures texts { result.texts ≡ texts }
+        ensures taken { result.taken ≡ 0 }
+        ensures right { HasRightMemos result }
+        ensures fresh { HasFreshClaims result }
+        ensures marks { IsMarked result }
+    {
+        Graph {
+            texts,
+            memos: IndexMap::new(alloc),
+            claims: BTreeMap::new(alloc),
+            taken: 0,
+            next: 0,
+            store,
+        }
+    }
+
+    /// Makes an edit, which gets the next number. A refusal, by the texts or because the numbers are
+    /// spent, leaves what the texts say, their last edit, the memos, the claims and the numbers as
+    /// they were.
+    pub fn edit(&mut self, alloc: Global, edit: T::Edit) -> Result<u64, T::Fault>
+        requires right { HasRightMemos self.old }
+        requires fresh { HasFreshClaims self.old }
+        requires marks { IsMarked self.old }
+        ensures right { HasRightMemos self.new }
+        ensures fresh { HasFreshClaims self.new }
+        ensures marks { IsMarked self.new }
+        ensures number { IfOk result (λ number. number ≡ self.new.taken) }
+        ensures edited { IfOk result (λ number. T.edited self.old.texts edit number self.new.texts) }
+        ensures unspent { OnOk result (self.old.taken < LAST) }
+        ensures step { OnOk result (Edits (T.keeps self.new.texts) (state_of self.old) (state_of self.new)) }
+        ensures fault { IfErr result (λ fault. T.refuses self.old.texts edit (leb LAST self.old.taken) fault) }
+        ensures err { OnErr result (state_of self.new ≡ state_of self.old) }
+        ensures no_edit { OnErr result (T.last self.new.texts ≡ T.last self.old.texts) }
+        ensures since { OnErr result (T.since self.old.texts self.new.texts) }
+    {
+        let spent = self.taken >= LAST;
+        let prepared = match self.texts.prepare(alloc, edit, spent) {
+            Ok(prepared) => prepared,
+            Err(fault) => return Err(fault),
+        };
+        let number = self.taken + 1;
+        self.texts.commit(prepared, number);
+        drop_gone(&self.texts, &mut self.memos);
+        settle_all(&self.texts, &mut self.memos);
+        self.taken = number;
+        Ok(number)
+    }
+
+    /// Hands out a node that has work, if any has. It makes the room for all that its return keeps.
+    pub fn claim(&mut self, alloc: Global) -> Result<Option<Job<K, T>>, ClaimFault>
+        requires right { HasRightMemos self.old }
+        requires fresh { HasFreshClaims self.old }
+        requires marks { IsMarked self.old }
+        ensures texts { self.new.texts ≡ self.old.texts }
+        ensures right { HasRightMemos self.new }
+        ensures fresh { HasFreshClaims self.new }
+        ensures marks { IsMarked self.new }
+        ensures given { IfOk result (λ r. IfSome r (λ job. GivesJob self.old job self.new)) }
+        ensures none { IfOk result (λ r. IfNone r ((n : Node) → IsWork (state_of self.old) n → ⊥)) }
+        ensures none_same { IfOk result (λ r. IfNone r (state_of self.new ≡ state_of self.old)) }
+        ensures spent { LAST ≤ self.old.taken → result ≡ Err ClaimFault.Spent }
+        ensures spent_only { result ≡ Err ClaimFault.Spent → LAST ≤ self.old.taken }
+        ensures err { OnErr result (state_of self.new ≡ state_of self.old) }
+    {
+        if self.taken >= LAST {
+            return Err(ClaimFault::Spent);
+        }
+        let memos = &self.memos;
+        let at = match find_work(&self.texts, memos, &self.claims, self.next) {
+            None => return Ok(None),
+            Some(at) => at,
+        };
+        let node = self.texts.used_at(at);
+        let keys = present_keys(alloc, &self.texts, node)?;
+        let inputs = current_inputs(alloc, &self.texts, memos, node)?;
+        let values = match hold_all(alloc, &self.texts, memos, node)? {
+            Some(values) => values,
+            None => unreachable!(),
+        };
+        let given = self.texts.give(alloc, node)?;
+        let before = earlier_tokens(alloc, memos, node)?;
+        let store = Arc::try_clone(&self.store)?;
+        self.memos.reserve(self.claims.len() + 1)?;
+        let number = self.taken + 1;
+        let _ = self.claims.insert(number, Claim { node, inputs })?;
+        let open = self.claims.len();
+        prove!(open < 0x8000_0000_0000_0000);
+        self.taken = number;
+        self.next = at;
+        Ok(Some(Job {
+            claim: number,
+            node,
+            given,
+            keys,
+            values,
+            before,
+            store,
+        }))
+    }
+
+    /// Closes a claim.
+    pub fn lose(&mut self, claim: u64) -> bool
+        requires right { HasRightMemos self.old }
+        requires fresh { HasFreshClaims self.old }
+        requires marks { IsMarked self.old }
+        ensures right { HasRightMemos self.new }
+        ensures fresh { HasFreshClaims self.new }
+        ensures marks { IsMarked self.new }
+        ensures texts { self.new.texts ≡ self.old.texts }
+        ensures memos { self.new.memos.entries ≡ self.old.memos.entries }
+        ensures taken { self.new.taken ≡ self.old.taken }
+        ensures step { Loses (state_of self.old) claim result (state_of self.new) }
+    {
+        let closed = self.claims.remove(&claim);
+        closed.is_some()
+    }
+
+    /// Empties every memo and closes every claim.
+    pub fn renew(&mut self)
+        requires right { HasRightMemos self.old }
+        requires fresh { HasFreshClaims self.old }
+        requires marks { IsMarked self.old }
+        ensures right { HasRightMemos self.new }
+        ensures fresh { HasFreshClaims self.new }
+        ensures marks { IsMarked self.new }
+        ensures texts { self.new.texts ≡ self.old.texts }
+        ensures step { Renews (state_of self.old) (state_of self.new) }
+    {
+        self.claims.clear();
+        self.memos.clear();
+    }
+
+    /// What a settled node holds.
+    pub fn shown(&self, node: Node) -> Option<&[Output<Token<K, T::Value>>]>
+        requires right { HasRightMemos self.now }
+        requires marks { IsMarked self.now }
+        requires used { Has ((T.net self.now.texts).used) node }
+        ensures open { IfNone result (IsSettledIn self.now node → ⊥) }
+        ensures settled { IfSome result (λ _. IsSettledIn self.now node) }
+        ensures stored { IfSome result (λ outputs. ShowsStored self.now node outputs.now) }
+        ensures solved { IfSome result (λ outputs. ShowsSolved self.now node outputs.now) }
+    {
+        let memos = &self.memos;
+        if !is_marked(memos, node) {
+            return None;
+        }
+        match stored_outputs(memos, node) {
+            Some(outputs) => Some(outputs),
+            None => unreachable!(),
+        }
+    }
+
+    /// Whether every used node is settled.
+    pub fn all_settled(&self) -> bool
+        requires right { HasRightMemos self.now }
+        requires marks { IsMarked self.now }
+        ensures yes { IsTrue result → (n : Node) → Has ((T.net self.now.texts).used) n → IsSettledIn self.now n }
+        ensures no { IsFalse result → (n : Node) × Has ((T.net self.now.texts).used) n × (IsSettledIn self.now n → ⊥) }
+    {
+        are_used_marked(&self.texts, &self.memos)
+    }
+
+    /// The value that an output's token shows.
+    pub fn see(&self, token: &Token<K, T::Value>) -> &T::Value
+        ensures { result.now ≡ token.now.value }
+    {
+        self.store.see(token)
+    }
+}

@@ -1,0 +1,32 @@
+//! Texts with what is kept of computations on them.
+
+ghost use Rattle.std.specs.Prelude.{◌+◌, ◌<◌, ◌≤◌, ◌^◌, length};
+ghost use Rattle.indexmap.specs.IndexMap.{spare};
+
+use memo_core::claims::OpenClaims;
+use memo_core::table::Memos;
+use memo_core::texts::Texts;
+use std::alloc::Global;
+use std::sync::Arc;
+use value_store::{Store, StoreName, Token};
+
+/// No edit and no claim is given a number above this, so that returns always have one.
+pub const LAST: u64 = 0x8000_0000_0000_0000;
+
+/// Texts, what is kept of computations on them, and what is handed out. Each accepted edit, each
+/// claim and each accepted return takes the next number.
+#[derive(Drop)]
+pub struct Graph<K: StoreName, T: Texts> {
+    pub texts: T,
+    pub memos: Memos<Token<K, T::Value>>,
+    pub claims: OpenClaims,
+    /// How many numbers are taken.
+    pub taken: u64,
+    /// Where among the used nodes the search for work goes on.
+    pub(crate) next: usize,
+    pub(crate) store: Arc<Store<K, T::Value>, Global>,
+    ghost room: { length claims.entries ≤ spare memos },
+    ghost small: { length claims.entries < 2 ^ 63 },
+    ghost few: { taken + length claims.entries < 2 ^ 64 },
+    ghost last: { T.last texts ≤ taken },
+}

@@ -1,0 +1,12 @@
+//! A bench of memos over any texts: edits, claims, returns, and which nodes are settled. Read
+//! `memo_core/specs/Graph` and `Step` first (one relation a call), then `specs/Clauses`.
+#![tactic(auto)]
+
+mod events;
+mod finds;
+pub mod graph;
+pub mod job;
+mod marks;
+mod returns;
+mod stores;
+mod work;

@@ -1,0 +1,116 @@
+//! Marks: which nodes are settled, kept up by following users. It takes no memory.
+
+ghost use Rattle.std.specs.Prelude.{◌≡◌, ℕ, IsTrue, IsFalse, length, ◌≤◌, ◌∷◌, [], List, Bool, true, false};
+ghost use Rattle.indexmap.specs.IndexMap.{spare};
+ghost use Rattle.memo_core.specs.declared.keys.Node.{Node as NodeRecord};
+ghost use Rattle.memo_core.specs.Views.{as_memos};
+ghost use Rattle.memo_core.specs.Tests.{all_nodes};
+ghost use Rattle.memo_core.specs.Marks.{mark_of, with_mark_at, unmarked_count, is_ready, IsMarkedTo, AreMarked, HasUnmarked};
+
+use memo_core::keys::{Key, Node};
+use memo_core::table::{Memos, find, matches};
+use memo_core::texts::Texts;
+use value_store::{StoreName, Token};
+
+/// Whether a node is marked.
+pub fn is_marked<K: StoreName, V>(memos: &Memos<Token<K, V>>, node: Node) -> bool
+    ensures { result ≡ mark_of memos.now.entries node }
+{
+    match find(memos, node) {
+        Some(kept) => kept.settled,
+        None => false,
+    }
+}
+
+/// Whether all that a node stands on is marked.
+pub fn inputs_marked<K: StoreName, T: Texts>(
+    texts: &T,
+    memos: &Memos<Token<K, T::Value>>,
+    node: Node,
+) -> bool
+    ensures { result ≡ all_nodes (mark_of memos.now.entries) ((T.net texts.now).inputs node) }
+{
+    let count = texts.input_count(node);
+    for i in 0..count {
+        match texts.input_at(node, i) {
+            Key::Part(_, _) => {}
+            Key::Output(from, _) => {
+                if !is_marked(memos, from) {
+                    return false;
+                }
+            }
+        }
+    }
+    true
+}
+
+/// Whether a node is to be marked now.
+fn can_mark<K: StoreName, T: Texts>(
+    texts: &T,
+    memos: &Memos<Token<K, T::Value>>,
+    node: Node,
+) -> bool
+    ensures { result ≡ is_ready (T.net texts.now) memos.now.entries node }
+{
+    if is_marked(memos, node) {
+        return false;
+    }
+    if !matches(texts, memos, node) {
+        return false;
+    }
+    inputs_marked(texts, memos, node)
+}
+
+/// Marks a node's memo.
+fn mark<K: StoreName, V: Drop>(memos: &mut Memos<Token<K, V>>, node: Node)
+    ensures marks { memos.new.entries ≡ with_mark_at node memos.old.entries }
+    ensures room { spare memos.new ≡ spare memos.old }
+{
+    if let Some(kept) = memos.get_mut(&node) {
+        kept.settled = true;
+    }
+}
+
+/// Marks a node where it is to be marked, and then what stands on it. It takes no memory.
+pub fn settle<K: StoreName, T: Texts>(texts: &T, memos: &mut Memos<Token<K, T::Value>>, node: Node)
+    ensures memos { as_memos memos.new.entries ≡ as_memos memos.old.entries }
+    ensures fewer { unmarked_count memos.new.entries ≤ unmarked_count memos.old.entries }
+    ensures marks { T.is_valid texts.now → (rest : List NodeRecord) → IsMarkedTo (T.net texts.now) memos.old.entries (node ∷ rest) → IsMarkedTo (T.net texts.now) memos.new.entries rest }
+    ensures room { spare memos.new ≡ spare memos.old }
+{
+    if !can_mark(texts, memos, node) {
+        return;
+    }
+    mark(memos, node);
+    let count = texts.user_count(node);
+    for i in 0..count {
+        settle(texts, memos, texts.user_at(node, i));
+    }
+}
+
+/// Marks what is settled, where nothing is marked yet. It takes no memory.
+pub fn settle_all<K: StoreName, T: Texts>(texts: &T, memos: &mut Memos<Token<K, T::Value>>)
+    requires { (n : NodeRecord) → mark_of memos.old.entries n ≡ false }
+    ensures memos { as_memos memos.new.entries ≡ as_memos memos.old.entries }
+    ensures marks { T.is_valid texts.now → IsMarkedTo (T.net texts.now) memos.new.entries [] }
+    ensures room { spare memos.new ≡ spare memos.old }
+{
+    let count = texts.used_count();
+    for i in 0..count {
+        settle(texts, memos, texts.used_at(i));
+    }
+}
+
+/// Whether every used node is marked.
+pub fn are_used_marked<K: StoreName, T: Texts>(texts: &T, memos: &Memos<Token<K, T::Value>>) -> bool
+    ensures yes { IsTrue result → AreMarked (T.net texts.now) memos.now.entries (length (T.net texts.now).used) }
+    ensures no { IsFalse result → HasUnmarked (T.net texts.now) memos.now.entries }
+{
+    let count = texts.used_count();
+    for i in 0..count {
+        if !is_marked(memos, texts.used_at(i)) {
+            return false;
+        }
+    }
+    true
+}

@@ -1,0 +1,5 @@
+pub mod FromScratch
+pub mod Kept
+pub mod Latest
+pub mod Said
+pub mod Valued

@@ -1,0 +1,35 @@
+-- How many values a node gives.
+use Rattle.std.proofs.Common.{ℕ, ◌≡◌, Bool, List, [], ◌∷◌, length, map, Bor, refl, ap, sym, ◌∙◌}
+use Rattle.std.proofs.lemmas.List.{length-map}
+use Rattle.binding_graph.specs.declared.resolved.Role.{Role}
+use Rattle.binding_graph.specs.declared.resolved.Role.TheVariants as roles
+use Rattle.candidates.specs.declared.candidate.Space.{Space}
+use Rattle.cat_eval.specs.declared.column.Column.{Column}
+use Rattle.cat_eval.specs.Columns.{ColumnsOf}
+use Rattle.node_values.specs.Givens.{GivenContent, ForSpace, ForItem, ForVerdict, ForFault}
+use Rattle.node_values.specs.Items.{BodyContent, RoleContent, Group, Check, Silent, body_content, role_content}
+use Rattle.node_values.specs.Makes.{HasColumns, IsMadeBy, Makes, role_outputs, output_count}
+use Rattle.node_values.specs.Spaces.{SpaceContent}
+use Rattle.node_values.specs.Values.{NodeContent, OfColumn, space_of, columns_of}
+
+abbrev bodies_in : RoleContent → List BodyContent
+bodies_in (Group recursive bodies) = bodies
+bodies_in (Check negated word code flag) = []
+bodies_in Silent = []
+
+-- a column for each body
+columns_many : (read : Role) (recursive : Bool) (bodies : List BodyContent) (inputs : List (Bor Column)) (over : Space) (cs : List Column) → role_content read ≡ Group recursive bodies → ColumnsOf read inputs over cs → length cs ≡ length bodies
+columns_many (roles.Group r bs) recursive bodies inputs over cs is are = are.as_many ∙ sym (length-map bs.items body_content) ∙ ap (λ (role : RoleContent). length (bodies_in role)) is
+columns_many (roles.Check check) recursive bodies inputs over cs is are = cc
+columns_many roles.Silent recursive bodies inputs over cs is are = cc
+
+item_many : (role : RoleContent) (space : SpaceContent) (columns : List Column) (outputs : List NodeContent) → IsMadeBy role space columns outputs → length outputs ≡ role_outputs role
+item_many (Group recursive bodies) space columns outputs h = ap length h.1 ∙ length-map h.0 OfColumn ∙ columns_many h.2.read recursive bodies h.2.inputs h.2.over h.0 h.2.reading h.2.values
+item_many (Check negated word code flag) space columns outputs h = ap length h.1
+item_many Silent space columns outputs h = ap length h
+
+pub makes_many : (given : GivenContent) (values outputs : List NodeContent) → Makes given values outputs → length outputs ≡ output_count given
+makes_many (ForSpace parts) values outputs h = ap length h.1
+makes_many (ForItem role) values outputs h = item_many role (space_of values) (columns_of values) outputs h
+makes_many (ForVerdict parts) values outputs h = ap length h.1
+makes_many (ForFault parts) values outputs h = ap length h

@@ -1,0 +1,82 @@
+//! What nodes are given, made of the texts.
+
+ghost use Rattle.std.specs.Prelude.{◌≡◌, IfOk};
+ghost use Rattle.node_values.specs.Givens.{ForSpace, ForItem, ForVerdict, ForFault, asked, faulted};
+ghost use Rattle.node_values.specs.Items.{shared_role};
+ghost use Rattle.node_values.specs.Parts.{parts_of};
+
+use crate::given::{FaultParts, Given, GivenParts, SpaceParts, VerdictParts};
+use crate::items::SharedItem;
+use binding_graph::ModelFault;
+use litmus_values::{Condition, InitEntry, Place, Thread};
+use part_copies::{copied_condition, copied_entries, copied_places, copied_threads};
+use source_text::Name;
+use std::alloc::{AllocError, Global};
+
+fn copied_names(alloc: Global, names: &[Name]) -> Result<Vec<Name>, AllocError>
+    ensures { IfOk result (λ v. v.items ≡ names.now) }
+{
+    let mut copies = Vec::with_capacity(alloc, names.len())?;
+    for name in names {
+        copies.push(name.copied(alloc)?)?;
+    }
+    Ok(copies)
+}
+
+impl Given {
+    /// What the space of these parts is given. Errors: out of memory.
+    pub fn of_space(
+        alloc: Global,
+        init: &[InitEntry],
+        threads: &[Thread],
+        locations: &[Name],
+    ) -> Result<Given, AllocError>
+        ensures { IfOk result (λ g. g ≡ ForSpace (parts_of init.now threads.now locations.now)) }
+    {
+        let parts = SpaceParts {
+            init: copied_entries(alloc, init)?,
+            threads: copied_threads(alloc, threads)?,
+            locations: copied_names(alloc, locations)?,
+        };
+        Given::new(alloc, GivenParts::Space(parts))
+    }
+
+    /// What a group, a check or a flag is given that is this item. Errors: out of memory.
+    pub fn of_item(alloc: Global, item: &SharedItem) -> Result<Given, AllocError>
+        ensures { IfOk result (λ g. g ≡ ForItem (shared_role item.now)) }
+    {
+        Given::new(alloc, GivenParts::Item(item.again()?))
+    }
+
+    /// What a verdict is given with this condition, these observables and these names of flags. Errors: out of memory.
+    pub fn of_verdict(
+        alloc: Global,
+        condition: &Condition,
+        observed: &[Place],
+        flags: Vec<Name>,
+    ) -> Result<Given, AllocError>
+        ensures { IfOk result (λ g. g ≡ ForVerdict (asked condition.now observed.now flags.items)) }
+    {
+        let parts = VerdictParts {
+            condition: copied_condition(alloc, condition)?,
+            observed: copied_places(alloc, observed)?,
+            flags,
+        };
+        Given::new(alloc, GivenParts::Verdict(parts))
+    }
+
+    /// What a verdict is given with this condition under a model with this fault. Errors: out of memory.
+    pub fn of_fault(
+        alloc: Global,
+        condition: &Condition,
+        fault: ModelFault,
+    ) -> Result<Given, AllocError>
+        ensures { IfOk result (λ g. g ≡ ForFault (faulted condition.now fault)) }
+    {
+        let parts = FaultParts {
+            condition: copied_condition(alloc, condition)?,
+            fault,
+        };
+        Given::new(alloc, GivenParts::Fault(parts))
+    }
+}

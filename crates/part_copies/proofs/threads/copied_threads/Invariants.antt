@@ -1,0 +1,6 @@
+use Rattle.std.proofs.Common.{◌≡◌, map, take}
+use Rattle.litmus_values.specs.Value.{steps_of}
+use Rattle.part_copies.proofs.threads.copied_threads.Given as goal
+
+abbrev pub invariant-loop-thread : goal.invariant-loop-thread
+invariant-loop-thread l = map steps_of l.copies.items ≡ map steps_of (take l.thread-index l.threads)

@@ -1,0 +1,222 @@
+-- Paths of at most so many steps.
+use Rattle.std.proofs.Common.{ℕ, zero, suc, ◌≡◌, ◌<◌, ◌≤◌, ◌+◌, ◌-◌, ◌⊎◌, List, [], ◌∷◌, ◌++◌, length, get_or, inl, inr, arith, subst, sym, ◌∙◌, ap, refl, append_assoc, length-append, below_more}
+use Rattle.std.proofs.Math.Seq.{get_or-append_seam}
+use Rattle.std.proofs.lemmas.Bool.{cases_lt}
+use Rattle.std.proofs.lemmas.List.{get_or_read, get_or_append_left, append-nil}
+use Rattle.bit_relations.specs.Pairs.{Path, Union, Composed}
+use Rattle.bit_relations.specs.Relation.{Relation, Has, IsRegular, IsRelation, room_of, no_slot}
+use Rattle.std.specs.List.{Contains}
+use Rattle.bit_relations.proofs.Laws.{grows}
+use Rattle.bit_relations.proofs.Paths.{Path-append}
+use Rattle.relation_cycles.specs.Cycles.{IsCycle, IsCycleFrom, IsShortestCycle, IsShortestThrough, IsReachableIn, AreLevels, IsWhole}
+
+pub IsReachableIn-more : (R : ℕ → ℕ → Type 0) (k a b : ℕ) → IsReachableIn R k a b → IsReachableIn R (k + 1) a b
+IsReachableIn-more R k a b w = let lt : length w.through < k = w.short in record { through = w.through; short = omega arith; path = w.path }
+
+-- a path of a step more is a step, or a step and a path
+pub IsReachableIn-split : (R : ℕ → ℕ → Type 0) (k a b : ℕ) → IsReachableIn R (k + 1) a b → R a b ⊎ Composed R (IsReachableIn R k) a b
+IsReachableIn-split R k a b w = go w.through w.short w.path
+  where
+    go : (xs : List ℕ) → length xs < k + 1 → Path R a xs b → R a b ⊎ Composed R (IsReachableIn R k) a b
+    go [] lt p = inl p
+    go (c ∷ cs) lt p = inr (c, p.0, record { through = cs; short = omega (arith, lt); path = p.1 })
+
+pub IsReachableIn-join : (R : ℕ → ℕ → Type 0) (k a b : ℕ) → R a b ⊎ Composed R (IsReachableIn R k) a b → IsReachableIn R (k + 1) a b
+IsReachableIn-join R k a b (inl r) = record { through = []; short = omega arith; path = r }
+IsReachableIn-join R k a b (inr (c, r, w)) = let lt : length w.through < k = w.short in record { through = c ∷ w.through; short = omega arith; path = (r, w.path) }
+
+-- where no pair is gained by a step more, none is by any number
+pub whole : (R : ℕ → ℕ → Type 0) (k : ℕ) → ((a b : ℕ) → IsReachableIn R (k + 1) a b → IsReachableIn R k a b) → IsWhole R k
+whole R k closed a b p = go a p.0 p.1
+  where
+    go : (a : ℕ) (xs : List ℕ) → Path R a xs b → IsReachableIn R k a b
+    go a [] r = closed a b (IsReachableIn-join R k a b (inl r))
+    go a (c ∷ cs) r = closed a b (IsReachableIn-join R k a b (inr (c, r.0, go c cs r.1)))
+
+-- the levels so far, of which the last is the present one
+pub record IsGrowing (r level : Relation) (levels : List Relation) : Type 0 where
+  pub each : AreLevels (Has r) r.count levels
+  pub some : 0 < length levels
+  pub last : (k : ℕ) → k + 1 ≡ length levels → IsRelation level r.count (IsReachableIn (Has r) k)
+
+-- an event in the middle is still to come
+pub record IsAhead (R S : ℕ → ℕ → Type 0) (a b n event : ℕ) : Type 0 where
+  pub middle : ℕ
+  pub inside : middle < n
+  pub left : R a middle
+  pub right : S middle b
+  pub ahead : event ≤ middle
+
+-- what stands in the list leads from the event to the present one, from which so many steps lead back
+pub record IsTraced (R : ℕ → ℕ → Type 0) (event steps : ℕ) (events : List ℕ) (at left : ℕ) : Type 0 where
+  pub back : IsReachableIn R left at event
+  pub short : length events + left ≤ steps + 1
+  pub tail : List ℕ
+  pub begins : events ≡ event ∷ tail
+  pub leads : (rest : List ℕ) → Path R at rest event → Path R event (tail ++ rest) event
+
+-- a level and the step after it
+pub next_is : (r level product next : Relation) → IsRelation product r.count (Composed (Has r) (Has level)) → IsRelation next product.count (Union (Has product) (Has r)) → (k : ℕ) → IsRelation level r.count (IsReachableIn (Has r) k) → IsRelation next r.count (IsReachableIn (Has r) (k + 1))
+next_is r level product next composed joined k this = record {
+  count = joined.count ∙ composed.count;
+  regular = joined.regular;
+  pairs = λ a b. ((λ h. IsReachableIn-join (Has r) k a b (to a b ((joined.pairs a b).0 h))), (λ w. (joined.pairs a b).1 (from a b (IsReachableIn-split (Has r) k a b w))));
+}
+  where
+    to : (a b : ℕ) → Union (Has product) (Has r) a b → Has r a b ⊎ Composed (Has r) (IsReachableIn (Has r) k) a b
+    to a b (inr h) = inl h
+    to a b (inl h) = let m = (composed.pairs a b).0 h in inr (m.0, m.1, (this.pairs m.0 b).0 m.2)
+
+    from : (a b : ℕ) → Has r a b ⊎ Composed (Has r) (IsReachableIn (Has r) k) a b → Union (Has product) (Has r) a b
+    from a b (inl h) = inr h
+    from a b (inr (m, h, w)) = inl ((composed.pairs a b).1 (m, h, (this.pairs m b).1 w))
+
+module _ (r level : Relation) (levels : List Relation) (g : IsGrowing r level levels) where
+  pub level_count : level.count ≡ r.count
+  level_count = let some : 0 < length levels = g.some in (g.last (length levels - 1) (omega arith)).count
+
+  module _ (next : Relation) (step : (k : ℕ) → IsRelation level r.count (IsReachableIn (Has r) k) → IsRelation next r.count (IsReachableIn (Has r) (k + 1))) where
+    pub all_there : next ≡ level → (k : ℕ) → k + 1 ≡ length levels → IsWhole (Has r) k
+    all_there same k e =
+        let this : IsRelation level r.count (IsReachableIn (Has r) k) = g.last k e in
+        let that : IsRelation next r.count (IsReachableIn (Has r) (k + 1)) = step k this in
+        whole (Has r) k (λ a b w. (this.pairs a b).0 (subst (λ (s : Relation). Has s a b) same ((that.pairs a b).1 w)))
+
+    pub less_room : (next ≡ level → ⊥) → room_of next < room_of level
+    less_room other =
+        let some : 0 < length levels = g.some in
+        let k : ℕ = length levels - 1 in
+        let this : IsRelation level r.count (IsReachableIn (Has r) k) = g.last k (omega arith) in
+        let that : IsRelation next r.count (IsReachableIn (Has r) (k + 1)) = step k this in
+        elim (grows level next this.regular that.regular (this.count ∙ sym that.count) (λ a b h. (that.pairs a b).1 (IsReachableIn-more (Has r) k a b ((this.pairs a b).0 h)))) [
+          | inl same ↦ absurd (other (sym same))
+          | inr less ↦ less
+        ]
+
+    next_last : IsRelation next r.count (IsReachableIn (Has r) (length levels))
+    next_last =
+        let some : 0 < length levels = g.some in
+        let k : ℕ = length levels - 1 in
+        let e : k + 1 ≡ length levels = omega arith in
+        subst (λ (n : ℕ). IsRelation next r.count (IsReachableIn (Has r) n)) e (step k (g.last k e))
+
+    pub grown : IsGrowing r next (levels ++ next ∷ [])
+    grown = record {
+      each = record { each = each };
+      some = let e : length (levels ++ next ∷ []) ≡ length levels + 1 = length-append levels (next ∷ []) in omega arith;
+      last = last;
+    }
+      where
+        each : (k : ℕ) → k < length (levels ++ next ∷ []) → IsRelation (get_or (levels ++ next ∷ []) k no_slot) r.count (IsReachableIn (Has r) k)
+        each k lt = elim (cases_lt k (length levels)) [
+          | inr le ↦ let e : length levels ≡ k = let l : length (levels ++ next ∷ []) ≡ length levels + 1 = length-append levels (next ∷ []) in omega arith in
+              subst (λ (n : ℕ). IsRelation (get_or (levels ++ next ∷ []) n no_slot) r.count (IsReachableIn (Has r) n)) e (rw (get_or-append_seam levels next [] no_slot) next_last)
+          | inl gt ↦ rw (get_or_append_left levels (next ∷ []) no_slot k gt) (g.each.each k gt)
+        ]
+
+        last : (k : ℕ) → k + 1 ≡ length (levels ++ next ∷ []) → IsRelation next r.count (IsReachableIn (Has r) k)
+        last k e = let l : length (levels ++ next ∷ []) ≡ length levels + 1 = length-append levels (next ∷ []) in
+            let same : length levels ≡ k = omega arith in
+            subst (λ (n : ℕ). IsRelation next r.count (IsReachableIn (Has r) n)) same next_last
+
+-- a path begins at an event of the relation
+pub begins_inside : (r : Relation) → IsRegular r → (k a b : ℕ) → IsReachableIn (Has r) k a b → a < r.count
+begins_inside r regular k a b w = go w.through w.path
+  where
+    go : (xs : List ℕ) → Path (Has r) a xs b → a < r.count
+    go [] h = (regular.within a b h).0
+    go (c ∷ cs) h = (regular.within a c h.0).0
+
+-- the level of a number of steps less
+module _ (r : Relation) (levels : List Relation) (all : AreLevels (Has r) r.count levels) (level : Relation) (k : ℕ) (lt : k < length levels) (is : level ≡ get_or levels k level) where
+  pub level_is : IsRelation level r.count (IsReachableIn (Has r) k)
+  level_is = subst (λ (s : Relation). IsRelation s r.count (IsReachableIn (Has r) k)) (sym (get_or_read levels k level lt is no_slot)) (all.each k lt)
+
+  pub none_at : ((j : ℕ) → j < k → (a : ℕ) → IsReachableIn (Has r) j a a → ⊥) → ((a : ℕ) → Has level a a → ⊥) → (j : ℕ) → j < k + 1 → (a : ℕ) → IsReachableIn (Has r) j a a → ⊥
+  none_at before here = below_more (λ (j : ℕ). (a : ℕ) → IsReachableIn (Has r) j a a → ⊥) k before (λ a w. here a ((level_is.pairs a a).1 w))
+
+module _ (R : ℕ → ℕ → Type 0) (event steps : ℕ) (events : List ℕ) (at left : ℕ) (t : IsTraced R event steps events at left) where
+  pub left_below : left ≤ steps
+  left_below =
+      let e : length events ≡ length (event ∷ t.tail) = ap length t.begins in
+      let short : length events + left ≤ steps + 1 = t.short in
+      omega arith
+
+  pub left_some : 0 < left
+  left_some = let short : length t.back.through < left = t.back.short in omega arith
+
+  module _ (other : R at event → ⊥) where
+    pub steps_on : Composed R (IsReachableIn R (left - 1)) at event
+    steps_on =
+        let some : 0 < left = left_some in
+        let e : left ≡ (left - 1) + 1 = omega arith in
+        elim (IsReachableIn-split R (left - 1) at event (subst (λ (n : ℕ). IsReachableIn R n at event) e t.back)) [
+          | inl here ↦ absurd (other here)
+          | inr on ↦ on
+        ]
+
+  pub traced : (next : ℕ) → R at next → IsReachableIn R (left - 1) next event → IsTraced R event steps (events ++ next ∷ []) next (left - 1)
+  traced next r back = record {
+    back = back;
+    short =
+        let e : length (events ++ next ∷ []) ≡ length events + 1 = length-append events (next ∷ []) in
+        let some : 0 < left = left_some in
+        let short : length events + left ≤ steps + 1 = t.short in
+        omega arith;
+    tail = t.tail ++ next ∷ [];
+    begins = ap (λ (xs : List ℕ). xs ++ next ∷ []) t.begins;
+    leads = λ rest p. rw append_assoc (t.leads (next ∷ rest) (r, p));
+  }
+
+  pub closes : R at event → IsCycleFrom R event events
+  closes r = rw t.begins (refl, subst (λ (xs : List ℕ). Path R event xs event) (append-nil t.tail) (t.leads [] r))
+
+-- a list with an event has a front and a back
+record IsCut (xs : List ℕ) (a : ℕ) : Type 0 where
+  front : List ℕ
+  back : List ℕ
+  parts : xs ≡ front ++ a ∷ back
+
+cut : (xs : List ℕ) (k a : ℕ) → k < length xs → get_or xs k a ≡ a → IsCut xs a
+cut [] k a lt e = absurd (omega (arith, lt))
+cut (x ∷ xs) zero a lt e = record { front = []; back = xs; parts = ap (λ (y : ℕ). y ∷ xs) e }
+cut (x ∷ xs) (suc k) a lt e =
+    let rest : IsCut xs a = cut xs k a (omega (arith, lt)) e in
+    record { front = x ∷ rest.front; back = rest.back; parts = ap (λ (ys : List ℕ). x ∷ ys) rest.parts }
+
+Path-split : (R : ℕ → ℕ → Type 0) (a : ℕ) (xs : List ℕ) (c : ℕ) (ys : List ℕ) (b : ℕ) → Path R a (xs ++ c ∷ ys) b → Path R a xs c × Path R c ys b
+Path-split R a [] c ys b p = p
+Path-split R a (x ∷ xs) c ys b p = let rest = Path-split R x xs c ys b p.1 in ((p.0, rest.0), rest.1)
+
+-- a cycle through an event can begin there
+rotated : (R : ℕ → ℕ → Type 0) (front : List ℕ) (a : ℕ) (back : List ℕ) → IsCycle R (front ++ a ∷ back) → Path R a (back ++ front) a
+rotated R [] a back p = rw append-nil p
+rotated R (x ∷ xs) a back p = let parts = Path-split R x xs a back x p in Path-append R a back x xs a parts.1 parts.0
+
+pub shortest_through : (R : ℕ → ℕ → Type 0) (event steps : ℕ) (events : List ℕ) → IsCycleFrom R event events → length events ≤ steps → ((k : ℕ) → k < steps → IsReachableIn R k event event → ⊥) → IsShortestThrough R event events
+shortest_through R event steps events cycle short none = record { cycle = cycle; least = least }
+  where
+    least : (others : List ℕ) → IsCycle R others → Contains others event → length events ≤ length others
+    least others other at =
+        let parts : IsCut others event = cut others at.0 event at.1 at.2 in
+        let same : length others ≡ length (parts.front ++ event ∷ parts.back) = ap length parts.parts in
+        let long : length (parts.front ++ event ∷ parts.back) ≡ length parts.front + length (event ∷ parts.back) = length-append parts.front (event ∷ parts.back) in
+        let round : length (parts.back ++ parts.front) ≡ length parts.back + length parts.front = length-append parts.back parts.front in
+        elim (cases_lt (length others) (length events)) [
+          | inr le ↦ le
+          | inl gt ↦ absurd (none (length others) (omega arith) (record { through = parts.back ++ parts.front; short = omega arith; path = rotated R parts.front event parts.back (subst (λ (xs : List ℕ). IsCycle R xs) parts.parts other) }))
+        ]
+
+pub shortest : (R : ℕ → ℕ → Type 0) (event steps : ℕ) (events : List ℕ) → IsCycleFrom R event events → length events ≤ steps → ((k : ℕ) → k < steps → (a : ℕ) → IsReachableIn R k a a → ⊥) → IsShortestCycle R events
+shortest R event steps events cycle short none = record { cycle = is_cycle events cycle; least = least }
+  where
+    is_cycle : (xs : List ℕ) → IsCycleFrom R event xs → IsCycle R xs
+    is_cycle [] c = c
+    is_cycle (x ∷ xs) c = c.1
+
+    least : (others : List ℕ) → IsCycle R others → length events ≤ length others
+    least [] other = absurd other
+    least (x ∷ xs) other = elim (cases_lt (length (x ∷ xs)) (length events)) [
+      | inr le ↦ le
+      | inl gt ↦ absurd (none (length (x ∷ xs)) (omega arith) x (record { through = xs; short = omega arith; path = other }))
+    ]

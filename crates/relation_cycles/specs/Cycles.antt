@@ -1,0 +1,49 @@
+-- Cycles of a relation, and how long they are.
+use Rattle.std.specs.Prelude.{ℕ, ◌≡◌, ◌<◌, ◌≤◌, List, [], ◌∷◌, length, slice_index_or, Contains}
+pub use Rattle.bit_relations.specs.Pairs.{Path, Plus, IsAcyclic}
+use Rattle.bit_relations.specs.Relation.{Relation, IsRelation, no_slot}
+
+-- each event of the list is related to the next, and the last to the first: a list of n events is a cycle of n steps
+abbrev pub IsCycle : (ℕ → ℕ → Type 0) → List ℕ → Type 0
+IsCycle R [] = ⊥
+IsCycle R (x ∷ xs) = Path R x xs x
+
+-- a cycle that begins at an event
+abbrev pub IsCycleFrom : (ℕ → ℕ → Type 0) → ℕ → List ℕ → Type 0
+IsCycleFrom R a [] = ⊥
+IsCycleFrom R a (x ∷ xs) = (x ≡ a) × Path R x xs x
+
+-- a cycle such that none has fewer steps
+pub record IsShortestCycle (R : ℕ → ℕ → Type 0) (events : List ℕ) : Type 0 where
+  pub cycle : IsCycle R events
+  pub least : (others : List ℕ) → IsCycle R others → length events ≤ length others
+
+-- a cycle that begins at an event, such that none through that event has fewer steps
+pub record IsShortestThrough (R : ℕ → ℕ → Type 0) (a : ℕ) (events : List ℕ) : Type 0 where
+  pub cycle : IsCycleFrom R a events
+  pub least : (others : List ℕ) → IsCycle R others → Contains others a → length events ≤ length others
+
+-- there is a path of at most k steps
+pub record IsReachableIn (R : ℕ → ℕ → Type 0) (k a b : ℕ) : Type 0 where
+  pub through : List ℕ
+  pub short : length through < k
+  pub path : Path R a through b
+
+-- the relation at k has the pairs with a path of at most k steps
+pub record AreLevels (R : ℕ → ℕ → Type 0) (n : ℕ) (levels : List Relation) : Type 0 where
+  pub each : (k : ℕ) → k < length levels → IsRelation (slice_index_or levels k no_slot) n (IsReachableIn R k)
+
+-- each path is matched by one of at most k steps
+abbrev pub IsWhole : (ℕ → ℕ → Type 0) → ℕ → Type 0
+IsWhole R k = (a b : ℕ) → Plus R a b → IsReachableIn R k a b
+
+-- the least event that is related to itself
+pub record IsFirstReflexive (R : ℕ → ℕ → Type 0) (a : ℕ) : Type 0 where
+  pub related : R a a
+  pub least : (b : ℕ) → b < a → R b b → ⊥
+
+-- the least pair, by its first event and then by its second
+pub record IsLeastPair (R : ℕ → ℕ → Type 0) (a b : ℕ) : Type 0 where
+  pub related : R a b
+  pub first : (x y : ℕ) → x < a → R x y → ⊥
+  pub second : (y : ℕ) → y < b → R a y → ⊥

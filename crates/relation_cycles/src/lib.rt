@@ -1,0 +1,148 @@
+//! Why a relation fails a check: a shortest cycle, an event related to itself, a pair.
+//!
+//! Paths are searched breadth first over rows of bits, from all events at once. Definitions: specs/Cycles.
+#![tactic(auto)]
+
+ghost use Rattle.std.specs.Prelude.{◌≡◌, ℕ, ◌<◌, ◌≤◌, ◌+◌, length, slice_index_or, IfOk, MatchOption};
+ghost use Rattle.bit_relations.specs.Pairs.{Composed, Plus, IsAcyclic, IsEmpty, IsIrreflexive};
+ghost use Rattle.bit_relations.specs.Relation.{Has, IsRegular, IsRelation, no_slot};
+ghost use Rattle.relation_cycles.specs.Cycles.{IsCycleFrom, IsShortestCycle, IsShortestThrough, IsReachableIn, AreLevels, IsWhole, IsFirstReflexive, IsLeastPair};
+
+use bit_relations::Rel;
+use std::alloc::{AllocError, Global};
+
+/// The least event that is related to itself: what `irreflexive` finds fault with.
+pub fn first_reflexive(relation: &Rel) -> Option<usize>
+    ensures { MatchOption result (IsIrreflexive (Has relation.now)) (λ a. IsFirstReflexive (Has relation.now) a) }
+{
+    for event in 0..relation.count() {
+        if relation.contains(event, event) {
+            return Some(event);
+        }
+    }
+    None
+}
+
+/// The least pair, by its first event and then by its second: what `empty` finds fault with.
+pub fn least_pair(relation: &Rel) -> Option<(usize, usize)>
+    ensures { MatchOption result (IsEmpty (Has relation.now)) (λ pair. IsLeastPair (Has relation.now) pair.0 pair.1) }
+{
+    let count = relation.count();
+    for from in 0..count {
+        for to in 0..count {
+            if relation.contains(from, to) {
+                return Some((from, to));
+            }
+        }
+    }
+    None
+}
+
+/// The pairs with a path of at most one step more.
+fn next_level(relation: &Rel, level: &Rel) -> Rel
+    requires { level.now.count ≡ relation.now.count }
+    ensures { (k : ℕ) → IsRelation level.now relation.now.count (IsReachableIn (Has relation.now) k) → IsRelation result relation.now.count (IsReachableIn (Has relation.now) (k + 1)) }
+{
+    let mut next = relation.compose(level);
+    next.union_with(relation);
+    next
+}
+
+/// For each number of steps, from 0 on, the pairs with a path of at most so many, until there are no more.
+fn levels_of(alloc: Global, relation: &Rel) -> Result<Vec<Rel>, AllocError>
+    ensures levels { IfOk result (λ v. AreLevels (Has relation.now) relation.now.count v.items) }
+    ensures some { IfOk result (λ v. 0 < length v.items) }
+    ensures whole { IfOk result (λ v. (k : ℕ) → k + 1 ≡ length v.items → IsWhole (Has relation.now) k) }
+{
+    let mut level = Rel::empty(relation.count());
+    let mut levels = Vec::new(alloc);
+    levels.push(level)?;
+    'growing: loop {
+        let next = next_level(relation, &level);
+        if next.is_same(&level) {
+            return Ok(levels);
+        }
+        levels.push(next)?;
+        level = next;
+    }
+}
+
+/// An event that one relation leads to from an event, and from which another leads to a second event.
+fn middle(left: &Rel, right: &Rel, from: usize, to: usize) -> usize
+    requires from { from < left.now.count }
+    requires to { to < left.now.count }
+    requires count { right.now.count ≡ left.now.count }
+    requires regular { IsRegular left.now }
+    requires some { Composed (Has left.now) (Has right.now) from to }
+    ensures left { Has left.now from result }
+    ensures right { Has right.now result to }
+{
+    let mut event = 0;
+    while !(left.contains(from, event) && right.contains(event, to)) {
+        event += 1;
+    }
+    event
+}
+
+/// A cycle from an event, of at most so many steps.
+fn cycle_within(
+    alloc: Global,
+    relation: &Rel,
+    levels: &[Rel],
+    event: usize,
+    steps: usize,
+) -> Result<Vec<usize>, AllocError>
+    requires regular { IsRegular relation.now }
+    requires levels { AreLevels (Has relation.now) relation.now.count levels.now }
+    requires steps { steps < length levels.now }
+    requires some { IsReachableIn (Has relation.now) steps event event }
+    requires inside { event < relation.now.count }
+    ensures cycle { IfOk result (λ v. IsCycleFrom (Has relation.now) event v.items) }
+    ensures short { IfOk result (λ v. length v.items ≤ steps) }
+{
+    let mut cycle = Vec::new(alloc);
+    cycle.push(event)?;
+    let mut at = event;
+    let mut left = steps;
+    'tracing: while !relation.contains(at, event) {
+        left -= 1;
+        at = middle(relation, &levels[left], at, event);
+        cycle.push(at)?;
+    }
+    Ok(cycle)
+}
+
+/// A shortest cycle of those through an event, which it begins with.
+pub fn cycle_through(
+    alloc: Global,
+    relation: &Rel,
+    event: usize,
+) -> Result<Option<Vec<usize>>, AllocError>
+    requires { event < relation.now.count }
+    ensures { IfOk result (λ found. MatchOption found (Plus (Has relation.now) event event → ⊥) (λ v. IsShortestThrough (Has relation.now) event v.items)) }
+{
+    let _regular = relation.count();
+    let levels = levels_of(alloc, relation)?;
+    for steps in 0..levels.len() {
+        if levels[steps].contains(event, event) {
+            let cycle = cycle_within(alloc, relation, &levels, event, steps)?;
+            return Ok(Some(cycle));
+        }
+    }
+    Ok(None)
+}
+
+/// A shortest cycle: what `acyclic` finds fault with.
+pub fn shortest_cycle(alloc: Global, relation: &Rel) -> Result<Option<Vec<usize>>, AllocError>
+    ensures { IfOk result (λ found. MatchOption found (IsAcyclic (Has relation.now)) (λ v. IsShortestCycle (Has relation.now) v.items)) }
+{
+    let _regular = relation.count();
+    let levels = levels_of(alloc, relation)?;
+    for steps in 0..levels.len() {
+        if let Some(event) = first_reflexive(&levels[steps]) {
+            let cycle = cycle_within(alloc, relation, &levels, event, steps)?;
+            return Ok(Some(cycle));
+        }
+    }
+    Ok(None)
+}

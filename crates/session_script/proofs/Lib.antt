@@ -1,0 +1,4 @@
+pub mod Broken
+pub mod Fronts
+pub mod Parted
+pub mod Steps

@@ -1,0 +1,16 @@
+use Rattle.std.proofs.Common.{◌≡◌, ◌≤◌, length}
+use Rattle.session_script.specs.Reading.{left_to, work_of}
+use Rattle.session_script.specs.declared.request.Request.{Request}
+use Rattle.session_script.proofs.Steps.{InText}
+use Rattle.session_script.proofs.state.ScriptReader.text.Given as goal
+
+-- the lines so far are those of the text
+abbrev pub invariant-lines : goal.invariant-lines
+invariant-lines g l = record {
+  same : g.S.ByteSource.failed_calls l.source ≡ g.S.ByteSource.failed_calls l.initial.source;
+  short : length l.text.items ≤ 65537;
+  kept : (r : Request) → InText (left_to l.initial.self (g.S.ByteSource.remaining l.initial.source)) (left_to l.self (g.S.ByteSource.remaining l.source)) r l.text.items;
+}
+
+abbrev pub decreases-lines : goal.decreases-lines
+decreases-lines g l = work_of l.self

@@ -1,0 +1,6 @@
+pub mod Commands
+pub mod Lines
+pub mod Reading
+pub mod Requests
+pub mod Rules
+pub mod Words

@@ -1,0 +1,64 @@
+-- What reading a script leaves to read. `ScriptReader::next` cites IsNext.
+use Rattle.std.specs.Prelude.{◌≡◌, ℕ, ◌+◌, ◌*◌, List, [], ◌∷◌, ◌++◌, Bool, true, false, Option, Some, None, length, drop}
+use Rattle.std.specs.Io.KnownBytes.{prepend_known}
+use Rattle.session_script.specs.declared.command.Command.{Command}
+use Rattle.session_script.specs.declared.command.Command.TheVariants.{Asked, Refused}
+use Rattle.session_script.specs.declared.command.ScriptRule.TheVariants.{NoTextEnd}
+use Rattle.session_script.specs.declared.state.ScriptReader.{ScriptReader}
+use Rattle.session_script.specs.declared.request.Request.{Request}
+use Rattle.session_script.specs.Lines.{lines_of, IsUnbroken}
+use Rattle.session_script.specs.Commands.{commands_of, commands_from, Within, said_by, stage_behind}
+use Rattle.session_script.specs.Requests.{request_of}
+
+-- what is read and not yet used
+abbrev pub waiting_in : ScriptReader → List ℕ
+waiting_in r = drop r.start r.waiting.items
+
+-- the bytes of the script that are left, where the source's are known
+abbrev pub left_to : ScriptReader → Option (List ℕ) → Option (List ℕ)
+left_to r source = prepend_known (waiting_in r) source
+
+-- no more lines than this are left
+abbrev pub work_of : ScriptReader → ℕ
+work_of r = r.turns * 4097 + length (waiting_in r)
+
+-- what waited went to the line, up to the line's end, if it has one there
+abbrev pub IsPart : Bool → List ℕ → List ℕ → List ℕ → List ℕ → Type 0
+IsPart true old new before line = (more : List ℕ) × IsUnbroken more × (line ≡ before ++ more) × (old ≡ more ++ 10 ∷ new)
+IsPart false old new before line = (more : List ℕ) × IsUnbroken more × (line ≡ before ++ more) × (old ≡ more) × (new ≡ [])
+
+-- the first line that was left is this one
+abbrev pub IsLine : Option (List ℕ) → Option (List ℕ) → Option (List ℕ) → Type 0
+IsLine None new line = Unit {0}
+IsLine (Some old) None line = ⊥
+IsLine (Some old) (Some new) None = (lines_of old ≡ []) × (lines_of new ≡ [])
+IsLine (Some old) (Some new) (Some line) = lines_of old ≡ line ∷ lines_of new
+
+-- the request, of which the text was left, is this command
+abbrev pub HasText : Option (List ℕ) → Option (List ℕ) → Request → Command → Type 0
+HasText None new r command = Unit {0}
+HasText (Some old) None r command = ⊥
+HasText (Some old) (Some new) r command = commands_from (Within r []) (lines_of old) ≡ command ∷ commands_of new
+
+-- a request and its text, or its lack of one
+abbrev pub answer_of : Request → Option (List ℕ) → Command
+answer_of r None = Refused NoTextEnd
+answer_of r (Some text) = Asked r text
+
+-- the text that was left of any request is this one
+abbrev pub IsText : Option (List ℕ) → Option (List ℕ) → Option (List ℕ) → Type 0
+IsText old new text = (r : Request) → HasText old new r (answer_of r text)
+
+-- the line of these words, of which the text was left, if it has one, is this command
+abbrev pub IsSaid : Option (List ℕ) → Option (List ℕ) → List (List ℕ) → Command → Type 0
+IsSaid None new words command = Unit {0}
+IsSaid (Some old) None words command = ⊥
+IsSaid (Some old) (Some new) words command =
+    said_by (request_of words) ++ commands_from (stage_behind (request_of words)) (lines_of old) ≡ command ∷ commands_of new
+
+-- the first command that was left is this one
+abbrev pub IsNext : Option (List ℕ) → Option (List ℕ) → Option Command → Type 0
+IsNext None new command = Unit {0}
+IsNext (Some old) None command = ⊥
+IsNext (Some old) (Some new) None = (commands_of old ≡ []) × (commands_of new ≡ [])
+IsNext (Some old) (Some new) (Some command) = commands_of old ≡ command ∷ commands_of new

@@ -1,0 +1,16 @@
+//! The script of a session: where its bytes come from, and the commands that it holds. Read specs/Lines first, then
+//! Words, Requests and Commands.
+#![tactic(auto)]
+
+mod command;
+mod parse;
+mod reader;
+mod request;
+mod source;
+mod state;
+mod words;
+
+pub use command::{Command, ScriptRule};
+pub use request::{Names, Request, ScriptText};
+pub use source::{ByteSource, CallFailed, MemorySource, OfRead, ReadFault, read_front};
+pub use state::ScriptReader;

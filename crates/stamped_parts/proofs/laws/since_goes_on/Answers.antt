@@ -1,0 +1,5 @@
+use Rattle.stamped_parts.proofs.Keeping.{since_stamped}
+use Rattle.stamped_parts.proofs.laws.since_goes_on.Goals as goal
+
+pub returns : goal.returns
+returns c = since_stamped

@@ -1,0 +1,5 @@
+use Rattle.stamped_parts.proofs.Keeping.{since_itself}
+use Rattle.stamped_parts.proofs.laws.since_is_reflexive.Goals as goal
+
+pub returns : goal.returns
+returns c = since_itself

@@ -1,0 +1,61 @@
+//! Laws of states, as the memo core asks for them of texts.
+
+ghost use Rattle.std.specs.Prelude.{◌≡◌, ◌↔◌, ℕ, true};
+ghost use Rattle.std.specs.List.{AllByRecursion as Each};
+ghost use Rattle.memo_core.specs.Laws.{GivenStays, IsUsedClosed, AreUsers, Falls};
+ghost use Rattle.memo_core.specs.Right.{IsSound, PartsGoOn};
+ghost use Rattle.node_values.specs.Values.{NodeContent};
+ghost use Rattle.bench_nodes.specs.Nodes.{used, users, rank};
+ghost use Rattle.stamped_parts.specs.Contents.{State};
+ghost use Rattle.stamped_parts.specs.Equal.{same_value};
+ghost use Rattle.stamped_parts.specs.States.{net_in, makes, IsValid, IsThere, IsSince, IsStamped};
+
+/// Two values of nodes are equal where their codes are.
+pub fn equal_values_are_same()
+    ensures { (a b : NodeContent) → (same_value a b ≡ true) ↔ (a ≡ b) }
+{}
+
+/// Each output among the inputs of a node that is there gets a value, and its input nodes are there.
+pub fn states_are_sound()
+    ensures { (s : State) → IsValid s → IsSound makes (net_in s) (IsThere s) }
+{}
+
+/// Used nodes are there.
+pub fn used_nodes_are_there()
+    ensures { (s : State) → IsValid s → Each (IsThere s) (used s.parts.table) }
+{}
+
+/// The input nodes of a used node are used.
+pub fn inputs_are_used()
+    ensures { (s : State) → IsValid s → IsUsedClosed (net_in s) }
+{}
+
+/// The users of a node hold each used node that has an output of it among its inputs.
+pub fn users_are_listed()
+    ensures { (s : State) → AreUsers (net_in s) (users s.parts.table) }
+{}
+
+/// No node stands on itself.
+pub fn ranks_fall()
+    ensures { (s : State) → IsValid s → Falls (net_in s) (rank s.parts.table) }
+{}
+
+/// A state is since itself.
+pub fn since_is_reflexive()
+    ensures { (s : State) → IsValid s → IsSince s s }
+{}
+
+/// A state after an edit is since all that the state before the edit is since.
+pub fn since_goes_on()
+    ensures { (s t u : State) (number : ℕ) → IsSince s t → IsStamped t number u → IsSince s u }
+{}
+
+/// A node whose inputs and parts are what they were in an earlier state is given what it was.
+pub fn given_stays()
+    ensures { GivenStays IsValid IsSince net_in }
+{}
+
+/// An edit leaves each part its stamp, gives it the edit's number, or drops it.
+pub fn parts_go_on()
+    ensures { (s t : State) (number : ℕ) → IsStamped s number t → PartsGoOn (net_in s) number (net_in t) }
+{}
