@@ -1,6 +1,6 @@
 -- The outcome of a settled cell is that of evaluating from nothing.
 use Rattle.std.proofs.Common.{ℕ, ◌≡◌, zero, suc, List, [], ◌∷◌, ◌++◌, map, Bool, true, false, ◌&&◌, if◌then◌else◌, Some, slice_get, refl, sym, ap, ◌∙◌, subst, arith, ◌+◌}
-use Rattle.std.specs.List.{AllZip, AllByRecursion as All}
+use Rattle.std.specs.List.{AllZip, AllByRecursion as Each}
 use Rattle.std.proofs.lemmas.Option.{none-some}
 use Rattle.litmus_values.specs.declared.test.Test.{Test}
 use Rattle.litmus_values.specs.Value.{formula_of}
@@ -73,7 +73,7 @@ module _ (net : Net GivenContent) (memos : List (Memo NodeContent)) (held : Node
   verdict_holds : Holds memos nodes.verdict (ForVerdict (asked test.condition test.observed.items (flag_names items))) (Output nodes.space 0 ∷ check_keys nodes 0 items)
   verdict_holds = holds net memos held all nodes.verdict _ _ verdict_held are.verdict
 
-  verdict_uses : All (λ m. held m ≡ true) (input_nodes (Output nodes.space 0 ∷ check_keys nodes 0 items))
+  verdict_uses : Each (λ m. held m ≡ true) (input_nodes (Output nodes.space 0 ∷ check_keys nodes 0 items))
   verdict_uses = used_held net memos held all nodes.verdict _ _ verdict_held are.verdict
 
   space_holds : Holds memos nodes.space (ForSpace are.parts) []
@@ -96,13 +96,13 @@ module _ (net : Net GivenContent) (memos : List (Memo NodeContent)) (held : Node
 
   -- ---- items
 
-  names_valued : (names : List Input) (values : List NodeContent) → All (λ m. held m ≡ true) (input_nodes (map (λ name. Output (nodes.item name.item) name.position) names)) → core.ArePresent (at memos) (map (λ name. Output (nodes.item name.item) name.position) names) values → AllZip (IsValueOf table) names values
+  names_valued : (names : List Input) (values : List NodeContent) → Each (λ m. held m ≡ true) (input_nodes (map (λ name. Output (nodes.item name.item) name.position) names)) → core.ArePresent (at memos) (map (λ name. Output (nodes.item name.item) name.position) names) values → AllZip (IsValueOf table) names values
   names_valued [] [] hs h = tt
   names_valued [] (v ∷ vs) hs h = absurd h
   names_valued (n ∷ ns) [] hs h = absurd h
   names_valued (n ∷ ns) (v ∷ vs) hs h = (output_there net memos held all (nodes.item n.item) n.position h.0.0 v hs.0 h.0.1, names_valued ns vs hs.1 h.1)
 
-  item_from : (index : ℕ) (r : ResolvedItem) (values : List NodeContent) → All (λ m. held m ≡ true) (input_nodes (map (λ name. Output (nodes.item name.item) name.position) r.inputs.items)) → core.ArePresent (at memos) (Output nodes.space 0 ∷ map (λ name. Output (nodes.item name.item) name.position) r.inputs.items) values → Makes (ForItem (role_content r.role)) values (values_in memos (nodes.item index)) → IsSolvedItem table index r
+  item_from : (index : ℕ) (r : ResolvedItem) (values : List NodeContent) → Each (λ m. held m ≡ true) (input_nodes (map (λ name. Output (nodes.item name.item) name.position) r.inputs.items)) → core.ArePresent (at memos) (Output nodes.space 0 ∷ map (λ name. Output (nodes.item name.item) name.position) r.inputs.items) values → Makes (ForItem (role_content r.role)) values (values_in memos (nodes.item index)) → IsSolvedItem table index r
   item_from index r [] hs present made = absurd present
   item_from index r (v ∷ vs) hs present made =
       (vs, names_valued r.inputs.items vs hs present.1, subst (λ (w : NodeContent). Makes (ForItem (role_content r.role)) (w ∷ vs) (values_in memos (nodes.item index))) (space_is v present.0) made)
@@ -115,11 +115,11 @@ module _ (net : Net GivenContent) (memos : List (Memo NodeContent)) (held : Node
       let h = holds net memos held all (nodes.item index) _ _ is_held is in
       item_from index r h.values (used_held net memos held all (nodes.item index) _ _ is_held is).1 h.present h.made
 
-  names_needed : (names : List Input) → All (λ name. are.is_used name.item ≡ true) names → All (λ m. held m ≡ true) (input_nodes (map (λ name. Output (nodes.item name.item) name.position) names)) → All (λ name. needed name.item ≡ true) names
+  names_needed : (names : List Input) → Each (λ name. are.is_used name.item ≡ true) names → Each (λ m. held m ≡ true) (input_nodes (map (λ name. Output (nodes.item name.item) name.position) names)) → Each (λ name. needed name.item ≡ true) names
   names_needed [] us hs = tt
   names_needed (n ∷ ns) us hs = (both_of (are.is_used n.item) (held (nodes.item n.item)) us.0 hs.0, names_needed ns us.1 hs.1)
 
-  item_closed : (index : ℕ) (r : ResolvedItem) → needed index ≡ true → slice_get items index ≡ Some r → is_node r.role ≡ true → All (λ name. needed name.item ≡ true) r.inputs.items
+  item_closed : (index : ℕ) (r : ResolvedItem) → needed index ≡ true → slice_get items index ≡ Some r → is_node r.role ≡ true → Each (λ name. needed name.item ≡ true) r.inputs.items
   item_closed index r needs found node =
       let used = first_of (are.is_used index) (held (nodes.item index)) needs in
       let is_held = second_of (are.is_used index) (held (nodes.item index)) needs in
@@ -146,7 +146,7 @@ module _ (net : Net GivenContent) (memos : List (Memo NodeContent)) (held : Node
       gives.1 ∙ ap (λ (w : NodeContent). w ∷ []) (sym same)
 
   -- the values of checks and flags that the verdict uses are their answers
-  answers_are : (index : ℕ) (rs : List ResolvedItem) (values : List NodeContent) → Later index rs → All (λ m. held m ≡ true) (input_nodes (check_keys nodes index rs)) → core.ArePresent (at memos) (check_keys nodes index rs) values → values ≡ answers_in table index rs
+  answers_are : (index : ℕ) (rs : List ResolvedItem) (values : List NodeContent) → Later index rs → Each (λ m. held m ≡ true) (input_nodes (check_keys nodes index rs)) → core.ArePresent (at memos) (check_keys nodes index rs) values → values ≡ answers_in table index rs
   answers_are index [] values later hs present = no_values values present
   answers_are index (r ∷ rs) values later hs present = by_test (is_check r.role) refl values (λ vs hs present. answers_are (suc index) rs vs (rest_later index r rs later) hs present) hs present
     where
@@ -156,7 +156,7 @@ module _ (net : Net GivenContent) (memos : List (Memo NodeContent)) (held : Node
       answers : Bool → List NodeContent
       answers b = (if b then table.outputs index else []) ++ answers_in table (suc index) rs
 
-      by_test : (b : Bool) → is_check r.role ≡ b → (values : List NodeContent) → ((vs : List NodeContent) → All (λ m. held m ≡ true) (input_nodes (check_keys nodes (suc index) rs)) → core.ArePresent (at memos) (check_keys nodes (suc index) rs) vs → vs ≡ answers_in table (suc index) rs) → All (λ m. held m ≡ true) (input_nodes (keys b)) → core.ArePresent (at memos) (keys b) values → values ≡ answers b
+      by_test : (b : Bool) → is_check r.role ≡ b → (values : List NodeContent) → ((vs : List NodeContent) → Each (λ m. held m ≡ true) (input_nodes (check_keys nodes (suc index) rs)) → core.ArePresent (at memos) (check_keys nodes (suc index) rs) vs → vs ≡ answers_in table (suc index) rs) → Each (λ m. held m ≡ true) (input_nodes (keys b)) → core.ArePresent (at memos) (keys b) values → values ≡ answers b
       by_test false e values more hs present = more values hs present
       by_test true e [] more hs present = absurd present
       by_test true e (v ∷ vs) more hs present =
@@ -164,7 +164,7 @@ module _ (net : Net GivenContent) (memos : List (Memo NodeContent)) (held : Node
           ap (λ (l : List NodeContent). v ∷ l) (more vs hs.1 present.1) ∙ ap (λ (l : List NodeContent). l ++ answers_in table (suc index) rs) (sym one)
 
   -- a check or flag is held, as the verdict uses it
-  check_held : (index k : ℕ) (rs : List ResolvedItem) (r : ResolvedItem) → All (λ m. held m ≡ true) (input_nodes (check_keys nodes index rs)) → slice_get rs k ≡ Some r → is_check r.role ≡ true → held (nodes.item (index + k)) ≡ true
+  check_held : (index k : ℕ) (rs : List ResolvedItem) (r : ResolvedItem) → Each (λ m. held m ≡ true) (input_nodes (check_keys nodes index rs)) → slice_get rs k ≡ Some r → is_check r.role ≡ true → held (nodes.item (index + k)) ≡ true
   check_held index k [] r hs found check = absurd (none-some r found)
   check_held index k (q ∷ rs) r hs found check = by_test k (is_check q.role) refl hs found (λ j hs found. check_held (suc index) j rs r hs found check)
     where
@@ -174,11 +174,11 @@ module _ (net : Net GivenContent) (memos : List (Memo NodeContent)) (held : Node
       some_item : Some q ≡ Some r → q ≡ r
       some_item e = cc
 
-      rest : (b : Bool) → All (λ m. held m ≡ true) (input_nodes (keys b)) → All (λ m. held m ≡ true) (input_nodes (check_keys nodes (suc index) rs))
+      rest : (b : Bool) → Each (λ m. held m ≡ true) (input_nodes (keys b)) → Each (λ m. held m ≡ true) (input_nodes (check_keys nodes (suc index) rs))
       rest true hs = hs.1
       rest false hs = hs
 
-      by_test : (k : ℕ) (b : Bool) → is_check q.role ≡ b → All (λ m. held m ≡ true) (input_nodes (keys b)) → slice_get (q ∷ rs) k ≡ Some r → ((j : ℕ) → All (λ m. held m ≡ true) (input_nodes (check_keys nodes (suc index) rs)) → slice_get rs j ≡ Some r → held (nodes.item (suc index + j)) ≡ true) → held (nodes.item (index + k)) ≡ true
+      by_test : (k : ℕ) (b : Bool) → is_check q.role ≡ b → Each (λ m. held m ≡ true) (input_nodes (keys b)) → slice_get (q ∷ rs) k ≡ Some r → ((j : ℕ) → Each (λ m. held m ≡ true) (input_nodes (check_keys nodes (suc index) rs)) → slice_get rs j ≡ Some r → held (nodes.item (suc index + j)) ≡ true) → held (nodes.item (index + k)) ≡ true
       by_test zero true e hs found more = let at_start : index ≡ index + 0 = omega arith in subst (λ (n : ℕ). held (nodes.item n) ≡ true) at_start hs.0
       by_test zero false e hs found more = absurd (let same : q ≡ r = some_item found in let no : false ≡ true = sym e ∙ ap (λ (x : ResolvedItem). is_check x.role) same ∙ check in cc)
       by_test (suc j) b e hs found more = let moved : suc index + j ≡ index + suc j = omega arith in subst (λ (n : ℕ). held (nodes.item n) ≡ true) moved (more j (rest b hs) found)

@@ -1,6 +1,6 @@
 -- What the nodes under a settled verdict hold.
 use Rattle.std.proofs.Common.{ℕ, ◌≡◌, List, [], ◌∷◌, Bool, true, Option, Some, None, slice_get, refl, sym, ap, ◌∙◌, subst, ◌+◌, arith}
-use Rattle.std.specs.List.{AllByRecursion as All}
+use Rattle.std.specs.List.{AllByRecursion as Each}
 use Rattle.memo_core.specs.declared.keys.Node.{Node}
 use Rattle.memo_core.specs.declared.keys.Key.{Key}
 use Rattle.memo_core.specs.declared.keys.Key.TheVariants.{Part, Output}
@@ -42,7 +42,7 @@ same_nodes (Output n x ∷ ks) = ap (λ (ns : List Node). n ∷ ns) (same_nodes 
 -- nodes that are settled, with all that they use
 pub record AreHeld (net : Net GivenContent) (memos : List (Memo NodeContent)) (held : Node → Bool) : Type 0 where
   pub solved : (n : Node) → held n ≡ true → core.IsSolved makes net memos n
-  pub closed : (n : Node) → held n ≡ true → All (λ m. held m ≡ true) (input_nodes (net.inputs n))
+  pub closed : (n : Node) → held n ≡ true → Each (λ m. held m ≡ true) (input_nodes (net.inputs n))
 
 -- the nodes that a settled node stands on
 pub held_under : (net : Net GivenContent) (memos : List (Memo NodeContent)) → AreSolved net memos → (d : ℕ) (n : Node) → Has net.used n → IsSettledBy d net memos n → AreHeld net memos (reached d net n)
@@ -70,8 +70,8 @@ module _ (net : Net GivenContent) (memos : List (Memo NodeContent)) (held : Node
         made = subst (λ (g : GivenContent). Makes g s.values (values_in memos n)) (is.given_is s.made.given s.made.gives) (subst (λ (vs : List NodeContent). Makes s.made.given s.values vs) (sym (values_are n s)) s.made.made.1);
       }
 
-  pub used_held : (n : Node) (given : GivenContent) (uses : List Key) → held n ≡ true → IsNode net n given uses → All (λ m. held m ≡ true) (input_nodes uses)
-  used_held n given uses is_held is = subst (λ (ks : List Key). All (λ m. held m ≡ true) (input_nodes ks)) is.uses_are (subst (λ (ns : List Node). All (λ m. held m ≡ true) ns) (sym (same_nodes (net.inputs n))) (all.closed n is_held))
+  pub used_held : (n : Node) (given : GivenContent) (uses : List Key) → held n ≡ true → IsNode net n given uses → Each (λ m. held m ≡ true) (input_nodes uses)
+  used_held n given uses is_held is = subst (λ (ks : List Key). Each (λ m. held m ≡ true) (input_nodes ks)) is.uses_are (subst (λ (ns : List Node). Each (λ m. held m ≡ true) ns) (sym (same_nodes (net.inputs n))) (all.closed n is_held))
 
   -- the present value of an output is among what its node holds
   pub output_there : (n : Node) (x s : ℕ) (v : NodeContent) → held n ≡ true → at memos (Output n x) ≡ Some (s, v) → slice_get (values_in memos n) x ≡ Some v

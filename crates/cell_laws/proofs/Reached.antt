@@ -1,6 +1,6 @@
 -- The nodes that a settled node stands on: they are settled too, and so are all that they use.
 use Rattle.std.proofs.Common.{ℕ, ◌≡◌, zero, suc, List, [], ◌∷◌, Bool, true, false, ◌||◌, refl, subst}
-use Rattle.std.specs.List.{AllByRecursion as All}
+use Rattle.std.specs.List.{AllByRecursion as Each}
 use Rattle.memo_core.specs.declared.keys.Node.{Node}
 use Rattle.memo_core.specs.Names.{same_node}
 use Rattle.memo_core.specs.Graph.{Memo, Net, input_nodes, IsSettledBy, IsSettled}
@@ -24,12 +24,12 @@ or_right true b h = refl
 or_right false b h = h
 
 -- what holds of all of the first kind holds of all of the second
-pub all_map : (P Q : Node → Type 0) → ((n : Node) → P n → Q n) → (ns : List Node) → All P ns → All Q ns
+pub all_map : (P Q : Node → Type 0) → ((n : Node) → P n → Q n) → (ns : List Node) → Each P ns → Each Q ns
 all_map P Q f [] h = tt
 all_map P Q f (n ∷ ns) h = (f n h.0, all_map P Q f ns h.1)
 
 -- each of these nodes is found by a test that finds it
-any_each : (f : Node → Node → Bool) (ns : List Node) → All (λ n. f n n ≡ true) ns → All (λ m. any_of (λ k. f k m) ns ≡ true) ns
+any_each : (f : Node → Node → Bool) (ns : List Node) → Each (λ n. f n n ≡ true) ns → Each (λ m. any_of (λ k. f k m) ns ≡ true) ns
 any_each f [] h = tt
 any_each f (n ∷ ns) h = (
   or_left (f n n) (any_of (λ k. f k n) ns) h.0,
@@ -37,7 +37,7 @@ any_each f (n ∷ ns) h = (
 )
 
 -- what follows where one of these nodes passes the test
-pub any_gives : (f : Node → Bool) (P : Node → Type 0) (X : Type 0) → ((n : Node) → f n ≡ true → P n → X) → (ns : List Node) → All P ns → any_of f ns ≡ true → X
+pub any_gives : (f : Node → Bool) (P : Node → Type 0) (X : Type 0) → ((n : Node) → f n ≡ true → P n → X) → (ns : List Node) → Each P ns → any_of f ns ≡ true → X
 any_gives f P X g [] all h = absurd (let e : false ≡ true = h in cc)
 any_gives f P X g (n ∷ ns) all h = by_test (f n) refl h (any_gives f P X g ns all.1)
   where
@@ -46,15 +46,15 @@ any_gives f P X g (n ∷ ns) all h = by_test (f n) refl h (any_gives f P X g ns 
     by_test false e h later = later h
 
 -- where one of these nodes reaches a node, they reach what that node uses
-any_closed : (f : Node → Node → Bool) (P : Node → Type 0) (m : Node) (uses : List Node) → ((j : Node) → P j → f j m ≡ true → All (λ k. f j k ≡ true) uses) → (ns : List Node) → All P ns → any_of (λ j. f j m) ns ≡ true → All (λ k. any_of (λ j. f j k) ns ≡ true) uses
+any_closed : (f : Node → Node → Bool) (P : Node → Type 0) (m : Node) (uses : List Node) → ((j : Node) → P j → f j m ≡ true → Each (λ k. f j k ≡ true) uses) → (ns : List Node) → Each P ns → any_of (λ j. f j m) ns ≡ true → Each (λ k. any_of (λ j. f j k) ns ≡ true) uses
 any_closed f P m uses each [] all h = absurd (let e : false ≡ true = h in cc)
 any_closed f P m uses each (n ∷ ns) all h = by_test (f n m) refl h (any_closed f P m uses each ns all.1)
   where
-    by_test : (b : Bool) → f n m ≡ b → (b || any_of (λ j. f j m) ns) ≡ true → (any_of (λ j. f j m) ns ≡ true → All (λ k. any_of (λ j. f j k) ns ≡ true) uses) → All (λ k. (f n k || any_of (λ j. f j k) ns) ≡ true) uses
+    by_test : (b : Bool) → f n m ≡ b → (b || any_of (λ j. f j m) ns) ≡ true → (any_of (λ j. f j m) ns ≡ true → Each (λ k. any_of (λ j. f j k) ns ≡ true) uses) → Each (λ k. (f n k || any_of (λ j. f j k) ns) ≡ true) uses
     by_test true e h later = all_map (λ k. f n k ≡ true) (λ k. (f n k || any_of (λ j. f j k) ns) ≡ true) (λ k r. or_left (f n k) (any_of (λ j. f j k) ns) r) uses (each n all.0 e)
     by_test false e h later = all_map (λ k. any_of (λ j. f j k) ns ≡ true) (λ k. (f n k || any_of (λ j. f j k) ns) ≡ true) (λ k r. or_right (f n k) (any_of (λ j. f j k) ns) r) uses (later h)
 
-both_all : (P Q : Node → Type 0) (ns : List Node) → All P ns → All Q ns → All (λ n. P n × Q n) ns
+both_all : (P Q : Node → Type 0) (ns : List Node) → Each P ns → Each Q ns → Each (λ n. P n × Q n) ns
 both_all P Q [] h g = tt
 both_all P Q (n ∷ ns) h g = ((h.0, g.0), both_all P Q ns h.1 g.1)
 
@@ -63,23 +63,23 @@ module _ {V G : Type 0} (net : Net G) (memos : List (Memo V)) where
   itself zero n s = absurd s
   itself (suc d) n s = or_left (same_node n n) (any_of (λ k. reached d net k n) (input_nodes (net.inputs n))) (same_node_refl n)
 
-  inputs_reached : (d : ℕ) (n : Node) → All (IsSettledBy d net memos) (input_nodes (net.inputs n)) → All (λ m. any_of (λ k. reached d net k m) (input_nodes (net.inputs n)) ≡ true) (input_nodes (net.inputs n))
+  inputs_reached : (d : ℕ) (n : Node) → Each (IsSettledBy d net memos) (input_nodes (net.inputs n)) → Each (λ m. any_of (λ k. reached d net k m) (input_nodes (net.inputs n)) ≡ true) (input_nodes (net.inputs n))
   inputs_reached d n s = any_each (reached d net) (input_nodes (net.inputs n)) (all_map (IsSettledBy d net memos) (λ k. reached d net k k ≡ true) (itself d) (input_nodes (net.inputs n)) s)
 
-  deeper : (d : ℕ) (n : Node) (ks : List Node) → All (λ k. any_of (λ j. reached d net j k) (input_nodes (net.inputs n)) ≡ true) ks → All (λ k. reached (suc d) net n k ≡ true) ks
+  deeper : (d : ℕ) (n : Node) (ks : List Node) → Each (λ k. any_of (λ j. reached d net j k) (input_nodes (net.inputs n)) ≡ true) ks → Each (λ k. reached (suc d) net n k ≡ true) ks
   deeper d n ks h = all_map (λ k. any_of (λ j. reached d net j k) (input_nodes (net.inputs n)) ≡ true) (λ k. reached (suc d) net n k ≡ true) (λ k e. or_right (same_node n k) (any_of (λ j. reached d net j k) (input_nodes (net.inputs n))) e) ks h
 
   -- a node that is reached uses nodes that are reached
-  pub closed : (d : ℕ) (n m : Node) → IsSettledBy d net memos n → reached d net n m ≡ true → All (λ k. reached d net n k ≡ true) (input_nodes (net.inputs m))
+  pub closed : (d : ℕ) (n m : Node) → IsSettledBy d net memos n → reached d net n m ≡ true → Each (λ k. reached d net n k ≡ true) (input_nodes (net.inputs m))
   closed zero n m s r = absurd s
   closed (suc d) n m s r = by_test (same_node n m) refl r (λ j sj e. closed d j m sj e)
     where
-      by_test : (b : Bool) → same_node n m ≡ b → (b || any_of (λ k. reached d net k m) (input_nodes (net.inputs n))) ≡ true → ((j : Node) → IsSettledBy d net memos j → reached d net j m ≡ true → All (λ k. reached d net j k ≡ true) (input_nodes (net.inputs m))) → All (λ k. reached (suc d) net n k ≡ true) (input_nodes (net.inputs m))
-      by_test true e h each = subst (λ (x : Node). All (λ k. reached (suc d) net n k ≡ true) (input_nodes (net.inputs x))) (same_node_exact n m e) (deeper d n (input_nodes (net.inputs n)) (inputs_reached d n s.1))
+      by_test : (b : Bool) → same_node n m ≡ b → (b || any_of (λ k. reached d net k m) (input_nodes (net.inputs n))) ≡ true → ((j : Node) → IsSettledBy d net memos j → reached d net j m ≡ true → Each (λ k. reached d net j k ≡ true) (input_nodes (net.inputs m))) → Each (λ k. reached (suc d) net n k ≡ true) (input_nodes (net.inputs m))
+      by_test true e h each = subst (λ (x : Node). Each (λ k. reached (suc d) net n k ≡ true) (input_nodes (net.inputs x))) (same_node_exact n m e) (deeper d n (input_nodes (net.inputs n)) (inputs_reached d n s.1))
       by_test false e h each = deeper d n (input_nodes (net.inputs m)) (any_closed (reached d net) (IsSettledBy d net memos) m (input_nodes (net.inputs m)) each (input_nodes (net.inputs n)) s.1 h)
 
   -- a node that is reached is settled, and there
-  pub stands : (is_there : Node → Type 0) → ((n : Node) → is_there n → All is_there (input_nodes (net.inputs n))) → (d : ℕ) (n m : Node) → IsSettledBy d net memos n → is_there n → reached d net n m ≡ true → IsSettled net memos m × is_there m
+  pub stands : (is_there : Node → Type 0) → ((n : Node) → is_there n → Each is_there (input_nodes (net.inputs n))) → (d : ℕ) (n m : Node) → IsSettledBy d net memos n → is_there n → reached d net n m ≡ true → IsSettled net memos m × is_there m
   stands is_there there zero n m s t r = absurd s
   stands is_there there (suc d) n m s t r = by_test (same_node n m) refl r (λ j sj tj e. stands is_there there d j m sj tj e)
     where

@@ -1,6 +1,6 @@
 -- The nodes of a cell among those of the core: what their jobs are given and which outputs they use, and when a cell is settled.
 use Rattle.std.specs.Prelude.{◌≡◌, ℕ, suc, List, [], ◌∷◌, ◌++◌, map, Bool, true, if◌then◌else◌, Some, slice_get}
-use Rattle.std.specs.List.{AllByRecursion as All}
+use Rattle.std.specs.List.{AllByRecursion as Each}
 use Rattle.litmus_values.specs.declared.test.Test.{Test}
 use Rattle.cat_values.specs.declared.model.ModelText.{ModelText}
 use Rattle.binding_kinds.specs.declared.fault.ModelFault.{ModelFault}
@@ -52,7 +52,7 @@ pub record AreNodesOf (net : Net GivenContent) (test : Test) (items : List Resol
   pub space : IsNode net nodes.space (ForSpace parts) []
   pub is_used : ℕ → Bool
   pub checks : (index : ℕ) → IsCheckAt items index → is_used index ≡ true
-  pub names : (index : ℕ) (r : ResolvedItem) → is_used index ≡ true → slice_get items index ≡ Some r → is_node r.role ≡ true → All (λ name. is_used name.item ≡ true) r.inputs.items
+  pub names : (index : ℕ) (r : ResolvedItem) → is_used index ≡ true → slice_get items index ≡ Some r → is_node r.role ≡ true → Each (λ name. is_used name.item ≡ true) r.inputs.items
   pub item : (index : ℕ) (r : ResolvedItem) → is_used index ≡ true → slice_get items index ≡ Some r → is_node r.role ≡ true
       → IsNode net (nodes.item index) (ForItem (role_content r.role)) (Output nodes.space 0 ∷ map (λ name. Output (nodes.item name.item) name.position) r.inputs.items)
   pub verdict : IsNode net nodes.verdict (ForVerdict (asked test.condition test.observed.items (flag_names items))) (Output nodes.space 0 ∷ check_keys nodes 0 items)

@@ -9,7 +9,7 @@ mod test_runs;
 
 pub use bit_relations::MAX_EVENTS;
 pub use fault::{DomainFault, DomainRefusal};
-pub use lowering::program;
+pub use lowering::{locations_of, program};
 pub use rounds::{MAX_COMBINATIONS, domain, domain_of};
 pub use test_runs::runs;
 pub use thread_runs::{

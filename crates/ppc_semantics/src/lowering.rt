@@ -147,8 +147,13 @@ fn note_places(alloc: Global, names: &mut Vec<Name>, places: &[Place]) -> Result
     Ok(())
 }
 
-/// The names of all locations of the test, those that occur as addresses among them.
-fn locations_of(alloc: Global, test: &Test) -> Result<Vec<Name>, AllocError>
+/// Returns the names of all locations of the test, each once, in the order of their bytes: those that its init block, its
+/// condition and its observed places name, and those that occur as addresses among the values.
+///
+/// # Errors
+///
+/// Want of memory.
+pub fn locations_of(alloc: Global, test: &Test) -> Result<Vec<Name>, AllocError>
     ensures { IfOk result (λ v. low.AreNames (low.test_names test.now) v.items) }
 {
     let mut names = Vec::new(alloc);
