@@ -1,0 +1,5 @@
+use Rattle.board.proofs.Legal as proof
+use Rattle.board.proofs.laws.legal_is_right.Goals as goal
+
+pub returns : goal.returns
+returns c = proof.legal_is_right

@@ -1,0 +1,4 @@
+pub mod Contents
+pub mod Operations
+pub mod Legal
+pub mod Right
