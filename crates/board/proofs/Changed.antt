@@ -3,7 +3,7 @@ use Rattle.std.proofs.Common.{◌≡◌, ℕ, zero, suc, ◌<◌, ◌≤◌, Lis
 use Rattle.std.specs.Prelude.{remove}
 use Rattle.std.proofs.Math.ListN.{set}
 use Rattle.verdict.specs.declared.answer.Outcome.{Outcome}
-use Rattle.bench_texts.specs.BenchTexts.{changed_at}
+use Rattle.bench_texts.specs.BenchTexts.{changed_at, put_at}
 use Rattle.board.specs.Contents.{RowContent}
 
 pub map-set : {A B : Type 0} (f : A → B) (v : B) → (xs : List A) (i : ℕ) (y : A) → i < length xs → f y ≡ v → map f (set xs i y) ≡ changed_at i (λ _. v) (map f xs)
@@ -41,3 +41,19 @@ pub mapped-more : {A : Type 0} (f : A → A) (xs ys : List A) (i : ℕ) (x y : A
 mapped-more f xs ys i x y lt e at h =
     let made = mapped-set f xs i x y lt (subst (λ zs. x ≡ get_or zs i x) e at) h in
     rw add-one (subst (λ zs. set zs i y ≡ map f (take (suc i) xs) ++ drop (suc i) xs) (sym e) made)
+
+pub map-kept : {A B : Type 0} (f : A → B) (g : A → A) → ((x : A) → f (g x) ≡ f x) → (xs : List A) (i : ℕ) → map f (changed_at i g xs) ≡ map f xs
+map-kept f g same [] i = refl
+map-kept f g same (x ∷ xs) zero = ap (λ z. z ∷ map f xs) (same x)
+map-kept f g same (x ∷ xs) (suc i) = ap (λ r. f x ∷ r) (map-kept f g same xs i)
+
+pub map-changed-put : {A B : Type 0} (f : A → B) (g : A → A) (v : B) → ((x : A) → f (g x) ≡ v) → (xs : List A) (i : ℕ) → i < length xs → map f (changed_at i g xs) ≡ put_at i v (map f xs)
+map-changed-put f g v is [] i lt = absurd (omega arith)
+map-changed-put f g v is (x ∷ xs) zero lt = ap (λ z. z ∷ map f xs) (is x)
+map-changed-put f g v is (x ∷ xs) (suc i) lt = ap (λ r. f x ∷ r) (map-changed-put f g v is xs i (omega arith))
+
+pub map-placed : {A B : Type 0} (f : A → B) (y : A) → (xs : List A) (i : ℕ) → map f (put_at i y xs) ≡ put_at i (f y) (map f xs)
+map-placed f y [] zero = refl
+map-placed f y [] (suc i) = refl
+map-placed f y (x ∷ xs) zero = refl
+map-placed f y (x ∷ xs) (suc i) = ap (λ r. f x ∷ r) (map-placed f y xs i)

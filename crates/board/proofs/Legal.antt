@@ -1,5 +1,5 @@
 -- After legal operations, what a board shows is right.
-use Rattle.std.proofs.Common.{◌≡◌, ℕ, zero, suc, ◌+◌, ◌<◌, ◌≤◌, ◌⊎◌, inl, inr, List, [], ◌∷◌, ◌++◌, length, map, max, Option, Some, None, Bool, true, false, refl, sym, ap, ◌∙◌, subst, arith}
+use Rattle.std.proofs.Common.{◌≡◌, ℕ, ◌<◌, ◌≤◌, ◌⊎◌, inl, inr, List, [], ◌∷◌, ◌++◌, length, map, Option, Some, None, Bool, true, false, refl, sym, ap, ◌∙◌, subst, arith}
 use Rattle.std.specs.Prelude.{slice_get, remove, fold, Contains, if◌then◌else◌, ◌==◌, nat_lt}
 use Rattle.std.specs.Arc.{arc_value}
 use Rattle.std.proofs.lemmas.Option.{none-some}
@@ -20,7 +20,7 @@ use Rattle.board.specs.declared.operation.CellIndex.{CellIndex}
 use Rattle.board.specs.declared.operation.NameChange.{NameChange}
 use Rattle.board.specs.declared.operation.NameChange.TheVariants.{PutTest, DropTest, PutModel, DropModel}
 use Rattle.board.specs.Contents.{RowContent, ColumnContent, BoardContent, cell_at}
-use Rattle.board.specs.Operations.{put_cell, with_cell, open_cell, rows_after, columns_after, after_operation, no_board, open_row, wider_row, narrower_row, with_items}
+use Rattle.board.specs.Operations.{with_cell, open_cell, rows_after, columns_after, after_operation, no_board, open_row, wider_row, narrower_row, with_name}
 use Rattle.board.specs.Legal.{Held, nothing_held, held_with, held_after, number_after, slice_before, slice_after, Announces, IsRightAt, MayFollow, LegalFrom}
 use Rattle.board.specs.Right.{SlicesDecide}
 use Rattle.board.proofs.Lookups.{skip, get_removed, placed, count_put, put_cases, opened_cell, opened_count, narrow_cell, dropped_row, wider_cell, wider_count, narrow_count, longer_cell}
@@ -74,10 +74,11 @@ IsKept h r cells = (c : CellIndex) → (Contains cells c → ⊥) → slice_befo
 
 module _ (decide : SlicesDecide) (h : Held) (rows : List RowContent) (columns : List ColumnContent) (fits : Fits rows columns h) (cells : List CellIndex) where
   put_test_fits : (index : ℕ) (name : List ℕ) (test : Test) → index ≤ length h.tests → IsKept h (made.PutTest index test) cells
-      → Fits (fold open_cell (if nat_lt index (length rows) then rows else rows ++ open_row name columns ∷ []) cells) columns (held_with (made.PutTest index test) h)
+      → Fits (fold open_cell (if nat_lt index (length rows) then changed_at index (with_name name) rows else rows ++ open_row name columns ∷ []) cells) columns (held_with (made.PutTest index test) h)
   put_test_fits index name test le kept =
-      let wide = if nat_lt index (length rows) then rows else rows ++ open_row name columns ∷ [] in
-      let count = opened_count cells wide ∙ count_put rows rows (open_row name columns) index refl (omega (arith, fits.rows_are)) in
+      let named = changed_at index (with_name name) rows in
+      let wide = if nat_lt index (length rows) then named else rows ++ open_row name columns ∷ [] in
+      let count = opened_count cells wide ∙ count_put rows named (open_row name columns) index (length-changed_at (with_name name) rows index) (omega (arith, fits.rows_are)) in
       record {
         rows_are = omega (arith, count, fits.rows_are, length-put_at h.tests index test le);
         columns_are = fits.columns_are;
@@ -85,17 +86,16 @@ module _ (decide : SlicesDecide) (h : Held) (rows : List RowContent) (columns : 
         right = λ i j o e.
             let at : CellIndex = record { test = i; model = j } in
             let q = opened_cell cells wide at o e in
-            let old = fits.right i j o (longer_cell (nat_lt index (length rows)) name columns rows i j o q.0) in
+            let old = fits.right i j o (longer_cell (nat_lt index (length rows)) name index columns rows i j o q.0) in
             carried decide h (held_with (made.PutTest index test) h) (made.PutTest index test) i j o fits.read fits.read (placed test index h.tests i le) refl (kept at q.1) old;
       }
 
-  put_model_fits : (index next : ℕ) (name items : List ℕ) (model : NamedModel) → index ≤ length h.models → IsRead model → IsKept h (made.PutModel index model next) cells
-      → Fits (fold open_cell (if nat_lt index (length columns) then rows else map wider_row rows) cells) (if nat_lt index (length columns) then changed_at index (with_items items) columns else columns ++ (record { name = name; items = items }) ∷ []) (held_with (made.PutModel index model next) h)
-  put_model_fits index next name items model le read kept =
+  put_model_fits : (index next : ℕ) (new : ColumnContent) (model : NamedModel) → index ≤ length h.models → IsRead model → IsKept h (made.PutModel index model next) cells
+      → Fits (fold open_cell (if nat_lt index (length columns) then rows else map wider_row rows) cells) (if nat_lt index (length columns) then changed_at index (λ _. new) columns else columns ++ new ∷ []) (held_with (made.PutModel index model next) h)
+  put_model_fits index next new model le read kept =
       let wide = if nat_lt index (length columns) then rows else map wider_row rows in
       let reads = put_read model index h.models le read fits.read in
-      let new : ColumnContent = record { name = name; items = items } in
-      let count = count_put columns (changed_at index (with_items items) columns) new index (length-changed_at (with_items items) columns index) (omega (arith, fits.columns_are)) in
+      let count = count_put columns (changed_at index (λ _. new) columns) new index (length-changed_at (λ _. new) columns index) (omega (arith, fits.columns_are)) in
       record {
         rows_are = opened_count cells wide ∙ (wider_count (nat_lt index (length columns)) rows ∙ fits.rows_are);
         columns_are = omega (arith, count, fits.columns_are, length-put_at h.models index model le);
@@ -139,7 +139,7 @@ module _ (decide : SlicesDecide) (h : Held) (rows : List RowContent) (columns : 
   edit_fits whole (PutTest at name) (made.PutTest index test) a =
       let le : at ≤ length h.tests = a.1 in
       subst (λ (n : ℕ). Fits (fold open_cell (rows_after (PutTest n name) columns rows) cells) columns (held_with (made.PutTest index test) h)) (sym a.0)
-      (put_test_fits index (arc_value name) test (subst (λ (n : ℕ). n ≤ length h.tests) a.0 le) a.4.kept)
+      (put_test_fits index (arc_value name) test (subst (λ (n : ℕ). n ≤ length h.tests) a.0 le) a.3.kept)
   edit_fits whole (PutTest at name) (made.DropTest index) a = absurd a
   edit_fits whole (PutTest at name) (made.PutModel index model next) a = absurd a
   edit_fits whole (PutTest at name) (made.DropModel index) a = absurd a
@@ -152,7 +152,7 @@ module _ (decide : SlicesDecide) (h : Held) (rows : List RowContent) (columns : 
   edit_fits whole (PutModel at name items) (made.DropTest index) a = absurd a
   edit_fits whole (PutModel at name items) (made.PutModel index model next) a =
       subst (λ (n : ℕ). Fits (fold open_cell (rows_after (PutModel n name items) columns rows) cells) (columns_after (PutModel n name items) columns) (held_with (made.PutModel index model next) h)) (sym a.0)
-      (put_model_fits index next (arc_value name) (arc_value items).items model (subst (λ (n : ℕ). n ≤ length h.models) a.0 a.1) a.6 a.4.kept)
+      (put_model_fits index next (record { name = arc_value name; items = (arc_value items).items }) model (subst (λ (n : ℕ). n ≤ length h.models) a.0 a.1) a.5 a.3.kept)
   edit_fits whole (PutModel at name items) (made.DropModel index) a = absurd a
   edit_fits whole (DropModel at) (made.PutTest index test) a = absurd a
   edit_fits whole (DropModel at) (made.DropTest index) a = absurd a

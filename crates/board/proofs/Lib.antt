@@ -1,3 +1,4 @@
 pub mod Changed
 pub mod Lookups
 pub mod Legal
+pub mod Names

@@ -1,5 +1,5 @@
 -- What a cell is after a change of the rows.
-use Rattle.std.proofs.Common.{◌≡◌, ℕ, zero, suc, ◌+◌, ◌<◌, ◌≤◌, ◌⊎◌, inl, inr, List, [], ◌∷◌, ◌++◌, length, map, max, get_or, Option, Some, None, Bool, true, false, refl, sym, ap, ◌∙◌, subst, arith}
+use Rattle.std.proofs.Common.{◌≡◌, ℕ, zero, suc, ◌+◌, ◌<◌, ◌≤◌, ◌⊎◌, inl, inr, List, [], ◌∷◌, ◌++◌, length, map, max, Option, Some, None, Bool, true, false, refl, sym, ap, ◌∙◌, subst, arith}
 use Rattle.std.specs.Prelude.{slice_get, remove, fold, Contains, if◌then◌else◌, ◌==◌, nat_lt}
 use Rattle.std.proofs.lemmas.Option.{none-some}
 use Rattle.std.proofs.lemmas.Bool.{eqb-true, eqb-false, ltb-true, ltb-false}
@@ -9,7 +9,7 @@ use Rattle.bench_texts.specs.BenchTexts.{changed_at, put_at}
 use Rattle.bench_texts.proofs.Lists.{length-changed_at}
 use Rattle.board.specs.declared.operation.CellIndex.{CellIndex}
 use Rattle.board.specs.Contents.{RowContent, ColumnContent, cells_of, cell_at}
-use Rattle.board.specs.Operations.{with_cell, put_cell, open_cell, open_row, wider_row, narrower_row}
+use Rattle.board.specs.Operations.{with_cell, with_name, put_cell, open_cell, open_row, wider_row, narrower_row}
 
 -- ---- lists
 
@@ -156,6 +156,13 @@ new_cell name columns [] (suc i) j o h = h
 new_cell name columns (r ∷ rs) zero j o h = h
 new_cell name columns (r ∷ rs) (suc i) j o h = new_cell name columns rs i j o h
 
-pub longer_cell : (b : Bool) (name : List ℕ) (columns : List ColumnContent) (rows : List RowContent) (i j : ℕ) (o : Outcome) → cell_at (if b then rows else rows ++ open_row name columns ∷ []) i j ≡ Some (Some o) → cell_at rows i j ≡ Some (Some o)
-longer_cell true name columns rows i j o h = h
-longer_cell false name columns rows i j o h = new_cell name columns rows i j o h
+named_cell : (name : List ℕ) (at : ℕ) (rows : List RowContent) (i j : ℕ) → cell_at (changed_at at (with_name name) rows) i j ≡ cell_at rows i j
+named_cell name at [] i j = refl
+named_cell name zero (r ∷ rs) zero j = refl
+named_cell name zero (r ∷ rs) (suc i) j = refl
+named_cell name (suc at) (r ∷ rs) zero j = refl
+named_cell name (suc at) (r ∷ rs) (suc i) j = named_cell name at rs i j
+
+pub longer_cell : (b : Bool) (name : List ℕ) (at : ℕ) (columns : List ColumnContent) (rows : List RowContent) (i j : ℕ) (o : Outcome) → cell_at (if b then changed_at at (with_name name) rows else rows ++ open_row name columns ∷ []) i j ≡ Some (Some o) → cell_at rows i j ≡ Some (Some o)
+longer_cell true name at columns rows i j o h = sym (named_cell name at rows i j) ∙ h
+longer_cell false name at columns rows i j o h = new_cell name columns rows i j o h

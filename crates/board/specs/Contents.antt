@@ -1,6 +1,6 @@
 -- What a board shows: for each test and each model what is known of the cell. Read this file first, then Operations, then
 -- Legal, then Right.
-use Rattle.std.specs.Prelude.{ℕ, ◌==◌, List, [], Option, Some, None, bytes_eq, slice_get, option_map}
+use Rattle.std.specs.Prelude.{ℕ, List, [], Option, Some, None, bytes_eq, slice_get, option_map}
 use Rattle.std.specs.List.{position_or_len}
 use Rattle.verdict.specs.declared.answer.Outcome.{Outcome}
 use Rattle.compare_report.specs.Cells.{Cell, NoCell, Open, Settled}

@@ -69,21 +69,13 @@ pub record ListsReached (h : Held) (whole : Bool) (r : Replacement) (cells : Lis
   pub exact : (at : CellIndex) → Contains cells at ↔ (IsCellOf (held_with r h) at × IsReached h whole r at.test at.model)
   pub kept : (at : CellIndex) → (Contains cells at → ⊥) → slice_before h at.test at.model ≡ slice_after h r at.test at.model
 
--- a test that has the index already has the name too
-abbrev pub KeepsTestName : Held → ℕ → List ℕ → Type 0
-KeepsTestName h at name = (test : Test) → slice_get h.tests at ≡ Some test → test.name ≡ name
-
-abbrev pub KeepsModelName : Held → ℕ → List ℕ → Type 0
-KeepsModelName h at name = (model : NamedModel) → slice_get h.models at ≡ Some model → model.name ≡ name
-
 -- The change of names is that of what the edit puts or drops. The cells of what is dropped go, so none is listed.
 abbrev pub Announces : Held → (whole : Bool) → NameChange → List CellIndex → Replacement → Type 0
 Announces h whole (PutTest at name) cells (made.PutTest index test) =
-    (at ≡ index) × (at ≤ length h.tests) × (arc_value name ≡ test.name) × KeepsTestName h at test.name
-    × ListsReached h whole (made.PutTest index test) cells
+    (at ≡ index) × (at ≤ length h.tests) × (arc_value name ≡ test.name) × ListsReached h whole (made.PutTest index test) cells
 Announces h whole (DropTest at) cells (made.DropTest index) = (at ≡ index) × (at < length h.tests) × (cells ≡ [])
 Announces h whole (PutModel at name items) cells (made.PutModel index model next) =
-    (at ≡ index) × (at ≤ length h.models) × (arc_value name ≡ model.name) × KeepsModelName h at model.name
+    (at ≡ index) × (at ≤ length h.models) × (arc_value name ≡ model.name)
     × ListsReached h whole (made.PutModel index model next) cells × (Some (arc_value items).items ≡ printed_by (made.PutModel index model next)) × IsRead model
 Announces h whole (DropModel at) cells (made.DropModel index) = (at ≡ index) × (at < length h.models) × (cells ≡ [])
 Announces h whole change cells r = ⊥

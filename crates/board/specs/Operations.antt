@@ -37,23 +37,23 @@ narrower_row model row = record { name = row.name; cells = remove row.cells mode
 
 -- ---- names
 
-abbrev pub with_items : List ℕ → ColumnContent → ColumnContent
-with_items items c = record { name = c.name; items = items }
+abbrev pub with_name : List ℕ → RowContent → RowContent
+with_name name row = record { name = name; cells = row.cells }
 
--- A new name is the last; one that is there keeps its index. A name that is dropped goes, with its cells.
+-- What is put has the index of the name, or is the last; a name that is dropped goes, with its cells.
 abbrev pub rows_after : NameChange → List ColumnContent → List RowContent → List RowContent
-rows_after (PutTest at name) columns rows = if nat_lt at (length rows) then rows else rows ++ open_row (arc_value name) columns ∷ []
+rows_after (PutTest at name) columns rows = if nat_lt at (length rows) then changed_at at (with_name (arc_value name)) rows else rows ++ open_row (arc_value name) columns ∷ []
 rows_after (DropTest at) columns rows = remove rows at
 rows_after (PutModel at name items) columns rows = if nat_lt at (length columns) then rows else map wider_row rows
 rows_after (DropModel at) columns rows = map (narrower_row at) rows
 
--- likewise, with the printed items of a model that is put
+-- likewise, with the printed items of a model
 abbrev pub columns_after : NameChange → List ColumnContent → List ColumnContent
 columns_after (PutTest at name) columns = columns
 columns_after (DropTest at) columns = columns
 columns_after (PutModel at name items) columns =
-    if nat_lt at (length columns) then changed_at at (with_items (arc_value items).items) columns
-    else columns ++ (record { name = arc_value name; items = (arc_value items).items }) ∷ []
+    let column : ColumnContent = record { name = arc_value name; items = (arc_value items).items } in
+    if nat_lt at (length columns) then changed_at at (λ _. column) columns else columns ++ column ∷ []
 columns_after (DropModel at) columns = remove columns at
 
 abbrev pub named_after : NameChange → BoardContent → BoardContent

@@ -1,5 +1,5 @@
 -- What is promised of the outcomes that a board shows, and the names beside them.
-use Rattle.std.specs.Prelude.{◌≡◌, ℕ, List, map, Some, slice_get}
+use Rattle.std.specs.Prelude.{◌≡◌, ℕ, List, map, Some}
 use Rattle.litmus_values.specs.declared.test.Test.{Test}
 use Rattle.litmus_values.specs.Value.{content_of}
 use Rattle.verdict.specs.declared.answer.Outcome.{Outcome}
@@ -7,9 +7,8 @@ use Rattle.bench_texts.specs.declared.model.NamedModel.{NamedModel}
 use Rattle.bench_texts.specs.Held.{IsRead}
 use Rattle.bench_slices.specs.Slices.{slice}
 use Rattle.memo_graph.specs.FromScratch.{IsFromScratch}
-use Rattle.compare_report.specs.Cells.{Settled}
 use Rattle.board.specs.declared.operation.BoardOp.{BoardOp}
-use Rattle.board.specs.Contents.{shown, cell_at}
+use Rattle.board.specs.Contents.{cell_at}
 use Rattle.board.specs.Operations.{board_after}
 use Rattle.board.specs.Legal.{texts_after, IsRightAt}
 

@@ -5,7 +5,7 @@ ghost use Rattle.std.specs.Arc.{arc_value};
 ghost use Rattle.compare_report.specs.Cells.{cell_of};
 
 use crate::changes::{
-    column_index, drop_cells, drop_model, drop_test, open_cells, put_cell, put_items, put_test,
+    column_index, drop_cells, drop_model, drop_test, open_cells, put_cell, put_column, put_test,
     row_index, widened,
 };
 use crate::column::Column;
@@ -140,13 +140,12 @@ impl Board {
     ) -> Result<(), AllocError>
         ensures { MatchResult result (λ _. self.new ≡ named_after (NameChange.PutModel at name.now items.now) self.old) (λ _. self.new ≡ self.old) }
     {
-        let items = Arc::try_clone(items)?;
+        let column = Column::new(Arc::try_clone(name)?, Arc::try_clone(items)?);
         if at < self.columns.len() {
-            put_items(&mut self.columns, at, items);
+            put_column(&mut self.columns, at, column);
             return Ok(());
         }
         let rows = widened(alloc, &self.rows)?;
-        let column = Column::new(Arc::try_clone(name)?, items);
         self.columns.push(column)?;
         self.rows = rows;
         Ok(())

@@ -3,7 +3,7 @@
 ghost use Rattle.std.specs.Prelude.{◌≡◌, IfOk, MatchResult, option_map, map, remove, length, nat_lt, if◌then◌else◌, ◌++◌, ◌∷◌, [], ◌<◌, fold, vec_len};
 ghost use Rattle.std.specs.Arc.{arc_value};
 ghost use Rattle.board.specs.Contents.{row_index, column_index};
-ghost use Rattle.board.specs.Operations.{put_cell, open_cell, open_row, wider_row, narrower_row, with_items};
+ghost use Rattle.board.specs.Operations.{put_cell, open_cell, open_row, wider_row, narrower_row, with_name};
 ghost use Rattle.bench_texts.specs.BenchTexts.{changed_at};
 
 use crate::column::Column;
@@ -11,7 +11,7 @@ use crate::operation::CellIndex;
 use crate::row::Row;
 use source_text::Name;
 use std::alloc::{AllocError, Global};
-use std::mem::drop;
+use std::mem::{drop, replace};
 use std::sync::Arc;
 use verdict::Outcome;
 
@@ -57,15 +57,23 @@ pub(crate) fn open_cells(rows: &mut Vec<Row>, cells: &[CellIndex])
     }
 }
 
-/// Puts other items into a column.
-pub(crate) fn put_items(columns: &mut Vec<Column>, at: usize, items: Arc<Vec<u8>>)
-    requires { at < vec_len columns.old }
-    ensures { columns.new.items ≡ changed_at at (with_items (arc_value items).items) columns.old.items }
+// Gives a row this name.
+fn rename(rows: &mut Vec<Row>, at: usize, name: Arc<Name>)
+    requires { at < vec_len rows.old }
+    ensures { rows.new.items ≡ changed_at at (with_name (arc_value name)) rows.old.items }
 {
-    columns[at].put(items);
+    rows[at].rename(name);
 }
 
-/// Adds a test without outcomes, unless one has that index. Errors: want of memory, and then nothing changes.
+/// Puts a column in the place of another.
+pub(crate) fn put_column(columns: &mut Vec<Column>, at: usize, column: Column)
+    requires { at < vec_len columns.old }
+    ensures { columns.new.items ≡ changed_at at (λ _. column) columns.old.items }
+{
+    drop(replace(&mut columns[at], column));
+}
+
+/// Puts a test: gives the row of that index its name, or adds a row without outcomes. Errors: want of memory, and then nothing changes.
 pub(crate) fn put_test(
     alloc: Global,
     rows: &mut Vec<Row>,
@@ -73,12 +81,14 @@ pub(crate) fn put_test(
     at: usize,
     name: &Arc<Name>,
 ) -> Result<(), AllocError>
-    ensures { MatchResult result (λ _. rows.new.items ≡ (if nat_lt at (length rows.old.items) then rows.old.items else rows.old.items ++ open_row (arc_value name.now) columns.now ∷ [])) (λ _. rows.new.items ≡ rows.old.items) }
+    ensures { MatchResult result (λ _. rows.new.items ≡ (if nat_lt at (length rows.old.items) then changed_at at (with_name (arc_value name.now)) rows.old.items else rows.old.items ++ open_row (arc_value name.now) columns.now ∷ [])) (λ _. rows.new.items ≡ rows.old.items) }
 {
+    let name = Arc::try_clone(name)?;
     if at < rows.len() {
+        rename(rows, at, name);
         return Ok(());
     }
-    let row = Row::open(alloc, Arc::try_clone(name)?, columns)?;
+    let row = Row::open(alloc, name, columns)?;
     rows.push(row)?;
     Ok(())
 }

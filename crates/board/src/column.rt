@@ -1,11 +1,10 @@
 //! The models of a board.
 
-ghost use Rattle.std.specs.Prelude.{◌≡◌, IfOk, OnErr};
+ghost use Rattle.std.specs.Prelude.{◌≡◌};
 ghost use Rattle.std.specs.Arc.{arc_value};
 
 use source_text::Name;
 use std::marker::Model;
-use std::mem::{drop, replace};
 use std::sync::Arc;
 
 /// A model: its name, and its items as the bench prints them.
@@ -25,8 +24,6 @@ impl Model for Column {
 }
 
 impl Column {
-    ghost use Rattle.board.specs.Operations.{with_items};
-
     /// A model of this name with these items.
     pub(crate) fn new(name: Arc<Name>, items: Arc<Vec<u8>>) -> Column
         ensures { result ≡ record { name = arc_value name; items = (arc_value items).items } }
@@ -46,12 +43,5 @@ impl Column {
         ensures { result.now ≡ self.now.items }
     {
         &self.items
-    }
-
-    /// Puts other items in the place of its own.
-    pub(crate) fn put(&mut self, items: Arc<Vec<u8>>)
-        ensures { self.new ≡ with_items (arc_value items).items self.old }
-    {
-        drop(replace(&mut self.items, items));
     }
 }
