@@ -22,7 +22,7 @@ use Rattle.board.specs.declared.operation.NameChange.TheVariants.{PutTest, DropT
 use Rattle.board.specs.Contents.{RowContent, ColumnContent, BoardContent, cell_at}
 use Rattle.board.specs.Operations.{with_cell, open_cell, rows_after, columns_after, after_operation, no_board, open_row, wider_row, narrower_row, with_name}
 use Rattle.board.specs.Legal.{Held, nothing_held, held_with, held_after, number_after, slice_before, slice_after, Announces, IsRightAt, MayFollow, LegalFrom}
-use Rattle.board.specs.Right.{SlicesDecide}
+use Rattle.slice_laws.specs.Laws.{SlicesDecide}
 use Rattle.board.proofs.Lookups.{skip, get_removed, placed, count_put, put_cases, opened_cell, opened_count, narrow_cell, dropped_row, wider_cell, wider_count, narrow_count, longer_cell}
 
 -- each model holds what its items are resolved to

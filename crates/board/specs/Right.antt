@@ -1,22 +1,10 @@
 -- What is promised of the outcomes that a board shows, and the names beside them.
 use Rattle.std.specs.Prelude.{◌≡◌, ℕ, List, map, Some}
-use Rattle.litmus_values.specs.declared.test.Test.{Test}
-use Rattle.litmus_values.specs.Value.{content_of}
 use Rattle.verdict.specs.declared.answer.Outcome.{Outcome}
-use Rattle.bench_texts.specs.declared.model.NamedModel.{NamedModel}
-use Rattle.bench_texts.specs.Held.{IsRead}
-use Rattle.bench_slices.specs.Slices.{slice}
-use Rattle.memo_graph.specs.FromScratch.{IsFromScratch}
 use Rattle.board.specs.declared.operation.BoardOp.{BoardOp}
 use Rattle.board.specs.Contents.{cell_at}
 use Rattle.board.specs.Operations.{board_after}
 use Rattle.board.specs.Legal.{texts_after, IsRightAt}
-
--- what a cell gives from nothing depends on its slice alone
-abbrev pub SlicesDecide : Type 0
-SlicesDecide =
-    (test other : Test) (model under : NamedModel) (outcome : Outcome) → IsRead model → IsRead under
-    → slice (content_of test) model ≡ slice (content_of other) under → IsFromScratch test model.text outcome → IsFromScratch other under.text outcome
 
 -- each settled cell has the outcome of its test under its model in the texts at that moment
 abbrev pub OutcomesAreRight : List BoardOp → Type 0
