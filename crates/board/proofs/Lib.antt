@@ -2,3 +2,4 @@ pub mod Changed
 pub mod Lookups
 pub mod Legal
 pub mod Names
+pub mod Announcing

@@ -6,6 +6,7 @@ use Rattle.verdict.specs.declared.answer.Outcome.{Outcome}
 use Rattle.bench_texts.specs.declared.model.NamedModel.{NamedModel}
 use Rattle.bench_texts.specs.declared.replacement.Replacement.{Replacement}
 use Rattle.bench_texts.specs.declared.replacement.Replacement.TheVariants as made
+use Rattle.bench_texts.specs.declared.texts.Texts.{Texts}
 use Rattle.bench_texts.specs.Held.{IsRead}
 use Rattle.bench_texts.specs.Replacements.{tests_with, models_with, printed_by}
 use Rattle.bench_slices.specs.Slices.{Slice}
@@ -23,6 +24,9 @@ use Rattle.board.specs.declared.operation.NameChange.TheVariants.{PutTest, DropT
 pub record Held : Type 0 where
   pub tests : List Test
   pub models : List NamedModel
+
+abbrev pub held_of : Texts → Held
+held_of t = record { tests = t.tests.items; models = t.models.items }
 
 abbrev pub nothing_held : Held
 nothing_held = record { tests = []; models = [] }

@@ -2,3 +2,4 @@ pub mod Contents
 pub mod Operations
 pub mod Legal
 pub mod Right
+pub mod Lines

@@ -5,6 +5,7 @@
 mod board;
 mod changes;
 mod column;
+mod edit;
 pub mod laws;
 mod operation;
 mod row;
