@@ -1,2 +1,4 @@
 pub mod Cells
 pub mod Views
+pub mod Events
+pub mod Stages

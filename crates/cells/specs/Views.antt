@@ -24,9 +24,9 @@ pub record Task (V G : Type 0) : Type 0 where
 abbrev pub task_of : {V G : Type 0} → ℕ → Node → G → List Key → List V → Task V G
 task_of claim node given keys values = record { claim = claim; node = node; given = given; keys = keys; values = values }
 
--- the return answers the job, with what it was given and its values
-abbrev pub IsOfTask : {V G : Type 0} → Task V G → Return V G → Type 0
-IsOfTask t r = (r.claim ≡ t.claim) × (r.node ≡ t.node) × (r.given ≡ t.given) × (r.keys ≡ t.keys) × (r.values ≡ t.values)
+-- the job that a return answers, with what it was given and its values
+abbrev pub task_answered : {V G : Type 0} → Return V G → Task V G
+task_answered r = task_of r.claim r.node r.given r.keys r.values
 
 -- a return's outputs are what running its node makes, with room for their names
 pub record IsAnswer {V G : Type 0} (makes : Making V G) (n : Node) (given : G) (keys : List Key) (values : List V) (outputs : List (Made (Shown V))) (names : Vec ℕ Global) : Type 0 where

@@ -1,7 +1,7 @@
 //! What is handed out to be computed, and what comes back.
 
 ghost use Rattle.std.specs.Prelude.{◌≡◌, IfOk, IfErr};
-ghost use Rattle.cells.specs.Views.{IsOfTask};
+ghost use Rattle.cells.specs.Views.{task_answered};
 
 use crate::texts::CellTexts;
 use memo_bench::job;
@@ -58,7 +58,7 @@ impl<K: StoreName, T: CellTexts> Job<K, T> {
     /// Computes what its node makes, and puts what is new or changed into the store. Where memory is refused or the store
     /// is full, the job comes back as it was. It may wait while another thread grows the store.
     pub fn run<R: Wait>(self, rt: &R, alloc: Global) -> Result<Done<K, T>, (Job<K, T>, RunFault)>
-        ensures same { IfOk result (IsOfTask self) }
+        ensures same { IfOk result (λ done. task_answered done ≡ self) }
         ensures made { IfOk result (λ done. T.makes done.node done.given done.keys done.values done.outputs) }
         ensures err { IfErr result (λ refusal. refusal.0 ≡ self) }
     {

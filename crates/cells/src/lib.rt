@@ -4,6 +4,9 @@
 #![tactic(auto)]
 
 pub mod bench;
+pub mod events;
 pub mod job;
+mod run;
 pub mod shown;
+mod stage;
 pub mod texts;

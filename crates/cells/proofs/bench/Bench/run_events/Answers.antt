@@ -1,0 +1,23 @@
+use Rattle.std.proofs.Common.{◌≡◌, ◌<◌, ◌≤◌, ◌+◌, ◌++◌, ◌∷◌, [], length, vec_len, vec_capacity, arith}
+use Rattle.memo_core.specs.Laws.{meaning}
+use Rattle.cells.specs.Stages.{tasks_in}
+use Rattle.cells.proofs.Jobs.{answered_last, length_last, rest_step, rest_end}
+use Rattle.cells.proofs.bench.Bench.run_events.Goals as goal
+
+pub loop-event-preserved : goal.loop-event-preserved
+loop-event-preserved g c =
+    let t = g.T.Texts in
+    record {
+      answered = rw c.in-Ok.ensures.items (answered_last (meaning t.net t.is_valid t.since t.makes t.keeps t.edited) t.refuses c.args.self.now c.loop-event.self c.answer-reply.new.self [] (tasks_in c.loop-event.jobs.items)
+          (tasks_in c.answer-reply.new.jobs.items) c.loop-event.yielded c.loop-event.replies.items c.in-Some.event c.answer-reply.result c.loop-event.invariant.answered c.answer-reply.ensures.answered);
+      rest = rest_step c.loop-event.yielded c.loop-event.event-iterator.rest.items c.next.new.self.rest.items c.args.events.now c.in-Some.event c.in-Some.ensures.steps.0 c.loop-event.invariant.rest;
+      replied = rw length_last (omega (arith, c.in-Ok.ensures.len, c.loop-event.invariant.replied));
+      few = rw length_last (omega (arith, c.answer-reply.ensures.len, c.loop-event.invariant.few));
+      replies_fit = omega (arith, c.in-Ok.ensures.capacity, c.loop-event.invariant.replies_fit);
+      jobs_fit = omega (arith, c.answer-reply.ensures.capacity, c.loop-event.invariant.jobs_fit);
+    }
+
+pub returns-clause-answered : goal.returns-clause-answered
+returns-clause-answered g c =
+    let e : c.loop-event.yielded ≡ c.args.events.now = rest_end c.loop-event.yielded c.loop-event.event-iterator.rest.items c.args.events.now (omega (arith, c.in-None.ensures.steps.0, c.loop-event.event-iterator.rest.ok.0)) c.loop-event.invariant.rest in
+    (tasks_in c.loop-event.jobs.items, rw e at c.loop-event.invariant.answered)
