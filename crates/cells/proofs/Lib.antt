@@ -1,2 +1,4 @@
 pub mod Solved
 pub mod Jobs
+pub mod Listed
+pub mod CellRuns

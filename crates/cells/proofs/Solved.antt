@@ -1,9 +1,8 @@
-use Rattle.std.proofs.Common.{◌≡◌, ℕ, List, Option, Some, None, option_map, refl, ap, sym, ◌∙◌}
+use Rattle.std.proofs.Common.{◌≡◌, ℕ, List, Option, Some, None, option_map, ap, sym, ◌∙◌}
 use Rattle.std.specs.List.{AllByRecursion as Each}
 use Rattle.memo_core.specs.declared.keys.Node.{Node}
-use Rattle.memo_core.specs.declared.keys.Key.TheVariants.{Output}
 use Rattle.memo_core.specs.declared.keys.Output.{Output as Made}
-use Rattle.memo_core.specs.Graph.{Memo, Net, memo_of, at, output_at, stored_at}
+use Rattle.memo_core.specs.Graph.{Memo, Net, memo_of, output_at, stored_at}
 use Rattle.memo_core.specs.Laws.{GivenStays, IsUsedClosed}
 use Rattle.memo_core.specs.Right.{Making, IsRight, IsCounted, IsSound}
 use Rattle.memo_core.proofs.Counted.{counted_made}

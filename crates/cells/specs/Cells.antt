@@ -1,6 +1,5 @@
 -- Read this first: what a cell shows of a bench (`IsShown`), and what texts of tests and models owe to a bench of cells.
 use Rattle.std.specs.Prelude.{◌≡◌, ℕ, zero, suc, List, Option, Some, None, Bool}
-use Rattle.std.specs.Borrow.{Bor}
 use Rattle.memo_core.specs.declared.keys.Node.{Node}
 use Rattle.memo_core.specs.declared.keys.Key.TheVariants.{Output}
 use Rattle.memo_core.specs.Graph.{Memo, Net, at, input_nodes, IsSettled}

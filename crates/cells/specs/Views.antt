@@ -6,7 +6,7 @@ use Rattle.memo_core.specs.declared.keys.Node.{Node}
 use Rattle.memo_core.specs.declared.keys.Key.{Key}
 use Rattle.memo_core.specs.declared.keys.Output.{Output as Made}
 use Rattle.memo_core.specs.declared.claims.Claim.{Claim}
-use Rattle.memo_core.specs.Graph.{Net, named_values}
+use Rattle.memo_core.specs.Graph.{named_values}
 use Rattle.memo_core.specs.Right.{Making, IsRight, IsCounted}
 use Rattle.memo_core.specs.Views.{Slot, as_memos, shown_outputs}
 use Rattle.memo_core.specs.Step.{Return, open_claims, AreNumbered}

@@ -6,6 +6,7 @@
 pub mod bench;
 pub mod events;
 pub mod job;
+pub mod laws;
 mod run;
 pub mod shown;
 mod stage;

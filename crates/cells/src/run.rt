@@ -46,11 +46,7 @@ fn copy_events<T: CellTexts>(
 
 impl<K: StoreName, T: CellTexts> Bench<K, T> {
     /// Gives out a job, which is kept with the others, for which there is room.
-    fn claim_next(
-        &mut self,
-        alloc: Global,
-        jobs: &mut Vec<Option<Stage<K, T>>>,
-    ) -> Reply<T::Fault>
+    fn claim_next(&mut self, alloc: Global, jobs: &mut Vec<Option<Stage<K, T>>>) -> Reply<T::Fault>
         requires { vec_len jobs.old < vec_capacity jobs.old }
         ensures answered { IsAnswered (meaning T.net T.is_valid T.since T.makes T.keeps T.edited) T.refuses self.old (tasks_in jobs.old.items) Event.Claim result self.new (tasks_in jobs.new.items) }
         ensures len { vec_len jobs.new ≤ vec_len jobs.old + 1 }

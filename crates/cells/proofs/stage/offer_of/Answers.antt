@@ -1,7 +1,7 @@
-use Rattle.std.proofs.Common.{◌≡◌, ◌∙◌, ◌<◌, length, drop, ap, sym, arith}
+use Rattle.std.proofs.Common.{◌∙◌, ◌<◌, length, ap, sym, arith}
 use Rattle.cells.specs.Events.{task_given}
-use Rattle.cells.specs.Stages.{stage_tasks, tasks_in}
-use Rattle.cells.proofs.Jobs.{one_item, given_step, given_there, tasks_set, made_given}
+use Rattle.cells.specs.Stages.{tasks_in}
+use Rattle.cells.proofs.Jobs.{given_step, given_there, tasks_set, made_given}
 use Rattle.cells.proofs.stage.offer_of.Goals as goal
 
 pub returns-then-is_of_claim-clause-tasks : goal.returns-then-is_of_claim-clause-tasks

@@ -1,4 +1,4 @@
-use Rattle.std.proofs.Common.{◌∙◌, ap, Some}
+use Rattle.std.proofs.Common.{◌∙◌, ap}
 use Rattle.cells.specs.Stages.{tasks_in}
 use Rattle.cells.proofs.Jobs.{tasks_last}
 use Rattle.cells.proofs.bench.Bench.claim_next.Goals as goal

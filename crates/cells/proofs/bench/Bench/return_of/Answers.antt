@@ -1,4 +1,3 @@
-use Rattle.std.proofs.Common.{◌≡◌, ◌∙◌, sym}
 use Rattle.memo_core.specs.Laws.{meaning}
 use Rattle.cells.specs.Events.{task_given}
 use Rattle.cells.specs.Stages.{tasks_in}

@@ -1,4 +1,4 @@
-use Rattle.std.proofs.Common.{◌≡◌, ◌<◌, ◌≤◌, ◌+◌, ◌++◌, ◌∷◌, [], length, vec_len, vec_capacity, arith}
+use Rattle.std.proofs.Common.{◌≡◌, [], arith}
 use Rattle.memo_core.specs.Laws.{meaning}
 use Rattle.cells.specs.Stages.{tasks_in}
 use Rattle.cells.proofs.Jobs.{answered_last, length_last, rest_step, rest_end}

@@ -1,4 +1,4 @@
-use Rattle.std.proofs.Common.{◌≡◌, Some, None, refl, ap, sym, ◌∙◌, subst}
+use Rattle.std.proofs.Common.{Some, None, ap, sym, ◌∙◌}
 use Rattle.memo_core.specs.Views.{as_memos, shown_outputs}
 use Rattle.cells.proofs.Solved.{bench_solved, value_shows, no_value, same_value, carries_same}
 use Rattle.cells.proofs.bench.Bench.shown.Goals as goal
