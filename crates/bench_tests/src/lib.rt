@@ -4,9 +4,12 @@
 
 pub mod bench;
 #[cfg(test)]
+mod cell_tests;
+#[cfg(test)]
 mod core_tests;
 pub mod nodes;
 pub mod rows;
 pub mod sheet;
+pub mod sheet_cells;
 #[cfg(test)]
 mod store_tests;
