@@ -21,8 +21,8 @@ verdict_at rows test (m ∷ ms) = None
 
 -- the row is there, and this is the sum of its number and the tens
 abbrev pub IsSum : ℕ → Option (ℕ × ℕ) → ℕ → Type 0
-IsSum tens None o = ⊥
-IsSum tens (Some r) o = o ≡ (r.1 + tens) % 2 ^ 64
+IsSum addend None o = ⊥
+IsSum addend (Some r) o = o ≡ (r.1 + addend) % 2 ^ 64
 
 -- what evaluating a cell from nothing gives
 abbrev pub from_scratch : Sheet → List ℕ → List ℕ → ℕ → Type 0

@@ -78,7 +78,13 @@ fn settling<R: Abort + Wait, K: StoreName>(
         Event::Return(9),
         Event::Claim,
     ];
-    answers(rt, alloc, bench, &first, &[101, 102, 203, 2, 7, 4, 205, 7, 4, 2])?;
+    answers(
+        rt,
+        alloc,
+        bench,
+        &first,
+        &[101, 102, 203, 2, 7, 4, 205, 7, 4, 2],
+    )?;
     assert_eq!(rt; shown(bench, 7), 17);
     assert_eq!(rt; shown(bench, 8), 1);
     assert!(rt; bench.all_settled());

@@ -2,7 +2,6 @@
 //! first: what a sheet means. The tests compare what a bench shows with evaluation from nothing.
 #![tactic(auto)]
 
-pub mod bench;
 #[cfg(test)]
 mod cell_tests;
 #[cfg(test)]

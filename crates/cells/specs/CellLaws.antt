@@ -1,10 +1,11 @@
 -- Read after Cells and Events: what holds of any run of events, cited by `laws`.
-use Rattle.std.specs.Prelude.{◌≡◌, ◌≤◌, ℕ, List, [], Bool, false, not, Some}
+use Rattle.std.specs.Prelude.{◌≡◌, ◌+◌, ◌≤◌, ℕ, List, [], Bool, false, not, Some}
 use Rattle.std.specs.List.{AllByRecursion as Each}
 use Rattle.memo_core.specs.declared.keys.Node.{Node}
 use Rattle.memo_core.specs.declared.keys.Key.{Key}
 use Rattle.memo_core.specs.Graph.{IsSettled}
 use Rattle.memo_core.specs.Right.{IsUntouchedBy}
+use Rattle.memo_core.specs.Laws.{DecidesSettled}
 use Rattle.memo_core.specs.Run as core
 use Rattle.memo_core.specs.Run.{Bench, Meaning, state_in, Step, Run, IsStart, IsFreshFrom, count_unsettled}
 use Rattle.memo_core.specs.Step.{IsWork}
@@ -12,7 +13,7 @@ use Rattle.memo_core.specs.Work.{IsJobEvent, numbers_given, accepted_count}
 use Rattle.cells.specs.declared.events.Event.{Event}
 use Rattle.cells.specs.declared.events.Reply.{Reply}
 use Rattle.cells.specs.Cells.{Cells, IsSettledCell, IsNeeded}
-use Rattle.cells.specs.Events.{Refusing, Answers}
+use Rattle.cells.specs.Events.{Refusing, Answers, IsJob, accepted_among}
 
 -- after any list of events, the outcome of a settled cell is what evaluating the present texts from nothing gives
 abbrev pub SettledCellIsFromScratch : {T E V G O : Type 0} → Meaning T E V G → Cells T E V O → Type 0
@@ -55,3 +56,10 @@ QuietCellsAreSettled {T} {E} {V} {G} means of =
 abbrev pub ListsAreRuns : {T E V G F : Type 0} → Meaning T E V G → Refusing T E F → Type 0
 ListsAreRuns {T} {E} {V} {G} {F} means refuses =
     (old new : Bench T V) (events : List (Event E)) (replies : List (Reply F)) → Answers means refuses old events replies new → (run : List (core.Event E V G)) × Run means old run new
+
+-- after any list of events, no more returns of a list of claims, returns and losses are accepted than it settles used nodes
+abbrev pub ListBoundsWork : {T E V G F : Type 0} → Meaning T E V G → Refusing T E F → Type 0
+ListBoundsWork {T} {E} {V} {G} {F} means refuses =
+    (earlier : List (core.Event E V G)) (first start end : Bench T V) (events : List (Event E)) (replies : List (Reply F)) (before after : Node → Bool) → IsStart means.is_valid means.net first → Run means first earlier start
+    → Answers means refuses start events replies end → Each IsJob events → DecidesSettled (state_in means start) before → DecidesSettled (state_in means end) after
+    → accepted_among replies + count_unsettled after (means.net end.texts).used ≤ count_unsettled before (means.net start.texts).used

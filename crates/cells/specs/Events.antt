@@ -1,6 +1,6 @@
 -- Read after Cells: what an event of a list and its reply make of a bench (`IsAnswered`), and a list of events with its
 -- replies (`Answers`).
-use Rattle.std.specs.Prelude.{◌≡◌, ℕ, ◌+◌, ◌≤◌, Bool, false, ◌||◌, ◌==◌, leb, List, [], ◌∷◌, ◌++◌, Option, Some, None, Result, Ok, Err, if◌then◌else◌}
+use Rattle.std.specs.Prelude.{◌≡◌, ℕ, ◌+◌, ◌≤◌, ⊤, Bool, false, ◌||◌, ◌==◌, leb, List, [], ◌∷◌, ◌++◌, Option, Some, None, Result, Ok, Err, if◌then◌else◌}
 use Rattle.value_store.specs.declared.fault.StoreFault.{StoreFault}
 use Rattle.memo_core.specs.declared.claims.ClaimFault.{ClaimFault}
 use Rattle.memo_core.specs.declared.claims.ClaimFault.TheVariants.{Spent}
@@ -9,6 +9,7 @@ use Rattle.memo_core.specs.declared.claims.Finish.TheVariants.{Unknown}
 use Rattle.memo_core.specs.Step.{Return as Returning}
 use Rattle.memo_core.specs.Run as core
 use Rattle.memo_core.specs.Run.{Bench, Meaning, Step}
+use Rattle.memo_core.specs.Work.{is_accepted}
 use Rattle.memo_bench.specs.declared.graph.TheConstants.{LAST}
 use Rattle.cells.specs.declared.events.Event.{Event}
 use Rattle.cells.specs.declared.events.Event.TheVariants.{Edit, Claim, Return, Lose, Renew}
@@ -24,6 +25,28 @@ task_given claim (t ∷ ts) = if claim == t.claim then Some t else task_given cl
 abbrev pub has_claim : {V G : Type 0} → ℕ → List (Task V G) → Bool
 has_claim claim [] = false
 has_claim claim (t ∷ ts) = (claim == t.claim) || has_claim claim ts
+
+-- a claim, a return or a loss
+abbrev pub IsJob : {E : Type 0} → Event E → Type 0
+IsJob (Edit e) = ⊥
+IsJob Claim = ⊤
+IsJob (Return claim) = ⊤
+IsJob (Lose claim) = ⊤
+IsJob Renew = ⊥
+
+-- 1 for a return that is accepted
+abbrev pub accepted_in : {F : Type 0} → Reply F → ℕ
+accepted_in (Edited answer) = 0
+accepted_in (Claimed answer) = 0
+accepted_in (Returned (Ok answer)) = if is_accepted answer then 1 else 0
+accepted_in (Returned (Err fault)) = 0
+accepted_in (Lost answer) = 0
+accepted_in Renewed = 0
+
+-- how many returns are accepted
+abbrev pub accepted_among : {F : Type 0} → List (Reply F) → ℕ
+accepted_among [] = 0
+accepted_among (r ∷ rs) = accepted_in r + accepted_among rs
 
 -- how texts refuse an edit, where the numbers are spent or not
 abbrev pub Refusing : Type 0 → Type 0 → Type 0 → Type 1

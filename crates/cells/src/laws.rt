@@ -3,7 +3,7 @@
 ghost use Rattle.memo_core.specs.Laws.{meaning};
 ghost use Rattle.memo_core.specs.Work.{ReturnsLowerInRuns, WorkIsBounded, WorkUnsettlesNone};
 ghost use Rattle.cells.specs.Cells.{cells};
-ghost use Rattle.cells.specs.CellLaws.{SettledCellIsFromScratch, UnreachedCellStays, OnlyNeededIsGiven, NoneIsOutTwice, EditBoundsWork, QuietCellsAreSettled, ListsAreRuns};
+ghost use Rattle.cells.specs.CellLaws.{SettledCellIsFromScratch, UnreachedCellStays, OnlyNeededIsGiven, NoneIsOutTwice, EditBoundsWork, QuietCellsAreSettled, ListsAreRuns, ListBoundsWork};
 
 use crate::texts::CellTexts;
 
@@ -34,7 +34,11 @@ pub fn exact_work<T: CellTexts>()
     memo_core::laws::exact_work::<T>();
 }
 
-/// What `run_events` does is such a run, so all of this holds of it.
+/// What `run_events` does is such a run, so all of this holds of it. Of a list of claims, returns and losses no more returns
+/// are accepted than it settles used nodes.
 pub fn listed<T: CellTexts>()
-    ensures { ListsAreRuns (meaning T.net T.is_valid T.since T.makes T.keeps T.edited) T.refuses }
-{}
+    ensures runs { ListsAreRuns (meaning T.net T.is_valid T.since T.makes T.keeps T.edited) T.refuses }
+    ensures bounded { ListBoundsWork (meaning T.net T.is_valid T.since T.makes T.keeps T.edited) T.refuses }
+{
+    memo_core::laws::exact_work::<T>();
+}
