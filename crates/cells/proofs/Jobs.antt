@@ -98,10 +98,13 @@ length_last [] x = refl
 length_last (y ∷ xs) x = omega (arith, length_last xs x)
 
 -- one event more is taken from the rest
-pub rest_step : {X : Type 0} (xs rest later all : List X) (x : X) → rest ≡ x ∷ later → xs ++ rest ≡ all → (xs ++ x ∷ []) ++ later ≡ all
-rest_step {X} xs rest later all x is h = append_assoc xs (x ∷ []) later ∙ ap (λ (ys : List X). xs ++ ys) (sym is) ∙ h
+pub rest_step : {X : Type 0} (xs rest later : List X) (x : X) → rest ≡ x ∷ later → xs ++ rest ≡ (xs ++ x ∷ []) ++ later
+rest_step {X} xs rest later x is = ap (λ (ys : List X). xs ++ ys) is ∙ sym (append_assoc xs (x ∷ []) later)
+
+pub rest_total : {X : Type 0} (rest later : List X) (x : X) (n all : ℕ) → rest ≡ x ∷ later → n + length rest ≡ all → (n + 1) + length later ≡ all
+rest_total {X} rest later x n all is h = let l : length rest ≡ suc (length later) = ap (λ (ys : List X). length ys) is in omega (arith, l, h)
 
 -- at the end there is no rest
-pub rest_end : {X : Type 0} (xs rest all : List X) → length rest ≡ 0 → xs ++ rest ≡ all → xs ≡ all
-rest_end xs [] all l h = sym (append-nil xs) ∙ h
-rest_end xs (x ∷ rest) all l h = absurd (omega (arith, l))
+pub rest_end : {X : Type 0} (xs rest : List X) → length rest ≡ 0 → xs ++ rest ≡ xs
+rest_end xs [] l = append-nil xs
+rest_end xs (x ∷ rest) l = absurd (omega (arith, l))

@@ -2,3 +2,4 @@ pub mod Solved
 pub mod Jobs
 pub mod Listed
 pub mod CellRuns
+pub mod SameEvents

@@ -26,6 +26,15 @@ abbrev pub has_claim : {V G : Type 0} → ℕ → List (Task V G) → Bool
 has_claim claim [] = false
 has_claim claim (t ∷ ts) = (claim == t.claim) || has_claim claim ts
 
+-- the same event, whose edit may lie elsewhere in memory
+abbrev pub IsSameEvent : {E : Type 0} → (E → E → Type 0) → Event E → Event E → Type 0
+IsSameEvent same (Edit e) (Edit f) = same e f
+IsSameEvent same (Edit e) _ = ⊥
+IsSameEvent same Claim f = f ≡ Claim
+IsSameEvent same (Return claim) f = f ≡ Return claim
+IsSameEvent same (Lose claim) f = f ≡ Lose claim
+IsSameEvent same Renew f = f ≡ Renew
+
 -- a claim, a return or a loss
 abbrev pub IsJob : {E : Type 0} → Event E → Type 0
 IsJob (Edit e) = ⊥

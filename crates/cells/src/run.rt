@@ -2,8 +2,9 @@
 
 ghost use Rattle.std.specs.Prelude.{◌≡◌, ◌<◌, ◌≤◌, ◌+◌, ◌++◌, ◌∷◌, [], List, IfOk, OnErr, vec_len, vec_capacity};
 ghost use Rattle.memo_core.specs.Laws.{meaning};
-ghost use Rattle.cells.specs.Events.{IsAnswered, IsReturned, AreAnswered, task_given, Answers};
+ghost use Rattle.cells.specs.Events.{IsAnswered, IsReturned, AreAnswered, IsSameEvent, Answers};
 ghost use Rattle.cells.specs.Stages.{tasks_in};
+ghost use Rattle.std.specs.List.{AllZip};
 
 use crate::bench::Bench;
 use crate::events::{Event, Reply};
@@ -19,7 +20,7 @@ fn copy_event<T: CellTexts>(
     alloc: Global,
     event: &Event<T::Edit>,
 ) -> Result<Event<T::Edit>, AllocError>
-    ensures { IfOk result (λ copy. copy ≡ event.now) }
+    ensures { IfOk result (λ copy. IsSameEvent T.same_edit copy event.now) }
 {
     match event {
         Event::Edit(edit) => Ok(Event::Edit(T::copy_edit(alloc, edit)?)),
@@ -35,7 +36,7 @@ fn copy_events<T: CellTexts>(
     alloc: Global,
     events: &[Event<T::Edit>],
 ) -> Result<Vec<Event<T::Edit>>, AllocError>
-    ensures { IfOk result (λ copies. copies.items ≡ events.now) }
+    ensures { IfOk result (λ copies. AllZip (IsSameEvent T.same_edit) copies.items events.now) }
 {
     let mut copies = Vec::with_capacity(alloc, events.len())?;
     for event in events {

@@ -1,6 +1,6 @@
 //! What a bench of cells asks of texts, beside what the core asks.
 
-ghost use Rattle.std.specs.Prelude.{◌≡◌, ℕ, List, Option, Some, IfOk, option_map};
+ghost use Rattle.std.specs.Prelude.{◌≡◌, Bool, ℕ, List, Option, Some, IfOk, option_map};
 ghost use Rattle.memo_core.specs.declared.keys.Node.{Node as NodeRecord};
 ghost use Rattle.memo_core.specs.Step.{Has};
 ghost use Rattle.cells.specs.Cells.{SolvedIsFromScratch, UsedIsNeeded, UnreachedIsUntouched};
@@ -26,6 +26,9 @@ pub trait CellTexts: Texts {
     /// Whether an edit, with the texts before it and after it, reaches the cell of a test and a model.
     ghost reaches: { Self → Self.Edit → Self → List ℕ → List ℕ → Type 0 };
 
+    /// Whether two edits are the same, wherever they lie in memory.
+    ghost same_edit: { Self.Edit → Self.Edit → Type 0 };
+
     /// No tests and no models.
     fn empty(alloc: Global) -> Self
         ensures new { (p q : ℕ) → (Self.net result).part p q ≡ 0 }
@@ -42,7 +45,13 @@ pub trait CellTexts: Texts {
 
     /// The same edit once more.
     fn copy_edit(alloc: Global, edit: &Self::Edit) -> Result<Self::Edit, AllocError>
-        ensures { IfOk result (λ copy. copy ≡ edit.now) };
+        ensures { IfOk result (λ copy. same_edit copy edit.now) };
+
+    /// The same edit makes the same of texts.
+    ghost edited_same: { (t u : Self) (e f : Self.Edit) (number : ℕ) → same_edit e f → Self.edited t e number u → Self.edited t f number u };
+
+    /// It is refused alike.
+    ghost refused_same: { (t : Self) (e f : Self.Edit) (spent : Bool) (fault : Self.Fault) → same_edit e f → Self.refuses t e spent fault → Self.refuses t f spent fault };
 
     /// Cells use their verdicts.
     ghost verdict_used: { (t : Self) (test model : List ℕ) (n : NodeRecord) → Self.is_valid t → verdict_of t test model ≡ Some n → Has (Self.net t).used n };

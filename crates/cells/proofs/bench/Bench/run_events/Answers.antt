@@ -1,7 +1,11 @@
-use Rattle.std.proofs.Common.{◌≡◌, [], arith}
+use Rattle.std.proofs.Common.{◌≡◌, ◌+◌, List, [], length, subst, arith}
 use Rattle.memo_core.specs.Laws.{meaning}
 use Rattle.cells.specs.Stages.{tasks_in}
-use Rattle.cells.proofs.Jobs.{answered_last, length_last, rest_step, rest_end}
+use Rattle.cells.specs.declared.events.Event.{Event}
+use Rattle.cells.specs.Events.{IsSameEvent}
+use Rattle.cells.proofs.Jobs.{answered_last, length_last, rest_step, rest_total, rest_end}
+use Rattle.cells.proofs.SameEvents.{answered_same}
+use Rattle.std.specs.List.{AllZip}
 use Rattle.cells.proofs.bench.Bench.run_events.Goals as goal
 
 pub loop-event-preserved : goal.loop-event-preserved
@@ -10,7 +14,8 @@ loop-event-preserved g c =
     record {
       answered = rw c.in-Ok.ensures.items (answered_last (meaning t.net t.is_valid t.since t.makes t.keeps t.edited) t.refuses c.args.self.now c.loop-event.self c.answer-reply.new.self [] (tasks_in c.loop-event.jobs.items)
           (tasks_in c.answer-reply.new.jobs.items) c.loop-event.yielded c.loop-event.replies.items c.in-Some.event c.answer-reply.result c.loop-event.invariant.answered c.answer-reply.ensures.answered);
-      rest = rest_step c.loop-event.yielded c.loop-event.event-iterator.rest.items c.next.new.self.rest.items c.args.events.now c.in-Some.event c.in-Some.ensures.steps.0 c.loop-event.invariant.rest;
+      rest = subst (λ (es : List (Event g.row.T-Edit.Denot)). AllZip (IsSameEvent g.T.CellTexts.same_edit) es c.args.events.now) (rest_step c.loop-event.yielded c.loop-event.event-iterator.rest.items c.next.new.self.rest.items c.in-Some.event c.in-Some.ensures.steps.0) c.loop-event.invariant.rest;
+      total = rw length_last (rest_total c.loop-event.event-iterator.rest.items c.next.new.self.rest.items c.in-Some.event (length c.loop-event.yielded) (length c.args.events.now) c.in-Some.ensures.steps.0 c.loop-event.invariant.total);
       replied = rw length_last (omega (arith, c.in-Ok.ensures.len, c.loop-event.invariant.replied));
       few = rw length_last (omega (arith, c.answer-reply.ensures.len, c.loop-event.invariant.few));
       replies_fit = omega (arith, c.in-Ok.ensures.capacity, c.loop-event.invariant.replies_fit);
@@ -19,5 +24,10 @@ loop-event-preserved g c =
 
 pub returns-clause-answered : goal.returns-clause-answered
 returns-clause-answered g c =
-    let e : c.loop-event.yielded ≡ c.args.events.now = rest_end c.loop-event.yielded c.loop-event.event-iterator.rest.items c.args.events.now (omega (arith, c.in-None.ensures.steps.0, c.loop-event.event-iterator.rest.ok.0)) c.loop-event.invariant.rest in
-    (tasks_in c.loop-event.jobs.items, rw e at c.loop-event.invariant.answered)
+    let t = g.T.Texts in
+    let laws = g.met.T.CellTexts in
+    let none = omega (arith, c.in-None.ensures.steps.0, c.loop-event.event-iterator.rest.ok.0) in
+    let same = subst (λ (es : List (Event g.row.T-Edit.Denot)). AllZip (IsSameEvent g.T.CellTexts.same_edit) es c.args.events.now) (rest_end c.loop-event.yielded c.loop-event.event-iterator.rest.items none) c.loop-event.invariant.rest in
+    let task = tasks_in c.loop-event.jobs.items in
+    (task, answered_same (meaning t.net t.is_valid t.since t.makes t.keeps t.edited) t.refuses g.T.CellTexts.same_edit (λ x u e f k s h. laws.edited_same x u e f k s h) (λ x e f b k s h. laws.refused_same x e f b k s h)
+        c.args.self.now c.loop-event.self [] task c.loop-event.yielded c.args.events.now c.loop-event.replies.items same c.loop-event.invariant.answered)
