@@ -4,7 +4,7 @@ use Rattle.std.proofs.lemmas.Bool.{cases_eq}
 use Rattle.std.proofs.lemmas.Option.{slice_get-get_or, get_or_from_slice_get}
 use Rattle.bit_relations.specs.Relation.{Relation, Events, IsRelation, IsEvents}
 use Rattle.cat_values.specs.declared.predefined.Predefined.{Predefined}
-use Rattle.candidates.specs.declared.candidate.Combination.{Combination}
+use Rattle.run_combinations.specs.declared.combination.Combination.{Combination}
 use Rattle.base_env.specs.declared.names.Named.{Named}
 use Rattle.base_env.specs.declared.names.Shared.{Shared}
 use Rattle.base_env.specs.Known.{EventsUnder, PairsUnder, set_names, shared_names}

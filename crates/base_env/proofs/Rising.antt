@@ -5,7 +5,7 @@ use Rattle.std.proofs.lemmas.Bool.{cases_eq, cases_lt, false≢true}
 use Rattle.std.proofs.lemmas.Option.{slice_get-get_or, get_or_from_slice_get, slice_get_within}
 use Rattle.bit_relations.specs.Relation.{Relation, Has, IsRegular, IsRelation}
 use Rattle.bit_relations.specs.Pairs.{Union}
-use Rattle.candidates.specs.declared.candidate.Event.{Event}
+use Rattle.run_combinations.specs.declared.combination.Event.{Event}
 use Rattle.base_env.specs.Events.{Below, SameLocation, StandsAt, AreRising, CoherenceFrom, CoherenceFromTo, location_of}
 use Rattle.base_env.proofs.Linking.{none_added, more_added, same_added}
 

@@ -1,7 +1,7 @@
 -- When the names that are held are those of a candidate.
 use Rattle.std.specs.Prelude.{ℕ, ◌≡◌, ◌<◌, ◌↔◌, List, length, get_or, Contains, Option, Some, None, false}
 use Rattle.cat_values.specs.declared.predefined.Predefined.{Predefined}
-use Rattle.candidates.specs.declared.candidate.Combination.{Combination}
+use Rattle.run_combinations.specs.declared.combination.Combination.{Combination}
 use Rattle.bit_relations.specs.Relation.{IsRelation, IsEvents}
 use Rattle.base_env.specs.declared.names.Named.{Named}
 use Rattle.base_env.specs.declared.names.Shared.{Shared}

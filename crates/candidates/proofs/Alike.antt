@@ -5,7 +5,7 @@ use Rattle.thread_runs.specs.declared.value.Value.{Value}
 use Rattle.dataflow.specs.DependencyLists.{DependencyLists}
 use Rattle.candidates.proofs.OneProgram.{same_elements}
 use Rattle.candidates.specs.Space.{Shown, shown_by, shown_of, Candidate, IsExecution}
-use Rattle.candidates.specs.declared.candidate.Event.{Event}
+use Rattle.run_combinations.specs.declared.combination.Event.{Event}
 use Rattle.candidates.specs.declared.candidate.Execution.{Execution}
 
 -- lists that are the same at each index, or differ at one

@@ -8,10 +8,10 @@ use Rattle.std.proofs.lemmas.Option.{slice_get-get_or, get_or_from_slice_get}
 use Rattle.cat_values.specs.declared.predefined.Predefined.{Predefined}
 use Rattle.cat_values.specs.declared.predefined.Predefined.TheVariants as names
 use Rattle.dataflow.specs.DependencyLists.{DependencyLists}
-use Rattle.candidates.specs.declared.candidate.Action.{Action}
-use Rattle.candidates.specs.declared.candidate.Action.TheVariants.{Read, Write, Fence}
-use Rattle.candidates.specs.declared.candidate.Combination.{Combination}
-use Rattle.candidates.specs.declared.candidate.Event.{Event}
+use Rattle.run_combinations.specs.declared.combination.Action.{Action}
+use Rattle.run_combinations.specs.declared.combination.Action.TheVariants.{Read, Write, Fence}
+use Rattle.run_combinations.specs.declared.combination.Combination.{Combination}
+use Rattle.run_combinations.specs.declared.combination.Event.{Event}
 use Rattle.base_env.specs.Events.{location_of, IsAccess, IsFence, IsSameThread, IsSameLocation, At, Both, ProgramOrder, Fenced, Listed}
 use Rattle.base_env.specs.Names.{IsIn, Fixed}
 use Rattle.base_env.specs.Candidate.{IsEntered, SetIn, SharedIn}

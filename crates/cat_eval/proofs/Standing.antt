@@ -5,7 +5,7 @@ use Rattle.bit_relations.specs.Relation.{Has}
 use Rattle.cat_values.specs.declared.predefined.Predefined.{Predefined}
 use Rattle.cat_values.specs.declared.predefined.Predefined.TheVariants as names
 use Rattle.cat_values.specs.PredefinedNames.{is_set}
-use Rattle.candidates.specs.declared.candidate.Combination.{Combination}
+use Rattle.run_combinations.specs.declared.combination.Combination.{Combination}
 use Rattle.base_env.specs.declared.names.Named.{Named}
 use Rattle.base_env.specs.declared.names.Shared.{Shared}
 use Rattle.base_env.specs.Known.{Known, IsConsistent, EventsUnder, PairsUnder, EventsOf, PairsOf, SharedPairs, set_names, shared_names}

@@ -14,8 +14,8 @@ use Rattle.binding_graph.specs.declared.resolved.Role.TheVariants as roles
 use Rattle.candidates.specs.declared.candidate.Space.{Space}
 use Rattle.candidates.specs.Space.{shown_in, Shown}
 use Rattle.cat_eval.specs.declared.column.Column.{Column}
-use Rattle.execution_laws.proofs.OneOutcome as executions
-use Rattle.execution_laws.proofs.Outcomes.{shown_alike}
+use Rattle.candidates.proofs.OneOutcome as executions
+use Rattle.candidates.proofs.Outcomes.{shown_alike}
 use Rattle.verdict.specs.declared.answer.Evaluation.{Evaluation}
 use Rattle.verdict.specs.declared.answer.Outcome.{Outcome}
 use Rattle.verdict.specs.declared.answer.OutcomeResult.{OutcomeResult}

@@ -1,7 +1,7 @@
 -- The state in which a candidate ends, from the combination of runs that it is one of, as the code reads it.
 use Rattle.std.specs.Prelude.{ℕ, List, Option, map, slice_get, unwrap_or, option_and_then}
 use Rattle.std.specs.List.{filter_map}
-use Rattle.candidates.specs.declared.candidate.Combination.{Combination}
+use Rattle.run_combinations.specs.declared.combination.Combination.{Combination}
 use Rattle.candidates.specs.declared.candidate.Space.{Space}
 use Rattle.candidates.specs.Space.{Candidate}
 use Rattle.thread_runs.specs.declared.value.Value.{Value}
