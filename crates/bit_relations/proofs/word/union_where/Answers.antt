@@ -1,5 +1,5 @@
 use Rattle.bit_relations.proofs.Bits.{spread, Bit-spread}
-use Rattle.bit_relations.proofs.word.taken.Goals as goal
+use Rattle.bit_relations.proofs.word.union_where.Goals as goal
 
 pub returns : goal.returns
 unfolding spread
