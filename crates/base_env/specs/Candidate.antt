@@ -84,8 +84,8 @@ shared_for name = Some name
 
 -- it is held, if there is one
 abbrev pub IsThere : List Predefined → Option Predefined → Type 0
-IsThere held None = Unit {0}
-IsThere held (Some name) = Contains held name
+IsThere names None = Unit {0}
+IsThere names (Some name) = Contains names name
 
 -- what a relation needs of those that are held
 abbrev pub Gives : Known → Predefined → Type 0
@@ -93,4 +93,4 @@ Gives known name = IsThere (shared_names known.shared) (shared_for name)
 
 -- what the relations among these names need is held
 abbrev pub AreCovered : List Predefined → List Predefined → Type 0
-AreCovered held ns = (name : Predefined) → Contains ns name → is_set name ≡ false → IsThere held (shared_for name)
+AreCovered names ns = (name : Predefined) → Contains ns name → is_set name ≡ false → IsThere names (shared_for name)

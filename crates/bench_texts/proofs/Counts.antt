@@ -65,30 +65,8 @@ items-put is k y =
 pub items-insert : (is : List NumberedItem) (k : ℕ) (y : NumberedItem) → items_outputs (insert is k y) ≡ items_outputs is + clause_outputs y.clause
 items-insert is k y = sum_by-insert (λ i. clause_outputs i.clause) is k y
 
-pub outputs-put_at : (ms : List PlainModel) (i : ℕ) (m : PlainModel) → models_outputs (put_at i m ms) ≡ models_outputs (take i ms) + models_outputs (drop (i + 1) ms) + (items_outputs m.items + 1)
-outputs-put_at ms i m =
-    let a = sum_by-append (λ n. items_outputs n.items + 1) (take i ms) (m ∷ drop (suc i) ms) in
-    let b = sum_by-cons (λ n. items_outputs n.items + 1) m (drop (suc i) ms) in rw add-one (omega arith)
-
-outputs-around : (ms : List PlainModel) (i : ℕ) → i ≡ length ms → models_outputs (take i ms) + models_outputs (drop (suc i) ms) ≡ models_outputs ms
-outputs-around [] zero e = refl
-outputs-around [] (suc i) e = grind arith
-outputs-around (x ∷ xs) zero e = grind arith
-outputs-around (x ∷ xs) (suc i) e =
-    let l : i ≡ length xs = omega arith in let r = outputs-around xs i l in
-    let a = sum_by-cons (λ n. items_outputs n.items + 1) x xs in
-    let d = sum_by-cons (λ n. items_outputs n.items + 1) x (take i xs) in omega arith
-
-pub outputs-put_last : (ms : List PlainModel) (i : ℕ) (m : PlainModel) → i ≡ length ms → models_outputs (put_at i m ms) ≡ models_outputs ms + (items_outputs m.items + 1)
-outputs-put_last ms i m e =
-    let a = sum_by-append (λ n. items_outputs n.items + 1) (take i ms) (m ∷ drop (suc i) ms) in
-    let b = sum_by-cons (λ n. items_outputs n.items + 1) m (drop (suc i) ms) in let r = outputs-around ms i e in omega arith
-
 -- a sum of counts up to the greatest number of 64 bits
 pub counted-more : (a b e f : ℕ) → e ≡ min a 18446744073709551615 → f ≡ b → min (e + f) 18446744073709551615 ≡ min (a + b) 18446744073709551615
 counted-more a b e f g h = omega arith
-
-pub counted-sum : (a b e f : ℕ) → e ≡ min a 18446744073709551615 → f ≡ min b 18446744073709551615 → min (e + f) 18446744073709551615 ≡ min (a + b) 18446744073709551615
-counted-sum a b e f g h = omega arith
 
 pub ruleset counts = (sum_by-map, lt-min)

@@ -95,12 +95,6 @@ length-range a n = length-range_with_len a n
 pub items_of-numbered : (ns : List ℕ) (n k : ℕ) (is : List Item) → ns ≡ range_with_len n k → k ≡ length is → items_of ns is ≡ numbered_items n (clauses_of is)
 items_of-numbered ns n k is e l = rw (e, l) (items_of-range n is)
 
-pub outputs-numbered : (n : ℕ) (is : List Item) → items_outputs (numbered_items n (clauses_of is)) ≡ sum_by (λ i. clause_outputs (clause_of i)) is
-outputs-numbered n [] = refl
-outputs-numbered n (i ∷ is) =
-    let a = sum_by-cons (λ i. clause_outputs i.clause) (record { number = n; clause = clause_of i }) (numbered_items (n + 1) (clauses_of is)) in
-    let b = sum_by-cons (λ i. clause_outputs (clause_of i)) i is in let r = outputs-numbered (n + 1) is in cc
-
 -- items that say the same
 pub items_of-same : (ns : List ℕ) (is js : List Item) → clauses_of is ≡ clauses_of js → items_of ns is ≡ items_of ns js
 items_of-same [] is js e = refl

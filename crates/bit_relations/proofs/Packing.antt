@@ -429,7 +429,7 @@ pushed_told {ns} {ss} {ws} {ns'} {ms} {vs} {n} r p g same_ns is_n counts words =
     ∙ ap (λ (xs : List ℕ). unpacked (ns ++ r.count ∷ []) xs) words
     ∙ told (one_more r p g)
 
--- at a place of the list
+-- at an index of the list
 element : (xs : List ℕ) (k x : ℕ) → k < length xs → x ≡ get_or xs k x → x ≡ get_or xs k 0
 element xs k x lt e = e ∙ get_or_default_zero xs k x lt
 

@@ -62,7 +62,7 @@ pub(crate) fn join_own(words: &mut [u64; MAX_EVENTS], k: usize, word: u64, block
 /// Takes the events of eight rows, `own`, as middles, one after another: those from `at` on, as many as `end` says. Each of
 /// sixteen rows that leads to a middle gets the middle's row.
 fn close_eight(own: u64x8, other: u64x8, at: usize, end: usize) -> (u64x8, u64x8)
-    requires place { (at ≡ 0) ⊎ (at ≡ 8) }
+    requires half { (at ≡ 0) ⊎ (at ≡ 8) }
     requires few { end ≤ 8 }
     ensures own { length result.0 ≡ 8 }
     ensures other { length result.1 ≡ 8 }

@@ -92,7 +92,7 @@ location_like e g f k h j (l, p, q) = (l, sym (same_location e.action f.action h
 events_back : (es fs : List Event) → AreEventsLike es fs → AreEventsLike fs es
 events_back es fs like = (sym like.0, (λ i lt d. like_back _ _ (like.1 i (rw like.0 lt) d)))
 
--- the event at a place has one like it there
+-- the event at an index has one like it there
 event_at : (es fs : List Event) → AreEventsLike es fs → (a : ℕ) (e : Event) → slice_get es a ≡ Some e → (f : Event) × (slice_get fs a ≡ Some f) × IsLike e f
 event_at es fs like a e at =
     let lt : a < length es = get_within es e a at in

@@ -1,9 +1,8 @@
 //! Relations by plain loops, one row after another.
 
-ghost use Rattle.std.specs.Prelude.{◌≤◌, ◌<◌};
+use bit_relations::MAX_EVENTS;
 
-/// How many events there may be.
-pub const MAX_EVENTS: usize = 128;
+ghost use Rattle.std.specs.Prelude.{◌≤◌, ◌<◌};
 
 /// A relation between the events below a count, at most 128: for each event a low word and a high word, whose bits are
 /// the events that it leads to.

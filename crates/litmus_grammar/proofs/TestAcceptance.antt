@@ -8,7 +8,7 @@ use Rattle.litmus_tokens.specs.declared.token.Token.{Token}
 use Rattle.litmus_tokens.specs.declared.token.Token.TheVariants as tokens
 use Rattle.litmus_tokens.specs.declared.token.Mark.TheVariants as marks
 use Rattle.litmus_tokens.specs.Stage.{after}
-use Rattle.litmus_tokens.specs.Texts.{Placed, tokens_of, stage_after}
+use Rattle.litmus_tokens.specs.Texts.{TokenAt, tokens_of, stage_after}
 use Rattle.litmus_tokens.specs.Words.{column_name, is_test_name}
 use Rattle.litmus_tokens.specs.Faults.{CanFollow}
 use Rattle.litmus_conditions.specs.Grammar.{limits}
@@ -23,7 +23,7 @@ use Rattle.litmus_grammar.specs.declared.parts.TextKind.TheVariants as kinds
 use Rattle.litmus_grammar.specs.Grammar.{spelled_init, members, AreEntries, TestTree, spelled_head, spelled_observed, spelled_condition, spelled_test, IsTest, IsTestText}
 use Rattle.litmus_grammar.specs.InitMachine as init
 use Rattle.litmus_grammar.specs.TextMachine as text
-use Rattle.litmus_grammar.specs.TextMachine.{Part, Draft, Next, State, Ran, placed, and_then, stepped, part_step, start, run, rule_at}
+use Rattle.litmus_grammar.specs.TextMachine.{Part, Draft, Next, State, Ran, with_offset, and_then, stepped, part_step, start, run, rule_at}
 use Rattle.litmus_grammar.specs.Texts.{spelled_colon, is_init, IsBrokenOff, IsStart, IsWhole, BreaksOff}
 use Rattle.litmus_grammar.proofs.Blocks.{brace_at, block_at, entries_led}
 use Rattle.litmus_grammar.proofs.Bodies.{header_at, rows_at, name_step, names_led}
@@ -34,16 +34,14 @@ use Rattle.litmus_grammar.proofs.Runs.{tokens_of-append, anywhere, tokens_of-any
 use Rattle.litmus_grammar.proofs.Spelled.{init-append, names-append}
 use Rattle.litmus_grammar.proofs.Splits.{split}
 use Rattle.litmus_grammar.proofs.TestParts.{Agrees, stood}
+use Rattle.litmus_grammar.proofs.InitStarts.{bracket}
 
-abbrev bracket : Token
-bracket = tokens.Mark marks.OpenBracket
-
-abbrev first_draft : State
+abbrev pub first_draft : State
 first_draft = start kinds.Test 0
 
 -- ---- lists
 
-none_left : (ps : List Placed) → tokens_of ps ≡ [] → ps ≡ []
+none_left : (ps : List TokenAt) → tokens_of ps ≡ [] → ps ≡ []
 none_left [] e = refl
 none_left (p ∷ ps) e = absurd cc
 
@@ -64,14 +62,14 @@ drop_same (x ∷ xs) ys zs e =
     drop_same xs ys zs others
 
 -- what leads to the end of some tokens leads through the first of them
-part_run : (s : State) (front rest : List Placed) (z : State) → run s (front ++ rest) ≡ Ok z → (x : State) × (run s front ≡ Ok x) × (run x rest ≡ Ok z)
+part_run : (s : State) (front rest : List TokenAt) (z : State) → run s (front ++ rest) ≡ Ok z → (x : State) × (run s front ≡ Ok x) × (run x rest ≡ Ok z)
 part_run s front rest z e = by_run (run s front) refl (sym (run-split s front rest) ∙ e)
   where
     by_run : (r : Ran) → run s front ≡ r → and_then r (λ x. run x rest) ≡ Ok z → (x : State) × (run s front ≡ Ok x) × (run x rest ≡ Ok z)
     by_run (Ok x) k h = (x, k, h)
     by_run (Err d) k h = absurd cc
 
-with_rest : (ps : List Placed) (rest : List Token) → tokens_of (ps ++ anywhere rest) ≡ tokens_of ps ++ rest
+with_rest : (ps : List TokenAt) (rest : List Token) → tokens_of (ps ++ anywhere rest) ≡ tokens_of ps ++ rest
 with_rest ps rest = tokens_of-append ps (anywhere rest) ∙ ap (λ (l : List Token). tokens_of ps ++ l) (tokens_of-anywhere rest)
 
 -- ---- the header is taken
@@ -82,14 +80,14 @@ header_of t = spelled_header t.others []
 abbrev front_of : TestTree → List Token
 front_of t = spelled_head t (spelled_init t.init (header_of t))
 
-body_front : (t : TestTree) (g : Stage) (may : Bool) (before behind : List Placed) → AreEntries [] (members t.init) → tokens_of before ≡ spelled_init t.init [] → tokens_of behind ≡ header_of t → (s : State) × (run (in_head t.name g (text.Head may)) (before ++ behind) ≡ Ok s)
+body_front : (t : TestTree) (g : Stage) (may : Bool) (before behind : List TokenAt) → AreEntries [] (members t.init) → tokens_of before ≡ spelled_init t.init [] → tokens_of behind ≡ header_of t → (s : State) × (run (in_head t.name g (text.Head may)) (before ++ behind) ≡ Ok s)
 body_front t g may [] behind fine e k = absurd cc
 body_front t g may (p ∷ q) [] fine e k = absurd cc
 body_front t g may (p ∷ q) (w ∷ b) fine e k =
     let n = p.offset in
     let brace : p.token ≡ tokens.Mark marks.OpenBrace = cc in
     let is_brace : p ≡ brace_at n = ap (λ (x : Token). record { token = x; offset = p.offset }) brace in
-    let same : tokens_of (brace_at n ∷ q) ≡ spelled_init t.init [] = ap (λ (x : Placed). tokens_of (x ∷ q)) (sym is_brace) ∙ e in
+    let same : tokens_of (brace_at n ∷ q) ≡ spelled_init t.init [] = ap (λ (x : TokenAt). tokens_of (x ∷ q)) (sym is_brace) ∙ e in
     let first : w.token ≡ tokens.Word (column_name 0) = cc in
     let others : tokens_of b ≡ spelled_names 1 t.others [] = cc in
     let g1 = after g (tokens.Mark marks.OpenBrace) in
@@ -98,7 +96,7 @@ body_front t g may (p ∷ q) (w ∷ b) fine e k =
     let l = names_led t.name x.block t.others 0 b [] g2 others in
     let there = rows_at t.name x.block l.stage (columns (0 + t.others)) in (
       there,
-      ap (λ (y : Placed). run (in_head t.name g (text.Head may)) (y ∷ (q ++ w ∷ b))) is_brace
+      ap (λ (y : TokenAt). run (in_head t.name g (text.Head may)) (y ∷ (q ++ w ∷ b))) is_brace
           ∙ run-append (block_at t.name g1) (header_at t.name x.block false x.stage 0) q (w ∷ b) x.by
           ∙ ap (λ (y : Token). run (header_at t.name x.block false x.stage 0) (record { token = y; offset = w.offset } ∷ b)) first
           ∙ name_step t.name x.block 0 w.offset b x.stage
@@ -107,7 +105,7 @@ body_front t g may (p ∷ q) (w ∷ b) fine e k =
           ∙ ap (run there) (none_left l.left l.are_left),
     )
 
-front_led : (t : TestTree) (ps : List Placed) → is_test_name t.name ≡ true → AreEntries [] (members t.init) → tokens_of ps ≡ front_of t → (s : State) × (run first_draft ps ≡ Ok s)
+front_led : (t : TestTree) (ps : List TokenAt) → is_test_name t.name ≡ true → AreEntries [] (members t.init) → tokens_of ps ≡ front_of t → (s : State) × (run first_draft ps ≡ Ok s)
 front_led t ps i fine e =
     let h = head_led t.name t.text t.keylines ps (spelled_init t.init (header_of t)) i e in
     let cut = split h.left (spelled_init t.init []) (header_of t) (h.are_left ∙ sym (init-append t.init [] (header_of t))) in
@@ -137,7 +135,7 @@ front_length t =
     ap (λ (l : List Token). length l) (sym (head-append t (spelled_init t.init (header_of t)))) ∙ length-append (spelled_head t []) (spelled_init t.init (header_of t)) in
     omega (arith, many, a, b)
 
-pub prefix_taken : (t : TestTree) → IsTest limits t → (ps : List Placed) (rest : List Token) → length ps < 18446744073709551616 → tokens_of ps ++ rest ≡ spelled_test t → (s : State) × (run first_draft ps ≡ Ok s)
+pub prefix_taken : (t : TestTree) → IsTest limits t → (ps : List TokenAt) (rest : List Token) → length ps < 18446744073709551616 → tokens_of ps ++ rest ≡ spelled_test t → (s : State) × (run first_draft ps ≡ Ok s)
 prefix_taken t fine ps rest few e = choose (cases_lt (t.others + 1) 18446744073709551616)
   where
     through : (more : List Token) (z : State) → run first_draft (ps ++ anywhere more) ≡ Ok z → (s : State) × (run first_draft ps ≡ Ok s)
@@ -159,7 +157,7 @@ IsText = IsTestText limits
 abbrev pub IsBegun : List Token → Type 0
 IsBegun = IsStart IsText stages.Magic
 
-text_taken : (ps : List Placed) (rest : List Token) → length ps < 18446744073709551616 → IsText (tokens_of ps ++ rest) → (s : State) × (run first_draft ps ≡ Ok s)
+text_taken : (ps : List TokenAt) (rest : List Token) → length ps < 18446744073709551616 → IsText (tokens_of ps ++ rest) → (s : State) × (run first_draft ps ≡ Ok s)
 text_taken ps rest few x = prefix_taken x.tree x.fine ps rest few x.whole
 
 -- ---- a register's beginning, where an entry may begin
@@ -172,7 +170,7 @@ in_init_part g p x i a = absurd cc
 abbrev in_init_at : Stage → InitExpectation → Draft → State
 in_init_at g expected h = test_at g (text.Init expected) h
 
-colon_taken : (g : Stage) (d : List ℕ) (h : Draft) (colon : Bool) (qs : List Placed) (rest : List Token) → tokens_of qs ++ rest ≡ spelled_colon colon → (s : State) × (run (in_init_at g (expectations.InPlace (places.WantsColon d)) h) qs ≡ Ok s)
+colon_taken : (g : Stage) (d : List ℕ) (h : Draft) (colon : Bool) (qs : List TokenAt) (rest : List Token) → tokens_of qs ++ rest ≡ spelled_colon colon → (s : State) × (run (in_init_at g (expectations.InPlace (places.WantsColon d)) h) qs ≡ Ok s)
 colon_taken g d h colon [] rest e = (in_init_at g (expectations.InPlace (places.WantsColon d)) h, refl)
 colon_taken g d h false (q ∷ qs) rest e = absurd cc
 colon_taken g d h true (q ∷ []) rest e =
@@ -180,7 +178,7 @@ colon_taken g d h true (q ∷ []) rest e =
     (_, ap (λ (x : Token). run (in_init_at g (expectations.InPlace (places.WantsColon d)) h) (record { token = x; offset = q.offset } ∷ [])) same)
 colon_taken g d h true (q ∷ r ∷ qs) rest e = absurd cc
 
-entry_taken : (g : Stage) (d : List ℕ) (h : Draft) (colon : Bool) (qs : List Placed) (rest : List Token) → tokens_of qs ++ rest ≡ tokens.Number false d ∷ spelled_colon colon → (s : State) × (run (in_init_at g expectations.WantsEntry h) qs ≡ Ok s)
+entry_taken : (g : Stage) (d : List ℕ) (h : Draft) (colon : Bool) (qs : List TokenAt) (rest : List Token) → tokens_of qs ++ rest ≡ tokens.Number false d ∷ spelled_colon colon → (s : State) × (run (in_init_at g expectations.WantsEntry h) qs ≡ Ok s)
 entry_taken g d h colon [] rest e = (in_init_at g expectations.WantsEntry h, refl)
 entry_taken g d h colon (q ∷ qs) rest e =
     let same : q.token ≡ tokens.Number false d = cc in
@@ -188,7 +186,7 @@ entry_taken g d h colon (q ∷ qs) rest e =
     let r = colon_taken (after g (tokens.Number false d)) d (text.with_init h (init.with_start h.init q.offset)) colon qs rest others in
     (r.0, ap (λ (x : Token). run (in_init_at g expectations.WantsEntry h) (record { token = x; offset = q.offset } ∷ qs)) same ∙ r.1)
 
-place_taken : (g : Stage) (d : List ℕ) (h : Draft) (colon : Bool) (qs : List Placed) (rest : List Token) → tokens_of qs ++ rest ≡ tokens.Number false d ∷ spelled_colon colon → (s : State) × (run (in_init_at g (expectations.InPlace places.Begins) h) qs ≡ Ok s)
+place_taken : (g : Stage) (d : List ℕ) (h : Draft) (colon : Bool) (qs : List TokenAt) (rest : List Token) → tokens_of qs ++ rest ≡ tokens.Number false d ∷ spelled_colon colon → (s : State) × (run (in_init_at g (expectations.InPlace places.Begins) h) qs ≡ Ok s)
 place_taken g d h colon [] rest e = (in_init_at g (expectations.InPlace places.Begins) h, refl)
 place_taken g d h colon (q ∷ qs) rest e =
     let same : q.token ≡ tokens.Number false d = cc in
@@ -196,7 +194,7 @@ place_taken g d h colon (q ∷ qs) rest e =
     let r = colon_taken (after g (tokens.Number false d)) d (text.with_init h h.init) colon qs rest others in
     (r.0, ap (λ (x : Token). run (in_init_at g (expectations.InPlace places.Begins) h) (record { token = x; offset = q.offset } ∷ qs)) same ∙ r.1)
 
-number_taken : (g : Stage) (expected : InitExpectation) (h : Draft) (z : State) → run (in_init_at g expected h) (record { token = bracket; offset = 0 } ∷ []) ≡ Ok z → (d : List ℕ) (colon : Bool) (qs : List Placed) (rest : List Token) → tokens_of qs ++ rest ≡ tokens.Number false d ∷ spelled_colon colon
+number_taken : (g : Stage) (expected : InitExpectation) (h : Draft) (z : State) → run (in_init_at g expected h) (record { token = bracket; offset = 0 } ∷ []) ≡ Ok z → (d : List ℕ) (colon : Bool) (qs : List TokenAt) (rest : List Token) → tokens_of qs ++ rest ≡ tokens.Number false d ∷ spelled_colon colon
     → (s : State) × (run (in_init_at g expected h) qs ≡ Ok s)
 number_taken g expectations.WantsOpen h z k d colon qs rest e = absurd cc
 number_taken g expectations.WantsEntry h z k d colon qs rest e = entry_taken g d h colon qs rest e
@@ -214,7 +212,7 @@ number_taken g expectations.HasEntry h z k d colon qs rest e = absurd cc
 
 -- ---- what begins a text that is broken off is taken
 
-broken_taken : (ps : List Placed) (rest : List Token) → length ps < 18446744073709551616 → IsBrokenOff IsText stages.Magic (tokens_of ps ++ rest) → (s : State) × (run first_draft ps ≡ Ok s)
+broken_taken : (ps : List TokenAt) (rest : List Token) → length ps < 18446744073709551616 → IsBrokenOff IsText stages.Magic (tokens_of ps ++ rest) → (s : State) × (run first_draft ps ≡ Ok s)
 broken_taken ps rest few x = choose (cases_lt (length x.before) (length (tokens_of ps)))
   where
     number : List Token
@@ -227,9 +225,9 @@ broken_taken ps rest few x = choose (cases_lt (length x.before) (length (tokens_
         append_assoc x.before (bracket ∷ []) x.entry.rest ∙ ap (λ (l : List Token). l ++ (bracket ∷ x.entry.rest)) (sym e) ∙ append_assoc (tokens_of ps) more (bracket ∷ x.entry.rest) in
         text_taken ps us few (subst IsText same x.entry.text)
 
-    behind : (front back : List Placed) → ps ≡ front ++ back → tokens_of front ≡ x.before → tokens_of back ++ rest ≡ number → length front + 1 < 18446744073709551616 → (s : State) × (run first_draft ps ≡ Ok s)
+    behind : (front back : List TokenAt) → ps ≡ front ++ back → tokens_of front ≡ x.before → tokens_of back ++ rest ≡ number → length front + 1 < 18446744073709551616 → (s : State) × (run first_draft ps ≡ Ok s)
     behind front back whole are_front are_back short =
-        let one : List Placed = record { token = bracket; offset = 0 } ∷ [] in
+        let one : List TokenAt = record { token = bracket; offset = 0 } ∷ [] in
         let same : (x.before ++ bracket ∷ []) ++ x.entry.rest ≡ tokens_of (front ++ one) ++ x.entry.rest =
         ap (λ (l : List Token). (l ++ bracket ∷ []) ++ x.entry.rest) (sym are_front) ∙ ap (λ (l : List Token). l ++ x.entry.rest) (sym (tokens_of-append front one)) in
         let many : length (front ++ one) ≡ length front + length one = length-append front one in
@@ -252,16 +250,16 @@ broken_taken ps rest few x = choose (cases_lt (length x.before) (length (tokens_
         let front : length cut.before ≡ length x.before = sym (length-tokens cut.before) ∙ ap (λ (l : List Token). length l) cut.are_before in
         behind cut.before cut.behind cut.whole cut.are_before (ap (λ (l : List Token). l ++ rest) cut.are_behind ∙ left) (let h : length cut.before + 1 < 18446744073709551616 = omega (arith, front, lt, same, few) in h)
 
-start_taken : (ps : List Placed) (rest : List Token) → length ps < 18446744073709551616 → IsBegun (tokens_of ps ++ rest) → (s : State) × (run first_draft ps ≡ Ok s)
+start_taken : (ps : List TokenAt) (rest : List Token) → length ps < 18446744073709551616 → IsBegun (tokens_of ps ++ rest) → (s : State) × (run first_draft ps ≡ Ok s)
 start_taken ps rest few (IsWhole x) = text_taken ps rest few x
 start_taken ps rest few (BreaksOff x) = broken_taken ps rest few x
 
 -- a token that is refused cannot follow
-pub test_refused : (before : List Placed) (s : State) (p : Placed) → length before + 1 < 18446744073709551616 → run first_draft before ≡ Ok s → part_step s.kind s.threads s.draft s.part p.token p.offset ≡ None → CanFollow IsBegun (tokens_of before) p.token → ⊥
+pub test_refused : (before : List TokenAt) (s : State) (p : TokenAt) → length before + 1 < 18446744073709551616 → run first_draft before ≡ Ok s → part_step s.kind s.threads s.draft s.part p.token p.offset ≡ None → CanFollow IsBegun (tokens_of before) p.token → ⊥
 test_refused before s p few reached none c =
     let qs = before ++ p ∷ [] in
     let many : length qs ≡ length before + 1 = length-append before (p ∷ []) in
     let same : tokens_of before ++ p.token ∷ [] ≡ tokens_of qs = sym (tokens_of-append before (p ∷ [])) in
     let r = start_taken qs c.rest (let h : length qs < 18446744073709551616 = omega (arith, many, few) in h) (subst (λ (l : List Token). IsBegun (l ++ c.rest)) same c.text) in
-    let stops : run s (p ∷ []) ≡ Err (rule_at s.kind s.draft.table s.stage p.token, p.offset) = ap (λ (o : Option Next). and_then (placed p.offset (stepped s p.token o)) (λ x. run x [])) none in
+    let stops : run s (p ∷ []) ≡ Err (rule_at s.kind s.draft.table s.stage p.token, p.offset) = ap (λ (o : Option Next). and_then (with_offset p.offset (stepped s p.token o)) (λ x. run x [])) none in
     not_both (rule_at s.kind s.draft.table s.stage p.token, p.offset) r.0 (sym stops ∙ sym (run-append first_draft s before (p ∷ []) reached) ∙ r.1)

@@ -10,6 +10,7 @@ use Rattle.base_env.specs.declared.names.Shared.{Shared}
 use Rattle.base_env.specs.Known.{EventsUnder, PairsUnder, set_names, shared_names}
 use Rattle.base_env.specs.Candidate.{AreSets, AreShared, SetIn, SharedIn}
 use Rattle.base_env.proofs.Same.{same_or_not}
+use Rattle.std.proofs.lemmas.List.{get_or_default}
 
 below : {a i : ℕ} → (a ≡ i → ⊥) → a < i + 1 → a < i
 below ne lt = omega arith
@@ -26,16 +27,12 @@ shared_names_kept [] k d r inside = absurd (omega (arith, inside))
 shared_names_kept (x ∷ xs) zero d r inside = refl
 shared_names_kept (x ∷ xs) (suc k) d r inside = ap (λ ns. x.name ∷ ns) (shared_names_kept xs k d r (omega (arith, inside)))
 
--- the default of a look-up inside does not matter
-pub any_default : {X : Type 0} (xs : List X) (k : ℕ) (d d' : X) → k < length xs → get_or xs k d ≡ get_or xs k d'
-any_default xs k d d' inside = get_or_from_slice_get xs k (get_or xs k d') d (slice_get-get_or xs k d' inside)
-
 pub sets_more : (xs : List Named) (k n : ℕ) (c : Combination) (d d' : Named) (s : Events) → k < length xs → ((i : ℕ) → i < k → (e : Named) → IsEvents (get_or xs i e).set n (SetIn c n (get_or xs i e).name)) → IsEvents s n (SetIn c n (get_or xs k d').name) → (i : ℕ) → i < k + 1 → (e : Named) → IsEvents (get_or (set xs k (record { name = (get_or xs k d).name; set = s })) i e).set n (SetIn c n (get_or (set xs k (record { name = (get_or xs k d).name; set = s })) i e).name)
 sets_more xs k n c d d' s inside before now i lt e = elim (cases_eq i k) [
   | inl here ↦
       let new : Named = record { name = (get_or xs k d).name; set = s } in
       let found : get_or (set xs k new) i e ≡ new = rw here (get_or-set_same xs k new e inside) in
-      rw found (rw (any_default xs k d d' inside) now)
+      rw found (rw (get_or_default xs k d d' inside) now)
   | inr other ↦ let found : get_or (set xs k (record { name = (get_or xs k d).name; set = s })) i e ≡ get_or xs i e = get_or-set_other xs k i _ e other in rw found (before i (below other lt) e)
 ]
 
@@ -44,7 +41,7 @@ shared_more xs k n c d d' r inside before now i lt e = elim (cases_eq i k) [
   | inl here ↦
       let new : Shared = record { name = (get_or xs k d).name; relation = r } in
       let found : get_or (set xs k new) i e ≡ new = rw here (get_or-set_same xs k new e inside) in
-      rw found (rw (any_default xs k d d' inside) now)
+      rw found (rw (get_or_default xs k d d' inside) now)
   | inr other ↦ let found : get_or (set xs k (record { name = (get_or xs k d).name; relation = r })) i e ≡ get_or xs i e = get_or-set_other xs k i _ e other in rw found (before i (below other lt) e)
 ]
 
