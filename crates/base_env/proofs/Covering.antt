@@ -9,19 +9,19 @@ use Rattle.base_env.specs.Known.{shared_names}
 use Rattle.base_env.specs.Candidate.{IsThere, AreCovered, shared_for}
 
 -- what is there stays there
-pub there_still : (held more : List Predefined) (needed : Option Predefined) → ((other : Predefined) → Contains held other → Contains more other) → IsThere held needed → IsThere more needed
-there_still held more None kept there = there
-there_still held more (Some name) kept there = kept name there
+pub there_still : (names more : List Predefined) (needed : Option Predefined) → ((other : Predefined) → Contains names other → Contains more other) → IsThere names needed → IsThere more needed
+there_still names more None kept there = there
+there_still names more (Some name) kept there = kept name there
 
 -- one name more is covered
-pub covered_more : (held more : List Predefined) (ns : List Predefined) (n : Predefined) → AreCovered held ns → ((other : Predefined) → Contains held other → Contains more other) → (is_set n ≡ false → IsThere more (shared_for n)) → AreCovered more (ns ++ n ∷ [])
-covered_more held more ns n covered kept there name inside relation =
+pub covered_more : (names more : List Predefined) (ns : List Predefined) (n : Predefined) → AreCovered names ns → ((other : Predefined) → Contains names other → Contains more other) → (is_set n ≡ false → IsThere more (shared_for n)) → AreCovered more (ns ++ n ∷ [])
+covered_more names more ns n covered kept there name inside relation =
     elim (Contains-push_cases ns n name inside) [
-      | inl h ↦ there_still held more (shared_for name) kept (covered name h relation)
+      | inl h ↦ there_still names more (shared_for name) kept (covered name h relation)
       | inr e ↦ subst (λ (m : Predefined). is_set m ≡ false → IsThere more (shared_for m)) e there relation
     ]
 
--- the name at a place is among the names
+-- the name at an index is among the names
 pub named_at : (xs : List Shared) (k : ℕ) (d : Shared) → k < length xs → Contains (shared_names xs) (get_or xs k d).name
 named_at [] k d inside = absurd (omega (arith, inside))
 named_at (x ∷ xs) zero d inside = (0, omega arith, refl)

@@ -2,8 +2,8 @@
 use Rattle.std.proofs.Common.{ℕ, ◌≡◌, ◌∙◌, List, length, ap, sym, subst}
 use Rattle.cat_values.specs.declared.predefined.Predefined.{Predefined}
 use Rattle.cat_values.specs.declared.predefined.Predefined.TheVariants as names
-use Rattle.candidates.specs.declared.candidate.Combination.{Combination}
-use Rattle.candidates.specs.declared.candidate.Event.{Event}
+use Rattle.run_combinations.specs.declared.combination.Combination.{Combination}
+use Rattle.run_combinations.specs.declared.combination.Event.{Event}
 use Rattle.base_env.specs.Candidate.{IsEntered, SetIn, SharedIn}
 use Rattle.dataflow.specs.DependencyLists.{DependencyLists, dependency_lists}
 use Rattle.base_env.specs.Events.{At, Listed}

@@ -4,9 +4,9 @@ use Rattle.std.proofs.lemmas.Bool.{cases_eq}
 use Rattle.std.proofs.lemmas.List.{take_more}
 use Rattle.bit_relations.specs.Relation.{Relation, Has, IsRelation}
 use Rattle.bit_relations.specs.Pairs.{Union}
-use Rattle.candidates.specs.declared.candidate.Event.{Event}
-use Rattle.candidates.specs.declared.candidate.Action.{Action}
-use Rattle.candidates.specs.declared.candidate.Action.TheVariants.{Read, Write, Fence}
+use Rattle.run_combinations.specs.declared.combination.Event.{Event}
+use Rattle.run_combinations.specs.declared.combination.Action.{Action}
+use Rattle.run_combinations.specs.declared.combination.Action.TheVariants.{Read, Write, Fence}
 use Rattle.base_env.specs.Events.{Below, IsRead, reads_in, added_read, ReadsTo, Source, CoherenceFrom, CoherenceTo}
 use Rattle.base_env.proofs.Linking.{with_pairs}
 use Rattle.base_env.proofs.Linked.{at_number}

@@ -4,7 +4,7 @@ pub mod Fences
 pub mod Named
 pub mod Growing
 pub mod Same
-pub mod Held
+pub mod Lookups
 pub mod Meant
 pub mod Covering
 pub mod Every

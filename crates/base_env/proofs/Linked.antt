@@ -1,7 +1,7 @@
 -- Events by their numbers.
 use Rattle.std.proofs.Common.{ℕ, ◌<◌, ◌↔◌, List, length, get_or}
 use Rattle.std.proofs.lemmas.Option.{slice_get-get_or, get_or_from_slice_get}
-use Rattle.candidates.specs.declared.candidate.Event.{Event}
+use Rattle.run_combinations.specs.declared.combination.Event.{Event}
 use Rattle.cat_values.specs.declared.predefined.Predefined.{Predefined}
 use Rattle.cat_values.specs.declared.predefined.Predefined.TheVariants as names
 use Rattle.base_env.specs.Events.{At, ProgramOrder, Linked, Links}

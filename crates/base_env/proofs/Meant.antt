@@ -3,14 +3,14 @@ use Rattle.std.proofs.Common.{ℕ, ◌↔◌, ◌⊎◌, List, inl, inr}
 use Rattle.bit_relations.specs.Relation.{Has}
 use Rattle.cat_values.specs.declared.predefined.Predefined.{Predefined}
 use Rattle.cat_values.specs.declared.predefined.Predefined.TheVariants as names
-use Rattle.candidates.specs.declared.candidate.Combination.{Combination}
+use Rattle.run_combinations.specs.declared.combination.Combination.{Combination}
 use Rattle.base_env.specs.Known.{Known, AreKnown, PairsOf}
 use Rattle.base_env.specs.Candidate.{IsEntered, IsReading, IsOrdered, Gives, RelationIn, FromReadsIn}
 
-both : {A B C D : Type 0} → (A ↔ C) → (B ↔ D) → (A × B) ↔ (C × D)
+pub both : {A B C D : Type 0} → (A ↔ C) → (B ↔ D) → (A × B) ↔ (C × D)
 both p q = ((λ h. (p.0 h.0, q.0 h.1)), (λ h. (p.1 h.0, q.1 h.1)))
 
-either : {A B C D : Type 0} → (A ↔ C) → (B ↔ D) → (A ⊎ B) ↔ (C ⊎ D)
+pub either : {A B C D : Type 0} → (A ↔ C) → (B ↔ D) → (A ⊎ B) ↔ (C ⊎ D)
 either p q = (
   (λ h. elim h [ inl x ↦ inl (p.0 x) | inr y ↦ inr (q.0 y) ]),
   (λ h. elim h [ inl x ↦ inl (p.1 x) | inr y ↦ inr (q.1 y) ]),

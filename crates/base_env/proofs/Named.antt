@@ -4,7 +4,7 @@ use Rattle.bit_relations.specs.Relation.{Relation, Has, IsRelation}
 use Rattle.bit_relations.specs.Pairs.{Union, Opt, Complement}
 use Rattle.cat_values.specs.declared.predefined.Predefined.{Predefined}
 use Rattle.cat_values.specs.declared.predefined.Predefined.TheVariants as names
-use Rattle.candidates.specs.declared.candidate.Combination.{Combination}
+use Rattle.run_combinations.specs.declared.combination.Combination.{Combination}
 use Rattle.base_env.specs.Events.{Below, Links}
 use Rattle.base_env.specs.Names.{Fixed}
 use Rattle.base_env.proofs.Linking.{with_pairs}

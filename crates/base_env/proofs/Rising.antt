@@ -5,7 +5,7 @@ use Rattle.std.proofs.lemmas.Bool.{cases_eq, cases_lt, false≢true}
 use Rattle.std.proofs.lemmas.Option.{slice_get-get_or, get_or_from_slice_get, slice_get_within}
 use Rattle.bit_relations.specs.Relation.{Relation, Has, IsRegular, IsRelation}
 use Rattle.bit_relations.specs.Pairs.{Union}
-use Rattle.candidates.specs.declared.candidate.Event.{Event}
+use Rattle.run_combinations.specs.declared.combination.Event.{Event}
 use Rattle.base_env.specs.Events.{Below, SameLocation, StandsAt, AreRising, CoherenceFrom, CoherenceFromTo, location_of}
 use Rattle.base_env.proofs.Linking.{none_added, more_added, same_added}
 
@@ -25,7 +25,7 @@ pub none_stands : {n : ℕ} → None ≡ Some n → ⊥
 unfolding is_number
 none_stands e = false≢true (ap is_number e)
 
--- what stands at the place of a store is its event
+-- what stands at the index of a store is its event
 of_store : (events : List Event) (order : List ℕ) (i l s : ℕ) → slice_get order i ≡ Some s → StandsAt events order i l → (e : Event) × (slice_get events s ≡ Some e) × (location_of e.action ≡ Some l)
 of_store events order i l s at h = (h.2.0, rw (sym (get_or_from_slice_get order i s 0 at) ∙ get_or_from_slice_get order i h.0 0 h.1) h.2.1, h.2.2)
 
@@ -42,14 +42,14 @@ alike events order i j l s t at_i at_j h k =
     let other = of_store events order j l t at_j k in
     (own.0, other.0, own.1, other.1, (l, own.2, other.2))
 
--- what stands at one place is of one location
+-- what stands at one index is of one location
 pub one_location : (events : List Event) (order : List ℕ) (i l m : ℕ) → StandsAt events order i l → StandsAt events order i m → l ≡ m
 one_location events order i l m h k =
     let own = of_store events order i l k.0 k.1 h in
     let one : own.0 ≡ k.2.0 = sym (get_or_from_slice_get events k.0 own.0 own.0 own.1) ∙ get_or_from_slice_get events k.0 k.2.0 own.0 k.2.1 in
     same_number (sym own.2 ∙ ap (λ (e : Event). location_of e.action) one ∙ k.2.2)
 
--- one more place
+-- one more index
 pub rising_more : (events : List Event) (order : List ℕ) (i greatest l : ℕ) → StandsAt events order i l → greatest ≤ l → AreRising events order i × ((k m : ℕ) → k < i → StandsAt events order k m → m ≤ greatest) → AreRising events order (i + 1) × ((k m : ℕ) → k < i + 1 → StandsAt events order k m → m ≤ l)
 rising_more events order i greatest l here most before = (
   (
@@ -69,7 +69,7 @@ rising_more events order i greatest l here most before = (
   ]),
 )
 
--- a place that no access of a location stands at adds nothing
+-- an index that no access of a location stands at adds nothing
 pub nothing_stands : (r : Relation) (events : List Event) (order : List ℕ) (i : ℕ) → IsRegular r → ((l : ℕ) → StandsAt events order i l → ⊥) → IsRelation r r.count (Union (Has r) (Below r.count (CoherenceFrom events order i)))
 nothing_stands r events order i regular none = none_added r (Below r.count (CoherenceFrom events order i)) regular (λ a b h.
     let k = h.2 in

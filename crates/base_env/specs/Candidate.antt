@@ -1,7 +1,7 @@
 -- When the names that are held are those of a candidate.
 use Rattle.std.specs.Prelude.{ℕ, ◌≡◌, ◌<◌, ◌↔◌, List, length, get_or, Contains, Option, Some, None, false}
 use Rattle.cat_values.specs.declared.predefined.Predefined.{Predefined}
-use Rattle.candidates.specs.declared.candidate.Combination.{Combination}
+use Rattle.run_combinations.specs.declared.combination.Combination.{Combination}
 use Rattle.bit_relations.specs.Relation.{IsRelation, IsEvents}
 use Rattle.base_env.specs.declared.names.Named.{Named}
 use Rattle.base_env.specs.declared.names.Shared.{Shared}
@@ -84,8 +84,8 @@ shared_for name = Some name
 
 -- it is held, if there is one
 abbrev pub IsThere : List Predefined → Option Predefined → Type 0
-IsThere held None = Unit {0}
-IsThere held (Some name) = Contains held name
+IsThere names None = Unit {0}
+IsThere names (Some name) = Contains names name
 
 -- what a relation needs of those that are held
 abbrev pub Gives : Known → Predefined → Type 0
@@ -93,4 +93,4 @@ Gives known name = IsThere (shared_names known.shared) (shared_for name)
 
 -- what the relations among these names need is held
 abbrev pub AreCovered : List Predefined → List Predefined → Type 0
-AreCovered held ns = (name : Predefined) → Contains ns name → is_set name ≡ false → IsThere held (shared_for name)
+AreCovered names ns = (name : Predefined) → Contains ns name → is_set name ≡ false → IsThere names (shared_for name)

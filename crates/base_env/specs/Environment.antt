@@ -3,8 +3,8 @@ use Rattle.std.specs.Prelude.{ℕ, ◌≡◌, ◌<◌, List}
 use Rattle.bit_relations.specs.Relation.{IsRelation, IsEvents}
 use Rattle.cat_values.specs.declared.predefined.Predefined.TheVariants as names
 use Rattle.dataflow.specs.DependencyLists.{dependency_lists}
-use Rattle.candidates.specs.declared.candidate.Combination.{Combination}
-use Rattle.candidates.specs.declared.candidate.Execution.{Execution}
+use Rattle.run_combinations.specs.declared.combination.Combination.{Combination}
+use Rattle.candidates.specs.declared.execution.Execution.{Execution}
 use Rattle.base_env.specs.declared.env.BaseEnv.{BaseEnv}
 use Rattle.base_env.specs.Candidate.{SetIn, RelationIn}
 

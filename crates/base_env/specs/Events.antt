@@ -3,9 +3,9 @@ use Rattle.std.specs.Prelude.{ℕ, ◌≡◌, ◌<◌, ◌≤◌, ◌+◌, List,
 use Rattle.litmus_values.specs.declared.instruction.Fence as kinds
 use Rattle.cat_values.specs.declared.predefined.Predefined.{Predefined}
 use Rattle.cat_values.specs.declared.predefined.Predefined.TheVariants as names
-use Rattle.candidates.specs.declared.candidate.Event.{Event}
-use Rattle.candidates.specs.declared.candidate.Action.{Action}
-use Rattle.candidates.specs.declared.candidate.Action.TheVariants.{Read, Write, Fence}
+use Rattle.run_combinations.specs.declared.combination.Event.{Event}
+use Rattle.run_combinations.specs.declared.combination.Action.{Action}
+use Rattle.run_combinations.specs.declared.combination.Action.TheVariants.{Read, Write, Fence}
 
 -- the location that an access is of
 abbrev pub location_of : Action → Option ℕ
@@ -110,11 +110,11 @@ reads_in (e ∷ es) = added_read e.action (reads_in es)
 abbrev pub ReadsFrom : List Event → List ℕ → ℕ → ℕ → Type 0
 ReadsFrom events sources a b = At events IsRead b × (slice_get sources (reads_in (take b events)) ≡ Some a)
 
--- the pair of the load and the store at a place of the list
+-- the pair of the load and the store at an index of the list
 abbrev pub Source : List ℕ → ℕ → ℕ → ℕ → ℕ → Type 0
 Source sources next load a b = (b ≡ load) × (slice_get sources next ≡ Some a)
 
--- the two stores are of one location and stand in the list in this order, the first at this place
+-- the two stores are of one location and stand in the list in this order, the first at this index
 abbrev pub CoherenceFrom : List Event → List ℕ → ℕ → ℕ → ℕ → Type 0
 CoherenceFrom events order i a b = (j : ℕ) × (i < j) × (slice_get order i ≡ Some a) × (slice_get order j ≡ Some b) × SameLocation events a b
 
@@ -129,19 +129,19 @@ FenceBelow events kind from end = (c : ℕ) × (c < end) × ProgramOrder events 
 abbrev pub ReadsTo : List Event → List ℕ → ℕ → ℕ → ℕ → Type 0
 ReadsTo events sources end a b = (b < end) × ReadsFrom events sources a b
 
--- the pairs with a first store at a place below an end of the list
+-- the pairs with a first store at an index below an end of the list
 abbrev pub CoherenceTo : List Event → List ℕ → ℕ → ℕ → ℕ → Type 0
 CoherenceTo events order end a b = (i : ℕ) × (i < end) × CoherenceFrom events order i a b
 
--- the pairs with the first store at this place and the second below an end of the list
+-- the pairs with the first store at this index and the second below an end of the list
 abbrev pub CoherenceFromTo : List Event → List ℕ → ℕ → ℕ → ℕ → ℕ → Type 0
 CoherenceFromTo events order i end a b = (j : ℕ) × (j < end) × (i < j) × (slice_get order i ≡ Some a) × (slice_get order j ≡ Some b) × SameLocation events a b
 
--- the event at this place of the list is an access of the location
+-- the event at this index of the list is an access of the location
 abbrev pub StandsAt : List Event → List ℕ → ℕ → ℕ → Type 0
 StandsAt events order i l = (s : ℕ) × (slice_get order i ≡ Some s) × At events (λ e. location_of e.action ≡ Some l) s
 
--- at each place below an end stands an access, none of a lower location than an earlier one
+-- at each index below an end stands an access, none of a lower location than an earlier one
 abbrev pub AreRising : List Event → List ℕ → ℕ → Type 0
 AreRising events order end =
     ((i : ℕ) → i < end → (l : ℕ) × StandsAt events order i l) × ((i j l m : ℕ) → i < j → j < end → StandsAt events order i l → StandsAt events order j m → l ≤ m)

@@ -3,8 +3,8 @@ use Rattle.std.specs.Prelude.{ℕ}
 use Rattle.litmus_values.specs.declared.instruction.Fence.TheVariants.{Sync, LightweightSync, Eieio, Isync}
 use Rattle.cat_values.specs.declared.predefined.Predefined.{Predefined}
 use Rattle.cat_values.specs.declared.predefined.Predefined.TheVariants as names
-use Rattle.candidates.specs.declared.candidate.Event.{Event}
-use Rattle.candidates.specs.declared.candidate.Combination.{Combination}
+use Rattle.run_combinations.specs.declared.combination.Event.{Event}
+use Rattle.run_combinations.specs.declared.combination.Combination.{Combination}
 use Rattle.bit_relations.specs.Pairs.{Identity, Complement, Inter}
 use Rattle.base_env.specs.Events as of
 use Rattle.base_env.specs.Events.{IsRead, IsWrite, IsAccess, IsFence, IsSomeFence, IsInitial, At, Fenced, Listed}

@@ -11,23 +11,23 @@ use cat_values::Predefined;
 use litmus_values::Fence;
 
 /// Adds a pair of events, if the relation can have it.
-pub fn put(place: &mut Rel, from: usize, to: usize)
-    ensures { IsRelation place.new place.old.count (Union (Has place.old) (Below place.old.count (λ a b. (a ≡ from) × (b ≡ to)))) }
+pub fn put(target: &mut Rel, from: usize, to: usize)
+    ensures { IsRelation target.new target.old.count (Union (Has target.old) (Below target.old.count (λ a b. (a ≡ from) × (b ≡ to)))) }
 {
-    let count = place.count();
+    let count = target.count();
     if from < count && to < count {
-        place.insert(from, to);
+        target.insert(from, to);
     }
 }
 
 /// Adds pairs of events, as far as the relation can have them.
-fn put_pairs(place: &mut Rel, pairs: &[(usize, usize)])
-    ensures { IsRelation place.new place.old.count (Union (Has place.old) (Below place.old.count (Listed pairs.now))) }
+fn put_pairs(target: &mut Rel, pairs: &[(usize, usize)])
+    ensures { IsRelation target.new target.old.count (Union (Has target.old) (Below target.old.count (Listed pairs.now))) }
 {
-    let count = place.count();
+    let count = target.count();
     for (from, to) in pairs {
         if *from < count && *to < count {
-            place.insert(*from, *to);
+            target.insert(*from, *to);
         }
     }
 }
@@ -86,26 +86,26 @@ fn is_linked(name: Predefined, from: usize, first: &Event, to: usize, second: &E
 }
 
 /// Adds the pairs of one event and each that it is linked to.
-fn put_linked_from(place: &mut Rel, name: Predefined, events: &[Event], from: usize)
-    requires all { place.old.count ≤ length events.now }
-    requires inside { from < place.old.count }
-    ensures { IsRelation place.new place.old.count (Union (Has place.old) (RowTo (Links events.now name) from place.old.count)) }
+fn put_linked_from(target: &mut Rel, name: Predefined, events: &[Event], from: usize)
+    requires all { target.old.count ≤ length events.now }
+    requires inside { from < target.old.count }
+    ensures { IsRelation target.new target.old.count (Union (Has target.old) (RowTo (Links events.now name) from target.old.count)) }
 {
     let first = events[from];
-    for to in 0..place.count() {
+    for to in 0..target.count() {
         if is_linked(name, from, &first, to, &events[to]) {
-            place.insert(from, to);
+            target.insert(from, to);
         }
     }
 }
 
 /// Adds the pairs of events that are linked.
-fn put_linked(place: &mut Rel, name: Predefined, events: &[Event])
-    requires all { place.old.count ≤ length events.now }
-    ensures { IsRelation place.new place.old.count (Union (Has place.old) (Below place.old.count (Links events.now name))) }
+fn put_linked(target: &mut Rel, name: Predefined, events: &[Event])
+    requires all { target.old.count ≤ length events.now }
+    ensures { IsRelation target.new target.old.count (Union (Has target.old) (Below target.old.count (Links events.now name))) }
 {
-    for from in 0..place.count() {
-        put_linked_from(place, name, events, from);
+    for from in 0..target.count() {
+        put_linked_from(target, name, events, from);
     }
 }
 
@@ -142,12 +142,12 @@ fn meets_fence(is_fenced: bool, follows: bool, event: &Event, kind: Fence) -> bo
 
 /// Adds the pairs of an event, if it is an access, and a later access of its thread, where a fence
 /// of this kind stands between them.
-fn put_fenced_from(place: &mut Rel, events: &[Event], kind: Fence, from: usize)
-    requires all { place.old.count ≤ length events.now }
-    requires inside { from < place.old.count }
-    ensures { IsRelation place.new place.old.count (Union (Has place.old) (RowTo (Fenced events.now kind) from place.old.count)) }
+fn put_fenced_from(target: &mut Rel, events: &[Event], kind: Fence, from: usize)
+    requires all { target.old.count ≤ length events.now }
+    requires inside { from < target.old.count }
+    ensures { IsRelation target.new target.old.count (Union (Has target.old) (RowTo (Fenced events.now kind) from target.old.count)) }
 {
-    let count = place.count();
+    let count = target.count();
     let first = events[from];
     if location_of(&first).is_none() {
         return;
@@ -157,52 +157,52 @@ fn put_fenced_from(place: &mut Rel, events: &[Event], kind: Fence, from: usize)
         let second = events[to];
         let follows = is_linked(Predefined::ProgramOrder, from, &first, to, &second);
         if is_fenced_end(is_fenced, follows, &second) {
-            place.insert(from, to);
+            target.insert(from, to);
         }
         is_fenced = meets_fence(is_fenced, follows, &second, kind);
     }
 }
 
 /// Adds the pairs of accesses with a fence of this kind between them in program order.
-fn put_fenced(place: &mut Rel, events: &[Event], kind: Fence)
-    requires all { place.old.count ≤ length events.now }
-    ensures { IsRelation place.new place.old.count (Union (Has place.old) (Below place.old.count (Fenced events.now kind))) }
+fn put_fenced(target: &mut Rel, events: &[Event], kind: Fence)
+    requires all { target.old.count ≤ length events.now }
+    ensures { IsRelation target.new target.old.count (Union (Has target.old) (Below target.old.count (Fenced events.now kind))) }
 {
-    for from in 0..place.count() {
-        put_fenced_from(place, events, kind, from);
+    for from in 0..target.count() {
+        put_fenced_from(target, events, kind, from);
     }
 }
 
-/// Makes `place` the relation of this name over the events of the combination, of this count. It
+/// Makes `target` the relation of this name over the events of the combination, of this count. It
 /// is empty where candidates of the combination differ in it.
-pub fn write_fixed(place: &mut Rel, name: Predefined, count: usize, combination: &Combination)
+pub fn write_fixed(target: &mut Rel, name: Predefined, count: usize, combination: &Combination)
     requires few { count ≤ 128 }
     requires all { count ≤ length combination.now.events.items }
-    ensures { IsRelation place.new count (Below count (Fixed name count combination.now)) }
+    ensures { IsRelation target.new count (Below count (Fixed name count combination.now)) }
 {
-    place.clear(count);
+    target.clear(count);
     let events = combination.events.as_slice();
     match name {
-        Predefined::Identity => place.add_identity(),
-        Predefined::ProgramOrder => put_linked(place, name, events),
-        Predefined::SameLocation => put_linked(place, name, events),
-        Predefined::ProgramOrderSameLocation => put_linked(place, name, events),
-        Predefined::Internal => put_linked(place, name, events),
+        Predefined::Identity => target.add_identity(),
+        Predefined::ProgramOrder => put_linked(target, name, events),
+        Predefined::SameLocation => put_linked(target, name, events),
+        Predefined::ProgramOrderSameLocation => put_linked(target, name, events),
+        Predefined::Internal => put_linked(target, name, events),
         Predefined::External => {
-            put_linked(place, Predefined::Internal, events);
-            place.turn();
+            put_linked(target, Predefined::Internal, events);
+            target.turn();
         }
-        Predefined::AddressDependency => put_pairs(place, &combination.dependencies.addr_pairs),
-        Predefined::DataDependency => put_pairs(place, &combination.dependencies.data_pairs),
-        Predefined::ControlDependency => put_pairs(place, &combination.dependencies.ctrl_pairs),
+        Predefined::AddressDependency => put_pairs(target, &combination.dependencies.addr_pairs),
+        Predefined::DataDependency => put_pairs(target, &combination.dependencies.data_pairs),
+        Predefined::ControlDependency => put_pairs(target, &combination.dependencies.ctrl_pairs),
         Predefined::ControlIsyncDependency => put_pairs(
-            place,
+            target,
             &combination.dependencies.ctrlisync_pairs,
         ),
-        Predefined::SyncOrder => put_fenced(place, events, Fence::Sync),
-        Predefined::LwsyncOrder => put_fenced(place, events, Fence::LightweightSync),
-        Predefined::EieioOrder => put_fenced(place, events, Fence::Eieio),
-        Predefined::IsyncOrder => put_fenced(place, events, Fence::Isync),
+        Predefined::SyncOrder => put_fenced(target, events, Fence::Sync),
+        Predefined::LwsyncOrder => put_fenced(target, events, Fence::LightweightSync),
+        Predefined::EieioOrder => put_fenced(target, events, Fence::Eieio),
+        Predefined::IsyncOrder => put_fenced(target, events, Fence::Isync),
         _ => {}
     }
 }

@@ -144,8 +144,8 @@ fn put_sets(sets: &mut [Named], count: usize, combination: &Combination)
     ensures long { length sets.new ≡ length sets.old }
 {
     let events = combination.events.as_slice();
-    for place in 0..sets.len() {
-        sets[place].set = set_of(sets[place].name, count, events);
+    for index in 0..sets.len() {
+        sets[index].set = set_of(sets[index].name, count, events);
     }
 }
 
@@ -157,9 +157,9 @@ fn put_shared(shared: &mut [Shared], count: usize, combination: &Combination)
     ensures names { shared_names shared.new ≡ shared_names shared.old }
     ensures long { length shared.new ≡ length shared.old }
 {
-    for place in 0..shared.len() {
-        let name = shared[place].name;
-        write_fixed(&mut shared[place].relation, name, count, combination);
+    for index in 0..shared.len() {
+        let name = shared[index].name;
+        write_fixed(&mut shared[index].relation, name, count, combination);
     }
 }
 
@@ -277,8 +277,8 @@ impl Base {
         self.from_reads.set_composed(&self.read_by, &self.coherence);
     }
 
-    /// What is held under the name of a set.
-    fn held_set(&self, name: Predefined) -> EventSet
+    /// What stands under the name of a set.
+    fn set_named(&self, name: Predefined) -> EventSet
         ensures { IsEvents result self.now.count (EventsOf self.now name) }
     {
         match find_set(&self.sets, name) {
@@ -292,69 +292,69 @@ impl Base {
         ensures held { IsEvents result self.now.count (EventsOf self.now name) }
         ensures meant { (c : _) → IsEntered self.now c → Contains (set_names self.now.sets) name → IsEvents result self.now.count (SetIn c self.now.count name) }
     {
-        self.held_set(name)
+        self.set_named(name)
     }
 
-    /// Makes `place` a relation that all candidates of the combination share.
-    fn write_shared(&self, name: Predefined, place: &mut Rel)
-        ensures { IsRelation place.new self.now.count (SharedPairs self.now name) }
+    /// Makes `target` a relation that all candidates of the combination share.
+    fn write_shared(&self, name: Predefined, target: &mut Rel)
+        ensures { IsRelation target.new self.now.count (SharedPairs self.now name) }
     {
         match find_shared(&self.shared, name) {
-            Some(relation) if relation.count() == self.count => place.copy_from(relation),
-            _ => place.clear(self.count),
+            Some(relation) if relation.count() == self.count => target.copy_from(relation),
+            _ => target.clear(self.count),
         }
     }
 
-    /// Makes `place` the part of a relation that is in a shared one.
-    fn write_part(&self, relation: &Rel, shared: Predefined, place: &mut Rel)
+    /// Makes `target` the part of a relation that is in a shared one.
+    fn write_part(&self, relation: &Rel, shared: Predefined, target: &mut Rel)
         requires { relation.now.count ≡ self.now.count }
-        ensures { IsRelation place.new self.now.count (Inter (SharedPairs self.now shared) (Has relation.now)) }
+        ensures { IsRelation target.new self.now.count (Inter (SharedPairs self.now shared) (Has relation.now)) }
     {
-        self.write_shared(shared, place);
-        place.inter_with(relation);
+        self.write_shared(shared, target);
+        target.inter_with(relation);
     }
 
-    /// Makes `place` the union of reads-from, coherence and from-reads.
-    fn write_communication(&self, place: &mut Rel)
-        ensures { IsRelation place.new self.now.count (PairsOf self.now names.Communication) }
+    /// Makes `target` the union of reads-from, coherence and from-reads.
+    fn write_communication(&self, target: &mut Rel)
+        ensures { IsRelation target.new self.now.count (PairsOf self.now names.Communication) }
     {
-        place.copy_from(&self.reads_from);
-        place.union_with(&self.coherence);
-        place.union_with(&self.from_reads);
+        target.copy_from(&self.reads_from);
+        target.union_with(&self.coherence);
+        target.union_with(&self.from_reads);
     }
 
-    /// Makes `place` what is held under a name.
-    fn write_held(&self, name: Predefined, count: usize, place: &mut Rel)
+    /// Makes `target` what stands under a name.
+    fn write_named(&self, name: Predefined, count: usize, target: &mut Rel)
         requires { count ≡ self.now.count }
-        ensures { IsRelation place.new self.now.count (PairsOf self.now name) }
+        ensures { IsRelation target.new self.now.count (PairsOf self.now name) }
     {
         let inside = Predefined::Internal;
         let outside = Predefined::External;
         match name {
             Predefined::Identity => {
-                place.clear(count);
-                place.add_identity();
+                target.clear(count);
+                target.add_identity();
             }
-            Predefined::ReadsFrom => place.copy_from(&self.reads_from),
-            Predefined::Coherence => place.copy_from(&self.coherence),
-            Predefined::FromReads => place.copy_from(&self.from_reads),
-            Predefined::ReadsFromExternal => self.write_part(&self.reads_from, outside, place),
-            Predefined::ReadsFromInternal => self.write_part(&self.reads_from, inside, place),
-            Predefined::CoherenceExternal => self.write_part(&self.coherence, outside, place),
-            Predefined::CoherenceInternal => self.write_part(&self.coherence, inside, place),
-            Predefined::FromReadsExternal => self.write_part(&self.from_reads, outside, place),
-            Predefined::FromReadsInternal => self.write_part(&self.from_reads, inside, place),
-            Predefined::Communication => self.write_communication(place),
-            _ => self.write_shared(name, place),
+            Predefined::ReadsFrom => target.copy_from(&self.reads_from),
+            Predefined::Coherence => target.copy_from(&self.coherence),
+            Predefined::FromReads => target.copy_from(&self.from_reads),
+            Predefined::ReadsFromExternal => self.write_part(&self.reads_from, outside, target),
+            Predefined::ReadsFromInternal => self.write_part(&self.reads_from, inside, target),
+            Predefined::CoherenceExternal => self.write_part(&self.coherence, outside, target),
+            Predefined::CoherenceInternal => self.write_part(&self.coherence, inside, target),
+            Predefined::FromReadsExternal => self.write_part(&self.from_reads, outside, target),
+            Predefined::FromReadsInternal => self.write_part(&self.from_reads, inside, target),
+            Predefined::Communication => self.write_communication(target),
+            _ => self.write_shared(name, target),
         }
     }
 
-    /// Makes `place` the relation of a name in the present candidate; a name that is a set makes
+    /// Makes `target` the relation of a name in the present candidate; a name that is a set makes
     /// it the empty one.
-    pub fn write_relation(&self, name: Predefined, place: &mut Rel)
-        ensures held { IsRelation place.new self.now.count (PairsOf self.now name) }
-        ensures meant { (c : _) → (sources order : _) → IsEntered self.now c → IsReading self.now c sources → IsOrdered self.now c order → Gives self.now name → IsRelation place.new self.now.count (RelationIn name self.now.count c sources order) }
+    pub fn write_relation(&self, name: Predefined, target: &mut Rel)
+        ensures held { IsRelation target.new self.now.count (PairsOf self.now name) }
+        ensures meant { (c : _) → (sources order : _) → IsEntered self.now c → IsReading self.now c sources → IsOrdered self.now c order → Gives self.now name → IsRelation target.new self.now.count (RelationIn name self.now.count c sources order) }
     {
-        self.write_held(name, self.count(), place);
+        self.write_named(name, self.count(), target);
     }
 }

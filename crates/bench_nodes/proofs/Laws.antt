@@ -19,10 +19,7 @@ use Rattle.bench_nodes.specs.declared.table.TestRow.{TestRow}
 use Rattle.bench_nodes.specs.Nodes.{used, keys_at, is_slot, slot_keys, thread_parts, space_keys, row_of, row_parts, inputs_of, users, has_test, has_slot, slot_index, rank_of, rank, net_of}
 use Rattle.bench_nodes.specs.Order.{IsBehind, AreOrderedAfter, IsOrdered}
 use Rattle.bench_nodes.proofs.Lists.{has_node_at, has_used}
-
-by_cases : (b : Bool) → (b ≡ true) ⊎ (b ≡ false)
-by_cases true = inl refl
-by_cases false = inr refl
+use Rattle.std.proofs.lemmas.Bool.{cases_Bool}
 
 -- ---- both or one of two
 
@@ -36,17 +33,6 @@ second_of false b h = cc
 
 both_of : (a b : Bool) → a ≡ true → b ≡ true → a && b ≡ true
 both_of a b h i = rw h i
-
-either_of : (a b : Bool) → a || b ≡ true → (a ≡ true) ⊎ (b ≡ true)
-either_of true b h = inl refl
-either_of false b h = inr h
-
-or_left : (a b : Bool) → a ≡ true → a || b ≡ true
-or_left a b h = rw h refl
-
-or_right : (a b : Bool) → b ≡ true → a || b ≡ true
-or_right true b h = refl
-or_right false b h = h
 
 -- ---- what a used node is
 
@@ -104,7 +90,7 @@ behind_before before ss i (slots.Fault id ∷ ks) h = (tt, behind_before before 
 behind_before before ss i (slots.Value kind of name ∷ ks) h = (inl h.0, behind_before before ss i ks h.1)
 
 key_further : (before ss : List Slot) (s : Slot) (i : ℕ) (kind : Kind) (of : ℕ) → (has_slot (s ∷ before) kind of ≡ true) ⊎ ((has_slot ss kind of ≡ true) × (slot_index ss kind of < i)) → (has_slot before kind of ≡ true) ⊎ ((has_slot (s ∷ ss) kind of ≡ true) × (slot_index (s ∷ ss) kind of < i + 1))
-key_further before ss s i kind of h = elim (by_cases (is_slot kind of s)) [
+key_further before ss s i kind of h = elim (cases_Bool (is_slot kind of s)) [
   | inl e ↦ inr (rw e refl, rw e (omega arith))
   | inr f ↦ elim h [
     | inl b ↦ inl (rw f at b)
@@ -121,7 +107,7 @@ further before ss s i (slots.Value kind of name ∷ ks) h = (key_further before 
 
 keys_before : (before ss : List Slot) (kind : Kind) (of : ℕ) → AreOrderedAfter before ss → Each (StandsBefore before ss (slot_index ss kind of)) (slot_keys ss kind of)
 keys_before before [] kind of h = tt
-keys_before before (s ∷ ss) kind of h = elim (by_cases (is_slot kind of s)) [
+keys_before before (s ∷ ss) kind of h = elim (cases_Bool (is_slot kind of s)) [
   | inl e ↦ rw e (behind_before before (s ∷ ss) 0 s.inputs.items h.0)
   | inr f ↦ rw f (further before ss s (slot_index ss kind of) (slot_keys ss kind of) (keys_before (s ∷ before) ss kind of h.1))
 ]

@@ -118,10 +118,6 @@ same_parts true false c d = refl
 same_parts false true c d = refl
 same_parts false false c d = refl
 
-or_false : (b : Bool) → b || false ≡ b
-or_false true = refl
-or_false false = refl
-
 or_assoc : (a b c : Bool) → (a || b) || c ≡ a || (b || c)
 or_assoc true b c = refl
 or_assoc false b c = refl
@@ -159,9 +155,6 @@ row_count ts id t n is e = ap (λ (k : ℕ). k + 2) e ∙ sym (length-space_part
 
 pub row_keys : (ts : List TestRow) (id : ℕ) (t : TestRow) → Some t ≡ row_of ts id → space_keys ts id ≡ space_parts t
 row_keys ts id t is = ap row_parts (sym is)
-
-pub no_row_keys : (ts : List TestRow) (id : ℕ) → None ≡ row_of ts id → space_keys ts id ≡ []
-no_row_keys ts id is = ap row_parts (sym is)
 
 pub part_of_thread : (t : TestRow) (i : ℕ) → (i ≡ 0 → ⊥) → i ≤ length t.threads.items → slice_get (space_parts t) i ≡ Some (Part (6 + (i - 1)) t.id)
 part_of_thread t zero some le = absurd (some refl)

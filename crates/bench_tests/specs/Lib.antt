@@ -1,4 +1,5 @@
 pub mod Rows
 pub mod Sheet
 pub mod Laws
-pub mod Seen
+pub mod SheetCells
+pub mod CellProofs

@@ -3,10 +3,11 @@
 
 ghost use Rattle.std.specs.Prelude.{◌≡◌};
 
-use crate::bench::{Answer, Bench, run};
 use crate::rows::{Row, find_row, put, remove};
 use crate::sheet::{Change, Sheet, SheetFault};
-use memo_bench::job::Job;
+use cells::bench::Bench;
+use cells::job::{Done, Job};
+use cells::shown::Shown;
 use memo_core::claims::{ClaimFault, Finish};
 use std::alloc::Global;
 use std::marker::Brand;
@@ -15,10 +16,20 @@ use std::sync::{Arc, Wait};
 use std::test::Fail;
 use value_store::{Opened, Store, StoreFault, StoreName};
 
+/// What the cell of a row shows, if it is there and settled.
+fn shown<K: StoreName>(bench: &Bench<K, Sheet>, name: u64) -> Option<u64> {
+    let test = [(name % 256) as u8];
+    match bench.shown(&test, &[]) {
+        Shown::Settled(outcome) => Some(*outcome),
+        Shown::Open => None,
+        Shown::NoCell => None,
+    }
+}
+
 fn edited<K: StoreName>(
     rt: &impl Abort,
     alloc: Global,
-    bench: &mut Bench<K>,
+    bench: &mut Bench<K, Sheet>,
     change: Change,
 ) -> u64 {
     match bench.edit(alloc, change) {
@@ -35,7 +46,7 @@ fn edited<K: StoreName>(
 fn claimed<K: StoreName>(
     rt: &impl Abort,
     alloc: Global,
-    bench: &mut Bench<K>,
+    bench: &mut Bench<K, Sheet>,
 ) -> Option<Job<K, Sheet>> {
     for _ in 0..8 {
         match bench.claim(alloc) {
@@ -48,22 +59,22 @@ fn claimed<K: StoreName>(
 }
 
 /// The job of the next claim, which there has to be.
-fn job<K: StoreName>(rt: &impl Abort, alloc: Global, bench: &mut Bench<K>) -> Job<K, Sheet> {
+fn job<K: StoreName>(rt: &impl Abort, alloc: Global, bench: &mut Bench<K, Sheet>) -> Job<K, Sheet> {
     match claimed(rt, alloc, bench) {
         Some(job) => job,
         None => panic!(rt; "there is no work"),
     }
 }
 
-fn ran<R: Abort + Wait, K: StoreName>(rt: &R, alloc: Global, job: Job<K, Sheet>) -> Answer<K> {
-    let claim = job.claim;
-    let refused = match run(rt, alloc, job) {
+fn ran<R: Abort + Wait, K: StoreName>(rt: &R, alloc: Global, job: Job<K, Sheet>) -> Done<K, Sheet> {
+    let claim = job.claim_number();
+    let refused = match job.run(rt, alloc) {
         Ok(answer) => return answer,
         Err((refused, StoreFault::OutOfMemory)) => refused,
         Err((_, StoreFault::Full)) => panic!(rt; "the store is full"),
     };
-    assert_eq!(rt; refused.claim, claim);
-    match run(rt, alloc, refused) {
+    assert_eq!(rt; refused.claim_number(), claim);
+    match refused.run(rt, alloc) {
         Ok(answer) => answer,
         Err(_) => panic!(rt; "the job is refused again"),
     }
@@ -82,7 +93,11 @@ fn code(finish: Finish) -> u64 {
 }
 
 /// Claims, runs and returns until there is no work. Answers the number of jobs.
-fn settle<R: Abort + Wait, K: StoreName>(rt: &R, alloc: Global, bench: &mut Bench<K>) -> u64 {
+fn settle<R: Abort + Wait, K: StoreName>(
+    rt: &R,
+    alloc: Global,
+    bench: &mut Bench<K, Sheet>,
+) -> u64 {
     for count in 0..100u64 {
         match claimed(rt, alloc, bench) {
             None => return count,
@@ -97,55 +112,55 @@ fn settle<R: Abort + Wait, K: StoreName>(rt: &R, alloc: Global, bench: &mut Benc
 }
 
 /// Two rows over a base of 25, all settled.
-fn two_rows<R: Abort + Wait, K: StoreName>(rt: &R, alloc: Global, bench: &mut Bench<K>) {
+fn two_rows<R: Abort + Wait, K: StoreName>(rt: &R, alloc: Global, bench: &mut Bench<K, Sheet>) {
     assert_eq!(rt; edited(rt, alloc, bench, Change::Put(1, 5)), 1);
     assert_eq!(rt; edited(rt, alloc, bench, Change::Put(2, 7)), 2);
     assert_eq!(rt; edited(rt, alloc, bench, Change::SetBase(25)), 3);
-    assert!(rt; bench.shown(1) == None);
+    assert!(rt; shown(bench, 1) == None);
     assert!(rt; !bench.all_settled());
     assert_eq!(rt; settle(rt, alloc, bench), 3);
     assert!(rt; bench.all_settled());
-    assert!(rt; bench.shown(1) == Some(7));
-    assert!(rt; bench.shown(2) == Some(9));
-    assert!(rt; bench.shown(3) == None);
+    assert!(rt; shown(bench, 1) == Some(7));
+    assert!(rt; shown(bench, 2) == Some(9));
+    assert!(rt; shown(bench, 3) == None);
 }
 
 /// An edit opens what it reaches. An equal output opens nothing above it.
-fn cutoff<R: Abort + Wait, K: StoreName>(rt: &R, alloc: Global, bench: &mut Bench<K>) {
+fn cutoff<R: Abort + Wait, K: StoreName>(rt: &R, alloc: Global, bench: &mut Bench<K, Sheet>) {
     two_rows(rt, alloc, bench);
     edited(rt, alloc, bench, Change::Put(1, 6));
-    assert!(rt; bench.shown(1) == None);
-    assert!(rt; bench.shown(2) == Some(9));
+    assert!(rt; shown(bench, 1) == None);
+    assert!(rt; shown(bench, 2) == Some(9));
     assert_eq!(rt; settle(rt, alloc, bench), 1);
-    assert!(rt; bench.shown(1) == Some(8));
+    assert!(rt; shown(bench, 1) == Some(8));
     edited(rt, alloc, bench, Change::SetBase(28));
-    assert!(rt; bench.shown(2) == None);
+    assert!(rt; shown(bench, 2) == None);
     let answer = ran(rt, alloc, job(rt, alloc, bench));
     let finish = bench.finish(answer);
     assert_eq!(rt; code(finish), 2);
-    assert!(rt; bench.shown(1) == Some(8));
-    assert!(rt; bench.shown(2) == Some(9));
+    assert!(rt; shown(bench, 1) == Some(8));
+    assert!(rt; shown(bench, 2) == Some(9));
     assert_eq!(rt; settle(rt, alloc, bench), 0);
     edited(rt, alloc, bench, Change::SetBase(31));
     assert_eq!(rt; settle(rt, alloc, bench), 3);
-    assert!(rt; bench.shown(1) == Some(9));
+    assert!(rt; shown(bench, 1) == Some(9));
 }
 
 /// A part that is set to an equal text keeps its stamp: no cell opens.
-fn equal_edit<R: Abort + Wait, K: StoreName>(rt: &R, alloc: Global, bench: &mut Bench<K>) {
+fn equal_edit<R: Abort + Wait, K: StoreName>(rt: &R, alloc: Global, bench: &mut Bench<K, Sheet>) {
     two_rows(rt, alloc, bench);
     edited(rt, alloc, bench, Change::Put(1, 5));
     edited(rt, alloc, bench, Change::SetBase(25));
-    assert!(rt; bench.shown(1) == Some(7));
+    assert!(rt; shown(bench, 1) == Some(7));
     assert_eq!(rt; settle(rt, alloc, bench), 0);
 }
 
 /// A return after an edit is stale at the edit's number. One whose row is gone is stale at none.
-fn late_return<R: Abort + Wait, K: StoreName>(rt: &R, alloc: Global, bench: &mut Bench<K>) {
+fn late_return<R: Abort + Wait, K: StoreName>(rt: &R, alloc: Global, bench: &mut Bench<K, Sheet>) {
     two_rows(rt, alloc, bench);
     let edit = edited(rt, alloc, bench, Change::Put(1, 6));
     let first = job(rt, alloc, bench);
-    assert_eq!(rt; first.claim, edit.wrapping_add(1));
+    assert_eq!(rt; first.claim_number(), edit.wrapping_add(1));
     let number = edited(rt, alloc, bench, Change::Put(1, 8));
     let answer = ran(rt, alloc, first);
     let finish = bench.finish(answer);
@@ -155,32 +170,32 @@ fn late_return<R: Abort + Wait, K: StoreName>(rt: &R, alloc: Global, bench: &mut
     let answer = ran(rt, alloc, second);
     let finish = bench.finish(answer);
     assert_eq!(rt; code(finish), 1);
-    assert!(rt; bench.shown(1) == None);
+    assert!(rt; shown(bench, 1) == None);
     assert_eq!(rt; settle(rt, alloc, bench), 0);
 }
 
 /// A lost claim's node is handed out again, and only the later claim's return is taken.
-fn lost_claim<R: Abort + Wait, K: StoreName>(rt: &R, alloc: Global, bench: &mut Bench<K>) {
+fn lost_claim<R: Abort + Wait, K: StoreName>(rt: &R, alloc: Global, bench: &mut Bench<K, Sheet>) {
     two_rows(rt, alloc, bench);
     edited(rt, alloc, bench, Change::Put(1, 6));
     let first = job(rt, alloc, bench);
     assert!(rt; claimed(rt, alloc, bench).is_none());
-    assert!(rt; bench.lose(first.claim));
-    assert!(rt; !bench.lose(first.claim));
+    assert!(rt; bench.lose(first.claim_number()));
+    assert!(rt; !bench.lose(first.claim_number()));
     assert!(rt; !bench.lose(999));
     let second = job(rt, alloc, bench);
     let answer = ran(rt, alloc, first);
     let finish = bench.finish(answer);
     assert_eq!(rt; code(finish), 0);
-    assert!(rt; bench.shown(1) == None);
+    assert!(rt; shown(bench, 1) == None);
     let answer = ran(rt, alloc, second);
     let finish = bench.finish(answer);
     assert_eq!(rt; code(finish), 3);
-    assert!(rt; bench.shown(1) == Some(8));
+    assert!(rt; shown(bench, 1) == Some(8));
 }
 
 /// The same return once more, tried again once where memory is refused.
-fn copied<K: StoreName>(rt: &impl Abort, alloc: Global, answer: &Answer<K>) -> Answer<K> {
+fn copied<K: StoreName>(rt: &impl Abort, alloc: Global, answer: &Done<K, Sheet>) -> Done<K, Sheet> {
     for _ in 0..8 {
         if let Ok(copy) = answer.copy(alloc) {
             return copy;
@@ -190,7 +205,11 @@ fn copied<K: StoreName>(rt: &impl Abort, alloc: Global, answer: &Answer<K>) -> A
 }
 
 /// Of a return and its copy the first is taken, and the other is unknown.
-fn repeated_return<R: Abort + Wait, K: StoreName>(rt: &R, alloc: Global, bench: &mut Bench<K>) {
+fn repeated_return<R: Abort + Wait, K: StoreName>(
+    rt: &R,
+    alloc: Global,
+    bench: &mut Bench<K, Sheet>,
+) {
     two_rows(rt, alloc, bench);
     edited(rt, alloc, bench, Change::Put(1, 6));
     let answer = ran(rt, alloc, job(rt, alloc, bench));
@@ -200,21 +219,21 @@ fn repeated_return<R: Abort + Wait, K: StoreName>(rt: &R, alloc: Global, bench: 
     assert_eq!(rt; code(finish), 3);
     let finish = bench.finish(answer);
     assert_eq!(rt; code(finish), 0);
-    assert!(rt; bench.shown(1) == Some(8));
+    assert!(rt; shown(bench, 1) == Some(8));
 }
 
 /// A renewal opens every cell, and a job from before it is unknown.
-fn renewal<R: Abort + Wait, K: StoreName>(rt: &R, alloc: Global, bench: &mut Bench<K>) {
+fn renewal<R: Abort + Wait, K: StoreName>(rt: &R, alloc: Global, bench: &mut Bench<K, Sheet>) {
     two_rows(rt, alloc, bench);
     edited(rt, alloc, bench, Change::Put(1, 6));
     let first = job(rt, alloc, bench);
     bench.renew();
-    assert!(rt; bench.shown(2) == None);
+    assert!(rt; shown(bench, 2) == None);
     let answer = ran(rt, alloc, first);
     let finish = bench.finish(answer);
     assert_eq!(rt; code(finish), 0);
     assert_eq!(rt; settle(rt, alloc, bench), 3);
-    assert!(rt; bench.shown(1) == Some(8));
+    assert!(rt; shown(bench, 1) == Some(8));
 }
 
 /// What a cell is, evaluated from nothing.
@@ -225,9 +244,9 @@ fn scratch(rows: &[Row], base: u64, name: u64) -> Option<u64> {
     }
 }
 
-fn check<K: StoreName>(rt: &impl Abort, bench: &Bench<K>, rows: &[Row], base: u64) {
+fn check<K: StoreName>(rt: &impl Abort, bench: &Bench<K, Sheet>, rows: &[Row], base: u64) {
     for name in 0..6u64 {
-        if let Some(value) = bench.shown(name) {
+        if let Some(value) = shown(bench, name) {
             assert!(rt; scratch(rows, base, name) == Some(value));
         }
     }
@@ -241,7 +260,7 @@ fn next(seed: u64) -> u64 {
 /// A list of jobs that are out, in any order.
 #[derive(Drop)]
 struct Walk<K: StoreName> {
-    bench: Bench<K>,
+    bench: Bench<K, Sheet>,
     jobs: Vec<Job<K, Sheet>>,
     rows: Vec<Row>,
     base: u64,
@@ -287,7 +306,7 @@ impl<K: StoreName> Walk<K> {
         let at = pick % self.jobs.len();
         let job = self.jobs.swap_remove(at);
         if is_lost {
-            let _ = self.bench.lose(job.claim);
+            let _ = self.bench.lose(job.claim_number());
         } else {
             let answer = ran(rt, alloc, job);
             let _ = self.bench.finish(answer);
@@ -315,7 +334,7 @@ impl<K: StoreName> Walk<K> {
 
 /// A thousand events from a fixed seed. After each, what is shown is what evaluation from nothing
 /// gives; at the end all is settled.
-fn random_walk<R: Abort + Wait, K: StoreName>(rt: &R, alloc: Global, bench: Bench<K>) {
+fn random_walk<R: Abort + Wait, K: StoreName>(rt: &R, alloc: Global, bench: Bench<K, Sheet>) {
     let mut walk = Walk {
         bench,
         jobs: Vec::new(alloc),
@@ -334,7 +353,7 @@ fn random_walk<R: Abort + Wait, K: StoreName>(rt: &R, alloc: Global, bench: Benc
     settle(rt, alloc, &mut walk.bench);
     for name in 0..6u64 {
         let wanted = scratch(walk.rows.as_slice(), walk.base, name);
-        assert!(rt; walk.bench.shown(name) == wanted);
+        assert!(rt; shown(&walk.bench, name) == wanted);
     }
 }
 

@@ -21,9 +21,9 @@ IsLimited t spent change new r = MatchResult r (λ c. (c ≡ change) × (limit_f
 
 -- what is answered where a reader refuses, or is refused memory
 abbrev pub test_fault_of : LitmusFault → EditFault
-test_fault_of (litmus.Refused rule place) = faults.Test (litmus.Refused rule place)
+test_fault_of (litmus.Refused rule offset) = faults.Test (litmus.Refused rule offset)
 test_fault_of (litmus.OutOfMemory e) = faults.OutOfMemory e
 
 abbrev pub model_fault_of : CatFault → EditFault
-model_fault_of (cat.Refused rule place) = faults.Model (cat.Refused rule place)
+model_fault_of (cat.Refused rule offset) = faults.Model (cat.Refused rule offset)
 model_fault_of (cat.OutOfMemory e) = faults.OutOfMemory e

@@ -137,33 +137,33 @@ Makes t (RemoveItem model item) new =
 -- ---- why its text is refused
 
 abbrev pub IsTestRefused : BenchTexts → Edit → LitmusRule → ℕ → Type 0
-IsTestRefused t (PutTest text) rule place = IsTestFault text rule place
-IsTestRefused t (SetInit test text) rule place = IsInitFault (thread_count t test) text rule place
-IsTestRefused t (SetThread test thread text) rule place = IsThreadFault text rule place
-IsTestRefused t (SetCond test text) rule place = IsConditionFault (thread_count t test) text rule place
-IsTestRefused t (SetLocations test text) rule place = IsLocationsFault (thread_count t test) text rule place
-IsTestRefused t _ rule place = ⊥
+IsTestRefused t (PutTest text) rule offset = IsTestFault text rule offset
+IsTestRefused t (SetInit test text) rule offset = IsInitFault (thread_count t test) text rule offset
+IsTestRefused t (SetThread test thread text) rule offset = IsThreadFault text rule offset
+IsTestRefused t (SetCond test text) rule offset = IsConditionFault (thread_count t test) text rule offset
+IsTestRefused t (SetLocations test text) rule offset = IsLocationsFault (thread_count t test) text rule offset
+IsTestRefused t _ rule offset = ⊥
 
 -- the text reads as an item, of which the model has 256
-pub record IsOneTooMany (t : BenchTexts) (model text : List ℕ) (rule : CatRule) (place : ℕ) : Type 0 where
+pub record IsOneTooMany (t : BenchTexts) (model text : List ℕ) (rule : CatRule) (offset : ℕ) : Type 0 where
   pub item : Clause
   pub reads : Reads forms.Item text (item ∷ [])
   pub many : 256 ≤ length (model_items t model)
   pub rule_is : rule ≡ TooMany
-  pub place_is : place ≡ 0
+  pub offset_is : offset ≡ 0
 
 abbrev pub IsModelRefused : BenchTexts → Edit → CatRule → ℕ → Type 0
-IsModelRefused t (PutModel model text) rule place = FaultAt forms.Model text rule place
-IsModelRefused t (SetItem model item text) rule place = FaultAt forms.Item text rule place
-IsModelRefused t (InsertItem model before text) rule place = FaultAt forms.Item text rule place ⊎ IsOneTooMany t model text rule place
-IsModelRefused t _ rule place = ⊥
+IsModelRefused t (PutModel model text) rule offset = FaultAt forms.Model text rule offset
+IsModelRefused t (SetItem model item text) rule offset = FaultAt forms.Item text rule offset
+IsModelRefused t (InsertItem model before text) rule offset = FaultAt forms.Item text rule offset ⊎ IsOneTooMany t model text rule offset
+IsModelRefused t _ rule offset = ⊥
 
 abbrev pub IsLitmusRefusal : BenchTexts → Edit → LitmusFault → Type 0
-IsLitmusRefusal t e (litmus.Refused rule place) = IsTestRefused t e rule place
+IsLitmusRefusal t e (litmus.Refused rule offset) = IsTestRefused t e rule offset
 IsLitmusRefusal t e (litmus.OutOfMemory f) = ⊥
 
 abbrev pub IsCatRefusal : BenchTexts → Edit → CatFault → Type 0
-IsCatRefusal t e (cat.Refused rule place) = IsModelRefused t e rule place
+IsCatRefusal t e (cat.Refused rule offset) = IsModelRefused t e rule offset
 IsCatRefusal t e (cat.OutOfMemory f) = ⊥
 
 -- ---- the limits, of what it makes

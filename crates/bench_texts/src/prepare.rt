@@ -15,8 +15,8 @@ fn test_fault(fault: LitmusFault) -> EditFault
     ensures { result ≡ test_fault_of fault }
 {
     match fault {
-        LitmusFault::Refused { rule, place } => {
-            EditFault::Test(LitmusFault::Refused { rule, place })
+        LitmusFault::Refused { rule, offset } => {
+            EditFault::Test(LitmusFault::Refused { rule, offset })
         }
         LitmusFault::OutOfMemory(error) => EditFault::OutOfMemory(error),
     }

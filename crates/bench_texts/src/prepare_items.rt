@@ -112,7 +112,7 @@ impl Texts {
         };
         if self.models[at].len() >= MAX_ITEMS {
             let rule = CatRule::TooMany;
-            return Err(EditFault::Model(CatFault::Refused { rule, place: 0 }));
+            return Err(EditFault::Model(CatFault::Refused { rule, offset: 0 }));
         }
         let others = self.models[at].outputs();
         let of_items = others.saturating_add(outputs_of(&item));

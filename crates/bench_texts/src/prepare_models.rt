@@ -19,7 +19,7 @@ pub(crate) fn model_fault(fault: CatFault) -> EditFault
     ensures { result ≡ model_fault_of fault }
 {
     match fault {
-        CatFault::Refused { rule, place } => EditFault::Model(CatFault::Refused { rule, place }),
+        CatFault::Refused { rule, offset } => EditFault::Model(CatFault::Refused { rule, offset }),
         CatFault::OutOfMemory(error) => EditFault::OutOfMemory(error),
     }
 }

@@ -23,14 +23,14 @@ use Rattle.binding_kinds.proofs.Applications.{kept_at, kept_none}
 abbrev pub terms_in : List Expression → Terms
 terms_in xs = gathered (map term_of xs)
 
--- the function at that place, and what it is
+-- the function at that index, and what it is
 pub record IsApplied (fs : List Function) (ss : List Sense) (f n : ℕ) (o : Option Sense) : Type 0 where
   pub one : Function
   pub sense : Sense
   pub there : slice_get fs f ≡ Some one
   pub kept : IsKept one sense
   pub arity : sense.arity ≡ n
-  pub seen : o ≡ Some sense
+  pub sense_is : o ≡ Some sense
 
 -- what is known, by the answer of the look-up
 abbrev pub Tells : List Function → List Sense → ℕ → Option Sense → Result ℕ ModelFault → Type 0
@@ -49,7 +49,7 @@ at_kept fs ss n f (Some one) kept e =
     (subst (λ (a : ℕ). Tells fs ss n (of_result (with_arity n (Some k.0))) (applied f n (Some a))) (sym k.2.arity) (at_test k.0 k.2 (nat_eq k.0.arity n) (λ t. eqb-true k.0.arity n t)))
   where
     at_test : (s : Sense) → IsKept one s → (b : Bool) → (b ≡ true → s.arity ≡ n) → Tells fs ss n (of_result (if b then Ok s else Err faults.Arity)) (if b then Ok f else Err faults.Arity)
-    at_test s kept true same = record { one = one; sense = s; there = e; kept = kept; arity = same refl; seen = refl }
+    at_test s kept true same = record { one = one; sense = s; there = e; kept = kept; arity = same refl; sense_is = refl }
     at_test s kept false same = refl
 
 by_binder : (fs : List Function) (ss : List Sense) (n : ℕ) (b : Binder) → AreKept fs ss → Tells fs ss n (of_result (sense_of_binder ss n b)) (applied_binder (λ i. slice_get (map (λ (g : Function). g.arity) fs) i) n b)

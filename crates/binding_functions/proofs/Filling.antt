@@ -226,10 +226,10 @@ more_arguments ss names ps xs i e made new one lt is new_is inv h =
 -- an application whose arguments are made
 pub applied_pieces : (ss : List Sense) (names : List Naming) (ps : List (List ℕ)) (e : Expression) (n : List ℕ) (args : Vec Expression Global) (count : ℕ) (s : Sense) → e ≡ expressions.Applied n args → count ≡ length args.items → sense_seen ss names ps count n ≡ Some s
     → pieces_with (argument_pieces ss names ps args.items) (postfix s.formula) ≡ pieces_in ss names ps (term_of e)
-applied_pieces ss names ps e n args count s is count_is seen =
+applied_pieces ss names ps e n args count s is count_is sense_is =
     let ts = gathered (map term_of args.items) in
     let t : term_of e ≡ Apply n ts = ap term_of is ∙ applied_term n args in
-    let w : sense_seen ss names ps (count_of ts) n ≡ Some s = ap (λ (m : ℕ). sense_seen ss names ps m n) (count_arguments args.items ∙ sym count_is) ∙ seen in
+    let w : sense_seen ss names ps (count_of ts) n ≡ Some s = ap (λ (m : ℕ). sense_seen ss names ps m n) (count_arguments args.items ∙ sym count_is) ∙ sense_is in
     ap (λ (l : List (List Piece)). pieces_with l (postfix s.formula)) (listed ss names ps args.items)
     ∙ (filled_postfix (formulas_in ss names ps ts) s.formula
     ∙ (ap (λ (o : Option Sense). postfix (applied_formula o (formulas_in ss names ps ts))) (sym w) ∙ ap (pieces_in ss names ps) (sym t)))
@@ -241,10 +241,10 @@ applied_large ss names ps e n args is lt =
 
 pub unfit_pieces : (ss : List Sense) (names : List Naming) (ps : List (List ℕ)) (e : Expression) (n : List ℕ) (args : Vec Expression Global) (count : ℕ) → e ≡ expressions.Applied n args → count ≡ length args.items → sense_seen ss names ps count n ≡ None
     → pieces.NoPairs ∷ [] ≡ pieces_in ss names ps (term_of e)
-unfit_pieces ss names ps e n args count is count_is seen =
+unfit_pieces ss names ps e n args count is count_is sense_is =
     let ts = gathered (map term_of args.items) in
     let t : term_of e ≡ Apply n ts = ap term_of is ∙ applied_term n args in
-    let w : sense_seen ss names ps (count_of ts) n ≡ None = ap (λ (m : ℕ). sense_seen ss names ps m n) (count_arguments args.items ∙ sym count_is) ∙ seen in
+    let w : sense_seen ss names ps (count_of ts) n ≡ None = ap (λ (m : ℕ). sense_seen ss names ps m n) (count_arguments args.items ∙ sym count_is) ∙ sense_is in
     ap (λ (o : Option Sense). postfix (applied_formula o (formulas_in ss names ps ts))) (sym w) ∙ ap (pieces_in ss names ps) (sym t)
 
 -- a large part makes the whole large
@@ -317,16 +317,16 @@ one_parameter : (b : Bool) → 0 + cond b 1 0 ≡ (if b then 1 else 0)
 one_parameter true = refl
 one_parameter false = refl
 
-pub factor_postfix : (place : ℕ) (f : Formula) → count_by (is_parameter_at place) (postfix f) ≡ factor_of f place
-factor_postfix place (Value f) = refl
-factor_postfix place (Parameter i) = one_parameter (nat_eq i place)
-factor_postfix place Everything = refl
-factor_postfix place NoPairs = refl
-factor_postfix place NoEvents = refl
-factor_postfix place (Joined op a b) = let n = count_three (is_parameter_at place) (postfix a) (postfix b) (pieces.Joined op) in let l = factor_postfix place a in let r = factor_postfix place b in omega (arith, n, l, r)
-factor_postfix place (Marked op a) = let n = count_after (is_parameter_at place) (postfix a) (pieces.Marked op) in let l = factor_postfix place a in omega (arith, n, l)
-factor_postfix place (Complement a) = let n = count_after (is_parameter_at place) (postfix a) pieces.Complement in let l = factor_postfix place a in omega (arith, n, l)
-factor_postfix place (Identity a) = let n = count_after (is_parameter_at place) (postfix a) pieces.Identity in let l = factor_postfix place a in omega (arith, n, l)
+pub factor_postfix : (index : ℕ) (f : Formula) → count_by (is_parameter_at index) (postfix f) ≡ factor_of f index
+factor_postfix index (Value f) = refl
+factor_postfix index (Parameter i) = one_parameter (nat_eq i index)
+factor_postfix index Everything = refl
+factor_postfix index NoPairs = refl
+factor_postfix index NoEvents = refl
+factor_postfix index (Joined op a b) = let n = count_three (is_parameter_at index) (postfix a) (postfix b) (pieces.Joined op) in let l = factor_postfix index a in let r = factor_postfix index b in omega (arith, n, l, r)
+factor_postfix index (Marked op a) = let n = count_after (is_parameter_at index) (postfix a) (pieces.Marked op) in let l = factor_postfix index a in omega (arith, n, l)
+factor_postfix index (Complement a) = let n = count_after (is_parameter_at index) (postfix a) pieces.Complement in let l = factor_postfix index a in omega (arith, n, l)
+factor_postfix index (Identity a) = let n = count_after (is_parameter_at index) (postfix a) pieces.Identity in let l = factor_postfix index a in omega (arith, n, l)
 
 -- ---- the parameters of a body
 
@@ -393,10 +393,10 @@ pub put_applied : {T E : Type 0} (ss : List Sense) (names : List Naming) (ps : L
     → e ≡ expressions.Applied n args → count ≡ length args.items → sense_seen ss names ps count n ≡ Some s → xs ≡ args.items → length xs ≤ i → given ≡ made → AllZip IsTemplate made (argument_pieces ss names ps (take i xs))
     → ((ws : List (List Piece)) → AllZip IsTemplate given ws → OnOk r (IsGrown old new (pieces_with ws (postfix s.formula)) (4096 < length (pieces_with ws (postfix s.formula)))))
     → OnOk r (IsGrown old new (pieces_in ss names ps (term_of e)) (HasLarge ss names ps (term_of e)))
-put_applied ss names ps e n args count s old new r xs i made given is count_is seen items past same inv put =
+put_applied ss names ps e n args count s old new r xs i made given is count_is sense_is items past same inv put =
     let whole : take i xs ≡ args.items = take_all i xs past ∙ items in
     let all : AllZip IsTemplate given (argument_pieces ss names ps args.items) = rw (same, sym whole) inv in
-    let are = applied_pieces ss names ps e n args count s is count_is seen in
+    let are = applied_pieces ss names ps e n args count s is count_is sense_is in
     on_ok_as r _ _ (λ g. grown_as old new _ _ _ _ are (λ l. applied_large ss names ps e n args is (rw (sym are) l)) g) (put (argument_pieces ss names ps args.items) all)
 
 -- where nothing is too large, a new template has the whole list

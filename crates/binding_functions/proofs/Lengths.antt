@@ -20,17 +20,11 @@ use Rattle.binding_kinds.specs.Functions.{sense_seen, bound_formula, named_formu
 use Rattle.binding_kinds.specs.Fits.{IsFitApplied, IsFit}
 use Rattle.binding_kinds.proofs.Applications.{kept_back}
 use Rattle.binding_functions.specs.Templates.{pieces_in, HasLarge}
+use Rattle.binding_kinds.proofs.Sizes.{args_both}
 
-args_none : (place : ℕ) (sizes : List ℕ) → size_of_arguments (λ p. 0) place sizes ≡ 0
-args_none place [] = refl
-args_none place (s ∷ ss) = let h = args_none (suc place) ss in omega (arith, h)
-
-args_both : (f g : ℕ → ℕ) (place : ℕ) (sizes : List ℕ) → size_of_arguments (λ p. f p + g p) place sizes ≡ size_of_arguments f place sizes + size_of_arguments g place sizes
-args_both f g place [] = refl
-args_both f g place (s ∷ ss) =
-    let e = args_both f g (suc place) ss in
-    let d : (f place + g place) * s ≡ f place * s + g place * s = add-mul (f place) (g place) s in
-    omega (arith, e, d)
+args_none : (from : ℕ) (sizes : List ℕ) → size_of_arguments (λ p. 0) from sizes ≡ 0
+args_none from [] = refl
+args_none from (s ∷ ss) = let h = args_none (suc from) ss in omega (arith, h)
 
 one_if : (b : Bool) (s : ℕ) → b ≡ true → (if b then 1 else 0) * s ≡ s
 one_if true s e = omega arith
@@ -40,23 +34,23 @@ none_if : (b : Bool) (s : ℕ) → (b ≡ true → ⊥) → (if b then 1 else 0)
 none_if true s e = absurd (e refl)
 none_if false s e = omega arith
 
-args_past : (index place : ℕ) (sizes : List ℕ) → index < place → size_of_arguments (λ p. if nat_eq index p then 1 else 0) place sizes ≡ 0
-args_past index place [] lt = refl
-args_past index place (s ∷ ss) lt =
-    let h = args_past index (suc place) ss (omega (arith, lt)) in
-    let z = none_if (nat_eq index place) s (λ e. let q = eqb-true index place e in omega (arith, q, lt)) in
+args_past : (index from : ℕ) (sizes : List ℕ) → index < from → size_of_arguments (λ p. if nat_eq index p then 1 else 0) from sizes ≡ 0
+args_past index from [] lt = refl
+args_past index from (s ∷ ss) lt =
+    let h = args_past index (suc from) ss (omega (arith, lt)) in
+    let z = none_if (nat_eq index from) s (λ e. let q = eqb-true index from e in omega (arith, q, lt)) in
     omega (arith, h, z)
 
 -- the size of a parameter is that of its argument
-args_one : (d index place : ℕ) (sizes : List ℕ) → index ≡ d + place → d < length sizes → size_of_arguments (λ p. if nat_eq index p then 1 else 0) place sizes ≡ get_or sizes d 0
-args_one d index place [] e lt = absurd (omega (arith, lt))
-args_one zero index place (s ∷ ss) e lt =
-    let h = args_past index (suc place) ss (omega (arith, e)) in
-    let o = one_if (nat_eq index place) s (eq-eqb index place (omega (arith, e))) in
+args_one : (d index from : ℕ) (sizes : List ℕ) → index ≡ d + from → d < length sizes → size_of_arguments (λ p. if nat_eq index p then 1 else 0) from sizes ≡ get_or sizes d 0
+args_one d index from [] e lt = absurd (omega (arith, lt))
+args_one zero index from (s ∷ ss) e lt =
+    let h = args_past index (suc from) ss (omega (arith, e)) in
+    let o = one_if (nat_eq index from) s (eq-eqb index from (omega (arith, e))) in
     omega (arith, h, o)
-args_one (suc d) index place (s ∷ ss) e lt =
-    let h = args_one d index (suc place) ss (omega (arith, e)) (omega (arith, lt)) in
-    let z = none_if (nat_eq index place) s (λ t. let q = eqb-true index place t in omega (arith, q, e)) in
+args_one (suc d) index from (s ∷ ss) e lt =
+    let h = args_one d index (suc from) ss (omega (arith, e)) (omega (arith, lt)) in
+    let z = none_if (nat_eq index from) s (λ t. let q = eqb-true index from t in omega (arith, q, e)) in
     omega (arith, h, z)
 
 abbrev pub lengths : List Formula → List ℕ
@@ -124,11 +118,11 @@ function_within fs ss n None s kept e = absurd (let f : Err faults.Unbound ≡ O
 function_within fs ss n (Some f) s kept e = within fs ss n f.binder s kept e
 
 applied_length : (fs : List Function) (ss : List Sense) (names : List Naming) (n : ℕ) (x : List ℕ) (sizes : List ℕ) (gs : List Formula) (r : Result Sense ModelFault) → AreKept fs ss → sense_of ss n (found names x) ≡ r → length gs ≡ n → sizes ≡ lengths gs → size_applied r sizes ≡ length (postfix (applied_formula (sense_seen ss names [] n x) gs))
-applied_length fs ss names n x sizes gs (Err k) kept is long same = let seen : sense_seen ss names [] n x ≡ None = rw is refl in rw seen refl
+applied_length fs ss names n x sizes gs (Err k) kept is long same = let sense_is : sense_seen ss names [] n x ≡ None = rw is refl in rw sense_is refl
 applied_length fs ss names n x sizes gs (Ok s) kept is long same =
-    let seen : sense_seen ss names [] n x ≡ Some s = rw is refl in
+    let sense_is : sense_seen ss names [] n x ≡ Some s = rw is refl in
     let w : HasParameters (length gs) s.formula = rw long (function_within fs ss n (found names x) s kept is) in
-    rw (seen, same) (sym (filled_length gs s.formula w))
+    rw (sense_is, same) (sym (filled_length gs s.formula w))
 
 long_formulas : (ss : List Sense) (names : List Naming) (ts : Terms) → length (formulas_in ss names [] ts) ≡ count_of ts
 long_formulas ss names NoTerm = refl

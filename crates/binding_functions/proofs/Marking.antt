@@ -13,14 +13,11 @@ use Rattle.binding_kinds.specs.Functions.{sense_seen, under_at, is_under_in, is_
 use Rattle.binding_kinds.proofs.Applications.{next, count_arguments}
 use Rattle.binding_functions.specs.Marks.{AreMarked}
 use Rattle.binding_functions.proofs.Applied.{terms_in}
+use Rattle.std.proofs.Math.Bool.{or_assoc}
 
 or_false : (b : Bool) → b ≡ (b || false)
 or_false true = refl
 or_false false = refl
-
-or_over : (a b c : Bool) → ((a || b) || c) ≡ (a || (b || c))
-or_over true b c = refl
-or_over false b c = refl
 
 pub marked_same : (old new : List Bool) (f : ℕ → Bool) → new ≡ old → ((p : ℕ) → f p ≡ false) → AreMarked old new f
 marked_same old new f e none = record { count = ap length e; marked = λ long p lt. ap (λ (l : List Bool). get_or l p false) e ∙ (or_false (get_or old p false) ∙ ap (λ (b : Bool). get_or old p false || b) (sym (none p))) }
@@ -34,7 +31,7 @@ part_none ss names ps under e t old new is none same = marked_same old new (λ p
 
 -- ---- arguments
 
--- before the argument at that place: what is marked now and what the others mark are what was marked and what all mark
+-- before the argument at that index: what is marked now and what the others mark are what was marked and what all mark
 pub record AreMarkedTo (ss : List Sense) (names : List Naming) (ps : List (List ℕ)) (under : Bool) (turned : ℕ → Bool) (xs : List Expression) (i : ℕ) (old now : List Bool) : Type 0 where
   pub count : length now ≡ length old
   pub rest : length old ≡ 8 → (p : ℕ) → p < 8 → (get_or now p false || is_under_among ss names ps p under turned i (terms_in (drop i xs))) ≡ (get_or old p false || is_under_among ss names ps p under turned 0 (terms_in xs))
@@ -47,7 +44,7 @@ marked_more ss names ps under turned xs i e old now new inner lt is inner_is one
       let others = terms_in (drop (i + 1) xs) in
       ap (λ (n : ℕ). get_or new p false || is_under_among ss names ps p under turned n others) (add-one i)
       ∙ (ap (λ (b : Bool). b || is_under_among ss names ps p under turned (suc i) others) (one.marked (inv.count ∙ long) p below ∙ ap (λ (b : Bool). get_or now p false || is_under_in ss names ps p b (term_of e)) inner_is)
-      ∙ (or_over (get_or now p false) (is_under_in ss names ps p (under || turned i) (term_of e)) (is_under_among ss names ps p under turned (suc i) others)
+      ∙ (or_assoc (get_or now p false) (is_under_in ss names ps p (under || turned i) (term_of e)) (is_under_among ss names ps p under turned (suc i) others)
       ∙ (sym (ap (λ (t : Terms). get_or now p false || is_under_among ss names ps p under turned i t) (next xs i e lt is)) ∙ inv.rest long p below)));
 }
 
@@ -55,12 +52,12 @@ marked_more ss names ps under turned xs i e old now new inner lt is inner_is one
 pub marked_all : (ss : List Sense) (names : List Naming) (ps : List (List ℕ)) (under : Bool) (e : Expression) (n : List ℕ) (args : Vec Expression Global) (xs : List Expression) (s : Sense) (count i : ℕ) (old now last : List Bool) → e ≡ expressions.Applied n args → xs ≡ args.items → count ≡ length args.items
     → sense_seen ss names ps count n ≡ Some s → length xs ≤ i → last ≡ now → AreMarkedTo ss names ps under s.is_under xs i old now
     → AreMarked old last (λ p. is_under_in ss names ps p under (term_of e))
-marked_all ss names ps under e n args xs s count i old now last is items count_is seen past same inv = record {
+marked_all ss names ps under e n args xs s count i old now last is items count_is sense_is past same inv = record {
   count = ap length same ∙ inv.count;
   marked = λ long p lt.
       let ts = terms_in args.items in
       let t : term_of e ≡ Apply n ts = ap term_of is ∙ applied_term n args in
-      let w : sense_seen ss names ps (count_of ts) n ≡ Some s = ap (λ (m : ℕ). sense_seen ss names ps m n) (count_arguments args.items ∙ sym count_is) ∙ seen in
+      let w : sense_seen ss names ps (count_of ts) n ≡ Some s = ap (λ (m : ℕ). sense_seen ss names ps m n) (count_arguments args.items ∙ sym count_is) ∙ sense_is in
       let all : is_under_in ss names ps p under (term_of e) ≡ is_under_among ss names ps p under s.is_under 0 ts =
       ap (is_under_in ss names ps p under) t ∙ ap (λ (o : Option Sense). is_some o && is_under_among ss names ps p under (under_at o) 0 ts) w in
       ap (λ (l : List Bool). get_or l p false) same
@@ -72,8 +69,8 @@ marked_all ss names ps under e n args xs s count i old now last is items count_i
 -- a name that is no function of so many marks nothing
 pub marked_unfit : (ss : List Sense) (names : List Naming) (ps : List (List ℕ)) (under : Bool) (e : Expression) (n : List ℕ) (args : Vec Expression Global) (count : ℕ) (old new : List Bool) → e ≡ expressions.Applied n args → count ≡ length args.items
     → sense_seen ss names ps count n ≡ None → new ≡ old → AreMarked old new (λ p. is_under_in ss names ps p under (term_of e))
-marked_unfit ss names ps under e n args count old new is count_is seen same =
+marked_unfit ss names ps under e n args count old new is count_is sense_is same =
     let ts = terms_in args.items in
     let t : term_of e ≡ Apply n ts = ap term_of is ∙ applied_term n args in
-    let w : sense_seen ss names ps (count_of ts) n ≡ None = ap (λ (m : ℕ). sense_seen ss names ps m n) (count_arguments args.items ∙ sym count_is) ∙ seen in
+    let w : sense_seen ss names ps (count_of ts) n ≡ None = ap (λ (m : ℕ). sense_seen ss names ps m n) (count_arguments args.items ∙ sym count_is) ∙ sense_is in
     part_none ss names ps under e (Apply n ts) old new t (λ p. ap (λ (o : Option Sense). is_some o && is_under_among ss names ps p under (under_at o) 0 ts) w) same

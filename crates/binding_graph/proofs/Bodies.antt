@@ -22,14 +22,14 @@ use Rattle.binding_graph.specs.Usages.{Usage, IsListed, usage_of, with_values, w
 use Rattle.binding_graph.specs.Meaning.{IsCode}
 use Rattle.binding_graph.specs.Resolved.{AreBodies, IsGroup, IsResolvedIn}
 
--- before the binding at that place: the bodies so far,
+-- before the binding at that index: the bodies so far,
 pub record AreMade (ss : List Sense) (us : List Usage) (names : List Naming) (from : ℕ) (old now : Uses) (g : List Binding) (i : ℕ) (made : List Body) : Type 0 where
   pub fit : AreFit ss names (map bound_of (drop i g))
   pub bodies : (rs : List Body) → AreBodies ss us names from (reverse now.values.items) (map bound_of (drop i g)) rs → AreBodies ss us names from (reverse old.values.items) (map bound_of g) (made ++ rs)
 
 -- the names that are used,
 pub record AreUsed (us : List Usage) (names : List Naming) (from : ℕ) (old now : Uses) (g : List Binding) (i : ℕ) : Type 0 where
-  pub indexed : IsIndexed now.places.items now.values.items
+  pub indexed : IsIndexed now.indexes.items now.values.items
   pub values : with_all_values us names from (map bound_of (drop i g)) (reverse now.values.items) ≡ with_all_values us names from (map bound_of g) (reverse old.values.items)
 
 -- and the functions that are applied
@@ -51,7 +51,7 @@ made_more ss us names from old now new g i d made all r lt m is name code values
 }
 
 pub used_more : (us : List Usage) (names : List Naming) (from : ℕ) (old now new : Uses) (g : List Binding) (i : ℕ) (d : Binding) → i < length g → AreUsed us names from old now g i
-    → reverse new.values.items ≡ with_values us names [] from (term_of (get_or g i d).body) (reverse now.values.items) → IsIndexed new.places.items new.values.items → AreUsed us names from old new g (i + 1)
+    → reverse new.values.items ≡ with_values us names [] from (term_of (get_or g i d).body) (reverse now.values.items) → IsIndexed new.indexes.items new.values.items → AreUsed us names from old new g (i + 1)
 used_more us names from old now new g i d lt m values indexed = record {
   indexed = indexed;
   values = rw (add-one i, values) (rw (drop-cons g i d lt) at m.values);

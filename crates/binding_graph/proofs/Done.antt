@@ -18,7 +18,7 @@ use Rattle.binding_graph.specs.declared.resolved.ResolvedItem.{ResolvedItem}
 use Rattle.binding_graph.specs.Usages.{Usage, usage_of, usages_after}
 use Rattle.binding_graph.specs.Resolved.{IsResolvedIn, AreResolved}
 
--- before the item at that place, after which the names and the functions are those
+-- before the item at that index, after which the names and the functions are those
 pub record AreDone (ss : List Sense) (us : List Usage) (old now : List Naming) (fs : List Function) (items : List Item) (i : ℕ) (done : List ResolvedItem) : Type 0 where
   pub senses : List Sense
   pub kept : AreKept fs senses
@@ -26,7 +26,7 @@ pub record AreDone (ss : List Sense) (us : List Usage) (old now : List Naming) (
   pub known : AreKnown now
   pub all : (rs : List ResolvedItem) → AreResolved senses (map usage_of fs) now i (map clause_of (drop i items)) rs → AreResolved ss us old 0 (map clause_of items) (done ++ rs)
 
--- before the item at that place: what is kept of the functions, and what is left to be looked for
+-- before the item at that index: what is kept of the functions, and what is left to be looked for
 pub record AreSearched (ss : List Sense) (old now : List Naming) (fs : List Function) (items : List Item) (i : ℕ) : Type 0 where
   pub senses : List Sense
   pub kept : AreKept fs senses
@@ -90,16 +90,16 @@ pub done_more : (ss : List Sense) (us : List Usage) (old : List Naming) (before 
     → AreDone ss us old (reverse (map entry_of after)) gs items (i + 1) all
 done_more ss us old before after items i d fs gs done all r f lt m functions none is names usages kept resolved pushed =
     let c = clause_of (get_or items i d) in
-    let seen = reverse (map entry_of before) in
-    let own = extended m.senses seen i c in
-    let count : length seen ≡ length before = rw (length-reverse, length-map) refl in
-    let later : IsResolvedIn (senses_after m.senses seen c) (map usage_of fs) seen own (length seen) c r = rw (count, ← names) (rw kept at resolved) in
-    let one = resolved_before m.senses (map usage_of fs) seen own (length seen) c r later in
+    let earlier = reverse (map entry_of before) in
+    let own = extended m.senses earlier i c in
+    let count : length earlier ≡ length before = rw (length-reverse, length-map) refl in
+    let later : IsResolvedIn (senses_after m.senses earlier c) (map usage_of fs) earlier own (length earlier) c r = rw (count, ← names) (rw kept at resolved) in
+    let one = resolved_before m.senses (map usage_of fs) earlier own (length earlier) c r later in
     record {
-      senses = senses_after m.senses seen c;
+      senses = senses_after m.senses earlier c;
       kept = functions;
-      sound = sound_item m.senses seen i c m.sound m.known (sym is ∙ none);
-      known = rw names (known_item m.senses seen i c m.sound m.known (sym is ∙ none));
+      sound = sound_item m.senses earlier i c m.sound m.known (sym is ∙ none);
+      known = rw names (known_item m.senses earlier i c m.sound m.known (sym is ∙ none));
       all = λ rs h.
           rw (pushed, append_assoc done (r ∷ []) rs) (m.all (r ∷ rs) (rw (drop_next items i d lt) (one, (rw (names, usages) at h))));
     }

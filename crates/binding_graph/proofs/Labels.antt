@@ -6,7 +6,7 @@ use Rattle.cat_values.specs.declared.model.Item.{Item}
 use Rattle.binding_graph.specs.declared.resolved.ResolvedItem.{ResolvedItem}
 use Rattle.binding_graph.specs.Resolved.{IsLabelledAs, AreLabelled}
 
-zip_push : {A B : Type 0} (R : A → B → Type 0) (xs : List A) (ys : List B) (x : A) (y : B) → AllZip R xs ys → R x y → AllZip R (xs ++ x ∷ []) (ys ++ y ∷ [])
+pub zip_push : {A B : Type 0} (R : A → B → Type 0) (xs : List A) (ys : List B) (x : A) (y : B) → AllZip R xs ys → R x y → AllZip R (xs ++ x ∷ []) (ys ++ y ∷ [])
 zip_push R [] [] x y h r = (r, tt)
 zip_push R [] (z ∷ zs) x y h r = absurd h
 zip_push R (w ∷ ws) [] x y h r = absurd h

@@ -1,7 +1,7 @@
 pub mod Grown
 pub mod Indexed
 pub mod Meant
-pub mod Seen
+pub mod Sights
 pub mod Using
 pub mod Lowered
 pub mod Bodies

@@ -4,7 +4,7 @@ use Rattle.std.proofs.lemmas.List.{take_more, get_or_past, length-replicate, map
 use Rattle.std.proofs.lemmas.List.Elements.{Contains-get_or, Contains-push, Contains-push_cases, Contains-append_left}
 use Rattle.std.proofs.lemmas.List.Sums.{sum_by-set}
 use Rattle.std.proofs.lemmas.List.Quantifiers.{all_pairs_push}
-use Rattle.std.proofs.lemmas.Bool.{cases_order}
+use Rattle.std.proofs.lemmas.Bool.{cases_order, cases_lt}
 use Rattle.std.proofs.lemmas.Bool.{cases_eq}
 use Rattle.std.proofs.lemmas.Option.{none-some, same_Some, slice_get_past}
 use Rattle.std.proofs.lemmas.Grind.{common_steps}
@@ -14,14 +14,6 @@ use Rattle.std.specs.declared.vec.Vec.{Vec}
 use Rattle.binding_kinds.specs.declared.scope.Input.{Input}
 use Rattle.binding_graph.specs.declared.resolved.ResolvedItem.{ResolvedItem}
 use Rattle.binding_graph.specs.Reach.{is_check, Uses, UsesAt, Leads, IsCheckAt, IsReached, AreReached, IsMarked, Marks, AreSpread}
-
-order_by : (a b : ℕ) → (a ≡ b) ⊎ ((a < b) ⊎ (b < a)) → (a < b) ⊎ (b ≤ a)
-order_by a b (inl e) = inr (omega arith)
-order_by a b (inr (inl less)) = inl less
-order_by a b (inr (inr more)) = inr (omega arith)
-
-order : (a b : ℕ) → (a < b) ⊎ (b ≤ a)
-order a b = order_by a b (cases_order a b)
 
 -- ---- marks
 
@@ -148,11 +140,11 @@ functions_more xs i d a b c u v w lt m one =
 
 -- ---- what an item uses
 
-pub marks_used : (items : List ResolvedItem) (place : ℕ) (r : ResolvedItem) (inputs : List Input) (functions : List ℕ) (a b c : List Bool) (u v w : List ℕ) → slice_get items place ≡ Some r → inputs ≡ r.inputs.items → functions ≡ r.functions.items → Marks (Contains (map (λ i. i.item) inputs)) a b u v → Marks (Contains functions) b c v w → Marks (UsesAt items place) a c u w
-marks_used items place r inputs functions a b c u v w is p q m n =
-    marks_as (λ k. Contains (map (λ i. i.item) inputs) k ⊎ Contains functions k) (UsesAt items place) a c u w to back (marks_then (Contains (map (λ i. i.item) inputs)) (Contains functions) a b c u v w m n)
+pub marks_used : (items : List ResolvedItem) (index : ℕ) (r : ResolvedItem) (inputs : List Input) (functions : List ℕ) (a b c : List Bool) (u v w : List ℕ) → slice_get items index ≡ Some r → inputs ≡ r.inputs.items → functions ≡ r.functions.items → Marks (Contains (map (λ i. i.item) inputs)) a b u v → Marks (Contains functions) b c v w → Marks (UsesAt items index) a c u w
+marks_used items index r inputs functions a b c u v w is p q m n =
+    marks_as (λ k. Contains (map (λ i. i.item) inputs) k ⊎ Contains functions k) (UsesAt items index) a c u w to back (marks_then (Contains (map (λ i. i.item) inputs)) (Contains functions) a b c u v w m n)
   where
-    to : (k : ℕ) → Contains (map (λ i. i.item) inputs) k ⊎ Contains functions k → UsesAt items place k
+    to : (k : ℕ) → Contains (map (λ i. i.item) inputs) k ⊎ Contains functions k → UsesAt items index k
     to k (inl h) = (r, is, inl (subst (λ (l : List Input). Contains (map (λ i. i.item) l) k) p h))
     to k (inr h) = (r, is, inr (subst (λ (l : List ℕ). Contains l k) q h))
 
@@ -160,13 +152,13 @@ marks_used items place r inputs functions a b c u v w is p q m n =
     split k (inl h) = inl (subst (λ (l : List Input). Contains (map (λ i. i.item) l) k) (sym p) h)
     split k (inr h) = inr (subst (λ (l : List ℕ). Contains l k) (sym q) h)
 
-    back : (k : ℕ) → UsesAt items place k → Contains (map (λ i. i.item) inputs) k ⊎ Contains functions k
+    back : (k : ℕ) → UsesAt items index k → Contains (map (λ i. i.item) inputs) k ⊎ Contains functions k
     back k h = split k (subst (λ (s : ResolvedItem). Uses s k) (same_Some h.0 r (sym h.1 ∙ is)) h.2)
 
-pub marks_no_item : (items : List ResolvedItem) (place : ℕ) (m : List Bool) (w : List ℕ) → slice_get items place ≡ None → Marks (UsesAt items place) m m w w
-marks_no_item items place m w is = marks_none (UsesAt items place) m w (λ k h lt. absurd (never k h))
+pub marks_no_item : (items : List ResolvedItem) (index : ℕ) (m : List Bool) (w : List ℕ) → slice_get items index ≡ None → Marks (UsesAt items index) m m w w
+marks_no_item items index m w is = marks_none (UsesAt items index) m w (λ k h lt. absurd (never k h))
   where
-    never : (k : ℕ) → UsesAt items place k → ⊥
+    never : (k : ℕ) → UsesAt items index k → ⊥
     never k h = none-some h.0 (sym is ∙ h.1)
 
 -- ---- the checks, one after another
@@ -203,7 +195,7 @@ checks_same items i r a b u v is no_check m =
     back k h (inr e) = let at_i = subst (λ (j : ℕ). IsCheckAt items j) (sym e) h.1 in absurd (never at_i.0 (same_Some at_i.0 r (sym at_i.1 ∙ is)) at_i.2)
 
 pub checks_all : (items : List ResolvedItem) (i : ℕ) (a b : List Bool) (u v : List ℕ) → length items ≤ i → Marks (λ k. (k < i) × IsCheckAt items k) a b u v → Marks (IsCheckAt items) a b u v
-checks_all items i a b u v all m = marks_as (λ k. (k < i) × IsCheckAt items k) (IsCheckAt items) a b u v (λ k h. h.1) (λ k h. (within k h (order k (length items)), h)) m
+checks_all items i a b u v all m = marks_as (λ k. (k < i) × IsCheckAt items k) (IsCheckAt items) a b u v (λ k h. h.1) (λ k h. (within k h (cases_lt k (length items)), h)) m
   where
     within : (k : ℕ) → IsCheckAt items k → (k < length items) ⊎ (length items ≤ k) → k < i
     within k h (inl lt) = omega arith
@@ -211,7 +203,7 @@ checks_all items i a b u v all m = marks_as (λ k. (k < i) × IsCheckAt items k)
 
 -- ---- paths
 
-leads_more : (items : List ResolvedItem) (a : ℕ) (through : List ℕ) (b c : ℕ) → Leads items a through b → UsesAt items b c → Leads items a (through ++ c ∷ []) c
+pub leads_more : (items : List ResolvedItem) (a : ℕ) (through : List ℕ) (b c : ℕ) → Leads items a through b → UsesAt items b c → Leads items a (through ++ c ∷ []) c
 leads_more items a [] b c e u = (subst (λ (j : ℕ). UsesAt items j c) (sym e) u, refl)
 leads_more items a (d ∷ ds) b c h u = (h.0, leads_more items d ds b c h.1 u)
 
@@ -228,7 +220,7 @@ pub spread_start : (items : List ResolvedItem) (n : ℕ) (m : List Bool) (w : Li
 spread_start items n m w e h =
     record {
       count = h.count ∙ length-replicate n false ∙ e;
-      checks = λ k c. h.marked k c (let l = length-replicate n false in let lt = check_within k c (order k (length items)) in omega arith);
+      checks = λ k c. h.marked k c (let l = length-replicate n false in let lt = check_within k c (cases_lt k (length items)) in omega arith);
       sound = λ k is. reached_check items k (new k (h.made k is)).0;
       waiting = λ k c. held k (h.known k c);
       closed = λ k is. inl (new k (h.made k is)).1;
@@ -302,7 +294,7 @@ user_within items a b u (inr le) = absurd (none-some u.0 (sym (slice_get_past it
 
 leads_within : (items : List ResolvedItem) (a : ℕ) (through : List ℕ) (b : ℕ) → Leads items a through b → b < length items → a < length items
 leads_within items a [] b e lt = omega arith
-leads_within items a (c ∷ cs) b h lt = user_within items a c h.0 (order a (length items))
+leads_within items a (c ∷ cs) b h lt = user_within items a c h.0 (cases_lt a (length items))
 
 leads_marked : (items : List ResolvedItem) (m : List Bool) → AreSpread items m [] → (a : ℕ) (through : List ℕ) (b : ℕ) → IsMarked m a → Leads items a through b → b < length items → IsMarked m b
 leads_marked items m s a [] b is e lt = subst (λ (j : ℕ). IsMarked m j) e is
@@ -311,42 +303,42 @@ leads_marked items m s a (c ∷ cs) b is h lt =
 
 pub spread_end : (items : List ResolvedItem) (m : List Bool) → AreSpread items m [] → (k : ℕ) → IsMarked m k ↔ ((k < length items) × IsReached items k)
 spread_end items m s k = (
-  λ is. (let lt = marked_within m k is (order k (length m)) in let l = s.count in omega arith, s.sound k is),
+  λ is. (let lt = marked_within m k is (cases_lt k (length m)) in let l = s.count in omega arith, s.sound k is),
   λ h. leads_marked items m s h.1.from h.1.through k (s.checks h.1.from h.1.is_check) h.1.leads h.0,
 )
 
--- ---- the list of the marked places
+-- ---- the list of the marked indexes
 
-pub places_more : (m : List Bool) (places : List ℕ) (i : ℕ) → IsMarked m i → ((k : ℕ) → Contains places k ↔ ((k < i) × IsMarked m k)) → (k : ℕ) → Contains (places ++ i ∷ []) k ↔ ((k < i + 1) × IsMarked m k)
-places_more m places i is h k =
-    (λ c. to (Contains-push_cases places i k c), λ b. back b (last_or_before k i b.0 (cases_order k i)))
+pub indexes_more : (m : List Bool) (indexes : List ℕ) (i : ℕ) → IsMarked m i → ((k : ℕ) → Contains indexes k ↔ ((k < i) × IsMarked m k)) → (k : ℕ) → Contains (indexes ++ i ∷ []) k ↔ ((k < i + 1) × IsMarked m k)
+indexes_more m indexes i is h k =
+    (λ c. to (Contains-push_cases indexes i k c), λ b. back b (last_or_before k i b.0 (cases_order k i)))
   where
-    to : Contains places k ⊎ (i ≡ k) → (k < i + 1) × IsMarked m k
+    to : Contains indexes k ⊎ (i ≡ k) → (k < i + 1) × IsMarked m k
     to (inl c) = let b = (h k).0 c in let lt = b.0 in (omega arith, b.1)
     to (inr e) = (omega arith, subst (λ (j : ℕ). IsMarked m j) e is)
 
-    back : (k < i + 1) × IsMarked m k → (k < i) ⊎ (i ≡ k) → Contains (places ++ i ∷ []) k
-    back b (inl lt) = Contains-append_left places (i ∷ []) k ((h k).1 (lt, b.1))
-    back b (inr e) = subst (λ (j : ℕ). Contains (places ++ i ∷ []) j) e (Contains-push places i)
+    back : (k < i + 1) × IsMarked m k → (k < i) ⊎ (i ≡ k) → Contains (indexes ++ i ∷ []) k
+    back b (inl lt) = Contains-append_left indexes (i ∷ []) k ((h k).1 (lt, b.1))
+    back b (inr e) = subst (λ (j : ℕ). Contains (indexes ++ i ∷ []) j) e (Contains-push indexes i)
 
-pub places_same : (m : List Bool) (places : List ℕ) (i : ℕ) → get_or m i false ≡ false → ((k : ℕ) → Contains places k ↔ ((k < i) × IsMarked m k)) → (k : ℕ) → Contains places k ↔ ((k < i + 1) × IsMarked m k)
-places_same m places i off h k = (to, λ b. back b (last_or_before k i b.0 (cases_order k i)))
+pub indexes_same : (m : List Bool) (indexes : List ℕ) (i : ℕ) → get_or m i false ≡ false → ((k : ℕ) → Contains indexes k ↔ ((k < i) × IsMarked m k)) → (k : ℕ) → Contains indexes k ↔ ((k < i + 1) × IsMarked m k)
+indexes_same m indexes i off h k = (to, λ b. back b (last_or_before k i b.0 (cases_order k i)))
   where
-    to : Contains places k → (k < i + 1) × IsMarked m k
+    to : Contains indexes k → (k < i + 1) × IsMarked m k
     to c = let b = (h k).0 c in let lt = b.0 in (omega arith, b.1)
 
-    back : (k < i + 1) × IsMarked m k → (k < i) ⊎ (i ≡ k) → Contains places k
+    back : (k < i + 1) × IsMarked m k → (k < i) ⊎ (i ≡ k) → Contains indexes k
     back b (inl lt) = (h k).1 (lt, b.1)
     back b (inr e) = absurd (true≢false (sym (subst (λ (j : ℕ). IsMarked m j) (sym e) b.1) ∙ off))
 
-pub places_rise : (m : List Bool) (places : List ℕ) (i : ℕ) → ((k : ℕ) → Contains places k ↔ ((k < i) × IsMarked m k)) → AllPairs (λ a b. a < b) places → AllPairs (λ a b. a < b) (places ++ i ∷ [])
-places_rise m places i h rising =
-    all_pairs_push (λ a b. a < b) places i rising (λ k d lt. ((h (get_or places k d)).0 (Contains-get_or places k d lt)).0)
+pub indexes_rise : (m : List Bool) (indexes : List ℕ) (i : ℕ) → ((k : ℕ) → Contains indexes k ↔ ((k < i) × IsMarked m k)) → AllPairs (λ a b. a < b) indexes → AllPairs (λ a b. a < b) (indexes ++ i ∷ [])
+indexes_rise m indexes i h rising =
+    all_pairs_push (λ a b. a < b) indexes i rising (λ k d lt. ((h (get_or indexes k d)).0 (Contains-get_or indexes k d lt)).0)
 
 -- ---- all
 
-pub used_spread : (items checked seen : List ResolvedItem) (n : ℕ) (m0 m1 m2 : List Bool) (w0 w1 : List ℕ) → checked ≡ items → seen ≡ items → m0 ≡ replicate n false → w0 ≡ [] → n ≡ length items → Marks (IsCheckAt checked) m0 m1 w0 w1 → (AreSpread seen m1 w1 → AreSpread seen m2 []) → AreSpread items m2 []
-used_spread items checked seen n m0 m1 m2 w0 w1 p q off none e marks spread =
+pub used_spread : (items checked later : List ResolvedItem) (n : ℕ) (m0 m1 m2 : List Bool) (w0 w1 : List ℕ) → checked ≡ items → later ≡ items → m0 ≡ replicate n false → w0 ≡ [] → n ≡ length items → Marks (IsCheckAt checked) m0 m1 w0 w1 → (AreSpread later m1 w1 → AreSpread later m2 []) → AreSpread items m2 []
+used_spread items checked later n m0 m1 m2 w0 w1 p q off none e marks spread =
     let of_items = subst (λ (l : List ResolvedItem). Marks (IsCheckAt l) m0 m1 w0 w1) p marks in
     let of_off = subst (λ (m : List Bool). Marks (IsCheckAt items) m m1 w0 w1) off of_items in
     let of_none = subst (λ (w : List ℕ). Marks (IsCheckAt items) (replicate n false) m1 w w1) none of_off in

@@ -1,4 +1,4 @@
--- The names of other items that expressions use, the latest first: a name's place is the number of those behind it,
+-- The names of other items that expressions use, the latest first: a name's index is the number of those behind it,
 -- so it stays the same as more are used.
 use Rattle.std.specs.Prelude.{◌≡◌, ℕ, ◌==◌, nat_le, List, [], ◌∷◌, length, map, reverse, if◌then◌else◌, Option, Some, None, is_some, get_or}
 use Rattle.binding_kinds.specs.declared.scope.Input.{Input}
@@ -7,14 +7,14 @@ use Rattle.binding_kinds.specs.declared.scope.Found.{Found}
 use Rattle.binding_kinds.specs.declared.scope.Binder.{Binder}
 use Rattle.binding_kinds.specs.declared.scope.Binder.TheVariants as binders
 
--- the place of the name with that slot
-abbrev pub place_of : List Used → ℕ → Option ℕ
-place_of [] slot = None
-place_of (u ∷ us) slot = if u.slot == slot then Some (length us) else place_of us slot
+-- the index of the name with that slot
+abbrev pub index_of : List Used → ℕ → Option ℕ
+index_of [] slot = None
+index_of (u ∷ us) slot = if u.slot == slot then Some (length us) else index_of us slot
 
 -- one more name, unless it is there
 abbrev pub noted : List Used → Used → List Used
-noted us u = if is_some (place_of us u.slot) then us else u ∷ us
+noted us u = if is_some (index_of us u.slot) then us else u ∷ us
 
 -- A name counts where another item binds it.
 abbrev pub with_binder : List Used → ℕ → Binder → List Used
@@ -34,6 +34,6 @@ with_name us from (Some f) = with_found us from f
 abbrev pub inputs_of : List Used → List Input
 inputs_of us = map (λ u. u.input) (reverse us)
 
--- the table has the place of each name used
+-- the table has the index of each name used
 abbrev pub IsIndexed : List (Option ℕ) → List Used → Type 0
-IsIndexed places values = (slot : ℕ) → get_or places slot None ≡ place_of (reverse values) slot
+IsIndexed indexes values = (slot : ℕ) → get_or indexes slot None ≡ index_of (reverse values) slot

@@ -36,9 +36,9 @@ pub record IsReached (items : List ResolvedItem) (b : ℕ) : Type 0 where
   pub leads : Leads items from through b
 
 -- the numbers of the items that checks and flags reach, rising
-pub record AreReached (items : List ResolvedItem) (places : List ℕ) : Type 0 where
-  pub rising : AllPairs (λ a b. a < b) places
-  pub exact : (b : ℕ) → Contains places b ↔ ((b < length items) × IsReached items b)
+pub record AreReached (items : List ResolvedItem) (indexes : List ℕ) : Type 0 where
+  pub rising : AllPairs (λ a b. a < b) indexes
+  pub exact : (b : ℕ) → Contains indexes b ↔ ((b < length items) × IsReached items b)
 
 -- ---- the marks of the items that were reached so far, of which some wait until what they use is marked
 

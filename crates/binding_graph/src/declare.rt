@@ -78,14 +78,14 @@ fn check_fault(entries: &[Entry], functions: &[Function], check: &Check) -> Opti
 pub fn item_fault(
     alloc: Global,
     scope: &mut Scope,
-    place: usize,
+    index: usize,
     item: &Item,
 ) -> Result<Option<ModelFault>, AllocError>
-    ensures fault { (senses : List Sense) → AreKept scope.old.functions.items senses → IfOk result (λ f. f ≡ first_of_item senses (reverse (map entry_of scope.old.entries.items)) place (clause_of item.now)) }
+    ensures fault { (senses : List Sense) → AreKept scope.old.functions.items senses → IfOk result (λ f. f ≡ first_of_item senses (reverse (map entry_of scope.old.entries.items)) index (clause_of item.now)) }
     ensures kept { OnOk result (take (length scope.old.entries.items) scope.new.entries.items ≡ scope.old.entries.items) }
-    ensures names { (senses : List Sense) → AreKept scope.old.functions.items senses → IfOk result (λ f. f ≡ None → reverse (map entry_of scope.new.entries.items) ≡ extended senses (reverse (map entry_of scope.old.entries.items)) place (clause_of item.now)) }
+    ensures names { (senses : List Sense) → AreKept scope.old.functions.items senses → IfOk result (λ f. f ≡ None → reverse (map entry_of scope.new.entries.items) ≡ extended senses (reverse (map entry_of scope.old.entries.items)) index (clause_of item.now)) }
     ensures functions { (senses : List Sense) → AreKept scope.old.functions.items senses → IfOk result (λ f. f ≡ None → AreKept scope.new.functions.items (senses_after senses (reverse (map entry_of scope.old.entries.items)) (clause_of item.now))) }
-    ensures usages { IfOk result (λ f. f ≡ None → map usage_of scope.new.functions.items ≡ usages_after (map usage_of scope.old.functions.items) (reverse (map entry_of scope.old.entries.items)) place (clause_of item.now)) }
+    ensures usages { IfOk result (λ f. f ≡ None → map usage_of scope.new.functions.items ≡ usages_after (map usage_of scope.old.functions.items) (reverse (map entry_of scope.old.entries.items)) index (clause_of item.now)) }
 {
     let from = scope.entries.len();
     match item {
@@ -93,7 +93,7 @@ pub fn item_fault(
             recursive: true,
             group,
         } => {
-            declare_own(alloc, &mut scope.entries, place, group)?;
+            declare_own(alloc, &mut scope.entries, index, group)?;
             Ok(group_fault(&scope.entries, &scope.functions, from, true, group))
         }
         Item::Let {
@@ -101,7 +101,7 @@ pub fn item_fault(
             group,
         } => {
             let fault = group_fault(&scope.entries, &scope.functions, from, false, group);
-            declare_all(alloc, &mut scope.entries, &scope.functions, place, group)?;
+            declare_all(alloc, &mut scope.entries, &scope.functions, index, group)?;
             Ok(fault)
         }
         Item::Check { check, .. } => Ok(check_fault(&scope.entries, &scope.functions, check)),
@@ -110,7 +110,7 @@ pub fn item_fault(
             name,
             parameters,
             body,
-        } => declare_function(alloc, scope, place, name, parameters, body),
+        } => declare_function(alloc, scope, index, name, parameters, body),
         Item::Show { .. } => Ok(None),
         Item::Include(_) => Ok(None),
     }
@@ -120,16 +120,16 @@ pub fn item_fault(
 fn declare_function(
     alloc: Global,
     scope: &mut Scope,
-    place: usize,
+    index: usize,
     name: &Name,
     parameters: &[Name],
     body: &Expression,
 ) -> Result<Option<ModelFault>, AllocError>
     ensures fault { (senses : List Sense) → AreKept scope.old.functions.items senses → IfOk result (λ f. f ≡ or_else (of_parameters [] parameters.now) (first_of_body senses (reverse (map entry_of scope.old.entries.items)) parameters.now (term_of body.now))) }
     ensures kept { OnOk result (take (length scope.old.entries.items) scope.new.entries.items ≡ scope.old.entries.items) }
-    ensures names { (senses : List Sense) → AreKept scope.old.functions.items senses → IfOk result (λ f. f ≡ None → reverse (map entry_of scope.new.entries.items) ≡ extended senses (reverse (map entry_of scope.old.entries.items)) place (Defined name.now parameters.now (term_of body.now))) }
+    ensures names { (senses : List Sense) → AreKept scope.old.functions.items senses → IfOk result (λ f. f ≡ None → reverse (map entry_of scope.new.entries.items) ≡ extended senses (reverse (map entry_of scope.old.entries.items)) index (Defined name.now parameters.now (term_of body.now))) }
     ensures functions { (senses : List Sense) → AreKept scope.old.functions.items senses → IfOk result (λ f. f ≡ None → AreKept scope.new.functions.items (senses_after senses (reverse (map entry_of scope.old.entries.items)) (Defined name.now parameters.now (term_of body.now)))) }
-    ensures usages { IfOk result (λ f. f ≡ None → map usage_of scope.new.functions.items ≡ usages_after (map usage_of scope.old.functions.items) (reverse (map entry_of scope.old.entries.items)) place (Defined name.now parameters.now (term_of body.now))) }
+    ensures usages { IfOk result (λ f. f ≡ None → map usage_of scope.new.functions.items ≡ usages_after (map usage_of scope.old.functions.items) (reverse (map entry_of scope.old.entries.items)) index (Defined name.now parameters.now (term_of body.now))) }
 {
     let fault = parameter_fault(parameters);
     if fault.is_some() {
@@ -148,7 +148,7 @@ fn declare_function(
     }
     uses.add_term(&sight, body)?;
     let (values, functions) = uses.into_lists();
-    let function = function_of(alloc, &sight, place, body, values, functions)?;
+    let function = function_of(alloc, &sight, index, body, values, functions)?;
     let binder = Binder::Applicable(scope.functions.len());
     scope.functions.push(function)?;
     scope.entries.push(Entry {

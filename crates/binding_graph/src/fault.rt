@@ -7,7 +7,7 @@ use thiserror::Error;
 /// Why a model was not resolved.
 #[derive(Debug, Drop, Error)]
 pub enum ResolveFault {
-    /// The first fault, by item and then by place.
+    /// The first fault, by item and then by index.
     #[error("the model has a fault")]
     Refused(ModelFault),
     /// A growth was refused.

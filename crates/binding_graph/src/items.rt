@@ -27,9 +27,9 @@ use std::alloc::{AllocError, Global};
 
 /// Resolves a model.
 ///
-/// The fault that is answered is the first by item and then by place in the text; at one place
+/// The fault that is answered is the first by item and then by index; at one index
 /// the order is M1, M4, M6, M7, M3, M2, M5. Errors: the first fault of the model, by item and then
-/// by place, or want of memory.
+/// by index, or want of memory.
 pub fn resolve(alloc: Global, text: &ModelText) -> Result<Resolved, ResolveFault>
     ensures whole { IfOk result (λ r. vec_len r.items ≡ vec_len text.now.items) }
     ensures fault { let names = reverse (map naming_of PREDEFINED) in let clauses = map clause_of text.now.items.items in MatchResult result (λ _. HasNoFault [] names 0 clauses) (λ e. IfRefused e (λ k. FirstFault [] names 0 clauses k)) }
@@ -69,9 +69,9 @@ fn find_items(
     ensures labels { IfOk result (λ r. r.1 ≡ None → AreLabelled items.now r.0.items) }
 {
     let mut resolved = Vec::new(alloc);
-    for (place, item) in items.iter().enumerate() {
+    for (index, item) in items.iter().enumerate() {
         let from = scope.entries.len();
-        let fault = item_fault(alloc, scope, place, item)?;
+        let fault = item_fault(alloc, scope, index, item)?;
         if fault.is_some() {
             return Ok((resolved, fault));
         }
@@ -81,7 +81,7 @@ fn find_items(
     Ok((resolved, None))
 }
 
-/// The items resolved, or the first fault, by item and then by place.
+/// The items resolved, or the first fault, by item and then by index.
 pub fn resolve_items(
     alloc: Global,
     scope: &mut Scope,
@@ -199,10 +199,10 @@ fn code_of(
     term: &Expression,
     uses: &mut Uses,
 ) -> Result<Code, AllocError>
-    ensures code { (senses : List Sense) → AreKept sight.now.functions.now senses → AreSound senses → sight.now.parameters.now ≡ [] → IsIndexed uses.old.places.items uses.old.values.items → IsFit senses (reverse (map entry_of sight.now.entries.now)) (term_of term.now) → IfOk result (λ c. IsCode senses (reverse (map entry_of sight.now.entries.now)) (reverse uses.new.values.items) sight.now.from (term_of term.now) c) }
-    ensures values { let us = map usage_of sight.now.functions.now in let names = reverse (map entry_of sight.now.entries.now) in IsIndexed uses.old.places.items uses.old.values.items → OnOk result (reverse uses.new.values.items ≡ with_values us names sight.now.parameters.now sight.now.from (term_of term.now) (reverse uses.old.values.items)) }
+    ensures code { (senses : List Sense) → AreKept sight.now.functions.now senses → AreSound senses → sight.now.parameters.now ≡ [] → IsIndexed uses.old.indexes.items uses.old.values.items → IsFit senses (reverse (map entry_of sight.now.entries.now)) (term_of term.now) → IfOk result (λ c. IsCode senses (reverse (map entry_of sight.now.entries.now)) (reverse uses.new.values.items) sight.now.from (term_of term.now) c) }
+    ensures values { let us = map usage_of sight.now.functions.now in let names = reverse (map entry_of sight.now.entries.now) in IsIndexed uses.old.indexes.items uses.old.values.items → OnOk result (reverse uses.new.values.items ≡ with_values us names sight.now.parameters.now sight.now.from (term_of term.now) (reverse uses.old.values.items)) }
     ensures functions { let us = map usage_of sight.now.functions.now in let names = reverse (map entry_of sight.now.entries.now) in IsListed uses.old.applied.items uses.old.functions.items → OnOk result (reverse uses.new.functions.items ≡ with_functions us names sight.now.parameters.now (term_of term.now) (reverse uses.old.functions.items)) }
-    ensures indexed { IsIndexed uses.old.places.items uses.old.values.items → OnOk result (IsIndexed uses.new.places.items uses.new.values.items) }
+    ensures indexed { IsIndexed uses.old.indexes.items uses.old.values.items → OnOk result (IsIndexed uses.new.indexes.items uses.new.values.items) }
     ensures listed { IsListed uses.old.applied.items uses.old.functions.items → OnOk result (IsListed uses.new.applied.items uses.new.functions.items) }
 {
     uses.add_term(sight, term)?;
@@ -218,8 +218,8 @@ fn lower_bodies(
     group: &[Binding],
     uses: &mut Uses,
 ) -> Result<Vec<Body>, AllocError>
-    ensures bodies { let us = map usage_of sight.now.functions.now in let names = reverse (map entry_of sight.now.entries.now) in (senses : List Sense) → AreKept sight.now.functions.now senses → AreSound senses → sight.now.parameters.now ≡ [] → AreFit senses names (map bound_of group.now) → IsIndexed uses.old.places.items uses.old.values.items → IfOk result (λ v. AreBodies senses us names sight.now.from (reverse uses.old.values.items) (map bound_of group.now) v.items) }
-    ensures values { let us = map usage_of sight.now.functions.now in let names = reverse (map entry_of sight.now.entries.now) in sight.now.parameters.now ≡ [] → IsIndexed uses.old.places.items uses.old.values.items → OnOk result (reverse uses.new.values.items ≡ with_all_values us names sight.now.from (map bound_of group.now) (reverse uses.old.values.items)) }
+    ensures bodies { let us = map usage_of sight.now.functions.now in let names = reverse (map entry_of sight.now.entries.now) in (senses : List Sense) → AreKept sight.now.functions.now senses → AreSound senses → sight.now.parameters.now ≡ [] → AreFit senses names (map bound_of group.now) → IsIndexed uses.old.indexes.items uses.old.values.items → IfOk result (λ v. AreBodies senses us names sight.now.from (reverse uses.old.values.items) (map bound_of group.now) v.items) }
+    ensures values { let us = map usage_of sight.now.functions.now in let names = reverse (map entry_of sight.now.entries.now) in sight.now.parameters.now ≡ [] → IsIndexed uses.old.indexes.items uses.old.values.items → OnOk result (reverse uses.new.values.items ≡ with_all_values us names sight.now.from (map bound_of group.now) (reverse uses.old.values.items)) }
     ensures functions { let us = map usage_of sight.now.functions.now in let names = reverse (map entry_of sight.now.entries.now) in sight.now.parameters.now ≡ [] → IsListed uses.old.applied.items uses.old.functions.items → OnOk result (reverse uses.new.functions.items ≡ with_all_functions us names (map bound_of group.now) (reverse uses.old.functions.items)) }
 {
     let mut bodies = Vec::new(alloc);

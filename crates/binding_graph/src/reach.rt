@@ -7,7 +7,7 @@ use crate::resolved::{Resolved, ResolvedItem, Role};
 use binding_kinds::Input;
 use std::alloc::{AllocError, Global};
 
-/// The names of other items that the item at that place uses, each once, in the order of first
+/// The names of other items that the item at that index uses, each once, in the order of first
 /// use: none where no item stands there.
 pub fn inputs_of(resolved: &Resolved, item: usize) -> &[Input]
     ensures inputs { (other : ResolvedItem) → item < vec_len resolved.now.items → result.now ≡ (get_or resolved.now.items.items item other).inputs.items }
@@ -71,11 +71,11 @@ fn mark_used(
     marks: &mut Vec<bool>,
     waiting: &mut Vec<usize>,
     items: &[ResolvedItem],
-    place: usize,
+    index: usize,
 ) -> Result<(), AllocError>
-    ensures { OnOk result (Marks (UsesAt items.now place) marks.old.items marks.new.items waiting.old.items waiting.new.items) }
+    ensures { OnOk result (Marks (UsesAt items.now index) marks.old.items marks.new.items waiting.old.items waiting.new.items) }
 {
-    if let Some(item) = items.get(place) {
+    if let Some(item) = items.get(index) {
         mark_inputs(marks, waiting, &item.inputs)?;
         mark_functions(marks, waiting, &item.functions)?;
     }
@@ -90,9 +90,9 @@ fn mark_checks(
 ) -> Result<(), AllocError>
     ensures { OnOk result (Marks (IsCheckAt items.now) marks.old.items marks.new.items waiting.old.items waiting.new.items) }
 {
-    for (place, item) in items.iter().enumerate() {
+    for (index, item) in items.iter().enumerate() {
         if is_check(item) {
-            mark(marks, waiting, place)?;
+            mark(marks, waiting, index)?;
         }
     }
     Ok(())
@@ -106,27 +106,27 @@ fn spread(
 ) -> Result<(), AllocError>
     ensures { OnOk result (AreSpread items.now marks.old.items waiting.old.items → AreSpread items.now marks.new.items []) }
 {
-    while let Some(place) = waiting.pop() {
-        mark_used(marks, waiting, items, place)?;
+    while let Some(index) = waiting.pop() {
+        mark_used(marks, waiting, items, index)?;
     }
     Ok(())
 }
 
-// The places that are marked.
-fn marked_places(alloc: Global, marks: &[bool]) -> Result<Vec<usize>, AllocError>
+// The indexes that are marked.
+fn marked_indexes(alloc: Global, marks: &[bool]) -> Result<Vec<usize>, AllocError>
     ensures rising { IfOk result (λ v. AllPairs (λ a b. a < b) v.items) }
     ensures exact { IfOk result (λ v. (k : ℕ) → Contains v.items k ↔ IsMarked marks.now k) }
 {
-    let mut places = Vec::new(alloc);
-    for (place, marked) in marks.iter().enumerate() {
+    let mut indexes = Vec::new(alloc);
+    for (index, marked) in marks.iter().enumerate() {
         if *marked {
-            places.push(place)?;
+            indexes.push(index)?;
         }
     }
-    Ok(places)
+    Ok(indexes)
 }
 
-/// The places of the items that checks and flags reach, themselves and the functions that are
+/// The indexes of the items that checks and flags reach, themselves and the functions that are
 /// applied among them, rising. Errors: want of memory.
 pub fn used(alloc: Global, resolved: &Resolved) -> Result<Vec<usize>, AllocError>
     ensures within { IfOk result (λ v. All (λ i. i < vec_len resolved.now.items) v.items) }
@@ -136,5 +136,5 @@ pub fn used(alloc: Global, resolved: &Resolved) -> Result<Vec<usize>, AllocError
     let mut waiting = Vec::new(alloc);
     mark_checks(&mut marks, &mut waiting, &resolved.items)?;
     spread(&mut marks, &mut waiting, &resolved.items)?;
-    marked_places(alloc, &marks)
+    marked_indexes(alloc, &marks)
 }

@@ -9,7 +9,7 @@ use source_text::Name;
 pub enum Source {
     /// A predefined name.
     Predefined(Predefined),
-    /// A name of another item, by its place among the item's inputs.
+    /// A name of another item, by its index among the item's inputs.
     Input(usize),
     /// A name of the recursive group itself, by its position.
     Own(usize),

@@ -5,7 +5,7 @@ ghost use Rattle.cat_values.specs.Values.{term_of};
 ghost use Rattle.binding_kinds.specs.Value.{entry_of};
 ghost use Rattle.binding_kinds.specs.Kinds.{found};
 ghost use Rattle.binding_kinds.specs.Meanings.{parameter_of};
-ghost use Rattle.binding_graph.specs.Inputs.{IsIndexed, place_of, noted, with_found};
+ghost use Rattle.binding_graph.specs.Inputs.{IsIndexed, index_of, noted, with_found};
 ghost use Rattle.binding_graph.specs.Usages.{IsListed, all_noted, with_item, with_items, with_meaning, with_values, with_functions, usage_of, usage_seen, values_of, functions_of};
 
 use binding_kinds::{Binder, Found, Function, Input, Meaning, Sight, Used};
@@ -21,8 +21,8 @@ pub struct Uses {
     pub values: Vec<Used>,
     /// The functions, by their items.
     pub functions: Vec<usize>,
-    /// For each slot its place among those used: the slots behind are not used.
-    places: Vec<Option<usize>>,
+    /// For each slot its index among those used: the slots behind are not used.
+    indexes: Vec<Option<usize>>,
     /// For each item whether it is a function that is applied: those behind are not.
     applied: Vec<bool>,
 }
@@ -44,33 +44,33 @@ impl Uses {
     pub fn new(alloc: Global) -> Uses
         ensures values { result.values.items ≡ [] }
         ensures functions { result.functions.items ≡ [] }
-        ensures indexed { IsIndexed result.places.items result.values.items }
+        ensures indexed { IsIndexed result.indexes.items result.values.items }
         ensures listed { IsListed result.applied.items result.functions.items }
     {
         Uses {
             values: Vec::new(alloc),
             functions: Vec::new(alloc),
-            places: Vec::new(alloc),
+            indexes: Vec::new(alloc),
             applied: Vec::new(alloc),
         }
     }
 
-    /// The place of the slot among those used, where it is used.
+    /// The index of the slot among those used, where it is used.
     fn place_at(&self, slot: usize) -> Option<usize>
-        ensures { result ≡ get_or self.now.places.items slot None }
+        ensures { result ≡ get_or self.now.indexes.items slot None }
     {
-        match self.places.get(slot) {
-            Some(place) => *place,
+        match self.indexes.get(slot) {
+            Some(index) => *index,
             None => None,
         }
     }
 
-    /// The place of the slot among those used, or 0.
-    pub fn place_of(&self, slot: usize) -> usize
-        ensures { IsIndexed self.now.places.items self.now.values.items → result ≡ unwrap_or (place_of (reverse self.now.values.items) slot) 0 }
+    /// The index of the slot among those used, or 0.
+    pub fn index_of(&self, slot: usize) -> usize
+        ensures { IsIndexed self.now.indexes.items self.now.values.items → result ≡ unwrap_or (index_of (reverse self.now.values.items) slot) 0 }
     {
         match self.place_at(slot) {
-            Some(place) => place,
+            Some(index) => index,
             None => 0,
         }
     }
@@ -78,8 +78,8 @@ impl Uses {
     /// A name is used, which counts where another item binds it: the names of the item itself
     /// have the slot `from` and those behind it.
     fn add_value(&mut self, from: usize, found: Found) -> Result<(), AllocError>
-        ensures values { IsIndexed self.old.places.items self.old.values.items → OnOk result (reverse self.new.values.items ≡ with_found (reverse self.old.values.items) from found) }
-        ensures indexed { IsIndexed self.old.places.items self.old.values.items → OnOk result (IsIndexed self.new.places.items self.new.values.items) }
+        ensures values { IsIndexed self.old.indexes.items self.old.values.items → OnOk result (reverse self.new.values.items ≡ with_found (reverse self.old.values.items) from found) }
+        ensures indexed { IsIndexed self.old.indexes.items self.old.values.items → OnOk result (IsIndexed self.new.indexes.items self.new.values.items) }
         ensures functions { self.new.functions ≡ self.old.functions }
         ensures applied { self.new.applied ≡ self.old.applied }
     {
@@ -98,8 +98,8 @@ impl Uses {
 
     /// Notes a name at its first use.
     fn note(&mut self, value: Used) -> Result<(), AllocError>
-        ensures values { IsIndexed self.old.places.items self.old.values.items → OnOk result (reverse self.new.values.items ≡ noted (reverse self.old.values.items) value) }
-        ensures indexed { IsIndexed self.old.places.items self.old.values.items → OnOk result (IsIndexed self.new.places.items self.new.values.items) }
+        ensures values { IsIndexed self.old.indexes.items self.old.values.items → OnOk result (reverse self.new.values.items ≡ noted (reverse self.old.values.items) value) }
+        ensures indexed { IsIndexed self.old.indexes.items self.old.values.items → OnOk result (IsIndexed self.new.indexes.items self.new.values.items) }
         ensures functions { self.new.functions ≡ self.old.functions }
         ensures applied { self.new.applied ≡ self.old.applied }
     {
@@ -107,16 +107,16 @@ impl Uses {
             return Ok(());
         }
         let next = self.values.len();
-        widen(&mut self.places, value.slot, None)?;
+        widen(&mut self.indexes, value.slot, None)?;
         self.values.push(value)?;
-        self.places[value.slot] = Some(next);
+        self.indexes[value.slot] = Some(next);
         Ok(())
     }
 
     /// Notes each of the names at its first use.
     fn note_all(&mut self, values: &[Used]) -> Result<(), AllocError>
-        ensures values { IsIndexed self.old.places.items self.old.values.items → OnOk result (reverse self.new.values.items ≡ all_noted (reverse self.old.values.items) values.now) }
-        ensures indexed { IsIndexed self.old.places.items self.old.values.items → OnOk result (IsIndexed self.new.places.items self.new.values.items) }
+        ensures values { IsIndexed self.old.indexes.items self.old.values.items → OnOk result (reverse self.new.values.items ≡ all_noted (reverse self.old.values.items) values.now) }
+        ensures indexed { IsIndexed self.old.indexes.items self.old.values.items → OnOk result (IsIndexed self.new.indexes.items self.new.values.items) }
         ensures functions { self.new.functions ≡ self.old.functions }
         ensures applied { self.new.applied ≡ self.old.applied }
     {
@@ -141,7 +141,7 @@ impl Uses {
         ensures functions { IsListed self.old.applied.items self.old.functions.items → OnOk result (reverse self.new.functions.items ≡ with_item (reverse self.old.functions.items) item) }
         ensures listed { IsListed self.old.applied.items self.old.functions.items → OnOk result (IsListed self.new.applied.items self.new.functions.items) }
         ensures values { self.new.values ≡ self.old.values }
-        ensures places { self.new.places ≡ self.old.places }
+        ensures indexes { self.new.indexes ≡ self.old.indexes }
     {
         if self.is_applied(item) {
             return Ok(());
@@ -157,7 +157,7 @@ impl Uses {
         ensures functions { IsListed self.old.applied.items self.old.functions.items → OnOk result (reverse self.new.functions.items ≡ with_items (reverse self.old.functions.items) items.now) }
         ensures listed { IsListed self.old.applied.items self.old.functions.items → OnOk result (IsListed self.new.applied.items self.new.functions.items) }
         ensures values { self.new.values ≡ self.old.values }
-        ensures places { self.new.places ≡ self.old.places }
+        ensures indexes { self.new.indexes ≡ self.old.indexes }
     {
         for item in items {
             self.note_function(*item)?;
@@ -167,8 +167,8 @@ impl Uses {
 
     /// A name without arguments is used, unless it is a parameter.
     fn add_name(&mut self, sight: &Sight, name: &Name) -> Result<(), AllocError>
-        ensures values { IsIndexed self.old.places.items self.old.values.items → OnOk result (reverse self.new.values.items ≡ with_meaning (reverse self.old.values.items) sight.now.from (parameter_of (reverse sight.now.parameters.now) name.now) (found (reverse (map entry_of sight.now.entries.now)) name.now)) }
-        ensures indexed { IsIndexed self.old.places.items self.old.values.items → OnOk result (IsIndexed self.new.places.items self.new.values.items) }
+        ensures values { IsIndexed self.old.indexes.items self.old.values.items → OnOk result (reverse self.new.values.items ≡ with_meaning (reverse self.old.values.items) sight.now.from (parameter_of (reverse sight.now.parameters.now) name.now) (found (reverse (map entry_of sight.now.entries.now)) name.now)) }
+        ensures indexed { IsIndexed self.old.indexes.items self.old.values.items → OnOk result (IsIndexed self.new.indexes.items self.new.values.items) }
         ensures functions { self.new.functions ≡ self.old.functions }
         ensures applied { self.new.applied ≡ self.old.applied }
     {
@@ -181,9 +181,9 @@ impl Uses {
 
     /// The function is applied, and so is what its body applies and used what its body uses.
     fn add_function(&mut self, function: &Function) -> Result<(), AllocError>
-        ensures values { IsIndexed self.old.places.items self.old.values.items → OnOk result (reverse self.new.values.items ≡ all_noted (reverse self.old.values.items) function.now.values.items) }
+        ensures values { IsIndexed self.old.indexes.items self.old.values.items → OnOk result (reverse self.new.values.items ≡ all_noted (reverse self.old.values.items) function.now.values.items) }
         ensures functions { IsListed self.old.applied.items self.old.functions.items → OnOk result (reverse self.new.functions.items ≡ with_items (reverse self.old.functions.items) (function.now.item ∷ function.now.functions.items)) }
-        ensures indexed { IsIndexed self.old.places.items self.old.values.items → OnOk result (IsIndexed self.new.places.items self.new.values.items) }
+        ensures indexed { IsIndexed self.old.indexes.items self.old.values.items → OnOk result (IsIndexed self.new.indexes.items self.new.values.items) }
         ensures listed { IsListed self.old.applied.items self.old.functions.items → OnOk result (IsListed self.new.applied.items self.new.functions.items) }
     {
         self.note_function(function.item)?;
@@ -193,9 +193,9 @@ impl Uses {
 
     /// The function that a name with so many arguments stands for is applied.
     fn add_applied(&mut self, sight: &Sight, name: &Name, count: usize) -> Result<(), AllocError>
-        ensures values { let us = map usage_of sight.now.functions.now in let names = reverse (map entry_of sight.now.entries.now) in IsIndexed self.old.places.items self.old.values.items → OnOk result (reverse self.new.values.items ≡ all_noted (reverse self.old.values.items) (values_of (usage_seen us names sight.now.parameters.now count name.now))) }
+        ensures values { let us = map usage_of sight.now.functions.now in let names = reverse (map entry_of sight.now.entries.now) in IsIndexed self.old.indexes.items self.old.values.items → OnOk result (reverse self.new.values.items ≡ all_noted (reverse self.old.values.items) (values_of (usage_seen us names sight.now.parameters.now count name.now))) }
         ensures functions { let us = map usage_of sight.now.functions.now in let names = reverse (map entry_of sight.now.entries.now) in IsListed self.old.applied.items self.old.functions.items → OnOk result (reverse self.new.functions.items ≡ with_items (reverse self.old.functions.items) (functions_of (usage_seen us names sight.now.parameters.now count name.now))) }
-        ensures indexed { IsIndexed self.old.places.items self.old.values.items → OnOk result (IsIndexed self.new.places.items self.new.values.items) }
+        ensures indexed { IsIndexed self.old.indexes.items self.old.values.items → OnOk result (IsIndexed self.new.indexes.items self.new.values.items) }
         ensures listed { IsListed self.old.applied.items self.old.functions.items → OnOk result (IsListed self.new.applied.items self.new.functions.items) }
     {
         match sight.function(name, count) {
@@ -209,9 +209,9 @@ impl Uses {
 
     /// What an expression uses and applies, at each first use. Errors: want of memory.
     pub fn add_term(&mut self, sight: &Sight, term: &Expression) -> Result<(), AllocError>
-        ensures values { let us = map usage_of sight.now.functions.now in let names = reverse (map entry_of sight.now.entries.now) in IsIndexed self.old.places.items self.old.values.items → OnOk result (reverse self.new.values.items ≡ with_values us names sight.now.parameters.now sight.now.from (term_of term.now) (reverse self.old.values.items)) }
+        ensures values { let us = map usage_of sight.now.functions.now in let names = reverse (map entry_of sight.now.entries.now) in IsIndexed self.old.indexes.items self.old.values.items → OnOk result (reverse self.new.values.items ≡ with_values us names sight.now.parameters.now sight.now.from (term_of term.now) (reverse self.old.values.items)) }
         ensures functions { let us = map usage_of sight.now.functions.now in let names = reverse (map entry_of sight.now.entries.now) in IsListed self.old.applied.items self.old.functions.items → OnOk result (reverse self.new.functions.items ≡ with_functions us names sight.now.parameters.now (term_of term.now) (reverse self.old.functions.items)) }
-        ensures indexed { IsIndexed self.old.places.items self.old.values.items → OnOk result (IsIndexed self.new.places.items self.new.values.items) }
+        ensures indexed { IsIndexed self.old.indexes.items self.old.values.items → OnOk result (IsIndexed self.new.indexes.items self.new.values.items) }
         ensures listed { IsListed self.old.applied.items self.old.functions.items → OnOk result (IsListed self.new.applied.items self.new.functions.items) }
     {
         match term {

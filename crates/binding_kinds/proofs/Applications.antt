@@ -75,13 +75,13 @@ alike_mul (suc f) a b e = elim (cases_lt 4096 a) [
 ]
 
 -- one more argument of the size
-pub sized : (f : ℕ → ℕ) (place : ℕ) (ss : List ℕ) (before after g one s total : ℕ) → g ≡ f place → IsAlike one s → IsAlike after (before + g * one) → IsAlike (before + size_of_arguments f place (s ∷ ss)) total → IsAlike (after + size_of_arguments f (suc place) ss) total
-sized f place ss before after g one s total g_is one_is after_is e =
-    let m : IsAlike (f place * one) (f place * s) = alike_mul (f place) one s one_is in
-    let a : IsAlike after (before + f place * one) = ap (λ (x : ℕ). min after 4097) g_is ∙ after_is ∙ ap (λ (x : ℕ). min (before + x * one) 4097) g_is in
+pub sized : (f : ℕ → ℕ) (index : ℕ) (ss : List ℕ) (before after g one s total : ℕ) → g ≡ f index → IsAlike one s → IsAlike after (before + g * one) → IsAlike (before + size_of_arguments f index (s ∷ ss)) total → IsAlike (after + size_of_arguments f (suc index) ss) total
+sized f index ss before after g one s total g_is one_is after_is e =
+    let m : IsAlike (f index * one) (f index * s) = alike_mul (f index) one s one_is in
+    let a : IsAlike after (before + f index * one) = ap (λ (x : ℕ). min after 4097) g_is ∙ after_is ∙ ap (λ (x : ℕ). min (before + x * one) 4097) g_is in
     omega (arith, m, a, e)
 
--- what is kept stands at the same place
+-- what is kept stands at the same index
 pub kept_at : (fs : List Function) (ss : List Sense) (i : ℕ) (f : Function) → AreKept fs ss → slice_get fs i ≡ Some f → (s : Sense) × (slice_get ss i ≡ Some s) × IsKept f s
 kept_at [] [] i f h e = absurd (let n : None ≡ Some f = e in cc)
 kept_at [] (s ∷ ss) i f h e = absurd h
@@ -248,7 +248,7 @@ next xs i e lt is =
     ∙ ap (λ (x : Expression). OneMore (values.term_of x) (gathered (map values.term_of (drop (suc i) xs)))) (sym is)
     ∙ ap (λ (n : ℕ). OneMore (values.term_of e) (gathered (map values.term_of (drop n xs)))) (sym (add-one i))
 
-long_kinds : (ss : List Sense) (names : List Naming) (ts : Terms) → length (kinds_in ss names ts) ≡ count_of ts
+pub long_kinds : (ss : List Sense) (names : List Naming) (ts : Terms) → length (kinds_in ss names ts) ≡ count_of ts
 long_kinds ss names NoTerm = refl
 long_kinds ss names (OneMore a others) = ap suc (long_kinds ss names others)
 

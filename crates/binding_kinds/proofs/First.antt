@@ -20,21 +20,21 @@ abbrev pub Judges : (ℕ → ModelFault → Type 0) → Option ModelFault → Ty
 Judges F None = (p : ℕ) (k : ModelFault) → F p k → ⊥
 Judges F (Some k) = IsFirst F k
 
--- the faults of two parts, the one before the place and the other from it on
+-- the faults of two parts, the one before the index and the other from it on
 pub in_turn : (F G : ℕ → ModelFault → Type 0) (n : ℕ) (o q : Option ModelFault) → ((p : ℕ) (k : ModelFault) → F p k → p < n) → ((p : ℕ) (k : ModelFault) → G p k → n ≤ p) → Judges F o → Judges G q → Judges (λ p k. F p k ⊎ G p k) (or_else o q)
 in_turn F G n None None low high f g = λ p k h. elim h [ inl a ↦ f p k a | inr b ↦ g p k b ]
 in_turn F G n None (Some k) low high f g = record {
-  place = g.place;
+  index = g.index;
   there = inr g.there;
   none_before = λ p l h. elim h [ inl a ↦ absurd (f p l a) | inr b ↦ g.none_before p l b ];
 }
 in_turn F G n (Some k) q low high f g = record {
-  place = f.place;
+  index = f.index;
   there = inl f.there;
   none_before = λ p l h. elim h [
     | inl a ↦ f.none_before p l a
     | inr b ↦
-        let below : f.place < n = low f.place k f.there in
+        let below : f.index < n = low f.index k f.there in
         let above : n ≤ p = high p l b in
         inl (omega arith)
   ];
@@ -44,26 +44,26 @@ later_stays : (n a b : ℕ) (k l : ModelFault) → IsNoLater a k b l → IsNoLat
 later_stays n a b k l h = elim h [ inl lt ↦ inl (omega arith) | inr (e, r) ↦ inr (ap (λ (x : ℕ). n + x) e, r) ]
 
 -- the same faults, further on
-pub moved : (F : ℕ → ModelFault → Type 0) (n : ℕ) (o : Option ModelFault) → Judges F o → Judges (λ p k. (after : ℕ) × (p ≡ n + after) × F after k) o
-moved F n None f = λ p k (after, e, h). f after k h
-moved F n (Some k) f = record {
-  place = n + f.place;
-  there = (f.place, refl, f.there);
-  none_before = λ p l (after, e, h). rw e (later_stays n f.place after k l (f.none_before after l h));
+pub judged_after : (F : ℕ → ModelFault → Type 0) (n : ℕ) (o : Option ModelFault) → Judges F o → Judges (λ p k. (after : ℕ) × (p ≡ n + after) × F after k) o
+judged_after F n None f = λ p k (after, e, h). f after k h
+judged_after F n (Some k) f = record {
+  index = n + f.index;
+  there = (f.index, refl, f.there);
+  none_before = λ p l (after, e, h). rw e (later_stays n f.index after k l (f.none_before after l h));
 }
 
--- a fault at one place, unless a test holds
+-- a fault at one index, unless a test holds
 pub tested : (n : ℕ) (b : Bool) (k : ModelFault) → Judges (λ p l. (p ≡ n) × IsFalse b × (l ≡ k)) (unless b k)
 tested n true k = λ p l h. cc
 tested n false k = record {
-  place = n;
+  index = n;
   there = (refl, refl, refl);
   none_before = λ p l h. inr (sym h.0, rw h.2 (omega arith));
 }
 
 at_slot : (u b : Bool) (from slot : ℕ) → (b ≡ true → from ≤ slot) → (from ≤ slot → b ≡ true) → Judges (λ p k. (p ≡ 0) × ((from ≤ slot) × IsTrue u × (k ≡ faults.NotMonotone))) (if u && b then Some faults.NotMonotone else None)
 at_slot true true from slot le is = record {
-  place = 0;
+  index = 0;
   there = (refl, (le refl, search rules, refl));
   none_before = λ p l h. inr (sym h.0, rw h.1.2 (omega arith));
 }
@@ -78,14 +78,14 @@ of_binder : (b : Binder) (from : ℕ) (under : Bool) (slot : ℕ) → Judges (λ
 of_binder (binders.Predefined x) from under slot = recursive from under slot
 of_binder (binders.Bound x) from under slot = recursive from under slot
 of_binder (binders.Applicable x) from under slot = record {
-  place = 0;
+  index = 0;
   there = (refl, refl);
   none_before = λ p l h. inr (sym h.0, rw h.1 (omega arith));
 }
 
 pub named : (from : ℕ) (under : Bool) (o : Option Found) → Judges (λ p k. (p ≡ 0) × IsFaultOfName from under o k) (of_name from under o)
 named from under None = record {
-  place = 0;
+  index = 0;
   there = (refl, refl);
   none_before = λ p l h. inr (sym h.0, rw h.1 (omega arith));
 }
@@ -127,7 +127,7 @@ mutual
 
 clash : (n : ℕ) (c : Bool) → (4096 < n → ⊥) → Judges (λ p k. (p ≡ 0) × (((4096 < n) × (k ≡ faults.TooLarge)) ⊎ (IsTrue c × (k ≡ faults.Kind)))) (unless (not c) faults.Kind)
 clash n true small = record {
-  place = 0;
+  index = 0;
   there = (refl, inr (search rules, refl));
   none_before = λ p l h. inr (sym h.0, elim h.1 [ inl a ↦ absurd (small a.0) | inr b ↦ rw b.1 (omega arith) ]);
 }
@@ -135,7 +135,7 @@ clash n false small = λ p l h. elim h.1 [ inl a ↦ small a.0 | inr b ↦ let e
 
 large : (n : ℕ) (c : Bool) → 4096 < n → Judges (λ p k. (p ≡ 0) × (((4096 < n) × (k ≡ faults.TooLarge)) ⊎ (IsTrue c × (k ≡ faults.Kind)))) (Some faults.TooLarge)
 large n c lt = record {
-  place = 0;
+  index = 0;
   there = (refl, inl (lt, refl));
   none_before = λ p l h. inr (sym h.0, elim h.1 [ inl a ↦ rw a.1 (omega arith) | inr b ↦ rw b.1 (omega arith) ]);
 }
@@ -151,7 +151,7 @@ applied : (f : Result Sense ModelFault) (sizes : List ℕ) (kinds : List Kind) (
 applied (Err l) sizes kinds G later high g = in_turn _ G 1 (Some l) later (λ p k s. omega (arith, s.0)) high only g
   where
     only : Judges (λ p k. (p ≡ 0) × (k ≡ l)) (Some l)
-    only = record { place = 0; there = (refl, refl); none_before = λ p m h. inr (sym h.0, rw h.1 (omega arith)) }
+    only = record { index = 0; there = (refl, refl); none_before = λ p m h. inr (sym h.0, rw h.1 (omega arith)) }
 applied (Ok s) sizes kinds G later high g =
     at_size (size_with s sizes) (s.clashes kinds) (nat_lt 4096 (size_with s sizes)) G later (ltb-true 4096 (size_with s sizes)) (lt-ltb 4096 (size_with s sizes)) high g
 
@@ -167,22 +167,22 @@ mutual
       (judged ss names from under a)
       (in_turn _ _ (width a + 1) _ _ (λ p k s. omega (arith, s.0)) (λ p k (after, e, f). omega (arith, e))
       (tested (width a) (takes op (kind_in ss names a) (kind_in ss names b)) faults.Kind)
-      (moved (IsFaultAt ss names from (is_turned op under) b) (width a + 1) _ (judged ss names from (is_turned op under) b)))
+      (judged_after (IsFaultAt ss names from (is_turned op under) b) (width a + 1) _ (judged ss names from (is_turned op under) b)))
   judged ss names from under (Mark op a) =
       in_turn _ _ (width a) _ _ (inside ss names from under a) (λ p k s. omega (arith, s.0))
       (judged ss names from under a) (tested (width a) (is_relation (kind_in ss names a)) faults.Kind)
-  judged ss names from under (Not a) = moved (IsFaultAt ss names from true a) 1 _ (judged ss names from true a)
+  judged ss names from under (Not a) = judged_after (IsFaultAt ss names from true a) 1 _ (judged ss names from true a)
   judged ss names from under (On a) =
       in_turn _ _ 1 _ _ (λ p k s. omega (arith, s.0)) (λ p k (after, e, f). omega (arith, e))
-      (tested 0 (is_set (kind_in ss names a)) faults.Kind) (moved (IsFaultAt ss names from under a) 1 _ (judged ss names from under a))
+      (tested 0 (is_set (kind_in ss names a)) faults.Kind) (judged_after (IsFaultAt ss names from under a) 1 _ (judged ss names from under a))
   judged ss names from under (Apply x ts) =
       let f = sense_of ss (count_of ts) (found names x) in
       applied f (sizes_in ss names ts) (kinds_in ss names ts) _ _ (λ p k (after, e, h). omega (arith, e))
-      (moved (IsFaultAmong ss names from under (under_of f) 0 ts) 1 _ (judged_among ss names from under (under_of f) 0 ts))
+      (judged_after (IsFaultAmong ss names from under (under_of f) 0 ts) 1 _ (judged_among ss names from under (under_of f) 0 ts))
 
   judged_among : (ss : List Sense) (names : List Naming) (from : ℕ) (under : Bool) (turned : ℕ → Bool) (i : ℕ) (ts : Terms) → Judges (IsFaultAmong ss names from under turned i ts) (first_among ss names from under turned i ts)
   judged_among ss names from under turned i NoTerm = λ p k h. absurd h
   judged_among ss names from under turned i (OneMore a others) =
       in_turn _ _ (width a) _ _ (inside ss names from (under || turned i) a) (λ p k (after, e, f). omega (arith, e))
       (judged ss names from (under || turned i) a)
-      (moved (IsFaultAmong ss names from under turned (suc i) others) (width a) _ (judged_among ss names from under turned (suc i) others))
+      (judged_after (IsFaultAmong ss names from under turned (suc i) others) (width a) _ (judged_among ss names from under turned (suc i) others))

@@ -19,7 +19,7 @@ use Rattle.binding_kinds.specs.First.{of_binding, first_in, first_of_body, first
 use Rattle.binding_kinds.specs.Fits.{IsKnown, IsValue, IsKnownValue, IsFitApplied, IsFit, AreFitArguments, AreFit, AreSound, kind_of, IsTyped, AreKnown, IsFitClause}
 use Rattle.binding_kinds.specs.Formula.{Formula}
 use Rattle.binding_kinds.specs.Functions.{sense_seen, bound_formula, named_formula, applied_formula, formula_in, formulas_in, sense_of_function}
-use Rattle.binding_kinds.proofs.Applications.{found_arity}
+use Rattle.binding_kinds.proofs.Applications.{found_arity, long_kinds}
 use Rattle.binding_kinds.proofs.Fitting.{none_first, none_later, holds, known_name, typed_known}
 use Rattle.binding_kinds.proofs.Sound.{AreTyped, filled_typed, typed_all_known, same_true, sound_function, sound_more, function_sound}
 
@@ -86,10 +86,6 @@ named_typed : (o : Option Found) → IsKnownValue o → IsTyped [] (named_formul
 named_typed None h = absurd h
 named_typed (Some f) h = bound_typed f f.binder h.0 h.1
 
-long_kinds : (ss : List Sense) (names : List Naming) (ts : Terms) → length (kinds_in ss names ts) ≡ count_of ts
-long_kinds ss names NoTerm = refl
-long_kinds ss names (OneMore a others) = ap suc (long_kinds ss names others)
-
 kind_small : (s : Sense) (sizes : List ℕ) (kinds : List Kind) → size_with s sizes ≤ 4096 → kind_applied (Ok s) sizes kinds ≡ s.kind_with kinds
 kind_small s sizes kinds le = ap (λ (b : Bool). if b then OfAny else s.kind_with kinds) (le-ltb 4096 (size_with s sizes) le)
 
@@ -101,10 +97,10 @@ applied_typed : (ss : List Sense) (names : List Naming) (n : ℕ) (x : List ℕ)
     → IsTyped [] (applied_formula (sense_seen ss names [] n x) fs) × (kind_of [] (applied_formula (sense_seen ss names [] n x) fs) ≡ kind_applied (sense_of ss n (found names x)) sizes kinds)
 applied_typed ss names n x sizes kinds fs (Err k) is sound long typed fit = absurd fit
 applied_typed ss names n x sizes kinds fs (Ok s) is sound long typed fit =
-    let seen = seen_plainly ss names n x s is in
+    let sense_is = seen_plainly ss names n x s is in
     let one = sound_function ss n (found names x) s sound is kinds (long ∙ sym (found_arity ss n (found names x) s is)) (typed_all_known [] fs kinds typed) fit.1 in
     let whole = filled_typed [] fs kinds s.formula typed one.0 in
-    rw (seen, is) (whole.0, whole.1 ∙ (sym one.1 ∙ sym (kind_small s sizes kinds fit.0)))
+    rw (sense_is, is) (whole.0, whole.1 ∙ (sym one.1 ∙ sym (kind_small s sizes kinds fit.0)))
 
 mutual
   -- what fits is typed, with the same kind
@@ -133,11 +129,11 @@ mutual
 pub fit_known : (ss : List Sense) (names : List Naming) (t : Term) → AreSound ss → IsFit ss names t → IsKnown (kind_in ss names t)
 fit_known ss names t sound h = let l = fit_typed ss names t sound h in subst IsKnown l.1 (typed_known [] (formula_in ss names [] t) l.0)
 
-pub fit_in : (ss : List Sense) (names : List Naming) (from : ℕ) (recursive : Bool) (seen : List (List ℕ)) (bs : List Bound) → AreKnown names → first_in ss names from recursive seen bs ≡ None → AreFit ss names bs
-fit_in ss names from recursive seen [] h e = tt
-fit_in ss names from recursive seen (b ∷ bs) h e =
-    let rest = none_later (of_binding ss names recursive seen b) _ e in
-    (fit ss names from false b.body h (none_first _ _ rest), fit_in ss names from recursive (b.name ∷ seen) bs h (none_later (first_within ss names from false b.body) _ rest))
+pub fit_in : (ss : List Sense) (names : List Naming) (from : ℕ) (recursive : Bool) (earlier : List (List ℕ)) (bs : List Bound) → AreKnown names → first_in ss names from recursive earlier bs ≡ None → AreFit ss names bs
+fit_in ss names from recursive earlier [] h e = tt
+fit_in ss names from recursive earlier (b ∷ bs) h e =
+    let rest = none_later (of_binding ss names recursive earlier b) _ e in
+    (fit ss names from false b.body h (none_first _ _ rest), fit_in ss names from recursive (b.name ∷ earlier) bs h (none_later (first_within ss names from false b.body) _ rest))
 
 known_own : (names : List Naming) (item at : ℕ) (bs : List Bound) → AreKnown names → AreKnown (with_own names item at bs)
 known_own names item at [] h = h

@@ -8,28 +8,28 @@ use Rattle.binding_kinds.specs.declared.function.Function.{Function}
 use Rattle.binding_kinds.specs.Formula.{Formula, Value, Parameter, Everything, NoPairs, NoEvents, Joined, Marked, Complement, Identity, constant_of, factor_of, HasParameters, postfix}
 use Rattle.binding_kinds.specs.Senses.{Sense, size_of_arguments, size_with, ArePositive, IsKept}
 
-args_both : (f g : ℕ → ℕ) (place : ℕ) (sizes : List ℕ) → size_of_arguments (λ p. f p + g p) place sizes ≡ size_of_arguments f place sizes + size_of_arguments g place sizes
-args_both f g place [] = refl
-args_both f g place (s ∷ ss) =
-    let e = args_both f g (suc place) ss in
-    let d : (f place + g place) * s ≡ f place * s + g place * s = add-mul (f place) (g place) s in
+pub args_both : (f g : ℕ → ℕ) (from : ℕ) (sizes : List ℕ) → size_of_arguments (λ p. f p + g p) from sizes ≡ size_of_arguments f from sizes + size_of_arguments g from sizes
+args_both f g from [] = refl
+args_both f g from (s ∷ ss) =
+    let e = args_both f g (suc from) ss in
+    let d : (f from + g from) * s ≡ f from * s + g from * s = add-mul (f from) (g from) s in
     omega (arith, e, d)
 
 -- the argument of a parameter
-args_one : (index place : ℕ) (sizes : List ℕ) → ArePositive sizes → place ≤ index → index < place + length sizes → 0 < size_of_arguments (λ p. if nat_eq index p then 1 else 0) place sizes
-args_one index place [] pos le lt = absurd (omega (arith, le, lt))
-args_one index place (s ∷ ss) pos le lt = at_place (cases_eq index place) (λ le lt. args_one index (suc place) ss pos.1 le lt)
+args_one : (index from : ℕ) (sizes : List ℕ) → ArePositive sizes → from ≤ index → index < from + length sizes → 0 < size_of_arguments (λ p. if nat_eq index p then 1 else 0) from sizes
+args_one index from [] pos le lt = absurd (omega (arith, le, lt))
+args_one index from (s ∷ ss) pos le lt = at_first (cases_eq index from) (λ le lt. args_one index (suc from) ss pos.1 le lt)
   where
     here : (b : Bool) → b ≡ true → 0 < (if b then 1 else 0) * s
     here true e = let h = pos.0 in omega (arith, h)
     here false e = absurd (let f : false ≡ true = e in cc)
 
-    at_place : (index ≡ place) ⊎ (index ≡ place → ⊥) → (suc place ≤ index → index < suc place + length ss → 0 < size_of_arguments (λ p. if nat_eq index p then 1 else 0) (suc place) ss)
-        → 0 < (if nat_eq index place then 1 else 0) * s + size_of_arguments (λ p. if nat_eq index p then 1 else 0) (suc place) ss
-    at_place (inl e) later = let h = here (nat_eq index place) (eq-eqb index place e) in omega (arith, h)
-    at_place (inr n) later = let h = later (at_least (cases_lt place index) n) (omega (arith, lt)) in omega (arith, h)
+    at_first : (index ≡ from) ⊎ (index ≡ from → ⊥) → (suc from ≤ index → index < suc from + length ss → 0 < size_of_arguments (λ p. if nat_eq index p then 1 else 0) (suc from) ss)
+        → 0 < (if nat_eq index from then 1 else 0) * s + size_of_arguments (λ p. if nat_eq index p then 1 else 0) (suc from) ss
+    at_first (inl e) later = let h = here (nat_eq index from) (eq-eqb index from e) in omega (arith, h)
+    at_first (inr n) later = let h = later (at_least (cases_lt from index) n) (omega (arith, lt)) in omega (arith, h)
       where
-        at_least : (place < index) ⊎ (index ≤ place) → (index ≡ place → ⊥) → suc place ≤ index
+        at_least : (from < index) ⊎ (index ≤ from) → (index ≡ from → ⊥) → suc from ≤ index
         at_least (inl less) n = omega (arith, less)
         at_least (inr more) n = absurd (n (omega (arith, le, more)))
 

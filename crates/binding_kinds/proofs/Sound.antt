@@ -22,10 +22,11 @@ use Rattle.binding_kinds.specs.Fits.{IsKnown, IsKnownUnlessFunction, AreKnown, k
 use Rattle.binding_kinds.proofs.Applications.{found_arity}
 use Rattle.binding_kinds.proofs.Fitting.{typed_known, known_found}
 use Rattle.binding_kinds.proofs.Tables.{parameter_kind, other_kind, parameter_below}
+use Rattle.std.proofs.lemmas.Bool.{or_parts}
 
 -- ---- arguments in the places of the parameters
 
--- each argument has the kind at its place
+-- each argument has the kind at its index
 abbrev pub AreTyped : List Kind → List Formula → List Kind → Type 0
 AreTyped js [] [] = Unit {0}
 AreTyped js [] (k ∷ ks) = ⊥
@@ -73,10 +74,6 @@ sound_at (t ∷ ss) zero s h e = let same : t ≡ s = let f : Some t ≡ Some s 
 sound_at (t ∷ ss) (suc i) s h e = sound_at ss i s h.1 e
 
 -- ---- bodies
-
-both_false : (a b : Bool) → (a || b) ≡ false → (a ≡ false) × (b ≡ false)
-both_false true b e = absurd (let f : true ≡ false = e in cc)
-both_false false b e = (refl, e)
 
 not_true : (b : Bool) → not b ≡ false → IsTrue b
 not_true true e = search rules
@@ -134,14 +131,14 @@ sound_function ss n (Some f) s sound e = sound_binder ss n s f.binder sound e
 
 applied_body : (ss : List Sense) (names : List Naming) (ps : List (List ℕ)) (ks ls : List Kind) (n : ℕ) (x : List ℕ) (fs : List Formula) (s : Sense) (among : Bool) → sense_seen ss names ps n x ≡ Some s → IsSound s → length ls ≡ s.arity → AreTyped ks fs ls → clash_of_sense (sense_seen ss names ps n x) among ls ≡ false
     → IsTyped ks (applied_formula (sense_seen ss names ps n x) fs) × (kind_of_sense (sense_seen ss names ps n x) ls ≡ kind_of ks (applied_formula (sense_seen ss names ps n x) fs))
-applied_body ss names ps ks ls n x fs s among seen sound long typed clash =
-    let quiet : s.clashes ls ≡ false = (both_false among (s.clashes ls) (sym (ap (λ (o : Option Sense). clash_of_sense o among ls) seen) ∙ clash)).1 in
+applied_body ss names ps ks ls n x fs s among sense_is sound long typed clash =
+    let quiet : s.clashes ls ≡ false = (or_parts among (s.clashes ls) (sym (ap (λ (o : Option Sense). clash_of_sense o among ls) sense_is) ∙ clash)).1 in
     let one = sound ls long (typed_all_known ks fs ls typed) quiet in
     let whole = filled_typed ks fs ls s.formula typed one.0 in
-    rw seen (whole.0, one.1 ∙ sym whole.1)
+    rw sense_is (whole.0, one.1 ∙ sym whole.1)
 
 quiet_arguments : (o : Option Sense) (s : Sense) (among : Bool) (ls : List Kind) → o ≡ Some s → clash_of_sense o among ls ≡ false → among ≡ false
-quiet_arguments o s among ls seen clash = (both_false among (s.clashes ls) (sym (ap (λ (q : Option Sense). clash_of_sense q among ls) seen) ∙ clash)).0
+quiet_arguments o s among ls sense_is clash = (or_parts among (s.clashes ls) (sym (ap (λ (q : Option Sense). clash_of_sense q among ls) sense_is) ∙ clash)).0
 
 long_kinds : (ss : List Sense) (names : List Naming) (ps : List (List ℕ)) (ks : List Kind) (ts : Terms) → length (kinds_of_body ss names ps ks ts) ≡ count_of ts
 long_kinds ss names ps ks NoTerm = refl
@@ -157,20 +154,20 @@ module _ (ss : List Sense) (names : List Naming) (ps : List (List ℕ)) (ks : Li
     body_typed EmptySet e c = (tt, refl)
     body_typed (Join op a b) e c =
         let faults = none_first (first_of_body ss names ps a) (first_of_body ss names ps b) e in
-        let outer = both_false (clashes_in ss names ps ks a || clashes_in ss names ps ks b) (not (takes op (kind_of_body ss names ps ks a) (kind_of_body ss names ps ks b))) c in
-        let inner = both_false (clashes_in ss names ps ks a) (clashes_in ss names ps ks b) outer.0 in
+        let outer = or_parts (clashes_in ss names ps ks a || clashes_in ss names ps ks b) (not (takes op (kind_of_body ss names ps ks a) (kind_of_body ss names ps ks b))) c in
+        let inner = or_parts (clashes_in ss names ps ks a) (clashes_in ss names ps ks b) outer.0 in
         let l = body_typed a faults.0 inner.0 in
         let r = body_typed b faults.1 inner.1 in
         let k : joined op (kind_of_body ss names ps ks a) (kind_of_body ss names ps ks b) ≡ joined op (kind_of ks (formula_in ss names ps a)) (kind_of ks (formula_in ss names ps b)) = rw (l.1, r.1) refl in
         let t : takes op (kind_of ks (formula_in ss names ps a)) (kind_of ks (formula_in ss names ps b)) ≡ takes op (kind_of_body ss names ps ks a) (kind_of_body ss names ps ks b) = rw (l.1, r.1) refl in
         ((l.0, r.0, same_true _ _ t (not_true _ outer.1)), k)
     body_typed (Mark op a) e c =
-        let both = both_false (clashes_in ss names ps ks a) (not (is_relation (kind_of_body ss names ps ks a))) c in
+        let both = or_parts (clashes_in ss names ps ks a) (not (is_relation (kind_of_body ss names ps ks a))) c in
         let l = body_typed a e both.0 in
         ((l.0, same_true _ _ (ap is_relation (sym l.1)) (not_true _ both.1)), ap marked l.1)
     body_typed (Not a) e c = body_typed a e c
     body_typed (On a) e c =
-        let both = both_false (clashes_in ss names ps ks a) (not (is_set (kind_of_body ss names ps ks a))) c in
+        let both = or_parts (clashes_in ss names ps ks a) (not (is_set (kind_of_body ss names ps ks a))) c in
         let l = body_typed a e both.0 in
         ((l.0, same_true _ _ (ap is_set (sym l.1)) (not_true _ both.1)), ap narrowed l.1)
     body_typed (Apply x ts) e c =
@@ -184,7 +181,7 @@ module _ (ss : List Sense) (names : List Naming) (ps : List (List ℕ)) (ks : Li
     bodies_typed NoTerm e c = tt
     bodies_typed (OneMore a others) e c =
         let faults = none_first (first_of_body ss names ps a) (first_of_bodies ss names ps others) e in
-        let both = both_false (clashes_in ss names ps ks a) (clash_among ss names ps ks others) c in
+        let both = or_parts (clashes_in ss names ps ks a) (clash_among ss names ps ks others) c in
         let l = body_typed a faults.0 both.0 in
         ((l.0, sym l.1), bodies_typed others faults.1 both.1)
 

@@ -32,12 +32,12 @@ use Rattle.binding_kinds.proofs.Applications.{below_power, below_table, count_ar
 pub filled_more : {X : Type 0} (d : X) (arity n : ℕ) (made : List Kind → X) (xs ys : List X) (y : X) → ys ≡ xs ++ y ∷ [] → IsFilled d arity n made xs → ((ks : List Kind) → length ks ≡ arity → number_of ks ≡ n → y ≡ made ks) → IsFilled d arity (n + 1) made ys
 filled_more {X} d arity n made xs ys y is h new = record {
   long = let e = ap length is in let l = length-append xs (y ∷ []) in let k = h.long in omega (arith, e, l, k);
-  entries = λ ks e lt. ap (λ (l : List X). get_or l (number_of ks) d) is ∙ at_place ks e lt (cases_lt (number_of ks) n);
+  entries = λ ks e lt. ap (λ (l : List X). get_or l (number_of ks) d) is ∙ at_index ks e lt (cases_lt (number_of ks) n);
 }
   where
-    at_place : (ks : List Kind) → length ks ≡ arity → number_of ks < n + 1 → (number_of ks < n) ⊎ (n ≤ number_of ks) → get_or (xs ++ y ∷ []) (number_of ks) d ≡ made ks
-    at_place ks e lt (inl less) = let k = h.long in get_or_append_left xs (y ∷ []) d (number_of ks) (omega (arith, less, k)) ∙ h.entries ks e less
-    at_place ks e lt (inr more) = let same : number_of ks ≡ n = omega (arith, lt, more) in get_or_push xs y d (number_of ks) (h.long ∙ sym same) ∙ new ks e same
+    at_index : (ks : List Kind) → length ks ≡ arity → number_of ks < n + 1 → (number_of ks < n) ⊎ (n ≤ number_of ks) → get_or (xs ++ y ∷ []) (number_of ks) d ≡ made ks
+    at_index ks e lt (inl less) = let k = h.long in get_or_append_left xs (y ∷ []) d (number_of ks) (omega (arith, less, k)) ∙ h.entries ks e less
+    at_index ks e lt (inr more) = let same : number_of ks ≡ n = omega (arith, lt, more) in get_or_push xs y d (number_of ks) (h.long ∙ sym same) ∙ new ks e same
 
 pub filled_as : {X : Type 0} (d : X) (arity n : ℕ) (f g : List Kind → X) (xs : List X) → ((ks : List Kind) → length ks ≡ arity → f ks ≡ g ks) → IsFilled d arity n f xs → IsFilled d arity n g xs
 filled_as d arity n f g xs same h = record { long = h.long; entries = λ ks e lt. h.entries ks e lt ∙ same ks e }
@@ -212,24 +212,24 @@ of_on ss names ps e a arity r is h = subst (λ (t : Term). IfOk r (λ v. IsFille
 -- what an application makes, by what its name stands for
 applied_as : (ss : List Sense) (names : List Naming) (ps : List (List ℕ)) (e : Expression) (n : List ℕ) (args : Vec Expression Global) (count : ℕ) (o : Option Sense) (ks : List Kind) → e ≡ expressions.Applied n args → count ≡ length args.items → sense_seen ss names ps count n ≡ o
     → signature_in ss names ps (values.term_of e) ks ≡ record { kind = kind_of_sense o (kinds_of_body ss names ps ks (terms_in args.items)); clashes = clash_of_sense o (clash_among ss names ps ks (terms_in args.items)) (kinds_of_body ss names ps ks (terms_in args.items)) }
-applied_as ss names ps e n args count o ks is count_is seen =
+applied_as ss names ps e n args count o ks is count_is sense_is =
     let ts = terms_in args.items in
     let t : values.term_of e ≡ Apply n ts = ap values.term_of is ∙ applied_term n args in
-    let s : sense_seen ss names ps (count_of ts) n ≡ o = ap (λ (m : ℕ). sense_seen ss names ps m n) (count_arguments args.items ∙ sym count_is) ∙ seen in
+    let s : sense_seen ss names ps (count_of ts) n ≡ o = ap (λ (m : ℕ). sense_seen ss names ps m n) (count_arguments args.items ∙ sym count_is) ∙ sense_is in
     let g : Option Sense → Signature = λ q. record { kind = kind_of_sense q (kinds_of_body ss names ps ks ts); clashes = clash_of_sense q (clash_among ss names ps ks ts) (kinds_of_body ss names ps ks ts) } in
     ap (λ (x : Term). signature_in ss names ps x ks) t ∙ ap g s
 
 pub of_none : (ss : List Sense) (names : List Naming) (ps : List (List ℕ)) (e : Expression) (n : List ℕ) (args : Vec Expression Global) (count arity : ℕ) (r : Result (Vec Signature Global) AllocError) → e ≡ expressions.Applied n args → count ≡ length args.items → sense_seen ss names ps count n ≡ None
     → IfOk r (λ v. IsFilled unknown arity (3 ^ arity) (λ kinds. plain OfAny) v.items)
     → IfOk r (λ v. IsFilled unknown arity (3 ^ arity) (signature_in ss names ps (values.term_of e)) v.items)
-of_none ss names ps e n args count arity r is count_is seen h =
-    IfOk-weaker r _ _ (λ v f. filled_as unknown arity (3 ^ arity) (λ kinds. plain OfAny) (signature_in ss names ps (values.term_of e)) v.items (λ ks long. sym (applied_as ss names ps e n args count None ks is count_is seen)) f) h
+of_none ss names ps e n args count arity r is count_is sense_is h =
+    IfOk-weaker r _ _ (λ v f. filled_as unknown arity (3 ^ arity) (λ kinds. plain OfAny) (signature_in ss names ps (values.term_of e)) v.items (λ ks long. sym (applied_as ss names ps e n args count None ks is count_is sense_is)) f) h
 
 pub of_function : (ss : List Sense) (names : List Naming) (ps : List (List ℕ)) (e : Expression) (n : List ℕ) (args : Vec Expression Global) (front : List Expression) (count arity : ℕ) (f : Function) (s : Sense) (r : Result (Vec Signature Global) AllocError) → e ≡ expressions.Applied n args → count ≡ length args.items → front ≡ args.items
     → sense_seen ss names ps count n ≡ Some s → s.arity ≡ count → IsKept f s
     → IfOk r (λ v. IsFilled unknown arity (3 ^ arity) (λ kinds. of_applied f (gathered_in ss names ps (terms_in front) kinds)) v.items)
     → IfOk r (λ v. IsFilled unknown arity (3 ^ arity) (signature_in ss names ps (values.term_of e)) v.items)
-of_function ss names ps e n args front count arity f s r is count_is front_is seen arity_is kept h =
+of_function ss names ps e n args front count arity f s r is count_is front_is sense_is arity_is kept h =
     IfOk-weaker r _ _ (λ v g. filled_as unknown arity (3 ^ arity) (λ kinds. of_applied f (gathered_in ss names ps (terms_in front) kinds)) (signature_in ss names ps (values.term_of e)) v.items (λ ks long. same ks) g) h
   where
     same : (ks : List Kind) → of_applied f (gathered_in ss names ps (terms_in front) ks) ≡ signature_in ss names ps (values.term_of e) ks
@@ -240,4 +240,4 @@ of_function ss names ps e n args front count arity f s r is count_is front_is se
         let g : Signature → Signature = λ x. record { kind = x.kind; clashes = b || x.clashes } in
         ap (λ (l : List Expression). of_applied f (gathered_in ss names ps (terms_in l) ks)) front_is
         ∙ (ap g (kept.kinds kinds (long_kinds ss names ps ks args.items ∙ sym (arity_is ∙ count_is)))
-        ∙ sym (applied_as ss names ps e n args count (Some s) ks is count_is seen))
+        ∙ sym (applied_as ss names ps e n args count (Some s) ks is count_is sense_is))

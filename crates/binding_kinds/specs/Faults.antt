@@ -1,4 +1,4 @@
--- The faults of an expression and of an item, each at its place, and the first of them.
+-- The faults of an expression and of an item, each at its index, and the first of them.
 use Rattle.std.specs.Prelude.{◌≡◌, ℕ, suc, ◌+◌, ◌<◌, ◌≤◌, ◌⊎◌, List, [], ◌∷◌, ◌++◌, length, reverse, Bool, true, false, ◌||◌, IsTrue, IsFalse, Option, Some, None, Result, Ok, Err}
 use Rattle.cat_values.specs.Value.{Term, Terms, Atom, AllEvents, EmptyRelation, EmptySet, Join, Mark, Not, On, Apply, NoTerm, OneMore}
 use Rattle.binding_kinds.specs.declared.fault.ModelFault.{ModelFault}
@@ -15,7 +15,7 @@ use Rattle.binding_kinds.specs.Senses.{Sense, size_with, sense_of, count_of, siz
 use Rattle.binding_kinds.specs.Functions.{sense_of_function}
 
 abbrev mutual
-  -- how many names, signs and brackets an expression has: its places are those below
+  -- how many names, signs and brackets an expression has: its indexes are those below
   pub width : Term → ℕ
   width (Atom x) = 1
   width AllEvents = 1
@@ -50,34 +50,34 @@ IsFaultOfApplication (Ok s) sizes kinds k =
     ((4096 < size_with s sizes) × (k ≡ faults.TooLarge)) ⊎ (IsTrue (s.clashes kinds) × (k ≡ faults.Kind))
 
 abbrev mutual
-  -- The expression, seen under a complement or not, has this fault at this place.
+  -- The expression, seen under a complement or not, has this fault at this index.
   pub IsFaultAt : List Sense → List Naming → ℕ → Bool → Term → ℕ → ModelFault → Type 0
-  IsFaultAt ss names from under (Atom x) place k = (place ≡ 0) × IsFaultOfName from under (found names x) k
-  IsFaultAt ss names from under AllEvents place k = ⊥
-  IsFaultAt ss names from under EmptyRelation place k = ⊥
-  IsFaultAt ss names from under EmptySet place k = ⊥
-  IsFaultAt ss names from under (Join op a b) place k =
-      IsFaultAt ss names from under a place k
-      ⊎ (((place ≡ width a) × IsFalse (takes op (kind_in ss names a) (kind_in ss names b)) × (k ≡ faults.Kind))
-      ⊎ ((after : ℕ) × (place ≡ width a + 1 + after) × IsFaultAt ss names from (is_turned op under) b after k))
-  IsFaultAt ss names from under (Mark op a) place k =
-      IsFaultAt ss names from under a place k
-      ⊎ ((place ≡ width a) × IsFalse (is_relation (kind_in ss names a)) × (k ≡ faults.Kind))
-  IsFaultAt ss names from under (Not a) place k = (after : ℕ) × (place ≡ 1 + after) × IsFaultAt ss names from true a after k
-  IsFaultAt ss names from under (On a) place k =
-      ((place ≡ 0) × IsFalse (is_set (kind_in ss names a)) × (k ≡ faults.Kind))
-      ⊎ ((after : ℕ) × (place ≡ 1 + after) × IsFaultAt ss names from under a after k)
-  IsFaultAt ss names from under (Apply x arguments) place k =
+  IsFaultAt ss names from under (Atom x) index k = (index ≡ 0) × IsFaultOfName from under (found names x) k
+  IsFaultAt ss names from under AllEvents index k = ⊥
+  IsFaultAt ss names from under EmptyRelation index k = ⊥
+  IsFaultAt ss names from under EmptySet index k = ⊥
+  IsFaultAt ss names from under (Join op a b) index k =
+      IsFaultAt ss names from under a index k
+      ⊎ (((index ≡ width a) × IsFalse (takes op (kind_in ss names a) (kind_in ss names b)) × (k ≡ faults.Kind))
+      ⊎ ((after : ℕ) × (index ≡ width a + 1 + after) × IsFaultAt ss names from (is_turned op under) b after k))
+  IsFaultAt ss names from under (Mark op a) index k =
+      IsFaultAt ss names from under a index k
+      ⊎ ((index ≡ width a) × IsFalse (is_relation (kind_in ss names a)) × (k ≡ faults.Kind))
+  IsFaultAt ss names from under (Not a) index k = (after : ℕ) × (index ≡ 1 + after) × IsFaultAt ss names from true a after k
+  IsFaultAt ss names from under (On a) index k =
+      ((index ≡ 0) × IsFalse (is_set (kind_in ss names a)) × (k ≡ faults.Kind))
+      ⊎ ((after : ℕ) × (index ≡ 1 + after) × IsFaultAt ss names from under a after k)
+  IsFaultAt ss names from under (Apply x arguments) index k =
       let f = sense_of ss (count_of arguments) (found names x) in
-      ((place ≡ 0) × IsFaultOfApplication f (sizes_in ss names arguments) (kinds_in ss names arguments) k)
-      ⊎ ((after : ℕ) × (place ≡ 1 + after) × IsFaultAmong ss names from under (under_of f) 0 arguments after k)
+      ((index ≡ 0) × IsFaultOfApplication f (sizes_in ss names arguments) (kinds_in ss names arguments) k)
+      ⊎ ((after : ℕ) × (index ≡ 1 + after) × IsFaultAmong ss names from under (under_of f) 0 arguments after k)
 
-  -- the arguments from that one on have this fault at this place
+  -- the arguments from that one on have this fault at this index
   pub IsFaultAmong : List Sense → List Naming → ℕ → Bool → (ℕ → Bool) → ℕ → Terms → ℕ → ModelFault → Type 0
-  IsFaultAmong ss names from under is_under i NoTerm place k = ⊥
-  IsFaultAmong ss names from under is_under i (OneMore a others) place k =
-      IsFaultAt ss names from (under || is_under i) a place k
-      ⊎ ((after : ℕ) × (place ≡ width a + after) × IsFaultAmong ss names from under is_under (suc i) others after k)
+  IsFaultAmong ss names from under is_under i NoTerm index k = ⊥
+  IsFaultAmong ss names from under is_under i (OneMore a others) index k =
+      IsFaultAt ss names from (under || is_under i) a index k
+      ⊎ ((after : ℕ) × (index ≡ width a + after) × IsFaultAmong ss names from under is_under (suc i) others after k)
 
 abbrev pub IsAmong : List (List ℕ) → List ℕ → Type 0
 IsAmong [] x = ⊥
@@ -91,22 +91,22 @@ IsFaultOfBinding ss names recursive earlier b k =
 
 -- The bindings, after those of the names seen, have this fault: a name, its body, and the rest follow one another.
 abbrev pub IsFaultIn : List Sense → List Naming → ℕ → Bool → List (List ℕ) → List Bound → ℕ → ModelFault → Type 0
-IsFaultIn ss names from recursive earlier [] place k = ⊥
-IsFaultIn ss names from recursive earlier (b ∷ bs) place k =
-    ((place ≡ 0) × IsFaultOfBinding ss names recursive earlier b k)
-    ⊎ (((after : ℕ) × (place ≡ 1 + after) × IsFaultAt ss names from false b.body after k)
-    ⊎ ((after : ℕ) × (place ≡ 1 + width b.body + after) × IsFaultIn ss names from recursive (b.name ∷ earlier) bs after k))
+IsFaultIn ss names from recursive earlier [] index k = ⊥
+IsFaultIn ss names from recursive earlier (b ∷ bs) index k =
+    ((index ≡ 0) × IsFaultOfBinding ss names recursive earlier b k)
+    ⊎ (((after : ℕ) × (index ≡ 1 + after) × IsFaultAt ss names from false b.body after k)
+    ⊎ ((after : ℕ) × (index ≡ 1 + width b.body + after) × IsFaultIn ss names from recursive (b.name ∷ earlier) bs after k))
 
 -- A parameter, after those seen, has this fault: it stands twice, or it is the ninth.
 abbrev pub IsFaultOfParameter : List (List ℕ) → List ℕ → ModelFault → Type 0
 IsFaultOfParameter earlier p k = (IsAmong earlier p × (k ≡ faults.Duplicate)) ⊎ ((8 ≤ length earlier) × (k ≡ faults.TooLarge))
 
--- The parameters, after those seen, have this fault at this place.
+-- The parameters, after those seen, have this fault at this index.
 abbrev pub IsFaultOfParameters : List (List ℕ) → List (List ℕ) → ℕ → ModelFault → Type 0
-IsFaultOfParameters earlier [] place k = ⊥
-IsFaultOfParameters earlier (p ∷ ps) place k =
-    ((place ≡ 0) × IsFaultOfParameter earlier p k)
-    ⊎ ((after : ℕ) × (place ≡ 1 + after) × IsFaultOfParameters (p ∷ earlier) ps after k)
+IsFaultOfParameters earlier [] index k = ⊥
+IsFaultOfParameters earlier (p ∷ ps) index k =
+    ((index ≡ 0) × IsFaultOfParameter earlier p k)
+    ⊎ ((after : ℕ) × (index ≡ 1 + after) × IsFaultOfParameters (p ∷ earlier) ps after k)
 
 -- A name of a body that is no parameter: nothing binds it, or it is a function without arguments.
 abbrev pub IsFaultInside : Option ℕ → Option Found → ModelFault → Type 0
@@ -120,29 +120,29 @@ IsFaultApplied None (Err l) k = k ≡ l
 IsFaultApplied None (Ok s) k = ⊥
 
 abbrev mutual
-  -- The body of a function has this fault at this place. Nothing else is looked for there: kinds, sizes and complements
+  -- The body of a function has this fault at this index. Nothing else is looked for there: kinds, sizes and complements
   -- count where the function is applied.
   pub IsFaultOfBody : List Sense → List Naming → List (List ℕ) → Term → ℕ → ModelFault → Type 0
-  IsFaultOfBody ss names ps (Atom x) place k = (place ≡ 0) × IsFaultInside (parameter_of (reverse ps) x) (found names x) k
-  IsFaultOfBody ss names ps AllEvents place k = ⊥
-  IsFaultOfBody ss names ps EmptyRelation place k = ⊥
-  IsFaultOfBody ss names ps EmptySet place k = ⊥
-  IsFaultOfBody ss names ps (Join op a b) place k =
-      IsFaultOfBody ss names ps a place k
-      ⊎ ((after : ℕ) × (place ≡ width a + 1 + after) × IsFaultOfBody ss names ps b after k)
-  IsFaultOfBody ss names ps (Mark op a) place k = IsFaultOfBody ss names ps a place k
-  IsFaultOfBody ss names ps (Not a) place k = (after : ℕ) × (place ≡ 1 + after) × IsFaultOfBody ss names ps a after k
-  IsFaultOfBody ss names ps (On a) place k = (after : ℕ) × (place ≡ 1 + after) × IsFaultOfBody ss names ps a after k
-  IsFaultOfBody ss names ps (Apply x arguments) place k =
-      ((place ≡ 0) × IsFaultApplied (parameter_of (reverse ps) x) (sense_of ss (count_of arguments) (found names x)) k)
-      ⊎ ((after : ℕ) × (place ≡ 1 + after) × IsFaultOfBodies ss names ps arguments after k)
+  IsFaultOfBody ss names ps (Atom x) index k = (index ≡ 0) × IsFaultInside (parameter_of (reverse ps) x) (found names x) k
+  IsFaultOfBody ss names ps AllEvents index k = ⊥
+  IsFaultOfBody ss names ps EmptyRelation index k = ⊥
+  IsFaultOfBody ss names ps EmptySet index k = ⊥
+  IsFaultOfBody ss names ps (Join op a b) index k =
+      IsFaultOfBody ss names ps a index k
+      ⊎ ((after : ℕ) × (index ≡ width a + 1 + after) × IsFaultOfBody ss names ps b after k)
+  IsFaultOfBody ss names ps (Mark op a) index k = IsFaultOfBody ss names ps a index k
+  IsFaultOfBody ss names ps (Not a) index k = (after : ℕ) × (index ≡ 1 + after) × IsFaultOfBody ss names ps a after k
+  IsFaultOfBody ss names ps (On a) index k = (after : ℕ) × (index ≡ 1 + after) × IsFaultOfBody ss names ps a after k
+  IsFaultOfBody ss names ps (Apply x arguments) index k =
+      ((index ≡ 0) × IsFaultApplied (parameter_of (reverse ps) x) (sense_of ss (count_of arguments) (found names x)) k)
+      ⊎ ((after : ℕ) × (index ≡ 1 + after) × IsFaultOfBodies ss names ps arguments after k)
 
   -- the arguments, one after another
   pub IsFaultOfBodies : List Sense → List Naming → List (List ℕ) → Terms → ℕ → ModelFault → Type 0
-  IsFaultOfBodies ss names ps NoTerm place k = ⊥
-  IsFaultOfBodies ss names ps (OneMore a others) place k =
-      IsFaultOfBody ss names ps a place k
-      ⊎ ((after : ℕ) × (place ≡ width a + after) × IsFaultOfBodies ss names ps others after k)
+  IsFaultOfBodies ss names ps NoTerm index k = ⊥
+  IsFaultOfBodies ss names ps (OneMore a others) index k =
+      IsFaultOfBody ss names ps a index k
+      ⊎ ((after : ℕ) × (index ≡ width a + after) × IsFaultOfBodies ss names ps others after k)
 
 -- the name that a binding at that position of the item is
 abbrev pub naming_at : ℕ → ℕ → Bound → Kind → Naming
@@ -174,25 +174,25 @@ senses_after ss names (Check w e) = ss
 senses_after ss names Mute = ss
 senses_after ss names (Defined n ps b) = ss ++ sense_of_function ss names ps b ∷ []
 
--- the item of that number has this fault at this place
+-- the item of that number has this fault at this index
 abbrev pub IsFaultOfItem : List Sense → List Naming → ℕ → Clause → ℕ → ModelFault → Type 0
-IsFaultOfItem ss names item (Group true bs) place k = IsFaultIn ss (with_own names item 0 bs) (length names) true [] bs place k
-IsFaultOfItem ss names item (Group false bs) place k = IsFaultIn ss names (length names) false [] bs place k
-IsFaultOfItem ss names item (Check w e) place k =
-    ((place ≡ 0) × IsFalse (takes_body w (kind_in ss names e)) × (k ≡ faults.Kind))
-    ⊎ ((after : ℕ) × (place ≡ 1 + after) × IsFaultAt ss names (length names) false e after k)
-IsFaultOfItem ss names item Mute place k = ⊥
-IsFaultOfItem ss names item (Defined n ps b) place k =
-    IsFaultOfParameters [] ps place k ⊎ ((after : ℕ) × (place ≡ length ps + after) × IsFaultOfBody ss names ps b after k)
+IsFaultOfItem ss names item (Group true bs) index k = IsFaultIn ss (with_own names item 0 bs) (length names) true [] bs index k
+IsFaultOfItem ss names item (Group false bs) index k = IsFaultIn ss names (length names) false [] bs index k
+IsFaultOfItem ss names item (Check w e) index k =
+    ((index ≡ 0) × IsFalse (takes_body w (kind_in ss names e)) × (k ≡ faults.Kind))
+    ⊎ ((after : ℕ) × (index ≡ 1 + after) × IsFaultAt ss names (length names) false e after k)
+IsFaultOfItem ss names item Mute index k = ⊥
+IsFaultOfItem ss names item (Defined n ps b) index k =
+    IsFaultOfParameters [] ps index k ⊎ ((after : ℕ) × (index ≡ length ps + after) × IsFaultOfBody ss names ps b after k)
 
--- Of the items, the first of which has the number `from`, the one that many behind the first has this fault at this place.
+-- Of the items, the first of which has the number `from`, the one that many behind the first has this fault at this index.
 abbrev pub IsFault : List Sense → List Naming → ℕ → List Clause → ℕ → ℕ → ModelFault → Type 0
-IsFault ss names from [] item place k = ⊥
-IsFault ss names from (c ∷ cs) item place k =
-    ((item ≡ 0) × IsFaultOfItem ss names from c place k)
-    ⊎ ((after : ℕ) × (item ≡ 1 + after) × IsFault (senses_after ss names c) (extended ss names from c) (from + 1) cs after place k)
+IsFault ss names from [] item index k = ⊥
+IsFault ss names from (c ∷ cs) item index k =
+    ((item ≡ 0) × IsFaultOfItem ss names from c index k)
+    ⊎ ((after : ℕ) × (item ≡ 1 + after) × IsFault (senses_after ss names c) (extended ss names from c) (from + 1) cs after index k)
 
--- which fault is answered at one place
+-- which fault is answered at one index
 abbrev pub rank : ModelFault → ℕ
 rank faults.Unbound = 0
 rank faults.Duplicate = 1
@@ -204,20 +204,20 @@ rank faults.SetInRec = 6
 
 -- one fault stands no later than another
 abbrev pub IsNoLater : ℕ → ModelFault → ℕ → ModelFault → Type 0
-IsNoLater place k other l = (place < other) ⊎ ((place ≡ other) × (rank k ≤ rank l))
+IsNoLater index k other l = (index < other) ⊎ ((index ≡ other) × (rank k ≤ rank l))
 
--- one of these faults is at that place, and none of them is earlier
+-- one of these faults is at that index, and none of them is earlier
 pub record IsFirst (Faulty : ℕ → ModelFault → Type 0) (k : ModelFault) : Type 0 where
-  pub place : ℕ
-  pub there : Faulty place k
-  pub none_before : (other : ℕ) (l : ModelFault) → Faulty other l → IsNoLater place k other l
+  pub index : ℕ
+  pub there : Faulty index k
+  pub none_before : (other : ℕ) (l : ModelFault) → Faulty other l → IsNoLater index k other l
 
--- the items have this fault as the first, by item and then by place
+-- the items have this fault as the first, by item and then by index
 pub record FirstFault (ss : List Sense) (names : List Naming) (from : ℕ) (items : List Clause) (k : ModelFault) : Type 0 where
   pub item : ℕ
-  pub place : ℕ
-  pub there : IsFault ss names from items item place k
-  pub none_before : (i p : ℕ) (l : ModelFault) → IsFault ss names from items i p l → (item < i) ⊎ ((item ≡ i) × IsNoLater place k p l)
+  pub index : ℕ
+  pub there : IsFault ss names from items item index k
+  pub none_before : (i p : ℕ) (l : ModelFault) → IsFault ss names from items i p l → (item < i) ⊎ ((item ≡ i) × IsNoLater index k p l)
 
 abbrev pub HasNoFault : List Sense → List Naming → ℕ → List Clause → Type 0
 HasNoFault ss names from items = (i p : ℕ) (l : ModelFault) → IsFault ss names from items i p l → ⊥

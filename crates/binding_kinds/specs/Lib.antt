@@ -9,7 +9,7 @@ pub mod Functions
 pub mod Columns
 pub mod Faults
 pub mod First
-pub mod Seen
+pub mod GroupNames
 pub mod Numbers
 pub mod Fits
 pub mod Outermost

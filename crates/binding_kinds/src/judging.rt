@@ -5,7 +5,7 @@ ghost use Rattle.binding_kinds.specs.Value.{Naming, entry_of, bound_of};
 ghost use Rattle.binding_kinds.specs.Kinds.{kind_found, found, joined, takes, marked, narrowed, is_set, is_relation};
 ghost use Rattle.binding_kinds.specs.Verdict.{is_seen, or_else, unless, of_name, of_slot, of_parameter, of_parameters};
 ghost use Rattle.binding_kinds.specs.First.{first_in, of_binding};
-ghost use Rattle.binding_kinds.specs.Seen.{names_of};
+ghost use Rattle.binding_kinds.specs.GroupNames.{names_of};
 ghost use Rattle.binding_kinds.specs.Combinations.{digit, unknown};
 ghost use Rattle.binding_kinds.specs.Senses.{Sense, IsKept, AreKept, sense_of, size_in, kind_in, first_within, IsAlike};
 ghost use Rattle.cat_values.specs.Values.{term_of};

@@ -8,7 +8,7 @@ use Rattle.std.proofs.lemmas.Bool.Decides.{eqb_tells}
 use Rattle.std.proofs.lemmas.Nat.{div-add-mod'}
 use Rattle.bit_relations.specs.Relation.{Bit}
 
-zero_or_one : (n : ℕ) → n ≡ 0 → n ≡ 1 → ⊥
+pub zero_or_one : (n : ℕ) → n ≡ 0 → n ≡ 1 → ⊥
 zero_or_one n p q = omega arith
 
 pub Bit-zero : (k : ℕ) → Bit 0 k → ⊥

@@ -4,7 +4,7 @@ use Rattle.std.proofs.Common.{Bool, ℕ, ◌≡◌, ◌<◌, ◌≤◌, ◌+◌,
 use Rattle.std.proofs.lemmas.Bool.{cases_lt}
 use Rattle.bit_relations.specs.Pairs.{Path, Plus, PlusBelow, IsAcyclic}
 use Rattle.bit_relations.specs.Relation.{Bit, AreColumns, wide}
-use Rattle.bit_relations.specs.Rows.{RowsHave, AllFit, AreWritten, Taken, Through}
+use Rattle.bit_relations.specs.Rows.{RowsHave, AllFit, AreWritten, UnionWhere, Through}
 use Rattle.bit_relations.proofs.Bits.{Bit-width, Bit-zero}
 use Rattle.bit_relations.proofs.Columns.{IsColumn, IsMade, Within, taken_apart, column_written, empty_row}
 use Rattle.bit_relations.proofs.Wide.{low_bit}
@@ -15,7 +15,7 @@ Through-within R middle n within a b (inl r) = within a b r
 Through-within R middle n within a b (inr t) = ((within a middle t.0).0, (within middle b t.1).1)
 
 -- one column with the row of the middle joined
-through_column : {n end : ℕ} {event : ℕ → ℕ} {old new : List ℕ} {R : ℕ → ℕ → Type 0} (select : List ℕ) (middle k : ℕ) → ((a b : ℕ) → a < n → event b < n → a < end) → IsColumn old event R → Within R n → ((a : ℕ) → RowsHave select a k ↔ R a middle) → AreWritten old new end (Taken (RowsHave old) (RowsHave select) k (get_or old middle 0)) → IsColumn new event (Through middle R)
+through_column : {n end : ℕ} {event : ℕ → ℕ} {old new : List ℕ} {R : ℕ → ℕ → Type 0} (select : List ℕ) (middle k : ℕ) → ((a b : ℕ) → a < n → event b < n → a < end) → IsColumn old event R → Within R n → ((a : ℕ) → RowsHave select a k ↔ R a middle) → AreWritten old new end (UnionWhere (RowsHave old) (RowsHave select) k (get_or old middle 0)) → IsColumn new event (Through middle R)
 through_column {n} {R = R} select middle k covered column within sel written =
     column_written covered column within (Through-within R middle n within) (written.fits column.fits) written (λ a b lt inside.
     let here = column.bits a b lt in
@@ -25,7 +25,7 @@ through_column {n} {R = R} select middle k covered column within sel written =
     ))
 
 -- both columns, up to an end that covers the count
-pub through : (n end middle k : ℕ) (low high low' high' select : List ℕ) → n ≤ end → AreColumns n low high → ((a : ℕ) → RowsHave select a k ↔ RowsHave (wide low high) a middle) → AreWritten low low' end (Taken (RowsHave low) (RowsHave select) k (get_or low middle 0)) → AreWritten high high' end (Taken (RowsHave high) (RowsHave select) k (get_or high middle 0)) → IsMade n low' high' (Through middle (RowsHave (wide low high)))
+pub through : (n end middle k : ℕ) (low high low' high' select : List ℕ) → n ≤ end → AreColumns n low high → ((a : ℕ) → RowsHave select a k ↔ RowsHave (wide low high) a middle) → AreWritten low low' end (UnionWhere (RowsHave low) (RowsHave select) k (get_or low middle 0)) → AreWritten high high' end (UnionWhere (RowsHave high) (RowsHave select) k (get_or high middle 0)) → IsMade n low' high' (Through middle (RowsHave (wide low high)))
 through n end middle k low high low' high' select enough columns sel write_low write_high =
     let m = taken_apart n low high columns in
     record {
@@ -135,7 +135,7 @@ closed_low n low high low' few columns height fits pairs = record {
     beyond b p = omega (arith, few)
 
 -- one step on rows of one word
-pub step_low : (R : ℕ → ℕ → Type 0) (n end k : ℕ) (old new : List ℕ) → n ≤ end → Within R n → ((a b : ℕ) → RowsHave old a b ↔ PlusBelow R k a b) → AreWritten old new end (Taken (RowsHave old) (RowsHave old) k (get_or old k 0)) → (a b : ℕ) → RowsHave new a b ↔ PlusBelow R (k + 1) a b
+pub step_low : (R : ℕ → ℕ → Type 0) (n end k : ℕ) (old new : List ℕ) → n ≤ end → Within R n → ((a b : ℕ) → RowsHave old a b ↔ PlusBelow R k a b) → AreWritten old new end (UnionWhere (RowsHave old) (RowsHave old) k (get_or old k 0)) → (a b : ℕ) → RowsHave new a b ↔ PlusBelow R (k + 1) a b
 step_low R n end k old new enough within are written =
     close_step R k (RowsHave old) (RowsHave new) are (λ a b. elim (cases_lt a end) [
       | inl inside ↦ written.inside a inside b

@@ -12,7 +12,7 @@ use Rattle.std.specs.Int.RustNames.{bit_or, bit_and}
 use Rattle.std.proofs.Common.{subst, ◌*◌, w64, Bool, false, cond, eqb, map}
 use Rattle.bit_relations.proofs.Bits.{Bit-chosen, Bit-width, Bit-zero, word_fits}
 use Rattle.bit_relations.specs.Relation.{Bit}
-use Rattle.bit_relations.specs.Rows.{RowsHave, AllFit, AreWritten, AreLanesJoined, IsStored, JoinedFrom, Taken}
+use Rattle.bit_relations.specs.Rows.{RowsHave, AllFit, AreWritten, AreLanesJoined, IsStored, JoinedFrom, UnionWhere}
 
 -- what is joined to each lane of acc
 abbrev pub joined_lanes : List ℕ → List ℕ → ℕ → ℕ → List ℕ
@@ -110,7 +110,7 @@ stored rows lanes at n whole room long height = record {
               get_or-append_right ys post n j 0 long_ys past ∙ sym (get_or-append_right mid post n j 0 long_mid past)
         ]
 
--- the eight words from a place on
+-- the eight words from an index on
 pub loaded : (rows : List ℕ) (at n : ℕ) → 8 ≤ n → at + n ≡ 128 → length rows ≡ 128 → (length (chunk 0 8 (mid_of at n rows)) ≡ 8) × ((i : ℕ) → i < 8 → get_or (chunk 0 8 (mid_of at n rows)) i 0 ≡ get_or rows (at + i) 0)
 loaded rows at n room whole height = (
   length-take-le 8 (mid_of at n rows) (rw long_mid room),
@@ -159,8 +159,8 @@ pub lanes_still : (old new lanes : List ℕ) (i j : ℕ) (P : ℕ → ℕ → Ty
 lanes_still old new lanes i j P before here = here ∙ before.outside (i + j) (omega arith)
 
 -- one lane that is joined, as the words that it was loaded from
-pub lane_taken : (acc select joined accs selects : List ℕ) (i j k added : ℕ) → j < 8 → get_or acc j 0 ≡ get_or accs (i + j) 0 → get_or select j 0 ≡ get_or selects (i + j) 0 → AreLanesJoined acc select k added joined → (b : ℕ) → RowsHave joined j b ↔ Taken (RowsHave accs) (RowsHave selects) k added (i + j) b
-lane_taken acc select joined accs selects i j k added lt from_acc from_select step b =
+pub lane_union : (acc select joined accs selects : List ℕ) (i j k added : ℕ) → j < 8 → get_or acc j 0 ≡ get_or accs (i + j) 0 → get_or select j 0 ≡ get_or selects (i + j) 0 → AreLanesJoined acc select k added joined → (b : ℕ) → RowsHave joined j b ↔ UnionWhere (RowsHave accs) (RowsHave selects) k added (i + j) b
+lane_union acc select joined accs selects i j k added lt from_acc from_select step b =
     subst (λ (y : ℕ). Joined (get_or accs (i + j) 0) y) from_select (subst (λ (x : ℕ). Joined x (get_or select j 0)) from_acc (step j lt b))
   where
     Joined : ℕ → ℕ → Type 0

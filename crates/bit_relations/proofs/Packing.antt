@@ -429,7 +429,7 @@ pushed_told {ns} {ss} {ws} {ns'} {ms} {vs} {n} r p g same_ns is_n counts words =
     ∙ ap (λ (xs : List ℕ). unpacked (ns ++ r.count ∷ []) xs) words
     ∙ told (one_more r p g)
 
--- at a place of the list
+-- at an index of the list
 element : (xs : List ℕ) (k x : ℕ) → k < length xs → x ≡ get_or xs k x → x ≡ get_or xs k 0
 element xs k x lt e = e ∙ get_or_default_zero xs k x lt
 
@@ -511,9 +511,3 @@ same_there {ns} {ss} {ws} {zs} {vs} k x y r p e lt is at same count g = (
 
     here : AreStored ws (get_or ss k 0) (get_or vs k no_slot)
     here = stored_there k no_slot all lt
-
-pub counts_differ : {ns ss ws : List ℕ} {vs : List Relation} (k x : ℕ) (r : Relation) → ArePacked ns ss ws (unpacked ns ws) → unpacked ns ws ≡ vs → k < length vs → x ≡ get_or ns k x → (x ≡ r.count → ⊥) → get_or vs k no_slot ≡ r → ⊥
-counts_differ {ns} {ss} {ws} {vs} k x r p e lt is other t = other (count_at k x p e lt is ∙ count_there k no_slot all lt ∙ ap (λ (v : Relation). v.count) t)
-  where
-    all : ArePacked ns ss ws vs
-    all = subst (λ (xs : List Relation). ArePacked ns ss ws xs) e p

@@ -20,7 +20,7 @@ as_far P R k m e are = subst (λ (x : ℕ). (a b : ℕ) → P a b ↔ PlusBelow 
 
 -- the row of a middle joined to each row that leads to it
 pub through_middle : (at k row : ℕ) (own other own' other' : List ℕ) → (at ≡ 0) ⊎ (at ≡ 8) → k < 8 → row ≡ get_or own k 0 → AreLanesJoined own own (at + k) row own' → AreLanesJoined other other (at + k) row other' → (a b : ℕ) → Sixteen at own' other' a b ↔ Through (at + k) (Sixteen at own other) a b
-through_middle at k row own other own' other' place small is_row step_own step_other a b = (to, back)
+through_middle at k row own other own' other' half small is_row step_own step_other a b = (to, back)
   where
     to : Sixteen at own' other' a b → Through (at + k) (Sixteen at own other) a b
     to (inl (j, lt, e, h)) = elim ((step_own j lt b).0 h) [
@@ -43,7 +43,7 @@ through_middle at k row own other own' other' place small is_row step_own step_o
         same = omega (arith, e)
 
     apart : (j : ℕ) → j < 8 → at + k ≡ 8 - at + j → ⊥
-    apart j lt e = elim place [ inl z ↦ omega (arith, z, small, lt, e) | inr z ↦ omega (arith, z, small, lt, e) ]
+    apart j lt e = elim half [ inl z ↦ omega (arith, z, small, lt, e) | inr z ↦ omega (arith, z, small, lt, e) ]
 
     back : Through (at + k) (Sixteen at own other) a b → Sixteen at own' other' a b
     back (inl (inl (j, lt, e, o))) = inl (j, lt, e, (step_own j lt b).1 (inl o))

@@ -15,7 +15,7 @@ abbrev pub starts_from : ℕ → List Relation → List ℕ
 starts_from at [] = []
 starts_from at (r ∷ rs) = at ∷ starts_from (at + length (packed r)) rs
 
--- the counts of relations, the places where their words begin, and their words one after another
+-- the counts of relations, the indexes where their words begin, and their words one after another
 pub record ArePacked (ns ss ws : List ℕ) (rs : List Relation) : Type 0 where
   pub counts : ns ≡ map (λ r. r.count) rs
   pub starts : ss ≡ starts_from 0 rs

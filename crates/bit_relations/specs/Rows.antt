@@ -21,8 +21,8 @@ abbrev pub Nothing : ℕ → ℕ → Type 0
 Nothing a b = ⊥
 
 -- the bits of words, and those of one word where other words have the bit k
-abbrev pub Taken : (ℕ → ℕ → Type 0) → (ℕ → ℕ → Type 0) → ℕ → ℕ → ℕ → ℕ → Type 0
-Taken R S k word a b = R a b ⊎ (S a k × Bit word b)
+abbrev pub UnionWhere : (ℕ → ℕ → Type 0) → (ℕ → ℕ → Type 0) → ℕ → ℕ → ℕ → ℕ → Type 0
+UnionWhere R S k word a b = R a b ⊎ (S a k × Bit word b)
 
 -- the bits of words, and in each the bit of its own event, where the first bit stands for the event `at`
 abbrev pub WithOwn : ℕ → (ℕ → ℕ → Type 0) → ℕ → ℕ → Type 0
@@ -52,11 +52,11 @@ Inverted at end R a b = (b < end) × R (b + at) a
 abbrev pub Through : ℕ → (ℕ → ℕ → Type 0) → ℕ → ℕ → Type 0
 Through middle R a b = R a b ⊎ (R a middle × R middle b)
 
--- the bits of the words of a list from a place on, where one word has them
+-- the bits of the words of a list from an index on, where one word has them
 abbrev pub Read : List ℕ → ℕ → ℕ → ℕ → ℕ → Type 0
 Read list at all a b = Bit (slice_index list (at + a)) b × Bit all b
 
--- the pairs below n whose bits stand in a list from a place on: the low words, and then the high ones
+-- the pairs below n whose bits stand in a list from an index on: the low words, and then the high ones
 abbrev pub Stored : List ℕ → ℕ → ℕ → ℕ → ℕ → Type 0
 Stored list at n a b =
     (a < n) × (b < n) × (((b < 64) × Bit (slice_index list (at + a)) b) ⊎ ((k : ℕ) × (b ≡ k + 64) × Bit (slice_index list (at + n + a)) k))
@@ -66,7 +66,7 @@ pub record AreStored (list : List ℕ) (at : ℕ) (r : Relation) : Type 0 where
   pub low : (a : ℕ) → a < r.count → slice_index list (at + a) ≡ slice_index r.rows a % 2 ^ 64
   pub high : 64 < r.count → (a : ℕ) → a < r.count → slice_index list (at + r.count + a) ≡ slice_index r.rows a / 2 ^ 64
 
--- the bits of words, and those of the words of others, from a place on, that the lowest bits of S name
+-- the bits of words, and those of the words of others, from an index on, that the lowest bits of S name
 abbrev pub JoinedFrom : ℕ → ℕ → (ℕ → ℕ → Type 0) → (ℕ → ℕ → Type 0) → (ℕ → ℕ → Type 0) → ℕ → ℕ → Type 0
 JoinedFrom at end W S O a b = W a b ⊎ ((c : ℕ) × (c < end) × S a c × O (c + at) b)
 
@@ -75,7 +75,7 @@ abbrev pub AreLanesJoined : List ℕ → List ℕ → ℕ → ℕ → List ℕ �
 AreLanesJoined acc select k row result =
     (i : ℕ) → i < 8 → (b : ℕ) → RowsHave result i b ↔ (RowsHave acc i b ⊎ (RowsHave select i k × Bit row b))
 
--- the new words are the lanes from a place on, and else the old ones
+-- the new words are the lanes from an index on, and else the old ones
 pub record IsStored (old : List ℕ) (at : ℕ) (lanes new : List ℕ) : Type 0 where
   pub inside : (i : ℕ) → i < 8 → slice_index new (at + i) ≡ slice_index lanes i
   pub outside : (a : ℕ) → (a < at) ⊎ (at + 8 ≤ a) → slice_index new a ≡ slice_index old a

@@ -1,7 +1,7 @@
 //! Kernels that take eight words at a time, for blocks of 64 by 64 bits.
 ghost use Rattle.std.specs.Prelude.{◌≡◌, ℕ, ◌<◌, ◌≤◌, ◌+◌, ◌*◌, ◌↔◌, ◌⊎◌, List, length, slice_index};
 ghost use Rattle.bit_relations.specs.Pairs.{Plus, PlusBelow};
-ghost use Rattle.bit_relations.specs.Rows.{RowsHave, AllFit, AreWritten, Taken, AreLanesJoined, IsStored, JoinedFrom, Sixteen};
+ghost use Rattle.bit_relations.specs.Rows.{RowsHave, AllFit, AreWritten, UnionWhere, AreLanesJoined, IsStored, JoinedFrom, Sixteen};
 
 use crate::words::MAX_EVENTS;
 use std::simd::prelude::*;
@@ -17,7 +17,7 @@ pub fn join(acc: u64x8, select: u64x8, k: u32, row: u64) -> u64x8
     acc | unset.select(u64x8::splat(0), u64x8::splat(row))
 }
 
-/// The eight words from a place on.
+/// The eight words from an index on.
 #[inline]
 fn load(words: &[u64; MAX_EVENTS], at: usize) -> u64x8
     requires { at + 8 ≤ 128 }
@@ -27,7 +27,7 @@ fn load(words: &[u64; MAX_EVENTS], at: usize) -> u64x8
     u64x8::from_slice(&words[at..])
 }
 
-/// Puts eight words in place, from a place on.
+/// Puts eight words into a list, from an index on.
 #[inline]
 fn store(words: &mut [u64; MAX_EVENTS], at: usize, lanes: u64x8)
     requires { at + 8 ≤ 128 }
@@ -50,7 +50,7 @@ pub(crate) fn blocks_of(end: usize) -> usize
 pub(crate) fn join_own(words: &mut [u64; MAX_EVENTS], k: usize, word: u64, blocks: usize)
     requires inside { k < 64 }
     requires few { 8 * blocks ≤ 128 }
-    ensures { AreWritten words.old words.new (8 * blocks) (Taken (RowsHave words.old) (RowsHave words.old) k word) }
+    ensures { AreWritten words.old words.new (8 * blocks) (UnionWhere (RowsHave words.old) (RowsHave words.old) k word) }
 {
     for block in 0..blocks {
         let lanes = load(words, 8 * block);
@@ -62,7 +62,7 @@ pub(crate) fn join_own(words: &mut [u64; MAX_EVENTS], k: usize, word: u64, block
 /// Takes the events of eight rows, `own`, as middles, one after another: those from `at` on, as many as `end` says. Each of
 /// sixteen rows that leads to a middle gets the middle's row.
 fn close_eight(own: u64x8, other: u64x8, at: usize, end: usize) -> (u64x8, u64x8)
-    requires place { (at ≡ 0) ⊎ (at ≡ 8) }
+    requires half { (at ≡ 0) ⊎ (at ≡ 8) }
     requires few { end ≤ 8 }
     ensures own { length result.0 ≡ 8 }
     ensures other { length result.1 ≡ 8 }
@@ -118,8 +118,8 @@ pub(crate) fn join_both(
 )
     requires inside { k < 64 }
     requires few { 8 * blocks ≤ 128 }
-    ensures own { AreWritten own.old own.new (8 * blocks) (Taken (RowsHave own.old) (RowsHave own.old) k own_word) }
-    ensures other { AreWritten other.old other.new (8 * blocks) (Taken (RowsHave other.old) (RowsHave own.old) k other_word) }
+    ensures own { AreWritten own.old own.new (8 * blocks) (UnionWhere (RowsHave own.old) (RowsHave own.old) k own_word) }
+    ensures other { AreWritten other.old other.new (8 * blocks) (UnionWhere (RowsHave other.old) (RowsHave own.old) k other_word) }
 {
     for block in 0..blocks {
         let select = load(own, 8 * block);
@@ -131,7 +131,7 @@ pub(crate) fn join_both(
     }
 }
 
-/// Each lane of `acc`, joined with those words of others, from a place on, that the lowest bits of `select` name.
+/// Each lane of `acc`, joined with those words of others, from an index on, that the lowest bits of `select` name.
 #[inline]
 fn join_words(
     acc: u64x8,
@@ -156,7 +156,7 @@ fn join_words(
     joined
 }
 
-/// Adds to the words of the blocks those words of others, from a place on, that the lowest bits of `select` name.
+/// Adds to the words of the blocks those words of others, from an index on, that the lowest bits of `select` name.
 pub(crate) fn join_block(
     words: &mut [u64; MAX_EVENTS],
     select: &[u64; MAX_EVENTS],

@@ -86,14 +86,14 @@ impl PackedRelations {
         self.words.clear();
     }
 
-    /// Writes one of them into a place.
-    pub fn read_into(&self, k: usize, place: &mut Rel)
+    /// Writes one of them into `target`.
+    pub fn read_into(&self, k: usize, target: &mut Rel)
         requires { k < length self.now }
-        ensures { place.new ≡ slice_index_or self.now k place.new }
+        ensures { target.new ≡ slice_index_or self.now k target.new }
     {
         let count = self.counts[k] as usize;
         let start = self.starts[k];
-        place.read_from(count, self.words.as_slice(), start);
+        target.read_from(count, self.words.as_slice(), start);
     }
 
     /// Whether one of them is this relation.

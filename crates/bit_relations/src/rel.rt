@@ -418,7 +418,7 @@ impl Rel {
         Ok(())
     }
 
-    /// Becomes the relation of a count whose words stand in a list from a place on.
+    /// Becomes the relation of a count whose words stand in a list from an index on.
     pub(crate) fn read_from(&mut self, count: usize, list: &[u64], at: usize)
         requires few { count ≤ 128 }
         requires low { at + count ≤ length list.now }

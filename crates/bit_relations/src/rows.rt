@@ -5,7 +5,7 @@ ghost use Rattle.bit_relations.specs.Rows.{RowsHave, AreWritten, AllFit, JoinedB
 ghost use Rattle.bit_relations.specs.Pairs.{Plus, IsAcyclic};
 
 use crate::lanes::{blocks_of, close_sixteen, join_block, join_both, join_own};
-use crate::word::{has_event, in_high, in_low, taken, with_bit};
+use crate::word::{has_event, in_high, in_low, union_where, with_bit};
 use crate::words::{MAX_EVENTS, is_diagonal_free};
 
 /// Whether the row of an event leads to another.
@@ -26,7 +26,7 @@ fn column(words: &[u64; MAX_EVENTS], k: usize, at: usize, end: usize) -> u64
 {
     let mut column = 0;
     for a in 0..end {
-        column = taken(column, words[a + at], k, with_bit(0, a));
+        column = union_where(column, words[a + at], k, with_bit(0, a));
     }
     column
 }

@@ -46,7 +46,7 @@ pub fn left_alone(left: u64, right: u64) -> u64
 
 /// The bits of a word, and those of another where a third has the bit k.
 #[inline]
-pub fn taken(word: u64, select: u64, k: usize, other: u64) -> u64
+pub fn union_where(word: u64, select: u64, k: usize, other: u64) -> u64
     requires { k < 64 }
     ensures { (b : ℕ) → Bit result b ↔ (Bit word b ⊎ (Bit select k × Bit other b)) }
 {

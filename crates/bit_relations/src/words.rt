@@ -189,7 +189,7 @@ pub fn first(words: &[u64; MAX_EVENTS], end: usize) -> &[u64]
     &words[..end]
 }
 
-/// Writes those bits of the words of a list, from a place on, that one word has too.
+/// Writes those bits of the words of a list, from an index on, that one word has too.
 pub fn read(words: &mut [u64; MAX_EVENTS], list: &[u64], at: usize, all: u64, end: usize)
     requires end { end ≤ 128 }
     requires room { at + end ≤ length list.now }

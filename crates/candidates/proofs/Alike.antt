@@ -5,8 +5,8 @@ use Rattle.thread_runs.specs.declared.value.Value.{Value}
 use Rattle.dataflow.specs.DependencyLists.{DependencyLists}
 use Rattle.candidates.proofs.OneProgram.{same_elements}
 use Rattle.candidates.specs.Space.{Shown, shown_by, shown_of, Candidate, IsExecution}
-use Rattle.candidates.specs.declared.candidate.Event.{Event}
-use Rattle.candidates.specs.declared.candidate.Execution.{Execution}
+use Rattle.run_combinations.specs.declared.combination.Event.{Event}
+use Rattle.candidates.specs.declared.execution.Execution.{Execution}
 
 -- lists that are the same at each index, or differ at one
 pub same_at_each : {X : Type 0} (xs ys : List X) → length xs ≡ length ys → ((k : ℕ) (d : X) → k < length xs → get_or xs k d ≡ get_or ys k d) → xs ≡ ys

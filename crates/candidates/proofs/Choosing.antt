@@ -5,16 +5,16 @@ use Rattle.std.specs.declared.alloc.Global.{Global}
 use Rattle.std.proofs.lemmas.Bool.{cases_eq}
 use Rattle.thread_runs.specs.declared.run.Run.{Run}
 use Rattle.candidates.specs.Executions.{product}
-use Rattle.candidates.specs.Events.{CannotRead}
-use Rattle.candidates.specs.Layouts.{ArePartsOf, AreThreadsOf, AreChosen, chosen_events, HasRun, HaveParts, IsLaidOut}
-use Rattle.candidates.specs.Parts.{IsPartOf}
-use Rattle.candidates.specs.Search.{PrefixLists, with_run, combinations, start, all_combinations}
-use Rattle.candidates.specs.declared.candidate.Event.{Event}
+use Rattle.run_combinations.specs.Events.{CannotRead}
+use Rattle.run_combinations.specs.Layouts.{ArePartsOf, AreThreadsOf, AreChosen, chosen_events, HasRun, HaveParts, IsLaidOut}
+use Rattle.run_combinations.specs.Parts.{IsPartOf}
+use Rattle.run_combinations.specs.Search.{PrefixLists, with_run, combinations, start, all_combinations}
+use Rattle.run_combinations.specs.declared.combination.Event.{Event}
 use Rattle.thread_runs.specs.declared.instruction.Program.{Program}
-use Rattle.candidates.specs.declared.layout.Layout.{Layout}
-use Rattle.candidates.specs.declared.layout.ThreadParts.{ThreadParts}
-use Rattle.candidates.specs.declared.part.Part.{Part}
-use Rattle.candidates.proofs.Searching.{going_on}
+use Rattle.run_combinations.specs.declared.layout.Layout.{Layout}
+use Rattle.run_combinations.specs.declared.layout.ThreadParts.{ThreadParts}
+use Rattle.run_combinations.specs.declared.part.Part.{Part}
+use Rattle.run_combinations.proofs.Searching.{going_on}
 
 -- the combination goes on from another one with parts of these runs, which stand among those of the threads from this
 -- one on

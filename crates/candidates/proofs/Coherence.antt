@@ -2,14 +2,14 @@
 use Rattle.std.proofs.Common.{ℕ, zero, suc, ◌≡◌, ◌&&◌, not, Bool, true, false, cond, nat_eq, List, [], ◌∷◌, ◌++◌, map, filter, length, replicate, Some, slice_get, refl, ap, sym, subst, ◌∙◌, arith, eq-eqb, Contains}
 use Rattle.std.specs.List.{flat_map, AllZip, All}
 use Rattle.std.proofs.lemmas.List.Elements.{All-cons, All-nil, Contains-append_left, Contains-append_right, Contains-push}
-use Rattle.candidates.proofs.Counting.{or_parts}
+use Rattle.run_combinations.proofs.Counting.{or_parts}
 use Rattle.candidates.proofs.Products.{FilteredEach, filter_of_products, filter_twice, filter_as}
 use Rattle.candidates.proofs.ReadsFrom.{tuples_are}
 use Rattle.candidates.specs.Executions.{IsOrder, product, rows, stores_at}
-use Rattle.candidates.specs.Lists.{tuples, IsFiltered, none, kept, left}
-use Rattle.candidates.specs.Events.{has_store, AreDistinct}
-use Rattle.candidates.specs.Orders.{are_distinct, orders_of}
-use Rattle.candidates.specs.declared.candidate.Event.{Event}
+use Rattle.run_combinations.specs.Lists.{tuples, IsFiltered, none, kept, left}
+use Rattle.run_combinations.specs.Events.{has_store, AreDistinct}
+use Rattle.run_combinations.specs.Orders.{are_distinct, orders_of}
+use Rattle.run_combinations.specs.declared.combination.Event.{Event}
 
 true_false : true ≡ false → ⊥
 true_false h = cc

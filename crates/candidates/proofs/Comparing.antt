@@ -3,11 +3,12 @@ use Rattle.std.proofs.Common.{Vec, ℕ, zero, suc, ◌≡◌, ◌<◌, ◌≤◌
 use Rattle.std.specs.declared.alloc.Global.{Global}
 use Rattle.std.proofs.lemmas.Bool.{lt-ltb, le-ltb}
 use Rattle.std.proofs.lemmas.List.{length-map, drop_all, take_all}
-use Rattle.candidates.specs.Lists.{lists_of}
+use Rattle.run_combinations.specs.Lists.{lists_of}
 use Rattle.candidates.specs.Same.{pairs_from, pairs_left, candidates_from, left_in}
 use Rattle.candidates.specs.declared.same.Candidates.{Candidates}
-use Rattle.candidates.specs.Space.{pairs, candidates_of, candidates_in, Candidate}
-use Rattle.candidates.specs.declared.candidate.Combination.{Combination}
+use Rattle.run_combinations.specs.Combinations.{pairs, candidates_of}
+use Rattle.candidates.specs.Space.{candidates_in, Candidate}
+use Rattle.run_combinations.specs.declared.combination.Combination.{Combination}
 
 -- from the first on all are left
 no_pairs : (xs : List (List ℕ)) → pairs {Y = List ℕ} xs [] ≡ []

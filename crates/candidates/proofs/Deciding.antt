@@ -4,13 +4,13 @@ use Rattle.std.proofs.lemmas.Bool.{cases_eq}
 use Rattle.std.proofs.lemmas.List.Elements.{Contains-append_left, Contains-append_right, Contains-append_cases}
 use Rattle.bit_relations.specs.Pairs.{Union, Path, IsAcyclic}
 use Rattle.candidates.proofs.Elements.{member_cases, member_later, member_first, no_member}
-use Rattle.candidates.specs.Candidates.{AreCombinations, nothing_left, with_ways, without}
-use Rattle.candidates.specs.Events.{numbers, is_load, is_store, ReadsFrom}
-use Rattle.candidates.specs.Lists.{tuples, IsFiltered, none, kept, left}
-use Rattle.candidates.specs.Search.{PrefixLists}
-use Rattle.candidates.specs.Space.{CombinationLists}
-use Rattle.candidates.specs.Ways.{AreWays, IsWay, accesses_in}
-use Rattle.candidates.specs.declared.candidate.Event.{Event}
+use Rattle.run_combinations.specs.Candidates.{AreCombinations, nothing_left, with_ways, without}
+use Rattle.run_combinations.specs.Events.{numbers, is_load, is_store, ReadsFrom}
+use Rattle.run_combinations.specs.Lists.{tuples, IsFiltered, none, kept, left}
+use Rattle.run_combinations.specs.Search.{PrefixLists}
+use Rattle.run_combinations.specs.Combinations.{CombinationLists}
+use Rattle.run_combinations.specs.Ways.{AreWays, IsWay, accesses_in}
+use Rattle.run_combinations.specs.declared.combination.Event.{Event}
 
 -- a fact is decided
 abbrev pub Decided : Type 0 → Type 0

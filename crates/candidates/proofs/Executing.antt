@@ -8,17 +8,17 @@ use Rattle.thread_runs.specs.declared.instruction.Event as run
 use Rattle.thread_runs.specs.Runs.{Thread, Run, IsRun}
 use Rattle.dataflow.specs.Chains.{IsNeed}
 use Rattle.candidates.proofs.Coherence.{location_orders}
-use Rattle.candidates.proofs.Counting.{eq_true, numbers_above}
+use Rattle.run_combinations.proofs.Counting.{eq_true, numbers_above}
 use Rattle.candidates.proofs.Products.{FilteredEach, filter_of_product, filter_of_products}
 use Rattle.candidates.proofs.ReadsFrom.{reads_found}
 use Rattle.candidates.specs.Executions.{Execution, IsExecution, IsDependency, IsOrder, MayRead, product, maps, rows, orders, over_runs, loads, stores_at, locations_from, events, events_from}
 use Rattle.candidates.specs.Listed.{ChoosesApart, IsReadsFrom, IsCoherence}
-use Rattle.candidates.specs.Lists.{IsFiltered}
-use Rattle.candidates.specs.Events.{numbers, has_store, writes_to, thread_events, with_action, action_in, initial_stores, ReadsFrom}
-use Rattle.candidates.specs.Orders.{orders_of, is_thread_store}
-use Rattle.candidates.specs.Ways.{AreWays, accesses_in}
-use Rattle.candidates.specs.declared.candidate.Action.{Action}
-use Rattle.candidates.specs.declared.candidate.Event.{Event}
+use Rattle.run_combinations.specs.Lists.{IsFiltered}
+use Rattle.run_combinations.specs.Events.{numbers, has_store, writes_to, thread_events, with_action, action_in, initial_stores, ReadsFrom}
+use Rattle.run_combinations.specs.Orders.{orders_of, is_thread_store}
+use Rattle.run_combinations.specs.Ways.{AreWays, accesses_in}
+use Rattle.run_combinations.specs.declared.combination.Action.{Action}
+use Rattle.run_combinations.specs.declared.combination.Event.{Event}
 
 -- events of threads
 abbrev InThreads : List Event → Type 0

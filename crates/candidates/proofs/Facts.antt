@@ -18,15 +18,15 @@ use Rattle.candidates.proofs.Elements.{no_member, mapped, mapped_there}
 use Rattle.candidates.proofs.Kept.{AreOne, SameRun}
 use Rattle.candidates.proofs.StepEvents.{place_few}
 use Rattle.candidates.proofs.Places.{places_are_events}
-use Rattle.candidates.specs.Events.{thread_events, initial_stores}
+use Rattle.run_combinations.specs.Events.{thread_events, initial_stores}
 use Rattle.candidates.specs.Executions.{IsDependency, events, events_from}
-use Rattle.candidates.specs.Layouts.{chosen_events}
-use Rattle.candidates.specs.Parts.{IsPartOf}
+use Rattle.run_combinations.specs.Layouts.{chosen_events}
+use Rattle.run_combinations.specs.Parts.{IsPartOf}
 use Rattle.dataflow.specs.DependencyLists.{renumbered_pairs}
-use Rattle.candidates.specs.Search.{PrefixLists, with_run, start}
-use Rattle.candidates.specs.declared.candidate.Event.{Event}
-use Rattle.candidates.specs.declared.layout.ThreadParts.{ThreadParts}
-use Rattle.candidates.specs.declared.part.Part.{Part}
+use Rattle.run_combinations.specs.Search.{PrefixLists, with_run, start}
+use Rattle.run_combinations.specs.declared.combination.Event.{Event}
+use Rattle.run_combinations.specs.declared.layout.ThreadParts.{ThreadParts}
+use Rattle.run_combinations.specs.declared.part.Part.{Part}
 
 -- the events of a combination are those of its runs
 pub events_are : (thread : ℕ) (b c : PrefixLists) (ts : List ThreadParts) (ms : List made.Run) → GoesOnWith thread b ts ms c → c.combination.events ≡ b.combination.events ++ chosen_events thread ms

@@ -6,10 +6,10 @@ use Rattle.std.proofs.lemmas.List.Concat.{flat_map-append}
 use Rattle.thread_runs.specs.declared.value.Value.{Value}
 use Rattle.candidates.proofs.Executing.{others_at, orders_at}
 use Rattle.candidates.specs.Executions.{product, locations_from}
-use Rattle.candidates.specs.Lists.{joined_with}
-use Rattle.candidates.specs.Events.{numbers}
-use Rattle.candidates.specs.Orders.{orders_of, is_thread_store, stores_of, all_orders}
-use Rattle.candidates.specs.declared.candidate.Event.{Event}
+use Rattle.run_combinations.specs.Lists.{joined_with}
+use Rattle.run_combinations.specs.Events.{numbers}
+use Rattle.run_combinations.specs.Orders.{orders_of, is_thread_store, stores_of, all_orders}
+use Rattle.run_combinations.specs.declared.combination.Event.{Event}
 
 -- the orders of locations, one after another
 abbrev pub flat : List (List ℕ) → List ℕ

@@ -16,9 +16,9 @@ use Rattle.ppc_semantics.specs.Domain.{has_event, IsDomain, threads_from, thread
 use Rattle.candidates.proofs.Choosing.{runs_in}
 use Rattle.candidates.proofs.Small.{run_few}
 use Rattle.candidates.specs.Executions.{product, events_from}
-use Rattle.candidates.specs.Layouts.{AreAllRuns, chosen_events}
-use Rattle.candidates.specs.Events.{thread_events}
-use Rattle.candidates.specs.declared.candidate.Event.{Event}
+use Rattle.run_combinations.specs.Layouts.{AreAllRuns, chosen_events}
+use Rattle.run_combinations.specs.Events.{thread_events}
+use Rattle.run_combinations.specs.declared.combination.Event.{Event}
 
 -- a run as it is kept, and the run
 pub record Same (m : made.Run) (r : Run) : Type 0 where

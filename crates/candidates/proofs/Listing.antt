@@ -12,19 +12,19 @@ use Rattle.candidates.proofs.Executing.{executed_so, executions_found, orders_at
 use Rattle.candidates.proofs.Facts.{events_are}
 use Rattle.candidates.proofs.Kept.{AreOne, one_run_each, same_events}
 use Rattle.candidates.proofs.Needs.{needs_are}
-use Rattle.candidates.proofs.Filters.{IsFiltered-append}
+use Rattle.run_combinations.proofs.Filters.{IsFiltered-append}
 use Rattle.candidates.proofs.Products.{filter_of_product}
-use Rattle.candidates.proofs.Pruning.{no_ways}
+use Rattle.run_combinations.proofs.Pruning.{no_ways}
 use Rattle.candidates.proofs.ReadsFrom.{reads_found, acyclic_as}
-use Rattle.candidates.specs.declared.layout.ThreadParts.{ThreadParts}
-use Rattle.candidates.specs.Candidates.{AreSmall, AreCombinations, nothing_left, with_ways, without}
+use Rattle.run_combinations.specs.declared.layout.ThreadParts.{ThreadParts}
+use Rattle.run_combinations.specs.Candidates.{AreSmall, AreCombinations, nothing_left, with_ways, without}
 use Rattle.candidates.specs.Executions.{Execution, IsExecution, IsDependency, IsOrder, MayRead, product, maps, orders, over_runs, loads, locations_from, events}
-use Rattle.candidates.specs.Lists.{IsFiltered, none, left}
-use Rattle.candidates.specs.Events.{initial_stores, ReadsFrom, CannotRead}
-use Rattle.candidates.specs.Search.{PrefixLists, start}
-use Rattle.candidates.specs.Space.{CombinationLists, ordered}
-use Rattle.candidates.specs.Ways.{AreWays, accesses_in}
-use Rattle.candidates.specs.declared.candidate.Event.{Event}
+use Rattle.run_combinations.specs.Lists.{IsFiltered, none, left}
+use Rattle.run_combinations.specs.Events.{initial_stores, ReadsFrom, CannotRead}
+use Rattle.run_combinations.specs.Search.{PrefixLists, start}
+use Rattle.run_combinations.specs.Combinations.{CombinationLists, ordered}
+use Rattle.run_combinations.specs.Ways.{AreWays, accesses_in}
+use Rattle.run_combinations.specs.declared.combination.Event.{Event}
 
 -- a filter that keeps nothing keeps nothing of what is less
 none_of_less : {X : Type 0} (P Q : X → Type 0) → ((x : X) → Q x → P x) → (xs : List X) → IsFiltered P xs [] → IsFiltered Q xs []

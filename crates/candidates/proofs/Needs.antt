@@ -13,13 +13,13 @@ use Rattle.candidates.proofs.Elements.{behind_first, in_first}
 use Rattle.candidates.proofs.Facts.{need, facts}
 use Rattle.candidates.proofs.Kept.{AreOne, one_run_each}
 use Rattle.candidates.proofs.StepEvents.{Stands, events_stand}
-use Rattle.candidates.proofs.Numbers.{number_there}
-use Rattle.candidates.specs.Events.{thread_events, initial_stores, is_load, is_store, stores_to}
+use Rattle.run_combinations.proofs.Numbers.{number_there}
+use Rattle.run_combinations.specs.Events.{thread_events, initial_stores, is_load, is_store, stores_to}
 use Rattle.candidates.specs.Executions.{IsDependency, loads, stores, events, events_from}
-use Rattle.candidates.specs.Search.{PrefixLists, start}
-use Rattle.candidates.specs.Ways.{accesses_in}
-use Rattle.candidates.specs.declared.candidate.Event.{Event}
-use Rattle.candidates.specs.declared.layout.ThreadParts.{ThreadParts}
+use Rattle.run_combinations.specs.Search.{PrefixLists, start}
+use Rattle.run_combinations.specs.Ways.{accesses_in}
+use Rattle.run_combinations.specs.declared.combination.Event.{Event}
+use Rattle.run_combinations.specs.declared.layout.ThreadParts.{ThreadParts}
 
 -- an event of a run is one of the execution's
 run_is : {r s : Run} → Some r ≡ Some s → r ≡ s

@@ -5,15 +5,15 @@ use Rattle.std.proofs.lemmas.List.{map-append}
 use Rattle.bit_relations.specs.Pairs.{Union, Path, IsAcyclic}
 use Rattle.thread_runs.specs.declared.value.Value.{Value}
 use Rattle.thread_runs.specs.declared.value.Value.TheVariants.{Number, Address, NoValue}
-use Rattle.candidates.proofs.Pruning.{is_store_of}
+use Rattle.run_combinations.proofs.Pruning.{is_store_of}
 use Rattle.candidates.proofs.Products.{FilteredEach, filter_of_products, filter_twice, filter_as}
 use Rattle.candidates.specs.Executions.{MayRead, product, maps, loads, stores}
-use Rattle.candidates.specs.Lists.{tuples, IsFiltered, none, kept, left}
-use Rattle.candidates.specs.Events.{numbers, ReadsFrom, reads, writes, is_load, is_store}
-use Rattle.candidates.specs.Ways.{AreWays, IsWay, accesses_in, sources_of, may_read, same_value}
-use Rattle.candidates.specs.declared.candidate.Action.{Action}
-use Rattle.candidates.specs.declared.candidate.Action.TheVariants.{Read, Write, Fence}
-use Rattle.candidates.specs.declared.candidate.Event.{Event}
+use Rattle.run_combinations.specs.Lists.{tuples, IsFiltered, none, kept, left}
+use Rattle.run_combinations.specs.Events.{numbers, ReadsFrom, reads, writes, is_load, is_store}
+use Rattle.run_combinations.specs.Ways.{AreWays, IsWay, accesses_in, sources_of, may_read, same_value}
+use Rattle.run_combinations.specs.declared.combination.Action.{Action}
+use Rattle.run_combinations.specs.declared.combination.Action.TheVariants.{Read, Write, Fence}
+use Rattle.run_combinations.specs.declared.combination.Event.{Event}
 
 true_false : true ≡ false → ⊥
 true_false h = cc

@@ -19,11 +19,11 @@ use Rattle.candidates.proofs.Needs.{load_is}
 use Rattle.candidates.proofs.Places.{places_are_events}
 use Rattle.candidates.proofs.StepEvents.{in_run, place_few}
 use Rattle.candidates.proofs.Whole.{none_left_out}
-use Rattle.candidates.specs.Events.{initial_stores}
+use Rattle.run_combinations.specs.Events.{initial_stores}
 use Rattle.dataflow.specs.DependencyLists.{renumbered_pairs}
-use Rattle.candidates.specs.Search.{PrefixLists, with_run, start}
-use Rattle.candidates.specs.declared.layout.ThreadParts.{ThreadParts}
-use Rattle.candidates.specs.declared.part.Part.{Part}
+use Rattle.run_combinations.specs.Search.{PrefixLists, with_run, start}
+use Rattle.run_combinations.specs.declared.layout.ThreadParts.{ThreadParts}
+use Rattle.run_combinations.specs.declared.part.Part.{Part}
 
 -- a list in rising order, all of whose pairs begin below a number
 pub record Rises (ps : List (ℕ × ℕ)) (least most : ℕ) : Type 0 where

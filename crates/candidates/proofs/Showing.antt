@@ -9,29 +9,30 @@ use Rattle.thread_runs.specs.declared.run.Run as made
 use Rattle.thread_runs.specs.Runs.{Thread, Run}
 use Rattle.thread_runs.specs.AllRuns.{Shown}
 use Rattle.candidates.proofs.Choosing.{GoesOnWith}
-use Rattle.candidates.proofs.Counting.{some_order}
+use Rattle.run_combinations.proofs.Counting.{some_order}
 use Rattle.candidates.proofs.Elements.{member_cases, member_later, member_first, no_member, mapped, mapped_there, joined, joined_there}
 use Rattle.candidates.proofs.Executing.{executed_so, orders_at, others_at, apart}
 use Rattle.candidates.proofs.Facts as dependencies
-use Rattle.candidates.proofs.Filters.{IsFiltered-unique}
+use Rattle.run_combinations.proofs.Filters.{IsFiltered-unique}
 use Rattle.candidates.proofs.Flat.{flat, orders_flat}
 use Rattle.candidates.proofs.Kept.{AreOne, zip_both}
 use Rattle.candidates.proofs.Listing.{IsListed, AreListed, no_more, one_more, not_one}
-use Rattle.candidates.specs.Candidates.{HasFault as HasFaultAmong}
-use Rattle.candidates.specs.Events.{initial_stores, has_store}
+use Rattle.run_combinations.specs.Candidates.{HasFault as HasFaultAmong}
+use Rattle.run_combinations.specs.Events.{initial_stores, has_store}
 use Rattle.candidates.specs.Executions.{Execution, HasFault, IsDependency, product, events}
-use Rattle.candidates.specs.Lists.{lists_of, tuples}
+use Rattle.run_combinations.specs.Lists.{lists_of, tuples}
 use Rattle.candidates.specs.Listed.{Shows, ArePairs}
 use Rattle.candidates.proofs.RisingPairs.{pairs_rise}
 use Rattle.dataflow.specs.Chains.{IsPairBefore}
-use Rattle.candidates.specs.Orders.{all_orders, stores_of, AreApart}
-use Rattle.candidates.specs.Search.{PrefixLists, with_run, start}
-use Rattle.candidates.specs.Space.{CombinationLists, combination_lists, ordered, pairs, candidates_of, candidates_in, end_at, registers_at, shown_of}
-use Rattle.candidates.specs.Ways.{IsWay, accesses_in}
-use Rattle.candidates.specs.declared.candidate.Combination.{Combination}
-use Rattle.candidates.specs.declared.candidate.Event.{Event}
-use Rattle.candidates.specs.declared.layout.ThreadParts.{ThreadParts}
-use Rattle.candidates.specs.declared.part.Part.{Part}
+use Rattle.run_combinations.specs.Orders.{all_orders, stores_of, AreApart}
+use Rattle.run_combinations.specs.Search.{PrefixLists, with_run, start}
+use Rattle.run_combinations.specs.Combinations.{CombinationLists, combination_lists, ordered, pairs, candidates_of}
+use Rattle.candidates.specs.Space.{candidates_in, end_at, registers_at, shown_of}
+use Rattle.run_combinations.specs.Ways.{IsWay, accesses_in}
+use Rattle.run_combinations.specs.declared.combination.Combination.{Combination}
+use Rattle.run_combinations.specs.declared.combination.Event.{Event}
+use Rattle.run_combinations.specs.declared.layout.ThreadParts.{ThreadParts}
+use Rattle.run_combinations.specs.declared.part.Part.{Part}
 
 -- what the registers of each thread hold at the end of its run
 abbrev pub final : Run → List Value

@@ -20,16 +20,17 @@ use Rattle.thread_runs.specs.Machine.{is_load, is_fault, goes, event_of}
 use Rattle.thread_runs.specs.Runs.{Walk, Outcome, Thread, Run, started, advanced, passed, ends, supplied, obeyed, one, run_from}
 use Rattle.thread_runs.specs.AllRuns.{Shown, shown, shown_of, ShowsRuns, lines_at, thread_of}
 use Rattle.ppc_semantics.specs.Domain.{makes_event, has_event, IsDomain}
-use Rattle.candidates.specs.Events.{action_in, with_action, thread_events, initial_stores}
-use Rattle.candidates.specs.Layouts.{AreAllRuns, ArePartsOf, AreThreadsOf, IsLaidOut}
-use Rattle.candidates.specs.Search.{PrefixLists, with_run, combinations, start, all_combinations}
-use Rattle.candidates.specs.Candidates.{AreSmall, HasLayout}
-use Rattle.candidates.specs.declared.candidate.Action.{Action}
-use Rattle.candidates.specs.declared.candidate.Event.{Event}
-use Rattle.candidates.specs.declared.layout.Layout.{Layout}
-use Rattle.candidates.specs.declared.layout.ThreadParts.{ThreadParts}
-use Rattle.candidates.specs.declared.part.Part.{Part}
-use Rattle.candidates.proofs.Searching.{going_on}
+use Rattle.run_combinations.specs.Events.{action_in, with_action, thread_events, initial_stores}
+use Rattle.run_combinations.specs.Layouts.{AreAllRuns, ArePartsOf, AreThreadsOf, IsLaidOut}
+use Rattle.run_combinations.specs.Search.{PrefixLists, with_run, combinations, start, all_combinations}
+use Rattle.run_combinations.specs.Candidates.{AreSmall}
+use Rattle.candidates.specs.TestSpaces.{HasLayout}
+use Rattle.run_combinations.specs.declared.combination.Action.{Action}
+use Rattle.run_combinations.specs.declared.combination.Event.{Event}
+use Rattle.run_combinations.specs.declared.layout.Layout.{Layout}
+use Rattle.run_combinations.specs.declared.layout.ThreadParts.{ThreadParts}
+use Rattle.run_combinations.specs.declared.part.Part.{Part}
+use Rattle.run_combinations.proofs.Searching.{going_on}
 
 -- a run has at most one event for each line that may make one
 event_few : (i : Instruction) (v : Value) (s : State) → length (event_of i v s) ≤ cond (makes_event i) 1 0

@@ -19,9 +19,9 @@ use Rattle.candidates.proofs.Elements.{behind_first, in_first}
 use Rattle.candidates.proofs.Places.{along, Placed, placed_more, places_same}
 use Rattle.candidates.proofs.Whole.{AreLocated, located_both, event_located, located_all}
 use Rattle.litmus_values.specs.declared.instruction.Fence.{Fence}
-use Rattle.candidates.specs.Events.{thread_events, with_action, action_in, stores_to, fence_of, IsKind}
-use Rattle.candidates.specs.declared.candidate.Action.TheVariants.{Fence as FenceAction}
-use Rattle.candidates.specs.declared.candidate.Event.{Event}
+use Rattle.run_combinations.specs.Events.{thread_events, with_action, action_in, stores_to, fence_of, IsKind}
+use Rattle.run_combinations.specs.declared.combination.Action.TheVariants.{Fence as FenceAction}
+use Rattle.run_combinations.specs.declared.combination.Event.{Event}
 
 -- the events of an instruction that is one
 pub record Alone (t : ℕ) (i : Instruction) (es : List run.Event) : Type 0 where

@@ -21,9 +21,10 @@ use Rattle.candidates.specs.declared.fault.SpaceFault.{SpaceFault}
 use Rattle.candidates.specs.declared.fault.SpaceFault.TheVariants.{Refused, OutOfMemory}
 use Rattle.candidates.proofs.Deciding.{combined}
 use Rattle.candidates.proofs.Showing.{AreShown, all_shown, fault_among, faulted_execution}
-use Rattle.candidates.specs.Candidates.{AreTooMany, AreFaulted, IsRefusedAs, IsTestRefusal, AreCombinations, AreCandidates, HasLayout, IsTestSpace, candidate_total}
+use Rattle.run_combinations.specs.Candidates.{AreTooMany, AreFaulted, AreCombinations, AreCandidates, candidate_total}
+use Rattle.candidates.specs.TestSpaces.{IsRefusedAs, IsTestRefusal, HasLayout, IsTestSpace}
 use Rattle.candidates.specs.Executions.{Execution, HasFault, product, events}
-use Rattle.candidates.specs.Layouts.{IsLaidOut}
+use Rattle.run_combinations.specs.Layouts.{IsLaidOut}
 use Rattle.candidates.specs.Listed.{AreTestExecutions, Shows, ListsExecutions, HasManyExecutions, HasFaultedExecution, IsRefusal, IsRefusedFor}
 use Rattle.candidates.specs.Faults.{refusal_of}
 use Rattle.candidates.specs.declared.fault.EvalRefusal.{EvalRefusal}
@@ -32,14 +33,15 @@ use Rattle.source_text.specs.declared.name.Name.{Name}
 use Rattle.ppc_semantics.specs.declared.fault.DomainRefusal.{DomainRefusal}
 use Rattle.ppc_semantics.specs.declared.fault.DomainRefusal.TheVariants as no_domain
 use Rattle.ppc_semantics.specs.declared.fault.DomainFault.TheVariants as domain_faults
-use Rattle.candidates.specs.Orders.{all_orders}
-use Rattle.candidates.specs.Events.{initial_stores}
-use Rattle.candidates.specs.Search.{PrefixLists, start, all_combinations, location_count}
-use Rattle.candidates.specs.Space.{CombinationLists, combination_lists, Candidate, candidates_in, shown_of}
+use Rattle.run_combinations.specs.Orders.{all_orders}
+use Rattle.run_combinations.specs.Events.{initial_stores}
+use Rattle.run_combinations.specs.Search.{PrefixLists, start, all_combinations, location_count}
+use Rattle.run_combinations.specs.Combinations.{CombinationLists, combination_lists}
+use Rattle.candidates.specs.Space.{Candidate, candidates_in, shown_of}
 use Rattle.candidates.specs.declared.candidate.Space.{Space}
-use Rattle.candidates.specs.declared.candidate.Event.{Event}
-use Rattle.candidates.specs.declared.layout.Layout.{Layout}
-use Rattle.candidates.specs.declared.layout.ThreadParts.{ThreadParts}
+use Rattle.run_combinations.specs.declared.combination.Event.{Event}
+use Rattle.run_combinations.specs.declared.layout.Layout.{Layout}
+use Rattle.run_combinations.specs.declared.layout.ThreadParts.{ThreadParts}
 
 -- the executions of a test, and the combinations that list them
 pub record Told (t : Test) (l : Layout) (cs : List CombinationLists) (h : HasLayout t l) : Type 0 where

@@ -1,8 +1,8 @@
 -- What a search through all combinations has found.
 use Rattle.std.proofs.Common.{Vec, Result, Ok, Err, IfOk, ℕ, zero, suc, ◌≡◌, ◌<◌, ◌≤◌, ◌+◌, ◌*◌, ◌⊎◌, ◌||◌, ◌&&◌, cond, min, Bool, true, false, List, [], ◌∷◌, ◌++◌, map, take, length, Option, Some, None, MatchOption, is_some, append_assoc, if◌then◌else◌, inl, inr, arith, refl, sym, ap, subst, ◌∙◌}
 use Rattle.thread_runs.specs.declared.value.Value.{Value}
-use Rattle.candidates.specs.Events.{numbers, has_store, writes_to, initial_stores}
-use Rattle.candidates.specs.Orders.{all_orders, stores_of, is_thread_store}
+use Rattle.run_combinations.specs.Events.{numbers, has_store, writes_to, initial_stores}
+use Rattle.run_combinations.specs.Orders.{all_orders, stores_of, is_thread_store}
 use Rattle.std.specs.declared.alloc.AllocError.{AllocError}
 use Rattle.std.specs.declared.alloc.Global.{Global}
 use Rattle.litmus_values.specs.declared.test.Test.{Test}
@@ -13,26 +13,27 @@ use Rattle.thread_runs.specs.declared.instruction.Program.{Program}
 use Rattle.thread_runs.specs.declared.run.Run.{Run}
 use Rattle.ppc_semantics.specs.Domain.{IsDomain, IsFault}
 use Rattle.ppc_semantics.specs.Lowering.{IsProgram}
-use Rattle.candidates.specs.Keys.{IsKeyed, bit_of}
-use Rattle.candidates.specs.Layouts.{AreAllRuns, IsLaidOut}
+use Rattle.run_combinations.specs.Keys.{IsKeyed, bit_of}
+use Rattle.run_combinations.specs.Layouts.{AreAllRuns, IsLaidOut}
 use Rattle.candidates.specs.declared.candidate.Space.{Space}
-use Rattle.candidates.specs.Ways.{AreWays, IsWay, accesses_in}
-use Rattle.candidates.specs.Lists.{tuples}
-use Rattle.candidates.specs.Search.{PrefixLists, Tally, Fits, AllFit, tally_with, with_run, combinations, Searched, none, more, AreTooMuch, now, later, nothing, tally, start, all_combinations, location_count}
-use Rattle.candidates.specs.Space.{CombinationLists, combination_lists, ordered}
-use Rattle.candidates.specs.Candidates.{AreCombinations, nothing_left, with_ways, without, candidate_total, HasFault, AreCandidates, AreTooMany, AreFaulted, AreSmall, IsAnswer, IsReady, IsLayoutFault, IsTestSpace, IsTestRefusal}
+use Rattle.run_combinations.specs.Ways.{AreWays, IsWay, accesses_in}
+use Rattle.run_combinations.specs.Lists.{tuples}
+use Rattle.run_combinations.specs.Search.{PrefixLists, Tally, Fits, AllFit, tally_with, with_run, combinations, Searched, none, more, AreTooMuch, now, later, nothing, tally, start, all_combinations, location_count}
+use Rattle.run_combinations.specs.Combinations.{CombinationLists, combination_lists, ordered}
+use Rattle.run_combinations.specs.Candidates.{AreCombinations, nothing_left, with_ways, without, candidate_total, HasFault, AreCandidates, AreTooMany, AreFaulted, AreSmall}
+use Rattle.candidates.specs.TestSpaces.{IsAnswer, IsReady, IsLayoutFault, IsTestSpace, IsTestRefusal}
 use Rattle.candidates.specs.Faults.{fault_of}
 use Rattle.ppc_semantics.specs.declared.fault.DomainFault.{DomainFault}
 use Rattle.ppc_semantics.specs.declared.fault.DomainFault.TheVariants as domain_faults
-use Rattle.candidates.specs.declared.candidate.Combination.{Combination}
-use Rattle.candidates.specs.declared.candidate.Event.{Event}
-use Rattle.candidates.specs.declared.layout.Layout.{Layout}
-use Rattle.candidates.specs.declared.layout.ThreadParts.{ThreadParts}
-use Rattle.candidates.specs.declared.part.Part.{Part}
-use Rattle.candidates.specs.declared.search.Found.{Found}
-use Rattle.candidates.proofs.Counting.{or_parts, numbers_above}
-use Rattle.candidates.proofs.Filters.{IsFiltered-unique}
-use Rattle.candidates.proofs.Searching.{going_on, small_front, small_rest}
+use Rattle.run_combinations.specs.declared.combination.Combination.{Combination}
+use Rattle.run_combinations.specs.declared.combination.Event.{Event}
+use Rattle.run_combinations.specs.declared.layout.Layout.{Layout}
+use Rattle.run_combinations.specs.declared.layout.ThreadParts.{ThreadParts}
+use Rattle.run_combinations.specs.declared.part.Part.{Part}
+use Rattle.run_combinations.specs.declared.search.Found.{Found}
+use Rattle.run_combinations.proofs.Counting.{or_parts, numbers_above}
+use Rattle.run_combinations.proofs.Filters.{IsFiltered-unique}
+use Rattle.run_combinations.proofs.Searching.{going_on, small_front, small_rest}
 use Rattle.candidates.proofs.Small.{layout_small}
 
 -- what was found of combinations, one after another

@@ -12,9 +12,9 @@ use Rattle.thread_runs.specs.declared.instruction.Line.TheVariants.{Label, Does}
 use Rattle.thread_runs.specs.declared.state.State.{State}
 use Rattle.thread_runs.specs.Machine.{register, sum_of, is_load, is_fault, is_address, goes, event_of}
 use Rattle.thread_runs.specs.Runs.{Walk, Outcome, started, advanced, passed, ends, supplied, obeyed, one, run_from, run_of}
-use Rattle.candidates.specs.Events.{action_in, with_action, thread_events}
-use Rattle.candidates.specs.declared.candidate.Action.{Action}
-use Rattle.candidates.specs.declared.candidate.Action.TheVariants.{Read, Write, Fence}
+use Rattle.run_combinations.specs.Events.{action_in, with_action, thread_events}
+use Rattle.run_combinations.specs.declared.combination.Action.{Action}
+use Rattle.run_combinations.specs.declared.combination.Action.TheVariants.{Read, Write, Fence}
 
 -- each event is a fence or is at a location
 abbrev pub AreLocated : List run.Event → Type 0

@@ -7,11 +7,11 @@ use Rattle.bit_relations.specs.Pairs.{Union, IsAcyclic}
 use Rattle.thread_runs.specs.declared.value.Value.{Value}
 use Rattle.thread_runs.specs.Runs.{Thread, Run, IsRun, AreRuns, executed}
 use Rattle.dataflow.specs.Chains.{Executed, IsNeed, event_place}
-use Rattle.candidates.specs.Lists.{IsFiltered}
-use Rattle.candidates.specs.Events.{numbers, writes_to, AreDistinct, thread_events, initial_stores, is_load, is_store, ReadsFrom}
-use Rattle.candidates.specs.declared.candidate.Action.{Action}
-use Rattle.candidates.specs.declared.candidate.Action.TheVariants.{Read, Write}
-use Rattle.candidates.specs.declared.candidate.Event.{Event}
+use Rattle.run_combinations.specs.Lists.{IsFiltered}
+use Rattle.run_combinations.specs.Events.{numbers, writes_to, AreDistinct, thread_events, initial_stores, is_load, is_store, ReadsFrom}
+use Rattle.run_combinations.specs.declared.combination.Action.{Action}
+use Rattle.run_combinations.specs.declared.combination.Action.TheVariants.{Read, Write}
+use Rattle.run_combinations.specs.declared.combination.Event.{Event}
 
 -- An execution: a run of each thread; reads-from, which gives for each load, in the order of the events, the store that it
 -- reads; and coherence, which gives for each location its stores from the first to the last. A store goes by its number

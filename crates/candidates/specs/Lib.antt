@@ -1,15 +1,7 @@
-pub mod Candidates
-pub mod Events
 pub mod Executions
 pub mod Faults
-pub mod Keys
-pub mod Layouts
+pub mod Laws
 pub mod Listed
-pub mod Lists
-pub mod Orders
-pub mod Parts
-pub mod Rounds
 pub mod Same
-pub mod Search
 pub mod Space
-pub mod Ways
+pub mod TestSpaces

@@ -16,8 +16,8 @@ use Rattle.candidates.specs.declared.fault.SpaceFault.TheVariants.{Refused, OutO
 use Rattle.dataflow.specs.Chains.{Executed, IsAddr, IsData, IsCtrl, IsCtrlIsync, IsNeed, IsPairBefore}
 use Rattle.thread_runs.specs.Runs.{Thread, Run, IsRun}
 use Rattle.candidates.specs.Executions.{Execution, IsExecution, AreExecutions, HasFault, IsDependency, IsOrder, MayRead, events, loads, maps, orders, locations_from, over_runs}
-use Rattle.candidates.specs.Lists.{IsFiltered}
-use Rattle.candidates.specs.Events.{ReadsFrom}
+use Rattle.run_combinations.specs.Lists.{IsFiltered}
+use Rattle.run_combinations.specs.Events.{ReadsFrom}
 use Rattle.bit_relations.specs.Pairs.{Union, IsAcyclic}
 use Rattle.candidates.specs.Space.{Shown, shown_in}
 use Rattle.candidates.specs.declared.candidate.Space.{Space}

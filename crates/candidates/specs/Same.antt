@@ -2,9 +2,10 @@
 use Rattle.std.specs.Prelude.{Vec, ℕ, zero, suc, ◌≡◌, List, [], ◌∷◌, ◌++◌, Option, MatchOption, cond, drop, length, map, nat_lt}
 use Rattle.std.specs.declared.alloc.Global.{Global}
 use Rattle.thread_runs.specs.declared.value.Value.{Value}
-use Rattle.candidates.specs.Lists.{lists_of}
-use Rattle.candidates.specs.Space.{pairs, candidates_in, Candidate, Shown, shown_of}
-use Rattle.candidates.specs.declared.candidate.Combination.{Combination}
+use Rattle.run_combinations.specs.Lists.{lists_of}
+use Rattle.run_combinations.specs.Combinations.{pairs}
+use Rattle.candidates.specs.Space.{candidates_in, Candidate, Shown, shown_of}
+use Rattle.run_combinations.specs.declared.combination.Combination.{Combination}
 use Rattle.candidates.specs.declared.same.Candidates.{Candidates}
 use Rattle.candidates.specs.declared.same.Chosen.{Chosen}
 

@@ -5,20 +5,11 @@ use Rattle.std.specs.declared.alloc.Global.{Global}
 use Rattle.thread_runs.specs.declared.value.Value.{Value}
 use Rattle.thread_runs.specs.declared.value.Value.TheVariants.{NoValue}
 use Rattle.dataflow.specs.DependencyLists.{DependencyLists, dependency_lists}
-use Rattle.candidates.specs.Lists.{lists_of}
-use Rattle.candidates.specs.Orders.{all_orders}
-use Rattle.candidates.specs.declared.candidate.Event.{Event}
-use Rattle.candidates.specs.declared.candidate.Combination.{Combination}
-use Rattle.candidates.specs.declared.candidate.Execution.{Execution}
+use Rattle.run_combinations.specs.Combinations.{candidates_of}
+use Rattle.run_combinations.specs.declared.combination.Event.{Event}
+use Rattle.run_combinations.specs.declared.combination.Combination.{Combination}
+use Rattle.candidates.specs.declared.execution.Execution.{Execution}
 use Rattle.candidates.specs.declared.candidate.Space.{Space}
-
--- each of the first list with each of the second, the first one slowest
-abbrev pub pairs : {X Y : Type 0} → List X → List Y → List (X × Y)
-pairs xs ys = flat_map (λ x. map (λ y. (x, y)) ys) xs
-
--- the candidates of a combination: each way to read with each order of the stores
-unfoldable pub candidates_of : Combination → List (List ℕ × List ℕ)
-candidates_of c = pairs (lists_of c.sources.items) (lists_of c.orders.items)
 
 -- one candidate: a combination of runs, the store that each load reads, and the order of the stores
 abbrev pub Candidate : Type 0
@@ -34,27 +25,6 @@ end_at ends run = slice_index_or ends run (replicate 32 NoValue)
 
 abbrev pub registers_at : List (Vec (List Value) Global) → List ℕ → List (List Value)
 registers_at threads runs = map (λ p. end_at p.0.items p.1) (zip threads runs)
-
--- a combination as plain data
-pub record CombinationLists : Type 0 where
-  pub events : List Event
-  pub dependencies : DependencyLists
-  pub runs : List ℕ
-  pub sources : List (List ℕ)
-  pub orders : List (List ℕ)
-
-abbrev pub combination_lists : Combination → CombinationLists
-combination_lists c = record {
-  events = c.events.items;
-  dependencies = dependency_lists c.dependencies;
-  runs = c.runs.items;
-  sources = lists_of c.sources.items;
-  orders = lists_of c.orders.items;
-}
-
--- the combination with the orders of its stores, of the first locations
-abbrev pub ordered : ℕ → CombinationLists → CombinationLists
-ordered n s = record s { orders = all_orders s.events n }
 
 -- the execution is this candidate of the combination, where each thread has runs with these registers at their ends
 pub record IsExecution (threads : List (Vec (List Value) Global)) (c : Combination) (t : List ℕ × List ℕ) (e : Execution) : Type 0 where

@@ -2,42 +2,36 @@
 //! the order of each location's stores (Alglave, Maranget and Tautschnig, Herding Cats, TOPLAS
 //! 36(2), 2014).
 //!
-//! Read `specs/Executions` first, what an execution is, and then `specs/Listed`, what `space` says.
-//! The laws of these stand in `execution_laws`.
+//! Read `specs/Executions` first, what an execution is, then `specs/Listed`, what `space` says, and
+//! `specs/Laws`, the laws of these (`laws`). The search stands in `run_combinations`.
 #![tactic(auto)]
 
 ghost use Rattle.std.specs.Prelude.{ℕ, ◌≡◌, List, Option, map, IfOk, IfErr};
 ghost use Rattle.thread_runs.specs.declared.value.Value.{Value};
-ghost use Rattle.candidates.specs.Keys.{IsKeyed};
+ghost use Rattle.run_combinations.specs.Keys.{IsKeyed};
 ghost use Rattle.candidates.specs.Listed.{ListsExecutions, IsRefusedFor};
-ghost use Rattle.candidates.specs.Events.{initial_stores};
-ghost use Rattle.candidates.specs.Search.{all_combinations, location_count};
-ghost use Rattle.candidates.specs.Space.{combination_lists, ordered};
-ghost use Rattle.candidates.specs.Candidates.{AreSmall, HasEnds, IsAnswer, IsLayoutFault, IsReady};
+ghost use Rattle.run_combinations.specs.Events.{initial_stores};
+ghost use Rattle.run_combinations.specs.Search.{all_combinations, location_count};
+ghost use Rattle.run_combinations.specs.Combinations.{combination_lists, ordered};
+ghost use Rattle.run_combinations.specs.Candidates.{AreSmall};
+ghost use Rattle.candidates.specs.TestSpaces.{HasEnds, IsAnswer, IsLayoutFault, IsReady};
 
 mod candidate;
 mod ends;
+mod execution;
 mod fault;
-mod keys;
-mod layout;
-mod orders;
-mod part;
-mod reading;
+pub mod laws;
 mod same;
-mod search;
 
-pub use candidate::{Action, Combination, Event, Execution, Space};
+pub use candidate::Space;
 pub use dataflow::Dependencies;
+pub use execution::Execution;
 pub use fault::{EvalRefusal, SpaceFault};
-use layout::{Layout, registers};
 use litmus_values::Test;
-use orders::with_orders;
 use ppc_semantics::{domain_of, program};
-use search::search;
+pub use run_combinations::{Action, Combination, Event, MAX_CANDIDATES};
+use run_combinations::{Layout, find_combinations, registers, with_orders};
 use std::alloc::{AllocError, Global};
-
-/// The greatest number of candidates that a test may have.
-pub const MAX_CANDIDATES: usize = 16_384;
 
 /// The space with these combinations.
 fn space_with(
@@ -61,7 +55,7 @@ fn space_of(alloc: Global, layout: Layout) -> Result<Result<Space, EvalRefusal>,
     requires { AreSmall (all_combinations layout) }
     ensures { (key : ℕ → Value → Option (ℕ × ℕ)) (initial : List Value) → IsKeyed key layout → layout.initial.items ≡ initial_stores 0 initial → IfOk result (λ r. IsAnswer layout r) }
 {
-    match search(alloc, &layout)? {
+    match find_combinations(alloc, &layout)? {
         None => Ok(Err(EvalRefusal::TooManyCandidates)),
         Some(found) => {
             if found.is_faulted {

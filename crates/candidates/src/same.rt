@@ -4,10 +4,10 @@ ghost use Rattle.std.specs.Prelude.{◌≡◌, ◌↔◌, IsTrue};
 ghost use Rattle.candidates.specs.Space.{registers_at, shown_of, candidates_in};
 ghost use Rattle.candidates.specs.Same.{left_in, chosen, shown_left, IsNext};
 
-use crate::candidate::{Action, Combination, Event};
 use crate::ends::registers_of;
-use crate::reading::is_same;
+use crate::{Action, Combination, Event};
 use ppc_semantics::Value;
+use run_combinations::is_same;
 use source_text::Name;
 
 /// The candidates of combinations from one on.

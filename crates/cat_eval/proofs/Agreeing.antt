@@ -93,10 +93,10 @@ module _ (P : Source → Type 0) where
       let one = relation_parts e (steps.TurnRelation ∷ rest) h in
       (one.0, one.1.1)
 
-  module _ (input : (place : ℕ) → P (sources.Input place)) (own : (position : ℕ) → P (sources.Own position)) where
+  module _ (input : (index : ℕ) → P (sources.Input index)) (own : (position : ℕ) → P (sources.Own position)) where
     of_source : (source : Source) → ((name : Predefined) → Contains (source_names source) name → P (sources.Predefined name)) → P source
     of_source (sources.Predefined name) named = named name (0, omega arith, refl)
-    of_source (sources.Input place) named = input place
+    of_source (sources.Input index) named = input index
     of_source (sources.Own position) named = own position
 
     of_step : (x : Step) → ((name : Predefined) → Contains (step_names x) name → P (sources.Predefined name)) → OfStep x
@@ -156,7 +156,7 @@ passes_in test (x ∷ xs) name inside passes = elim (Contains-append_cases (step
     source : (s : Source) → Contains (source_names s) name → IsTrue (source_passes test s)
     source (sources.Predefined n) (zero, lt, is) = rw is passes
     source (sources.Predefined n) (suc k, lt, is) = absurd (omega (arith, lt))
-    source (sources.Input place) h = absurd (omega (arith, h.1))
+    source (sources.Input index) h = absurd (omega (arith, h.1))
     source (sources.Own position) h = absurd (omega (arith, h.1))
 
     step : (x : Step) → Contains (step_names x) name → IsTrue (step_passes test x)

@@ -7,9 +7,7 @@ use Rattle.std.proofs.lemmas.Bool.{cases_eq}
 use Rattle.std.proofs.lemmas.List.{get_or_read}
 use Rattle.binding_graph.specs.declared.resolved.Body.{Body}
 use Rattle.cat_eval.specs.Uses.{ShareBit, IsAmong, UsesAny, UsesAt}
-
-zero_or_one : (n : ℕ) → n ≡ 0 → n ≡ 1 → ⊥
-zero_or_one n p q = omega arith
+use Rattle.bit_relations.proofs.Bits.{zero_or_one}
 
 pub among_none : (k : ℕ) → IsAmong 0 k → ⊥
 unfolding IsAmong

@@ -20,7 +20,7 @@ use Rattle.cat_eval.specs.declared.column.Column.{Column}
 use Rattle.cat_eval.specs.declared.column.Column.TheVariants as columns
 use Rattle.cat_eval.specs.Candidates.{name_count}
 use Rattle.cat_eval.specs.Columns.{HasValue, ColumnsOf, HasOwn}
-use Rattle.cat_eval.specs.Held.{HaveHeldValues, AreHeldColumns, IsHeldMeaning}
+use Rattle.cat_eval.specs.OverNames.{HaveValuesOver, AreColumnsOver, IsMeaningOver}
 use Rattle.cat_eval.specs.Least.{IsLeast, AreMonotone}
 use Rattle.cat_eval.specs.Meaning.{MeansSet, Means}
 use Rattle.cat_eval.specs.Named.{EventsIn, PairsOutside, WithOwn, Of}
@@ -54,7 +54,7 @@ pub meant_is : (inputs : List (Bor Column)) (base : Known) (k : ℕ) (steps : Li
     → ((t : SetTree) → steps ≡ set_code t [] → (v : Events) × (us ≡ v ∷ []) × IsEvents v base.count (MeansSet base.count (EventsIn base inputs k) t))
     → ((t : RelTree) → steps ≡ rel_code t [] → (v : Relation) × (vs ≡ v ∷ []) × IsRelation v base.count (Means base.count (EventsIn base inputs k) (WithOwn (PairsOutside base inputs k) (Of base.count [])) t))
     → ((v : Events) (rest : List Events) → us ≡ v ∷ rest → s ≡ v) → ((v : Relation) (rest : List Relation) → vs ≡ v ∷ rest → r ≡ v)
-    → (kind : Kind) → IsHeldMeaning kind steps inputs base k s r
+    → (kind : Kind) → IsMeaningOver kind steps inputs base k s r
 meant_is inputs base k steps s r us vs sets rels set_is rel_is kinds.OfSet = λ t code.
     let made = sets t code in
     subst (λ (v : Events). IsEvents v base.count (MeansSet base.count (EventsIn base inputs k) t)) (sym (set_is made.0 [] made.1)) made.2
@@ -111,7 +111,7 @@ adds_new (columns.Relations xs) (columns.Sets ys) s r adds k at = absurd adds
 adds_new (columns.Relations xs) (columns.Relations ys) s r adds k at = rw (adds, at) (get_last xs r)
 
 module _ (bodies : List Body) (inputs : List (Bor Column)) (olds news : List Column) (added : (j : ℕ) → j < length bodies → (c : Column) → (s : Events) × (r : Relation) × Adds (get_or olds j c) (get_or news j c) s r) where
-  pub values_stay : (recursive : Bool) (base : Known) (k : ℕ) → HaveHeldValues recursive bodies inputs base k olds → HaveHeldValues recursive bodies inputs base k news
+  pub values_stay : (recursive : Bool) (base : Known) (k : ℕ) → HaveValuesOver recursive bodies inputs base k olds → HaveValuesOver recursive bodies inputs base k news
   values_stay false base k have = λ j lt c b.
       let (s, r, has, meant) = have j lt c b in
       let (t, q, adds) = added j lt c in
@@ -127,7 +127,7 @@ module _ (bodies : List Body) (inputs : List (Bor Column)) (olds news : List Col
       )
 
   -- one candidate more
-  pub columns_more : (recursive : Bool) (bases : List Known) (base : Known) → length news ≡ length olds → AreHeldColumns recursive bodies inputs bases olds → HaveHeldValues recursive bodies inputs base (length bases) news → AreHeldColumns recursive bodies inputs (bases ++ base ∷ []) news
+  pub columns_more : (recursive : Bool) (bases : List Known) (base : Known) → length news ≡ length olds → AreColumnsOver recursive bodies inputs bases olds → HaveValuesOver recursive bodies inputs base (length bases) news → AreColumnsOver recursive bodies inputs (bases ++ base ∷ []) news
   columns_more recursive bases base many before now = record {
     as_many = many ∙ before.as_many;
     suited = λ j lt b c.
@@ -145,7 +145,7 @@ module _ (bodies : List Body) (inputs : List (Bor Column)) (olds news : List Col
 -- before the first candidate
 pub columns_none : (recursive : Bool) (bodies : List Body) (inputs : List (Bor Column)) (cs : List Column) → length cs ≡ length bodies
     → ((j : ℕ) → j < length bodies → (b : Body) (c : Column) → IsFor (get_or bodies j b).code.kind (get_or cs j c) × (column_len (get_or cs j c) ≡ 0))
-    → AreHeldColumns recursive bodies inputs [] cs
+    → AreColumnsOver recursive bodies inputs [] cs
 columns_none recursive bodies inputs cs many fits = record {
   as_many = many;
   suited = λ j lt b c. (fits j lt b c).0;
@@ -168,18 +168,18 @@ least_of_none n m sets others outer further trees values none h = record {
     past : (x : ℕ) → x < length trees → ⊥
     past x lt = omega (arith, lt, none)
 
-module _ (bodies : List Body) (inputs : List (Bor Column)) (bases : List Known) (base : Known) (olds news : List Column) (k : ℕ) (many : length news ≡ length olds) (taken : 0 < length olds → (c : Column) → k ≡ column_len (get_or olds 0 c)) where
-  -- how many candidates were taken is the number of the next one
-  number : (recursive : Bool) → AreHeldColumns recursive bodies inputs bases olds → 0 < length bodies → k ≡ length bases
+module _ (bodies : List Body) (inputs : List (Bor Column)) (bases : List Known) (base : Known) (olds news : List Column) (k : ℕ) (many : length news ≡ length olds) (count_is : 0 < length olds → (c : Column) → k ≡ column_len (get_or olds 0 c)) where
+  -- how many candidates came is the number of the next one
+  number : (recursive : Bool) → AreColumnsOver recursive bodies inputs bases olds → 0 < length bodies → k ≡ length bases
   number recursive before lt =
       let some : 0 < length olds = rw before.as_many lt in
       let c = one_of olds 0 some in
-      taken some c ∙ before.long 0 lt c
+      count_is some c ∙ before.long 0 lt c
 
   -- each body was evaluated once
-  pub evaluated_more : (recursive : Bool) → recursive ≡ false → AreHeldColumns recursive bodies inputs bases olds
-      → ((j : ℕ) → j < length bodies → j < length olds → (c : Column) (b : Body) → (s : Events) × (r : Relation) × Adds (get_or olds j c) (get_or news j c) s r × IsHeldMeaning (get_or bodies j b).code.kind (get_or bodies j b).code.steps.items inputs base k s r)
-      → AreHeldColumns recursive bodies inputs (bases ++ base ∷ []) news
+  pub evaluated_more : (recursive : Bool) → recursive ≡ false → AreColumnsOver recursive bodies inputs bases olds
+      → ((j : ℕ) → j < length bodies → j < length olds → (c : Column) (b : Body) → (s : Events) × (r : Relation) × Adds (get_or olds j c) (get_or news j c) s r × IsMeaningOver (get_or bodies j b).code.kind (get_or bodies j b).code.steps.items inputs base k s r)
+      → AreColumnsOver recursive bodies inputs (bases ++ base ∷ []) news
   evaluated_more true is before added = absurd cc
   evaluated_more false is before added = columns_more bodies inputs olds news each false bases base many before now
     where
@@ -191,21 +191,21 @@ module _ (bodies : List Body) (inputs : List (Bor Column)) (bases : List Known) 
           let (s, r, adds, meant) = added j lt (inside j lt) c (one_of bodies j lt) in
           (s, r, adds)
 
-      now : HaveHeldValues false bodies inputs base (length bases) news
+      now : HaveValuesOver false bodies inputs base (length bases) news
       now j lt c b =
           let (s, r, adds, meant) = added j lt (inside j lt) c b in
           let at : k ≡ length bases = number false before (omega (arith, lt)) in (
             s,
             r,
             adds_new (get_or olds j c) (get_or news j c) s r adds (length bases) (sym (before.long j lt c)),
-            subst (λ (n : ℕ). IsHeldMeaning (get_or bodies j b).code.kind (get_or bodies j b).code.steps.items inputs base n s r) at meant,
+            subst (λ (n : ℕ). IsMeaningOver (get_or bodies j b).code.kind (get_or bodies j b).code.steps.items inputs base n s r) at meant,
           )
 
   -- the equations were solved
-  pub solved_more : (recursive : Bool) (own values : List Relation) → recursive ≡ true → HasOwn recursive bodies own → AreHeldColumns recursive bodies inputs bases olds
+  pub solved_more : (recursive : Bool) (own values : List Relation) → recursive ≡ true → HasOwn recursive bodies own → AreColumnsOver recursive bodies inputs bases olds
       → ((j : ℕ) → j < length own → j < length olds → (c : Column) → (s : Events) × Adds (get_or olds j c) (get_or news j c) s (get_or values j no_slot))
       → (length own ≡ length bodies → (trees : List RelTree) → AreCodes trees bodies → AreMonotone trees → IsLeast base.count (EventsIn base inputs k) (PairsOutside base inputs k) trees values)
-      → AreHeldColumns recursive bodies inputs (bases ++ base ∷ []) news
+      → AreColumnsOver recursive bodies inputs (bases ++ base ∷ []) news
   solved_more false own values is held before added least = absurd cc
   solved_more true own values is held before added least = columns_more bodies inputs olds news each true bases base many before now
     where
@@ -225,7 +225,7 @@ module _ (bodies : List Body) (inputs : List (Bor Column)) (bases : List Known) 
             subst (λ (n : ℕ). IsLeast base.count (EventsIn base inputs n) (PairsOutside base inputs n) trees values) at h
       ]
 
-      now : HaveHeldValues true bodies inputs base (length bases) news
+      now : HaveValuesOver true bodies inputs base (length bases) news
       now trees codes fit = (
         values,
         here trees codes (least held trees codes fit),
@@ -235,11 +235,11 @@ module _ (bodies : List Body) (inputs : List (Bor Column)) (bases : List Known) 
       )
 
 -- the same group and inputs, by another name
-pub columns_moved : (p q : Bool) (b d : Bor (List Body)) (x y : Bor (List (Bor Column))) → p ≡ q → b ≡ d → x ≡ y → (bases : List Known) (cs : List Column) → AreHeldColumns p b.now x.now bases cs → AreHeldColumns q d.now y.now bases cs
+pub columns_moved : (p q : Bool) (b d : Bor (List Body)) (x y : Bor (List (Bor Column))) → p ≡ q → b ≡ d → x ≡ y → (bases : List Known) (cs : List Column) → AreColumnsOver p b.now x.now bases cs → AreColumnsOver q d.now y.now bases cs
 columns_moved p q b d x y e f g bases cs h =
-    subst (λ (r : Bool). AreHeldColumns r d.now y.now bases cs) e
-    (subst (λ (z : Bor (List Body)). AreHeldColumns p z.now y.now bases cs) f
-    (subst (λ (z : Bor (List (Bor Column))). AreHeldColumns p b.now z.now bases cs) g h))
+    subst (λ (r : Bool). AreColumnsOver r d.now y.now bases cs) e
+    (subst (λ (z : Bor (List Body)). AreColumnsOver p z.now y.now bases cs) f
+    (subst (λ (z : Bor (List (Bor Column))). AreColumnsOver p b.now z.now bases cs) g h))
 
 pub own_moved : (p q : Bool) (b d : Bor (List Body)) → p ≡ q → b ≡ d → (own : List Relation) → HasOwn p b.now own → HasOwn q d.now own
 own_moved p q b d e f own h = subst (λ (r : Bool). HasOwn r d.now own) e (subst (λ (z : Bor (List Body)). HasOwn p z.now own) f h)

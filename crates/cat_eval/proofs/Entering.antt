@@ -7,11 +7,12 @@ use Rattle.std.proofs.lemmas.List.{map-append, append-nil}
 use Rattle.std.proofs.lemmas.Grind.{flat_map-append}
 use Rattle.std.proofs.lemmas.List.Elements.{Contains-append_right}
 use Rattle.std.proofs.Math.Seq.{take-suc}
-use Rattle.candidates.specs.declared.candidate.Combination.{Combination}
+use Rattle.run_combinations.specs.declared.combination.Combination.{Combination}
 use Rattle.base_env.specs.Known.{Known, set_names}
 use Rattle.base_env.specs.Candidate.{Gives}
-use Rattle.candidates.specs.Lists.{lists_of}
-use Rattle.candidates.specs.Space.{pairs, candidates_of, candidates_in, Candidate}
+use Rattle.run_combinations.specs.Lists.{lists_of}
+use Rattle.run_combinations.specs.Combinations.{pairs, candidates_of}
+use Rattle.candidates.specs.Space.{candidates_in, Candidate}
 use Rattle.cat_eval.specs.Candidates.{reading_so, reading_in, of_combinations}
 use Rattle.cat_values.specs.declared.predefined.Predefined.{Predefined}
 use Rattle.cat_values.specs.PredefinedNames.{is_set}

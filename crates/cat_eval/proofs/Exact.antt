@@ -17,7 +17,7 @@ use Rattle.cat_eval.specs.declared.column.Column.{Column}
 use Rattle.candidates.specs.Space.{Candidate}
 use Rattle.cat_eval.specs.Columns.{HaveValues, AreColumns}
 use Rattle.cat_eval.specs.Executions.{events_of, EventsAt, PairsAt}
-use Rattle.cat_eval.specs.Held.{IsHeldAnswer, AreHeldAnswers, IsHeldMeaning, HaveHeldValues, AreHeldColumns}
+use Rattle.cat_eval.specs.OverNames.{IsAnswerOver, AreAnswersOver, IsMeaningOver, HaveValuesOver, AreColumnsOver}
 use Rattle.cat_eval.specs.Least.{body}
 use Rattle.cat_eval.specs.Meaning.{MeansSet, Means}
 use Rattle.cat_eval.specs.Named.{EventsIn, PairsOutside, WithOwn, Of}
@@ -30,7 +30,7 @@ use Rattle.cat_eval.proofs.Same.{Same, SameSet, changed, changed_set}
 use Rattle.cat_eval.proofs.Standing.{set_meant, relation_meant}
 use Rattle.cat_eval.proofs.Visits.{get_within, holds_same, empty_same}
 
--- each candidate has its world, at the same place
+-- each candidate has its world, at the same index
 world_at : (names : List Predefined) (reads orders : Bool) (bases : List Known) (cs : List Candidate) → AreWorlds names reads orders bases cs → (k : ℕ) (one : Candidate) → slice_get cs k ≡ Some one → (base : Known) × (slice_get bases k ≡ Some base) × IsWorld names reads orders base one
 world_at names reads orders [] [] h k one at = absurd (omega (arith, get_within [] one k at))
 world_at names reads orders [] (c ∷ cs) h k one at = absurd h
@@ -56,7 +56,7 @@ module _ (names : List Predefined) (reads orders : Bool) (base : Known) (one : C
 
   of_code : (own : ℕ → ℕ → ℕ → Type 0) (xs : List Step) → ((name : Predefined) → Contains (names_in xs) name → Contains names name) → OfSteps (Agreed own) xs
   of_code own xs within =
-      of_steps (Agreed own) (λ place. ((λ a. ((λ x. x), (λ x. x))), (λ a b. ((λ x. x), (λ x. x))))) (λ position. ((λ a. ((λ x. x), (λ x. x))), (λ a b. ((λ x. x), (λ x. x))))) xs
+      of_steps (Agreed own) (λ index. ((λ a. ((λ x. x), (λ x. x))), (λ a b. ((λ x. x), (λ x. x))))) (λ position. ((λ a. ((λ x. x), (λ x. x))), (λ a b. ((λ x. x), (λ x. x))))) xs
       (λ name inside. named own name (within name inside))
 
   set_same : (t : SetTree) (xs : List Step) → ((name : Predefined) → Contains (names_in xs) name → Contains names name) → xs ≡ set_code t [] → SameSet (MeansSet base.count (EventsIn base inputs k) t) (MeansSet base.count (EventsAt base.count one inputs k) t)
@@ -70,21 +70,21 @@ module _ (names : List Predefined) (reads orders : Bool) (base : Known) (one : C
       relation_agrees base.count (EventsIn base inputs k) (EventsAt base.count one inputs k) (WithOwn (PairsOutside base inputs k) own) (WithOwn (PairsAt base.count one inputs k) own) t
       (relation_parts (Agreed own) t [] (subst (λ (ys : List Step). OfSteps (Agreed own) ys) code (of_code own xs within))).0
 
-  answer_counted : (check : CheckCode) → ((name : Predefined) → Contains (names_in check.code.steps.items) name → Contains names name) → (kind : Kind) (answer : Bool) → IsHeldAnswer check inputs base k kind answer → IsAnswer check base.count (EventsAt base.count one inputs k) (PairsAt base.count one inputs k) kind answer
+  answer_counted : (check : CheckCode) → ((name : Predefined) → Contains (names_in check.code.steps.items) name → Contains names name) → (kind : Kind) (answer : Bool) → IsAnswerOver check inputs base k kind answer → IsAnswer check base.count (EventsAt base.count one inputs k) (PairsAt base.count one inputs k) kind answer
   answer_counted check within kinds.OfSet answer h = λ t code. unless_same check.negated _ _ _ (empty_same _ _ (set_same t check.code.steps.items within code)) (h t code)
   answer_counted check within kinds.OfRelation answer h = λ t code. unless_same check.negated _ _ _ (holds_same check.word _ _ (relation_same (Of base.count []) t check.code.steps.items within code)) (h t code)
   answer_counted check within kinds.OfAny answer h = λ t code. unless_same check.negated _ _ _ (holds_same check.word _ _ (relation_same (Of base.count []) t check.code.steps.items within code)) (h t code)
 
-  pub answer_exact : (check : CheckCode) → ((name : Predefined) → Contains (names_in check.code.steps.items) name → Contains names name) → (kind : Kind) (answer : Bool) → IsHeldAnswer check inputs base k kind answer → IsAnswer check (events_of one) (EventsAt (events_of one) one inputs k) (PairsAt (events_of one) one inputs k) kind answer
+  pub answer_exact : (check : CheckCode) → ((name : Predefined) → Contains (names_in check.code.steps.items) name → Contains names name) → (kind : Kind) (answer : Bool) → IsAnswerOver check inputs base k kind answer → IsAnswer check (events_of one) (EventsAt (events_of one) one inputs k) (PairsAt (events_of one) one inputs k) kind answer
   answer_exact check within kind answer h =
       subst (λ (n : ℕ). IsAnswer check n (EventsAt n one inputs k) (PairsAt n one inputs k) kind answer) world.ready.entered.count (answer_counted check within kind answer h)
 
-  meaning_counted : (xs : List Step) → ((name : Predefined) → Contains (names_in xs) name → Contains names name) → (kind : Kind) (s : Events) (r : Relation) → IsHeldMeaning kind xs inputs base k s r → IsMeant kind xs base.count (EventsAt base.count one inputs k) (PairsAt base.count one inputs k) s r
+  meaning_counted : (xs : List Step) → ((name : Predefined) → Contains (names_in xs) name → Contains names name) → (kind : Kind) (s : Events) (r : Relation) → IsMeaningOver kind xs inputs base k s r → IsMeant kind xs base.count (EventsAt base.count one inputs k) (PairsAt base.count one inputs k) s r
   meaning_counted xs within kinds.OfSet s r h = λ t code. changed_set s base.count _ _ (set_same t xs within code) (h t code)
   meaning_counted xs within kinds.OfRelation s r h = λ t code. changed r base.count _ _ (relation_same (Of base.count []) t xs within code) (h t code)
   meaning_counted xs within kinds.OfAny s r h = λ t code. changed r base.count _ _ (relation_same (Of base.count []) t xs within code) (h t code)
 
-  values_counted : (recursive : Bool) (bodies : List Body) (cs : List Column) → ((name : Predefined) → Contains (bodies_names bodies) name → Contains names name) → HaveHeldValues recursive bodies inputs base k cs → HaveValues recursive bodies base.count (EventsAt base.count one inputs k) (PairsAt base.count one inputs k) k cs
+  values_counted : (recursive : Bool) (bodies : List Body) (cs : List Column) → ((name : Predefined) → Contains (bodies_names bodies) name → Contains names name) → HaveValuesOver recursive bodies inputs base k cs → HaveValues recursive bodies base.count (EventsAt base.count one inputs k) (PairsAt base.count one inputs k) k cs
   values_counted false bodies cs within h = λ j lt c b.
       let (s, r, has, meant) = h j lt c b in
       (s, r, has, meaning_counted (get_or bodies j b).code.steps.items (λ name inside. within name (body_named bodies j lt b name inside)) (get_or bodies j b).code.kind s r meant)
@@ -99,13 +99,13 @@ module _ (names : List Predefined) (reads orders : Bool) (base : Known) (one : C
         each,
       )
 
-  pub values_exact : (recursive : Bool) (bodies : List Body) (cs : List Column) → ((name : Predefined) → Contains (bodies_names bodies) name → Contains names name) → HaveHeldValues recursive bodies inputs base k cs → HaveValues recursive bodies (events_of one) (EventsAt (events_of one) one inputs k) (PairsAt (events_of one) one inputs k) k cs
+  pub values_exact : (recursive : Bool) (bodies : List Body) (cs : List Column) → ((name : Predefined) → Contains (bodies_names bodies) name → Contains names name) → HaveValuesOver recursive bodies inputs base k cs → HaveValues recursive bodies (events_of one) (EventsAt (events_of one) one inputs k) (PairsAt (events_of one) one inputs k) k cs
   values_exact recursive bodies cs within h =
       subst (λ (n : ℕ). HaveValues recursive bodies n (EventsAt n one inputs k) (PairsAt n one inputs k) k cs) world.ready.entered.count (values_counted recursive bodies cs within h)
 
 -- the answers of a check
 pub answers_exact : (check : CheckCode) (inputs : List (Bor Column)) (bases : List Known) (cs : List Candidate) (answers : List Bool)
-    → AreWorlds (names_in check.code.steps.items) (steps_read check.code.steps.items) (steps_order check.code.steps.items) bases cs → AreHeldAnswers check inputs bases answers → AreAnswers check inputs cs answers
+    → AreWorlds (names_in check.code.steps.items) (steps_read check.code.steps.items) (steps_order check.code.steps.items) bases cs → AreAnswersOver check inputs bases answers → AreAnswers check inputs cs answers
 answers_exact check inputs bases cs answers worlds h =
     let xs = check.code.steps.items in (
       h.0 ∙ worlds_long (names_in xs) (steps_read xs) (steps_order xs) bases cs worlds,
@@ -116,7 +116,7 @@ answers_exact check inputs bases cs answers worlds h =
 
 -- the columns of a group
 pub columns_exact : (recursive : Bool) (bodies : List Body) (inputs : List (Bor Column)) (bases : List Known) (cs : List Candidate) (columns : List Column)
-    → AreWorlds (bodies_names bodies) (bodies_read bodies) (bodies_order bodies) bases cs → AreHeldColumns recursive bodies inputs bases columns → AreColumns recursive bodies inputs cs columns
+    → AreWorlds (bodies_names bodies) (bodies_read bodies) (bodies_order bodies) bases cs → AreColumnsOver recursive bodies inputs bases columns → AreColumns recursive bodies inputs cs columns
 columns_exact recursive bodies inputs bases cs columns worlds h = record {
   as_many = h.as_many;
   suited = h.suited;

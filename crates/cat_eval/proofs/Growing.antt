@@ -156,7 +156,7 @@ module _ (n : ℕ) (sets : Source → ℕ → Type 0) (outer : Source → ℕ �
       let g = agree R S e same a b in
       ((λ m. (m.0, m.1, (λ k. m.2 (g.1 k)))), (λ m. (m.0, m.1, (λ k. m.2 (g.0 k)))))
 
--- the pairs of a value are those of its place in the list
+-- the pairs of a value are those of its index in the list
 found : (n : ℕ) (values : List Relation) (x a b : ℕ) → x < length values → Of n values x a b ↔ (((get_or values x no_slot).count ≡ n) × Has (get_or values x no_slot) a b)
 found n [] x a b lt = absurd (omega arith)
 found n (v ∷ vs) zero a b lt = ((λ h. h), (λ h. h))
@@ -332,7 +332,7 @@ empty_sound n sets outer bodies values empty many = record {
         let lt : x < length values = found_past n values x a b h in
         ((empty x lt).pairs a b).0 ((found n values x a b lt).0 h).1
 
--- the body at a place is the steps of the tree there
+-- the body at an index is the steps of the tree there
 pub code_at : (trees : List RelTree) (bodies : List Body) (x : ℕ) (b : Body) → AreCodes trees bodies → x < length trees → (get_or bodies x b).code.steps.items ≡ rel_code (body trees x) []
 code_at [] bodies x b h lt = absurd (omega arith)
 code_at (t ∷ ts) [] x b h lt = absurd h

@@ -10,7 +10,7 @@ pub mod Grown
 pub mod Likeness
 pub mod Listed
 pub mod Monotone
-pub mod Places
+pub mod Slots
 pub mod Same
 pub mod Standing
 pub mod Stacks

@@ -8,10 +8,10 @@ use Rattle.std.proofs.lemmas.Option.{slice_get-get_or, get_or_from_slice_get}
 use Rattle.cat_values.specs.declared.predefined.Predefined.{Predefined}
 use Rattle.cat_values.specs.declared.predefined.Predefined.TheVariants as names
 use Rattle.dataflow.specs.DependencyLists.{DependencyLists}
-use Rattle.candidates.specs.declared.candidate.Action.{Action}
-use Rattle.candidates.specs.declared.candidate.Action.TheVariants.{Read, Write, Fence}
-use Rattle.candidates.specs.declared.candidate.Combination.{Combination}
-use Rattle.candidates.specs.declared.candidate.Event.{Event}
+use Rattle.run_combinations.specs.declared.combination.Action.{Action}
+use Rattle.run_combinations.specs.declared.combination.Action.TheVariants.{Read, Write, Fence}
+use Rattle.run_combinations.specs.declared.combination.Combination.{Combination}
+use Rattle.run_combinations.specs.declared.combination.Event.{Event}
 use Rattle.base_env.specs.Events.{location_of, IsAccess, IsFence, IsSameThread, IsSameLocation, At, Both, ProgramOrder, Fenced, Listed}
 use Rattle.base_env.specs.Names.{IsIn, Fixed}
 use Rattle.base_env.specs.Candidate.{IsEntered, SetIn, SharedIn}
@@ -92,7 +92,7 @@ location_like e g f k h j (l, p, q) = (l, sym (same_location e.action f.action h
 events_back : (es fs : List Event) → AreEventsLike es fs → AreEventsLike fs es
 events_back es fs like = (sym like.0, (λ i lt d. like_back _ _ (like.1 i (rw like.0 lt) d)))
 
--- the event at a place has one like it there
+-- the event at an index has one like it there
 event_at : (es fs : List Event) → AreEventsLike es fs → (a : ℕ) (e : Event) → slice_get es a ≡ Some e → (f : Event) × (slice_get fs a ≡ Some f) × IsLike e f
 event_at es fs like a e at =
     let lt : a < length es = get_within es e a at in

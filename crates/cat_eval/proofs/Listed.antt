@@ -5,6 +5,7 @@ use Rattle.std.proofs.lemmas.List.Folds.{list_any_more}
 use Rattle.std.proofs.lemmas.List.Elements.{Contains-append_left, Contains-append_right, Contains-append_cases}
 use Rattle.cat_values.specs.declared.predefined.Predefined.{Predefined}
 use Rattle.cat_eval.specs.Needed.{AreListed}
+use Rattle.std.proofs.Math.Bool.{or_assoc}
 
 -- what was listed stays so, and more is
 pub listed_more : (old now new front back : List Predefined) → AreListed now (old ++ front) → AreListed new (now ++ back) → AreListed new (old ++ (front ++ back))
@@ -16,12 +17,8 @@ listed_more old now new front back before step name inside = elim (Contains-appe
   ]
 ]
 
-or_joined : (a b c : Bool) → ((a || b) || c) ≡ (a || (b || c))
-or_joined true b c = refl
-or_joined false b c = refl
-
 -- one more element, and whether it passes
 pub any_more : {X : Type 0} (test : X → Bool) (xs : List X) (i : ℕ) (x : X) (old now new : Bool) → i < length xs → x ≡ get_or xs i x → now ≡ (old || list_any test (take i xs)) → new ≡ (now || test x) → new ≡ (old || list_any test (take (i + 1) xs))
 any_more test xs i x old now new lt is before step =
     let grown : list_any test (take (i + 1) xs) ≡ (list_any test (take i xs) || test x) = list_any_more test xs i x lt ∙ ap (λ y. list_any test (take i xs) || test y) (sym is) in
-    step ∙ ap (λ b. b || test x) before ∙ or_joined old (list_any test (take i xs)) (test x) ∙ ap (λ b. old || b) (sym grown)
+    step ∙ ap (λ b. b || test x) before ∙ or_assoc old (list_any test (take i xs)) (test x) ∙ ap (λ b. old || b) (sym grown)

@@ -9,16 +9,16 @@ use Rattle.cat_values.specs.declared.model.Postfix.{Postfix}
 use Rattle.cat_eval.specs.Meaning.{Means, Closed}
 use Rattle.cat_eval.specs.Named.{WithOwn}
 use Rattle.cat_eval.specs.Least.{IsFixed, IsMonotone}
-use Rattle.cat_eval.proofs.Same.{plus_wider}
+use Rattle.bit_relations.proofs.Closing.{Plus-map}
 
 -- more pairs, more pairs of the closure
 pub closed_wider : (how : Postfix) (n : ℕ) (R S : ℕ → ℕ → Type 0) → ((a b : ℕ) → R a b → S a b) → (a b : ℕ) → Closed how n R a b → Closed how n S a b
-closed_wider postfix.Transitive n R S wider a b m = plus_wider R S wider a b m
+closed_wider postfix.Transitive n R S wider a b m = Plus-map R S wider a b m
 closed_wider postfix.Reflexive n R S wider a b (inl m) = inl m
 closed_wider postfix.Reflexive n R S wider a b (inr m) = inr (wider a b m)
 closed_wider postfix.Inverse n R S wider a b m = wider b a m
 closed_wider postfix.Closure n R S wider a b (inl m) = inl m
-closed_wider postfix.Closure n R S wider a b (inr m) = inr (plus_wider R S wider a b m)
+closed_wider postfix.Closure n R S wider a b (inr m) = inr (Plus-map R S wider a b m)
 
 module _ (n : ℕ) (sets : Source → ℕ → Type 0) (outer : Source → ℕ → ℕ → Type 0) where
   -- an expression without names of the group means the same, whatever these are

@@ -7,6 +7,7 @@ use Rattle.cat_values.specs.declared.model.Postfix.TheVariants as postfix
 use Rattle.binding_graph.specs.declared.resolved.Blend.{Blend}
 use Rattle.binding_graph.specs.declared.resolved.Blend.TheVariants as blends
 use Rattle.cat_eval.specs.Meaning.{Blended, BlendedSets, Closed, Others}
+use Rattle.bit_relations.proofs.Closing.{Plus-map}
 
 abbrev pub Same : (ℕ → ℕ → Type 0) → (ℕ → ℕ → Type 0) → Type 0
 Same R S = (a b : ℕ) → R a b ↔ S a b
@@ -39,24 +40,16 @@ same_blend blends.Difference R P S Q r s a b = ((λ h. ((r a b).0 h.0, (λ y. h.
 pub same_then : (R P S Q : ℕ → ℕ → Type 0) → Same R P → Same S Q → Same (Composed R S) (Composed P Q)
 same_then R P S Q r s a b = ((λ (c, x, y). (c, (r a c).0 x, (s c b).0 y)), (λ (c, x, y). (c, (r a c).1 x, (s c b).1 y)))
 
-path : (R S : ℕ → ℕ → Type 0) → ((a b : ℕ) → R a b → S a b) → (a : ℕ) (through : List ℕ) (b : ℕ) → Path R a through b → Path S a through b
-path R S f a [] b h = f a b h
-path R S f a (c ∷ cs) b (x, rest) = (f a c x, path R S f c cs b rest)
-
--- more pairs, more paths
-pub plus_wider : (R S : ℕ → ℕ → Type 0) → ((a b : ℕ) → R a b → S a b) → (a b : ℕ) → Plus R a b → Plus S a b
-plus_wider R S f a b (t, p) = (t, path R S f a t b p)
-
 pub same_close : (how : Postfix) (n : ℕ) (R S : ℕ → ℕ → Type 0) → Same R S → Same (Closed how n R) (Closed how n S)
-same_close postfix.Transitive n R S s a b = (plus_wider R S (λ x y. (s x y).0) a b, plus_wider S R (λ x y. (s x y).1) a b)
+same_close postfix.Transitive n R S s a b = (Plus-map R S (λ x y. (s x y).0) a b, Plus-map S R (λ x y. (s x y).1) a b)
 same_close postfix.Reflexive n R S s a b = (
   (λ h. elim h [ inl x ↦ inl x | inr y ↦ inr ((s a b).0 y) ]),
   (λ h. elim h [ inl x ↦ inl x | inr y ↦ inr ((s a b).1 y) ]),
 )
 same_close postfix.Inverse n R S s a b = s b a
 same_close postfix.Closure n R S s a b = (
-  (λ h. elim h [ inl x ↦ inl x | inr y ↦ inr (plus_wider R S (λ x z. (s x z).0) a b y) ]),
-  (λ h. elim h [ inl x ↦ inl x | inr y ↦ inr (plus_wider S R (λ x z. (s x z).1) a b y) ]),
+  (λ h. elim h [ inl x ↦ inl x | inr y ↦ inr (Plus-map R S (λ x z. (s x z).0) a b y) ]),
+  (λ h. elim h [ inl x ↦ inl x | inr y ↦ inr (Plus-map S R (λ x z. (s x z).1) a b y) ]),
 )
 
 pub same_turn : (n : ℕ) (R S : ℕ → ℕ → Type 0) → Same R S → Same (Complement n R) (Complement n S)

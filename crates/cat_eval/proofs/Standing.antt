@@ -5,22 +5,14 @@ use Rattle.bit_relations.specs.Relation.{Has}
 use Rattle.cat_values.specs.declared.predefined.Predefined.{Predefined}
 use Rattle.cat_values.specs.declared.predefined.Predefined.TheVariants as names
 use Rattle.cat_values.specs.PredefinedNames.{is_set}
-use Rattle.candidates.specs.declared.candidate.Combination.{Combination}
+use Rattle.run_combinations.specs.declared.combination.Combination.{Combination}
 use Rattle.base_env.specs.declared.names.Named.{Named}
 use Rattle.base_env.specs.declared.names.Shared.{Shared}
 use Rattle.base_env.specs.Known.{Known, IsConsistent, EventsUnder, PairsUnder, EventsOf, PairsOf, SharedPairs, set_names, shared_names}
 use Rattle.base_env.specs.Candidate.{IsEntered, IsReading, IsOrdered, Gives, SetIn, SharedIn, RelationIn, FromReadsIn}
 use Rattle.cat_eval.specs.Needed.{changes_with_reads, changes_with_orders}
 use Rattle.cat_eval.proofs.Same.{Same, SameSet}
-
-both : {A B C D : Type 0} → (A ↔ C) → (B ↔ D) → (A × B) ↔ (C × D)
-both p q = ((λ h. (p.0 h.0, q.0 h.1)), (λ h. (p.1 h.0, q.1 h.1)))
-
-either : {A B C D : Type 0} → (A ↔ C) → (B ↔ D) → (A ⊎ B) ↔ (C ⊎ D)
-either p q = (
-  (λ h. elim h [ inl x ↦ inl (p.0 x) | inr y ↦ inr (q.0 y) ]),
-  (λ h. elim h [ inl x ↦ inl (p.1 x) | inr y ↦ inr (q.1 y) ]),
-)
+use Rattle.base_env.proofs.Meant.{both, either}
 
 -- what has events or pairs is held
 set_held : (xs : List Named) (name : Predefined) (n a : ℕ) → EventsUnder xs name n a → Contains (set_names xs) name

@@ -16,9 +16,10 @@ use Rattle.binding_graph.specs.declared.resolved.CheckCode.{CheckCode}
 use Rattle.base_env.specs.Known.{Known}
 use Rattle.cat_eval.specs.declared.column.Column.{Column}
 use Rattle.cat_eval.specs.Checks.{Holds, IsEmptySet}
-use Rattle.cat_eval.specs.Held.{IsHeldAnswer, AreHeldAnswers}
+use Rattle.cat_eval.specs.OverNames.{IsAnswerOver, AreAnswersOver}
 use Rattle.cat_eval.specs.Values.{Unless}
-use Rattle.cat_eval.proofs.Same.{Same, SameSet, plus_wider}
+use Rattle.cat_eval.proofs.Same.{Same, SameSet}
+use Rattle.bit_relations.proofs.Closing.{Plus-map}
 
 pub get_more : {X : Type 0} (xs : List X) (x y : X) (k : ℕ) → slice_get (xs ++ x ∷ []) k ≡ Some y → (slice_get xs k ≡ Some y) ⊎ ((k ≡ length xs) × (x ≡ y))
 get_more [] x y zero e = inr (refl, cc)
@@ -31,7 +32,7 @@ get_within [] y k e = absurd cc
 get_within (z ∷ zs) y zero e = omega arith
 get_within (z ∷ zs) y (suc k) e = let lt : k < length zs = get_within zs y k e in omega (arith, lt)
 
-pub answers_more : (check : CheckCode) (inputs : List (Bor Column)) (bases : List Known) (answers : List Bool) (base : Known) (answer : Bool) → AreHeldAnswers check inputs bases answers → IsHeldAnswer check inputs base (length answers) check.code.kind answer → AreHeldAnswers check inputs (bases ++ base ∷ []) (answers ++ answer ∷ [])
+pub answers_more : (check : CheckCode) (inputs : List (Bor Column)) (bases : List Known) (answers : List Bool) (base : Known) (answer : Bool) → AreAnswersOver check inputs bases answers → IsAnswerOver check inputs base (length answers) check.code.kind answer → AreAnswersOver check inputs (bases ++ base ∷ []) (answers ++ answer ∷ [])
 answers_more check inputs bases answers base answer before now = (
   length-append answers (answer ∷ []) ∙ ap (λ (n : ℕ). n + 1) before.0 ∙ sym (length-append bases (base ∷ [])),
   (λ k b a at_b at_a. elim (get_more bases base b k at_b) [
@@ -53,7 +54,7 @@ answers_more check inputs bases answers base answer before now = (
     apart_too k lt e = omega (arith, lt, e, before.0)
 
 pub holds_same : (word : CheckWord) (R S : ℕ → ℕ → Type 0) → Same R S → Holds word R ↔ Holds word S
-holds_same words.Acyclic R S s = ((λ h a p. h a (plus_wider S R (λ x y. (s x y).1) a a p)), (λ h a p. h a (plus_wider R S (λ x y. (s x y).0) a a p)))
+holds_same words.Acyclic R S s = ((λ h a p. h a (Plus-map S R (λ x y. (s x y).1) a a p)), (λ h a p. h a (Plus-map R S (λ x y. (s x y).0) a a p)))
 holds_same words.Irreflexive R S s = ((λ h a p. h a ((s a a).1 p)), (λ h a p. h a ((s a a).0 p)))
 holds_same words.Empty R S s = ((λ h a b p. h a b ((s a b).1 p)), (λ h a b p. h a b ((s a b).0 p)))
 
@@ -73,7 +74,7 @@ module _ (check : CheckCode) (inputs : List (Bor Column)) (base : Known) (k : �
       → ((t : RelTree) → check.code.steps.items ≡ rel_code t [] → (v : Relation) × (vs ≡ v ∷ []) × IsRelation v base.count (Means base.count (EventsIn base inputs k) (WithOwn (PairsOutside base inputs k) (Of base.count [])) t))
       → ((s : Events) (rest : List Events) → check.code.kind ≡ kinds.OfSet → us ≡ s ∷ rest → IsTrue met ↔ IsEmptySet (IsMember s))
       → ((r : Relation) (rest : List Relation) → (check.code.kind ≡ kinds.OfSet → ⊥) → vs ≡ r ∷ rest → IsTrue met ↔ Holds check.word (Has r))
-      → (kind : Kind) → check.code.kind ≡ kind → IsHeldAnswer check inputs base k kind (not (beq met check.negated))
+      → (kind : Kind) → check.code.kind ≡ kind → IsAnswerOver check inputs base k kind (not (beq met check.negated))
   answer_is sets rels set_met rel_met kinds.OfSet is = λ t code.
       let made = sets t code in
       let same = set_met made.0 [] is made.1 in
@@ -97,13 +98,13 @@ module _ (check : CheckCode) (inputs : List (Bor Column)) (base : Known) (k : �
       not_set e = absurd cc
 
 -- before the first candidate
-pub no_answers : (check : CheckCode) (inputs : List (Bor Column)) → AreHeldAnswers check inputs [] []
+pub no_answers : (check : CheckCode) (inputs : List (Bor Column)) → AreAnswersOver check inputs [] []
 no_answers check inputs = (refl, (λ k base answer at_b at_a. absurd (none k base at_b)))
   where
     none : (k : ℕ) (base : Known) → slice_get [] k ≡ Some base → ⊥
     none k base e = absurd (omega (arith, get_within [] base k e))
 
 -- the same check and inputs, by another name
-pub answers_moved : (c d : Bor CheckCode) (xs ys : Bor (List (Bor Column))) → c ≡ d → xs ≡ ys → (bases : List Known) (answers : List Bool) → AreHeldAnswers c.now xs.now bases answers → AreHeldAnswers d.now ys.now bases answers
+pub answers_moved : (c d : Bor CheckCode) (xs ys : Bor (List (Bor Column))) → c ≡ d → xs ≡ ys → (bases : List Known) (answers : List Bool) → AreAnswersOver c.now xs.now bases answers → AreAnswersOver d.now ys.now bases answers
 answers_moved c d xs ys e f bases answers h =
-    subst (λ (x : Bor CheckCode). AreHeldAnswers x.now ys.now bases answers) e (subst (λ (y : Bor (List (Bor Column))). AreHeldAnswers c.now y.now bases answers) f h)
+    subst (λ (x : Bor CheckCode). AreAnswersOver x.now ys.now bases answers) e (subst (λ (y : Bor (List (Bor Column))). AreAnswersOver c.now y.now bases answers) f h)

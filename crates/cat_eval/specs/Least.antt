@@ -11,7 +11,7 @@ use Rattle.cat_eval.specs.Named.{Of, WithOwn}
 -- the name is not one of the group itself
 abbrev pub IsOutside : Source → Type 0
 IsOutside (sources.Predefined name) = Unit {0}
-IsOutside (sources.Input place) = Unit {0}
+IsOutside (sources.Input index) = Unit {0}
 IsOutside (sources.Own position) = ⊥
 
 -- the expression holds no name of the group: a set never does

@@ -39,19 +39,19 @@ Of n values position = PairsFound (slice_get values position) n
 -- the events of a name that is not one of the recursive group itself
 abbrev pub EventsIn : Known → List (Bor Column) → ℕ → Source → ℕ → Type 0
 EventsIn base inputs k (sources.Predefined name) = EventsOf base name
-EventsIn base inputs k (sources.Input place) = InputEvents (slice_get inputs place) k base.count
+EventsIn base inputs k (sources.Input index) = InputEvents (slice_get inputs index) k base.count
 EventsIn base inputs k (sources.Own position) = λ a. ⊥
 
 -- the pairs of a name that is not one of the recursive group itself
 abbrev pub PairsOutside : Known → List (Bor Column) → ℕ → Source → ℕ → ℕ → Type 0
 PairsOutside base inputs k (sources.Predefined name) = PairsOf base name
-PairsOutside base inputs k (sources.Input place) = InputPairs (slice_get inputs place) k base.count
+PairsOutside base inputs k (sources.Input index) = InputPairs (slice_get inputs index) k base.count
 PairsOutside base inputs k (sources.Own position) = λ a b. ⊥
 
 -- the pairs of a name, where those of the recursive group itself have these pairs
 abbrev pub WithOwn : (Source → ℕ → ℕ → Type 0) → (ℕ → ℕ → ℕ → Type 0) → Source → ℕ → ℕ → Type 0
 WithOwn outer own (sources.Predefined name) = outer (sources.Predefined name)
-WithOwn outer own (sources.Input place) = outer (sources.Input place)
+WithOwn outer own (sources.Input index) = outer (sources.Input index)
 WithOwn outer own (sources.Own position) = own position
 
 abbrev pub EventsNamed : Names → Source → ℕ → Type 0

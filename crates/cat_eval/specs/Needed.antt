@@ -34,7 +34,7 @@ changes_with_orders _ = false
 -- whether the step pushes a predefined name that passes a test
 abbrev pub source_passes : (Predefined → Bool) → Source → Bool
 source_passes test (sources.Predefined name) = test name
-source_passes test (sources.Input place) = false
+source_passes test (sources.Input index) = false
 source_passes test (sources.Own position) = false
 
 abbrev pub step_passes : (Predefined → Bool) → Step → Bool
@@ -79,7 +79,7 @@ role_orders roles.Silent = false
 -- the predefined name that a step pushes, where it is one
 abbrev pub source_names : Source → List Predefined
 source_names (sources.Predefined name) = name ∷ []
-source_names (sources.Input place) = []
+source_names (sources.Input index) = []
 source_names (sources.Own position) = []
 
 abbrev pub step_names : Step → List Predefined

@@ -20,7 +20,7 @@ IsAmong names position = bit_at names (min position 63) ≡ 1
 -- it stands for one of these names of the group
 abbrev pub StandsForOne : ℕ → Source → Type 0
 StandsForOne names (sources.Predefined name) = ⊥
-StandsForOne names (sources.Input place) = ⊥
+StandsForOne names (sources.Input index) = ⊥
 StandsForOne names (sources.Own position) = IsAmong names position
 
 -- the step uses one of these names of the group

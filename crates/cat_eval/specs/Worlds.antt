@@ -2,7 +2,7 @@
 use Rattle.std.specs.Prelude.{◌≡◌, Bool, IsTrue, false, List, [], ◌∷◌, Contains}
 use Rattle.cat_values.specs.declared.predefined.Predefined.{Predefined}
 use Rattle.cat_values.specs.PredefinedNames.{is_set}
-use Rattle.candidates.specs.declared.candidate.Combination.{Combination}
+use Rattle.run_combinations.specs.declared.combination.Combination.{Combination}
 use Rattle.base_env.specs.Known.{Known, IsConsistent, set_names}
 use Rattle.base_env.specs.Candidate.{IsEntered, IsReading, IsOrdered, Gives}
 use Rattle.candidates.specs.Space.{Candidate}

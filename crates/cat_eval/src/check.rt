@@ -3,7 +3,7 @@
 ghost use Rattle.std.specs.Prelude.{◌≡◌, ℕ, List, IfOk};
 ghost use Rattle.base_env.specs.Known.{Known};
 ghost use Rattle.cat_eval.specs.Values.{AnswersOf};
-ghost use Rattle.cat_eval.specs.Held.{AreHeldAnswers};
+ghost use Rattle.cat_eval.specs.OverNames.{AreAnswersOver};
 
 use crate::column::Column;
 use crate::machine::Machine;
@@ -25,7 +25,7 @@ struct CheckRun<'a> {
 }
 
 impl Visit for CheckRun<'_> {
-    ghost has_taken = { λ first bases run. (run.check ≡ first.check) × (run.inputs ≡ first.inputs) × AreHeldAnswers first.check.now first.inputs.now bases run.answers.items };
+    ghost has_taken = { λ first bases run. (run.check ≡ first.check) × (run.inputs ≡ first.inputs) × AreAnswersOver first.check.now first.inputs.now bases run.answers.items };
 
     fn visit(&mut self, base: &Base) -> Result<(), AllocError> {
         let names = Names {

@@ -77,15 +77,15 @@ impl Column {
         }
     }
 
-    /// Writes the relation of a candidate of so many events to a place: the empty one where there
+    /// Writes the relation of a candidate of so many events to `target`: the empty one where there
     /// is none.
-    pub(crate) fn write_relation(&self, candidate: usize, count: usize, place: &mut Rel)
+    pub(crate) fn write_relation(&self, candidate: usize, count: usize, target: &mut Rel)
         requires { count ≤ 128 }
-        ensures { IsRelation place.new count (ColumnPairs self.now candidate count) }
+        ensures { IsRelation target.new count (ColumnPairs self.now candidate count) }
     {
         match self {
-            Column::Sets(_) => place.clear(count),
-            Column::Relations(values) => write_found(values, candidate, count, place),
+            Column::Sets(_) => target.clear(count),
+            Column::Relations(values) => write_found(values, candidate, count, target),
         }
     }
 
@@ -115,16 +115,16 @@ fn found_set(values: &SetRuns, candidate: usize, count: usize) -> EventSet
     EventSet::empty(count)
 }
 
-/// Writes the relation of a candidate to a place: the empty one where there is none of so many events.
-fn write_found(values: &RunColumn, candidate: usize, count: usize, place: &mut Rel)
+/// Writes the relation of a candidate to `target`: the empty one where there is none of so many events.
+fn write_found(values: &RunColumn, candidate: usize, count: usize, target: &mut Rel)
     requires { count ≤ 128 }
-    ensures { IsRelation place.new count (PairsFound (slice_get values.now candidate) count) }
+    ensures { IsRelation target.new count (PairsFound (slice_get values.now candidate) count) }
 {
     if candidate < values.len() {
-        values.read(&mut Cursor::new(), candidate, place);
-        if place.count() == count {
+        values.read(&mut Cursor::new(), candidate, target);
+        if target.count() == count {
             return;
         }
     }
-    place.clear(count);
+    target.clear(count);
 }

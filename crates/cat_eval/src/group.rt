@@ -6,7 +6,7 @@ ghost use Rattle.bit_relations.specs.Relation.{Relation, Events, IsRelation, IsE
 ghost use Rattle.binding_graph.specs.Trees.{RelTree};
 ghost use Rattle.cat_eval.specs.Candidates.{name_count};
 ghost use Rattle.cat_eval.specs.Columns.{ColumnsOf, HasOwn};
-ghost use Rattle.cat_eval.specs.Held.{AreHeldColumns, IsHeldMeaning};
+ghost use Rattle.cat_eval.specs.OverNames.{AreColumnsOver, IsMeaningOver};
 ghost use Rattle.cat_eval.specs.Least.{IsLeast, AreMonotone};
 ghost use Rattle.cat_eval.specs.Named.{EventsIn, PairsOutside};
 ghost use Rattle.cat_eval.specs.Rising.{AreCodes};
@@ -63,7 +63,7 @@ fn put_all(columns: &mut Vec<Column>, values: &[Rel], count: usize) -> Result<()
 }
 
 /// How many candidates the columns have values for.
-fn taken(columns: &[Column]) -> usize
+fn candidate_count(columns: &[Column]) -> usize
     ensures { 0 < length columns.now → (c : Column) → result ≡ column_len (slice_index_or columns.now 0 c) }
 {
     if columns.len() > 0 {
@@ -85,7 +85,7 @@ impl GroupRun<'_> {
         ensures fixed { (self.new.bodies ≡ self.old.bodies) × (self.new.inputs ≡ self.old.inputs) × (self.new.recursive ≡ self.old.recursive) × (self.new.solver.own ≡ self.old.solver.own) }
         ensures long { length self.new.columns.items ≡ length self.old.columns.items }
         ensures others { (j : ℕ) → (j ≡ position → ⊥) → (c : Column) → slice_index_or self.new.columns.items j c ≡ slice_index_or self.old.columns.items j c }
-        ensures added { OnOk result (self.old.solver.own.items ≡ [] → position < length self.old.columns.items → (c : Column) (b : Body) → (s : Events) × (r : Relation) × Adds (slice_index_or self.old.columns.items position c) (slice_index_or self.new.columns.items position c) s r × IsHeldMeaning (slice_index_or self.old.bodies.now position b).code.kind (slice_index_or self.old.bodies.now position b).code.steps.items self.old.inputs.now base.now candidate s r) }
+        ensures added { OnOk result (self.old.solver.own.items ≡ [] → position < length self.old.columns.items → (c : Column) (b : Body) → (s : Events) × (r : Relation) × Adds (slice_index_or self.old.columns.items position c) (slice_index_or self.new.columns.items position c) s r × IsMeaningOver (slice_index_or self.old.bodies.now position b).code.kind (slice_index_or self.old.bodies.now position b).code.steps.items self.old.inputs.now base.now candidate s r) }
     {
         let bodies = self.bodies;
         let inputs = self.inputs;
@@ -100,7 +100,7 @@ impl GroupRun<'_> {
     fn evaluate_each(&mut self, base: &Base, candidate: usize) -> Result<(), AllocError>
         ensures fixed { (self.new.bodies ≡ self.old.bodies) × (self.new.inputs ≡ self.old.inputs) × (self.new.recursive ≡ self.old.recursive) × (self.new.solver.own ≡ self.old.solver.own) }
         ensures long { length self.new.columns.items ≡ length self.old.columns.items }
-        ensures added { OnOk result (self.old.solver.own.items ≡ [] → (j : ℕ) → j < length self.old.bodies.now → j < length self.old.columns.items → (c : Column) (b : Body) → (s : Events) × (r : Relation) × Adds (slice_index_or self.old.columns.items j c) (slice_index_or self.new.columns.items j c) s r × IsHeldMeaning (slice_index_or self.old.bodies.now j b).code.kind (slice_index_or self.old.bodies.now j b).code.steps.items self.old.inputs.now base.now candidate s r) }
+        ensures added { OnOk result (self.old.solver.own.items ≡ [] → (j : ℕ) → j < length self.old.bodies.now → j < length self.old.columns.items → (c : Column) (b : Body) → (s : Events) × (r : Relation) × Adds (slice_index_or self.old.columns.items j c) (slice_index_or self.new.columns.items j c) s r × IsMeaningOver (slice_index_or self.old.bodies.now j b).code.kind (slice_index_or self.old.bodies.now j b).code.steps.items self.old.inputs.now base.now candidate s r) }
     {
         for position in 0..self.bodies.len() {
             self.evaluate_one(base, candidate, position)?;
@@ -123,10 +123,10 @@ impl GroupRun<'_> {
 }
 
 impl Visit for GroupRun<'_> {
-    ghost has_taken = { λ first bases run. (run.bodies ≡ first.bodies) × (run.inputs ≡ first.inputs) × (run.recursive ≡ first.recursive) × HasOwn first.recursive first.bodies.now run.solver.own.items × AreHeldColumns first.recursive first.bodies.now first.inputs.now bases run.columns.items };
+    ghost has_taken = { λ first bases run. (run.bodies ≡ first.bodies) × (run.inputs ≡ first.inputs) × (run.recursive ≡ first.recursive) × HasOwn first.recursive first.bodies.now run.solver.own.items × AreColumnsOver first.recursive first.bodies.now first.inputs.now bases run.columns.items };
 
     fn visit(&mut self, base: &Base) -> Result<(), AllocError> {
-        let candidate = taken(&self.columns);
+        let candidate = candidate_count(&self.columns);
         if self.recursive {
             self.solve(base, candidate)?;
         } else {

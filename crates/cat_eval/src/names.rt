@@ -37,7 +37,7 @@ impl Names<'_> {
     {
         match source {
             Source::Predefined(name) => self.base.set(name),
-            Source::Input(place) => match self.inputs.get(place) {
+            Source::Input(index) => match self.inputs.get(index) {
                 Some(column) => column.set(self.candidate, self.count()),
                 None => EventSet::empty(self.count()),
             },
@@ -45,28 +45,28 @@ impl Names<'_> {
         }
     }
 
-    /// Writes the relation that a name stands for to a place: the empty one where it stands for
+    /// Writes the relation that a name stands for to `target`: the empty one where it stands for
     /// none.
-    pub(crate) fn write_relation(&self, source: Source, place: &mut Rel)
-        ensures { IsRelation place.new self.now.base.now.count (PairsNamed self.now source) }
+    pub(crate) fn write_relation(&self, source: Source, target: &mut Rel)
+        ensures { IsRelation target.new self.now.base.now.count (PairsNamed self.now source) }
     {
         match source {
-            Source::Predefined(name) => self.base.write_relation(name, place),
+            Source::Predefined(name) => self.base.write_relation(name, target),
             Source::Input(input) => match self.inputs.get(input) {
-                Some(column) => column.write_relation(self.candidate, self.count(), place),
-                None => place.clear(self.count()),
+                Some(column) => column.write_relation(self.candidate, self.count(), target),
+                None => target.clear(self.count()),
             },
-            Source::Own(position) => self.write_own(position, place),
+            Source::Own(position) => self.write_own(position, target),
         }
     }
 
     /// Writes the present value of a name of the recursive group itself.
-    fn write_own(&self, position: usize, place: &mut Rel)
-        ensures { IsRelation place.new self.now.base.now.count (Of self.now.base.now.count self.now.own.now position) }
+    fn write_own(&self, position: usize, target: &mut Rel)
+        ensures { IsRelation target.new self.now.base.now.count (Of self.now.base.now.count self.now.own.now position) }
     {
         match self.own.get(position) {
-            Some(value) if value.count() == self.count() => place.copy_from(value),
-            _ => place.clear(self.count()),
+            Some(value) if value.count() == self.count() => target.copy_from(value),
+            _ => target.clear(self.count()),
         }
     }
 }

@@ -82,7 +82,7 @@ pub fn next_of(item: &ResolvedItem, grew: u64) -> u64
     }
 }
 
-/// The same for an item of a model, by its place. Takes no memory.
+/// The same for an item of a model, by its index. Takes no memory.
 pub fn next(resolved: &Resolved, item: usize, grew: u64) -> u64
     ensures { IfSome (slice_get resolved.now.items.items item) (λ found. (k : ℕ) → IsAmong result k ↔ UsesIn grew found.role k) }
 {

@@ -43,8 +43,8 @@ fn are_events_like(first: &[Event], second: &[Event]) -> bool
     if first.len() != second.len() {
         return false;
     }
-    for place in 0..first.len() {
-        if !is_like(&first[place], &second[place]) {
+    for index in 0..first.len() {
+        if !is_like(&first[index], &second[index]) {
             return false;
         }
     }

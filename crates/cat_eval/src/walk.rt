@@ -67,7 +67,7 @@ fn visit_orders<V: Visit>(
 ) -> Result<(), AllocError>
     requires { IsReady needs.now.names.items base.old combination.now }
     ensures ready { IsReady needs.now.names.items base.new combination.now }
-    ensures taken { (sources : List ℕ) → (IsTrue needs.now.reads → IsReading base.old combination.now sources) → (first : _) (bases : List Known) → V.has_taken first bases visitor.old → OnOk result ((more : List Known) × AreWorlds needs.now.names.items needs.now.reads needs.now.orders more (reading_so combination.now sources combination.now.orders.items) × V.has_taken first (bases ++ more) visitor.new) }
+    ensures worlds { (sources : List ℕ) → (IsTrue needs.now.reads → IsReading base.old combination.now sources) → (first : _) (bases : List Known) → V.has_taken first bases visitor.old → OnOk result ((more : List Known) × AreWorlds needs.now.names.items needs.now.reads needs.now.orders more (reading_so combination.now sources combination.now.orders.items) × V.has_taken first (bases ++ more) visitor.new) }
 {
     for order in &combination.orders {
         go_to_order(needs, base, combination, order);
@@ -85,7 +85,7 @@ fn visit_combination<V: Visit>(
 ) -> Result<(), AllocError>
     requires { IsReady needs.now.names.items base.old combination.now }
     ensures ready { IsReady needs.now.names.items base.new combination.now }
-    ensures taken { (first : _) (bases : List Known) → V.has_taken first bases visitor.old → OnOk result ((more : List Known) × AreWorlds needs.now.names.items needs.now.reads needs.now.orders more (reading_in combination.now combination.now.sources.items) × V.has_taken first (bases ++ more) visitor.new) }
+    ensures worlds { (first : _) (bases : List Known) → V.has_taken first bases visitor.old → OnOk result ((more : List Known) × AreWorlds needs.now.names.items needs.now.reads needs.now.orders more (reading_in combination.now combination.now.sources.items) × V.has_taken first (bases ++ more) visitor.new) }
 {
     for sources in &combination.sources {
         go_to_sources(needs, base, combination, sources);

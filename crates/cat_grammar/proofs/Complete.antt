@@ -42,7 +42,7 @@ wanted (InArguments n args ∷ fs) = 0
 wanted (InPrefix ∷ fs) = 6
 wanted (LeftOf op a ∷ fs) = right_level op
 
-level-le : (op : Infix) → level op ≤ 5
+pub level-le : (op : Infix) → level op ≤ 5
 level-le Union = omega arith
 level-le Sequence = omega arith
 level-le Difference = omega arith

@@ -205,20 +205,20 @@ module _ (most : Limits) (form : Form) where
   flag_run cs c n rest i = up_to_as cs (CheckedHead (record { flagged = true; negated = c.negated; word = c.word })) c.body (tokens.Name n ∷ rest) i
 
   -- the first token of an item for which there is room
-  begun : (cs : List Clause) (x : Result Part Fault) (ts : List Token) → Room (length cs) → (at cs (unless (excess most form (length cs)) x) >>= run_from ts) ≡ (at cs x >>= run_from ts)
-  begun cs x ts e = ap (λ (o : Option CatRule). at cs (unless o x) >>= run_from ts) e
+  keyword_read : (cs : List Clause) (x : Result Part Fault) (ts : List Token) → Room (length cs) → (at cs (unless (excess most form (length cs)) x) >>= run_from ts) ≡ (at cs x >>= run_from ts)
+  keyword_read cs x ts e = ap (λ (o : Option CatRule). at cs (unless o x) >>= run_from ts) e
 
   check_start : (cs : List Clause) (negated : Bool) (w : CheckWord) (ts : List Token) → Room (length cs) → run_over most form (ready cs) (spelled_tilde negated (tokens.Check w ∷ ts)) ≡ run_over most form (record { items = cs; part = begin_check false negated w }) ts
-  check_start cs true w ts e = begun cs (Ok (AfterTilde false)) (tokens.Check w ∷ ts) e
-  check_start cs false w ts e = begun cs (Ok (begin_check false false w)) ts e
+  check_start cs true w ts e = keyword_read cs (Ok (AfterTilde false)) (tokens.Check w ∷ ts) e
+  check_start cs false w ts e = keyword_read cs (Ok (begin_check false false w)) ts e
 
   flag_start : (cs : List Clause) (negated : Bool) (w : CheckWord) (ts : List Token) → run_over most form (record { items = cs; part = AfterFlag }) (spelled_tilde negated (tokens.Check w ∷ ts)) ≡ run_over most form (record { items = cs; part = begin_check true negated w }) ts
   flag_start cs true w ts = refl
   flag_start cs false w ts = refl
 
   show_start : (cs : List Clause) (hidden : Bool) (ts : List Token) → Room (length cs) → run_over most form (ready cs) (show_token hidden ∷ ts) ≡ run_over most form (record { items = cs; part = begin_show hidden }) ts
-  show_start cs true ts e = begun cs (Ok (begin_show true)) ts e
-  show_start cs false ts e = begun cs (Ok (begin_show false)) ts e
+  show_start cs true ts e = keyword_read cs (Ok (begin_show true)) ts e
+  show_start cs false ts e = keyword_read cs (Ok (begin_show false)) ts e
 
   abbrev effect : List Clause → List ℕ → Bool → Result State Fault
   effect cs path b = if b then Ok (record { items = cs ++ Including path ∷ []; part = Start }) else Err (Here rules.Include)
@@ -227,20 +227,20 @@ module _ (most : Limits) (form : Form) where
   included cs path rest e = ap (λ (b : Bool). effect cs path b >>= run_from rest) e
 
   item_run : (cs : List Clause) (i : ItemTree) (rest : List Token) → IsItem most i → Room (length cs) → EndsItem (Room (length cs + 1)) rest → run_over most form (ready cs) (spelled_item i rest) ≡ run_over most form (ready (cs ++ item_meaning i ∷ [])) rest
-  item_run cs (grammar.Let recursive group) rest i r e = begun cs (Ok (InLet Keyword)) (spelled_rec recursive (spelled_group group rest)) r ∙ let_run cs recursive group rest i.0 i.1 i.2 e
+  item_run cs (grammar.Let recursive group) rest i r e = keyword_read cs (Ok (InLet Keyword)) (spelled_rec recursive (spelled_group group rest)) r ∙ let_run cs recursive group rest i.0 i.1 i.2 e
   item_run cs (grammar.Function n ps b) rest i r e =
-      begun cs (Ok (InLet Keyword)) (tokens.Name n ∷ tokens.Open ∷ spelled_parameters ps (tokens.Close ∷ tokens.Equals ∷ spelled b rest)) r
+      keyword_read cs (Ok (InLet Keyword)) (tokens.Name n ∷ tokens.Open ∷ spelled_parameters ps (tokens.Close ∷ tokens.Equals ∷ spelled b rest)) r
       ∙ parameters_run cs n [] ps (tokens.Equals ∷ spelled b rest) i.0 (omega (arith, i.1))
       ∙ whole_body cs (FunctionHead n ps) b (Function n ps (meaning b)) rest i.2 e (λ r. refl)
   item_run cs (grammar.Check c label) rest i r e = check_start cs c.negated c.word (spelled c.body (spelled_label label rest)) r ∙ label_run cs c label rest i e
   item_run cs (grammar.Flag c n) rest i r e =
-      begun cs (Ok AfterFlag) (spelled_check c (tokens.As ∷ tokens.Name n ∷ rest)) r
+      keyword_read cs (Ok AfterFlag) (spelled_check c (tokens.As ∷ tokens.Name n ∷ rest)) r
       ∙ flag_start cs c.negated c.word (spelled c.body (tokens.As ∷ tokens.Name n ∷ rest))
       ∙ flag_run cs c n rest i
   item_run cs (grammar.Show hidden []) rest i r e = absurd (omega (arith, i.0))
   item_run cs (grammar.Show hidden (u ∷ us)) rest i r e =
       show_start cs hidden (spelled_shown (u ∷ us) rest) r ∙ shown_run cs (record { hidden = hidden; terms = [] }) u us rest i.1 e
-  item_run cs (grammar.Include path) rest i r e = begun cs (Ok AfterInclude) (tokens.Quoted path ∷ rest) r ∙ included cs path rest i
+  item_run cs (grammar.Include path) rest i r e = keyword_read cs (Ok AfterInclude) (tokens.Quoted path ∷ rest) r ∙ included cs path rest i
 
   -- ---- texts
 

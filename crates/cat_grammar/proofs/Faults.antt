@@ -11,10 +11,10 @@ use Rattle.cat_tokens.specs.declared.token.Token.{Token}
 use Rattle.cat_tokens.specs.declared.token.Token.TheVariants as tokens
 use Rattle.cat_values.specs.Value.{Clause}
 use Rattle.cat_grammar.specs.Grammar.{Limits, Begins, SameCounts, SameDepths, IsSeparator, CanStand, BeginsText, BeforeAName, last_two, last_offset, is_tilde, is_check, IsRefusal, Nowhere, TooMany, TooDeep, Plain, IsFault}
-use Rattle.cat_tokens.specs.Tokens.{Placed, tokens_of}
+use Rattle.cat_tokens.specs.Tokens.{TokenAt, tokens_of}
 use Rattle.cat_grammar.specs.ItemMachine as items
 use Rattle.cat_grammar.specs.ItemMachine.{And, Parameter, Part, InLet, Fault, Here, Before, State, step, start}
-use Rattle.cat_grammar.specs.Running.{Ran, placed, and_then, run}
+use Rattle.cat_grammar.specs.Running.{Ran, with_offset, and_then, run}
 use Rattle.cat_grammar.proofs.Runs.{◌>>=◌, run_over, run_over-append}
 use Rattle.cat_grammar.proofs.Finishes.{has_offset, begins, takes}
 use Rattle.cat_grammar.proofs.Shapes.{KnowsPart, Broke, Plainly, Gate, Nest, Operate, Count, Names, Takes, passes, many_fault, gate_fault, StepShape, Always, Where, step_shape}
@@ -117,11 +117,11 @@ last_two-push : (a b : Token) (ts : List Token) (t : Token) → last_two a b (ts
 last_two-push a b [] t = refl
 last_two-push a b (u ∷ ts) t = last_two-push b u ts t
 
-last_offset-push : (n : ℕ) (ps : List Placed) (p : Placed) → last_offset n (ps ++ p ∷ []) ≡ p.offset
+last_offset-push : (n : ℕ) (ps : List TokenAt) (p : TokenAt) → last_offset n (ps ++ p ∷ []) ≡ p.offset
 last_offset-push n [] p = refl
 last_offset-push n (q ∷ ps) p = last_offset-push q.offset ps p
 
-pub tokens_of-append : (ps qs : List Placed) → tokens_of (ps ++ qs) ≡ tokens_of ps ++ tokens_of qs
+pub tokens_of-append : (ps qs : List TokenAt) → tokens_of (ps ++ qs) ≡ tokens_of ps ++ tokens_of qs
 tokens_of-append [] qs = refl
 tokens_of-append (p ∷ ps) qs = ap (λ (ts : List Token). p.token ∷ ts) (tokens_of-append ps qs)
 
@@ -265,11 +265,11 @@ module _ (form : Form) where
 -- ---- the first fault
 
 -- what a step's fault says of the token at an offset, after these
-abbrev pub RefusedAs : Limits → Form → List Placed → Placed → Fault → Type 0
+abbrev pub RefusedAs : Limits → Form → List TokenAt → TokenAt → Fault → Type 0
 RefusedAs most form before here (Here r) = IsRefusal most form before here r here.offset
 RefusedAs most form before here (Before r) = IsRefusal most form before here r (last_offset 0 before)
 
-module _ (most : Limits) (form : Form) (some : 0 < most.nesting) (one : 0 < most.names) (two : 0 < most.parameters) (before : List Placed) (s : State) (reached : run_over most form (start form) (tokens_of before) ≡ Ok s) (here : Placed) where
+module _ (most : Limits) (form : Form) (some : 0 < most.nesting) (one : 0 < most.names) (two : 0 < most.parameters) (before : List TokenAt) (s : State) (reached : run_over most form (start form) (tokens_of before) ≡ Ok s) (here : TokenAt) where
   abbrev two_before : Token × Token
   two_before = last_two tokens.End tokens.End (tokens_of before)
 
@@ -308,14 +308,14 @@ module _ (most : Limits) (form : Form) (some : 0 < most.nesting) (one : 0 < most
               (gate_refusal g (wider_text form most (tokens_of before) s reached some one two here.token g x (gate_fault g (is_check here.token && is_tilde two_before.1)) q offset))
 
 -- the text that was taken, or the fault
-abbrev pub Outcome : Limits → Form → List Placed → Ran → Type 0
+abbrev pub Outcome : Limits → Form → List TokenAt → Ran → Type 0
 Outcome most form ps (Ok s) = run_over most form (start form) (tokens_of ps) ≡ Ok s
 Outcome most form ps (Err e) = IsFault most form ps e.0 e.1
 
-pub outcome : (most : Limits) (form : Form) (ps : List Placed) → 0 < most.nesting → 0 < most.names → 0 < most.parameters → Outcome most form ps (run most form 0 (start form) ps)
+pub outcome : (most : Limits) (form : Form) (ps : List TokenAt) → 0 < most.nesting → 0 < most.names → 0 < most.parameters → Outcome most form ps (run most form 0 (start form) ps)
 outcome most form ps some one two = go [] 0 refl (start form) ps refl (BeginsText (begins most form [] (start form) some one refl (start_has_offset form most)))
   where
-    go : (before : List Placed) (n : ℕ) → last_offset 0 before ≡ n → (s : State) (rest : List Placed) → run_over most form (start form) (tokens_of before) ≡ Ok s → CanStand most form (tokens_of before) → Outcome most form (before ++ rest) (run most form n s rest)
+    go : (before : List TokenAt) (n : ℕ) → last_offset 0 before ≡ n → (s : State) (rest : List TokenAt) → run_over most form (start form) (tokens_of before) ≡ Ok s → CanStand most form (tokens_of before) → Outcome most form (before ++ rest) (run most form n s rest)
     go before n at_n s [] reached stand = rw append-nil reached
     go before n at_n s (p ∷ rest) reached stand =
         by_step (step most form s p.token) refl
@@ -325,7 +325,7 @@ outcome most form ps some one two = go [] 0 refl (start form) ps refl (BeginsTex
         fault r offset d e h =
             record { before = before; here = p; after = rest; split = refl; stand = stand; ends = cannot_stand form most (tokens_of before) s reached some one two p.token d e; refusal = h }
 
-        by_step : (r : Result State Fault) → step most form s p.token ≡ r → ((x : State) → (run_over most form (start form) (tokens_of before ++ p.token ∷ []) ≡ Ok x) × CanStand most form (tokens_of before ++ p.token ∷ []) → Outcome most form (before ++ p ∷ rest) (run most form p.offset x rest)) → Outcome most form (before ++ p ∷ rest) (and_then (placed n p.offset r) (λ x. run most form p.offset x rest))
+        by_step : (r : Result State Fault) → step most form s p.token ≡ r → ((x : State) → (run_over most form (start form) (tokens_of before ++ p.token ∷ []) ≡ Ok x) × CanStand most form (tokens_of before ++ p.token ∷ []) → Outcome most form (before ++ p ∷ rest) (run most form p.offset x rest)) → Outcome most form (before ++ p ∷ rest) (and_then (with_offset n p.offset r) (λ x. run most form p.offset x rest))
         by_step (Ok x) e f = f x (stands form most (tokens_of before) s reached some one two p.token x e)
         by_step (Err (Here r)) e f = fault r p.offset (Here r) e (refusal most form some one two before s reached p (Here r) e)
         by_step (Err (Before r)) e f = fault r n (Before r) e (subst (IsRefusal most form before p r) at_n (refusal most form some one two before s reached p (Before r) e))

@@ -10,7 +10,7 @@ use Rattle.cat_tokens.specs.declared.token.Token.{Token}
 use Rattle.cat_tokens.specs.declared.token.Token.TheVariants as tokens
 use Rattle.cat_values.specs.Value.{Term, Clause, Atom, Mark}
 use Rattle.cat_grammar.specs.Grammar.{Limits, limits, Means, BeginsText, IsFault}
-use Rattle.cat_tokens.specs.Tokens.{Placed, tokens_of}
+use Rattle.cat_tokens.specs.Tokens.{TokenAt, tokens_of}
 use Rattle.cat_grammar.specs.Machine.{Frame, Expectation, Wants, HasBrace, HasName, Has, HasStar, HasStarTilde, fold_to, ended, expression_step}
 use Rattle.cat_grammar.specs.ItemMachine as items
 use Rattle.cat_grammar.specs.ItemMachine.{Keyword, Named, And, Parameter, AfterParameter, Parameters, Head, Part, Start, InLet, AfterFlag, AfterTilde, Body, Label, ShowLabel, AfterShowLabel, AfterInclude, Done, Fault, Here, Before, State, end_of, item_or_end, finished, shown_clause, at, added, goes_on, step_part, step, start}
@@ -93,28 +93,28 @@ run_over_done most form s (t ∷ ts) s' e = by_step (step most form s t) e (λ x
 
 -- ---- what is read
 
-abbrev kept : List Clause → Result (List Clause) (CatRule × ℕ)
+abbrev pub kept : List Clause → Result (List Clause) (CatRule × ℕ)
 kept cs = Ok cs
 
-abbrev refused : CatRule × ℕ → Result (List Clause) (CatRule × ℕ)
+abbrev pub refused : CatRule × ℕ → Result (List Clause) (CatRule × ℕ)
 refused e = Err e
 
 kept_is : (a b : List Clause) → kept a ≡ kept b → a ≡ b
 kept_is a b e = cc
 
-refused_is : (a b : CatRule × ℕ) → refused a ≡ refused b → a ≡ b
+pub refused_is : (a b : CatRule × ℕ) → refused a ≡ refused b → a ≡ b
 refused_is a b e = cc
 
-not_both : (e : CatRule × ℕ) (cs : List Clause) → refused e ≡ kept cs → ⊥
+pub not_both : (e : CatRule × ℕ) (cs : List Clause) → refused e ≡ kept cs → ⊥
 not_both e cs h = absurd cc
 
 -- a text that means some items has no fault
-pub no_fault : (form : Form) (ps : List Placed) (v : List Clause) (r : CatRule) (n : ℕ) → Means limits form (tokens_of ps) v → IsFault limits form ps r n → ⊥
+pub no_fault : (form : Form) (ps : List TokenAt) (v : List Clause) (r : CatRule) (n : ℕ) → Means limits form (tokens_of ps) v → IsFault limits form ps r n → ⊥
 no_fault form ps v r n m f =
     let e : tokens_of ps ≡ (tokens_of f.before ++ f.here.token ∷ []) ++ tokens_of f.after = ap tokens_of f.split ∙ tokens_of-append f.before (f.here ∷ f.after) ∙ sym (append_assoc (tokens_of f.before) (f.here.token ∷ []) (tokens_of f.after)) in
     f.ends (BeginsText (record { rest = tokens_of f.after; items = v; text = subst (λ ts. Means limits form ts v) e m }))
 
-module _ (form : Form) (ps : List Placed) where
+module _ (form : Form) (ps : List TokenAt) where
   abbrev made : Ran
   made = run limits form 0 (start form) ps
 

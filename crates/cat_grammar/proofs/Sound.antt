@@ -19,6 +19,7 @@ use Rattle.cat_grammar.specs.Grammar.{Tree, Word, Underscore, Zero, Braces, Post
 use Rattle.cat_grammar.specs.Machine.{Frame, InGroup, InSquare, InPrefix, LeftOf, InArguments, Expectation, Wants, HasBrace, HasName, Has, HasStar, HasStarTilde, StepResult, Goes, Ends, EndsTilde, Refuses, open_count, fold_to, is_outermost, opened, operand, after_brace, left_frames, infix_at, counted, ended, closed, square_closed, comma_read, after, after_name, star_tilde, star_then, after_star, after_star_tilde, expression_step}
 use Rattle.cat_tokens.specs.Tokens.{begins_operand, infix_of, postfix_of}
 use Rattle.cat_grammar.proofs.Branches.{Branch, BGroup, BSquare, BPrefix, BLeft, BArguments, frame, frames, before, need, opens, count, Fine, Stops, open_count-frames, right_level-le, left_level-le, need-le, opens-le, meets, Folded, folded, IsOutermost, outermost, arguments_of, spelled-arguments_of, meanings-arguments_of, grouped-arguments_of, depths-arguments_of, operators-arguments_of, before_arguments-push, values-push, sum_operators-push, arguments_fine-push}
+use Rattle.cat_grammar.proofs.Complete.{level-le}
 
 -- an operand is wanted here
 pub record Open (most : Limits) (whole rest : List Token) (fs : List Frame) (used : ℕ) : Type 0 where
@@ -117,13 +118,6 @@ fold_outermost l (LeftOf op a ∷ fs) v h = choose (nat_le l (level op)) (fold_o
 
 infix_outermost : (op : Infix) (fs : List Frame) (v : Term) → IsOutermost fs → IsOutermost (infix_at op fs v)
 infix_outermost op fs v h = fold_outermost (left_level op) fs v h
-
-level-le : (op : Infix) → level op ≤ 5
-level-le Union = omega arith
-level-le Sequence = omega arith
-level-le Difference = omega arith
-level-le Intersection = omega arith
-level-le Product = omega arith
 
 -- no prefix is open to the left of an infix operator
 none_open : (most : Limits) (bs : List Branch) → Fine most bs → IsOutermost (frames bs) → need bs ≤ 5 → opens bs ≡ 0

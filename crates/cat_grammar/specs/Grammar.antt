@@ -14,7 +14,7 @@ use Rattle.cat_tokens.specs.declared.token.Sign.TheVariants.{Bar, Semicolon, Bac
 use Rattle.cat_tokens.specs.declared.token.Mark.TheVariants.{Plus, Question, Inverse}
 use Rattle.cat_tokens.specs.declared.token.Token.{Token}
 use Rattle.cat_tokens.specs.declared.token.Token.TheVariants as tokens
-use Rattle.cat_tokens.specs.Tokens.{Placed, tokens_of}
+use Rattle.cat_tokens.specs.Tokens.{TokenAt, tokens_of}
 use Rattle.cat_values.specs.Value as value
 use Rattle.cat_values.specs.Value.{Term, Terms, Checked, Clause}
 
@@ -395,7 +395,7 @@ abbrev pub last_two : Token → Token → List Token → Token × Token
 last_two a b [] = (a, b)
 last_two a b (t ∷ ts) = last_two b t ts
 
-abbrev pub last_offset : ℕ → List Placed → ℕ
+abbrev pub last_offset : ℕ → List TokenAt → ℕ
 last_offset n [] = n
 last_offset n (p ∷ ps) = last_offset p.offset ps
 
@@ -433,12 +433,12 @@ plain_rule p tokens.Open = if is_name p.1 && is_rec_or_and p.0 then rules.Unsupp
 plain_rule p _ = rules.Syntax
 
 -- the offset of the first token of an item that this token is seen to begin, or to go on with after `~`
-abbrev pub first_offset : List Placed → Placed → ℕ
+abbrev pub first_offset : List TokenAt → TokenAt → ℕ
 first_offset before here =
     if is_check here.token && is_tilde ((last_two tokens.End tokens.End (tokens_of before)).1) then last_offset 0 before else here.offset
 
 -- The rule that a token breaks, and the offset that is at fault.
-pub data IsRefusal (most : Limits) (form : Form) (before : List Placed) (here : Placed) (rule : CatRule) (offset : ℕ) : Type 0 where
+pub data IsRefusal (most : Limits) (form : Form) (before : List TokenAt) (here : TokenAt) (rule : CatRule) (offset : ℕ) : Type 0 where
   -- it stands nowhere
   Nowhere : broken_rule here.token ≡ Some rule → offset ≡ here.offset → IsRefusal most form before here rule offset
   -- it can stand if there may be more items, names or parameters: the first token of what is too many is at fault
@@ -449,10 +449,10 @@ pub data IsRefusal (most : Limits) (form : Form) (before : List Placed) (here : 
   Plain : ((wider : Limits) → Begins wider form (tokens_of before ++ here.token ∷ []) → ⊥) → broken_rule here.token ≡ None → rule ≡ plain_rule (last_two tokens.End tokens.End (tokens_of before)) here.token → offset ≡ here.offset → IsRefusal most form before here rule offset
 
 -- The tokens before some token can stand, and with it they cannot: this rule is broken, at this offset.
-pub record IsFault (most : Limits) (form : Form) (ps : List Placed) (rule : CatRule) (offset : ℕ) : Type 0 where
-  pub before : List Placed
-  pub here : Placed
-  pub after : List Placed
+pub record IsFault (most : Limits) (form : Form) (ps : List TokenAt) (rule : CatRule) (offset : ℕ) : Type 0 where
+  pub before : List TokenAt
+  pub here : TokenAt
+  pub after : List TokenAt
   pub split : ps ≡ before ++ here ∷ after
   pub stand : CanStand most form (tokens_of before)
   pub ends : CanStand most form (tokens_of before ++ here.token ∷ []) → ⊥

@@ -8,6 +8,7 @@ use Rattle.cat_printing.specs.Printing.{printed_item, printed_model}
 use Rattle.cat_laws.specs.Written.{joins, joins_of, deepest, most_joins, bodies, IsWithin, AreWithin, AreShallow, ItemStaysWithin, ModelStaysWithin, ReadsItem, ReadsModel}
 use Rattle.cat_laws.proofs.Named.{item_was_written, model_was_written}
 use Rattle.cat_laws.proofs.Printed.{item_reads, model_reads}
+use Rattle.cat_grammar.proofs.Groups.{length-group_meaning, length-items_meaning}
 
 mutual
   joins_meant : (t : Tree) → joins (meaning t) ≡ operators t
@@ -50,14 +51,10 @@ shown_joins most (s ∷ ss) h =
     let z = shown_joins most ss h.1 in
     omega arith
 
-group_names : (g : List Bound) → length (group_meaning g) ≡ length g
-group_names [] = refl
-group_names (b ∷ bs) = ap suc (group_names bs)
-
 -- an item of a text keeps every limit but that of nesting
 item_within : (most : Limits) (i : ItemTree) → IsItem most i → deepest (bodies (item_meaning i)) ≤ most.nesting → IsWithin most (item_meaning i)
 item_within most (Let recursive group) h deep =
-    let n = group_names group in
+    let n = length-group_meaning group in
     let few = h.1 in
     record { shallow = deep; few = group_joins most group h.2; names = omega arith; parameters = omega arith }
 item_within most (Function n parameters body) h deep =
@@ -80,10 +77,6 @@ items_within : (is : List ItemTree) → AreItems limits is → AreShallow (items
 items_within [] h deep = tt
 items_within (i ∷ is) h deep = (item_within limits i h.0 deep.0, items_within is h.1 deep.1)
 
-items_count : (is : List ItemTree) → length (items_meaning is) ≡ length is
-items_count [] = refl
-items_count (i ∷ is) = ap suc (items_count is)
-
 pub item_again : (bytes : List ℕ) (c : Clause) → ReadsItem bytes c → ItemStaysWithin c → ReadsItem (printed_item c) c
 item_again bytes c r s =
     let m = r.means in
@@ -93,7 +86,7 @@ item_again bytes c r s =
 pub model_again : (bytes : List ℕ) (cs : List Clause) → ReadsModel bytes cs → ModelStaysWithin cs → ReadsModel (printed_model cs) cs
 model_again bytes cs r s =
     let m = r.means in
-    let n = items_count m.items in
+    let n = length-items_meaning m.items in
     let same = ap length m.meant in
     let few = m.form_is in
     model_reads cs (model_was_written bytes cs r) (record {

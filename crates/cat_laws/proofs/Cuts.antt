@@ -2,7 +2,7 @@
 use Rattle.std.proofs.Common.{◌≡◌, ℕ, zero, suc, ◌+◌, ◌-◌, ◌<◌, ◌≤◌, ◌⊎◌, inl, inr, Bool, true, false, List, [], ◌∷◌, ◌++◌, length, get_or, take, drop, refl, sym, ap, ◌∙◌, subst, arith, append_assoc}
 use Rattle.std.specs.Prelude.{Option, Some, None, slice_index, ◌==◌, ◌&&◌, ◌||◌, not, if◌then◌else◌}
 use Rattle.std.specs.List.{position_or_len}
-use Rattle.std.proofs.lemmas.Bool.{cases_lt}
+use Rattle.std.proofs.lemmas.Bool.{cases_lt, and_left}
 use Rattle.std.proofs.lemmas.List.{length-take, length-drop, length-append, get_or-take, get_or-drop, get_or_append_left, take-append-drop, take_all, drop_all}
 use Rattle.std.proofs.lemmas.List.Sums.{fails_before_first, passes_at_first}
 use Rattle.source_text.specs.Letters.{is_letter}
@@ -15,12 +15,12 @@ use Rattle.cat_tokens.specs.declared.token.Token.{Token}
 use Rattle.cat_tokens.specs.declared.token.Token.TheVariants as tokens
 use Rattle.cat_tokens.specs.declared.lexer.Front.{Front}
 use Rattle.cat_tokens.specs.declared.lexer.Front.TheVariants as fronts
-use Rattle.cat_tokens.specs.Tokens.{Placed}
+use Rattle.cat_tokens.specs.Tokens.{TokenAt}
 use Rattle.cat_tokens.specs.Words.{word_token}
 use Rattle.cat_tokens.specs.Lexer.{is_layout, is_name_byte, ends_name, comment_front, quoted_front, word_front, sign_token, sign_front, front, after_front, tokens_from, lexed}
 use Rattle.cat_tokens.proofs.Lexed.{tokens_skip}
 use Rattle.cat_laws.specs.Tokens.{IsWord, is_sign, Spells, Word, String, Sign, Inversion, Plusses, begins_line_comment, begins_gap, IsGap, Blank, Comment, Line, IsLongest, SpellsNone, IsLexeme, Spelled, NoToken, OpenComment, OpenString, Piece, Gap, Lexeme, text_of, ArePieces, tokens_at, IsCut, AreRising}
-use Rattle.text_laws.proofs.Runs.{other, neither_of, clash, opposite, equals, less, cons_of, next_of, pos_some, pos_le, two_kept, inside_fits, lacks_before, string_text, tested}
+use Rattle.text_laws.proofs.Runs.{other, clash, opposite, equals, less, cons_of, next_of, pos_some, pos_le, two_kept, inside_fits, lacks_before, string_text, tested}
 use Rattle.cat_laws.proofs.Named.{first_of, each_of, letter_in_name}
 
 -- ---- the longest piece that spells a token
@@ -162,7 +162,7 @@ word_piece b bs layout letter =
     let n = position_or_len ends_name (b ∷ bs) in
     let some : 0 < n = pos_some ends_name b bs (ap not (letter_in_name b letter)) in
     spelled n b bs (word_token (take n (b ∷ bs))) some (pos_le ends_name (b ∷ bs))
-    (no_gap b bs layout (neither_of _ _ (other b 40 (letter_is_no b 40 letter refl))) (neither_of _ _ (other b 47 (letter_is_no b 47 letter refl))))
+    (no_gap b bs layout (and_left _ _ (other b 40 (letter_is_no b 40 letter refl))) (and_left _ _ (other b 47 (letter_is_no b 47 letter refl))))
     (Word (record { first = ap is_letter (first_of b bs letter) ∙ letter; each = each_of (b ∷ bs) }) refl)
     (record {
       word = λ _ longer others w e. word_fits (b ∷ bs) longer others w e;
@@ -336,7 +336,7 @@ front_piece b bs =
 
 -- ---- all pieces
 
-record CutAt (n : ℕ) (bs : List ℕ) (ps : List Placed) : Type 0 where
+record CutAt (n : ℕ) (bs : List ℕ) (ps : List TokenAt) : Type 0 where
   pieces : List Piece
   fine : ArePieces pieces
   whole : text_of pieces ≡ bs
@@ -372,7 +372,7 @@ after_piece n b bs (fronts.Lexeme t (suc j)) h ih =
       pieces = Lexeme t (take (suc j) (b ∷ bs)) ∷ c.pieces;
       fine = (subst (IsLexeme t (take (suc j) (b ∷ bs))) (sym c.whole) h.2, c.fine);
       whole = ap (λ (xs : List ℕ). take (suc j) (b ∷ bs) ++ xs) c.whole ∙ take-append-drop (suc j) (b ∷ bs);
-      tokens = ap (λ (ps : List Placed). record { token = t; offset = n } ∷ ps) (ap (λ (k : ℕ). tokens_at k c.pieces) size ∙ c.tokens ∙ sym (skipped j n bs (omega arith)));
+      tokens = ap (λ (ps : List TokenAt). record { token = t; offset = n } ∷ ps) (ap (λ (k : ℕ). tokens_at k c.pieces) size ∙ c.tokens ∙ sym (skipped j n bs (omega arith)));
     }
 
 cut_at : (most n : ℕ) (bs : List ℕ) → length bs ≤ most → CutAt n bs (tokens_from 0 n bs)

@@ -19,10 +19,11 @@ use Rattle.cat_tokens.specs.Lexer.{is_layout, is_name_byte, ends_name, comment_f
 use Rattle.source_text.specs.Letters.{is_letter}
 use Rattle.text_laws.proofs.Runs.{tested}
 use Rattle.cat_grammar.specs.Grammar as grammar
-use Rattle.cat_tokens.specs.Tokens.{Placed, tokens_of}
+use Rattle.cat_tokens.specs.Tokens.{TokenAt, tokens_of}
 use Rattle.cat_grammar.specs.Grammar.{Tree, Trees, Word, Underscore, Zero, Braces, Pair, Post, Prefix, Group, Square, Application, Last, More, infix_token, postfix_token, spelled, spelled_arguments, meaning, meanings, Limits, limits, Bound, CheckTree, ItemTree, Let, Check, Flag, Show, Include, show_token, spelled_rec, spelled_tilde, spelled_label, spelled_bound, spelled_group, spelled_parameters, spelled_check, spelled_one, spelled_shown, spelled_item, spelled_items, group_meaning, shown_meaning, item_meaning, items_meaning, IsItem, AreItems, Title, NoTitle, NameTitle, StringTitle, spelled_title, Means}
 use Rattle.cat_laws.specs.Written as written
 use Rattle.cat_laws.specs.Written.{IsName, IsTerm, AreTerms, AreOthers, AreNames, IsLabel, AreBindings, IsWritten, AreWritten, IsTextOfItem, IsTextOfModel, ReadsItem, ReadsModel}
+use Rattle.cat_grammar.proofs.Groups.{length-group_meaning}
 
 -- ---- tokens
 
@@ -135,16 +136,16 @@ front_named b bs =
     either IsNamedFront (b == 34) _ _ (quoted_named (b ∷ bs) (quoted_from (b ∷ bs))) (
     either IsNamedFront (b == 43 && x == 43) _ _ tt (either IsNamedFront (b == 94 && x == 45 && y == 49) _ _ tt (sign_named b)))))))
 
-after_named : (place : ℕ) (f : Front) (later : ℕ → List Placed) → IsNamedFront f → ((k : ℕ) → AreNamed (tokens_of (later k))) → AreNamed (tokens_of (after_front place f later))
-after_named place (Layout n) later h more = more (n - 1)
-after_named place (Lexeme t n) later h more = (h, more (n - 1))
+after_named : (offset : ℕ) (f : Front) (later : ℕ → List TokenAt) → IsNamedFront f → ((k : ℕ) → AreNamed (tokens_of (later k))) → AreNamed (tokens_of (after_front offset f later))
+after_named offset (Layout n) later h more = more (n - 1)
+after_named offset (Lexeme t n) later h more = (h, more (n - 1))
 
-tokens_named : (skip place : ℕ) (bs : List ℕ) → AreNamed (tokens_of (tokens_from skip place bs))
+tokens_named : (skip offset : ℕ) (bs : List ℕ) → AreNamed (tokens_of (tokens_from skip offset bs))
 unfolding tokens_from
-tokens_named zero place [] = (tt, tt)
-tokens_named (suc k) place [] = (tt, tt)
-tokens_named (suc k) place (b ∷ bs) = tokens_named k (place + 1) bs
-tokens_named zero place (b ∷ bs) = after_named place (front (b ∷ bs)) (λ k. tokens_from k (place + 1) bs) (front_named b bs) (λ k. tokens_named k (place + 1) bs)
+tokens_named zero offset [] = (tt, tt)
+tokens_named (suc k) offset [] = (tt, tt)
+tokens_named (suc k) offset (b ∷ bs) = tokens_named k (offset + 1) bs
+tokens_named zero offset (b ∷ bs) = after_named offset (front (b ∷ bs)) (λ k. tokens_from k (offset + 1) bs) (front_named b bs) (λ k. tokens_named k (offset + 1) bs)
 
 -- ---- trees
 
@@ -232,10 +233,6 @@ shown_named (s ∷ u ∷ ss) rest h =
     let z = shown_named (u ∷ ss) rest y.1.1 in
     ((x.0, y.0, z.0), z.1)
 
-group_length : (g : List Bound) → length (group_meaning g) ≡ length g
-group_length [] = refl
-group_length (b ∷ bs) = ap suc (group_length bs)
-
 shown_length : (ss : List grammar.Shown) → length (shown_meaning ss) ≡ length ss
 shown_length [] = refl
 shown_length (s ∷ ss) = ap suc (shown_length ss)
@@ -243,7 +240,7 @@ shown_length (s ∷ ss) = ap suc (shown_length ss)
 item_named_of : (most : Limits) (i : ItemTree) (rest : List Token) → IsItem most i → AreNamed (spelled_item i rest) → IsWritten (item_meaning i) × AreNamed rest
 item_named_of most (Let recursive group) rest is h =
     let x = group_named group rest (rec_named recursive (spelled_group group rest) h.1) in
-    let l = group_length group in
+    let l = length-group_meaning group in
     let some = is.0 in
     ((omega arith, x.0), x.1)
 item_named_of most (grammar.Function n parameters body) rest is h =

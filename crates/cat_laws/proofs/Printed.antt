@@ -26,7 +26,7 @@ use Rattle.cat_values.specs.Value.{Term, Terms, Atom, AllEvents, EmptyRelation, 
 use Rattle.cat_tokens.specs.Words.{item_word, part_word, word_token}
 use Rattle.cat_tokens.specs.Lexer.{is_layout, ends_name, sign_token, word_front, comment_front, quoted_front, front, after_front, tokens_from}
 use Rattle.source_text.specs.Letters.{is_letter}
-use Rattle.cat_tokens.specs.Tokens.{Placed, tokens_of}
+use Rattle.cat_tokens.specs.Tokens.{TokenAt, tokens_of}
 use Rattle.cat_grammar.specs.Grammar.{Tree, infix_token, postfix_token, spelled, spelled_arguments, show_token, spelled_rec, spelled_tilde, spelled_label, spelled_bound, spelled_group, spelled_parameters, spelled_check, spelled_one, spelled_shown, spelled_item, spelled_items, Limits, limits, Means, NoTitle, has_no_effect}
 use Rattle.cat_grammar.specs.declared.form.Form.TheVariants as forms
 use Rattle.cat_printing.specs.Printing.{is_binary, is_compound, infix_text, postfix_text, printed_term, printed_terms, label_text, optional_label, tilde_text, word_text, check_text, recursion_text, binding_text, show_text, shown_text, quote, printed_item, printed_model}
@@ -41,7 +41,7 @@ use Rattle.cat_tokens.proofs.Lexed.{tokens_skip}
 abbrev pub read : List ℕ → List Token
 read bs = tokens_of (tokens_from 0 0 bs)
 
-after_free : (p q : ℕ) (f : Front) (later other : ℕ → List Placed) → ((k : ℕ) → tokens_of (later k) ≡ tokens_of (other k)) → tokens_of (after_front p f later) ≡ tokens_of (after_front q f other)
+after_free : (p q : ℕ) (f : Front) (later other : ℕ → List TokenAt) → ((k : ℕ) → tokens_of (later k) ≡ tokens_of (other k)) → tokens_of (after_front p f later) ≡ tokens_of (after_front q f other)
 after_free p q (Layout n) later other h = h (n - 1)
 after_free p q (Lexeme t n) later other h = ap (λ (ts : List Token). t ∷ ts) (h (n - 1))
 
@@ -211,7 +211,7 @@ name (c ∷ cs) bs h e =
     let l = length-append cs bs in
     ap (λ (f : Front). tokens_of (after_front 0 f (λ k. tokens_from k 1 (cs ++ bs)))) (front_name c cs bs h e)
     ∙ ap (λ (k : ℕ). tokens.Name (c ∷ cs) ∷ tokens_of (tokens_from k 1 (cs ++ bs))) (omega arith)
-    ∙ ap (λ (ps : List Placed). tokens.Name (c ∷ cs) ∷ tokens_of ps) (tokens_skip (length cs) 1 (cs ++ bs) (omega arith))
+    ∙ ap (λ (ps : List TokenAt). tokens.Name (c ∷ cs) ∷ tokens_of ps) (tokens_skip (length cs) 1 (cs ++ bs) (omega arith))
     ∙ ap (λ (x : List ℕ). tokens.Name (c ∷ cs) ∷ tokens_of (tokens_from 0 (1 + length cs) x)) (drop_at cs bs (length cs) refl)
     ∙ ap (λ (ts : List Token). tokens.Name (c ∷ cs) ∷ ts) (place_free 0 (1 + length cs) 0 bs)
 
@@ -235,7 +235,7 @@ quoted path bs h =
     ap (drop (length path + 1)) (sym (append_assoc path (34 ∷ []) bs)) ∙ drop_at (path ++ 34 ∷ []) bs (length path + 1) (omega arith) in
     ap (λ (f : Front). tokens_of (after_front 0 f (λ k. tokens_from k 1 (path ++ (34 ∷ bs))))) (front_quote path bs h)
     ∙ ap (λ (k : ℕ). tokens.Quoted path ∷ tokens_of (tokens_from k 1 (path ++ (34 ∷ bs)))) (omega arith)
-    ∙ ap (λ (ps : List Placed). tokens.Quoted path ∷ tokens_of ps) (tokens_skip (length path + 1) 1 (path ++ (34 ∷ bs)) (omega arith))
+    ∙ ap (λ (ps : List TokenAt). tokens.Quoted path ∷ tokens_of ps) (tokens_skip (length path + 1) 1 (path ++ (34 ∷ bs)) (omega arith))
     ∙ ap (λ (x : List ℕ). tokens.Quoted path ∷ tokens_of (tokens_from 0 (1 + (length path + 1)) x)) past
     ∙ ap (λ (ts : List Token). tokens.Quoted path ∷ ts) (place_free 0 (1 + (length path + 1)) 0 bs)
 

@@ -11,6 +11,7 @@ use Rattle.cat_grammar.specs.Grammar.{Tree, Trees, Word, Underscore, Zero, Brace
 use Rattle.cat_printing.specs.Printing.{is_binary, is_compound}
 use Rattle.cat_laws.specs.Written as written
 use Rattle.cat_laws.specs.Written.{IsTerm, AreTerms, AreBindings, IsWritten, AreWritten, one_where, nesting, nestings, joins, joins_of, deepest, most_joins, bodies, name_count, parameter_count, IsWithin, AreWithin}
+use Rattle.cat_grammar.proofs.Branches.{left_level-le}
 
 abbrev pub grouped : Bool → Tree → Tree
 grouped true t = Group t
@@ -83,13 +84,6 @@ tight_marked (Not a) = omega arith
 tight_marked (On a) = omega arith
 tight_marked (Apply n arguments) = omega arith
 
-left_most : (op : Infix) → left_level op ≤ 6
-left_most Union = omega arith
-left_most Sequence = omega arith
-left_most Difference = omega arith
-left_most Intersection = omega arith
-left_most Product = omega arith
-
 right_most : (op : Infix) → right_level op ≤ 6
 right_most Union = omega arith
 right_most Sequence = omega arith
@@ -104,7 +98,7 @@ mutual
   IsGrouped-tree_of EmptyRelation = tt
   IsGrouped-tree_of EmptySet = tt
   IsGrouped-tree_of (Join op a b) =
-      let l = left_most op in
+      let l = left_level-le op in
       let r = right_most op in
       let x = tight_operand a in
       let y = tight_operand b in

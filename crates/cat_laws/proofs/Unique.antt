@@ -2,21 +2,21 @@
 use Rattle.std.proofs.Common.{◌≡◌, ℕ, suc, ◌+◌, ◌<◌, ◌≤◌, ◌⊎◌, inl, inr, Bool, true, false, List, [], ◌∷◌, ◌++◌, length, drop, refl, sym, ap, ◌∙◌, subst, arith, append_assoc}
 use Rattle.std.specs.Prelude.{Option, Some, None, slice_index, ◌==◌, ◌&&◌, ◌||◌, not}
 use Rattle.std.specs.List.{position_or_len}
-use Rattle.std.proofs.lemmas.Bool.{cases_lt}
+use Rattle.std.proofs.lemmas.Bool.{cases_lt, false_from_ne_true}
 use Rattle.std.proofs.lemmas.List.{append-nil, length-append, get_or_append_left, take_at, drop_at}
 use Rattle.std.proofs.lemmas.List.Sums.{position_or_len_is}
 use Rattle.source_text.specs.Letters.{is_letter}
 use Rattle.source_text.specs.Layout.{is_line_end, is_quote, quoted_from, comment_of}
 use Rattle.text_laws.specs.Comments.{LacksQuote, begins_comment, BeginsWithComment}
 use Rattle.text_laws.proofs.Nesting as nesting
-use Rattle.text_laws.proofs.Runs.{equals, or_first, or_second, seam, when_true, when_false, fails, quote_size, open_size}
+use Rattle.text_laws.proofs.Runs.{equals, or_first, or_second, seam, when_true, when_false, quote_size, open_size}
 use Rattle.cat_tokens.specs.declared.rule.CatRule.TheVariants as rules
 use Rattle.cat_tokens.specs.declared.token.Mark.TheVariants.{Inverse}
 use Rattle.cat_tokens.specs.declared.token.Token.{Token}
 use Rattle.cat_tokens.specs.declared.token.Token.TheVariants as tokens
 use Rattle.cat_tokens.specs.declared.lexer.Front.{Front}
 use Rattle.cat_tokens.specs.declared.lexer.Front.TheVariants as fronts
-use Rattle.cat_tokens.specs.Tokens.{Placed}
+use Rattle.cat_tokens.specs.Tokens.{TokenAt}
 use Rattle.cat_tokens.specs.Words.{word_token}
 use Rattle.cat_tokens.specs.Lexer.{is_layout, is_name_byte, ends_name, comment_front, quoted_front, word_front, sign_token, sign_front, front, after_front, tokens_from, lexed}
 use Rattle.cat_laws.specs.Tokens.{IsWord, is_sign, Spells, Word, String, Sign, Inversion, Plusses, begins_line_comment, begins_gap, IsGap, Blank, Comment, Line, IsLongest, SpellsNone, IsLexeme, Spelled, NoToken, OpenComment, OpenString, Piece, Gap, Lexeme, text_of, ArePieces, tokens_at, IsCut}
@@ -106,7 +106,7 @@ longer_word (b ∷ bs) c w name = record { first = w.first; each = λ k lt. by_s
 word_ends : (s rest : List ℕ) → IsWord s → IsLongest s rest → 0 < length rest → ends_name (slice_index rest 0) ≡ true
 word_ends s [] w longest lt = absurd (omega arith)
 word_ends s (c ∷ cs) w longest lt =
-    ap not (fails (is_name_byte c) (λ name.
+    ap not (false_from_ne_true (is_name_byte c) (λ name.
     (let l = length-append s (c ∷ []) in
     let le = longest (s ++ c ∷ []) cs (word_token (s ++ c ∷ [])) (append_assoc s (c ∷ []) cs) (Word (longer_word s c w name) refl) in
     absurd (omega arith))))
@@ -165,17 +165,17 @@ plusses_begin b bs h =
 front_of_sign : (b : ℕ) (rest : List ℕ) → is_sign b ≡ true → begins_gap (b ∷ rest) ≡ false → IsLongest (b ∷ []) rest → front (b ∷ rest) ≡ fronts.Lexeme (sign_token b) 1
 front_of_sign b rest sign gap longest =
     let plain = sign_plain b sign in
-    let plus : (b == 43 && slice_index rest 0 == 43) ≡ false = fails (b == 43 && slice_index rest 0 == 43) (λ h.
+    let plus : (b == 43 && slice_index rest 0 == 43) ≡ false = false_from_ne_true (b == 43 && slice_index rest 0 == 43) (λ h.
     (let le = longest (43 ∷ 43 ∷ []) (drop 1 rest) (tokens.Broken rules.Unsupported) (plusses_begin b rest h) (Plusses refl refl) in absurd (omega arith))) in
     front_sign b rest gap plain.0 plain.1 ∙ one_byte b rest plus (ap (λ (x : Bool). x && slice_index rest 0 == 45 && slice_index rest 1 == 49) plain.2)
 
 front_of_none : (b : ℕ) (rest : List ℕ) → (b == 34) ≡ false → begins_gap (b ∷ rest) ≡ false → SpellsNone (b ∷ rest) → front (b ∷ rest) ≡ fronts.Lexeme (tokens.Broken rules.Token) 1
 front_of_none b rest quote gap none =
-    let letter : is_letter b ≡ false = fails (is_letter b) (λ h. none (b ∷ []) rest (word_token (b ∷ [])) refl (Word (one_letter h) refl)) in
-    let plus : (b == 43 && slice_index rest 0 == 43) ≡ false = fails (b == 43 && slice_index rest 0 == 43) (λ h. none (43 ∷ 43 ∷ []) (drop 1 rest) (tokens.Broken rules.Unsupported) (plusses_begin b rest h) (Plusses refl refl)) in
-    let inverse : (b == 94 && slice_index rest 0 == 45 && slice_index rest 1 == 49) ≡ false = fails (b == 94 && slice_index rest 0 == 45 && slice_index rest 1 == 49) (λ h.
+    let letter : is_letter b ≡ false = false_from_ne_true (is_letter b) (λ h. none (b ∷ []) rest (word_token (b ∷ [])) refl (Word (one_letter h) refl)) in
+    let plus : (b == 43 && slice_index rest 0 == 43) ≡ false = false_from_ne_true (b == 43 && slice_index rest 0 == 43) (λ h. none (43 ∷ 43 ∷ []) (drop 1 rest) (tokens.Broken rules.Unsupported) (plusses_begin b rest h) (Plusses refl refl)) in
+    let inverse : (b == 94 && slice_index rest 0 == 45 && slice_index rest 1 == 49) ≡ false = false_from_ne_true (b == 94 && slice_index rest 0 == 45 && slice_index rest 1 == 49) (λ h.
     none (94 ∷ 45 ∷ 49 ∷ []) (drop 1 (drop 1 rest)) (tokens.Mark Inverse) (sym (three_bytes b rest h)) (Inversion refl refl)) in
-    let sign : is_sign b ≡ false = fails (is_sign b) (λ h. none (b ∷ []) rest (sign_token b) refl (Sign b h refl refl)) in
+    let sign : is_sign b ≡ false = false_from_ne_true (is_sign b) (λ h. none (b ∷ []) rest (sign_token b) refl (Sign b h refl refl)) in
     front_sign b rest gap letter quote ∙ one_byte b rest plus inverse ∙ ap (λ (t : Token). fronts.Lexeme t 1) (not_sign b sign)
   where
     one_letter : is_letter b ≡ true → IsWord (b ∷ [])
@@ -243,13 +243,13 @@ lexeme_turn n t [] rest some e = absurd (omega arith)
 lexeme_turn n t (b ∷ bs) rest some e =
     let l = length-append bs rest in
     turn n b (bs ++ rest) ∙ ap (λ (f : Front). after_front n f (λ skip. tokens_from skip (n + 1) (bs ++ rest))) e
-    ∙ ap (λ (ps : List Placed). record { token = t; offset = n } ∷ ps) (skipped (length bs) n (bs ++ rest) (omega arith) ∙ ap (tokens_from 0 (n + suc (length bs))) (drop_at bs rest (length bs) refl))
+    ∙ ap (λ (ps : List TokenAt). record { token = t; offset = n } ∷ ps) (skipped (length bs) n (bs ++ rest) (omega arith) ∙ ap (tokens_from 0 (n + suc (length bs))) (drop_at bs rest (length bs) refl))
 
 of_pieces : (n : ℕ) (ps : List Piece) → ArePieces ps → tokens_from 0 n (text_of ps) ≡ tokens_at n ps
 of_pieces n [] h = end_tokens n
 of_pieces n (Gap s ∷ ps) h = gap_turn n s (text_of ps) (gap_bytes s (text_of ps) h.0) (front_gap s (text_of ps) h.0) ∙ of_pieces (n + length s) ps h.1
 of_pieces n (Lexeme t s ∷ ps) h =
-    lexeme_turn n t s (text_of ps) (lexeme_bytes t s (text_of ps) h.0) (front_lexeme t s (text_of ps) h.0) ∙ ap (λ (qs : List Placed). record { token = t; offset = n } ∷ qs) (of_pieces (n + length s) ps h.1)
+    lexeme_turn n t s (text_of ps) (lexeme_bytes t s (text_of ps) h.0) (front_lexeme t s (text_of ps) h.0) ∙ ap (λ (qs : List TokenAt). record { token = t; offset = n } ∷ qs) (of_pieces (n + length s) ps h.1)
 
-pub only_cut : (bytes : List ℕ) (ps : List Placed) → IsCut bytes ps → lexed bytes ≡ ps
+pub only_cut : (bytes : List ℕ) (ps : List TokenAt) → IsCut bytes ps → lexed bytes ≡ ps
 only_cut bytes ps c = ap lexed (sym c.whole) ∙ of_pieces 0 c.pieces c.fine ∙ c.tokens

@@ -7,7 +7,7 @@ use Rattle.cat_tokens.specs.declared.rule.CatRule.TheVariants as rules
 use Rattle.cat_tokens.specs.declared.token.Mark.TheVariants.{Inverse}
 use Rattle.cat_tokens.specs.declared.token.Token.{Token}
 use Rattle.cat_tokens.specs.declared.token.Token.TheVariants as tokens
-use Rattle.cat_tokens.specs.Tokens.{Placed}
+use Rattle.cat_tokens.specs.Tokens.{TokenAt}
 use Rattle.cat_tokens.specs.Words.{word_token}
 use Rattle.cat_tokens.specs.Lexer.{is_layout, is_name_byte, sign_token}
 
@@ -88,7 +88,7 @@ ArePieces (Gap s ∷ ps) = IsGap s (text_of ps) × ArePieces ps
 ArePieces (Lexeme t s ∷ ps) = IsLexeme t s (text_of ps) × ArePieces ps
 
 -- the tokens of pieces that begin at an offset, and the end
-abbrev pub tokens_at : ℕ → List Piece → List Placed
+abbrev pub tokens_at : ℕ → List Piece → List TokenAt
 tokens_at n [] = record { token = tokens.End; offset = n } ∷ []
 tokens_at n (Gap s ∷ ps) = tokens_at (n + length s) ps
 tokens_at n (Lexeme t s ∷ ps) = record { token = t; offset = n } ∷ tokens_at (n + length s) ps
@@ -96,13 +96,13 @@ tokens_at n (Lexeme t s ∷ ps) = record { token = t; offset = n } ∷ tokens_at
 -- ---- a whole text
 
 -- the text is cut into gaps and lexemes, of which these are the tokens
-pub record IsCut (bytes : List ℕ) (ps : List Placed) : Type 0 where
+pub record IsCut (bytes : List ℕ) (ps : List TokenAt) : Type 0 where
   pub pieces : List Piece
   pub fine : ArePieces pieces
   pub whole : text_of pieces ≡ bytes
   pub tokens : tokens_at 0 pieces ≡ ps
 
 -- each token begins behind the one before it, from this offset on
-abbrev pub AreRising : ℕ → List Placed → Type 0
+abbrev pub AreRising : ℕ → List TokenAt → Type 0
 AreRising n [] = Unit {0}
 AreRising n (p ∷ ps) = (n ≤ p.offset) × AreRising (p.offset + 1) ps

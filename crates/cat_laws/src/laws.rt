@@ -6,7 +6,7 @@ ghost use Rattle.cat_printing.specs.Printing.{printed_item, printed_model};
 ghost use Rattle.cat_tokens.specs.declared.token.Token.{Token};
 ghost use Rattle.cat_tokens.specs.declared.token.Token.TheVariants as tokens;
 ghost use Rattle.cat_tokens.specs.Lexer.{lexed};
-ghost use Rattle.cat_tokens.specs.Tokens.{Placed};
+ghost use Rattle.cat_tokens.specs.Tokens.{TokenAt};
 ghost use Rattle.cat_grammar.specs.declared.form.Form.{Form};
 ghost use Rattle.cat_grammar.specs.Grammar.{Limits, is_rec_or_and};
 ghost use Rattle.cat_laws.specs.Parts.{IsPath, GoesOn};
@@ -49,7 +49,7 @@ pub fn tokens_cover_the_text()
     // The text is cut into such pieces, and its tokens are theirs.
     ensures cut { (bytes : List ℕ) → IsCut bytes (lexed bytes) }
     // It is cut in no other way.
-    ensures only { (bytes : List ℕ) (ps : List Placed) → IsCut bytes ps → lexed bytes ≡ ps }
+    ensures only { (bytes : List ℕ) (ps : List TokenAt) → IsCut bytes ps → lexed bytes ≡ ps }
     // Each token begins behind the one before it.
     ensures rising { (bytes : List ℕ) → AreRising 0 (lexed bytes) }
 {}

@@ -24,7 +24,7 @@ use Rattle.cat_syntax.specs.ReadingTexts.{reading, ReadsTo}
 use Rattle.cat_syntax.specs.Reads.{Reads, FaultAt, IsLong, InText, IsFaultOf}
 use Rattle.cat_syntax.proofs.Texts.{too_long, fits}
 use Rattle.cat_grammar.proofs.Groups.{length-items_meaning}
-use Rattle.cat_grammar.proofs.Outcomes.{no_fault, fault_found, items_found, items_only}
+use Rattle.cat_grammar.proofs.Outcomes.{no_fault, fault_found, items_found, items_only, kept, refused, refused_is, not_both}
 
 -- the last token of a text is its end
 ends_last : (skip offset : ℕ) (bytes : List ℕ) → (ts : List Token) × (tokens_of (tokens_from skip offset bytes) ≡ ts ++ End ∷ [])
@@ -36,18 +36,6 @@ ends_last zero offset (b ∷ bs) = by_front (front (b ∷ bs)) (λ skip. ends_la
     by_front : (f : Front) → ((skip : ℕ) → (ts : List Token) × (tokens_of (tokens_from skip (offset + 1) bs) ≡ ts ++ End ∷ [])) → (ts : List Token) × (tokens_of (after_front offset f (λ skip. tokens_from skip (offset + 1) bs)) ≡ ts ++ End ∷ [])
     by_front (Layout n) k = k (n - 1)
     by_front (Lexeme t n) k = let r = k (n - 1) in (t ∷ r.0, ap (λ (us : List Token). t ∷ us) r.1)
-
-abbrev kept : List Clause → Result (List Clause) (CatRule × ℕ)
-kept cs = Ok cs
-
-abbrev refused : CatRule × ℕ → Result (List Clause) (CatRule × ℕ)
-refused e = Err e
-
-refused_is : (a b : CatRule × ℕ) → refused a ≡ refused b → a ≡ b
-refused_is a b e = cc
-
-not_both : (e : CatRule × ℕ) (cs : List Clause) → refused e ≡ kept cs → ⊥
-not_both e cs h = absurd cc
 
 module _ (form : Form) (bytes : List ℕ) where
   pub found : (r : Result (Vec Item Global) CatFault) → ReadsTo r (reading form bytes) → IfOk r (λ v. Reads form bytes (clauses_of v.items))

@@ -21,18 +21,18 @@ use Rattle.cat_grammar.specs.ItemMachine.{State, Fault, step, start}
 use Rattle.cat_syntax.specs.ReadingItems.{Fails}
 use Rattle.cat_syntax.specs.ReadingTexts.{reading, FailsAt}
 use Rattle.cat_tokens.proofs.Lexed.{layout_turn, lexeme_turn, at_end}
-use Rattle.cat_grammar.specs.Running.{Ran, placed, and_then, run, items_of}
+use Rattle.cat_grammar.specs.Running.{Ran, with_offset, and_then, run, items_of}
 
 -- one token, at its offset or at the offset before
 module _ (before offset : ℕ) (made : Result State Fault) where
-  pub step_goes : (s : State) → made ≡ Ok s → placed before offset made ≡ Ok s
-  step_goes s e = ap (placed before offset) e
+  pub step_goes : (s : State) → made ≡ Ok s → with_offset before offset made ≡ Ok s
+  step_goes s e = ap (with_offset before offset) e
 
-  pub step_fails : (e : StepError) (rule : CatRule) → e ≡ errors.Refused rule → Fails e made → placed before offset made ≡ Err (rule, offset)
-  step_fails e rule is h = ap (placed before offset) (subst (λ (x : StepError). Fails x made) is h)
+  pub step_fails : (e : StepError) (rule : CatRule) → e ≡ errors.Refused rule → Fails e made → with_offset before offset made ≡ Err (rule, offset)
+  step_fails e rule is h = ap (with_offset before offset) (subst (λ (x : StepError). Fails x made) is h)
 
-  pub step_fails_before : (e : StepError) (rule : CatRule) → e ≡ errors.RefusedBefore rule → Fails e made → placed before offset made ≡ Err (rule, before)
-  step_fails_before e rule is h = ap (placed before offset) (subst (λ (x : StepError). Fails x made) is h)
+  pub step_fails_before : (e : StepError) (rule : CatRule) → e ≡ errors.RefusedBefore rule → Fails e made → with_offset before offset made ≡ Err (rule, before)
+  step_fails_before e rule is h = ap (with_offset before offset) (subst (λ (x : StepError). Fails x made) is h)
 
 -- the reader's turns
 module _ (most : Limits) (form : Form) (bytes : List ℕ) (before : ℕ) (s : State) (p n q : ℕ) (all : Ran) (so_far : all ≡ run most form before s (tokens_from 0 p (drop p bytes))) where
@@ -42,21 +42,21 @@ module _ (most : Limits) (form : Form) (bytes : List ℕ) (before : ℕ) (s : St
   pub layout_run : (f : Front) → p < length bytes → q ≡ p + min (max n 1) (length bytes - p) → f ≡ front (take (length bytes - p) (drop p bytes)) → f ≡ Layout n → all ≡ run most form before s (tokens_from 0 q (drop q bytes))
   layout_run f lt is e k = so_far ∙ ap (run most form before s) (layout_turn bytes p n q lt is f (e ∙ whole_rest) k)
 
-  pub lexeme_run : (f : Front) (t : Token) (s' : State) → p < length bytes → q ≡ p + min (max n 1) (length bytes - p) → f ≡ front (take (length bytes - p) (drop p bytes)) → f ≡ Lexeme t n → placed before p (step most form s t) ≡ Ok s' → all ≡ run most form p s' (tokens_from 0 q (drop q bytes))
-  lexeme_run f t s' lt is e k taken =
-      so_far ∙ ap (run most form before s) (lexeme_turn bytes p n q lt is f t (e ∙ whole_rest) k) ∙ ap (λ (r : Ran). and_then r (λ x. run most form p x (tokens_from 0 q (drop q bytes)))) taken
+  pub lexeme_run : (f : Front) (t : Token) (s' : State) → p < length bytes → q ≡ p + min (max n 1) (length bytes - p) → f ≡ front (take (length bytes - p) (drop p bytes)) → f ≡ Lexeme t n → with_offset before p (step most form s t) ≡ Ok s' → all ≡ run most form p s' (tokens_from 0 q (drop q bytes))
+  lexeme_run f t s' lt is e k goes =
+      so_far ∙ ap (run most form before s) (lexeme_turn bytes p n q lt is f t (e ∙ whole_rest) k) ∙ ap (λ (r : Ran). and_then r (λ x. run most form p x (tokens_from 0 q (drop q bytes)))) goes
 
-  pub lexeme_fails : (f : Front) (t : Token) (d : CatFault) → p < length bytes → f ≡ front (take (length bytes - p) (drop p bytes)) → f ≡ Lexeme t n → FailsAt d (placed before p (step most form s t)) → FailsAt d all
+  pub lexeme_fails : (f : Front) (t : Token) (d : CatFault) → p < length bytes → f ≡ front (take (length bytes - p) (drop p bytes)) → f ≡ Lexeme t n → FailsAt d (with_offset before p (step most form s t)) → FailsAt d all
   lexeme_fails f t (faults.OutOfMemory x) lt e k fails = tt
   lexeme_fails f t (faults.Refused rule offset) lt e k fails =
       let r = p + min (max n 1) (length bytes - p) in
       so_far ∙ ap (run most form before s) (lexeme_turn bytes p n r lt refl f t (e ∙ whole_rest) k) ∙ ap (λ (y : Ran). and_then y (λ z. run most form p z (tokens_from 0 r (drop r bytes)))) fails
 
-  pub end_run : (s' : State) → p ≤ length bytes → length bytes ≤ p → placed before p (step most form s tokens.End) ≡ Ok s' → all ≡ Ok s'
-  end_run s' low high taken =
-      so_far ∙ ap (run most form before s) (at_end bytes p low high) ∙ ap (λ (r : Ran). and_then r (λ x. Ok x)) taken
+  pub end_run : (s' : State) → p ≤ length bytes → length bytes ≤ p → with_offset before p (step most form s tokens.End) ≡ Ok s' → all ≡ Ok s'
+  end_run s' low high goes =
+      so_far ∙ ap (run most form before s) (at_end bytes p low high) ∙ ap (λ (r : Ran). and_then r (λ x. Ok x)) goes
 
-  pub end_fails : (d : CatFault) → p ≤ length bytes → length bytes ≤ p → FailsAt d (placed before p (step most form s tokens.End)) → FailsAt d all
+  pub end_fails : (d : CatFault) → p ≤ length bytes → length bytes ≤ p → FailsAt d (with_offset before p (step most form s tokens.End)) → FailsAt d all
   end_fails (faults.OutOfMemory x) low high fails = tt
   end_fails (faults.Refused rule offset) low high fails =
       so_far ∙ ap (run most form before s) (at_end bytes p low high) ∙ ap (λ (r : Ran). and_then r (λ x. Ok x)) fails

@@ -8,8 +8,8 @@ use thiserror::Error;
 #[derive(Debug, Drop, Error)]
 pub enum CatFault {
     /// The rule that the text breaks, and the byte offset of the first token that cannot stand.
-    #[error("the text is refused at byte {place}")]
-    Refused { rule: CatRule, place: usize },
+    #[error("the text is refused at byte {offset}")]
+    Refused { rule: CatRule, offset: usize },
     /// Memory ran out.
     #[error("out of memory")]
     OutOfMemory(#[from(alloc)] AllocError),

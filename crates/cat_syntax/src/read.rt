@@ -9,7 +9,7 @@ ghost use Rattle.cat_syntax.specs.ParserState.{state_of};
 ghost use Rattle.cat_values.specs.Values.{clause_of, clauses_of};
 ghost use Rattle.cat_syntax.specs.ReadingTexts.{reading, StepsAt, ReadsTo};
 ghost use Rattle.cat_syntax.specs.Reads.{Reads, IsFaultOf};
-ghost use Rattle.cat_grammar.specs.Running.{placed};
+ghost use Rattle.cat_grammar.specs.Running.{with_offset};
 ghost use Rattle.cat_values.specs.Value.{Clause};
 
 use crate::fault::CatFault;
@@ -23,20 +23,17 @@ use std::alloc::{AllocError, Global};
 
 // A token at an offset; the token before it began at `before`.
 fn step_at(parser: &mut Parser, token: Token, before: usize, offset: usize) -> Result<(), CatFault>
-    ensures steps { StepsAt result parser.new (placed before offset (step limits parser.old.form (state_of parser.old) token)) }
+    ensures steps { StepsAt result parser.new (with_offset before offset (step limits parser.old.form (state_of parser.old) token)) }
     ensures form { parser.new.form ≡ parser.old.form }
     ensures within { IfErr result (λ e. (n : ℕ) → before ≤ n → offset ≤ n → IsWithin n e) }
 {
     match parser.step(token) {
         Ok(()) => Ok(()),
         Err(StepError::OutOfMemory) => Err(CatFault::OutOfMemory(AllocError)),
-        Err(StepError::Refused(rule)) => Err(CatFault::Refused {
-            rule,
-            place: offset,
-        }),
+        Err(StepError::Refused(rule)) => Err(CatFault::Refused { rule, offset }),
         Err(StepError::RefusedBefore(rule)) => Err(CatFault::Refused {
             rule,
-            place: before,
+            offset: before,
         }),
     }
 }
@@ -61,7 +58,7 @@ fn read_all(alloc: Global, bytes: &[u8], form: Form) -> Result<Vec<Item>, CatFau
     if bytes.len() > MAX_BYTES {
         return Err(CatFault::Refused {
             rule: CatRule::TooLong,
-            place: MAX_BYTES,
+            offset: MAX_BYTES,
         });
     }
     let mut parser = Parser::new(alloc, form);
@@ -142,7 +139,7 @@ pub fn read_item(alloc: Global, bytes: &[u8]) -> Result<Item, CatFault>
         Some(item) => Ok(item),
         None => Err(CatFault::Refused {
             rule: CatRule::Syntax,
-            place: bytes.len(),
+            offset: bytes.len(),
         }),
     }
 }

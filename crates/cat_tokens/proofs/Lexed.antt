@@ -7,7 +7,7 @@ use Rattle.cat_tokens.specs.declared.token.Token.{Token}
 use Rattle.cat_tokens.specs.declared.token.Token.TheVariants as tokens
 use Rattle.cat_tokens.specs.declared.lexer.Front.{Front}
 use Rattle.cat_tokens.specs.declared.lexer.Front.TheVariants.{Layout, Lexeme}
-use Rattle.cat_tokens.specs.Tokens.{Placed}
+use Rattle.cat_tokens.specs.Tokens.{TokenAt}
 use Rattle.cat_tokens.specs.Lexer.{front, after_front, tokens_from}
 
 -- passing over bytes
@@ -52,7 +52,7 @@ module _ (bytes : List ℕ) (p n q : ℕ) (lt : p < length bytes) (is : q ≡ p 
 
   pub lexeme_turn : (f : Front) (t : Token) → f ≡ front (drop p bytes) → f ≡ Lexeme t n → tokens_from 0 p (drop p bytes) ≡ record { token = t; offset = p } ∷ tokens_from 0 q (drop q bytes)
   lexeme_turn f t e k =
-      opens_with f e ∙ ap (λ (g : Front). after_front p g (λ skip. tokens_from skip (p + 1) (drop (p + 1) bytes))) k ∙ ap (λ (ps : List Placed). record { token = t; offset = p } ∷ ps) next
+      opens_with f e ∙ ap (λ (g : Front). after_front p g (λ skip. tokens_from skip (p + 1) (drop (p + 1) bytes))) k ∙ ap (λ (ps : List TokenAt). record { token = t; offset = p } ∷ ps) next
 
 pub at_end : (bytes : List ℕ) (p : ℕ) → p ≤ length bytes → length bytes ≤ p → tokens_from 0 p (drop p bytes) ≡ record { token = tokens.End; offset = p } ∷ []
 unfolding tokens_from

@@ -2,7 +2,7 @@
 use Rattle.std.specs.Prelude.{ℕ, zero, suc, ◌+◌, ◌-◌, List, [], ◌∷◌, Bool, ◌||◌, ◌&&◌, ◌==◌, not, Option, Some, None, length, take, drop, slice_index, if◌then◌else◌}
 use Rattle.std.specs.List.{position_or_len}
 use Rattle.cat_tokens.specs.Words.{word_token}
-use Rattle.cat_tokens.specs.Tokens.{Placed}
+use Rattle.cat_tokens.specs.Tokens.{TokenAt}
 use Rattle.source_text.specs.Letters.{is_letter, is_digit}
 use Rattle.source_text.specs.Layout.{is_blank, is_line_end, quoted_from, comment_of}
 use Rattle.cat_tokens.specs.declared.rule.CatRule.TheVariants as rules
@@ -74,15 +74,15 @@ front bs =
 
 -- ---- all tokens of a text
 
-abbrev pub after_front : ℕ → Front → (ℕ → List Placed) → List Placed
+abbrev pub after_front : ℕ → Front → (ℕ → List TokenAt) → List TokenAt
 after_front offset (Layout n) later = later (n - 1)
 after_front offset (Lexeme t n) later = record { token = t; offset = offset } ∷ later (n - 1)
 
 -- the tokens of a text that begins at an offset, once skip bytes are passed over, and its end
-unfoldable pub tokens_from : ℕ → ℕ → List ℕ → List Placed
+unfoldable pub tokens_from : ℕ → ℕ → List ℕ → List TokenAt
 tokens_from skip offset [] = record { token = tokens.End; offset = offset } ∷ []
 tokens_from (suc skip) offset (b ∷ bs) = tokens_from skip (offset + 1) bs
 tokens_from zero offset (b ∷ bs) = after_front offset (front (b ∷ bs)) (λ skip. tokens_from skip (offset + 1) bs)
 
-abbrev pub lexed : List ℕ → List Placed
+abbrev pub lexed : List ℕ → List TokenAt
 lexed bytes = tokens_from 0 0 bytes

@@ -48,10 +48,10 @@ postfix_of Question = postfix.Reflexive
 postfix_of Inverse = postfix.Inverse
 
 -- a token and the byte that it begins at
-pub record Placed : Type 0 where
+pub record TokenAt : Type 0 where
   pub token : Token
   pub offset : ℕ
 
-abbrev pub tokens_of : List Placed → List Token
+abbrev pub tokens_of : List TokenAt → List Token
 tokens_of [] = []
 tokens_of (p ∷ ps) = p.token ∷ tokens_of ps

@@ -28,7 +28,7 @@ use Rattle.column_laws.proofs.Naming.{HaveSameNames, count_kept, events_kept, pa
 
 -- ---- lists
 
-abbrev later : {X : Type 0} → List X → List X
+abbrev pub later : {X : Type 0} → List X → List X
 later [] = []
 later (x ∷ xs) = xs
 

@@ -9,8 +9,8 @@ use Rattle.cat_values.specs.declared.predefined.Predefined.{Predefined}
 use Rattle.cat_values.specs.declared.predefined.Predefined.TheVariants as names
 use Rattle.bit_relations.specs.Pairs.{Complement, Inter, Union, Inverse, Composed}
 use Rattle.dataflow.specs.DependencyLists.{DependencyLists, dependency_lists}
-use Rattle.candidates.specs.declared.candidate.Combination.{Combination}
-use Rattle.candidates.specs.declared.candidate.Event.{Event}
+use Rattle.run_combinations.specs.declared.combination.Combination.{Combination}
+use Rattle.run_combinations.specs.declared.combination.Event.{Event}
 use Rattle.candidates.specs.Space.{Candidate}
 use Rattle.base_env.specs.Events as of
 use Rattle.base_env.specs.Events.{At, Below, Fenced, Listed, ReadsFrom, Coherence}

@@ -59,9 +59,9 @@ in_run d at (x ∷ es) (v ∷ vs) zero k h m l a b o =
     get_or_append_left (replicate (x - at) v) (expand x es vs) d (k - at) (omega (arith, length-replicate (x - at) v)) ∙ get_or-replicate (x - at) (k - at) v d (omega arith)
 in_run d at (x ∷ es) (v ∷ vs) (suc r) k h m l a b o =
     let past : x ≤ k = omega (arith, start_above x es r h.1 (omega arith)) in
-    let place : (k - at) - (x - at) ≡ k - x = omega (arith, h.0) in
+    let shift : (k - at) - (x - at) ≡ k - x = omega (arith, h.0) in
     get_or-append_right (replicate (x - at) v) (expand x es vs) (x - at) (k - at) d (length-replicate (x - at) v) (omega arith)
-    ∙ (ap (λ j. get_or (expand x es vs) j d) place ∙ in_run d x es vs r k h.1 (omega arith) (omega arith) a b past)
+    ∙ (ap (λ j. get_or (expand x es vs) j d) shift ∙ in_run d x es vs r k h.1 (omega arith) (omega arith) a b past)
 
 -- a run begins where the one before it ends
 pub start_at : (at : ℕ) (es : List ℕ) (r j : ℕ) → r ≡ j + 1 → j < length es → start_of at es r ≡ get_or es j 0
@@ -76,10 +76,6 @@ last_is at [] n l = absurd (omega arith)
 last_is at (x ∷ []) zero l = refl
 last_is at (x ∷ y ∷ es) zero l = absurd (omega arith)
 last_is at (x ∷ es) (suc n) l = last_is x es n (omega arith)
-
-pub last_none : (at : ℕ) (es : List ℕ) → length es ≡ 0 → last_end at es ≡ at
-last_none at [] l = refl
-last_none at (x ∷ es) l = absurd (omega arith)
 
 -- no end lies above the last
 pub end_within : (at : ℕ) (es : List ℕ) (r : ℕ) → AreRising at es → r < length es → get_or es r 0 ≤ last_end at es
@@ -119,8 +115,8 @@ added_told es es1 es2 vs vs2 old e v h is same ends values =
 pub not_last : (es : List ℕ) (r at : ℕ) → r < length es → get_or es r 0 ≤ at → at < last_end 0 es → r + 1 < length es
 not_last es r at l b o = elim (cases_lt (r + 1) (length es)) [ inl a ↦ a | inr a ↦ absurd (omega (arith, last_is 0 es r (omega arith))) ]
 
-pub begun_next : (es : List ℕ) (r at : ℕ) → r < length es → get_or es r 0 ≤ at → start_of 0 es (r + 1) ≤ at
-begun_next es r at l b = rw (start_at 0 es (r + 1) r refl l) b
+pub start_next : (es : List ℕ) (r at : ℕ) → r < length es → get_or es r 0 ≤ at → start_of 0 es (r + 1) ≤ at
+start_next es r at l b = rw (start_at 0 es (r + 1) r refl l) b
 
 pub run_value : {A : Type 0} (d : A) (es : List ℕ) (vs old : List A) (r k : ℕ) → AreRuns es vs → expand 0 es vs ≡ old → r < length es → start_of 0 es r ≤ k → k < get_or es r 0 → get_or old k d ≡ get_or vs r d
 run_value d es vs old r k h is l a b =
@@ -140,10 +136,10 @@ same_runs es ends vs h same = subst (λ xs. AreRuns xs vs) (sym same) h
 same_view : {A : Type 0} (es ends : List ℕ) (vs old : List A) → expand 0 es vs ≡ old → ends ≡ es → expand 0 ends vs ≡ old
 same_view es ends vs old is same = ap (λ xs. expand 0 xs vs) same ∙ is
 
-pub read_value : {A : Type 0} (d : A) (es ends : List ℕ) (vs old : List A) (r at : ℕ) (place : A) → AreRuns es vs → expand 0 es vs ≡ old → ends ≡ es → r < length ends → start_of 0 ends r ≤ at → at < get_or ends r 0 → place ≡ get_or vs r place → place ≡ get_or old at d
-read_value d es ends vs old r at place h is same l a b read =
+pub read_value : {A : Type 0} (d : A) (es ends : List ℕ) (vs old : List A) (r at : ℕ) (value : A) → AreRuns es vs → expand 0 es vs ≡ old → ends ≡ es → r < length ends → start_of 0 ends r ≤ at → at < get_or ends r 0 → value ≡ get_or vs r value → value ≡ get_or old at d
+read_value d es ends vs old r at value h is same l a b read =
     let runs : AreRuns ends vs = same_runs es ends vs h same in
-    get_or_read_under vs r (length ends) place d read l runs.as_many ∙ sym (run_value d ends vs old r at runs (same_view es ends vs old is same) l a b)
+    get_or_read_under vs r (length ends) value d read l runs.as_many ∙ sym (run_value d ends vs old r at runs (same_view es ends vs old is same) l a b)
 
 pub read_end : {A : Type 0} (es ends : List ℕ) (vs old : List A) (r end : ℕ) → AreRuns es vs → expand 0 es vs ≡ old → ends ≡ es → r < length ends → end ≡ get_or es r end → end ≤ length old
 read_end es ends vs old r end h is same l read =

@@ -10,18 +10,18 @@ use Rattle.columns.specs.declared.operations.Join.{Join}
 use Rattle.columns.specs.declared.operations.Turn.{Turn}
 use Rattle.columns.specs.Operations.{IsJoined, IsTurned, Pushes}
 
--- the place has the value of each candidate from one up to another
-pub record IsHeld (column : List Relation) (at from end : ℕ) (place : Relation) : Type 0 where
-  pub each : (k : ℕ) → from ≤ k → k < end → value_at column (at + k) ≡ place
+-- the relation is the value of each candidate from one up to another
+pub record IsHeld (column : List Relation) (at from end : ℕ) (value : Relation) : Type 0 where
+  pub each : (k : ℕ) → from ≤ k → k < end → value_at column (at + k) ≡ value
 
-pub held_on : (column : List Relation) (at from end next : ℕ) (place : Relation) → IsHeld column at from end place → from ≤ next → IsHeld column at next end place
-held_on column at from end next place h o = record { each = λ k a b. h.each k (omega arith) b }
+pub held_on : (column : List Relation) (at from end next : ℕ) (value : Relation) → IsHeld column at from end value → from ≤ next → IsHeld column at next end value
+held_on column at from end next value h o = record { each = λ k a b. h.each k (omega arith) b }
 
-pub held_read : (column : List Relation) (at from end : ℕ) (place : Relation) → place ≡ value_at column (at + from) → ((k : ℕ) → at + from ≤ k → k < end → value_at column k ≡ value_at column (at + from)) → IsHeld column at from (end - at) place
-held_read column at from end place is same = record { each = λ k a b. same (at + k) (omega arith) (omega arith) ∙ sym is }
+pub held_read : (column : List Relation) (at from end : ℕ) (value : Relation) → value ≡ value_at column (at + from) → ((k : ℕ) → at + from ≤ k → k < end → value_at column k ≡ value_at column (at + from)) → IsHeld column at from (end - at) value
+held_read column at from end value is same = record { each = λ k a b. same (at + k) (omega arith) (omega arith) ∙ sym is }
 
-pub held_same : (column : List Relation) (at from end end2 : ℕ) (place place2 : Relation) → IsHeld column at from end place → end2 ≡ end → place2 ≡ place → IsHeld column at from end2 place2
-held_same column at from end end2 place place2 h e p = rw (e, p) h
+pub held_same : (column : List Relation) (at from end end2 : ℕ) (value value2 : Relation) → IsHeld column at from end value → end2 ≡ end → value2 ≡ value → IsHeld column at from end2 value2
+held_same column at from end end2 value value2 h e p = rw (e, p) h
 
 pub pushes_run : {A : Type 0} (d : A) (old mid new : List A) (n e m : ℕ) (v : A) (P : ℕ → A → Type 0) → Pushes d old mid n P → n + m ≡ e → new ≡ mid ++ replicate m v → ((k : ℕ) → n ≤ k → k < e → P k v) → Pushes d old new e P
 pushes_run d old mid new n e m v P h sum is more =
@@ -41,13 +41,13 @@ pushes_run d old mid new n e m v P h sum is more =
 pub pushes_long : {A : Type 0} (d : A) (old new : List A) (n : ℕ) (P : ℕ → A → Type 0) → Pushes d old new n P → length new ≡ length old + n
 pushes_long d old new n P h = omega (arith, ap length h.added, length-append old h.made, h.long)
 
-pub map_step : (how : Turn) (of old mid new : List Relation) (at count done base read end : ℕ) (place made : Relation)
+pub map_step : (how : Turn) (of old mid new : List Relation) (at count done base read end : ℕ) (value made : Relation)
     → Pushes no_slot old mid done (λ k v. IsTurned how (value_at of (at + k)) v) → base ≡ length old
-    → place ≡ value_at of (at + done) → ((k : ℕ) → at + done ≤ k → k < read → value_at of k ≡ value_at of (at + done))
+    → value ≡ value_at of (at + done) → ((k : ℕ) → at + done ≤ k → k < read → value_at of k ≡ value_at of (at + done))
     → done < end → end ≤ read - at
-    → IsTurned how place made → new ≡ mid ++ replicate ((base + end) - length mid) made
+    → IsTurned how value made → new ≡ mid ++ replicate ((base + end) - length mid) made
     → Pushes no_slot old new end (λ k v. IsTurned how (value_at of (at + k)) v)
-map_step how of old mid new at count done base read end place made h start is same above within op added =
+map_step how of old mid new at count done base read end value made h start is same above within op added =
     pushes_run no_slot old mid new done end ((base + end) - length mid) made (λ k v. IsTurned how (value_at of (at + k)) v) h
     (omega (arith, pushes_long no_slot old mid done (λ k v. IsTurned how (value_at of (at + k)) v) h)) added
     (λ k a b. subst (λ r. IsTurned how r made) (is ∙ sym (same (at + k) (omega arith) (omega arith))) op)
@@ -62,22 +62,6 @@ join_step how left right old mid new left_at right_at done base left_end right_e
     pushes_run no_slot old mid new done end ((base + end) - length mid) made (λ k v. IsJoined how (value_at left (left_at + k)) (value_at right (right_at + k)) v) h
     (omega (arith, pushes_long no_slot old mid done (λ k v. IsJoined how (value_at left (left_at + k)) (value_at right (right_at + k)) v) h)) added
     (λ k a b. subst (λ x. IsJoined how x (value_at right (right_at + k)) made) (sym (hl.each k a (omega arith))) (subst (λ y. IsJoined how l y made) (sym (hr.each k a (omega arith))) op))
-
--- values pushed after others
-pub pushes_more : {A : Type 0} (d : A) (old mid new : List A) (n m : ℕ) (P Q : ℕ → A → Type 0) → Pushes d old mid n P → Pushes d mid new m Q → ((k : ℕ) (v : A) → k < m → Q k v → P (n + k) v) → Pushes d old new (n + m) P
-pushes_more d old mid new n m P Q h j more =
-    record {
-      made = h.made ++ j.made;
-      added = j.added ∙ (ap (λ l. l ++ j.made) h.added ∙ append_assoc old h.made j.made);
-      long = omega (arith, h.long, j.long, length-append h.made j.made);
-      each = λ k b. elim (cases_lt k n) [
-        | inl a ↦ subst (P k) (sym (get_or_append_left h.made j.made d k (omega (arith, h.long)))) (h.each k a)
-        | inr a ↦
-            let place : n + (k - n) ≡ k = omega arith in
-            let there : get_or (h.made ++ j.made) k d ≡ get_or j.made (k - n) d = get_or-append_right h.made j.made n k d h.long a in
-            subst (P k) (sym there) (subst (λ i. P i (get_or j.made (k - n) d)) place (more (k - n) (get_or j.made (k - n) d) (omega arith) (j.each (k - n) (omega arith))))
-      ];
-    }
 
 -- two columns of sets, read up to an end
 pub sets_step : {C : Type 0} (c : C) (Op : Events → Events → C → Type 0) (left right : List Events) (old mid new : List C) (left_at right_at done base left_end right_end end : ℕ) (l r : Events) (made : C)

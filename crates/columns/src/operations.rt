@@ -28,7 +28,7 @@ pub enum Turn {
     Complement,
 }
 
-/// The places where one value at a time is read and made.
+/// The relations into which one value at a time is read and made.
 #[derive(Drop)]
 pub struct Registers {
     left: Rel,
@@ -80,7 +80,7 @@ fn make_turned(how: Turn, of: &Rel, made: &mut Rel)
     }
 }
 
-/// Adds the operation of two columns, for so many candidates: in each column they begin at a place. Where memory is out
+/// Adds the operation of two columns, for so many candidates: in each column they begin at an index. Where memory is out
 /// only the first of them are added.
 pub fn join_runs(
     how: Join,
@@ -122,7 +122,7 @@ pub fn join_runs(
     Ok(())
 }
 
-/// Adds the operation of a column, for so many candidates: in the column they begin at a place. Where memory is out
+/// Adds the operation of a column, for so many candidates: in the column they begin at an index. Where memory is out
 /// only the first of them are added.
 pub fn map_runs(
     how: Turn,

@@ -82,16 +82,16 @@ impl RunColumn {
         }
     }
 
-    /// Writes the value of a candidate into a place, and answers up to where the candidates after it have the same.
-    pub fn read(&self, cursor: &mut Cursor, at: usize, place: &mut Rel) -> usize
+    /// Writes the value of a candidate into `target`, and answers up to where the candidates after it have the same.
+    pub fn read(&self, cursor: &mut Cursor, at: usize, target: &mut Rel) -> usize
         requires { at < length self.now }
-        ensures value { place.new ≡ value_at self.now at }
+        ensures value { target.new ≡ value_at self.now at }
         ensures after { at < result }
         ensures within { result ≤ length self.now }
         ensures same { (k : ℕ) → at ≤ k → k < result → value_at self.now k ≡ value_at self.now at }
     {
         let run = run_at(&self.ends, cursor.run, at);
-        self.values.read_into(run, place);
+        self.values.read_into(run, target);
         cursor.run = run;
         self.ends[run]
     }

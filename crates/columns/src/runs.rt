@@ -28,7 +28,7 @@ pub(crate) fn run_at(ends: &[usize], first: usize, at: usize) -> usize
     requires rising { AreRising 0 ends.now }
     requires inside { at < last_end 0 ends.now }
     ensures run { result < length ends.now }
-    ensures begun { start_of 0 ends.now result ≤ at }
+    ensures from_start { start_of 0 ends.now result ≤ at }
     ensures open { at < slice_index ends.now result }
 {
     let mut run = first_run(ends, first, at);
@@ -42,7 +42,7 @@ pub(crate) fn run_at(ends: &[usize], first: usize, at: usize) -> usize
 fn first_run(ends: &[usize], first: usize, at: usize) -> usize
     requires { 0 < length ends.now }
     ensures run { result < length ends.now }
-    ensures begun { start_of 0 ends.now result ≤ at }
+    ensures from_start { start_of 0 ends.now result ≤ at }
 {
     if 0 < first && first < ends.len() && ends[first - 1] <= at {
         first
@@ -55,7 +55,7 @@ fn first_run(ends: &[usize], first: usize, at: usize) -> usize
 fn found_run(ends: &[usize], at: usize) -> usize
     requires { 0 < length ends.now }
     ensures run { result < length ends.now }
-    ensures begun { start_of 0 ends.now result ≤ at }
+    ensures from_start { start_of 0 ends.now result ≤ at }
 {
     let mut low = 0;
     let mut high = ends.len();

@@ -66,7 +66,7 @@ fn make_related(how: Relate, left: &EventSet, right: &EventSet, made: &mut Rel)
     }
 }
 
-/// Adds the operation of two columns of sets, for so many candidates: in each column they begin at a place.
+/// Adds the operation of two columns of sets, for so many candidates: in each column they begin at an index.
 pub fn join_set_runs(
     how: SetJoin,
     left: &SetRuns,
@@ -97,7 +97,7 @@ pub fn join_set_runs(
     Ok(())
 }
 
-/// Adds the relation made of two columns of sets, for so many candidates: in each column they begin at a place.
+/// Adds the relation made of two columns of sets, for so many candidates: in each column they begin at an index.
 pub fn relate_runs(
     how: Relate,
     left: &SetRuns,
@@ -106,7 +106,7 @@ pub fn relate_runs(
     right_at: usize,
     count: usize,
     out: &mut RunColumn,
-    place: &mut Rel,
+    target: &mut Rel,
 ) -> Result<(), AllocError>
     requires left { left_at + count ≤ length left.now }
     requires right { right_at + count ≤ length right.now }
@@ -123,34 +123,34 @@ pub fn relate_runs(
         let (first, left_end) = left.read(&mut left_cursor, left_at + done);
         let (second, right_end) = right.read(&mut right_cursor, right_at + done);
         let end = (left_end - left_at).min(right_end - right_at).min(count);
-        make_related(how, &first, &second, place);
-        out.push_run(place, base + end)?;
+        make_related(how, &first, &second, target);
+        out.push_run(target, base + end)?;
         done = end;
     }
     Ok(())
 }
 
-/// Writes the relation of a candidate to a place, the empty one where there is none on so many events, and answers up to
+/// Writes the relation of a candidate to `target`, the empty one where there is none on so many events, and answers up to
 /// where the candidates after it have the same.
 fn found_pairs(
     of: &RunColumn,
     cursor: &mut Cursor,
     at: usize,
     events: usize,
-    place: &mut Rel,
+    target: &mut Rel,
 ) -> usize
     requires few { events ≤ 128 }
     requires at { at + 1 < 2 ^ 64 }
     ensures after { at < result }
-    ensures value { (k : ℕ) → at ≤ k → k < result → IsRelation place.new events (FoundPairs of.now k events) }
+    ensures value { (k : ℕ) → at ≤ k → k < result → IsRelation target.new events (FoundPairs of.now k events) }
 {
     if of.len() <= at {
-        place.clear(events);
+        target.clear(events);
         return at + 1;
     }
-    let end = of.read(cursor, at, place);
-    if place.count() != events {
-        place.clear(events);
+    let end = of.read(cursor, at, target);
+    if target.count() != events {
+        target.clear(events);
     }
     end
 }
@@ -181,7 +181,7 @@ pub fn found_runs(
     at: usize,
     count: usize,
     out: &mut RunColumn,
-    place: &mut Rel,
+    target: &mut Rel,
 ) -> Result<(), AllocError>
     requires counts { at + count ≤ length counts.now }
     requires out { length out.old + count < 2 ^ 64 }
@@ -194,9 +194,9 @@ pub fn found_runs(
     let mut done = 0;
     'runs: while done < count {
         let (all, all_end) = counts.read(&mut counts_cursor, at + done);
-        let found_end = found_pairs(of, &mut cursor, at + done, all.count(), place);
+        let found_end = found_pairs(of, &mut cursor, at + done, all.count(), target);
         let end = (all_end - at).min(found_end - at).min(count);
-        out.push_run(place, base + end)?;
+        out.push_run(target, base + end)?;
         done = end;
     }
     Ok(())

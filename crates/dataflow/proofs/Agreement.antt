@@ -29,8 +29,8 @@ register_same t u d r v w long other here = elim (cases_eq r d) [
   | inr ne ↦ get_or-set_other t.registers d r v (Number 0) ne ∙ other ne ∙ sym (get_or-set_other u.registers d r w (Number 0) ne)
 ]
 
-place : (r d : ℕ) → Register r ≡ Register d → r ≡ d
-place r d e = cc
+register_is : (r d : ℕ) → Register r ≡ Register d → r ≡ d
+register_is r d e = cc
 
 chosen_same : (c : Bool) (z x y : Value) → (IsTrue (not c) → x ≡ y) → (if c then z else x) ≡ (if c then z else y)
 chosen_same true z x y e = refl
@@ -43,21 +43,21 @@ one_step : (i : Instruction) (v w : Value) (t u : State) (r : ℕ) → length t.
     → (IsWritten i (Register r) → IsTrue (is_load i) → v ≡ w)
     → register (after i v t) r ≡ register (after i w u) r
 one_step (Immediate d n) v w t u r long other operands own =
-    register_same t u d r _ _ long (λ ne. other (λ e. ne (place r d e))) (λ e. refl)
+    register_same t u d r _ _ long (λ ne. other (λ e. ne (register_is r d e))) (λ e. refl)
 one_step (Move d a) v w t u r long other operands own =
-    register_same t u d r _ _ long (λ ne. other (λ e. ne (place r d e))) (λ e. operands (ap Register e) refl a refl)
+    register_same t u d r _ _ long (λ ne. other (λ e. ne (register_is r d e))) (λ e. operands (ap Register e) refl a refl)
 one_step (AddImmediate d a n) v w t u r long other operands own =
-    register_same t u d r _ _ long (λ ne. other (λ e. ne (place r d e)))
+    register_same t u d r _ _ long (λ ne. other (λ e. ne (register_is r d e)))
     (λ e. ap (λ (x : Value). sum_of x (Number n)) (operands (ap Register e) refl a refl))
 one_step (Operate o d a b) v w t u r long other operands own =
-    register_same t u d r _ _ long (λ ne. other (λ e. ne (place r d e)))
+    register_same t u d r _ _ long (λ ne. other (λ e. ne (register_is r d e)))
     (λ e. chosen_same (cancels o a b) (Number 0) _ _ (λ narrow.
     ap (λ (x : Value). outcome_of o x (register t b)) (operands (ap Register e) narrow a (inl refl))
     ∙ ap (λ (x : Value). outcome_of o (register u a) x) (operands (ap Register e) narrow b (inr refl))))
 one_step (Load d a) v w t u r long other operands own =
-    register_same t u d r _ _ long (λ ne. other (λ e. ne (place r d e))) (λ e. own (ap Register e) refl)
+    register_same t u d r _ _ long (λ ne. other (λ e. ne (register_is r d e))) (λ e. own (ap Register e) refl)
 one_step (LoadIndexed d a b) v w t u r long other operands own =
-    register_same t u d r _ _ long (λ ne. other (λ e. ne (place r d e))) (λ e. own (ap Register e) refl)
+    register_same t u d r _ _ long (λ ne. other (λ e. ne (register_is r d e))) (λ e. own (ap Register e) refl)
 one_step (Store d a) v w t u r long other operands own = other (λ e. e)
 one_step (StoreIndexed d a b) v w t u r long other operands own = other (λ e. e)
 one_step (Compare a b) v w t u r long other operands own = other (λ e. absurd cc)

@@ -41,24 +41,24 @@ branched_next f n t word inside taints old e = go (is_branch (f n)) refl
     here = union_found false IsOperand f n t (operand_word (f n) t) inside taints (operand_word-union (f n) t) e
 
     earlier : Found BehindBranch f n e → Found BehindBranch f (suc n) e
-    earlier x = let (i, place, y) = x in let (b, lt, is, reaches) = y in (i, place, (b, omega (arith, lt), is, reaches))
+    earlier x = let (i, index, y) = x in let (b, lt, is, reaches) = y in (i, index, (b, omega (arith, lt), is, reaches))
 
     go : (x : Bool) → is_branch (f n) ≡ x → Bit (if x then bit_or word (operand_word (f n) t) else word) e ↔ Found BehindBranch f (suc n) e
     go true is = (
       (λ bit. elim ((Bit-or word (operand_word (f n) t) e).0 bit) [
         | inl y ↦ earlier ((old e).0 y)
-        | inr y ↦ let (i, place, reaches) = here.0 y in (i, place, (n, omega arith, is, reaches))
+        | inr y ↦ let (i, index, reaches) = here.0 y in (i, index, (n, omega arith, is, reaches))
       ]),
-      (λ x. let (i, place, y) = x in let (b, lt, br, z) = y in (Bit-or word (operand_word (f n) t) e).1 (elim (cases_eq b n) [
-        | inl same ↦ inr (here.1 (i, place, subst (λ (k : ℕ). LoadReaches is_plain IsOperand f i k) same z))
-        | inr ne ↦ inl ((old e).1 (i, place, (b, omega (arith, lt), br, z)))
+      (λ x. let (i, index, y) = x in let (b, lt, br, z) = y in (Bit-or word (operand_word (f n) t) e).1 (elim (cases_eq b n) [
+        | inl same ↦ inr (here.1 (i, index, subst (λ (k : ℕ). LoadReaches is_plain IsOperand f i k) same z))
+        | inr ne ↦ inl ((old e).1 (i, index, (b, omega (arith, lt), br, z)))
       ])),
     )
     go false is = (
       (λ bit. earlier ((old e).0 bit)),
-      (λ x. let (i, place, y) = x in let (b, lt, br, z) = y in elim (cases_eq b n) [
+      (λ x. let (i, index, y) = x in let (b, lt, br, z) = y in elim (cases_eq b n) [
         | inl same ↦ absurd (false≢true (sym is ∙ subst (λ (k : ℕ). is_branch (f k) ≡ true) same br))
-        | inr ne ↦ (old e).1 (i, place, (b, omega (arith, lt), br, z))
+        | inr ne ↦ (old e).1 (i, index, (b, omega (arith, lt), br, z))
       ]),
     )
 
@@ -81,24 +81,24 @@ synchronised_next : (f : Executed) (n : ℕ) (branched word : ℕ) → Has Behin
 synchronised_next f n branched word through old e = go (is_isync (f n)) refl
   where
     earlier : Found BehindIsync f n e → Found BehindIsync f (suc n) e
-    earlier x = let (i, place, y) = x in let (s, lt, is, z) = y in (i, place, (s, omega (arith, lt), is, z))
+    earlier x = let (i, index, y) = x in let (s, lt, is, z) = y in (i, index, (s, omega (arith, lt), is, z))
 
     go : (x : Bool) → is_isync (f n) ≡ x → Bit (if x then bit_or word branched else word) e ↔ Found BehindIsync f (suc n) e
     go true is = (
       (λ bit. elim ((Bit-or word branched e).0 bit) [
         | inl y ↦ earlier ((old e).0 y)
-        | inr y ↦ let (i, place, behind) = (through e).0 y in (i, place, (n, omega arith, is, (isync_is_event (f n) is, behind)))
+        | inr y ↦ let (i, index, behind) = (through e).0 y in (i, index, (n, omega arith, is, (isync_is_event (f n) is, behind)))
       ]),
-      (λ x. let (i, place, y) = x in let (s, lt, sync, z) = y in (Bit-or word branched e).1 (elim (cases_eq s n) [
-        | inl same ↦ inr ((through e).1 (i, place, subst (λ (k : ℕ). BehindBranch f i k) same z.1))
-        | inr ne ↦ inl ((old e).1 (i, place, (s, omega (arith, lt), sync, z)))
+      (λ x. let (i, index, y) = x in let (s, lt, sync, z) = y in (Bit-or word branched e).1 (elim (cases_eq s n) [
+        | inl same ↦ inr ((through e).1 (i, index, subst (λ (k : ℕ). BehindBranch f i k) same z.1))
+        | inr ne ↦ inl ((old e).1 (i, index, (s, omega (arith, lt), sync, z)))
       ])),
     )
     go false is = (
       (λ bit. earlier ((old e).0 bit)),
-      (λ x. let (i, place, y) = x in let (s, lt, sync, z) = y in elim (cases_eq s n) [
+      (λ x. let (i, index, y) = x in let (s, lt, sync, z) = y in elim (cases_eq s n) [
         | inl same ↦ absurd (false≢true (sym is ∙ subst (λ (k : ℕ). is_isync (f k) ≡ true) same sync))
-        | inr ne ↦ (old e).1 (i, place, (s, omega (arith, lt), sync, z))
+        | inr ne ↦ (old e).1 (i, index, (s, omega (arith, lt), sync, z))
       ]),
     )
 
@@ -106,13 +106,13 @@ pub steered_first : (f : Executed) (c : Control) → c.taints.registers ≡ repl
 steered_first f c zeros none branched synchronised = record {
   taints = taints_first (passes_of false) f c.taints (no_word c.taints zeros none);
   height = ap length zeros ∙ length-replicate {A = ℕ} 256 0;
-  branched = λ e. ((λ bit. absurd (Bit-zero e (subst (λ (w : ℕ). Bit w e) branched bit))), (λ x. let (i, place, y) = x in let (b, lt, br, z) = y in absurd (omega (arith, lt))));
-  synchronised = λ e. ((λ bit. absurd (Bit-zero e (subst (λ (w : ℕ). Bit w e) synchronised bit))), (λ x. let (i, place, y) = x in let (s, lt, sync, z) = y in absurd (omega (arith, lt))));
+  branched = λ e. ((λ bit. absurd (Bit-zero e (subst (λ (w : ℕ). Bit w e) branched bit))), (λ x. let (i, index, y) = x in let (b, lt, br, z) = y in absurd (omega (arith, lt))));
+  synchronised = λ e. ((λ bit. absurd (Bit-zero e (subst (λ (w : ℕ). Bit w e) synchronised bit))), (λ x. let (i, index, y) = x in let (s, lt, sync, z) = y in absurd (omega (arith, lt))));
 }
 
-steered_next : (f : Executed) (n : ℕ) (c : Control) (place : ℕ) (i : Instruction) → i ≡ f n → IsWithinFile i → (is_load i ≡ true → place < 128) → place ≡ event_place f n → IsSteered f n c → IsSteered f (suc n) (steered i place c)
-steered_next f n c place i same inside fits here x = record {
-  taints = taints_next false f n c.taints place i same inside fits here x.height x.taints;
+steered_next : (f : Executed) (n : ℕ) (c : Control) (index : ℕ) (i : Instruction) → i ≡ f n → IsWithinFile i → (is_load i ≡ true → index < 128) → index ≡ event_place f n → IsSteered f n c → IsSteered f (suc n) (steered i index c)
+steered_next f n c index i same inside fits here x = record {
+  taints = taints_next false f n c.taints index i same inside fits here x.height x.taints;
   height = with_word_long i _ c.taints ∙ x.height;
   branched = subst (λ (j : Instruction). Has BehindBranch f (suc n) (branched_after j c.taints c.branched)) (sym same)
       (branched_next f n c.taints c.branched (λ a operand. inside.operands a (subst (λ (j : Instruction). IsOperand j a) (sym same) operand)) x.taints x.branched);
@@ -122,14 +122,14 @@ steered_next f n c place i same inside fits here x = record {
 
 -- what the word of an event holds
 behind : (synchronised : Bool) (f : Executed) (n : ℕ) (c : Control) → is_event (f n) ≡ true → IsSteered f n c → Has (control_of synchronised) f n (control_word synchronised c)
-behind true f n c event x e = ((λ bit. let (i, place, y) = (x.synchronised e).0 bit in (i, place, (event, y))), (λ y. let (i, place, z) = y in (x.synchronised e).1 (i, place, z.1)))
-behind false f n c event x e = ((λ bit. let (i, place, y) = (x.branched e).0 bit in (i, place, (event, y))), (λ y. let (i, place, z) = y in (x.branched e).1 (i, place, z.1)))
+behind true f n c event x e = ((λ bit. let (i, index, y) = (x.synchronised e).0 bit in (i, index, (event, y))), (λ y. let (i, index, z) = y in (x.synchronised e).1 (i, index, z.1)))
+behind false f n c event x e = ((λ bit. let (i, index, y) = (x.branched e).0 bit in (i, index, (event, y))), (λ y. let (i, index, z) = y in (x.branched e).1 (i, index, z.1)))
 
 -- what holds in the loop
-pub record IsControlled (synchronised : Bool) (f : Executed) (n : ℕ) (c : Control) (words : List ℕ) (place : ℕ) : Type 0 where
+pub record IsControlled (synchronised : Bool) (f : Executed) (n : ℕ) (c : Control) (words : List ℕ) (index : ℕ) : Type 0 where
   pub steered : IsSteered f n c
   pub width : length words ≡ 128
-  pub here : place ≡ event_place f n
+  pub here : index ≡ event_place f n
   pub columns : AreColumnsOf (control_of synchronised) f n words
 
 pub controlled_first : (synchronised : Bool) (f : Executed) (c : Control) (words : List ℕ) → IsSteered f 0 c → length words ≡ 128 → IsControlled synchronised f 0 c words 0
@@ -140,25 +140,25 @@ controlled_first synchronised f c words x width = record {
   columns = columns_first (control_of synchronised) f words;
 }
 
-pub controlled_event : (synchronised : Bool) (f : Executed) (n : ℕ) (c : Control) (words : List ℕ) (place : ℕ) (i : Instruction) → i ≡ f n → is_event i ≡ true → event_place f n < 128 → IsWithinFile i
-    → IsControlled synchronised f n c words place → IsControlled synchronised f (n + 1) (steered i place c) (set words place (control_word synchronised c)) (place + 1)
-controlled_event synchronised f n c words place i same event lt inside x =
+pub controlled_event : (synchronised : Bool) (f : Executed) (n : ℕ) (c : Control) (words : List ℕ) (index : ℕ) (i : Instruction) → i ≡ f n → is_event i ≡ true → event_place f n < 128 → IsWithinFile i
+    → IsControlled synchronised f n c words index → IsControlled synchronised f (n + 1) (steered i index c) (set words index (control_word synchronised c)) (index + 1)
+controlled_event synchronised f n c words index i same event lt inside x =
     let event_here : is_event (f n) ≡ true = subst (λ (j : Instruction). is_event j ≡ true) same event in
     rw add-one (record {
-      steered = steered_next f n c place i same inside (λ load. omega (arith, lt, x.here)) x.here x.steered;
-      width = length-set words place (control_word synchronised c) ∙ x.width;
+      steered = steered_next f n c index i same inside (λ load. omega (arith, lt, x.here)) x.here x.steered;
+      width = length-set words index (control_word synchronised c) ∙ x.width;
       here = omega (arith, x.here, place_event f n event_here);
       columns =
           subst (λ (k : ℕ). AreColumnsOf (control_of synchronised) f (suc n) (set words k (control_word synchronised c))) (sym x.here)
           (columns_event (control_of synchronised) f n words (control_word synchronised c) event_here (omega (arith, lt, x.width)) (behind synchronised f n c event_here x.steered) x.columns);
     })
 
-pub controlled_other : (synchronised : Bool) (f : Executed) (n : ℕ) (c : Control) (words : List ℕ) (place : ℕ) (i : Instruction) → i ≡ f n → is_event i ≡ false → IsWithinFile i
-    → IsControlled synchronised f n c words place → IsControlled synchronised f (n + 1) (steered i place c) words place
-controlled_other synchronised f n c words place i same event inside x =
+pub controlled_other : (synchronised : Bool) (f : Executed) (n : ℕ) (c : Control) (words : List ℕ) (index : ℕ) (i : Instruction) → i ≡ f n → is_event i ≡ false → IsWithinFile i
+    → IsControlled synchronised f n c words index → IsControlled synchronised f (n + 1) (steered i index c) words index
+controlled_other synchronised f n c words index i same event inside x =
     let none_here : is_event (f n) ≡ false = subst (λ (j : Instruction). is_event j ≡ false) same event in
     rw add-one (record {
-      steered = steered_next f n c place i same inside (load_place i place event) x.here x.steered;
+      steered = steered_next f n c index i same inside (load_place i index event) x.here x.steered;
       width = x.width;
       here = omega (arith, x.here, place_other f n none_here);
       columns = columns_other (control_of synchronised) f n words none_here x.columns;

@@ -101,7 +101,7 @@ stores_event (Branch c l) v s q e = absurd e
 stores_event (Jump l) v s q e = absurd e
 stores_event (Barrier f) v s q e = absurd e
 
--- the event of a place is among the events
+-- the event of a index is among the events
 has_event : (f : Executed) (l : ℕ → Value) (s : State) (n j : ℕ) (e : Event) → j < n → Contains (event_of (f j) (l j) (state_at f l s j)) e → Contains (events_before f l s n) e
 has_event f l s zero j e lt c = absurd (omega arith)
 has_event f l s (suc n) j e lt c = elim (cases_eq j n) [
@@ -127,7 +127,7 @@ chosen-allowed P (inr n) v d a p = p
 abbrev picked_value : Outcome → ℕ → Value → ℕ → Value
 picked_value r j d i = chosen (decide_need (executed r.walk.steps) i j) (loaded_at r.walk.steps i) d
 
--- what the free run stores at the place
+-- what the free run stores at the index
 same_store : (s : State) (r : Outcome) (d : Value) (j q : ℕ) (f : Walk) → IsPicked (picked_value r j d) r.walk f → IsStoredRegister (executed r.walk.steps j) (Register q)
     → register (state_at (executed f.steps) (loaded_at f.steps) s j) q ≡ register (state_at (executed r.walk.steps) (loaded_at r.walk.steps) s j) q
 same_store s r d j q f p stored =
@@ -186,8 +186,8 @@ module _ (initial : List Value) (threads : List Thread) (e : Execution) (x : IsE
   from_source (From t j) k l lt is c before =
       inr (
         subst (λ (v : Value). StoresFreely threads (InDomain initial threads k) v) (sym c.1.2)
-            (stored_freely threads (e.ran t).thread (e.ran t).values (e.ran t).outcome (InDomain initial threads k) x.begun.0 j c.1.0
-            c.0 (x.runs t c.0) c.1.1 (in_every initial threads k x.begun.0 x.begun.1) needed),
+            (stored_freely threads (e.ran t).thread (e.ran t).values (e.ran t).outcome (InDomain initial threads k) x.some_initial.0 j c.1.0
+            c.0 (x.runs t c.0) c.1.1 (in_every initial threads k x.some_initial.0 x.some_initial.1) needed),
         x.proper l lt,
       )
     where
@@ -195,11 +195,11 @@ module _ (initial : List Value) (threads : List Thread) (e : Execution) (x : IsE
       needed i need =
           let (m, m_lt, same_thread, same_place) = x.numbered t i need.0 in
           subst (λ (p : ℕ). InDomain initial threads k (loaded_by e t p)) same_place
-          (subst (λ (u : ℕ). InDomain initial threads k (loaded_by e u (e.load m).place)) same_thread
+          (subst (λ (u : ℕ). InDomain initial threads k (loaded_by e u (e.load m).index)) same_thread
           (before m m_lt (
             j,
             is ∙ ap (λ (u : ℕ). From u j) (sym same_thread),
-            subst (λ (u : ℕ). IsNeed (executed_by e u) (e.load m).place j) (sym same_thread)
+            subst (λ (u : ℕ). IsNeed (executed_by e u) (e.load m).index j) (sym same_thread)
                 (subst (λ (p : ℕ). IsNeed (executed_by e t) p j) (sym same_place) need),
           )))
 

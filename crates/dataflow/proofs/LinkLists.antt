@@ -15,7 +15,7 @@ use Rattle.dataflow.specs.Dependencies.{ArePairs}
 use Rattle.dataflow.proofs.ReachLoop.{place_lt}
 
 -- past the end of a run nothing is an event
-event_within : (steps : List RunStep) (i : ℕ) → is_event (executed steps i) ≡ true → i < length steps
+pub event_within : (steps : List RunStep) (i : ℕ) → is_event (executed steps i) ≡ true → i < length steps
 event_within steps i event = elim (cases_lt i (length steps)) [
   | inl lt ↦ lt
   | inr ge ↦ absurd (false≢true (sym (ap (λ (x : RunStep). is_event x.instruction) (get_or_past steps i nothing ge)) ∙ event))
@@ -26,7 +26,7 @@ abbrev pub EventAt : Executed → ℕ → ℕ → Type 0
 EventAt f n e = (j : ℕ) × (j < n) × IsTrue (is_event (f j)) × (event_place f j ≡ e)
 
 event_later : (f : Executed) (n e : ℕ) → EventAt f n e → EventAt f (suc n) e
-event_later f n e x = let (j, before, event, place) = x in (j, omega (arith, before), event, place)
+event_later f n e x = let (j, before, event, index) = x in (j, omega (arith, before), event, index)
 
 event_here : (f : Executed) (n e : ℕ) (b : Bool) → is_event (f n) ≡ b → (e < event_place f n → EventAt f n e) → e < (if b then event_place f n + 1 else event_place f n) → EventAt f (suc n) e
 event_here f n e true is earlier less = elim (cases_lt e (event_place f n)) [
@@ -53,9 +53,9 @@ listed R steps words ps loads columns found = record { rising = found.rising; ex
     forth : (p : ℕ × ℕ) → Contains ps p → OfEvents R f p
     forth p here =
         let (l, r, b) = (found.exact p).0 here in
-        let (j, lt, event, place) = event_at f (length steps) p.1 r in
-        let (i, at, related) = (columns j lt event p.0).0 (subst (λ (k : ℕ). Bit (get_or words k 0) p.0) (sym place) b) in
-        (i, j, related, sym at, sym place)
+        let (j, lt, event, index) = event_at f (length steps) p.1 r in
+        let (i, at, related) = (columns j lt event p.0).0 (subst (λ (k : ℕ). Bit (get_or words k 0) p.0) (sym index) b) in
+        (i, j, related, sym at, sym index)
 
     back : (p : ℕ × ℕ) → OfEvents R f p → Contains ps p
     back p x =

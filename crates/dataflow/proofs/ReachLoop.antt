@@ -18,7 +18,7 @@ same_element [] k d e lt = absurd (omega arith)
 same_element (x ∷ xs) zero d e lt = refl
 same_element (x ∷ xs) (suc k) d e lt = same_element xs k d e (omega arith)
 
-place_suc : (f : Executed) (n : ℕ) → event_place f n ≤ event_place f (suc n)
+pub place_suc : (f : Executed) (n : ℕ) → event_place f n ≤ event_place f (suc n)
 place_suc f n = go (is_event (f n))
   where
     go : (b : Bool) → event_place f n ≤ (if b then event_place f n + 1 else event_place f n)
@@ -72,15 +72,15 @@ union_found narrow Reads f n t w inside taints u e = (forth, back)
     forth : Bit w e → Found (LoadReaches (passes_of narrow) Reads) f n e
     forth b =
         let (a, reads, bit) = (u e).0 b in
-        let (i, load, place, x) = (taints a (inside a reads) e).0 bit in
-        (i, place, (load, (a, reads, x)))
+        let (i, load, index, x) = (taints a (inside a reads) e).0 bit in
+        (i, index, (load, (a, reads, x)))
 
     back : Found (LoadReaches (passes_of narrow) Reads) f n e → Bit w e
     back y =
-        let (i, place, reaches) = y in
+        let (i, index, reaches) = y in
         let (load, rest) = reaches in
         let (a, reads, x) = rest in
-        (u e).1 (a, reads, (taints a (inside a reads) e).1 (i, load, place, x))
+        (u e).1 (a, reads, (taints a (inside a reads) e).1 (i, load, index, x))
 
 within : (stored : Bool) (i : Instruction) → IsWithinFile i → (p : Place) → reads_of stored i p → IsPlace p
 within true i w p r = w.stored p r
@@ -101,24 +101,24 @@ load_is_event (Branch c m) l e = absurd (false≢true l)
 load_is_event (Jump m) l e = absurd (false≢true l)
 load_is_event (Barrier f) l e = absurd (false≢true l)
 
-pub load_place : (i : Instruction) (place : ℕ) → is_event i ≡ false → is_load i ≡ true → place < 128
-load_place i place e l = absurd (load_is_event i l e)
+pub load_place : (i : Instruction) (index : ℕ) → is_event i ≡ false → is_load i ≡ true → index < 128
+load_place i index e l = absurd (load_is_event i l e)
 
 -- what reaches each place, behind one instruction more
-pub taints_next : (narrow : Bool) (f : Executed) (n : ℕ) (t : Taints) (place : ℕ) (i : Instruction) → i ≡ f n → IsWithinFile i → (is_load i ≡ true → place < 128) → place ≡ event_place f n → length t.registers ≡ 256
-    → AreTaints (passes_of narrow) f n t → AreTaints (passes_of narrow) f (suc n) (noted narrow i place t)
-taints_next narrow f n t place i same inside fits here height old =
-    taints_more narrow f n t (noted narrow i place t)
+pub taints_next : (narrow : Bool) (f : Executed) (n : ℕ) (t : Taints) (index : ℕ) (i : Instruction) → i ≡ f n → IsWithinFile i → (is_load i ≡ true → index < 128) → index ≡ event_place f n → length t.registers ≡ 256
+    → AreTaints (passes_of narrow) f n t → AreTaints (passes_of narrow) f (suc n) (noted narrow i index t)
+taints_next narrow f n t index i same inside fits here height old =
+    taints_more narrow f n t (noted narrow i index t)
     (λ a operand. inside.operands a (subst (λ (j : Instruction). IsOperand j a) (sym same) operand)) old
-    (subst (λ (j : Instruction). IsStep narrow j (event_place f n) t (noted narrow i place t)) same
-    (subst (λ (k : ℕ). IsStep narrow i k t (noted narrow i place t)) here (noted-step narrow i place t fits height)))
+    (subst (λ (j : Instruction). IsStep narrow j (event_place f n) t (noted narrow i index t)) same
+    (subst (λ (k : ℕ). IsStep narrow i k t (noted narrow i index t)) here (noted-step narrow i index t fits height)))
 
 -- what holds in the loop
-pub record IsReached (narrow stored : Bool) (f : Executed) (n : ℕ) (t : Taints) (words : List ℕ) (place : ℕ) : Type 0 where
+pub record IsReached (narrow stored : Bool) (f : Executed) (n : ℕ) (t : Taints) (words : List ℕ) (index : ℕ) : Type 0 where
   pub taints : AreTaints (passes_of narrow) f n t
   pub height : length t.registers ≡ 256
   pub width : length words ≡ 128
-  pub here : place ≡ event_place f n
+  pub here : index ≡ event_place f n
   pub columns : AreColumns narrow stored f n words
 
 pub no_word : (t : Taints) → t.registers ≡ replicate 256 0 → t.compared ≡ 0 → (p : Place) → IsPlace p → word_of t p ≡ 0
@@ -134,12 +134,12 @@ reached_first narrow stored f t words zeros none width = record {
   columns = columns_first (LoadReaches (passes_of narrow) (reads_of stored)) f words;
 }
 
-pub reached_event : (narrow stored : Bool) (f : Executed) (n : ℕ) (t : Taints) (words : List ℕ) (place : ℕ) (i : Instruction) → i ≡ f n → is_event i ≡ true → event_place f n < 128 → IsWithinFile i
-    → IsReached narrow stored f n t words place → IsReached narrow stored f (n + 1) (noted narrow i place t) (set words place (read_word stored i t)) (place + 1)
-reached_event narrow stored f n t words place i same event lt inside x = rw add-one (record {
-  taints = taints_next narrow f n t place i same inside (λ load. omega (arith, lt, x.here)) x.here x.height x.taints;
+pub reached_event : (narrow stored : Bool) (f : Executed) (n : ℕ) (t : Taints) (words : List ℕ) (index : ℕ) (i : Instruction) → i ≡ f n → is_event i ≡ true → event_place f n < 128 → IsWithinFile i
+    → IsReached narrow stored f n t words index → IsReached narrow stored f (n + 1) (noted narrow i index t) (set words index (read_word stored i t)) (index + 1)
+reached_event narrow stored f n t words index i same event lt inside x = rw add-one (record {
+  taints = taints_next narrow f n t index i same inside (λ load. omega (arith, lt, x.here)) x.here x.height x.taints;
   height = with_word_long i _ t ∙ x.height;
-  width = length-set words place (read_word stored i t) ∙ x.width;
+  width = length-set words index (read_word stored i t) ∙ x.width;
   here = omega (arith, x.here, place_event f n (subst (λ (j : Instruction). is_event j ≡ true) same event));
   columns =
       subst (λ (k : ℕ). AreColumns narrow stored f (suc n) (set words k (read_word stored i t))) (sym x.here)
@@ -149,10 +149,10 @@ reached_event narrow stored f n t words place i same event lt inside x = rw add-
       x.columns);
 })
 
-pub reached_other : (narrow stored : Bool) (f : Executed) (n : ℕ) (t : Taints) (words : List ℕ) (place : ℕ) (i : Instruction) → i ≡ f n → is_event i ≡ false → IsWithinFile i
-    → IsReached narrow stored f n t words place → IsReached narrow stored f (n + 1) (noted narrow i place t) words place
-reached_other narrow stored f n t words place i same event inside x = rw add-one (record {
-  taints = taints_next narrow f n t place i same inside (load_place i place event) x.here x.height x.taints;
+pub reached_other : (narrow stored : Bool) (f : Executed) (n : ℕ) (t : Taints) (words : List ℕ) (index : ℕ) (i : Instruction) → i ≡ f n → is_event i ≡ false → IsWithinFile i
+    → IsReached narrow stored f n t words index → IsReached narrow stored f (n + 1) (noted narrow i index t) words index
+reached_other narrow stored f n t words index i same event inside x = rw add-one (record {
+  taints = taints_next narrow f n t index i same inside (load_place i index event) x.here x.height x.taints;
   height = with_word_long i _ t ∙ x.height;
   width = x.width;
   here = omega (arith, x.here, place_other f n (subst (λ (j : Instruction). is_event j ≡ false) same event));

@@ -11,13 +11,10 @@ use Rattle.dataflow.specs.declared.taints.Taints.{Taints}
 use Rattle.thread_runs.specs.Machine.{is_load}
 use Rattle.dataflow.specs.Chains.{Executed, Place, Register, Cr0, IsOperand, IsWritten, event_place}
 use Rattle.bit_relations.specs.Relation.{Bit}
-use Rattle.bit_relations.proofs.Bits.{Bit-zero, Bit-or}
+use Rattle.bit_relations.proofs.Bits.{Bit-zero, Bit-or, zero_or_one}
 use Rattle.dataflow.specs.Taints.{TaintOf, IsStep, IsUnion, IsOrigin, IsPlace, AreTaints, word_of, passes_of, operand_word, bit_word, origin_word, with_word, noted, reads_of, read_word}
 use Rattle.dataflow.proofs.Agreement.{reaches_more}
 use Rattle.dataflow.proofs.Inversion.{through_last, before_last, from_through, none_first, is_written, Through}
-
-zero_or_one : (n : ℕ) → n ≡ 0 → n ≡ 1 → ⊥
-zero_or_one n p q = omega arith
 
 module _ (passes : Instruction → Bool) (at : Executed) where
   -- what reaches the place that the last instruction wrote
@@ -82,19 +79,19 @@ pub no_places : (t : Taints) (e : ℕ) → Bit 0 e ↔ ((p : Place) × ⊥ × Bi
 no_places t e = ((λ x. absurd (Bit-zero e x)), (λ x. absurd x.1))
 
 -- an instruction that is a load, or passes its operands' bits on, or none
-pub of_load : (narrow : Bool) (i : Instruction) (place : ℕ) (t : Taints) (word : ℕ) → is_load i ≡ true → (passes_of narrow i ≡ true → ⊥)
-    → ((e : ℕ) → Bit word e ↔ (place ≡ e)) → (e : ℕ) → Bit word e ↔ IsOrigin narrow i place t e
-of_load narrow i place t word load not_passed own e =
+pub of_load : (narrow : Bool) (i : Instruction) (index : ℕ) (t : Taints) (word : ℕ) → is_load i ≡ true → (passes_of narrow i ≡ true → ⊥)
+    → ((e : ℕ) → Bit word e ↔ (index ≡ e)) → (e : ℕ) → Bit word e ↔ IsOrigin narrow i index t e
+of_load narrow i index t word load not_passed own e =
     ((λ b. inl (load, (own e).0 b)), (λ x. elim x [ inl y ↦ (own e).1 y.1 | inr y ↦ absurd (not_passed y.0) ]))
 
-pub of_operands : (narrow : Bool) (i : Instruction) (place : ℕ) (t : Taints) (word : ℕ) → is_load i ≡ false → passes_of narrow i ≡ true
-    → IsUnion IsOperand i t word → (e : ℕ) → Bit word e ↔ IsOrigin narrow i place t e
-of_operands narrow i place t word not_load passed u e =
+pub of_operands : (narrow : Bool) (i : Instruction) (index : ℕ) (t : Taints) (word : ℕ) → is_load i ≡ false → passes_of narrow i ≡ true
+    → IsUnion IsOperand i t word → (e : ℕ) → Bit word e ↔ IsOrigin narrow i index t e
+of_operands narrow i index t word not_load passed u e =
     ((λ b. inr (passed, (u e).0 b)), (λ x. elim x [ inl y ↦ absurd (false≢true (sym not_load ∙ y.0)) | inr y ↦ (u e).1 y.1 ]))
 
-pub of_none : (narrow : Bool) (i : Instruction) (place : ℕ) (t : Taints) → is_load i ≡ false → (passes_of narrow i ≡ true → ⊥)
-    → (e : ℕ) → Bit 0 e ↔ IsOrigin narrow i place t e
-of_none narrow i place t not_load not_passed e =
+pub of_none : (narrow : Bool) (i : Instruction) (index : ℕ) (t : Taints) → is_load i ≡ false → (passes_of narrow i ≡ true → ⊥)
+    → (e : ℕ) → Bit 0 e ↔ IsOrigin narrow i index t e
+of_none narrow i index t not_load not_passed e =
     ((λ b. absurd (Bit-zero e b)), (λ x. elim x [ inl y ↦ absurd (false≢true (sym not_load ∙ y.0)) | inr y ↦ absurd (not_passed y.0) ]))
 
 pub load_blocks : (narrow : Bool) (i : Instruction) → is_load i ≡ true → passes_of narrow i ≡ true → ⊥

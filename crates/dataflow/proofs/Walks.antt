@@ -18,23 +18,24 @@ use Rattle.thread_runs.specs.Machine.{after, event_of, is_load, is_branch, is_fa
 use Rattle.thread_runs.specs.Runs.{Walk, Outcome, started, ended, advanced, passed, supplied, obeyed, one, ends, run_from, free_from, free_obeyed, free_one, nothing, executed, loaded_at}
 use Rattle.dataflow.specs.Chains.{Executed}
 use Rattle.dataflow.specs.Law.{state_at, events_before, IsWalk, IsPicked}
+use Rattle.thread_runs.proofs.FreeStores.{step_of}
 
 -- only what stands before the place counts
 pub state_prefix : (f g : Executed) (l m : ℕ → Value) (s : State) (n : ℕ) → ((k : ℕ) → k < n → f k ≡ g k) → ((k : ℕ) → k < n → l k ≡ m k) → state_at f l s n ≡ state_at g m s n
-state_prefix f g l m s zero same taken = refl
-state_prefix f g l m s (suc n) same taken =
+state_prefix f g l m s zero same loaded_same = refl
+state_prefix f g l m s (suc n) same loaded_same =
     let i : f n ≡ g n = same n (omega arith) in
-    let v : l n ≡ m n = taken n (omega arith) in
-    let t : state_at f l s n ≡ state_at g m s n = state_prefix f g l m s n (λ k lt. same k (omega arith)) (λ k lt. taken k (omega arith)) in
+    let v : l n ≡ m n = loaded_same n (omega arith) in
+    let t : state_at f l s n ≡ state_at g m s n = state_prefix f g l m s n (λ k lt. same k (omega arith)) (λ k lt. loaded_same k (omega arith)) in
     cc
 
 pub events_prefix : (f g : Executed) (l m : ℕ → Value) (s : State) (n : ℕ) → ((k : ℕ) → k < n → f k ≡ g k) → ((k : ℕ) → k < n → l k ≡ m k) → events_before f l s n ≡ events_before g m s n
-events_prefix f g l m s zero same taken = refl
-events_prefix f g l m s (suc n) same taken =
+events_prefix f g l m s zero same loaded_same = refl
+events_prefix f g l m s (suc n) same loaded_same =
     let i : f n ≡ g n = same n (omega arith) in
-    let v : l n ≡ m n = taken n (omega arith) in
-    let t : state_at f l s n ≡ state_at g m s n = state_prefix f g l m s n (λ k lt. same k (omega arith)) (λ k lt. taken k (omega arith)) in
-    let e : events_before f l s n ≡ events_before g m s n = events_prefix f g l m s n (λ k lt. same k (omega arith)) (λ k lt. taken k (omega arith)) in
+    let v : l n ≡ m n = loaded_same n (omega arith) in
+    let t : state_at f l s n ≡ state_at g m s n = state_prefix f g l m s n (λ k lt. same k (omega arith)) (λ k lt. loaded_same k (omega arith)) in
+    let e : events_before f l s n ≡ events_before g m s n = events_prefix f g l m s n (λ k lt. same k (omega arith)) (λ k lt. loaded_same k (omega arith)) in
     cc
 
 step_kept : (xs : List RunStep) (x : RunStep) (k : ℕ) → k < length xs → get_or (xs ++ x ∷ []) k nothing ≡ get_or xs k nothing
@@ -78,9 +79,6 @@ IsWalk-passed s x l w y = record { state = y.state; events = y.events }
 
 pub IsWalk-started : (s : State) → IsWalk s (started s)
 IsWalk-started s = record { state = refl; events = refl }
-
-abbrev step_of : Instruction → Value → RunStep
-step_of i v = record { instruction = i; loaded = v }
 
 -- what is picked stays so, as both go on
 IsPicked-advanced : (pick : ℕ → Value) (w u : Walk) (i : Instruction) (b c : Bool) (v : Value) → length u.steps ≡ length w.steps → IsPicked pick w u

@@ -67,7 +67,7 @@ abbrev pub is_event : Instruction → Bool
 is_event (Barrier f) = true
 is_event i = not (is_plain i)
 
--- the instructions that a run executes, by their places; past its end nothing is read or written
+-- the instructions that a run executes, by their indexes; past its end nothing is read or written
 abbrev pub Executed : Type 0
 Executed = ℕ → Instruction
 
@@ -121,12 +121,12 @@ IsCtrlIsync at i j =
     IsTrue (is_event (at j))
     × ((f : ℕ) × (f < j) × IsTrue (is_isync (at f)) × IsCtrl at i f)
 
--- how many of the instructions before a place are events
+-- how many of the instructions before an index are events
 abbrev pub event_place : Executed → ℕ → ℕ
 event_place at zero = 0
 event_place at (suc n) = if is_event (at n) then event_place at n + 1 else event_place at n
 
--- the pair, of places in the list of events, is one of these instructions
+-- the pair, of indexes in the list of events, is one of these instructions
 abbrev pub OfEvents : (Executed → ℕ → ℕ → Type 0) → Executed → ℕ × ℕ → Type 0
 OfEvents R at p = (i j : ℕ) × R at i j × (p.0 ≡ event_place at i) × (p.1 ≡ event_place at j)
 

@@ -16,8 +16,8 @@ abbrev pub synchronised_after : Instruction → ℕ → ℕ → ℕ
 synchronised_after i branched synchronised = if is_isync i then bit_or synchronised branched else synchronised
 
 abbrev pub steered : Instruction → ℕ → Control → Control
-steered i place c = record {
-  taints = noted false i place c.taints;
+steered i index c = record {
+  taints = noted false i index c.taints;
   branched = branched_after i c.taints c.branched;
   synchronised = synchronised_after i c.branched c.synchronised;
 }

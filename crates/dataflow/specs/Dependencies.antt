@@ -12,7 +12,7 @@ pub record AreLinks (at : Executed) (links : Links) : Type 0 where
   pub ctrlisync : IsListOf IsCtrlIsync at links.dependencies.ctrlisync_pairs.items
   pub need : IsListOf IsNeed at links.need_pairs.items
 
--- the pairs of a place whose bit a word has, and the place of the word
+-- the pairs of an index whose bit a word has, and the index of the word
 pub record ArePairs (words : List ℕ) (count : ℕ) (ps : List (ℕ × ℕ)) : Type 0 where
   pub rising : IsRising ps
   pub exact : (p : ℕ × ℕ) → Contains ps p ↔ ((p.0 < count) × (p.1 < count) × Bit (slice_index words p.1) p.0)

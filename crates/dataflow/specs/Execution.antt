@@ -7,10 +7,10 @@ use Rattle.thread_runs.specs.Runs.{Thread, Outcome, InDomain, run_of, executed, 
 use Rattle.dataflow.specs.Chains.{Executed, Register, IsNeed, IsStoredRegister}
 use Rattle.dataflow.specs.Law.{state_at}
 
--- where a load's value comes from: an initial store, or the store at a place of a thread's run
+-- where a load's value comes from: an initial store, or the store at an index of a thread's run
 pub data Source : Type 0 where
   Initial : Source
-  From : (thread place : ℕ) → Source
+  From : (thread index : ℕ) → Source
 
 -- a thread with its run
 pub record Ran : Type 0 where
@@ -18,10 +18,10 @@ pub record Ran : Type 0 where
   pub values : List Value
   pub outcome : Outcome
 
--- a load: its thread, its place there, and its source
+-- a load: its thread, its index in it, and its source
 pub record Reading : Type 0 where
   pub thread : ℕ
-  pub place : ℕ
+  pub index : ℕ
   pub source : Source
 
 -- the threads with their runs, and a number of loads
@@ -38,9 +38,9 @@ loaded_by e t = loaded_at (e.ran t).outcome.walk.steps
 
 -- the value that a load reads
 abbrev pub value_read : Execution → ℕ → Value
-value_read e l = loaded_by e (e.load l).thread (e.load l).place
+value_read e l = loaded_by e (e.load l).thread (e.load l).index
 
--- the store at a place of a thread's run stores the value
+-- the store at an index of a thread's run stores the value
 abbrev pub IsStoredBy : Execution → ℕ → ℕ → Value → Type 0
 IsStoredBy e t j v =
     (q : ℕ) × IsStoredRegister (executed_by e t j) (Register q)
@@ -53,17 +53,17 @@ IsReadFrom e initial threads (From t j) v = Contains threads (e.ran t).thread ×
 -- the second load reads from a store that needs the first
 abbrev pub Precedes : Execution → ℕ → ℕ → Type 0
 Precedes e m l =
-    (j : ℕ) × ((e.load l).source ≡ From (e.load m).thread j) × IsNeed (executed_by e (e.load m).thread) (e.load m).place j
+    (j : ℕ) × ((e.load l).source ≡ From (e.load m).thread j) × IsNeed (executed_by e (e.load m).thread) (e.load m).index j
 
--- an event of the graph of `rf` and `need`: a load by its number, a store by its thread and place
+-- an event of the graph of `rf` and `need`: a load by its number, a store by its thread and index
 pub data Node : Type 0 where
   LoadNode : ℕ → Node
-  StoreNode : (thread place : ℕ) → Node
+  StoreNode : (thread index : ℕ) → Node
 
 -- a store leads to the loads that read from it, and a load to the stores that need it
 abbrev pub Leads : Execution → Node → Node → Type 0
 Leads e (StoreNode t j) (LoadNode l) = (e.load l).source ≡ From t j
-Leads e (LoadNode m) (StoreNode t j) = ((e.load m).thread ≡ t) × IsNeed (executed_by e t) (e.load m).place j
+Leads e (LoadNode m) (StoreNode t j) = ((e.load m).thread ≡ t) × IsNeed (executed_by e t) (e.load m).index j
 Leads e _ _ = ⊥
 
 abbrev pub Way : {X : Type 0} → (X → X → Type 0) → X → List X → X → Type 0
@@ -73,11 +73,11 @@ Way R a (c ∷ cs) b = R a c × Way R c cs b
 -- what must hold of an execution, its loads having any values
 pub record IsExecution (initial : List Value) (threads : List Thread) (e : Execution) : Type 0 where
   pub runs : (t : ℕ) → Contains threads (e.ran t).thread → run_of (e.ran t).thread.lines (e.ran t).thread.first (e.ran t).values ≡ Some (e.ran t).outcome
-  pub numbered : (t i : ℕ) → IsTrue (is_load (executed_by e t i)) → (m : ℕ) × (m < e.count) × ((e.load m).thread ≡ t) × ((e.load m).place ≡ i)
+  pub numbered : (t i : ℕ) → IsTrue (is_load (executed_by e t i)) → (m : ℕ) × (m < e.count) × ((e.load m).thread ≡ t) × ((e.load m).index ≡ i)
   pub proper : (l : ℕ) → l < e.count → value_read e l ≡ NoValue → ⊥
   pub reads : (l : ℕ) → l < e.count → IsReadFrom e initial threads (e.load l).source (value_read e l)
   pub acyclic : (x : Node) (through : List Node) → Way (Leads e) x through x → ⊥
-  pub begun : (v : Value) × Contains initial v
+  pub some_initial : (v : Value) × Contains initial v
 
 -- each value that is read is in the domain, after as many rounds as there are loads
 abbrev pub LosesNothing : List Value → List Thread → Execution → Type 0

@@ -7,7 +7,7 @@ use Rattle.thread_runs.specs.Machine.{after, event_of, register, is_load}
 use Rattle.thread_runs.specs.Runs.{Walk, executed, loaded_at}
 use Rattle.dataflow.specs.Chains.{Executed, Register, IsNeed, IsStoredRegister}
 
--- the state before the n-th of these instructions, where each load takes the value given for its place
+-- the state before the n-th of these instructions, where each load takes the value given for its index
 abbrev pub state_at : Executed → (ℕ → Value) → State → ℕ → State
 state_at at loaded s zero = s
 state_at at loaded s (suc n) = after (at n) (loaded n) (state_at at loaded s n)
@@ -19,7 +19,7 @@ StoresTheSame at s loaded loaded' j =
     → (r : ℕ) → IsStoredRegister (at j) (Register r)
     → register (state_at at loaded s j) r ≡ register (state_at at loaded' s j) r
 
--- the events of the instructions before a place
+-- the events of the instructions before an index
 abbrev pub events_before : Executed → (ℕ → Value) → State → ℕ → List Event
 events_before at loaded s zero = []
 events_before at loaded s (suc n) = events_before at loaded s n ++ event_of (at n) (loaded n) (state_at at loaded s n)

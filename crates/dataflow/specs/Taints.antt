@@ -7,7 +7,7 @@ use Rattle.thread_runs.specs.Machine.{is_load}
 use Rattle.dataflow.specs.Chains.{Executed, Place, Register, Cr0, IsOperand, IsWritten, Reaches, event_place, is_plain, is_narrow, is_event, IsStoredRegister, IsAddressRegister, LoadReaches}
 use Rattle.bit_relations.specs.Relation.{Bit}
 
--- some load with this place among the events reaches the place
+-- some load with this index among the events reaches the place
 abbrev pub TaintOf : (Instruction → Bool) → Executed → ℕ → Place → ℕ → Type 0
 TaintOf passes at n p e = (i : ℕ) × IsTrue (is_load (at i)) × (event_place at i ≡ e) × Reaches passes at i p n
 
@@ -26,8 +26,8 @@ passes_of false i = is_plain i
 
 -- the bits of what an instruction writes: a load's own, or those of its operands
 abbrev pub IsOrigin : Bool → Instruction → ℕ → Taints → ℕ → Type 0
-IsOrigin narrow i place t e =
-    (IsTrue (is_load i) × (place ≡ e)) ⊎ (IsTrue (passes_of narrow i) × ((a : Place) × IsOperand i a × Bit (word_of t a) e))
+IsOrigin narrow i index t e =
+    (IsTrue (is_load i) × (index ≡ e)) ⊎ (IsTrue (passes_of narrow i) × ((a : Place) × IsOperand i a × Bit (word_of t a) e))
 
 -- a place that is within the file of registers
 abbrev pub IsPlace : Place → Type 0
@@ -46,10 +46,10 @@ operand_word _ t = 0
 
 -- a word with one bit
 abbrev pub bit_word : ℕ → ℕ
-bit_word place = 1 * 2 ^ place % 2 ^ 128
+bit_word index = 1 * 2 ^ index % 2 ^ 128
 
 abbrev pub origin_word : Bool → Instruction → ℕ → Taints → ℕ
-origin_word narrow i place t = if is_load i then bit_word place else if passes_of narrow i then operand_word i t else 0
+origin_word narrow i index t = if is_load i then bit_word index else if passes_of narrow i then operand_word i t else 0
 
 abbrev pub with_word : Instruction → ℕ → Taints → Taints
 with_word (Immediate d n) w t = record t { registers = slice_set t.registers d w }
@@ -63,11 +63,11 @@ with_word (CompareImmediate a n) w t = record t { compared = w }
 with_word _ w t = t
 
 abbrev pub noted : Bool → Instruction → ℕ → Taints → Taints
-noted narrow i place t = with_word i (origin_word narrow i place t) t
+noted narrow i index t = with_word i (origin_word narrow i index t) t
 
 -- after an instruction: what it writes has its operands' bits, or a load's own
-pub record IsStep (narrow : Bool) (i : Instruction) (place : ℕ) (old new : Taints) : Type 0 where
-  pub written : (p : Place) → IsPlace p → IsWritten i p → (e : ℕ) → Bit (word_of new p) e ↔ IsOrigin narrow i place old e
+pub record IsStep (narrow : Bool) (i : Instruction) (index : ℕ) (old new : Taints) : Type 0 where
+  pub written : (p : Place) → IsPlace p → IsWritten i p → (e : ℕ) → Bit (word_of new p) e ↔ IsOrigin narrow i index old e
   pub kept : (p : Place) → (IsWritten i p → ⊥) → word_of new p ≡ word_of old p
 
 -- the words are those of the loads that reach each place
@@ -94,7 +94,7 @@ pub record IsWithinFile (i : Instruction) : Type 0 where
   pub addresses : (p : Place) → IsAddressRegister i p → IsPlace p
   pub stored : (p : Place) → IsStoredRegister i p → IsPlace p
 
--- at each event, the word has the loads of which the relation holds, by their places among the events
+-- at each event, the word has the loads of which the relation holds, by their indexes among the events
 abbrev pub AreColumnsOf : (Executed → ℕ → ℕ → Type 0) → Executed → ℕ → List ℕ → Type 0
 AreColumnsOf R at n words = (j : ℕ) → j < n → IsTrue (is_event (at j)) → (e : ℕ)
     → Bit (slice_index words (event_place at j)) e ↔ ((i : ℕ) × (event_place at i ≡ e) × R at i j)

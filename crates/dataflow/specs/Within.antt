@@ -5,7 +5,7 @@ use Rattle.dataflow.specs.declared.lists.Links.{Links}
 abbrev pub IsPairWithin : ℕ → ℕ × ℕ → Type 0
 IsPairWithin n p = (p.0 < n) × (p.1 < n)
 
--- every place is below the number
+-- every index is below the number
 pub record IsWithin (n : ℕ) (links : Links) : Type 0 where
   pub addr : All (IsPairWithin n) links.dependencies.addr_pairs.items
   pub «data» : All (IsPairWithin n) links.dependencies.data_pairs.items

@@ -15,7 +15,7 @@ use litmus_values::Fence;
 use std::alloc::{AllocError, Global};
 use thread_runs::{Instruction, Run, RunStep};
 
-/// For each event, the loads that reach it: bits, by their places among the events.
+/// For each event, the loads that reach it: bits, by their indexes among the events.
 type Columns = [u128; 128];
 
 /// How many of the steps are events.
@@ -66,10 +66,10 @@ impl Control {
         }
     }
 
-    /// One instruction more, with its place among the events if it is one.
-    fn note(&mut self, instruction: Instruction, place: u32)
-        requires { machine.is_load instruction ≡ true → place < 128 }
-        ensures { self.new ≡ control.steered instruction place self.old }
+    /// One instruction more, with its index among the events if it is one.
+    fn note(&mut self, instruction: Instruction, index: u32)
+        requires { machine.is_load instruction ≡ true → index < 128 }
+        ensures { self.new ≡ control.steered instruction index self.old }
     {
         match instruction {
             Instruction::Branch(_, _) => {
@@ -80,7 +80,7 @@ impl Control {
             }
             _ => {}
         }
-        note(&mut self.taints, instruction, false, place);
+        note(&mut self.taints, instruction, false, index);
     }
 }
 
@@ -92,27 +92,27 @@ fn control_columns(steps: &[RunStep], synchronised: bool) -> Columns
 {
     let mut control = Control::new();
     let mut columns = [0; 128];
-    let mut place = 0;
+    let mut index = 0;
     for step in steps {
         let instruction = step.instruction;
         registers_fit(instruction);
         if is_event(instruction) {
-            columns[place as usize] = control.word(synchronised);
-            control.note(instruction, place);
-            place += 1;
+            columns[index as usize] = control.word(synchronised);
+            control.note(instruction, index);
+            index += 1;
         } else {
-            control.note(instruction, place);
+            control.note(instruction, index);
         }
     }
     columns
 }
 
-/// Whether the word has the bit of a place.
-fn has(word: u128, place: usize) -> bool
-    requires { place < 128 }
-    ensures { IsTrue result ↔ Bit word place }
+/// Whether the word has the bit of an index.
+fn has(word: u128, index: usize) -> bool
+    requires { index < 128 }
+    ensures { IsTrue result ↔ Bit word index }
 {
-    (word >> place) & 1 == 1
+    (word >> index) & 1 == 1
 }
 
 /// The pairs of a load and an event that it reaches, by rising loads.

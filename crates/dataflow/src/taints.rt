@@ -7,7 +7,7 @@ ghost use Rattle.dataflow.specs.Taints as taint;
 
 use thread_runs::{Instruction, RunStep, cancels, is_load};
 
-/// For each register, and for CR0, the loads that reach it: bits, by their places among the events.
+/// For each register, and for CR0, the loads that reach it: bits, by their indexes among the events.
 #[derive(Clone, Copy)]
 pub struct Taints {
     /// By the register's number.
@@ -64,20 +64,20 @@ pub fn operands(taints: &Taints, instruction: Instruction) -> u128
 }
 
 /// A word with one bit.
-fn bit(place: u32) -> u128
-    requires { place < 128 }
-    ensures { result ≡ taint.bit_word place }
+fn bit(index: u32) -> u128
+    requires { index < 128 }
+    ensures { result ≡ taint.bit_word index }
 {
-    1 << place
+    1 << index
 }
 
 /// The bits of what the instruction writes.
-fn origin(taints: &Taints, instruction: Instruction, narrow: bool, place: u32) -> u128
-    requires { machine.is_load instruction ≡ true → place < 128 }
-    ensures { result ≡ taint.origin_word narrow instruction place taints.now }
+fn origin(taints: &Taints, instruction: Instruction, narrow: bool, index: u32) -> u128
+    requires { machine.is_load instruction ≡ true → index < 128 }
+    ensures { result ≡ taint.origin_word narrow instruction index taints.now }
 {
     if is_load(instruction) {
-        bit(place)
+        bit(index)
     } else if passes(instruction, narrow) {
         operands(taints, instruction)
     } else {
@@ -86,11 +86,11 @@ fn origin(taints: &Taints, instruction: Instruction, narrow: bool, place: u32) -
 }
 
 /// Notes what the instruction writes.
-pub fn note(taints: &mut Taints, instruction: Instruction, narrow: bool, place: u32)
-    requires { machine.is_load instruction ≡ true → place < 128 }
-    ensures { taints.new ≡ taint.noted narrow instruction place taints.old }
+pub fn note(taints: &mut Taints, instruction: Instruction, narrow: bool, index: u32)
+    requires { machine.is_load instruction ≡ true → index < 128 }
+    ensures { taints.new ≡ taint.noted narrow instruction index taints.old }
 {
-    let word = origin(taints, instruction, narrow, place);
+    let word = origin(taints, instruction, narrow, index);
     match instruction {
         Instruction::Immediate(d, _)
         | Instruction::Move(d, _)
@@ -167,16 +167,16 @@ pub fn reach(steps: &[RunStep], narrow: bool, stored: bool) -> [u128; 128]
 {
     let mut taints = no_taints();
     let mut columns = [0; 128];
-    let mut place = 0;
+    let mut index = 0;
     for step in steps {
         let instruction = step.instruction;
         registers_fit(instruction);
         if is_event(instruction) {
-            columns[place as usize] = reads(&taints, instruction, stored);
-            note(&mut taints, instruction, narrow, place);
-            place += 1;
+            columns[index as usize] = reads(&taints, instruction, stored);
+            note(&mut taints, instruction, narrow, index);
+            index += 1;
         } else {
-            note(&mut taints, instruction, narrow, place);
+            note(&mut taints, instruction, narrow, index);
         }
     }
     columns

@@ -26,11 +26,11 @@ fn put_fault(answer: &mut Vec<u8>, fault: EditFault) -> Result<(), AllocError> {
         return put_decimal(answer, u64::from(number));
     }
     match fault {
-        EditFault::Test(LitmusFault::Refused { rule, place }) => {
-            put_refusal(answer, b"L", rule.number(), place)
+        EditFault::Test(LitmusFault::Refused { rule, offset }) => {
+            put_refusal(answer, b"L", rule.number(), offset)
         }
-        EditFault::Model(CatFault::Refused { rule, place }) => {
-            put_refusal(answer, b"C", rule.number(), place)
+        EditFault::Model(CatFault::Refused { rule, offset }) => {
+            put_refusal(answer, b"C", rule.number(), offset)
         }
         _ => put_bytes(answer, b"out of memory"),
     }

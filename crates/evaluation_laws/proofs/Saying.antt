@@ -14,8 +14,8 @@ use Rattle.binding_graph.specs.declared.resolved.Role.TheVariants as roles
 use Rattle.candidates.specs.declared.candidate.Space.{Space}
 use Rattle.candidates.specs.Space.{shown_in, Shown}
 use Rattle.cat_eval.specs.declared.column.Column.{Column}
-use Rattle.execution_laws.proofs.OneOutcome as executions
-use Rattle.execution_laws.proofs.Outcomes.{shown_alike}
+use Rattle.candidates.proofs.OneOutcome as executions
+use Rattle.candidates.proofs.Outcomes.{shown_alike}
 use Rattle.verdict.specs.declared.answer.Evaluation.{Evaluation}
 use Rattle.verdict.specs.declared.answer.Outcome.{Outcome}
 use Rattle.verdict.specs.declared.answer.OutcomeResult.{OutcomeResult}
@@ -29,16 +29,13 @@ use Rattle.memo_graph.specs.FromScratch.{IsFaultless, IsEvaluationOf, IsResultOf
 use Rattle.memo_graph.proofs.Sole.{one_fault, fault_or_none}
 use Rattle.column_laws.specs.Items.{ItemContent, RoleContent, Group, Check, Silent, role_content, item_content}
 use Rattle.column_laws.specs.Laws.{AreSame}
-use Rattle.column_laws.proofs.Keeping.{columns_kept, answers_kept}
+use Rattle.column_laws.proofs.Keeping.{columns_kept, answers_kept, later}
 use Rattle.evaluation_laws.specs.Laws.{IsCoded, HasOneOutcome}
 use Rattle.evaluation_laws.proofs.Sole.{one_columns, one_answers}
 use Rattle.evaluation_laws.proofs.Resolving.{one_resolution, coded_items}
+use Rattle.memo_graph.proofs.Ordered.{all_reverse}
 
 -- ---- lists
-
-abbrev later : {X : Type 0} → List X → List X
-later [] = []
-later (x ∷ xs) = xs
 
 same_first : (r q : ResolvedItem) (rs qs : List ResolvedItem) → item_content r ∷ map item_content rs ≡ item_content q ∷ map item_content qs → item_content r ≡ item_content q
 same_first r q rs qs e = ap (λ (l : List ItemContent). get_or l 0 (item_content r)) e
@@ -48,10 +45,6 @@ same_length [] [] e = refl
 same_length [] (q ∷ qs) e = absurd (let n : [] ≡ item_content q ∷ map item_content qs = e in cc)
 same_length (r ∷ rs) [] e = absurd (let n : item_content r ∷ map item_content rs ≡ [] = e in cc)
 same_length (r ∷ rs) (q ∷ qs) e = ap (λ (n : ℕ). suc n) (same_length rs qs (ap later e))
-
-all_joined : {X : Type 0} (P : X → Type 0) (xs ys : List X) → AllByRecursion P xs → AllByRecursion P ys → AllByRecursion P (xs ++ ys)
-all_joined P [] ys h g = g
-all_joined P (x ∷ xs) ys h g = (h.0, all_joined P xs ys h.1 g)
 
 -- ---- columns
 
@@ -73,11 +66,11 @@ module _ (space another : Space) (shown : shown_in space ≡ shown_in another) w
   module _ (Values Others : ℕ → List Column → Type 0) (one : (j : ℕ) (cs ds : List Column) → Values j cs → Others j ds → cs ≡ ds) (r q : ResolvedItem) (e : item_content r ≡ item_content q) (coded : IsCoded r.role) where
     inputs_one : (ins outs : List (Bor Column)) → AreNamed Values r.inputs.items ins → AreNamed Others q.inputs.items outs → AreSame q.role r.role another space outs ins
     inputs_one ins outs h g =
-        let moved : AreNamed Others r.inputs.items outs = subst (λ (ns : List Input). AreNamed Others ns outs) (ap (λ (x : ItemContent). x.inputs) (sym e)) g in
+        let as_named : AreNamed Others r.inputs.items outs = subst (λ (ns : List Input). AreNamed Others ns outs) (ap (λ (x : ItemContent). x.inputs) (sym e)) g in
         record {
           roles = ap (λ (x : ItemContent). x.role) (sym e);
           candidates = sym shown;
-          values = sym (named_one Values Others one r.inputs.items ins outs h moved);
+          values = sym (named_one Values Others one r.inputs.items ins outs h as_named);
         }
 
     columns_one : (cs ds : List Column) → HasColumns space Values r cs → HasColumns another Others q ds → cs ≡ ds
@@ -155,10 +148,6 @@ map_reverse f [] = refl
 map_reverse f (x ∷ xs) =
     ap (λ (l : List _). map f l) (reverse-append (x ∷ []) xs) ∙ (map-append f (reverse xs) (x ∷ []) ∙ (ap (λ (l : List _). l ++ f x ∷ []) (map_reverse f xs) ∙ sym (reverse-append (f x ∷ []) (map f xs))))
 
-all_reversed : {X : Type 0} (P : X → Type 0) (xs : List X) → AllByRecursion P xs → AllByRecursion P (reverse xs)
-all_reversed P [] h = tt
-all_reversed P (x ∷ xs) h = subst (λ (l : List _). AllByRecursion P l) (sym (reverse-append (x ∷ []) xs)) (all_joined P (reverse xs) (x ∷ []) (all_reversed P xs h.1) (h.0, tt))
-
 evaluation_moved : (test : Test) (space another : Space) (checks others : List (List Bool)) (flags marks : List Flag) (e : Evaluation) → another.locations.items ≡ space.locations.items → shown_in another ≡ shown_in space → others ≡ checks → marks ≡ flags
     → IsEvaluation another.locations.items (shown_in another) test.condition.quantifier (formula_of test.condition.proposition) test.observed.items others marks e → IsEvaluation space.locations.items (shown_in space) test.condition.quantifier (formula_of test.condition.proposition) test.observed.items checks flags e
 evaluation_moved test space another checks others flags marks e locations shown c f h =
@@ -172,7 +161,7 @@ evaluation_one : (test : Test) (model : ModelText) (d e : Evaluation) → IsFaul
 evaluation_one test model d e none h g =
     let items : map item_content h.0 ≡ map item_content g.0 = one_resolution model h.0 g.0 h.1 g.1 in
     let turned : map item_content (reverse h.0) ≡ map item_content (reverse g.0) = map_reverse item_content h.0 ∙ (ap (λ (l : List ItemContent). reverse l) items ∙ sym (map_reverse item_content g.0)) in
-    let coded = all_reversed (λ r. IsCoded r.role) h.0 (coded_items model h.0 none h.1) in
+    let coded = all_reverse (λ r. IsCoded r.role) h.0 (coded_items model h.0 none h.1) in
     let same = shown_alike test h.2 g.2 h.3 g.3 in
     let said = said_one h.2 g.2 same.1 (reverse h.0) (reverse g.0) turned coded h.4.0 g.4.0 h.4.1 g.4.1 h.4.2 g.4.2 in
     let kind = test.condition.quantifier in

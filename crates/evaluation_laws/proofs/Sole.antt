@@ -28,6 +28,8 @@ use Rattle.cat_eval.specs.Rising.{AreCodes}
 use Rattle.cat_eval.specs.Values.{IsAnswer, IsFor, IsMeant, column_len}
 use Rattle.memo_graph.proofs.Sole.{one_least}
 use Rattle.evaluation_laws.specs.Laws.{HasTree, AreCoded, HasOneColumns, HasOneAnswers}
+use Rattle.memo_graph.proofs.Knowing.{item_at}
+use Rattle.cat_eval.proofs.Growing.{codes_long}
 
 -- ---- values
 
@@ -77,21 +79,10 @@ module _ (n : ℕ) (sets : Source → ℕ → Type 0) (outer : Source → ℕ �
 list_one : {X : Type 0} (d : X) (xs ys : List X) → length xs ≡ length ys → ((k : ℕ) → k < length xs → (x : X) × (y : X) × (slice_get xs k ≡ Some x) × (slice_get ys k ≡ Some y) × (x ≡ y)) → xs ≡ ys
 list_one d xs ys e h = ext_get_or d xs ys e (λ k lt. let p = h k lt in get_or_from_slice_get xs k p.0 d p.2 ∙ (p.4 ∙ sym (get_or_from_slice_get ys k p.1 d p.3)))
 
-there_at : {X : Type 0} (xs : List X) (k : ℕ) → k < length xs → (x : X) × (slice_get xs k ≡ Some x)
-there_at [] k lt = absurd (omega (arith, lt))
-there_at (x ∷ xs) zero lt = (x, refl)
-there_at (x ∷ xs) (suc k) lt = there_at xs k (omega (arith, lt))
-
 all_at : {X : Type 0} (P : X → Type 0) (xs : List X) (k : ℕ) (d : X) → k < length xs → AllByRecursion P xs → P (get_or xs k d)
 all_at P [] k d lt h = absurd (omega (arith, lt))
 all_at P (x ∷ xs) zero d lt h = h.0
 all_at P (x ∷ xs) (suc k) d lt h = all_at P xs k d (omega (arith, lt)) h.1
-
-codes_length : (trees : List RelTree) (bodies : List Body) → AreCodes trees bodies → length trees ≡ length bodies
-codes_length [] [] h = refl
-codes_length [] (b ∷ bs) h = absurd h
-codes_length (t ∷ ts) [] h = absurd h
-codes_length (t ∷ ts) (b ∷ bs) h = ap (λ (n : ℕ). suc n) (codes_length ts bs h.1)
 
 -- ---- columns
 
@@ -130,7 +121,7 @@ values_agree true bodies n sets outer k cs ds coded h g j lt c b =
     let v = x.2 j lt c in
     let w = y.2 j lt c in
     let none = all_at (λ p. p.code.kind ≡ kinds.OfSet → ⊥) bodies j b lt coded.1 in
-    let e = least_one n sets outer trees coded.0.2 x.0 y.0 x.1 y.1 j (omega (arith, lt, codes_length trees bodies coded.0.1)) in
+    let e = least_one n sets outer trees coded.0.2 x.0 y.0 x.1 y.1 j (omega (arith, lt, codes_long trees bodies coded.0.1)) in
     (v.0, w.0, slice_index_or x.0 j no_slot, slice_index_or y.0 j no_slot, v.1, w.1, no_set (slice_index_or bodies j b).code.kind v.0 w.0 (slice_index_or x.0 j no_slot) (slice_index_or y.0 j no_slot) none e)
 
 first_of_them : (bodies : List Body) (j : ℕ) → j < length bodies → Body
@@ -144,7 +135,7 @@ group_one recursive bodies inputs candidates cs ds coded h g =
     let below : j < length bodies = omega (arith, lt, h.as_many) in
     let b = first_of_them bodies j below in
     column_one (slice_index_or bodies j b).code.kind (slice_index_or cs j none) (slice_index_or ds j none) (length candidates) (h.suited j below b none) (g.suited j below b none) (h.long j below none) (g.long j below none) (λ k within.
-    let one = there_at candidates k within in
+    let one = item_at candidates k within in
     values_agree recursive bodies (events_of one.0) (EventsAt (events_of one.0) one.0 inputs k) (PairsAt (events_of one.0) one.0 inputs k) k cs ds coded (h.values k one.0 one.1) (g.values k one.0 one.1) j below none b))
 
 pub one_columns : (role : Role) (space : Space) → HasOneColumns role space
@@ -170,8 +161,8 @@ one_answers (roles.Group recursive bodies) space inputs xs ys coded h g = h ∙ 
 one_answers (roles.Check check) space inputs xs ys coded h g =
     let candidates = candidates_in space.combinations.items in
     list_one false xs ys (h.0 ∙ sym g.0) (λ k lt.
-    let one = there_at candidates k (omega (arith, lt, h.0)) in
-    let x = there_at xs k lt in
-    let y = there_at ys k (omega (arith, lt, h.0, g.0)) in
+    let one = item_at candidates k (omega (arith, lt, h.0)) in
+    let x = item_at xs k lt in
+    let y = item_at ys k (omega (arith, lt, h.0, g.0)) in
     (x.0, y.0, x.1, y.1, answer_one check (events_of one.0) (EventsAt (events_of one.0) one.0 inputs k) (PairsAt (events_of one.0) one.0 inputs k) check.code.kind x.0 y.0 coded (h.1 k one.0 x.0 one.1 x.1) (g.1 k one.0 y.0 one.1 y.1)))
 one_answers roles.Silent space inputs xs ys coded h g = h ∙ sym g

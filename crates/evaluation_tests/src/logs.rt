@@ -52,9 +52,9 @@ fn show_refusal<R: Print + AllocGlobal>(rt: &R) -> io::Result<()> {
         Err(
             EvalFault::Model {
                 rule: CatRule::Syntax,
-                place,
+                offset,
             },
-        ) => println!(rt; "model refused first: syntax {place}"),
+        ) => println!(rt; "model refused first: syntax {offset}"),
         _ => println!(rt; "no refusal of the model"),
     }
 }

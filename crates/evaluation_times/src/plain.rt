@@ -2,8 +2,7 @@
 
 ghost use Rattle.std.specs.Prelude.{◌≤◌, ◌<◌};
 
-/// How many events there may be.
-pub const MAX_EVENTS: usize = 128;
+use bit_relations::MAX_EVENTS;
 
 /// A relation between the events below a count, at most 128: for each event a low word and a high word, whose bits are
 /// the events that it leads to.

@@ -18,6 +18,7 @@ use Rattle.binding_kinds.specs.Formula.{Formula, Value, Parameter, Everything, N
 use Rattle.binding_kinds.specs.Senses.{Sense, sense_of, sense_of_binder, with_arity, size_of_arguments, size_with, size_applied, kind_applied, size_in, sizes_in, kind_in, kinds_in, count_of}
 use Rattle.binding_kinds.specs.Functions.{sense_seen, bound_formula, named_formula, applied_formula, formula_in, formulas_in}
 use Rattle.item_laws.specs.Laws.{Scope, Pairing, IsSameBinder, IsSameFound, IsSameName, IsSameUnless, IsSameFormula, IsSameSense, IsSameFunction, HasSameNames, HaveSameNames}
+use Rattle.binding_kinds.proofs.Applications.{long_kinds, found_arity}
 
 -- ---- forms
 
@@ -139,45 +140,14 @@ by_kind : (ss : List Sense) (names : List Naming) (n : ℕ) (x : List ℕ) (size
 by_kind ss names n x sizes kinds (Ok s) is = let w : sense_seen ss names [] n x ≡ Some s = rw is refl in rw w refl
 by_kind ss names n x sizes kinds (Err k) is = let w : sense_seen ss names [] n x ≡ None = rw is refl in rw w refl
 
-number_is : (m n : ℕ) → nat_eq m n ≡ true → m ≡ n
-number_is m n h = grind (arith, nat_tests, h)
-
-ok_one : (t s : Sense) → ◌≡◌ {A = Result Sense ModelFault} (Ok t) (Ok s) → t ≡ s
-ok_one t s e = cc
-
-no_ok : (k : ModelFault) (s : Sense) → ◌≡◌ {A = Result Sense ModelFault} (Err k) (Ok s) → ⊥
-no_ok k s e = absurd cc
-
--- a function that is applied has so many parameters
-arity_tested : (b : Bool) (n : ℕ) (t s : Sense) → nat_eq t.arity n ≡ b → ◌≡◌ {A = Result Sense ModelFault} (if b then Ok t else Err faults.Arity) (Ok s) → s.arity ≡ n
-arity_tested true n t s e is = ap (λ (u : Sense). u.arity) (sym (ok_one t s is)) ∙ number_is t.arity n e
-arity_tested false n t s e is = absurd (no_ok faults.Arity s is)
-
-arity_found : (n : ℕ) (t : Option Sense) (s : Sense) → with_arity n t ≡ Ok s → s.arity ≡ n
-arity_found n None s is = absurd (no_ok faults.Arity s is)
-arity_found n (Some t) s is = arity_tested (nat_eq t.arity n) n t s refl is
-
-arity_bound : (ss : List Sense) (n : ℕ) (b : Binder) (s : Sense) → sense_of_binder ss n b ≡ Ok s → s.arity ≡ n
-arity_bound ss n (binders.Predefined p) s is = absurd (no_ok faults.Arity s is)
-arity_bound ss n (binders.Bound i) s is = absurd (no_ok faults.Arity s is)
-arity_bound ss n (binders.Applicable f) s is = arity_found n (slice_get ss f) s is
-
-pub arity_is : (ss : List Sense) (n : ℕ) (f : Option Found) (s : Sense) → sense_of ss n f ≡ Ok s → s.arity ≡ n
-arity_is ss n None s is = absurd (no_ok faults.Unbound s is)
-arity_is ss n (Some f) s is = arity_bound ss n f.binder s is
-
 -- the function, if there is one, has so many parameters
 abbrev pub HasArity : ℕ → Option Sense → Type 0
 HasArity n None = Unit {0}
 HasArity n (Some s) = s.arity ≡ n
 
 seen_arity : (ss : List Sense) (names : List Naming) (n : ℕ) (x : List ℕ) (r : Result Sense ModelFault) → sense_of ss n (found names x) ≡ r → HasArity n (sense_seen ss names [] n x)
-seen_arity ss names n x (Ok s) is = let w : sense_seen ss names [] n x ≡ Some s = rw is refl in rw w (arity_is ss n (found names x) s is)
+seen_arity ss names n x (Ok s) is = let w : sense_seen ss names [] n x ≡ Some s = rw is refl in rw w (found_arity ss n (found names x) s is)
 seen_arity ss names n x (Err k) is = let w : sense_seen ss names [] n x ≡ None = rw is refl in rw w tt
-
-kinds_length : (ss : List Sense) (names : List Naming) (ts : Terms) → length (kinds_in ss names ts) ≡ count_of ts
-kinds_length ss names NoTerm = refl
-kinds_length ss names (OneMore a others) = ap (λ (n : ℕ). suc n) (kinds_length ss names others)
 
 -- ---- kinds
 
@@ -251,7 +221,7 @@ module _ (p : Pairing) where
       kind_same (Not a) h = kind_same a h
       kind_same (On a) h = λ i. narrowed (kind_same a h i)
       kind_same (Apply x ts) h =
-          kind_of_application ts x h.0 (sizes_in s.senses s.names ts) (sizes_in o.senses o.names ts) (kinds_in s.senses s.names ts) (kinds_in o.senses o.names ts) (sizes_of_terms ts h.2) (kinds_same ts h.2) (kinds_length s.senses s.names ts)
+          kind_of_application ts x h.0 (sizes_in s.senses s.names ts) (sizes_in o.senses o.names ts) (kinds_in s.senses s.names ts) (kinds_in o.senses o.names ts) (sizes_of_terms ts h.2) (kinds_same ts h.2) (long_kinds s.senses s.names ts)
 
       kinds_same : (ts : Terms) → HaveSameNames p s o [] ts → kinds_in s.senses s.names ts ≡ kinds_in o.senses o.names ts
       kinds_same NoTerm h = refl

@@ -17,8 +17,9 @@ use Rattle.binding_kinds.specs.Senses.{Sense, sense_of, count_of}
 use Rattle.binding_kinds.specs.Functions.{with_parameters, sense_seen, kind_of_sense, kind_of_body, kinds_of_body, sense_of_function}
 use Rattle.binding_graph.specs.Usages.{with_values, usage_of_function}
 use Rattle.item_laws.specs.Laws.{Scope, Pairing, IsSameUnless, IsSameFunction, IsSameSense, AreSameUsed, HasSameNames, HaveSameNames, IsAlikeFunction}
-use Rattle.item_laws.proofs.Alike.{HasArity, arity_is, found_kind, formula_same}
+use Rattle.item_laws.proofs.Alike.{HasArity, found_kind, formula_same}
 use Rattle.item_laws.proofs.Using.{IsOne, values_inside}
+use Rattle.binding_kinds.proofs.Applications.{found_arity}
 
 -- ---- names behind parameters
 
@@ -49,7 +50,7 @@ behind_same (q ∷ ps) (k ∷ ks) names others x e h = behind_same ps ks (parame
 
 parameters_arity : (ss : List Sense) (names : List Naming) (ps : List (List ℕ)) (n : ℕ) (x : List ℕ) (o : Option ℕ) (r : Result Sense ModelFault) → parameter_of (reverse ps) x ≡ o → sense_of ss n (found names x) ≡ r → HasArity n (sense_seen ss names ps n x)
 parameters_arity ss names ps n x (Some i) r at is = let w : sense_seen ss names ps n x ≡ None = rw at refl in rw w tt
-parameters_arity ss names ps n x None (Ok s) at is = let w : sense_seen ss names ps n x ≡ Some s = rw (at, is) refl in rw w (arity_is ss n (found names x) s is)
+parameters_arity ss names ps n x None (Ok s) at is = let w : sense_seen ss names ps n x ≡ Some s = rw (at, is) refl in rw w (found_arity ss n (found names x) s is)
 parameters_arity ss names ps n x None (Err k) at is = let w : sense_seen ss names ps n x ≡ None = rw (at, is) refl in rw w tt
 
 module _ (p : Pairing) (s o : Scope) (ps : List (List ℕ)) (ks : List Kind) (many : length ks ≡ length ps) where
@@ -103,16 +104,16 @@ used_reversed p (u ∷ us) (w ∷ ws) h =
     (subst (λ (l : List Used). AreSameUsed p (reverse us ++ u ∷ []) l) (sym (reverse-append (w ∷ []) ws)) (used_joined p (reverse us) (u ∷ []) (reverse ws) (w ∷ []) (used_reversed p us ws h.1) (h.0, tt)))
 
 pub alike_sense : (p : Pairing) (s o : Scope) (ps : List (List ℕ)) (body : Term) → HasSameNames p s o ps body → IsSameSense p (sense_of_function s.senses s.names ps body) (sense_of_function o.senses o.names ps body)
-alike_sense p s o ps body seen = record {
+alike_sense p s o ps body alike = record {
   arity = refl;
-  kind_with = λ ks many. ap (λ (k : Kind). if has_any ks then OfAny else k) (body_kind_same p s o ps ks many body seen);
-  formula = formula_same p s o ps body seen;
+  kind_with = λ ks many. ap (λ (k : Kind). if has_any ks then OfAny else k) (body_kind_same p s o ps ks many body alike);
+  formula = formula_same p s o ps body alike;
 }
 
 pub alike_usage : (p : Pairing) → IsOne p → (s o : Scope) (ps : List (List ℕ)) (body : Term) (item other : ℕ) → HasSameNames p s o ps body
     → AreSameUsed p (usage_of_function s.usages s.names item ps body).values (usage_of_function o.usages o.names other ps body).values
-alike_usage p one s o ps body item other seen =
-    used_reversed p (with_values s.usages s.names ps (length s.names) body []) (with_values o.usages o.names ps (length o.names) body []) (values_inside p one s o ps body seen)
+alike_usage p one s o ps body item other alike =
+    used_reversed p (with_values s.usages s.names ps (length s.names) body []) (with_values o.usages o.names ps (length o.names) body []) (values_inside p one s o ps body alike)
 
 pub alike_functions : (p : Pairing) (s o : Scope) → IsAlikeFunction p s o
-alike_functions p s o ps body item other pairing seen = (alike_sense p s o ps body seen, alike_usage p pairing.one s o ps body item other seen)
+alike_functions p s o ps body item other pairing alike = (alike_sense p s o ps body alike, alike_usage p pairing.one s o ps body item other alike)

@@ -11,17 +11,9 @@ use Rattle.binding_kinds.specs.Faults.{senses_after}
 use Rattle.binding_kinds.specs.Functions.{sense_of_function}
 use Rattle.binding_graph.specs.Usages.{Usage, usage_of_function, usages_after}
 use Rattle.item_laws.specs.Laws.{Scope, scope_after, scope_at, functions_before}
+use Rattle.cat_eval.proofs.Columns.{get_kept, get_last}
 
 -- ---- lists that grow
-
-kept_left : {X : Type 0} (xs ys : List X) (n : ℕ) (x : X) → slice_get xs n ≡ Some x → slice_get (xs ++ ys) n ≡ Some x
-kept_left [] ys n x h = absurd (let e : None ≡ Some x = h in cc)
-kept_left (z ∷ zs) ys zero x h = h
-kept_left (z ∷ zs) ys (suc n) x h = kept_left zs ys n x h
-
-at_end : {X : Type 0} (xs : List X) (x : X) → slice_get (xs ++ x ∷ []) (length xs) ≡ Some x
-at_end [] x = refl
-at_end (z ∷ zs) x = at_end zs x
 
 one_longer : {X : Type 0} (xs : List X) (x : X) → length (xs ++ x ∷ []) ≡ length xs + 1
 one_longer [] x = refl
@@ -33,7 +25,7 @@ one_longer (z ∷ zs) x =
 
 sense_after : (s : Scope) (x : Item) (n : ℕ) (a : Sense) → slice_get s.senses n ≡ Some a → slice_get (senses_after s.senses s.names (clause_of x)) n ≡ Some a
 sense_after s (items.Let r g) n a h = h
-sense_after s (items.Function f ps b) n a h = kept_left s.senses (sense_of_function s.senses s.names ps.items (term_of b) ∷ []) n a h
+sense_after s (items.Function f ps b) n a h = get_kept s.senses (sense_of_function s.senses s.names ps.items (term_of b) ∷ []) n a h
 sense_after s (items.Check c l) n a h = h
 sense_after s (items.Flag c l) n a h = h
 sense_after s (items.Show f t) n a h = h
@@ -41,7 +33,7 @@ sense_after s (items.Include f) n a h = h
 
 usage_after : (s : Scope) (at : ℕ) (x : Item) (n : ℕ) (u : Usage) → slice_get s.usages n ≡ Some u → slice_get (usages_after s.usages s.names at (clause_of x)) n ≡ Some u
 usage_after s at (items.Let r g) n u h = h
-usage_after s at (items.Function f ps b) n u h = kept_left s.usages (usage_of_function s.usages s.names at ps.items (term_of b) ∷ []) n u h
+usage_after s at (items.Function f ps b) n u h = get_kept s.usages (usage_of_function s.usages s.names at ps.items (term_of b) ∷ []) n u h
 usage_after s at (items.Check c l) n u h = h
 usage_after s at (items.Flag c l) n u h = h
 usage_after s at (items.Show f t) n u h = h
@@ -99,9 +91,9 @@ function_at s at (items.Function name ps b ∷ xs) (suc k) zero n m i e g h =
     let is : at ≡ i = ap (λ (o : Option ℕ). unwrap_or o at) h in
     let numbered : n ≡ length s.senses = omega (arith, e) in
     let counted : m ≡ length s.usages = omega (arith, g) in
-    let left : slice_get (scope_after s at x).senses n ≡ Some sense = ap (λ (l : ℕ). slice_get (scope_after s at x).senses l) numbered ∙ at_end s.senses sense in
+    let left : slice_get (scope_after s at x).senses n ≡ Some sense = ap (λ (l : ℕ). slice_get (scope_after s at x).senses l) numbered ∙ get_last s.senses sense in
     let right : slice_get (scope_after s at x).usages m ≡ Some usage =
-    ap (λ (l : ℕ). slice_get (scope_after s at x).usages l) counted ∙ (at_end s.usages (usage_of_function s.usages s.names at ps.items (term_of b)) ∙ ap (λ (l : ℕ). Some (usage_of_function s.usages s.names l ps.items (term_of b))) is) in
+    ap (λ (l : ℕ). slice_get (scope_after s at x).usages l) counted ∙ (get_last s.usages (usage_of_function s.usages s.names at ps.items (term_of b)) ∙ ap (λ (l : ℕ). Some (usage_of_function s.usages s.names l ps.items (term_of b))) is) in
     record {
       behind = 0;
       index = omega (arith, is);

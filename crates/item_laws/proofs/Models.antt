@@ -48,8 +48,8 @@ item_at s at (y ∷ ys) (q ∷ qs) zero x r h l is_x is_r =
     let item : q ≡ r = ap (λ (o : Option ResolvedItem). unwrap_or o q) is_r in
     let own = own_at s at (y ∷ ys) zero in
     let here : IsItem s own (length s.names) y q = (h.0, l.0) in
-    let moved : IsItem s own (length s.names) x q = subst (λ (z : Item). IsItem s own (length s.names) z q) text here in
-    subst (λ (p : ResolvedItem). IsItem s own (length s.names) x p) item moved
+    let same_item : IsItem s own (length s.names) x q = subst (λ (z : Item). IsItem s own (length s.names) z q) text here in
+    subst (λ (p : ResolvedItem). IsItem s own (length s.names) x p) item same_item
 item_at s at (y ∷ ys) (q ∷ qs) (suc k) x r h l is_x is_r = item_at (scope_after s at y) (at + 1) ys qs k x r h.1 l.1 is_x is_r
 
 pub alike_in_models : (model other : ModelText) → HaveAlikeItems model other

@@ -207,11 +207,11 @@ module _ (m : Matching) (one : IsOne m.pairing) (names more : List Naming) (mode
       let at_left : slice_get model i ≡ Some a.item = subst (λ (n : ℕ). slice_get model n ≡ Some a.item) (sym (plain i a.behind a.index)) a.text in
       let at_right : slice_get other j ≡ Some b.item = subst (λ (n : ℕ). slice_get other n ≡ Some b.item) (sym (plain j b.behind b.index)) b.text in
       let both = alike i j a.item b.item paired at_left at_right in
-      let moved : IsNamedAlikeAt m names more model other a.behind b.behind (Defined a.name a.parameters a.body) =
+      let same_item : IsNamedAlikeAt m names more model other a.behind b.behind (Defined a.name a.parameters a.body) =
       subst (λ (c : Clause). IsNamedAlikeAt m names more model other a.behind b.behind c) a.clause
       (subst (λ (n : ℕ). IsNamedAlikeAt m names more model other a.behind n (clause_of a.item)) (plain j b.behind b.index)
       (subst (λ (n : ℕ). IsNamedAlikeAt m names more model other n j (clause_of a.item)) (plain i a.behind a.index) both.1)) in
-      let seen = names_same m (functions_before 0 model a.behind) (functions_before 0 other b.behind) (before a.behind) (before_other b.behind) same a.parameters a.body moved in
+      let alike = names_same m (functions_before 0 model a.behind) (functions_before 0 other b.behind) (before a.behind) (before_other b.behind) same a.parameters a.body same_item in
       let text : Defined a.name a.parameters a.body ≡ Defined b.name b.parameters b.body = sym a.clause ∙ (both.0 ∙ b.clause) in
       let parameters : a.parameters ≡ b.parameters = ap parameters_in text in
       let body : a.body ≡ b.body = ap (body_in a.body) text in
@@ -222,13 +222,13 @@ module _ (m : Matching) (one : IsOne m.pairing) (names more : List Naming) (mode
         other = sense;
         left = a.sense;
         right = b.sense ∙ (λ n. Some (sense_of_function (before_other b.behind).senses (before_other b.behind).names (sym parameters n) (sym body n)));
-        sense = alike_sense m.pairing (before a.behind) (before_other b.behind) a.parameters a.body seen;
+        sense = alike_sense m.pairing (before a.behind) (before_other b.behind) a.parameters a.body alike;
         usage = usage_of_function (before a.behind).usages (before a.behind).names i a.parameters a.body;
         more = usage;
         use_left = a.usage;
         use_right = b.usage ∙ (λ n. Some (usage_of_function (before_other b.behind).usages (before_other b.behind).names j (sym parameters n) (sym body n)));
         arity = refl;
-        values = alike_usage m.pairing one (before a.behind) (before_other b.behind) a.parameters a.body i j seen;
+        values = alike_usage m.pairing one (before a.behind) (before_other b.behind) a.parameters a.body i j alike;
       }
 
   -- by the index of the item that sees the functions, since a function sees those before it alone

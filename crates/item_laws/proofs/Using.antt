@@ -15,7 +15,7 @@ use Rattle.binding_kinds.specs.Formula.{Formula, Value, Parameter, Everything, N
 use Rattle.binding_kinds.specs.Senses.{count_of}
 use Rattle.binding_graph.specs.declared.resolved.Source.{Source}
 use Rattle.binding_graph.specs.declared.resolved.Source.TheVariants as sources
-use Rattle.binding_graph.specs.Inputs.{place_of, noted, with_binder, with_name}
+use Rattle.binding_graph.specs.Inputs.{index_of, noted, with_binder, with_name}
 use Rattle.binding_graph.specs.Meaning.{source_of_binder, source_of, joined_sets, joined_relations, set_of, relation_of}
 use Rattle.binding_graph.specs.Trees.{SetName, SetNot, RelName, OnSet, Close, RelNot}
 use Rattle.binding_graph.specs.Usages.{all_noted, values_of, usage_seen, with_meaning, with_values, with_values_among}
@@ -46,7 +46,7 @@ module _ (p : Pairing) (one : IsOne p) where
   used_length (v ∷ vs) [] h = absurd h
   used_length (v ∷ vs) (w ∷ ws) h = ap (λ (n : ℕ). suc n) (used_length vs ws h.1)
 
-  place_same : (vs ws : List Used) → AreSameUsed p vs ws → (a b : ℕ) → Contains p.slots (a, b) → place_of vs a ≡ place_of ws b
+  place_same : (vs ws : List Used) → AreSameUsed p vs ws → (a b : ℕ) → Contains p.slots (a, b) → index_of vs a ≡ index_of ws b
   place_same [] [] h a b c = refl
   place_same [] (w ∷ ws) h a b c = absurd h
   place_same (v ∷ vs) [] h a b c = absurd h
@@ -64,7 +64,7 @@ module _ (p : Pairing) (one : IsOne p) where
       at_first (Some n) = h
 
   noted_same : (vs ws : List Used) (u w : Used) → AreSameUsed p vs ws → IsSameUsed p u w → AreSameUsed p (noted vs u) (noted ws w)
-  noted_same vs ws u w h k = noted_by (place_of vs u.slot) (place_of ws w.slot) (place_same vs ws h u.slot w.slot k.0) vs ws u w h k
+  noted_same vs ws u w h k = noted_by (index_of vs u.slot) (index_of ws w.slot) (place_same vs ws h u.slot w.slot k.0) vs ws u w h k
 
   all_noted_same : (vs ws us qs : List Used) → AreSameUsed p vs ws → AreSameUsed p us qs → AreSameUsed p (all_noted vs us) (all_noted ws qs)
   all_noted_same vs ws [] [] h k = h

@@ -7,7 +7,7 @@ use Rattle.litmus_tokens.specs.declared.token.Token.{Token}
 use Rattle.litmus_tokens.specs.declared.token.Token.TheVariants as tokens
 use Rattle.litmus_tokens.specs.declared.token.Mark.TheVariants as marks
 use Rattle.litmus_tokens.specs.Stage.{after}
-use Rattle.litmus_tokens.specs.Texts.{Placed, tokens_of, stage_after, StandsAt}
+use Rattle.litmus_tokens.specs.Texts.{TokenAt, tokens_of, stage_after, StandsAt}
 use Rattle.litmus_tokens.specs.Words.{column_name}
 use Rattle.litmus_tokens.specs.Faults.{Begins}
 use Rattle.litmus_conditions.specs.Grammar.{PlaceTree, Location, Register, place_meaning, meaning}
@@ -22,14 +22,14 @@ use Rattle.litmus_grammar.specs.declared.parts.TextKind.TheVariants as kinds
 use Rattle.litmus_grammar.specs.Grammar.{Listed, EntryTree, spelled_entry, spelled_end, spelled_others, spelled_init, members, AreEntries, IsInitText}
 use Rattle.litmus_grammar.specs.InitMachine as init
 use Rattle.litmus_grammar.specs.TextMachine as text
-use Rattle.litmus_grammar.specs.TextMachine.{Part, Draft, Next, State, Ran, placed, and_then, stepped, part_step, nothing, start, run}
+use Rattle.litmus_grammar.specs.TextMachine.{Part, Draft, Next, State, Ran, with_offset, and_then, stepped, part_step, nothing, start, run}
 use Rattle.litmus_grammar.specs.Texts.{IsStart, IsWhole, BreaksOff, IsBrokenOff}
 use Rattle.litmus_grammar.proofs.Bodies.{IsRows, IsName, header_at, header_begins, any_header, rows_at, name_step, names_led, rows_led}
 use Rattle.litmus_grammar.proofs.Ends.{ends_done}
 use Rattle.litmus_grammar.proofs.InitLeft.{init_whole}
 use Rattle.litmus_grammar.proofs.InitStarts.{init_reading}
 use Rattle.litmus_grammar.specs.Laws.{AreStarts, entry_kept}
-use Rattle.litmus_grammar.proofs.InitTaken.{init_taken}
+use Rattle.litmus_grammar.proofs.InitAcceptance.{init_taken, semicolon}
 use Rattle.litmus_grammar.proofs.Passing.{test_at, text_at, Alike, Stays, Leaves, passes, ends}
 use Rattle.litmus_grammar.proofs.Runs.{tokens_of-append, run-append}
 use Rattle.litmus_grammar.proofs.Spelled.{init-append, entry-append}
@@ -39,21 +39,21 @@ use Rattle.litmus_grammar.proofs.Tails.{last_at, early, with_all, end_behind}
 -- ---- where entries begin, in a longer text
 
 -- with another rest
-move : (q r1 r2 : List Placed) (b : List Token) (t : Token) (ts : List Token) (n : ℕ) → tokens_of q ≡ b ++ (t ∷ ts) → StandsAt (q ++ r1) b n → StandsAt (q ++ r2) b n
+move : (q r1 r2 : List TokenAt) (b : List Token) (t : Token) (ts : List Token) (n : ℕ) → tokens_of q ≡ b ++ (t ∷ ts) → StandsAt (q ++ r1) b n → StandsAt (q ++ r2) b n
 move [] r1 r2 [] t ts n e x = absurd cc
 move [] r1 r2 (u ∷ b) t ts n e x = absurd cc
 move (p ∷ q) r1 r2 [] t ts n e x = by_before x.before x.here x.behind x.split x.same x.at_place
   where
-    by_before : (before : List Placed) (here : Placed) (behind : List Placed) → (p ∷ q) ++ r1 ≡ before ++ here ∷ behind → tokens_of before ≡ [] → here.offset ≡ n → StandsAt ((p ∷ q) ++ r2) [] n
+    by_before : (before : List TokenAt) (here : TokenAt) (behind : List TokenAt) → (p ∷ q) ++ r1 ≡ before ++ here ∷ behind → tokens_of before ≡ [] → here.offset ≡ n → StandsAt ((p ∷ q) ++ r2) [] n
     by_before [] here behind k same at_place =
         let first : p ≡ here = cc in
-        record { before = []; here = p; behind = q ++ r2; split = refl; same = refl; at_place = ap (λ (y : Placed). y.offset) first ∙ at_place }
+        record { before = []; here = p; behind = q ++ r2; split = refl; same = refl; at_place = ap (λ (y : TokenAt). y.offset) first ∙ at_place }
     by_before (y ∷ before) here behind k same at_place = absurd cc
 move (p ∷ q) r1 r2 (u ∷ b) t ts n e x =
     let left : tokens_of q ≡ b ++ (t ∷ ts) = cc in
     by_before x.before x.here x.behind x.split x.same x.at_place (λ y. move q r1 r2 b t ts n left y)
   where
-    by_before : (before : List Placed) (here : Placed) (behind : List Placed) → (p ∷ q) ++ r1 ≡ before ++ here ∷ behind → tokens_of before ≡ u ∷ b → here.offset ≡ n → (StandsAt (q ++ r1) b n → StandsAt (q ++ r2) b n) → StandsAt ((p ∷ q) ++ r2) (u ∷ b) n
+    by_before : (before : List TokenAt) (here : TokenAt) (behind : List TokenAt) → (p ∷ q) ++ r1 ≡ before ++ here ∷ behind → tokens_of before ≡ u ∷ b → here.offset ≡ n → (StandsAt (q ++ r1) b n → StandsAt (q ++ r2) b n) → StandsAt ((p ∷ q) ++ r2) (u ∷ b) n
     by_before [] here behind k same at_place later = absurd cc
     by_before (y ∷ before) here behind k same at_place later =
         let first : p.token ≡ u = cc in
@@ -64,25 +64,22 @@ move (p ∷ q) r1 r2 (u ∷ b) t ts n e x =
           before = p ∷ r.before;
           here = r.here;
           behind = r.behind;
-          split = ap (λ (l : List Placed). p ∷ l) r.split;
+          split = ap (λ (l : List TokenAt). p ∷ l) r.split;
           same = ap (λ (z : Token). z ∷ tokens_of r.before) first ∙ ap (λ (l : List Token). u ∷ l) r.same;
           at_place = r.at_place;
         }
 
 -- with more before
-further : (pre ps : List Placed) (b : List Token) (n : ℕ) → StandsAt ps b n → StandsAt (pre ++ ps) (tokens_of pre ++ b) n
+further : (pre ps : List TokenAt) (b : List Token) (n : ℕ) → StandsAt ps b n → StandsAt (pre ++ ps) (tokens_of pre ++ b) n
 further pre ps b n x =
     record {
       before = pre ++ x.before;
       here = x.here;
       behind = x.behind;
-      split = ap (λ (l : List Placed). pre ++ l) x.split ∙ sym (append_assoc pre x.before (x.here ∷ x.behind));
+      split = ap (λ (l : List TokenAt). pre ++ l) x.split ∙ sym (append_assoc pre x.before (x.here ∷ x.behind));
       same = tokens_of-append pre x.before ∙ ap (λ (l : List Token). tokens_of pre ++ l) x.same;
       at_place = x.at_place;
     }
-
-abbrev semicolon : List Token
-semicolon = tokens.Mark marks.Semicolon ∷ []
 
 abbrev closing : List Token
 closing = tokens.Mark marks.CloseBrace ∷ []
@@ -96,7 +93,7 @@ first_of e xs = by_place e.place
     by_place (Location true n) = (_, _, refl)
     by_place (Register t r) = (_, _, refl)
 
-module _ (pre q r1 r2 : List Placed) (closed : Bool) where
+module _ (pre q r1 r2 : List TokenAt) (closed : Bool) where
   stands_move : (e : EntryTree) (xs : List Token) (b : List Token) (n : ℕ) → tokens_of q ≡ b ++ spelled_entry e xs → StandsAt (q ++ r1) b n → StandsAt (pre ++ (q ++ r2)) (tokens_of pre ++ b) n
   stands_move e xs b n k h = let f = first_of e xs in further pre (q ++ r2) b n (move q r1 r2 b f.0 f.1 n (k ∙ ap (λ (l : List Token). b ++ l) f.2) h)
 
@@ -123,7 +120,7 @@ pub record IsBody (ts : List Token) : Type 0 where
   pub rows : IsRows others behind
   pub whole : ts ≡ spelled_init entries (spelled_header others behind)
 
-abbrev pub brace_at : ℕ → Placed
+abbrev pub brace_at : ℕ → TokenAt
 brace_at n = record { token = tokens.Mark marks.OpenBrace; offset = n }
 
 abbrev pub in_block : Part → Bool
@@ -159,7 +156,7 @@ module _ (name : List ℕ) where
   block_at g = test_at g (text.Init expectations.WantsEntry) (early name init.start table.start [])
 
   -- what the test may still begin
-  pub data Opened (ps : List Placed) (n : ℕ) (s : State) : Type 0 where
+  pub data Opened (ps : List TokenAt) (n : ℕ) (s : State) : Type 0 where
     IsOne : Begins IsBody (tokens_of (brace_at n ∷ ps)) → Opened ps n s
     IsBroken : in_block s.part ≡ true → (rest : List Token) → IsBrokenOff IsInitText (stages.Init true false) (tokens_of (brace_at n ∷ ps) ++ rest) → Opened ps n s
 
@@ -176,7 +173,7 @@ module _ (name : List ℕ) where
       }
 
   -- a block that is read to its end
-  block_text : (ps : List Placed) (n : ℕ) (f : Stage) (h : Draft) → run (text_at kinds.Init 0 first (text.Init expectations.WantsEntry) first_draft) ps ≡ Ok (text_at kinds.Init 0 f text.WantsEnd h) → (es : Option (Listed EntryTree)) × AreEntries [] (members es) × (tokens_of (brace_at n ∷ ps) ≡ spelled_init es [])
+  block_text : (ps : List TokenAt) (n : ℕ) (f : Stage) (h : Draft) → run (text_at kinds.Init 0 first (text.Init expectations.WantsEntry) first_draft) ps ≡ Ok (text_at kinds.Init 0 f text.WantsEnd h) → (es : Option (Listed EntryTree)) × AreEntries [] (members es) × (tokens_of (brace_at n ∷ ps) ≡ spelled_init es [])
   block_text ps n f h e =
       let all = brace_at n ∷ (ps ++ last_at 0 ∷ []) in
       let done : run (start kinds.Init 0) all ≡ Ok (text_at kinds.Init 0 (after f tokens.End) text.Done h) = run-append (text_at kinds.Init 0 first (text.Init expectations.WantsEntry) first_draft) (text_at kinds.Init 0 f text.WantsEnd h) ps (last_at 0 ∷ []) e in
@@ -187,7 +184,7 @@ module _ (name : List ℕ) where
             (sym (ap (λ (l : List Token). tokens.Mark marks.OpenBrace ∷ l) (tokens_of-append ps (last_at 0 ∷ []))) ∙ x.whole ∙ sym (init-append x.entries [] (tokens.End ∷ []))),
       )
 
-  pub block_begins : (ps : List Placed) (n : ℕ) (g : Stage) (s : State) → length ps + 1 < 18446744073709551616 → run (block_at g) ps ≡ Ok s → Opened ps n s
+  pub block_begins : (ps : List TokenAt) (n : ℕ) (g : Stage) (s : State) → length ps + 1 < 18446744073709551616 → run (block_at g) ps ≡ Ok s → Opened ps n s
   block_begins ps n g s few e = by_pass (passes kinds.Init 0 with_block text.WantsEnd text.WantsColumn in_block block_alike ps first g (text.Init expectations.WantsEntry) first_draft s refl e)
     where
       ts : List Token
@@ -200,7 +197,7 @@ module _ (name : List ℕ) where
       by_rest h p f i r es fine rest (Nothing k) =
           let cut = split (brace_at n ∷ ps) (spelled_init es []) (tokens.End ∷ []) k in
           let end = single cut.behind tokens.End cut.are_behind in
-          let d = ends_done (start kinds.Init 0) (text_at kinds.Init 0 f p h) cut.before end.0 (ap (run (start kinds.Init 0)) (sym (cut.whole ∙ ap (λ (l : List Placed). cut.before ++ l) end.1)) ∙ r) in
+          let d = ends_done (start kinds.Init 0) (text_at kinds.Init 0 f p h) cut.before end.0 (ap (run (start kinds.Init 0)) (sym (cut.whole ∙ ap (λ (l : List TokenAt). cut.before ++ l) end.1)) ∙ r) in
           absurd (let no : true ≡ false = sym i ∙ ap in_block d in cc)
       by_rest h p f i r es fine rest (More more k m) = IsOne (record { rest = more ++ any.rest; text = subst IsBody (append_assoc ts more any.rest) (body_of (ts ++ more) any.rest es fine m any.text) })
 
@@ -214,10 +211,10 @@ module _ (name : List ℕ) where
           by_start r.draft r.part _ r.inside (ap (λ (x : State). x.part) r.same) r.by b.rest b.text
       by_pass (inr r) =
           let x = block_text r.before n _ r.draft r.by in
-          let many : length ps ≡ length r.before + length r.behind = ap (λ (l : List Placed). length l) r.whole ∙ length-append r.before r.behind in
+          let many : length ps ≡ length r.before + length r.behind = ap (λ (l : List TokenAt). length l) r.whole ∙ length-append r.before r.behind in
           let b = header_begins name r.draft.init r.behind false 0 (stage_after g (tokens_of r.before)) s (let h : 0 + length r.behind + 1 < 18446744073709551616 = omega (arith, few, many) in h) r.on in
           let us = tokens_of (brace_at n ∷ r.before) in
-          let same : ts ≡ us ++ tokens_of r.behind = ap (λ (y : List Placed). tokens_of (brace_at n ∷ y)) r.whole ∙ ap (λ (y : List Token). tokens.Mark marks.OpenBrace ∷ y) (tokens_of-append r.before r.behind) in
+          let same : ts ≡ us ++ tokens_of r.behind = ap (λ (y : List TokenAt). tokens_of (brace_at n ∷ y)) r.whole ∙ ap (λ (y : List Token). tokens.Mark marks.OpenBrace ∷ y) (tokens_of-append r.before r.behind) in
           IsOne (record {
             rest = b.rest;
             text = subst IsBody (sym (append_assoc us (tokens_of r.behind) b.rest) ∙ ap (λ (y : List Token). y ++ b.rest) (sym same)) (body_of us (tokens_of r.behind ++ b.rest) x.0 x.1 x.2 b.text);
@@ -225,7 +222,7 @@ module _ (name : List ℕ) where
 
   -- ---- each block is taken, with what stands behind it
 
-  pub record TakesBlock (pre ps : List Placed) (n : ℕ) (x : IsBody (tokens_of (brace_at n ∷ ps))) (g : Stage) : Type 0 where
+  pub record TakesBlock (pre ps : List TokenAt) (n : ℕ) (x : IsBody (tokens_of (brace_at n ∷ ps))) (g : Stage) : Type 0 where
     pub stage : Stage
     pub block : init.Block
     pub reached : table.State
@@ -236,14 +233,14 @@ module _ (name : List ℕ) where
     pub noted : AreNoted (pre ++ brace_at n ∷ ps) (columns_notes 0 (x.others + 1) (tokens_of pre ++ spelled_init x.entries (spelled_header x.others [])) x.rows.rows) reached.threads
 
   -- the entries, led to the header
-  pub record TakesEntries (es : Option (Listed EntryTree)) (q : List Placed) (n : ℕ) (g : Stage) : Type 0 where
+  pub record TakesEntries (es : Option (Listed EntryTree)) (q : List TokenAt) (n : ℕ) (g : Stage) : Type 0 where
     pub stage : Stage
     pub block : init.Block
     pub by : run (block_at g) q ≡ Ok (header_at name block false stage 0)
     pub entries : block.entries ≡ map entry_kept (members es)
     pub stand : AreStarts ((brace_at n ∷ q) ++ last_at 0 ∷ []) (tokens.Mark marks.OpenBrace ∷ []) (members es) block.starts
 
-  pub entries_led : (es : Option (Listed EntryTree)) (q : List Placed) (n : ℕ) (g : Stage) → AreEntries [] (members es) → tokens_of (brace_at n ∷ q) ≡ spelled_init es [] → TakesEntries es q n g
+  pub entries_led : (es : Option (Listed EntryTree)) (q : List TokenAt) (n : ℕ) (g : Stage) → AreEntries [] (members es) → tokens_of (brace_at n ∷ q) ≡ spelled_init es [] → TakesEntries es q n g
   entries_led es q n g fine e =
       let all = brace_at n ∷ (q ++ last_at 0 ∷ []) in
       let whole : tokens_of all ≡ spelled_init es (tokens.End ∷ []) =
@@ -252,7 +249,7 @@ module _ (name : List ℕ) where
       let d = ends_done (start kinds.Init 0) t.state (brace_at n ∷ q) 0 t.by in
       let m = ends kinds.Init 0 with_block text.WantsEnd text.WantsColumn in_block block_alike (q ++ last_at 0 ∷ []) first (text.Init expectations.WantsEntry) first_draft t.state refl t.by (ap in_block d) in
       let b = end_behind kinds.Init 0 (stage_after first (tokens_of m.before)) m.draft m.behind t.state m.by d in
-      let same : q ≡ m.before = unsnoc_placed q m.before (last_at 0) (last_at b.0) (m.whole ∙ ap (λ (y : List Placed). m.before ++ y) b.1) in
+      let same : q ≡ m.before = unsnoc_placed q m.before (last_at 0) (last_at b.0) (m.whole ∙ ap (λ (y : List TokenAt). m.before ++ y) b.1) in
       record {
         stage = stage_after g (tokens_of m.before);
         block = m.draft.init;
@@ -262,12 +259,12 @@ module _ (name : List ℕ) where
       }
 
   -- where the entries begin in the whole text
-  stand_there : (pre q r : List Placed) (n : ℕ) (es : Option (Listed EntryTree)) (ss : List ℕ) → tokens_of (brace_at n ∷ q) ≡ spelled_init es [] → AreStarts ((brace_at n ∷ q) ++ last_at 0 ∷ []) (tokens.Mark marks.OpenBrace ∷ []) (members es) ss → AreStarts (pre ++ ((brace_at n ∷ q) ++ r)) (tokens_of pre ++ tokens.Mark marks.OpenBrace ∷ []) (members es) ss
+  stand_there : (pre q r : List TokenAt) (n : ℕ) (es : Option (Listed EntryTree)) (ss : List ℕ) → tokens_of (brace_at n ∷ q) ≡ spelled_init es [] → AreStarts ((brace_at n ∷ q) ++ last_at 0 ∷ []) (tokens.Mark marks.OpenBrace ∷ []) (members es) ss → AreStarts (pre ++ ((brace_at n ∷ q) ++ r)) (tokens_of pre ++ tokens.Mark marks.OpenBrace ∷ []) (members es) ss
   stand_there pre q r n None [] e h = tt
   stand_there pre q r n None (s ∷ ss) e h = absurd h
   stand_there pre q r n (Some l) ss e h = starts_move pre (brace_at n ∷ q) (last_at 0 ∷ []) r l.closed l.others l.first (tokens.Mark marks.OpenBrace ∷ []) ss e h
 
-  pub body_led : (pre q b : List Placed) (w : Placed) (n : ℕ) (es : Option (Listed EntryTree)) (others : ℕ) (behind : List Token) (x : IsRows others behind) (g : Stage) → others + 1 < 18446744073709551616 → AreEntries [] (members es) → tokens_of (brace_at n ∷ q) ≡ spelled_init es [] → w.token ≡ tokens.Word (column_name 0) → tokens_of b ≡ spelled_names 1 others behind
+  pub body_led : (pre q b : List TokenAt) (w : TokenAt) (n : ℕ) (es : Option (Listed EntryTree)) (others : ℕ) (behind : List Token) (x : IsRows others behind) (g : Stage) → others + 1 < 18446744073709551616 → AreEntries [] (members es) → tokens_of (brace_at n ∷ q) ≡ spelled_init es [] → w.token ≡ tokens.Word (column_name 0) → tokens_of b ≡ spelled_names 1 others behind
       → (whole : tokens_of (brace_at n ∷ (q ++ w ∷ b)) ≡ spelled_init es (spelled_header others behind)) (are : AreEntries [] (members es)) → TakesBlock pre (q ++ w ∷ b) n (record { entries = es; are_entries = are; others = others; behind = behind; rows = x; whole = whole }) g
   body_led pre q b w n es others behind x g few fine e first_name k whole are =
       let t = entries_led es q n g fine e in
@@ -277,8 +274,8 @@ module _ (name : List ℕ) where
       let y : IsRows others (tokens_of l.left) = record { few = x.few; rows = x.rows; fine = x.fine; behind = x.behind; tail = x.tail; whole = l.are_left ∙ x.whole } in
       let pre2 = pre ++ ((brace_at n ∷ q) ++ w ∷ l.before) in
       let r = rows_led name t.block others few pre2 l.left y l.stage in
-      let inner : ((brace_at n ∷ q) ++ w ∷ l.before) ++ l.left ≡ brace_at n ∷ (q ++ w ∷ b) = append_assoc (brace_at n ∷ q) (w ∷ l.before) l.left ∙ ap (λ (y : List Placed). brace_at n ∷ (q ++ w ∷ y)) (sym l.whole) in
-      let all : pre2 ++ l.left ≡ pre ++ brace_at n ∷ (q ++ w ∷ b) = append_assoc pre ((brace_at n ∷ q) ++ w ∷ l.before) l.left ∙ ap (λ (y : List Placed). pre ++ y) inner in
+      let inner : ((brace_at n ∷ q) ++ w ∷ l.before) ++ l.left ≡ brace_at n ∷ (q ++ w ∷ b) = append_assoc (brace_at n ∷ q) (w ∷ l.before) l.left ∙ ap (λ (y : List TokenAt). brace_at n ∷ (q ++ w ∷ y)) (sym l.whole) in
+      let all : pre2 ++ l.left ≡ pre ++ brace_at n ∷ (q ++ w ∷ b) = append_assoc pre ((brace_at n ∷ q) ++ w ∷ l.before) l.left ∙ ap (λ (y : List TokenAt). pre ++ y) inner in
       let words : tokens_of pre2 ≡ tokens_of pre ++ spelled_init es (spelled_header others []) =
       tokens_of-append pre ((brace_at n ∷ q) ++ w ∷ l.before)
       ∙ ap (λ (y : List Token). tokens_of pre ++ y) (tokens_of-append (brace_at n ∷ q) (w ∷ l.before) ∙ ap (λ (y : List Token). y ++ w.token ∷ tokens_of l.before) e
@@ -299,6 +296,6 @@ module _ (name : List ℕ) where
         stand = stand_there pre q (w ∷ b) n es t.block.starts e t.stand;
         meant = r.meant;
         noted =
-            subst (λ (y : List Placed). AreNoted y (columns_notes 0 (others + 1) (tokens_of pre ++ spelled_init es (spelled_header others [])) x.rows) r.reached.threads) all
+            subst (λ (y : List TokenAt). AreNoted y (columns_notes 0 (others + 1) (tokens_of pre ++ spelled_init es (spelled_header others [])) x.rows) r.reached.threads) all
             (subst (λ (y : List Token). AreNoted (pre2 ++ l.left) (columns_notes 0 (others + 1) y x.rows) r.reached.threads) words r.noted);
       }

@@ -9,7 +9,7 @@ use Rattle.litmus_tokens.specs.declared.token.Token.{Token}
 use Rattle.litmus_tokens.specs.declared.token.Token.TheVariants as tokens
 use Rattle.litmus_tokens.specs.declared.token.Mark.TheVariants as marks
 use Rattle.litmus_tokens.specs.Stage.{after}
-use Rattle.litmus_tokens.specs.Texts.{Placed, tokens_of, stage_after, begins_tail}
+use Rattle.litmus_tokens.specs.Texts.{TokenAt, tokens_of, stage_after, begins_tail}
 use Rattle.litmus_tokens.specs.Words.{column_name, names_column}
 use Rattle.litmus_tokens.specs.Faults.{Begins}
 use Rattle.litmus_values.specs.declared.test.Step.{Step}
@@ -25,7 +25,7 @@ use Rattle.litmus_table.proofs.Tables.{table_complete, table_begins}
 use Rattle.litmus_grammar.specs.Grammar.{members, AreItems}
 use Rattle.litmus_grammar.specs.InitMachine as init
 use Rattle.litmus_grammar.specs.TextMachine as text
-use Rattle.litmus_grammar.specs.TextMachine.{Draft, Next, State, Ran, placed, and_then, stepped, run}
+use Rattle.litmus_grammar.specs.TextMachine.{Draft, Next, State, Ran, with_offset, and_then, stepped, run}
 use Rattle.litmus_grammar.proofs.Passing.{test_at}
 use Rattle.litmus_grammar.proofs.Runs.{tokens_of-append, run-append}
 use Rattle.litmus_grammar.proofs.Spelled.{rows-append}
@@ -45,7 +45,7 @@ pub length-meaning : (k n : ℕ) (rs : List RowTree) → length (columns_meaning
 length-meaning k zero rs = refl
 length-meaning k (suc n) rs = let e = length-meaning (k + 1) n rs in omega arith
 
-pub length-steps : (ts : List table.Placed) → length (steps_of ts) ≡ length ts
+pub length-steps : (ts : List table.ThreadSteps) → length (steps_of ts) ≡ length ts
 length-steps [] = refl
 length-steps (t ∷ ts) = let e = length-steps ts in omega arith
 
@@ -56,7 +56,7 @@ same_table : (a b : table.State) → ran_to a ≡ ran_to b → a ≡ b
 same_table a b e = cc
 
 -- a table keeps its columns
-kept : (n : ℕ) (ps : List Placed) (v : table.State) → laws.run (columns n) ps ≡ Some v → table.is_row_start v ≡ true → length v.threads ≡ n + 1
+kept : (n : ℕ) (ps : List TokenAt) (v : table.State) → laws.run (columns n) ps ≡ Some v → table.is_row_start v ≡ true → length v.threads ≡ n + 1
 kept n ps v e row =
     let r = table_complete [] ps [] n (table_sound n ps v e row) in
     let same = same_table r.after v (sym r.by ∙ e) in
@@ -107,27 +107,27 @@ module _ (name : List ℕ) (block : init.Block) where
   abbrev pub rows_at : Stage → table.State → State
   rows_at g u = test_at g text.Rows (draft_at u)
 
-  abbrev row_step : Stage → table.State → Placed → List Placed → Option Next → Ran
-  row_step g u p ps o = and_then (placed p.offset (stepped (rows_at g u) p.token o)) (λ x. run x ps)
+  abbrev row_step : Stage → table.State → TokenAt → List TokenAt → Option Next → Ran
+  row_step g u p ps o = and_then (with_offset p.offset (stepped (rows_at g u) p.token o)) (λ x. run x ps)
 
   -- the test is still within the table
-  record Within (g : Stage) (u : table.State) (ps : List Placed) (s : State) : Type 0 where
+  record Within (g : Stage) (u : table.State) (ps : List TokenAt) (s : State) : Type 0 where
     reached : table.State
     by : laws.run u ps ≡ Some reached
     same : s ≡ rows_at (stage_after g (tokens_of ps)) reached
 
   -- the table has ended before some token
-  record Behind (g : Stage) (u : table.State) (ps : List Placed) (s : State) : Type 0 where
-    before : List Placed
-    token : Placed
-    behind : List Placed
+  record Behind (g : Stage) (u : table.State) (ps : List TokenAt) (s : State) : Type 0 where
+    before : List TokenAt
+    token : TokenAt
+    behind : List TokenAt
     reached : table.State
     whole : ps ≡ before ++ token ∷ behind
     by : laws.run u before ≡ Some reached
     row : table.is_row_start reached ≡ true
     on : row_step (stage_after g (tokens_of before)) reached token behind (text.next_at (draft_at reached) (text.tail_start token.token)) ≡ Ok s
 
-  within_on : (g : Stage) (u v : table.State) (p : Placed) (ps : List Placed) (s : State) → table.step u p.token p.offset ≡ Some v → Within (after g p.token) v ps s ⊎ Behind (after g p.token) v ps s → Within g u (p ∷ ps) s ⊎ Behind g u (p ∷ ps) s
+  within_on : (g : Stage) (u v : table.State) (p : TokenAt) (ps : List TokenAt) (s : State) → table.step u p.token p.offset ≡ Some v → Within (after g p.token) v ps s ⊎ Behind (after g p.token) v ps s → Within g u (p ∷ ps) s ⊎ Behind g u (p ∷ ps) s
   within_on g u v p ps s e (inl r) = inl (record { reached = r.reached; by = ap (then_on (λ x. laws.run x ps)) e ∙ r.by; same = r.same })
   within_on g u v p ps s e (inr r) =
       inr (record {
@@ -135,13 +135,13 @@ module _ (name : List ℕ) (block : init.Block) where
         token = r.token;
         behind = r.behind;
         reached = r.reached;
-        whole = ap (λ (l : List Placed). p ∷ l) r.whole;
+        whole = ap (λ (l : List TokenAt). p ∷ l) r.whole;
         by = ap (then_on (λ x. laws.run x r.before)) e ∙ r.by;
         row = r.row;
         on = r.on;
       })
 
-  rows_pass : (ps : List Placed) (u : table.State) (g : Stage) (s : State) → run (rows_at g u) ps ≡ Ok s → Within g u ps s ⊎ Behind g u ps s
+  rows_pass : (ps : List TokenAt) (u : table.State) (g : Stage) (s : State) → run (rows_at g u) ps ≡ Ok s → Within g u ps s ⊎ Behind g u ps s
   rows_pass [] u g s e =
       let same : rows_at g u ≡ s = cc in
       inl (record { reached = u; by = refl; same = sym same })
@@ -168,7 +168,7 @@ module _ (name : List ℕ) (block : init.Block) where
           absurd (let no : Some v ≡ None = sym e ∙ none in cc)
       choose false c = ap (text.table_result (draft_at u) text.Rows) e
 
-  rows_run : (ps : List Placed) (u v : table.State) (g : Stage) → laws.run u ps ≡ Some v → run (rows_at g u) ps ≡ Ok (rows_at (stage_after g (tokens_of ps)) v)
+  rows_run : (ps : List TokenAt) (u v : table.State) (g : Stage) → laws.run u ps ≡ Some v → run (rows_at g u) ps ≡ Ok (rows_at (stage_after g (tokens_of ps)) v)
   rows_run [] u v g e =
       let same : u ≡ v = cc in
       ap (λ (x : table.State). Ok (rows_at g x)) same
@@ -194,7 +194,7 @@ module _ (name : List ℕ) (block : init.Block) where
   rows_with : (n : ℕ) → n + 1 < 18446744073709551616 → (ts us : List Token) → IsTable n ts → IsTail (n + 1) us → IsRows n (ts ++ us)
   rows_with n few ts us x t = record { few = few; rows = x.rows; fine = x.fine; behind = us; tail = t; whole = ap (λ (l : List Token). l ++ us) x.whole ∙ rows-append x.rows [] us }
 
-  rows_begin : (n : ℕ) → n + 1 < 18446744073709551616 → (ps : List Placed) (g : Stage) (s : State) → run (rows_at g (columns n)) ps ≡ Ok s → Begins (IsRows n) (tokens_of ps)
+  rows_begin : (n : ℕ) → n + 1 < 18446744073709551616 → (ps : List TokenAt) (g : Stage) (s : State) → run (rows_at g (columns n)) ps ≡ Ok s → Begins (IsRows n) (tokens_of ps)
   rows_begin n few ps g s e = by_pass (rows_pass ps (columns n) g s e)
     where
       by_pass : Within g (columns n) ps s ⊎ Behind g (columns n) ps s → Begins (IsRows n) (tokens_of ps)
@@ -216,14 +216,14 @@ module _ (name : List ℕ) (block : init.Block) where
   -- ---- all rows are taken
 
   -- behind some tokens
-  pub record TakesBody (n : ℕ) (pre ps : List Placed) (x : IsRows n (tokens_of ps)) (g : Stage) : Type 0 where
+  pub record TakesBody (n : ℕ) (pre ps : List TokenAt) (x : IsRows n (tokens_of ps)) (g : Stage) : Type 0 where
     pub stage : Stage
     pub reached : table.State
     pub by : run (rows_at g (columns n)) ps ≡ Ok (test_at stage text.Done (with_all name block reached (map place_meaning (members x.tail.observed)) x.tail.quantifier (meaning x.tail.condition)))
     pub meant : steps_of reached.threads ≡ columns_meaning 0 (n + 1) x.rows
     pub noted : AreNoted (pre ++ ps) (columns_notes 0 (n + 1) (tokens_of pre) x.rows) reached.threads
 
-  pub rows_led : (n : ℕ) → n + 1 < 18446744073709551616 → (pre ps : List Placed) (x : IsRows n (tokens_of ps)) (g : Stage) → TakesBody n pre ps x g
+  pub rows_led : (n : ℕ) → n + 1 < 18446744073709551616 → (pre ps : List TokenAt) (x : IsRows n (tokens_of ps)) (g : Stage) → TakesBody n pre ps x g
   rows_led n few pre ps x g =
       let cut = split ps (spelled_rows x.rows []) x.behind (x.whole ∙ sym (rows-append x.rows [] x.behind)) in
       let r = table_complete pre cut.before cut.behind n (record { rows = x.rows; fine = x.fine; whole = cut.are_before }) in
@@ -238,8 +238,8 @@ module _ (name : List ℕ) (block : init.Block) where
         reached = r.after;
         by = ap (run (rows_at g (columns n))) cut.whole ∙ run-append (rows_at g (columns n)) (rows_at g' r.after) cut.before cut.behind (rows_run cut.before (columns n) r.after g r.by) ∙ l.by;
         meant = r.meant;
-        noted = subst (λ (l : List Placed). AreNoted (pre ++ l) (columns_notes 0 (n + 1) (tokens_of pre) x.rows) r.after.threads) (sym cut.whole)
-            (subst (λ (l : List Placed). AreNoted l (columns_notes 0 (n + 1) (tokens_of pre) x.rows) r.after.threads) (append_assoc pre cut.before cut.behind) r.noted);
+        noted = subst (λ (l : List TokenAt). AreNoted (pre ++ l) (columns_notes 0 (n + 1) (tokens_of pre) x.rows) r.after.threads) (sym cut.whole)
+            (subst (λ (l : List TokenAt). AreNoted l (columns_notes 0 (n + 1) (tokens_of pre) x.rows) r.after.threads) (append_assoc pre cut.before cut.behind) r.noted);
       }
 
   -- ---- the header
@@ -271,11 +271,11 @@ module _ (name : List ℕ) (block : init.Block) where
       let a = few_names k few in
       record { rest = tokens.Word (column_name k) ∷ a.rest; text = one_name k a.rest a.text }
 
-  pub header_begins : (ps : List Placed) (has : Bool) (k : ℕ) (g : Stage) (s : State) → k + length ps + 1 < 18446744073709551616 → run (header_at has g k) ps ≡ Ok s → Begins (IsHeader has k) (tokens_of ps)
+  pub header_begins : (ps : List TokenAt) (has : Bool) (k : ℕ) (g : Stage) (s : State) → k + length ps + 1 < 18446744073709551616 → run (header_at has g k) ps ≡ Ok s → Begins (IsHeader has k) (tokens_of ps)
   header_begins [] has k g s few e = any_header has k (let h : k + 1 < 18446744073709551616 = omega (arith, few) in h)
   header_begins (p ∷ ps) has k g s few e = by_part has p.token p.offset e (λ more j f h l. header_begins ps more j f s h l)
     where
-      by_word : (w : List ℕ) (n : ℕ) (b : Bool) → names_column (length (names k).threads) w ≡ b → and_then (placed n (stepped (header_at false g k) (tokens.Word w) (text.table_result (draft_at (names k)) text.HasColumn (if b then Some (table.widened (names k)) else None)))) (λ x. run x ps) ≡ Ok s
+      by_word : (w : List ℕ) (n : ℕ) (b : Bool) → names_column (length (names k).threads) w ≡ b → and_then (with_offset n (stepped (header_at false g k) (tokens.Word w) (text.table_result (draft_at (names k)) text.HasColumn (if b then Some (table.widened (names k)) else None)))) (λ x. run x ps) ≡ Ok s
           → ((more : Bool) (j : ℕ) (f : Stage) → j + length ps + 1 < 18446744073709551616 → run (header_at more f j) ps ≡ Ok s → Begins (IsHeader more j) (tokens_of ps)) → Begins (IsName k) (tokens.Word w ∷ tokens_of ps)
       by_word w n true c l later =
           let b = later true k (after g (tokens.Word w)) (let h : k + length ps + 1 < 18446744073709551616 = omega (arith, few) in h) l in
@@ -298,9 +298,9 @@ module _ (name : List ℕ) (block : init.Block) where
 
   -- ---- all headers are taken
 
-  pub record TakesNames (k m : ℕ) (ps : List Placed) (behind : List Token) (g : Stage) : Type 0 where
-    pub before : List Placed
-    pub left : List Placed
+  pub record TakesNames (k m : ℕ) (ps : List TokenAt) (behind : List Token) (g : Stage) : Type 0 where
+    pub before : List TokenAt
+    pub left : List TokenAt
     pub stage : Stage
     pub whole : ps ≡ before ++ left
     pub are_before : tokens_of before ≡ spelled_names (k + 1) m []
@@ -310,10 +310,10 @@ module _ (name : List ℕ) (block : init.Block) where
   is_named : (k : ℕ) → names_column (length (names k).threads) (column_name k) ≡ true
   is_named k = ap (λ (j : ℕ). names_column j (column_name k)) (length-names k) ∙ (bytes_eq-Decides (column_name k) (column_name k)).1 refl
 
-  pub name_step : (k : ℕ) (n : ℕ) (ps : List Placed) (g : Stage) → run (header_at false g k) (record { token = tokens.Word (column_name k); offset = n } ∷ ps) ≡ run (header_at true (after g (tokens.Word (column_name k))) k) ps
-  name_step k n ps g = ap (λ (b : Bool). and_then (placed n (stepped (header_at false g k) (tokens.Word (column_name k)) (text.table_result (draft_at (names k)) text.HasColumn (if b then Some (table.widened (names k)) else None)))) (λ x. run x ps)) (is_named k)
+  pub name_step : (k : ℕ) (n : ℕ) (ps : List TokenAt) (g : Stage) → run (header_at false g k) (record { token = tokens.Word (column_name k); offset = n } ∷ ps) ≡ run (header_at true (after g (tokens.Word (column_name k))) k) ps
+  name_step k n ps g = ap (λ (b : Bool). and_then (with_offset n (stepped (header_at false g k) (tokens.Word (column_name k)) (text.table_result (draft_at (names k)) text.HasColumn (if b then Some (table.widened (names k)) else None)))) (λ x. run x ps)) (is_named k)
 
-  pub names_led : (m k : ℕ) (ps : List Placed) (behind : List Token) (g : Stage) → tokens_of ps ≡ spelled_names (k + 1) m behind → TakesNames k m ps behind g
+  pub names_led : (m k : ℕ) (ps : List TokenAt) (behind : List Token) (g : Stage) → tokens_of ps ≡ spelled_names (k + 1) m behind → TakesNames k m ps behind g
   names_led zero k [] behind g e = absurd cc
   names_led zero k (p ∷ ps) behind g e =
       let t : p.token ≡ tokens.Mark marks.Semicolon = cc in
@@ -346,7 +346,7 @@ module _ (name : List ℕ) (block : init.Block) where
         before = p ∷ q ∷ r.before;
         left = r.left;
         stage = r.stage;
-        whole = ap (λ (l : List Placed). p ∷ q ∷ l) r.whole;
+        whole = ap (λ (l : List TokenAt). p ∷ q ∷ l) r.whole;
         are_before =
             ap (λ (x : Token). x ∷ q.token ∷ tokens_of r.before) t ∙ ap (λ (x : Token). tokens.Mark marks.Bar ∷ x ∷ tokens_of r.before) w
             ∙ ap (λ (l : List Token). tokens.Mark marks.Bar ∷ tokens.Word (column_name (k + 1)) ∷ l) (r.are_before ∙ ap (λ (j : ℕ). spelled_names (j + 1) m []) (sym (add-one k)));

@@ -9,7 +9,7 @@ use Rattle.litmus_tokens.specs.declared.token.Mark.TheVariants as marks
 use Rattle.litmus_tokens.specs.declared.lexer.Front.{Front}
 use Rattle.litmus_tokens.specs.declared.lexer.Front.TheVariants.{Layout, Lexeme}
 use Rattle.litmus_tokens.specs.Lexer.{front}
-use Rattle.litmus_tokens.specs.Texts.{Placed, after_front, tokens_from, lexed, is_end, begins_tail}
+use Rattle.litmus_tokens.specs.Texts.{TokenAt, after_front, tokens_from, lexed, is_end, begins_tail}
 use Rattle.litmus_tokens.specs.Words.{is_test_name, names_column}
 use Rattle.litmus_values.specs.declared.test.InitEntry.{InitEntry}
 use Rattle.litmus_values.specs.declared.test.Place.{Place}
@@ -202,16 +202,16 @@ module _ (n p : ℕ) (le : p ≤ n) (kind : TextKind) (h : Draft) (k : AreKept n
 
 -- ---- a whole text
 
-abbrev AreBefore : ℕ → List Placed → Type 0
+abbrev AreBefore : ℕ → List TokenAt → Type 0
 AreBefore n [] = Unit {0}
 AreBefore n (q ∷ qs) = (q.offset ≤ n) × AreBefore n qs
 
-run_kept : (n : ℕ) (s : State) (ps : List Placed) → AreBefore n ps → AreKept n s.draft → IsKept n (run s ps)
+run_kept : (n : ℕ) (s : State) (ps : List TokenAt) → AreBefore n ps → AreKept n s.draft → IsKept n (run s ps)
 run_kept n s [] h k = k
 run_kept n s (q ∷ ps) h k =
     by_next (text.part_step s.kind s.threads s.draft s.part q.token q.offset) (part_kept n q.offset h.0 s.kind s.draft k s.threads s.part q.token) (λ x j. run_kept n x ps h.1 j)
   where
-    by_next : (o : Option Next) → InNext n o → ((x : State) → AreKept n x.draft → IsKept n (run x ps)) → IsKept n (and_then (text.placed q.offset (stepped s q.token o)) (λ x. run x ps))
+    by_next : (o : Option Next) → InNext n o → ((x : State) → AreKept n x.draft → IsKept n (run x ps)) → IsKept n (and_then (text.with_offset q.offset (stepped s q.token o)) (λ x. run x ps))
     by_next (Some x) j f = f _ j
     by_next None j f = h.0
 

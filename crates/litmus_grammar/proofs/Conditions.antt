@@ -10,7 +10,7 @@ use Rattle.litmus_tokens.specs.declared.token.Token.{Token}
 use Rattle.litmus_tokens.specs.declared.token.Token.TheVariants as tokens
 use Rattle.litmus_tokens.specs.declared.token.Mark.TheVariants as marks
 use Rattle.litmus_tokens.specs.Stage.{after}
-use Rattle.litmus_tokens.specs.Texts.{Placed, tokens_of, stage_after, are_none}
+use Rattle.litmus_tokens.specs.Texts.{TokenAt, tokens_of, stage_after, are_none}
 use Rattle.litmus_tokens.specs.Words.{is_filter}
 use Rattle.litmus_tokens.specs.Faults.{Begins, CanFollow, Always, ruling, Says}
 use Rattle.litmus_values.specs.declared.test.Quantifier.{Quantifier}
@@ -26,7 +26,7 @@ use Rattle.litmus_table.specs.Machine as table
 use Rattle.litmus_grammar.specs.declared.parts.TextKind.{TextKind}
 use Rattle.litmus_grammar.specs.declared.parts.TextKind.TheVariants as kinds
 use Rattle.litmus_grammar.specs.TextMachine as text
-use Rattle.litmus_grammar.specs.TextMachine.{Part, Draft, State, Ran, placed, and_then, stepped, proposition_result, with_condition, nothing, start, run, rule_at}
+use Rattle.litmus_grammar.specs.TextMachine.{Part, Draft, State, Ran, with_offset, and_then, stepped, proposition_result, with_condition, nothing, start, run, rule_at}
 use Rattle.litmus_grammar.proofs.Runs.{follows}
 use Rattle.litmus_grammar.proofs.Outcomes.{Reading}
 
@@ -50,15 +50,15 @@ module _ (threads : ℕ) (few : threads < 18446744073709551616) where
   standing g p h = record { kind = kinds.Condition; threads = threads; stage = g; part = p; draft = h }
 
   abbrev went_on : Stage → Quantifier → Draft → Token → ℕ → StepResult → Ran
-  went_on g q h t n f = placed n (stepped (standing g text.Done h) t (proposition_result h q f))
+  went_on g q h t n f = with_offset n (stepped (standing g text.Done h) t (proposition_result h q f))
 
   -- ---- the proposition
 
-  done_takes : (g : Stage) (h : Draft) (ps : List Placed) (s : State) → run (standing g text.Done h) ps ≡ Ok s → are_none (tokens_of ps) ≡ true
+  done_takes : (g : Stage) (h : Draft) (ps : List TokenAt) (s : State) → run (standing g text.Done h) ps ≡ Ok s → are_none (tokens_of ps) ≡ true
   done_takes g h [] s e = refl
   done_takes g h (p ∷ ps) s e = absurd cc
 
-  prop_takes : (ps : List Placed) (g : Stage) (q : Quantifier) (fs : List Frame) (used : ℕ) (expected : Expectation) (h : Draft) (s : State) → run (standing g (text.Proposition q fs used expected) h) ps ≡ Ok s → takes limits threads fs used expected (tokens_of ps) ≡ true
+  prop_takes : (ps : List TokenAt) (g : Stage) (q : Quantifier) (fs : List Frame) (used : ℕ) (expected : Expectation) (h : Draft) (s : State) → run (standing g (text.Proposition q fs used expected) h) ps ≡ Ok s → takes limits threads fs used expected (tokens_of ps) ≡ true
   prop_takes [] g q fs used expected h s e = refl
   prop_takes (p ∷ ps) g q fs used expected h s e = by_result (proposition_step limits threads fs used expected p.token) e (λ gs u o k. prop_takes ps (after g p.token) q gs u o h s k)
     where
@@ -67,7 +67,7 @@ module _ (threads : ℕ) (few : threads < 18446744073709551616) where
       by_result (Ends v) k later = done_takes (after g p.token) (with_condition h q v) ps s k
       by_result Refuses k later = absurd cc
 
-  done_ends : (g : Stage) (h : Draft) (ps : List Placed) (s : State) (v : Formula) → run (standing g text.Done h) ps ≡ Ok s → whole_at v (tokens_of ps) ≡ Some v
+  done_ends : (g : Stage) (h : Draft) (ps : List TokenAt) (s : State) (v : Formula) → run (standing g text.Done h) ps ≡ Ok s → whole_at v (tokens_of ps) ≡ Some v
   done_ends g h [] s v e = refl
   done_ends g h (p ∷ ps) s v e = absurd cc
 
@@ -79,7 +79,7 @@ module _ (threads : ℕ) (few : threads < 18446744073709551616) where
   done_in (Ok s) = is_done s.part
   done_in (Err e) = false
 
-  prop_ends : (ps : List Placed) (g : Stage) (q : Quantifier) (fs : List Frame) (used : ℕ) (expected : Expectation) (h : Draft) (s : State) → run (standing g (text.Proposition q fs used expected) h) ps ≡ Ok s → s.part ≡ text.Done → (v : Formula) × (proposition limits threads fs used expected (tokens_of ps) ≡ Some v)
+  prop_ends : (ps : List TokenAt) (g : Stage) (q : Quantifier) (fs : List Frame) (used : ℕ) (expected : Expectation) (h : Draft) (s : State) → run (standing g (text.Proposition q fs used expected) h) ps ≡ Ok s → s.part ≡ text.Done → (v : Formula) × (proposition limits threads fs used expected (tokens_of ps) ≡ Some v)
   prop_ends [] g q fs used expected h s e d =
       let no : false ≡ true = ap done_in e ∙ ap is_done d in
       absurd cc
@@ -90,19 +90,19 @@ module _ (threads : ℕ) (few : threads < 18446744073709551616) where
       by_result (Ends v) k later = (v, done_ends (after g p.token) (with_condition h q v) ps s v k)
       by_result Refuses k later = absurd cc
 
-  record Taken (from : State) (ps : List Placed) (q : Quantifier) (v : Formula) : Type 0 where
+  record IsAccepted (from : State) (ps : List TokenAt) (q : Quantifier) (v : Formula) : Type 0 where
     state : State
     by : run from ps ≡ Ok state
     quantifier : state.draft.quantifier ≡ q
     formula : state.draft.formula ≡ v
 
-  prop_runs : (ps : List Placed) (g : Stage) (q : Quantifier) (fs : List Frame) (used : ℕ) (expected : Expectation) (h : Draft) (v : Formula) → proposition limits threads fs used expected (tokens_of ps) ≡ Some v → Taken (standing g (text.Proposition q fs used expected) h) ps q v
+  prop_runs : (ps : List TokenAt) (g : Stage) (q : Quantifier) (fs : List Frame) (used : ℕ) (expected : Expectation) (h : Draft) (v : Formula) → proposition limits threads fs used expected (tokens_of ps) ≡ Some v → IsAccepted (standing g (text.Proposition q fs used expected) h) ps q v
   prop_runs [] g q fs used expected h v e = absurd cc
   prop_runs (p ∷ ps) g q fs used expected h v e =
       let r = by_result (proposition_step limits threads fs used expected p.token) e (λ gs u o k. let t = prop_runs ps (after g p.token) q gs u o h v k in (t.state, t.by, t.quantifier, t.formula)) in
       record { state = r.0; by = r.1; quantifier = r.2; formula = r.3 }
     where
-      by_end : (w : Formula) (qs : List Placed) → whole_at w (tokens_of qs) ≡ Some v → (s : State) × (run (standing (after g p.token) text.Done (with_condition h q w)) qs ≡ Ok s) × (s.draft.quantifier ≡ q) × (s.draft.formula ≡ v)
+      by_end : (w : Formula) (qs : List TokenAt) → whole_at w (tokens_of qs) ≡ Some v → (s : State) × (run (standing (after g p.token) text.Done (with_condition h q w)) qs ≡ Ok s) × (s.draft.quantifier ≡ q) × (s.draft.formula ≡ v)
       by_end w [] k = (standing (after g p.token) text.Done (with_condition h q w), refl, refl, cc)
       by_end w (x ∷ qs) k = absurd cc
 
@@ -123,10 +123,10 @@ module _ (threads : ℕ) (few : threads < 18446744073709551616) where
   nothing_yet = nothing kinds.Condition
 
   -- where a text that is taken so far stands
-  data Standing (ps : List Placed) (s : State) : Type 0 where
+  data Standing (ps : List TokenAt) (s : State) : Type 0 where
     Before : tokens_of ps ≡ [] → s.part ≡ text.WantsQuantifier → Standing ps s
     AfterTilde : tokens_of ps ≡ tokens.Mark marks.Tilde ∷ [] → s.part ≡ text.AfterTilde → Standing ps s
-    Behind : (q : Quantifier) (g : Stage) (qs : List Placed) → tokens_of ps ≡ spelled_quantifier q (tokens_of qs) → run (standing g (text.proposition q) nothing_yet) qs ≡ Ok s → Standing ps s
+    Behind : (q : Quantifier) (g : Stage) (qs : List TokenAt) → tokens_of ps ≡ spelled_quantifier q (tokens_of qs) → run (standing g (text.proposition q) nothing_yet) qs ≡ Ok s → Standing ps s
 
   same_word : (w v : List ℕ) → bytes_eq w v ≡ true → w ≡ v
   same_word w v e = (bytes_eq-Decides w v).0 e
@@ -135,20 +135,20 @@ module _ (threads : ℕ) (few : threads < 18446744073709551616) where
   part_in (Ok s) = s.part
   part_in (Err e) = text.Magic
 
-  word_stands : (g : Stage) (w : List ℕ) (n : ℕ) (ps : List Placed) (s : State) (a b : Bool) → bytes_eq w (codes "exists") ≡ a → bytes_eq w (codes "forall") ≡ b
-      → and_then (placed n (stepped (standing g text.WantsQuantifier nothing_yet) (tokens.Word w) (text.next_at nothing_yet (if a then Some (text.proposition Exists) else (if b then Some (text.proposition Forall) else None))))) (λ x. run x ps) ≡ Ok s
+  word_stands : (g : Stage) (w : List ℕ) (n : ℕ) (ps : List TokenAt) (s : State) (a b : Bool) → bytes_eq w (codes "exists") ≡ a → bytes_eq w (codes "forall") ≡ b
+      → and_then (with_offset n (stepped (standing g text.WantsQuantifier nothing_yet) (tokens.Word w) (text.next_at nothing_yet (if a then Some (text.proposition Exists) else (if b then Some (text.proposition Forall) else None))))) (λ x. run x ps) ≡ Ok s
       → Standing (record { token = tokens.Word w; offset = n } ∷ ps) s
   word_stands g w n ps s true b ea eb e = Behind Exists (after g (tokens.Word w)) ps (ap (λ (x : List ℕ). tokens.Word x ∷ tokens_of ps) (same_word w (codes "exists") ea)) e
   word_stands g w n ps s false true ea eb e = Behind Forall (after g (tokens.Word w)) ps (ap (λ (x : List ℕ). tokens.Word x ∷ tokens_of ps) (same_word w (codes "forall") eb)) e
   word_stands g w n ps s false false ea eb e = absurd cc
 
-  exists_stands : (g : Stage) (m n : ℕ) (w : List ℕ) (ps : List Placed) (s : State) (a : Bool) → bytes_eq w (codes "exists") ≡ a
-      → and_then (placed n (stepped (standing g text.AfterTilde nothing_yet) (tokens.Word w) (text.next_at nothing_yet (if a then Some (text.proposition NotExists) else None)))) (λ x. run x ps) ≡ Ok s
+  exists_stands : (g : Stage) (m n : ℕ) (w : List ℕ) (ps : List TokenAt) (s : State) (a : Bool) → bytes_eq w (codes "exists") ≡ a
+      → and_then (with_offset n (stepped (standing g text.AfterTilde nothing_yet) (tokens.Word w) (text.next_at nothing_yet (if a then Some (text.proposition NotExists) else None)))) (λ x. run x ps) ≡ Ok s
       → Standing (record { token = tokens.Mark marks.Tilde; offset = m } ∷ record { token = tokens.Word w; offset = n } ∷ ps) s
   exists_stands g m n w ps s true ea e = Behind NotExists (after g (tokens.Word w)) ps (ap (λ (x : List ℕ). tokens.Mark marks.Tilde ∷ tokens.Word x ∷ tokens_of ps) (same_word w (codes "exists") ea)) e
   exists_stands g m n w ps s false ea e = absurd cc
 
-  tilde_stands : (g : Stage) (m : ℕ) (ps : List Placed) (s : State) → run (standing g text.AfterTilde nothing_yet) ps ≡ Ok s → Standing (record { token = tokens.Mark marks.Tilde; offset = m } ∷ ps) s
+  tilde_stands : (g : Stage) (m : ℕ) (ps : List TokenAt) (s : State) → run (standing g text.AfterTilde nothing_yet) ps ≡ Ok s → Standing (record { token = tokens.Mark marks.Tilde; offset = m } ∷ ps) s
   tilde_stands g m [] s e = AfterTilde refl (sym (ap part_in e))
   tilde_stands g m (p ∷ ps) s e = by_token p.token p.offset e
     where
@@ -156,7 +156,7 @@ module _ (threads : ℕ) (few : threads < 18446744073709551616) where
       by_token (tokens.Word w) n k = exists_stands g m n w ps s (bytes_eq w (codes "exists")) refl k
       by_token t n k = absurd cc
 
-  stands : (g : Stage) (ps : List Placed) (s : State) → run (standing g text.WantsQuantifier nothing_yet) ps ≡ Ok s → Standing ps s
+  stands : (g : Stage) (ps : List TokenAt) (s : State) → run (standing g text.WantsQuantifier nothing_yet) ps ≡ Ok s → Standing ps s
   stands g [] s e = Before refl (sym (ap part_in e))
   stands g (p ∷ ps) s e = by_token p.token p.offset e
     where
@@ -172,7 +172,7 @@ module _ (threads : ℕ) (few : threads < 18446744073709551616) where
   spelled_more NotExists ts us = refl
   spelled_more Forall ts us = refl
 
-  begins_by : (ps : List Placed) (s : State) → Standing ps s → Begins IsText (tokens_of ps)
+  begins_by : (ps : List TokenAt) (s : State) → Standing ps s → Begins IsText (tokens_of ps)
   begins_by ps s (Before e at_part) =
       let b = (takes_beginnings limits threads few []).0 refl in
       record { rest = tokens.Word (codes "exists") ∷ b.rest; text = subst (λ ts. IsText (ts ++ tokens.Word (codes "exists") ∷ b.rest)) (sym e) (to_text Exists b.rest b.text) }
@@ -184,14 +184,14 @@ module _ (threads : ℕ) (few : threads < 18446744073709551616) where
       record { rest = b.rest; text = subst IsText (sym (ap (λ ts. ts ++ b.rest) e ∙ spelled_more q (tokens_of qs) b.rest)) (to_text q (tokens_of qs ++ b.rest) b.text) }
 
   -- and with its end it is one
-  whole_by : (ps : List Placed) (s : State) → Standing ps s → s.part ≡ text.Done → IsText (tokens_of ps)
+  whole_by : (ps : List TokenAt) (s : State) → Standing ps s → s.part ≡ text.Done → IsText (tokens_of ps)
   whole_by ps s (Before e at_part) d = absurd (let no : false ≡ true = ap is_done (sym at_part ∙ d) in cc)
   whole_by ps s (AfterTilde e at_part) d = absurd (let no : false ≡ true = ap is_done (sym at_part ∙ d) in cc)
   whole_by ps s (Behind q g qs e r) d =
       let w = prop_ends qs g q [] 0 Wants nothing_yet s r d in
       subst IsText (sym e) (to_text q (tokens_of qs) (record { value = w.0; text = sound limits threads few (tokens_of qs) w.0 w.1 }))
 
-  pub condition_whole : (ps : List Placed) (s : State) → run (start kinds.Condition threads) ps ≡ Ok s → s.part ≡ text.Done → IsText (tokens_of ps)
+  pub condition_whole : (ps : List TokenAt) (s : State) → run (start kinds.Condition threads) ps ≡ Ok s → s.part ≡ text.Done → IsText (tokens_of ps)
   condition_whole ps s e d = whole_by ps s (stands Tail ps s e) d
 
   -- ---- each text is taken
@@ -199,7 +199,7 @@ module _ (threads : ℕ) (few : threads < 18446744073709551616) where
   abbrev first_draft : Quantifier → Stage → State
   first_draft q g = standing g (text.proposition q) nothing_yet
 
-  quantifier_runs : (q : Quantifier) (ps : List Placed) (ts : List Token) → tokens_of ps ≡ spelled_quantifier q ts → (g : Stage) × (qs : List Placed) × (tokens_of qs ≡ ts) × (run (start kinds.Condition threads) ps ≡ run (first_draft q g) qs)
+  quantifier_runs : (q : Quantifier) (ps : List TokenAt) (ts : List Token) → tokens_of ps ≡ spelled_quantifier q ts → (g : Stage) × (qs : List TokenAt) × (tokens_of qs ≡ ts) × (run (start kinds.Condition threads) ps ≡ run (first_draft q g) qs)
   quantifier_runs Exists [] ts e = absurd cc
   quantifier_runs Exists (p ∷ ps) ts e =
       let t : p.token ≡ tokens.Word (codes "exists") = cc in
@@ -215,7 +215,7 @@ module _ (threads : ℕ) (few : threads < 18446744073709551616) where
       let u : r.token ≡ tokens.Word (codes "exists") = cc in
       (Tail, ps, cc, ap (λ (x : Token). run (standing Tail text.WantsQuantifier nothing_yet) (record { token = x; offset = p.offset } ∷ r ∷ ps)) t ∙ ap (λ (x : Token). run (standing Tail text.AfterTilde nothing_yet) (record { token = x; offset = r.offset } ∷ ps)) u)
 
-  pub condition_taken : (ps : List Placed) (x : IsText (tokens_of ps)) → (s : State) × (run (start kinds.Condition threads) ps ≡ Ok s) × (s.draft.quantifier ≡ x.quantifier) × (s.draft.formula ≡ meaning x.condition)
+  pub condition_taken : (ps : List TokenAt) (x : IsText (tokens_of ps)) → (s : State) × (run (start kinds.Condition threads) ps ≡ Ok s) × (s.draft.quantifier ≡ x.quantifier) × (s.draft.formula ≡ meaning x.condition)
   condition_taken ps x =
       let b = quantifier_runs x.quantifier ps (spelled x.condition (tokens.End ∷ [])) x.whole in
       let m = complete limits threads few (tokens_of b.1) (meaning x.condition) (record { tree = x.condition; fine = x.fine; whole = b.2; meant = refl }) in

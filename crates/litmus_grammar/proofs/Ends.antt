@@ -2,7 +2,7 @@
 use Rattle.std.proofs.Common.{◌≡◌, ℕ, Bool, true, false, List, [], ◌∷◌, ◌++◌, Option, Some, None, Ok, Err, refl, sym, ap, ◌∙◌, subst}
 use Rattle.std.specs.Prelude.{◌&&◌, nat_lt, if◌then◌else◌}
 use Rattle.litmus_tokens.specs.declared.token.Token.TheVariants.{End}
-use Rattle.litmus_tokens.specs.Texts.{Placed}
+use Rattle.litmus_tokens.specs.Texts.{TokenAt}
 use Rattle.litmus_values.specs.declared.test.Quantifier.{Quantifier}
 use Rattle.litmus_values.specs.Value.{Formula, Constant}
 use Rattle.litmus_conditions.specs.declared.place.PlaceExpectation.{PlaceExpectation}
@@ -41,7 +41,7 @@ no_operand p (Some wants.Comma) = refl
 no_operand p (Some wants.Open) = refl
 no_operand p (Some wants.Close) = refl
 
-pub no_cell : (ts : List table.Placed) (c : ℕ) (expected : table.Expectation) (offset : ℕ) → table.expected_step ts c expected End offset ≡ None
+pub no_cell : (ts : List table.ThreadSteps) (c : ℕ) (expected : table.Expectation) (offset : ℕ) → table.expected_step ts c expected End offset ≡ None
 no_cell ts c table.Begins offset = refl
 no_cell ts c table.Labelled offset = refl
 no_cell ts c (table.Within p) offset = ap (λ (o : Option table.Pending). table.operand ts c o offset) (no_operand p (table.first_of p.wants))
@@ -118,10 +118,10 @@ abbrev part_in : Ran → Part
 part_in (Ok x) = x.part
 part_in (Err d) = text.Done
 
-pub ends_done : (s s' : State) (ps : List Placed) (n : ℕ) → run s (ps ++ record { token = End; offset = n } ∷ []) ≡ Ok s' → s'.part ≡ text.Done
+pub ends_done : (s s' : State) (ps : List TokenAt) (n : ℕ) → run s (ps ++ record { token = End; offset = n } ∷ []) ≡ Ok s' → s'.part ≡ text.Done
 ends_done s s' ps n e = by_run (run s ps) (sym (run-split s ps (record { token = End; offset = n } ∷ [])) ∙ e)
   where
-    by_end : (x : State) (o : Option Next) → IsDone o → and_then (text.placed n (stepped x End o)) (λ y. Ok y) ≡ Ok s' → s'.part ≡ text.Done
+    by_end : (x : State) (o : Option Next) → IsDone o → and_then (text.with_offset n (stepped x End o)) (λ y. Ok y) ≡ Ok s' → s'.part ≡ text.Done
     by_end x (Some y) d k = sym (ap part_in k) ∙ d
     by_end x None d k = absurd cc
 

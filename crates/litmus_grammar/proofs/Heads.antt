@@ -10,7 +10,7 @@ use Rattle.litmus_tokens.specs.declared.token.Token.{Token}
 use Rattle.litmus_tokens.specs.declared.token.Token.TheVariants as tokens
 use Rattle.litmus_tokens.specs.declared.token.Mark.TheVariants as marks
 use Rattle.litmus_tokens.specs.Stage.{after}
-use Rattle.litmus_tokens.specs.Texts.{Placed, tokens_of}
+use Rattle.litmus_tokens.specs.Texts.{TokenAt, tokens_of}
 use Rattle.litmus_tokens.specs.Words.{column_name, is_test_name}
 use Rattle.litmus_tokens.specs.Faults.{Begins}
 use Rattle.litmus_conditions.specs.Grammar.{limits, place_meaning, meaning}
@@ -22,7 +22,7 @@ use Rattle.litmus_grammar.specs.declared.parts.TextKind.TheVariants as kinds
 use Rattle.litmus_grammar.specs.Grammar.{spelled_init, members, TestTree, spelled_text, spelled_keylines, spelled_head, spelled_observed, spelled_condition, spelled_test, IsTest}
 use Rattle.litmus_grammar.specs.InitMachine as init
 use Rattle.litmus_grammar.specs.TextMachine as text
-use Rattle.litmus_grammar.specs.TextMachine.{Part, Draft, Next, State, Ran, placed, and_then, stepped, part_step, start, run}
+use Rattle.litmus_grammar.specs.TextMachine.{Part, Draft, Next, State, Ran, with_offset, and_then, stepped, part_step, start, run}
 use Rattle.litmus_grammar.specs.Texts.{before_entries, before_rows}
 use Rattle.litmus_grammar.proofs.Bodies.{IsRows, any_header}
 use Rattle.litmus_grammar.proofs.Blocks.{IsBody, Opened, IsOne, IsBroken, brace_at, block_at, in_block, block_begins, body_led}
@@ -32,17 +32,15 @@ use Rattle.litmus_grammar.proofs.Runs.{tokens_of-append, anywhere, tokens_of-any
 use Rattle.litmus_grammar.proofs.Spelled.{init-append}
 use Rattle.litmus_grammar.proofs.Splits.{split}
 use Rattle.litmus_grammar.proofs.Tails.{early, with_all, done_behind}
+use Rattle.litmus_grammar.proofs.InitLeft.{more}
 
 abbrev pub in_head : List ℕ → Stage → Part → State
 in_head name g p = test_at g p (early name init.start table.start [])
 
-more : (t : Token) (ts us : List Token) → ts ≡ us → t ∷ ts ≡ t ∷ us
-more t ts us e = ap (λ (xs : List Token). t ∷ xs) e
-
 -- ---- what is taken, where it is known behind the brace
 
 module _ (X : List Token → Type 0) (Q : State → Type 0) (any : Begins X [])
-    (from : (name : List ℕ) (ps : List Placed) (n : ℕ) (g : Stage) (s : State) → length ps + 1 < 18446744073709551616 → run (block_at name g) ps ≡ Ok s → Q s → Begins X (tokens_of (brace_at n ∷ ps))) where
+    (from : (name : List ℕ) (ps : List TokenAt) (n : ℕ) (g : Stage) (s : State) → length ps + 1 < 18446744073709551616 → run (block_at name g) ps ≡ Ok s → Q s → Begins X (tokens_of (brace_at n ∷ ps))) where
   abbrev pub Keys : List Token → Type 0
   Keys ts = (k : ℕ) × (behind : List Token) × X behind × (ts ≡ spelled_keylines k behind)
 
@@ -57,7 +55,7 @@ module _ (X : List Token → Type 0) (Q : State → Type 0) (any : Begins X [])
   any_head true = record { rest = any.rest; text = (false, 0, any.rest, any.text, refl) }
   any_head false = record { rest = any.rest; text = (0, any.rest, any.text, refl) }
 
-  head_begins : (ps : List Placed) (b : Bool) (name : List ℕ) (g : Stage) (s : State) → length ps < 18446744073709551616 → run (in_head name g (text.Head b)) ps ≡ Ok s → Q s → Begins (HeadOf b) (tokens_of ps)
+  head_begins : (ps : List TokenAt) (b : Bool) (name : List ℕ) (g : Stage) (s : State) → length ps < 18446744073709551616 → run (in_head name g (text.Head b)) ps ≡ Ok s → Q s → Begins (HeadOf b) (tokens_of ps)
   head_begins [] b name g s few e q = any_head b
   head_begins (p ∷ ps) b name g s few e q = by_token b p.token p.offset e (λ f k. head_begins ps false name f s (let h : length ps < 18446744073709551616 = omega (arith, few) in h) k q)
     where
@@ -98,7 +96,7 @@ module _ (X : List Token → Type 0) (Q : State → Type 0) (any : Begins X [])
   any_lines : Begins Lines []
   any_lines = any_head true
 
-  line_end : (name : List ℕ) → is_test_name name ≡ true → (ps : List Placed) (g : Stage) (s : State) → length ps < 18446744073709551616 → run (in_head name g text.TitleEnd) ps ≡ Ok s → Q s → Begins IsHeaded (tokens.Word (codes "PPC") ∷ tokens.Word name ∷ tokens_of ps)
+  line_end : (name : List ℕ) → is_test_name name ≡ true → (ps : List TokenAt) (g : Stage) (s : State) → length ps < 18446744073709551616 → run (in_head name g text.TitleEnd) ps ≡ Ok s → Q s → Begins IsHeaded (tokens.Word (codes "PPC") ∷ tokens.Word name ∷ tokens_of ps)
   line_end name i [] g s few e q = let r = any_lines in record { rest = tokens.LineEnd ∷ r.rest; text = record { name = name; is_name = i; lines = r.rest; head = r.text; whole = refl } }
   line_end name i (p ∷ ps) g s few e q = by_token p.token p.offset e
     where
@@ -106,11 +104,11 @@ module _ (X : List Token → Type 0) (Q : State → Type 0) (any : Begins X [])
       by_token tokens.LineEnd n k = headed name i (tokens_of ps) (head_begins ps true name (after g tokens.LineEnd) s (let h : length ps < 18446744073709551616 = omega (arith, few) in h) k q)
       by_token t n k = absurd cc
 
-  title : (ps : List Placed) (g : Stage) (s : State) → length ps < 18446744073709551616 → run (in_head [] g text.Title) ps ≡ Ok s → Q s → Begins IsHeaded (tokens.Word (codes "PPC") ∷ tokens_of ps)
+  title : (ps : List TokenAt) (g : Stage) (s : State) → length ps < 18446744073709551616 → run (in_head [] g text.Title) ps ≡ Ok s → Q s → Begins IsHeaded (tokens.Word (codes "PPC") ∷ tokens_of ps)
   title [] g s few e q = let r = any_lines in record { rest = tokens.Word (65 ∷ []) ∷ tokens.LineEnd ∷ r.rest; text = record { name = 65 ∷ []; is_name = refl; lines = r.rest; head = r.text; whole = refl } }
   title (p ∷ ps) g s few e q = by_token p.token p.offset e
     where
-      by_word : (w : List ℕ) (n : ℕ) (b : Bool) → is_test_name w ≡ b → and_then (placed n (stepped (in_head [] g text.Title) (tokens.Word w) (if b then text.at (early w init.start table.start []) text.TitleEnd else None))) (λ x. run x ps) ≡ Ok s → Begins IsHeaded (tokens.Word (codes "PPC") ∷ tokens.Word w ∷ tokens_of ps)
+      by_word : (w : List ℕ) (n : ℕ) (b : Bool) → is_test_name w ≡ b → and_then (with_offset n (stepped (in_head [] g text.Title) (tokens.Word w) (if b then text.at (early w init.start table.start []) text.TitleEnd else None))) (λ x. run x ps) ≡ Ok s → Begins IsHeaded (tokens.Word (codes "PPC") ∷ tokens.Word w ∷ tokens_of ps)
       by_word w n true i k = line_end w i ps (after g (tokens.Word w)) s (let h : length ps < 18446744073709551616 = omega (arith, few) in h) k q
       by_word w n false i k = absurd cc
 
@@ -118,11 +116,11 @@ module _ (X : List Token → Type 0) (Q : State → Type 0) (any : Begins X [])
       by_token (tokens.Word w) n k = by_word w n (is_test_name w) refl k
       by_token t n k = absurd cc
 
-  pub magic : (ps : List Placed) (g : Stage) (s : State) → length ps < 18446744073709551616 → run (in_head [] g text.Magic) ps ≡ Ok s → Q s → Begins IsHeaded (tokens_of ps)
+  pub magic : (ps : List TokenAt) (g : Stage) (s : State) → length ps < 18446744073709551616 → run (in_head [] g text.Magic) ps ≡ Ok s → Q s → Begins IsHeaded (tokens_of ps)
   magic [] g s few e q = let r = any_lines in record { rest = tokens.Word (codes "PPC") ∷ tokens.Word (65 ∷ []) ∷ tokens.LineEnd ∷ r.rest; text = record { name = 65 ∷ []; is_name = refl; lines = r.rest; head = r.text; whole = refl } }
   magic (p ∷ ps) g s few e q = by_token p.token p.offset e
     where
-      by_word : (w : List ℕ) (n : ℕ) (b : Bool) → bytes_eq w (codes "PPC") ≡ b → and_then (placed n (stepped (in_head [] g text.Magic) (tokens.Word w) (text.next_at (early [] init.start table.start []) (if b then Some text.Title else None)))) (λ x. run x ps) ≡ Ok s → Begins IsHeaded (tokens.Word w ∷ tokens_of ps)
+      by_word : (w : List ℕ) (n : ℕ) (b : Bool) → bytes_eq w (codes "PPC") ≡ b → and_then (with_offset n (stepped (in_head [] g text.Magic) (tokens.Word w) (text.next_at (early [] init.start table.start []) (if b then Some text.Title else None)))) (λ x. run x ps) ≡ Ok s → Begins IsHeaded (tokens.Word w ∷ tokens_of ps)
       by_word w n true i k =
           let same : codes "PPC" ≡ w = sym ((bytes_eq-Decides w (codes "PPC")).0 i) in
           subst (λ (v : List ℕ). Begins IsHeaded (tokens.Word v ∷ tokens_of ps)) same (title ps (after g (tokens.Word w)) s (let h : length ps < 18446744073709551616 = omega (arith, few) in h) k q)
@@ -134,9 +132,9 @@ module _ (X : List Token → Type 0) (Q : State → Type 0) (any : Begins X [])
 
 -- ---- each head is taken
 
-record TakesLines (name : List ℕ) (b : Bool) (t : Bool) (k : ℕ) (ps : List Placed) (behind : List Token) (g : Stage) : Type 0 where
-  before : List Placed
-  left : List Placed
+record TakesLines (name : List ℕ) (b : Bool) (t : Bool) (k : ℕ) (ps : List TokenAt) (behind : List Token) (g : Stage) : Type 0 where
+  before : List TokenAt
+  left : List TokenAt
   stage : Stage
   may : Bool
   whole : ps ≡ before ++ left
@@ -144,7 +142,7 @@ record TakesLines (name : List ℕ) (b : Bool) (t : Bool) (k : ℕ) (ps : List P
   are_left : tokens_of left ≡ behind
   by : run (in_head name g (text.Head b)) before ≡ Ok (in_head name stage (text.Head may))
 
-keys_led : (name : List ℕ) (k : ℕ) (b : Bool) (ps : List Placed) (behind : List Token) (g : Stage) → tokens_of ps ≡ spelled_keylines k behind → TakesLines name b false k ps behind g
+keys_led : (name : List ℕ) (k : ℕ) (b : Bool) (ps : List TokenAt) (behind : List Token) (g : Stage) → tokens_of ps ≡ spelled_keylines k behind → TakesLines name b false k ps behind g
 keys_led name zero b ps behind g e = record { before = []; left = ps; stage = g; may = b; whole = refl; are_before = refl; are_left = e; by = refl }
 keys_led name (suc k) b [] behind g e = absurd cc
 keys_led name (suc k) b (p ∷ ps) behind g e =
@@ -157,13 +155,13 @@ keys_led name (suc k) b (p ∷ ps) behind g e =
       left = r.left;
       stage = r.stage;
       may = r.may;
-      whole = ap (λ (l : List Placed). p ∷ l) r.whole;
+      whole = ap (λ (l : List TokenAt). p ∷ l) r.whole;
       are_before = ap (λ (x : Token). x ∷ tokens_of r.before) t ∙ ap (λ (l : List Token). tokens.Keyline ∷ l) r.are_before;
       are_left = r.are_left;
       by = ap (λ (x : Token). run (in_head name g (text.Head b)) (record { token = x; offset = p.offset } ∷ r.before)) t ∙ r.by;
     }
 
-lines_led : (name : List ℕ) (t : Bool) (k : ℕ) (ps : List Placed) (behind : List Token) (g : Stage) → tokens_of ps ≡ spelled_text t (spelled_keylines k behind) → TakesLines name true t k ps behind g
+lines_led : (name : List ℕ) (t : Bool) (k : ℕ) (ps : List TokenAt) (behind : List Token) (g : Stage) → tokens_of ps ≡ spelled_text t (spelled_keylines k behind) → TakesLines name true t k ps behind g
 lines_led name false k ps behind g e = keys_led name k true ps behind g e
 lines_led name true k [] behind g e = absurd cc
 lines_led name true k (p ∷ ps) behind g e =
@@ -176,16 +174,16 @@ lines_led name true k (p ∷ ps) behind g e =
       left = r.left;
       stage = r.stage;
       may = r.may;
-      whole = ap (λ (l : List Placed). p ∷ l) r.whole;
+      whole = ap (λ (l : List TokenAt). p ∷ l) r.whole;
       are_before = ap (λ (x : Token). x ∷ tokens_of r.before) t ∙ ap (λ (l : List Token). tokens.Text ∷ l) r.are_before;
       are_left = r.are_left;
       by = ap (λ (x : Token). run (in_head name g (text.Head true)) (record { token = x; offset = p.offset } ∷ r.before)) t ∙ r.by;
     }
 
 -- the head was read, and this is left
-pub record TakesHead (name : List ℕ) (t : Bool) (k : ℕ) (ps : List Placed) (behind : List Token) : Type 0 where
-  pub before : List Placed
-  pub left : List Placed
+pub record TakesHead (name : List ℕ) (t : Bool) (k : ℕ) (ps : List TokenAt) (behind : List Token) : Type 0 where
+  pub before : List TokenAt
+  pub left : List TokenAt
   pub stage : Stage
   pub may : Bool
   pub whole : ps ≡ before ++ left
@@ -193,7 +191,7 @@ pub record TakesHead (name : List ℕ) (t : Bool) (k : ℕ) (ps : List Placed) (
   pub are_left : tokens_of left ≡ behind
   pub by : run (start kinds.Test 0) before ≡ Ok (in_head name stage (text.Head may))
 
-pub head_led : (name : List ℕ) (t : Bool) (k : ℕ) (ps : List Placed) (behind : List Token) → is_test_name name ≡ true → tokens_of ps ≡ tokens.Word (codes "PPC") ∷ tokens.Word name ∷ tokens.LineEnd ∷ spelled_text t (spelled_keylines k behind) → TakesHead name t k ps behind
+pub head_led : (name : List ℕ) (t : Bool) (k : ℕ) (ps : List TokenAt) (behind : List Token) → is_test_name name ≡ true → tokens_of ps ≡ tokens.Word (codes "PPC") ∷ tokens.Word name ∷ tokens.LineEnd ∷ spelled_text t (spelled_keylines k behind) → TakesHead name t k ps behind
 head_led name t k [] behind i e = absurd cc
 head_led name t k (a ∷ []) behind i e = absurd cc
 head_led name t k (a ∷ b ∷ []) behind i e = absurd cc
@@ -208,7 +206,7 @@ head_led name t k (a ∷ b ∷ c ∷ ps) behind i e =
       left = r.left;
       stage = r.stage;
       may = r.may;
-      whole = ap (λ (l : List Placed). a ∷ b ∷ c ∷ l) r.whole;
+      whole = ap (λ (l : List TokenAt). a ∷ b ∷ c ∷ l) r.whole;
       are_before =
           ap (λ (x : Token). x ∷ b.token ∷ c.token ∷ tokens_of r.before) ta ∙ ap (λ (x : Token). tokens.Word (codes "PPC") ∷ x ∷ c.token ∷ tokens_of r.before) tb
           ∙ ap (λ (x : Token). tokens.Word (codes "PPC") ∷ tokens.Word name ∷ x ∷ tokens_of r.before) tc ∙ ap (λ (l : List Token). tokens.Word (codes "PPC") ∷ tokens.Word name ∷ tokens.LineEnd ∷ l) r.are_before;
@@ -216,14 +214,14 @@ head_led name t k (a ∷ b ∷ c ∷ ps) behind i e =
       by =
           ap (λ (x : Token). run (start kinds.Test 0) (record { token = x; offset = a.offset } ∷ b ∷ c ∷ r.before)) ta
           ∙ ap (λ (x : Token). run (in_head [] stages.Title text.Title) (record { token = x; offset = b.offset } ∷ c ∷ r.before)) tb
-          ∙ ap (λ (y : Bool). and_then (placed b.offset (stepped (in_head [] stages.Title text.Title) (tokens.Word name) (if y then text.at (early name init.start table.start []) text.TitleEnd else None))) (λ x. run x (c ∷ r.before))) i
+          ∙ ap (λ (y : Bool). and_then (with_offset b.offset (stepped (in_head [] stages.Title text.Title) (tokens.Word name) (if y then text.at (early name init.start table.start []) text.TitleEnd else None))) (λ x. run x (c ∷ r.before))) i
           ∙ ap (λ (x : Token). run (in_head name stages.TitleEnd text.TitleEnd) (record { token = x; offset = c.offset } ∷ r.before)) tc
           ∙ r.by;
     }
 
 -- ---- whole tests are taken
 
-pub record TakesTest (ps : List Placed) (t : TestTree) : Type 0 where
+pub record TakesTest (ps : List TokenAt) (t : TestTree) : Type 0 where
   pub stage : Stage
   pub block : init.Block
   pub reached : table.State
@@ -258,21 +256,21 @@ module _ (t : TestTree) (fine : IsTest limits t) (few : t.others + 1 < 184467440
     whole = refl;
   }
 
-  body_taken : (ps : List Placed) (h : TakesHead t.name t.text t.keylines ps (spelled_init t.init (spelled_header t.others behind_header))) (before behind : List Placed) → h.left ≡ before ++ behind → tokens_of before ≡ spelled_init t.init [] → tokens_of behind ≡ spelled_header t.others behind_header → TakesTest ps t
+  body_taken : (ps : List TokenAt) (h : TakesHead t.name t.text t.keylines ps (spelled_init t.init (spelled_header t.others behind_header))) (before behind : List TokenAt) → h.left ≡ before ++ behind → tokens_of before ≡ spelled_init t.init [] → tokens_of behind ≡ spelled_header t.others behind_header → TakesTest ps t
   body_taken ps h [] behind l e k = absurd cc
   body_taken ps h (p ∷ q) [] l e k = absurd cc
   body_taken ps h (p ∷ q) (w ∷ b) l e k =
       let n = p.offset in
       let brace : p.token ≡ tokens.Mark marks.OpenBrace = cc in
       let is_brace : p ≡ brace_at n = ap (λ (x : Token). record { token = x; offset = p.offset }) brace in
-      let e' : tokens_of (brace_at n ∷ q) ≡ spelled_init t.init [] = ap (λ (x : Placed). tokens_of (x ∷ q)) (sym is_brace) ∙ e in
+      let e' : tokens_of (brace_at n ∷ q) ≡ spelled_init t.init [] = ap (λ (x : TokenAt). tokens_of (x ∷ q)) (sym is_brace) ∙ e in
       let first : w.token ≡ tokens.Word (column_name 0) = cc in
       let others : tokens_of b ≡ spelled_names 1 t.others behind_header = cc in
-      let left : h.left ≡ brace_at n ∷ (q ++ w ∷ b) = l ∙ ap (λ (x : Placed). x ∷ (q ++ w ∷ b)) is_brace in
+      let left : h.left ≡ brace_at n ∷ (q ++ w ∷ b) = l ∙ ap (λ (x : TokenAt). x ∷ (q ++ w ∷ b)) is_brace in
       let whole : tokens_of (brace_at n ∷ (q ++ w ∷ b)) ≡ spelled_init t.init (spelled_header t.others behind_header) = ap tokens_of (sym left) ∙ h.are_left in
       let g = after h.stage (tokens.Mark marks.OpenBrace) in
       let r = body_led t.name h.before q b w n t.init t.others behind_header rows g few fine.init e' first others whole fine.init in
-      let all : h.before ++ brace_at n ∷ (q ++ w ∷ b) ≡ ps = ap (λ (x : List Placed). h.before ++ x) (sym left) ∙ sym h.whole in
+      let all : h.before ++ brace_at n ∷ (q ++ w ∷ b) ≡ ps = ap (λ (x : List TokenAt). h.before ++ x) (sym left) ∙ sym h.whole in
       record {
         stage = r.stage;
         block = r.block;
@@ -283,15 +281,15 @@ module _ (t : TestTree) (fine : IsTest limits t) (few : t.others + 1 < 184467440
             ∙ r.by;
         entries = r.entries;
         stand =
-            subst (λ (y : List Placed). AreStarts y (before_entries t) (members t.init) r.block.starts) all
+            subst (λ (y : List TokenAt). AreStarts y (before_entries t) (members t.init) r.block.starts) all
             (subst (λ (y : List Token). AreStarts (h.before ++ brace_at n ∷ (q ++ w ∷ b)) y (members t.init) r.block.starts) (ap (λ (y : List Token). y ++ tokens.Mark marks.OpenBrace ∷ []) h.are_before ∙ head-append t (tokens.Mark marks.OpenBrace ∷ [])) r.stand);
         meant = r.meant;
         noted =
-            subst (λ (y : List Placed). AreNoted y (columns_notes 0 (t.others + 1) (before_rows t) t.rows) r.reached.threads) all
+            subst (λ (y : List TokenAt). AreNoted y (columns_notes 0 (t.others + 1) (before_rows t) t.rows) r.reached.threads) all
             (subst (λ (y : List Token). AreNoted (h.before ++ brace_at n ∷ (q ++ w ∷ b)) (columns_notes 0 (t.others + 1) y t.rows) r.reached.threads) (ap (λ (y : List Token). y ++ spelled_init t.init (spelled_header t.others [])) h.are_before ∙ head-append t (spelled_init t.init (spelled_header t.others []))) r.noted);
       }
 
-  pub test_led : (ps : List Placed) → tokens_of ps ≡ spelled_test t → TakesTest ps t
+  pub test_led : (ps : List TokenAt) → tokens_of ps ≡ spelled_test t → TakesTest ps t
   test_led ps e =
       let body = spelled_init t.init (spelled_header t.others behind_header) in
       let h = head_led t.name t.text t.keylines ps body fine.name e in
@@ -303,7 +301,7 @@ module _ (t : TestTree) (fine : IsTest limits t) (few : t.others + 1 < 184467440
 abbrev pub IsEnded : State → Type 0
 IsEnded s = s.part ≡ text.Done
 
-pub body_from : (name : List ℕ) (ps : List Placed) (n : ℕ) (g : Stage) (s : State) → length ps + 1 < 18446744073709551616 → run (block_at name g) ps ≡ Ok s → IsEnded s → Begins IsBody (tokens_of (brace_at n ∷ ps))
+pub body_from : (name : List ℕ) (ps : List TokenAt) (n : ℕ) (g : Stage) (s : State) → length ps + 1 < 18446744073709551616 → run (block_at name g) ps ≡ Ok s → IsEnded s → Begins IsBody (tokens_of (brace_at n ∷ ps))
 body_from name ps n g s few e d = by_opened (block_begins name ps n g s few e)
   where
     by_opened : Opened name ps n s → Begins IsBody (tokens_of (brace_at n ∷ ps))
@@ -345,7 +343,7 @@ nothing_more : (ts : List Token) → anywhere ts ≡ [] → ts ≡ []
 nothing_more [] e = refl
 nothing_more (t ∷ ts) e = absurd cc
 
-pub test_whole : (ps : List Placed) (s : State) → length ps < 18446744073709551616 → run (start kinds.Test 0) ps ≡ Ok s → s.part ≡ text.Done → IsFewTest (tokens_of ps)
+pub test_whole : (ps : List TokenAt) (s : State) → length ps < 18446744073709551616 → run (start kinds.Test 0) ps ≡ Ok s → s.part ≡ text.Done → IsFewTest (tokens_of ps)
 test_whole ps s few e d =
     let b = magic IsBody IsEnded any_body body_from ps stages.Magic s few e d in
     let x = test_of (tokens_of ps ++ b.rest) b.text in
@@ -359,7 +357,7 @@ test_whole ps s few e d =
 
 -- ---- no more columns than tokens
 
-pub length-tokens : (ps : List Placed) → length (tokens_of ps) ≡ length ps
+pub length-tokens : (ps : List TokenAt) → length (tokens_of ps) ≡ length ps
 length-tokens [] = refl
 length-tokens (p ∷ ps) = let e = length-tokens ps in omega arith
 
@@ -367,7 +365,7 @@ pub names_count : (k n : ℕ) (ts : List Token) → n ≤ length (spelled_names 
 names_count k zero ts = omega arith
 names_count k (suc n) ts = let h = names_count (k + 1) n ts in omega (arith, h)
 
-pub few_of : (t : TestTree) (ps : List Placed) → tokens_of ps ≡ spelled_test t → length ps < 18446744073709551616 → t.others + 1 < 18446744073709551616
+pub few_of : (t : TestTree) (ps : List TokenAt) → tokens_of ps ≡ spelled_test t → length ps < 18446744073709551616 → t.others + 1 < 18446744073709551616
 few_of t ps e few =
     let rows = spelled_rows t.rows (spelled_observed t.observed (spelled_condition t.quantifier t.condition)) in
     let header = spelled_header t.others rows in

@@ -13,6 +13,7 @@ use Rattle.litmus_conditions.specs.declared.place.WrittenPlace.{WrittenPlace}
 use Rattle.litmus_conditions.specs.declared.place.WrittenPlace.TheVariants as written
 use Rattle.litmus_grammar.specs.Grammar.{Lacks}
 use Rattle.litmus_grammar.specs.InitMachine.{Block, location_key, register_key, has_key, with_key, added}
+use Rattle.std.proofs.lemmas.Bool.{false_from_ne_true, or_from}
 
 abbrev pub key_of : WrittenPlace → List ℕ
 key_of (written.Location n) = location_key n
@@ -72,13 +73,6 @@ right_false : (a b : Bool) → (a || b) ≡ false → b ≡ false
 right_false true b e = absurd cc
 right_false false b e = e
 
-not_true : (b : Bool) → (b ≡ true → ⊥) → b ≡ false
-not_true true h = absurd (h refl)
-not_true false h = refl
-
-both_false : (a b : Bool) → a ≡ false → b ≡ false → (a || b) ≡ false
-both_false a b e f = ap (λ (x : Bool). x || b) e ∙ f
-
 pub keeps_more : (ks : List (List ℕ)) (ws : List WrittenPlace) (w : WrittenPlace) → Keeps ks ws → Keeps (with_keys ks (key_of w)) (w ∷ ws)
 keeps_more ks ws w keeps v = (lacks, has_none)
   where
@@ -92,8 +86,8 @@ keeps_more ks ws w keeps v = (lacks, has_none)
 
     has_none : (w ≡ v → ⊥) × Lacks ws v → has_key (with_keys ks (key_of w)) (key_of v) ≡ false
     has_none l =
-        sym split ∙ both_false (bytes_eq (key_of v) (key_of w)) (has_key ks (key_of v))
-        (not_true (bytes_eq (key_of v) (key_of w)) (λ e. l.0 (sym (same_place v w ((bytes_eq-Decides (key_of v) (key_of w)).0 e)))))
+        sym split ∙ or_from (bytes_eq (key_of v) (key_of w)) (has_key ks (key_of v))
+        (false_from_ne_true (bytes_eq (key_of v) (key_of w)) (λ e. l.0 (sym (same_place v w ((bytes_eq-Decides (key_of v) (key_of w)).0 e)))))
         ((keeps v).1 l.1)
 
 -- a place that was not named is taken

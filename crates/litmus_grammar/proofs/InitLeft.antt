@@ -6,7 +6,7 @@ use Rattle.litmus_tokens.specs.declared.token.Token.{Token}
 use Rattle.litmus_tokens.specs.declared.token.Token.TheVariants as tokens
 use Rattle.litmus_tokens.specs.declared.token.Mark.TheVariants as marks
 use Rattle.litmus_tokens.specs.Stage.{after}
-use Rattle.litmus_tokens.specs.Texts.{Placed, tokens_of}
+use Rattle.litmus_tokens.specs.Texts.{TokenAt, tokens_of}
 use Rattle.litmus_tokens.specs.Words.{signed, decimal, is_int, register_of, is_register, is_known, or_zero}
 use Rattle.litmus_values.specs.declared.test.Place.{Place}
 use Rattle.litmus_values.specs.declared.test.Value.TheVariants as values
@@ -24,13 +24,13 @@ use Rattle.litmus_grammar.specs.Grammar.{EntryTree, spelled_entry, spelled_other
 use Rattle.litmus_grammar.specs.InitMachine as init
 use Rattle.litmus_grammar.specs.InitMachine.{Block, Did, has_key, with_key, with_start, with_entry, place_result, and_place, valued}
 use Rattle.litmus_grammar.specs.TextMachine as text
-use Rattle.litmus_grammar.specs.TextMachine.{Part, Draft, State, Ran, placed, and_then, stepped, with_init, nothing, start, run, init_result}
+use Rattle.litmus_grammar.specs.TextMachine.{Part, Draft, State, Ran, with_offset, and_then, stepped, with_init, nothing, start, run, init_result}
 use Rattle.litmus_grammar.proofs.InitKeys.{key_of, Keeps, keeps_none, keeps_more}
 
 abbrev pub closing : List Token
 closing = tokens.Mark marks.CloseBrace ∷ tokens.End ∷ []
 
-abbrev is_done : Part → Bool
+abbrev pub is_done : Part → Bool
 is_done text.Done = true
 is_done p = false
 
@@ -44,7 +44,7 @@ draft b = with_init (nothing kinds.Init) b
 abbrev pub standing : ℕ → Stage → Part → Block → State
 standing threads g p b = record { kind = kinds.Init; threads = threads; stage = g; part = p; draft = draft b }
 
-more : (t : Token) (ts us : List Token) → ts ≡ us → t ∷ ts ≡ t ∷ us
+pub more : (t : Token) (ts us : List Token) → ts ≡ us → t ∷ ts ≡ t ∷ us
 more t ts us e = ap (λ (xs : List Token). t ∷ xs) e
 
 -- ---- what is left to be read, in the grammar's terms, where these places were named
@@ -148,11 +148,11 @@ after_semicolon before ts (Closes e) = record { others = []; closed = true; fine
 after_semicolon before ts (Another f) = record { others = f.first ∷ f.others; closed = f.closed; fine = f.fine; whole = more (tokens.Mark marks.Semicolon) ts _ f.whole }
 
 module _ (threads : ℕ) where
-  only_end : (ps : List Placed) (g : Stage) (b : Block) (s : State) → run (standing threads g text.Done b) ps ≡ Ok s → tokens_of ps ≡ []
+  only_end : (ps : List TokenAt) (g : Stage) (b : Block) (s : State) → run (standing threads g text.Done b) ps ≡ Ok s → tokens_of ps ≡ []
   only_end [] g b s e = refl
   only_end (p ∷ ps) g b s e = absurd cc
 
-  end_left : (ps : List Placed) (g : Stage) (b : Block) (s : State) → run (standing threads g text.WantsEnd b) ps ≡ Ok s → s.part ≡ text.Done → tokens_of ps ≡ tokens.End ∷ []
+  end_left : (ps : List TokenAt) (g : Stage) (b : Block) (s : State) → run (standing threads g text.WantsEnd b) ps ≡ Ok s → s.part ≡ text.Done → tokens_of ps ≡ tokens.End ∷ []
   end_left [] g b s e d = absurd (let no_end : false ≡ true = ap done_in e ∙ ap is_done d in cc)
   end_left (p ∷ ps) g b s e d = by_token p.token p.offset e
     where
@@ -161,9 +161,9 @@ module _ (threads : ℕ) where
       by_token t n k = absurd cc
 
   -- with what is left behind the token
-  module _ (ps : List Placed) (s : State) (d : s.part ≡ text.Done) (again : (expected : InitExpectation) (g : Stage) (b : Block) (before : List WrittenPlace) → Keeps b.named before → run (standing threads g (text.Init expected) b) ps ≡ Ok s → Left before expected (tokens_of ps)) where
+  module _ (ps : List TokenAt) (s : State) (d : s.part ≡ text.Done) (again : (expected : InitExpectation) (g : Stage) (b : Block) (before : List WrittenPlace) → Keeps b.named before → run (standing threads g (text.Init expected) b) ps ≡ Ok s → Left before expected (tokens_of ps)) where
     abbrev went_on : Stage → InitExpectation → Block → Token → ℕ → Option Did → Ran
-    went_on g expected b t n o = and_then (placed n (stepped (standing threads g (text.Init expected) b) t (init_result kinds.Init (draft b) o))) (λ x. run x ps)
+    went_on g expected b t n o = and_then (with_offset n (stepped (standing threads g (text.Init expected) b) t (init_result kinds.Init (draft b) o))) (λ x. run x ps)
 
     -- a place that is named here was not named before
     once : (g : Stage) (expected : InitExpectation) (c b : Block) (t : Token) (n : ℕ) (k : List ℕ) (o : Option PlaceStep) (x : Bool) → has_key b.named k ≡ x → went_on g expected c t n (and_place (if x then None else Some (with_key b k)) o) ≡ Ok s → (has_key b.named k ≡ false) × (went_on g expected c t n (place_result (with_key b k) o) ≡ Ok s)
@@ -261,7 +261,7 @@ module _ (threads : ℕ) where
     by_expectation (expectations.WantsValue p) g b before t n keeps h = value_left g p b before t n keeps h
     by_expectation expectations.HasEntry g b before t n keeps h = behind_left g b before t n keeps h
 
-  left : (ps : List Placed) (expected : InitExpectation) (g : Stage) (b : Block) (before : List WrittenPlace) (s : State) → Keeps b.named before → run (standing threads g (text.Init expected) b) ps ≡ Ok s → s.part ≡ text.Done → Left before expected (tokens_of ps)
+  left : (ps : List TokenAt) (expected : InitExpectation) (g : Stage) (b : Block) (before : List WrittenPlace) (s : State) → Keeps b.named before → run (standing threads g (text.Init expected) b) ps ≡ Ok s → s.part ≡ text.Done → Left before expected (tokens_of ps)
   left [] expected g b before s keeps e d = absurd (let no_end : false ≡ true = ap done_in e ∙ ap is_done d in cc)
   left (p ∷ ps) expected g b before s keeps e d = by_expectation ps s d (λ o f c more_places k i. left ps o f c more_places s k i d) expected g b before p.token p.offset keeps e
 
@@ -270,7 +270,7 @@ module _ (threads : ℕ) where
   to_text ts us e (Another f) =
       record { entries = Some (record { first = f.first; others = f.others; closed = f.closed }); fine = f.fine; whole = e ∙ more (tokens.Mark marks.OpenBrace) us _ f.whole }
 
-  pub init_whole : (ps : List Placed) (s : State) → run (start kinds.Init threads) ps ≡ Ok s → s.part ≡ text.Done → IsInitText (tokens_of ps)
+  pub init_whole : (ps : List TokenAt) (s : State) → run (start kinds.Init threads) ps ≡ Ok s → s.part ≡ text.Done → IsInitText (tokens_of ps)
   init_whole ps s e d =
       let l = left ps expectations.WantsOpen (text.first_stage kinds.Init) init.start [] s keeps_none e d in
       to_text (tokens_of ps) l.rest l.whole l.entries

@@ -9,7 +9,7 @@ use Rattle.litmus_tokens.specs.declared.token.Token.TheVariants as tokens
 use Rattle.litmus_tokens.specs.declared.token.Mark.TheVariants as marks
 use Rattle.litmus_tokens.specs.Faults.{Begins, CanFollow, ruling, Says}
 use Rattle.litmus_tokens.specs.Stage.{after}
-use Rattle.litmus_tokens.specs.Texts.{Placed, tokens_of, stage_after}
+use Rattle.litmus_tokens.specs.Texts.{TokenAt, tokens_of, stage_after}
 use Rattle.litmus_tokens.specs.Words.{signed, decimal, is_int, register_of}
 use Rattle.litmus_values.specs.declared.test.Place.{Place}
 use Rattle.litmus_values.specs.declared.test.Value.TheVariants as values
@@ -29,17 +29,17 @@ use Rattle.litmus_grammar.specs.InitMachine as init
 use Rattle.litmus_grammar.specs.InitMachine.{Block, has_key, with_key, with_start, with_entry, place_result, and_place, valued}
 use Rattle.litmus_grammar.specs.Texts.{spelled_colon, is_init, IsBrokenOff, IsStart, IsWhole, BreaksOff}
 use Rattle.litmus_grammar.specs.TextMachine as text
-use Rattle.litmus_grammar.specs.TextMachine.{Part, Draft, Next, State, Ran, placed, and_then, stepped, part_step, start, run, rule_at, init_result}
+use Rattle.litmus_grammar.specs.TextMachine.{Part, Draft, Next, State, Ran, with_offset, and_then, stepped, part_step, start, run, rule_at, init_result}
 use Rattle.litmus_grammar.proofs.InitKeys.{key_of, Keeps, keeps_none, keeps_more, added_new, fresh, lacks_fresh}
 use Rattle.litmus_grammar.proofs.InitLeft.{closing, draft, standing, init_whole}
-use Rattle.litmus_grammar.proofs.InitTaken.{init_taken}
+use Rattle.litmus_grammar.proofs.InitAcceptance.{init_taken}
 use Rattle.litmus_grammar.proofs.Outcomes.{Reading}
 use Rattle.litmus_grammar.proofs.Runs.{anywhere, tokens_of-append, tokens_of-anywhere, run-split, run-append, run_one, follows}
 
 abbrev first_stage : Stage
 first_stage = text.first_stage kinds.Init
 
-abbrev bracket : Token
+abbrev pub bracket : Token
 bracket = tokens.Mark marks.OpenBracket
 
 -- ---- where the machine stands behind the tokens so far
@@ -101,11 +101,11 @@ module _ (threads : ℕ) where
       record {
         rest = tokens.Word name ∷ behind_name;
         state = _;
-        by = ap (λ (o : Option Block). and_then (placed 0 (stepped (standing threads g (text.Init (expectations.InPlace places.WantsName)) b) (tokens.Word name) (init_result kinds.Init (draft b) (and_place o (place_step places.WantsName (tokens.Word name)))))) (λ x. run x (anywhere behind_name))) (added_new b key new);
+        by = ap (λ (o : Option Block). and_then (with_offset 0 (stepped (standing threads g (text.Init (expectations.InPlace places.WantsName)) b) (tokens.Word name) (init_result kinds.Init (draft b) (and_place o (place_step places.WantsName (tokens.Word name)))))) (λ x. run x (anywhere behind_name))) (added_new b key new);
         done = refl;
       }
 
-  can_begin : (before : List Placed) (g : Stage) (b : Block) (ws : List WrittenPlace) → Keeps b.named ws → run (start kinds.Init threads) before ≡ Ok (standing threads g (text.Init expectations.WantsEntry) b) → CanFollow IsInitText (tokens_of before) bracket
+  can_begin : (before : List TokenAt) (g : Stage) (b : Block) (ws : List WrittenPlace) → Keeps b.named ws → run (start kinds.Init threads) before ≡ Ok (standing threads g (text.Init expectations.WantsEntry) b) → CanFollow IsInitText (tokens_of before) bracket
   can_begin before g b ws keeps reached =
       let e = name_ended (after g bracket) (with_start b 0) ws keeps in
       let us = bracket ∷ e.rest in
@@ -116,7 +116,7 @@ module _ (threads : ℕ) where
 
   -- ---- each token keeps what is known
 
-  module _ (before : List Placed) (g : Stage) (b : Block) (ws : List WrittenPlace) (keeps : Keeps b.named ws) where
+  module _ (before : List TokenAt) (g : Stage) (b : Block) (ws : List WrittenPlace) (keeps : Keeps b.named ws) where
     abbrev so_far : Token → List Token
     so_far t = tokens_of before ++ t ∷ []
 
@@ -199,15 +199,15 @@ module _ (threads : ℕ) where
     is : s ≡ standing threads stage part block
     known : Known ts part block
 
-  walk : (before rest : List Placed) (g : Stage) (p : Part) (b : Block) (s : State) → run (start kinds.Init threads) before ≡ Ok (standing threads g p b) → Known (tokens_of before) p b → run (standing threads g p b) rest ≡ Ok s → Reached (tokens_of (before ++ rest)) s
+  walk : (before rest : List TokenAt) (g : Stage) (p : Part) (b : Block) (s : State) → run (start kinds.Init threads) before ≡ Ok (standing threads g p b) → Known (tokens_of before) p b → run (standing threads g p b) rest ≡ Ok s → Reached (tokens_of (before ++ rest)) s
   walk before [] g p b s reached k e =
       let same : s ≡ standing threads g p b = cc in
-      record { stage = g; part = p; block = b; is = same; known = subst (λ (ps : List Placed). Known (tokens_of ps) p b) (sym (append-nil before)) k }
+      record { stage = g; part = p; block = b; is = same; known = subst (λ (ps : List TokenAt). Known (tokens_of ps) p b) (sym (append-nil before)) k }
   walk before (q ∷ rest) g p b s reached k e =
       by_next (part_step kinds.Init threads (draft b) p q.token q.offset) refl (step_known before g b k.named k.keeps p q.token q.offset k.open_so reached) e
       (λ c r h i j. rw (← append_assoc before (q ∷ []) rest) (walk (before ++ q ∷ []) rest (after g q.token) r c s h i j))
     where
-      by_next : (o : Option Next) → part_step kinds.Init threads (draft b) p q.token q.offset ≡ o → NextKnown (tokens_of before ++ q.token ∷ []) o → and_then (placed q.offset (stepped (standing threads g p b) q.token o)) (λ x. run x rest) ≡ Ok s
+      by_next : (o : Option Next) → part_step kinds.Init threads (draft b) p q.token q.offset ≡ o → NextKnown (tokens_of before ++ q.token ∷ []) o → and_then (with_offset q.offset (stepped (standing threads g p b) q.token o)) (λ x. run x rest) ≡ Ok s
           → ((c : Block) (r : Part) → run (start kinds.Init threads) (before ++ q ∷ []) ≡ Ok (standing threads (after g q.token) r c) → Known (tokens_of (before ++ q ∷ [])) r c → run (standing threads (after g q.token) r c) rest ≡ Ok s → Reached (tokens_of (before ++ q ∷ rest)) s)
           → Reached (tokens_of (before ++ q ∷ rest)) s
       by_next (Some n) step known h later =
@@ -218,7 +218,7 @@ module _ (threads : ℕ) where
           (ap (λ (x : Draft). run (at_draft x) rest) (sym known.1) ∙ h)
       by_next None step known h later = absurd cc
 
-  reach : (ps : List Placed) (s : State) → run (start kinds.Init threads) ps ≡ Ok s → Reached (tokens_of ps) s
+  reach : (ps : List TokenAt) (s : State) → run (start kinds.Init threads) ps ≡ Ok s → Reached (tokens_of ps) s
   reach ps s e = walk [] ps first_stage (text.Init expectations.WantsOpen) init.start s refl (record { named = []; keeps = keeps_none; open_so = tt }) e
 
   -- ---- what is taken begins a text, or breaks one off
@@ -245,35 +245,35 @@ module _ (threads : ℕ) where
   ends ts g text.Done b k = Ends (record { rest = []; state = _; by = refl; done = refl })
   ends ts g p b k = absurd k.open_so
 
-  begins_by : (ps : List Placed) (s : State) → run (start kinds.Init threads) ps ≡ Ok s → CanEnd (tokens_of ps) s → Begins (IsStart IsInitText first_stage) (tokens_of ps)
+  begins_by : (ps : List TokenAt) (s : State) → run (start kinds.Init threads) ps ≡ Ok s → CanEnd (tokens_of ps) s → Begins (IsStart IsInitText first_stage) (tokens_of ps)
   begins_by ps s e (Ends x) =
       let same : tokens_of (ps ++ anywhere x.rest) ≡ tokens_of ps ++ x.rest = tokens_of-append ps (anywhere x.rest) ∙ ap (λ (ts : List Token). tokens_of ps ++ ts) (tokens_of-anywhere x.rest) in
       record { rest = x.rest; text = IsWhole (subst IsInitText same (init_whole threads (ps ++ anywhere x.rest) x.state (run-append (start kinds.Init threads) s ps (anywhere x.rest) e ∙ x.by) x.done)) }
   begins_by ps s e (Breaks x) = record { rest = []; text = BreaksOff (subst (IsBrokenOff IsInitText first_stage) (sym (append-nil (tokens_of ps))) x) }
 
-  init_begins : (ps : List Placed) (s : State) → run (start kinds.Init threads) ps ≡ Ok s → Begins (IsStart IsInitText first_stage) (tokens_of ps)
+  init_begins : (ps : List TokenAt) (s : State) → run (start kinds.Init threads) ps ≡ Ok s → Begins (IsStart IsInitText first_stage) (tokens_of ps)
   init_begins ps s e =
       let r = reach ps s e in
       begins_by ps s e (subst (CanEnd (tokens_of ps)) (sym r.is) (ends (tokens_of ps) r.stage r.part r.block r.known))
 
   -- ---- each is taken
 
-  record Split (ps : List Placed) (us vs : List Token) : Type 0 where
-    front : List Placed
-    back : List Placed
+  record Split (ps : List TokenAt) (us vs : List Token) : Type 0 where
+    front : List TokenAt
+    back : List TokenAt
     split : ps ≡ front ++ back
     front_is : tokens_of front ≡ us
     back_is : tokens_of back ≡ vs
 
-  split_at : (ps : List Placed) (us vs : List Token) → tokens_of ps ≡ us ++ vs → Split ps us vs
+  split_at : (ps : List TokenAt) (us vs : List Token) → tokens_of ps ≡ us ++ vs → Split ps us vs
   split_at ps [] vs e = record { front = []; back = ps; split = refl; front_is = refl; back_is = e }
   split_at [] (u ∷ us) vs e = absurd cc
   split_at (p ∷ ps) (u ∷ us) vs e =
       let same : p.token ≡ u = cc in
       let s = split_at ps us vs cc in
-      record { front = p ∷ s.front; back = s.back; split = ap (λ (x : List Placed). p ∷ x) s.split; front_is = ap (λ (x : Token). x ∷ tokens_of s.front) same ∙ ap (λ (x : List Token). u ∷ x) s.front_is; back_is = s.back_is }
+      record { front = p ∷ s.front; back = s.back; split = ap (λ (x : List TokenAt). p ∷ x) s.split; front_is = ap (λ (x : Token). x ∷ tokens_of s.front) same ∙ ap (λ (x : List Token). u ∷ x) s.front_is; back_is = s.back_is }
 
-  at_entry : (ts : List Token) (g : Stage) (p : Part) (b : Block) (rest : List Placed) (s : State) → Known ts p b → run (standing threads g p b) (record { token = bracket; offset = 0 } ∷ rest) ≡ Ok s → p ≡ text.Init expectations.WantsEntry
+  at_entry : (ts : List Token) (g : Stage) (p : Part) (b : Block) (rest : List TokenAt) (s : State) → Known ts p b → run (standing threads g p b) (record { token = bracket; offset = 0 } ∷ rest) ≡ Ok s → p ≡ text.Init expectations.WantsEntry
   at_entry ts g (text.Init expectations.WantsOpen) b rest s k e = absurd cc
   at_entry ts g (text.Init expectations.WantsEntry) b rest s k e = refl
   at_entry ts g (text.Init (expectations.InPlace expected)) b rest s k e = by_place expected k e
@@ -291,7 +291,7 @@ module _ (threads : ℕ) where
   at_entry ts g text.Done b rest s k e = absurd cc
   at_entry ts g p b rest s k e = absurd k.open_so
 
-  number_taken : (g : Stage) (b : Block) (d : List ℕ) (colon : Bool) (ps : List Placed) → tokens_of ps ≡ tokens.Number false d ∷ spelled_colon colon → (s : State) × (run (standing threads g (text.Init expectations.WantsEntry) b) ps ≡ Ok s)
+  number_taken : (g : Stage) (b : Block) (d : List ℕ) (colon : Bool) (ps : List TokenAt) → tokens_of ps ≡ tokens.Number false d ∷ spelled_colon colon → (s : State) × (run (standing threads g (text.Init expectations.WantsEntry) b) ps ≡ Ok s)
   number_taken g b d colon [] e = absurd cc
   number_taken g b d colon (p ∷ ps) e =
       let same : p.token ≡ tokens.Number false d = cc in
@@ -299,7 +299,7 @@ module _ (threads : ℕ) where
       let r = colon_taken (after g (tokens.Number false d)) (with_start b p.offset) colon ps rest in
       (r.0, ap (λ (x : Token). run (standing threads g (text.Init expectations.WantsEntry) b) (record { token = x; offset = p.offset } ∷ ps)) same ∙ r.1)
     where
-      colon_taken : (h : Stage) (c : Block) (x : Bool) (qs : List Placed) → tokens_of qs ≡ spelled_colon x → (s : State) × (run (standing threads h (text.Init (expectations.InPlace (places.WantsColon d))) c) qs ≡ Ok s)
+      colon_taken : (h : Stage) (c : Block) (x : Bool) (qs : List TokenAt) → tokens_of qs ≡ spelled_colon x → (s : State) × (run (standing threads h (text.Init (expectations.InPlace (places.WantsColon d))) c) qs ≡ Ok s)
       colon_taken h c false [] k = (_, refl)
       colon_taken h c false (q ∷ qs) k = absurd cc
       colon_taken h c true [] k = absurd cc
@@ -308,18 +308,18 @@ module _ (threads : ℕ) where
           (_, ap (λ (x : Token). run (standing threads h (text.Init (expectations.InPlace (places.WantsColon d))) c) (record { token = x; offset = q.offset } ∷ [])) same)
       colon_taken h c true (q ∷ r ∷ qs) k = absurd cc
 
-  part_run : (front : List Placed) (rest : List Placed) (s : State) → run (start kinds.Init threads) (front ++ rest) ≡ Ok s → (x : State) × (run (start kinds.Init threads) front ≡ Ok x) × (run x rest ≡ Ok s)
+  part_run : (front : List TokenAt) (rest : List TokenAt) (s : State) → run (start kinds.Init threads) (front ++ rest) ≡ Ok s → (x : State) × (run (start kinds.Init threads) front ≡ Ok x) × (run x rest ≡ Ok s)
   part_run front rest s e = by_run (run (start kinds.Init threads) front) refl (sym (run-split (start kinds.Init threads) front rest) ∙ e)
     where
       by_run : (r : Ran) → run (start kinds.Init threads) front ≡ r → and_then r (λ x. run x rest) ≡ Ok s → (x : State) × (run (start kinds.Init threads) front ≡ Ok x) × (run x rest ≡ Ok s)
       by_run (Ok x) k h = (x, k, h)
       by_run (Err d) k h = absurd cc
 
-  with_bracket : (front : List Placed) (before us : List Token) → tokens_of front ≡ before → tokens_of (front ++ anywhere (bracket ∷ us)) ≡ (before ++ bracket ∷ []) ++ us
+  with_bracket : (front : List TokenAt) (before us : List Token) → tokens_of front ≡ before → tokens_of (front ++ anywhere (bracket ∷ us)) ≡ (before ++ bracket ∷ []) ++ us
   with_bracket front before us e =
       tokens_of-append front (anywhere (bracket ∷ us)) ∙ ap (λ (ts : List Token). ts ++ tokens_of (anywhere (bracket ∷ us))) e ∙ ap (λ (ts : List Token). before ++ ts) (tokens_of-anywhere (bracket ∷ us)) ∙ sym (append_assoc before (bracket ∷ []) us)
 
-  broken_taken : (ps : List Placed) → IsBrokenOff IsInitText first_stage (tokens_of ps) → (s : State) × (run (start kinds.Init threads) ps ≡ Ok s)
+  broken_taken : (ps : List TokenAt) → IsBrokenOff IsInitText first_stage (tokens_of ps) → (s : State) × (run (start kinds.Init threads) ps ≡ Ok s)
   broken_taken ps x =
       let c = split_at ps x.before (tokens.Number false x.thread ∷ spelled_colon x.colon) x.whole in
       let us = bracket ∷ x.entry.rest in
@@ -334,7 +334,7 @@ module _ (threads : ℕ) where
       let at_wants : p.0 ≡ standing threads r.stage (text.Init expectations.WantsEntry) r.block = r.is ∙ ap (λ (q : Part). standing threads r.stage q r.block) entry in
       (n.0, ap (run (start kinds.Init threads)) c.split ∙ run-append (start kinds.Init threads) p.0 c.front c.back p.1 ∙ ap (λ (y : State). run y c.back) at_wants ∙ n.1)
 
-  init_takes : (ps : List Placed) → IsStart IsInitText first_stage (tokens_of ps) → (s : State) × (run (start kinds.Init threads) ps ≡ Ok s)
+  init_takes : (ps : List TokenAt) → IsStart IsInitText first_stage (tokens_of ps) → (s : State) × (run (start kinds.Init threads) ps ≡ Ok s)
   init_takes ps (IsWhole x) = let r = init_taken threads x.entries ps x.fine x.whole in (r.state, r.by)
   init_takes ps (BreaksOff x) = broken_taken ps x
 

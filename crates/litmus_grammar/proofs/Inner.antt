@@ -14,7 +14,7 @@ use Rattle.litmus_tokens.specs.declared.lexer.Front.{Front}
 use Rattle.litmus_tokens.specs.declared.lexer.Front.TheVariants.{Layout, Lexeme}
 use Rattle.litmus_tokens.specs.Lexer.{front, is_not_ascii, begins_comment, is_equals, ends_word, gap_from, raw_from, raw_front, comment_front, quoted_front, line_front, word_front, mark_of, mark_front, sign_front, plain_front, head_front, stage_front}
 use Rattle.litmus_tokens.specs.Stage.{after}
-use Rattle.litmus_tokens.specs.Texts.{Placed, tokens_of, ends_line, after_front, tokens_from, lexed}
+use Rattle.litmus_tokens.specs.Texts.{TokenAt, tokens_of, ends_line, after_front, tokens_from, lexed}
 use Rattle.source_text.specs.Letters.{is_letter, is_digit}
 
 abbrev pub IsInner : Token → Type 0
@@ -108,8 +108,8 @@ front_inner s fresh bs =
 -- ---- a whole text
 
 -- tokens of which just the last is an end
-pub record EndsOnce (ps : List Placed) : Type 0 where
-  pub inner : List Placed
+pub record EndsOnce (ps : List TokenAt) : Type 0 where
+  pub inner : List TokenAt
   pub offset : ℕ
   pub split : ps ≡ inner ++ record { token = tokens.End; offset = offset } ∷ []
   pub are_inner : AreInner (tokens_of inner)
@@ -127,27 +127,27 @@ from_ends s fresh zero offset (b ∷ bs) = by_front (front s fresh (b ∷ bs)) (
         record {
           inner = record { token = t; offset = offset } ∷ q.inner;
           offset = q.offset;
-          split = ap (λ (ps : List Placed). record { token = t; offset = offset } ∷ ps) q.split;
+          split = ap (λ (ps : List TokenAt). record { token = t; offset = offset } ∷ ps) q.split;
           are_inner = (i, q.are_inner);
         }
 
 pub lexed_ends : (s : Stage) (bytes : List ℕ) → EndsOnce (lexed s bytes)
 lexed_ends s bytes = from_ends s false 0 0 bytes
 
-nothing_behind : (bs : List Placed) (p : Placed) (cs : List Placed) → bs ++ p ∷ cs ≡ [] → ⊥
+nothing_behind : (bs : List TokenAt) (p : TokenAt) (cs : List TokenAt) → bs ++ p ∷ cs ≡ [] → ⊥
 nothing_behind [] p cs e = absurd cc
 nothing_behind (b ∷ bs) p cs e = absurd cc
 
 -- what stands before a token of a text is no end
-pub before_inner : (qs : List Placed) (e : Placed) (before : List Placed) (p : Placed) (behind : List Placed) → before ++ p ∷ behind ≡ qs ++ e ∷ [] → AreInner (tokens_of qs) → AreInner (tokens_of before)
+pub before_inner : (qs : List TokenAt) (e : TokenAt) (before : List TokenAt) (p : TokenAt) (behind : List TokenAt) → before ++ p ∷ behind ≡ qs ++ e ∷ [] → AreInner (tokens_of qs) → AreInner (tokens_of before)
 before_inner qs e [] p behind same i = tt
 before_inner [] e (b ∷ before) p behind same i = absurd (nothing_behind before p behind cc)
 before_inner (q ∷ qs) e (b ∷ before) p behind same i =
     let first : b ≡ q = cc in
     let others : before ++ p ∷ behind ≡ qs ++ e ∷ [] = cc in
-    (subst (λ (x : Placed). IsInner x.token) (sym first) i.0, before_inner qs e before p behind others i.1)
+    (subst (λ (x : TokenAt). IsInner x.token) (sym first) i.0, before_inner qs e before p behind others i.1)
 
-pub lexed_inner : (s : Stage) (bytes : List ℕ) (before : List Placed) (p : Placed) (behind : List Placed) → lexed s bytes ≡ before ++ p ∷ behind → AreInner (tokens_of before)
+pub lexed_inner : (s : Stage) (bytes : List ℕ) (before : List TokenAt) (p : TokenAt) (behind : List TokenAt) → lexed s bytes ≡ before ++ p ∷ behind → AreInner (tokens_of before)
 lexed_inner s bytes before p behind e =
     let l = lexed_ends s bytes in
     before_inner l.inner (record { token = tokens.End; offset = l.offset }) before p behind (sym e ∙ l.split) l.are_inner

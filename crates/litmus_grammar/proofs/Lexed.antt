@@ -10,7 +10,7 @@ use Rattle.litmus_tokens.specs.declared.lexer.Front.{Front}
 use Rattle.litmus_tokens.specs.declared.lexer.Front.TheVariants.{Layout, Lexeme}
 use Rattle.litmus_tokens.specs.Lexer.{front}
 use Rattle.litmus_tokens.specs.Stage.{after}
-use Rattle.litmus_tokens.specs.Texts.{Placed, ends_line, fresh_after, after_front, tokens_from}
+use Rattle.litmus_tokens.specs.Texts.{TokenAt, ends_line, fresh_after, after_front, tokens_from}
 
 -- passing over bytes
 pub tokens_skip : (s : Stage) (fresh : Bool) (k offset : ℕ) (bs : List ℕ) → k ≤ length bs → tokens_from s fresh k offset bs ≡ tokens_from s fresh 0 (offset + k) (drop k bs)
@@ -43,7 +43,7 @@ module _ (bytes : List ℕ) (p n q : ℕ) (lt : p < length bytes) (is : q ≡ p 
           let e : p + 1 + length (drop (p + 1) bytes) ≡ q = omega arith in
           tokens_past s fresh (n - 1) (p + 1) (drop (p + 1) bytes) le ∙ ap (λ k. tokens_from s fresh 0 k []) e ∙ ap (tokens_from s fresh 0 q) (sym (drop_all q bytes (omega arith)))
 
-  abbrev then_on : Stage → Bool → Front → List Placed
+  abbrev then_on : Stage → Bool → Front → List TokenAt
   then_on s fresh f = after_front s fresh p (get_or bytes p 0) f (λ s' fresh' skip. tokens_from s' fresh' skip (p + 1) (drop (p + 1) bytes))
 
   opens_with : (s : Stage) (fresh : Bool) (f : Front) → f ≡ front s fresh (drop p bytes) → tokens_from s fresh 0 p (drop p bytes) ≡ then_on s fresh f
@@ -56,7 +56,7 @@ module _ (bytes : List ℕ) (p n q : ℕ) (lt : p < length bytes) (is : q ≡ p 
 
   pub lexeme_turn : (s : Stage) (fresh : Bool) (f : Front) (t : Token) → f ≡ front s fresh (drop p bytes) → f ≡ Lexeme t n → tokens_from s fresh 0 p (drop p bytes) ≡ record { token = t; offset = p } ∷ tokens_from (after s t) (ends_line t) 0 q (drop q bytes)
   lexeme_turn s fresh f t e k =
-      opens_with s fresh f e ∙ ap (then_on s fresh) k ∙ ap (λ (ps : List Placed). record { token = t; offset = p } ∷ ps) (next (after s t) (ends_line t))
+      opens_with s fresh f e ∙ ap (then_on s fresh) k ∙ ap (λ (ps : List TokenAt). record { token = t; offset = p } ∷ ps) (next (after s t) (ends_line t))
 
 pub at_end : (s : Stage) (fresh : Bool) (bytes : List ℕ) (p : ℕ) → length bytes ≤ p → tokens_from s fresh 0 p (drop p bytes) ≡ record { token = tokens.End; offset = p } ∷ []
 unfolding tokens_from

@@ -7,7 +7,7 @@ pub mod Heads
 pub mod InitKeys
 pub mod InitLeft
 pub mod InitStarts
-pub mod InitTaken
+pub mod InitAcceptance
 pub mod Inner
 pub mod Lexed
 pub mod Listed
@@ -20,5 +20,5 @@ pub mod Splits
 pub mod Tails
 pub mod TestFaults
 pub mod TestParts
-pub mod TestTaken
+pub mod TestAcceptance
 pub mod Threads

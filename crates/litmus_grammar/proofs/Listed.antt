@@ -10,7 +10,7 @@ use Rattle.litmus_tokens.specs.declared.token.Token.TheVariants as tokens
 use Rattle.litmus_tokens.specs.declared.token.Mark.TheVariants as marks
 use Rattle.litmus_tokens.specs.Faults.{Begins, CanFollow, ruling, Says}
 use Rattle.litmus_tokens.specs.Stage.{after}
-use Rattle.litmus_tokens.specs.Texts.{Placed, tokens_of}
+use Rattle.litmus_tokens.specs.Texts.{TokenAt, tokens_of}
 use Rattle.litmus_tokens.specs.Words.{decimal, register_of, is_known, or_zero}
 use Rattle.litmus_values.specs.declared.test.Place.{Place}
 use Rattle.litmus_conditions.specs.declared.place.PlaceExpectation.{PlaceExpectation}
@@ -26,19 +26,19 @@ use Rattle.litmus_grammar.specs.declared.parts.ItemExpectation.TheVariants as it
 use Rattle.litmus_grammar.specs.declared.parts.TextKind.TheVariants as kinds
 use Rattle.litmus_grammar.specs.Grammar.{Listed, spelled_others, members, spelled_observed, AreItems, IsLocationsText}
 use Rattle.litmus_grammar.specs.TextMachine as text
-use Rattle.litmus_grammar.specs.TextMachine.{Part, Draft, Next, State, Ran, placed, and_then, stepped, part_step, with_place, nothing, start, run, rule_at, item_result}
+use Rattle.litmus_grammar.specs.TextMachine.{Part, Draft, Next, State, Ran, with_offset, and_then, stepped, part_step, with_place, nothing, start, run, rule_at, item_result}
 use Rattle.litmus_grammar.proofs.Conditions.{tail_stays, tail_says}
 use Rattle.litmus_grammar.proofs.Lists.{closing, list_whole}
 use Rattle.litmus_grammar.proofs.Outcomes.{Reading}
 use Rattle.litmus_grammar.proofs.Runs.{anywhere, tokens_of-append, tokens_of-anywhere, follows}
 
-record Uncons (ps : List Placed) (t : Token) (ts : List Token) : Type 0 where
+record Uncons (ps : List TokenAt) (t : Token) (ts : List Token) : Type 0 where
   offset : ℕ
-  behind : List Placed
+  behind : List TokenAt
   split : ps ≡ record { token = t; offset = offset } ∷ behind
   rest : tokens_of behind ≡ ts
 
-uncons : (ps : List Placed) (t : Token) (ts : List Token) → tokens_of ps ≡ t ∷ ts → Uncons ps t ts
+uncons : (ps : List TokenAt) (t : Token) (ts : List Token) → tokens_of ps ≡ t ∷ ts → Uncons ps t ts
 uncons [] t ts e = absurd cc
 uncons (p ∷ ps) t ts e =
     let same : p.token ≡ t = cc in
@@ -51,22 +51,22 @@ module _ (threads : ℕ) (few : threads < 18446744073709551616) where
   -- ---- each text is taken
 
   -- the reader goes on from there, with this left
-  record Leads (from : State) (ps : List Placed) (to : State) (ts : List Token) : Type 0 where
-    behind : List Placed
+  record Leads (from : State) (ps : List TokenAt) (to : State) (ts : List Token) : Type 0 where
+    behind : List TokenAt
     rest : tokens_of behind ≡ ts
     by : run from ps ≡ run to behind
 
-  leads_on : (a b c : State) (ps : List Placed) (ts us : List Token) → Leads a ps b ts → ((qs : List Placed) → tokens_of qs ≡ ts → Leads b qs c us) → Leads a ps c us
+  leads_on : (a b c : State) (ps : List TokenAt) (ts us : List Token) → Leads a ps b ts → ((qs : List TokenAt) → tokens_of qs ≡ ts → Leads b qs c us) → Leads a ps c us
   leads_on a b c ps ts us l f = let m = f l.behind l.rest in record { behind = m.behind; rest = m.rest; by = l.by ∙ m.by }
 
   -- a token that is taken
-  one : (p q : Part) (h k : Draft) (t : Token) (ps : List Placed) (ts : List Token) → ((n : ℕ) → part_step kinds.Locations threads h p t n ≡ Some (record { part = q; draft = k })) → tokens_of ps ≡ t ∷ ts → Leads (standing Tail p h) ps (standing Tail q k) ts
+  one : (p q : Part) (h k : Draft) (t : Token) (ps : List TokenAt) (ts : List Token) → ((n : ℕ) → part_step kinds.Locations threads h p t n ≡ Some (record { part = q; draft = k })) → tokens_of ps ≡ t ∷ ts → Leads (standing Tail p h) ps (standing Tail q k) ts
   one p q h k t ps ts takes e =
       let u = uncons ps t ts e in
       record {
         behind = u.behind;
         rest = u.rest;
-        by = ap (run (standing Tail p h)) u.split ∙ ap (λ (o : Option Next). and_then (placed u.offset (stepped (standing Tail p h) t o)) (λ x. run x u.behind)) (takes u.offset);
+        by = ap (run (standing Tail p h)) u.split ∙ ap (λ (o : Option Next). and_then (with_offset u.offset (stepped (standing Tail p h) t o)) (λ x. run x u.behind)) (takes u.offset);
       }
 
   abbrev wants : Bool → ItemExpectation
@@ -95,7 +95,7 @@ module _ (threads : ℕ) (few : threads < 18446744073709551616) where
   register_last d w h offset (Some r) e k = ap (λ (x : Option ℕ). item_result h (register_ends d x)) e ∙ ap (λ (x : Option ℕ). text.at (with_place h (place_of (written.Register d (or_zero x)))) (text.Item items.HasItem)) (sym e)
   register_last d w h offset None e k = absurd cc
 
-  place_taken : (next : Bool) (p : PlaceTree) (h : Draft) (ps : List Placed) (ts : List Token) → IsPlace p → HasThread threads p → tokens_of ps ≡ spelled_place p ts → Leads (standing Tail (text.Item (wants next)) h) ps (has (place_meaning p) h) ts
+  place_taken : (next : Bool) (p : PlaceTree) (h : Draft) (ps : List TokenAt) (ts : List Token) → IsPlace p → HasThread threads p → tokens_of ps ≡ spelled_place p ts → Leads (standing Tail (text.Item (wants next)) h) ps (has (place_meaning p) h) ts
   place_taken next (Location false n) h ps ts i t e = one (text.Item (wants next)) (text.Item items.HasItem) h (with_place h (place_meaning (Location false n))) (tokens.Word n) ps ts (word_first next n h) e
   place_taken next (Location true n) h ps ts i t e =
       let named = tokens.Word n ∷ tokens.Mark marks.CloseBracket ∷ ts in
@@ -115,39 +115,39 @@ module _ (threads : ℕ) (few : threads < 18446744073709551616) where
       (λ rs j. one (text.Item (items.Within (places.WantsRegister d))) (text.Item items.HasItem) h (with_place h (place_meaning (Register d w))) (tokens.Word w) rs ts last j))
 
   -- a list was read to its end
-  record Taken (from : State) (ps : List Placed) (found : List Place) : Type 0 where
+  record IsAccepted (from : State) (ps : List TokenAt) (found : List Place) : Type 0 where
     state : State
     by : run from ps ≡ Ok state
     observed : state.draft.observed ≡ found
 
-  taken_by : (a b : State) (ps : List Placed) (ts : List Token) (found : List Place) → Leads a ps b ts → ((qs : List Placed) → tokens_of qs ≡ ts → Taken b qs found) → Taken a ps found
+  taken_by : (a b : State) (ps : List TokenAt) (ts : List Token) (found : List Place) → Leads a ps b ts → ((qs : List TokenAt) → tokens_of qs ≡ ts → IsAccepted b qs found) → IsAccepted a ps found
   taken_by a b ps ts found l f = let r = f l.behind l.rest in record { state = r.state; by = l.by ∙ r.by; observed = r.observed }
 
-  done_taken : (h : Draft) (ps : List Placed) → tokens_of ps ≡ [] → Taken (standing Tail text.Done h) ps h.observed
+  done_taken : (h : Draft) (ps : List TokenAt) → tokens_of ps ≡ [] → IsAccepted (standing Tail text.Done h) ps h.observed
   done_taken h [] e = record { state = standing Tail text.Done h; by = refl; observed = refl }
   done_taken h (p ∷ ps) e = absurd cc
 
-  end_taken : (h : Draft) (ps : List Placed) → tokens_of ps ≡ tokens.End ∷ [] → Taken (standing Tail text.WantsEnd h) ps h.observed
+  end_taken : (h : Draft) (ps : List TokenAt) → tokens_of ps ≡ tokens.End ∷ [] → IsAccepted (standing Tail text.WantsEnd h) ps h.observed
   end_taken h ps e = taken_by _ (standing Tail text.Done h) ps [] h.observed (one text.WantsEnd text.Done h h tokens.End ps [] (λ m. refl) e) (done_taken h)
 
-  close_taken : (expected : ItemExpectation) (h : Draft) (ps : List Placed) → ((m : ℕ) → part_step kinds.Locations threads h (text.Item expected) (tokens.Mark marks.CloseBracket) m ≡ text.at h text.WantsEnd) → tokens_of ps ≡ closing → Taken (standing Tail (text.Item expected) h) ps h.observed
+  close_taken : (expected : ItemExpectation) (h : Draft) (ps : List TokenAt) → ((m : ℕ) → part_step kinds.Locations threads h (text.Item expected) (tokens.Mark marks.CloseBracket) m ≡ text.at h text.WantsEnd) → tokens_of ps ≡ closing → IsAccepted (standing Tail (text.Item expected) h) ps h.observed
   close_taken expected h ps takes e = taken_by _ (standing Tail text.WantsEnd h) ps (tokens.End ∷ []) h.observed (one (text.Item expected) text.WantsEnd h h (tokens.Mark marks.CloseBracket) ps (tokens.End ∷ []) takes e) (end_taken h)
 
-  others_taken : (os : List PlaceTree) (closed : Bool) (h : Draft) (ps : List Placed) → AreItems threads os → tokens_of ps ≡ spelled_others spelled_place closed os closing → Taken (standing Tail (text.Item items.HasItem) h) ps (h.observed ++ map place_meaning os)
-  others_taken [] false h ps fine e = subst (Taken (standing Tail (text.Item items.HasItem) h) ps) (sym (append-nil h.observed)) (close_taken items.HasItem h ps (λ m. refl) e)
+  others_taken : (os : List PlaceTree) (closed : Bool) (h : Draft) (ps : List TokenAt) → AreItems threads os → tokens_of ps ≡ spelled_others spelled_place closed os closing → IsAccepted (standing Tail (text.Item items.HasItem) h) ps (h.observed ++ map place_meaning os)
+  others_taken [] false h ps fine e = subst (IsAccepted (standing Tail (text.Item items.HasItem) h) ps) (sym (append-nil h.observed)) (close_taken items.HasItem h ps (λ m. refl) e)
   others_taken [] true h ps fine e =
-      subst (Taken (standing Tail (text.Item items.HasItem) h) ps) (sym (append-nil h.observed))
+      subst (IsAccepted (standing Tail (text.Item items.HasItem) h) ps) (sym (append-nil h.observed))
       (taken_by _ (standing Tail (text.Item items.WantsNext) h) ps closing h.observed (one (text.Item items.HasItem) (text.Item items.WantsNext) h h (tokens.Mark marks.Semicolon) ps closing (λ m. refl) e) (λ qs k. close_taken items.WantsNext h qs (λ m. refl) k))
   others_taken (o ∷ os) closed h ps fine e =
       let left = spelled_others spelled_place closed os closing in
-      subst (Taken (standing Tail (text.Item items.HasItem) h) ps) (append_assoc h.observed (place_meaning o ∷ []) (map place_meaning os))
+      subst (IsAccepted (standing Tail (text.Item items.HasItem) h) ps) (append_assoc h.observed (place_meaning o ∷ []) (map place_meaning os))
       (taken_by _ (standing Tail (text.Item items.WantsNext) h) ps (spelled_place o left) _ (one (text.Item items.HasItem) (text.Item items.WantsNext) h h (tokens.Mark marks.Semicolon) ps (spelled_place o left) (λ m. refl) e)
       (λ qs k. taken_by _ (has (place_meaning o) h) qs left _ (place_taken true o h qs left fine.0 fine.1 k) (λ rs j. others_taken os closed (with_place h (place_meaning o)) rs fine.2 j)))
 
   abbrev nothing_yet : Draft
   nothing_yet = nothing kinds.Locations
 
-  text_taken : (l : Option (Listed PlaceTree)) (ps : List Placed) → AreItems threads (members l) → tokens_of ps ≡ spelled_observed l (tokens.End ∷ []) → Taken (start kinds.Locations threads) ps (map place_meaning (members l))
+  text_taken : (l : Option (Listed PlaceTree)) (ps : List TokenAt) → AreItems threads (members l) → tokens_of ps ≡ spelled_observed l (tokens.End ∷ []) → IsAccepted (start kinds.Locations threads) ps (map place_meaning (members l))
   text_taken None ps fine e = taken_by _ (standing Tail text.Done nothing_yet) ps [] [] (one text.ListOrEnd text.Done nothing_yet nothing_yet tokens.End ps [] (λ m. refl) e) (done_taken nothing_yet)
   text_taken (Some l) ps fine e =
       let left = spelled_others spelled_place l.closed l.others closing in
@@ -156,7 +156,7 @@ module _ (threads : ℕ) (few : threads < 18446744073709551616) where
       (λ qs k. taken_by _ (standing Tail (text.Item items.WantsFirst) nothing_yet) qs (spelled_place l.first left) _ (one text.WantsList (text.Item items.WantsFirst) nothing_yet nothing_yet (tokens.Mark marks.OpenBracket) qs (spelled_place l.first left) (λ m. refl) k)
       (λ rs j. taken_by _ (has (place_meaning l.first) nothing_yet) rs left _ (place_taken false l.first nothing_yet rs left fine.0 fine.1 j) (λ us i. others_taken l.others l.closed (with_place nothing_yet (place_meaning l.first)) us fine.2 i)))
 
-  pub list_taken : (ps : List Placed) (x : IsLocationsText threads (tokens_of ps)) → (s : State) × (run (start kinds.Locations threads) ps ≡ Ok s) × (s.draft.observed ≡ map place_meaning (members x.items))
+  pub list_taken : (ps : List TokenAt) (x : IsLocationsText threads (tokens_of ps)) → (s : State) × (run (start kinds.Locations threads) ps ≡ Ok s) × (s.draft.observed ≡ map place_meaning (members x.items))
   list_taken ps x = let r = text_taken x.items ps x.fine x.whole in (r.state, r.by, r.observed)
 
   -- ---- what is taken can be gone on with to the end
@@ -220,7 +220,7 @@ module _ (threads : ℕ) (few : threads < 18446744073709551616) where
   stays h text.Done t n o = tt
   stays h p t n o = absurd o
 
-  record Finished (from : State) (ps : List Placed) : Type 0 where
+  record Finished (from : State) (ps : List TokenAt) : Type 0 where
     rest : List Token
     state : State
     by : run from (ps ++ anywhere rest) ≡ Ok state
@@ -254,19 +254,19 @@ module _ (threads : ℕ) (few : threads < 18446744073709551616) where
   finished g text.Done h o = record { rest = []; state = _; by = refl; done = refl }
   finished g p h o = absurd o
 
-  goes_on : (ps : List Placed) (g : Stage) (p : Part) (h : Draft) (s : State) → IsOfList p → run (standing g p h) ps ≡ Ok s → Finished (standing g p h) ps
+  goes_on : (ps : List TokenAt) (g : Stage) (p : Part) (h : Draft) (s : State) → IsOfList p → run (standing g p h) ps ≡ Ok s → Finished (standing g p h) ps
   goes_on [] g p h s o e = finished g p h o
   goes_on (q ∷ ps) g p h s o e =
       let r = by_next (part_step kinds.Locations threads h p q.token q.offset) (stays h p q.token q.offset o) e (λ n i k. goes_on ps (after g q.token) n.part n.draft s i k) in
       record { rest = r.0; state = r.1; by = r.2; done = r.3 }
     where
-      by_next : (m : Option Next) → LeadsToList m → and_then (placed q.offset (stepped (standing g p h) q.token m)) (λ x. run x ps) ≡ Ok s
+      by_next : (m : Option Next) → LeadsToList m → and_then (with_offset q.offset (stepped (standing g p h) q.token m)) (λ x. run x ps) ≡ Ok s
           → ((n : Next) → IsOfList n.part → run (standing (after g q.token) n.part n.draft) ps ≡ Ok s → Finished (standing (after g q.token) n.part n.draft) ps)
-          → (rest : List Token) × (x : State) × (and_then (placed q.offset (stepped (standing g p h) q.token m)) (λ y. run y (ps ++ anywhere rest)) ≡ Ok x) × (x.part ≡ text.Done)
+          → (rest : List Token) × (x : State) × (and_then (with_offset q.offset (stepped (standing g p h) q.token m)) (λ y. run y (ps ++ anywhere rest)) ≡ Ok x) × (x.part ≡ text.Done)
       by_next (Some n) i k later = let f = later n i k in (f.rest, f.state, f.by, f.done)
       by_next None i k later = absurd cc
 
-  begins_by : (ps : List Placed) (s : State) → run (start kinds.Locations threads) ps ≡ Ok s → Begins (IsLocationsText threads) (tokens_of ps)
+  begins_by : (ps : List TokenAt) (s : State) → run (start kinds.Locations threads) ps ≡ Ok s → Begins (IsLocationsText threads) (tokens_of ps)
   begins_by ps s e =
       let f = goes_on ps Tail text.ListOrEnd nothing_yet s tt e in
       record { rest = f.rest; text = subst (IsLocationsText threads) (tokens_of-append ps (anywhere f.rest) ∙ ap (λ (ts : List Token). tokens_of ps ++ ts) (tokens_of-anywhere f.rest)) (list_whole threads (ps ++ anywhere f.rest) Tail nothing_yet f.state f.by f.done) }

@@ -9,7 +9,7 @@ use Rattle.litmus_tokens.specs.declared.token.Token.{Token}
 use Rattle.litmus_tokens.specs.declared.token.Token.TheVariants as tokens
 use Rattle.litmus_tokens.specs.declared.token.Mark.TheVariants as marks
 use Rattle.litmus_tokens.specs.Stage.{after}
-use Rattle.litmus_tokens.specs.Texts.{Placed, tokens_of}
+use Rattle.litmus_tokens.specs.Texts.{TokenAt, tokens_of}
 use Rattle.litmus_tokens.specs.Words.{decimal, register_of, is_register, is_known}
 use Rattle.litmus_conditions.specs.declared.place.PlaceExpectation.{PlaceExpectation}
 use Rattle.litmus_conditions.specs.declared.place.PlaceExpectation.TheVariants as places
@@ -22,14 +22,11 @@ use Rattle.litmus_grammar.specs.declared.parts.ItemExpectation.TheVariants as it
 use Rattle.litmus_grammar.specs.declared.parts.TextKind.TheVariants as kinds
 use Rattle.litmus_grammar.specs.Grammar.{spelled_others, AreItems, IsLocationsText}
 use Rattle.litmus_grammar.specs.TextMachine as text
-use Rattle.litmus_grammar.specs.TextMachine.{Part, Draft, Next, State, Ran, placed, and_then, stepped, with_place, nothing, start, run, item_result}
+use Rattle.litmus_grammar.specs.TextMachine.{Part, Draft, Next, State, Ran, with_offset, and_then, stepped, with_place, nothing, start, run, item_result}
+use Rattle.litmus_grammar.proofs.InitLeft.{is_done}
 
 abbrev pub closing : List Token
 closing = tokens.Mark marks.CloseBracket ∷ tokens.End ∷ []
-
-abbrev is_done : Part → Bool
-is_done text.Done = true
-is_done p = false
 
 abbrev done_in : Ran → Bool
 done_in (Ok s) = is_done s.part
@@ -115,11 +112,11 @@ module _ (threads : ℕ) where
 
   -- ---- what is taken to its end
 
-  only_end : (ps : List Placed) (g : Stage) (h : Draft) (s : State) → run (standing g text.Done h) ps ≡ Ok s → tokens_of ps ≡ []
+  only_end : (ps : List TokenAt) (g : Stage) (h : Draft) (s : State) → run (standing g text.Done h) ps ≡ Ok s → tokens_of ps ≡ []
   only_end [] g h s e = refl
   only_end (p ∷ ps) g h s e = absurd cc
 
-  end_left : (ps : List Placed) (g : Stage) (h : Draft) (s : State) → run (standing g text.WantsEnd h) ps ≡ Ok s → s.part ≡ text.Done → tokens_of ps ≡ tokens.End ∷ []
+  end_left : (ps : List TokenAt) (g : Stage) (h : Draft) (s : State) → run (standing g text.WantsEnd h) ps ≡ Ok s → s.part ≡ text.Done → tokens_of ps ≡ tokens.End ∷ []
   end_left [] g h s e d = absurd (let no_end : false ≡ true = ap done_in e ∙ ap is_done d in cc)
   end_left (p ∷ ps) g h s e d = by_token p.token p.offset e
     where
@@ -128,16 +125,16 @@ module _ (threads : ℕ) where
       by_token t n k = absurd cc
 
   -- with what is left behind the token
-  module _ (ps : List Placed) (s : State) (d : s.part ≡ text.Done) (again : (expected : ItemExpectation) (g : Stage) (h : Draft) → run (standing g (text.Item expected) h) ps ≡ Ok s → Left expected (tokens_of ps)) where
-    went : (g : Stage) (h : Draft) (part : Part) (t : Token) (n : ℕ) (o : Option PlaceStep) → and_then (placed n (stepped (standing g part h) t (item_result h o))) (λ x. run x ps) ≡ Ok s → StepLeft o (tokens_of ps)
+  module _ (ps : List TokenAt) (s : State) (d : s.part ≡ text.Done) (again : (expected : ItemExpectation) (g : Stage) (h : Draft) → run (standing g (text.Item expected) h) ps ≡ Ok s → Left expected (tokens_of ps)) where
+    went : (g : Stage) (h : Draft) (part : Part) (t : Token) (n : ℕ) (o : Option PlaceStep) → and_then (with_offset n (stepped (standing g part h) t (item_result h o))) (λ x. run x ps) ≡ Ok s → StepLeft o (tokens_of ps)
     went g h part t n (Some (place_steps.Goes within)) k = again (items.Within within) (after g t) h k
     went g h part t n (Some (place_steps.Ends w)) k = again items.HasItem (after g t) (with_place h (place_of w)) k
     went g h part t n None k = absurd cc
 
-    start_left : (g : Stage) (h : Draft) (part : Part) (t : Token) (n : ℕ) → and_then (placed n (stepped (standing g part h) t (text.item_start threads h t))) (λ x. run x ps) ≡ Ok s → Following (t ∷ tokens_of ps)
+    start_left : (g : Stage) (h : Draft) (part : Part) (t : Token) (n : ℕ) → and_then (with_offset n (stepped (standing g part h) t (text.item_start threads h t))) (λ x. run x ps) ≡ Ok s → Following (t ∷ tokens_of ps)
     start_left g h part t n k = choose (is_there threads t) refl k
       where
-        choose : (b : Bool) → is_there threads t ≡ b → and_then (placed n (stepped (standing g part h) t (if b then item_result h (place_step places.Begins t) else None))) (λ x. run x ps) ≡ Ok s → Following (t ∷ tokens_of ps)
+        choose : (b : Bool) → is_there threads t ≡ b → and_then (with_offset n (stepped (standing g part h) t (if b then item_result h (place_step places.Begins t) else None))) (λ x. run x ps) ≡ Ok s → Following (t ∷ tokens_of ps)
         choose true e k = first_draft t (tokens_of ps) e (went g h part t n (place_step places.Begins t) k)
         choose false e k = absurd cc
 
@@ -156,11 +153,11 @@ module _ (threads : ℕ) where
     by_expectation (items.Within within) g h t n k = back within t (tokens_of ps) (went g h (text.Item (items.Within within)) t n (place_step within t) k)
     by_expectation items.HasItem g h t n k = ended_left g h t n k
 
-  left : (ps : List Placed) (expected : ItemExpectation) (g : Stage) (h : Draft) (s : State) → run (standing g (text.Item expected) h) ps ≡ Ok s → s.part ≡ text.Done → Left expected (tokens_of ps)
+  left : (ps : List TokenAt) (expected : ItemExpectation) (g : Stage) (h : Draft) (s : State) → run (standing g (text.Item expected) h) ps ≡ Ok s → s.part ≡ text.Done → Left expected (tokens_of ps)
   left [] expected g h s e d = absurd (let no_end : false ≡ true = ap done_in e ∙ ap is_done d in cc)
   left (p ∷ ps) expected g h s e d = by_expectation ps s d (λ o f i k. left ps o f i s k d) expected g h p.token p.offset e
 
-  list_left : (ps : List Placed) (g : Stage) (h : Draft) (s : State) → run (standing g text.WantsList h) ps ≡ Ok s → s.part ≡ text.Done → (rest : List Token) × (tokens_of ps ≡ tokens.Mark marks.OpenBracket ∷ rest) × Following rest
+  list_left : (ps : List TokenAt) (g : Stage) (h : Draft) (s : State) → run (standing g text.WantsList h) ps ≡ Ok s → s.part ≡ text.Done → (rest : List Token) × (tokens_of ps ≡ tokens.Mark marks.OpenBracket ∷ rest) × Following rest
   list_left [] g h s e d = absurd (let no_end : false ≡ true = ap done_in e ∙ ap is_done d in cc)
   list_left (p ∷ ps) g h s e d = by_token p.token p.offset e
     where
@@ -177,11 +174,11 @@ module _ (threads : ℕ) where
         whole = ap (λ (x : List ℕ). tokens.Word x ∷ ts) e ∙ more (tokens.Word (codes "locations")) ts _ (l.1 ∙ more (tokens.Mark marks.OpenBracket) l.0 _ f.whole);
       }
 
-  pub list_whole : (ps : List Placed) (g : Stage) (h : Draft) (s : State) → run (standing g text.ListOrEnd h) ps ≡ Ok s → s.part ≡ text.Done → IsLocationsText threads (tokens_of ps)
+  pub list_whole : (ps : List TokenAt) (g : Stage) (h : Draft) (s : State) → run (standing g text.ListOrEnd h) ps ≡ Ok s → s.part ≡ text.Done → IsLocationsText threads (tokens_of ps)
   list_whole [] g h s e d = absurd (let no_end : false ≡ true = ap done_in e ∙ ap is_done d in cc)
   list_whole (p ∷ ps) g h s e d = by_token p.token p.offset e
     where
-      by_word : (w : List ℕ) (n : ℕ) (b : Bool) → bytes_eq w (codes "locations") ≡ b → and_then (placed n (stepped (standing g text.ListOrEnd h) (tokens.Word w) (text.next_at h (if b then Some text.WantsList else None)))) (λ x. run x ps) ≡ Ok s → IsLocationsText threads (tokens.Word w ∷ tokens_of ps)
+      by_word : (w : List ℕ) (n : ℕ) (b : Bool) → bytes_eq w (codes "locations") ≡ b → and_then (with_offset n (stepped (standing g text.ListOrEnd h) (tokens.Word w) (text.next_at h (if b then Some text.WantsList else None)))) (λ x. run x ps) ≡ Ok s → IsLocationsText threads (tokens.Word w ∷ tokens_of ps)
       by_word w n true q k = of_list w (tokens_of ps) ((bytes_eq-Decides w (codes "locations")).0 q) (list_left ps (after g (tokens.Word w)) h s k d)
       by_word w n false q k = absurd cc
 

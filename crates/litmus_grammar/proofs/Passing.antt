@@ -3,10 +3,10 @@ use Rattle.std.proofs.Common.{◌≡◌, ℕ, ◌⊎◌, inl, inr, Bool, true, f
 use Rattle.litmus_tokens.specs.declared.stage.Stage.{Stage}
 use Rattle.litmus_tokens.specs.declared.token.Token.{Token}
 use Rattle.litmus_tokens.specs.Stage.{after}
-use Rattle.litmus_tokens.specs.Texts.{Placed, tokens_of, stage_after}
+use Rattle.litmus_tokens.specs.Texts.{TokenAt, tokens_of, stage_after}
 use Rattle.litmus_grammar.specs.declared.parts.TextKind.{TextKind}
 use Rattle.litmus_grammar.specs.declared.parts.TextKind.TheVariants as kinds
-use Rattle.litmus_grammar.specs.TextMachine.{Part, Draft, Next, State, Ran, placed, and_then, stepped, part_step, run}
+use Rattle.litmus_grammar.specs.TextMachine.{Part, Draft, Next, State, Ran, with_offset, and_then, stepped, part_step, run}
 
 abbrev pub test_at : Stage → Part → Draft → State
 test_at g p h = record { kind = kinds.Test; threads = 0; stage = g; part = p; draft = h }
@@ -26,7 +26,7 @@ module _ (kind : TextKind) (threads : ℕ) (lift : Draft → Draft) (exit next :
   alone g p h = text_at kind threads g p h
 
   -- the test is still within the part
-  pub record Stays (f g : Stage) (p : Part) (h : Draft) (ps : List Placed) (s : State) : Type 0 where
+  pub record Stays (f g : Stage) (p : Part) (h : Draft) (ps : List TokenAt) (s : State) : Type 0 where
     pub part : Part
     pub draft : Draft
     pub inside : is_inside part ≡ true
@@ -34,27 +34,27 @@ module _ (kind : TextKind) (threads : ℕ) (lift : Draft → Draft) (exit next :
     pub same : s ≡ test_at (stage_after g (tokens_of ps)) part (lift draft)
 
   -- the part has ended behind some tokens
-  pub record Leaves (f g : Stage) (p : Part) (h : Draft) (ps : List Placed) (s : State) : Type 0 where
-    pub before : List Placed
-    pub behind : List Placed
+  pub record Leaves (f g : Stage) (p : Part) (h : Draft) (ps : List TokenAt) (s : State) : Type 0 where
+    pub before : List TokenAt
+    pub behind : List TokenAt
     pub draft : Draft
     pub whole : ps ≡ before ++ behind
     pub by : run (alone f p h) before ≡ Ok (alone (stage_after f (tokens_of before)) exit draft)
     pub on : run (test_at (stage_after g (tokens_of before)) next (lift draft)) behind ≡ Ok s
 
-  abbrev one_step : Stage → Part → Draft → Placed → List Placed → Option Next → Ran
-  one_step g p h q ps o = and_then (placed q.offset (stepped (alone g p h) q.token o)) (λ x. run x ps)
+  abbrev one_step : Stage → Part → Draft → TokenAt → List TokenAt → Option Next → Ran
+  one_step g p h q ps o = and_then (with_offset q.offset (stepped (alone g p h) q.token o)) (λ x. run x ps)
 
-  abbrev test_step : Stage → Part → Draft → Placed → List Placed → Option Next → Ran
-  test_step g p h q ps o = and_then (placed q.offset (stepped (test_at g p h) q.token o)) (λ x. run x ps)
+  abbrev test_step : Stage → Part → Draft → TokenAt → List TokenAt → Option Next → Ran
+  test_step g p h q ps o = and_then (with_offset q.offset (stepped (test_at g p h) q.token o)) (λ x. run x ps)
 
-  stays_on : (f g : Stage) (p : Part) (h : Draft) (q : Placed) (ps : List Placed) (s : State) (n : Next) → part_step kind threads h p q.token q.offset ≡ Some n → Stays (after f q.token) (after g q.token) n.part n.draft ps s → Stays f g p h (q ∷ ps) s
+  stays_on : (f g : Stage) (p : Part) (h : Draft) (q : TokenAt) (ps : List TokenAt) (s : State) (n : Next) → part_step kind threads h p q.token q.offset ≡ Some n → Stays (after f q.token) (after g q.token) n.part n.draft ps s → Stays f g p h (q ∷ ps) s
   stays_on f g p h q ps s n e r = record { part = r.part; draft = r.draft; inside = r.inside; by = ap (one_step f p h q ps) e ∙ r.by; same = r.same }
 
-  leaves_on : (f g : Stage) (p : Part) (h : Draft) (q : Placed) (ps : List Placed) (s : State) (n : Next) → part_step kind threads h p q.token q.offset ≡ Some n → Leaves (after f q.token) (after g q.token) n.part n.draft ps s → Leaves f g p h (q ∷ ps) s
-  leaves_on f g p h q ps s n e r = record { before = q ∷ r.before; behind = r.behind; draft = r.draft; whole = ap (λ (l : List Placed). q ∷ l) r.whole; by = ap (one_step f p h q r.before) e ∙ r.by; on = r.on }
+  leaves_on : (f g : Stage) (p : Part) (h : Draft) (q : TokenAt) (ps : List TokenAt) (s : State) (n : Next) → part_step kind threads h p q.token q.offset ≡ Some n → Leaves (after f q.token) (after g q.token) n.part n.draft ps s → Leaves f g p h (q ∷ ps) s
+  leaves_on f g p h q ps s n e r = record { before = q ∷ r.before; behind = r.behind; draft = r.draft; whole = ap (λ (l : List TokenAt). q ∷ l) r.whole; by = ap (one_step f p h q r.before) e ∙ r.by; on = r.on }
 
-  leaves_here : (f g : Stage) (p : Part) (h : Draft) (q : Placed) (ps : List Placed) (s : State) (n m : Next) → part_step kind threads h p q.token q.offset ≡ Some n → n.part ≡ exit → m.draft ≡ lift n.draft → m.part ≡ next
+  leaves_here : (f g : Stage) (p : Part) (h : Draft) (q : TokenAt) (ps : List TokenAt) (s : State) (n m : Next) → part_step kind threads h p q.token q.offset ≡ Some n → n.part ≡ exit → m.draft ≡ lift n.draft → m.part ≡ next
       → run (test_at (after g q.token) m.part m.draft) ps ≡ Ok s → Leaves f g p h (q ∷ ps) s
   leaves_here f g p h q ps s n m e out draft part k =
       record {
@@ -66,7 +66,7 @@ module _ (kind : TextKind) (threads : ℕ) (lift : Draft → Draft) (exit next :
         on = ap (λ (x : Part). run (test_at (after g q.token) x (lift n.draft)) ps) (sym part) ∙ ap (λ (x : Draft). run (test_at (after g q.token) m.part x) ps) (sym draft) ∙ k;
       }
 
-  pub passes : (ps : List Placed) (f g : Stage) (p : Part) (h : Draft) (s : State) → is_inside p ≡ true → run (test_at g p (lift h)) ps ≡ Ok s → Stays f g p h ps s ⊎ Leaves f g p h ps s
+  pub passes : (ps : List TokenAt) (f g : Stage) (p : Part) (h : Draft) (s : State) → is_inside p ≡ true → run (test_at g p (lift h)) ps ≡ Ok s → Stays f g p h ps s ⊎ Leaves f g p h ps s
   passes [] f g p h s i e =
       let same : test_at g p (lift h) ≡ s = cc in
       inl (record { part = p; draft = h; inside = i; by = refl; same = sym same })
@@ -90,15 +90,15 @@ module _ (kind : TextKind) (threads : ℕ) (lift : Draft → Draft) (exit next :
   -- ---- the text of the part alone, within the test
 
   -- what is read of the part alone, behind it what is left
-  pub record Ends (f : Stage) (p : Part) (h : Draft) (ps : List Placed) (s : State) : Type 0 where
-    pub before : List Placed
-    pub behind : List Placed
+  pub record Ends (f : Stage) (p : Part) (h : Draft) (ps : List TokenAt) (s : State) : Type 0 where
+    pub before : List TokenAt
+    pub behind : List TokenAt
     pub draft : Draft
     pub whole : ps ≡ before ++ behind
     pub by : run (alone (stage_after f (tokens_of before)) exit draft) behind ≡ Ok s
     pub led : (g : Stage) → run (test_at g p (lift h)) before ≡ Ok (test_at (stage_after g (tokens_of before)) next (lift draft))
 
-  pub ends : (ps : List Placed) (f : Stage) (p : Part) (h : Draft) (s : State) → is_inside p ≡ true → run (alone f p h) ps ≡ Ok s → is_inside s.part ≡ false → Ends f p h ps s
+  pub ends : (ps : List TokenAt) (f : Stage) (p : Part) (h : Draft) (s : State) → is_inside p ≡ true → run (alone f p h) ps ≡ Ok s → is_inside s.part ≡ false → Ends f p h ps s
   ends [] f p h s i e o =
       let same : alone f p h ≡ s = cc in
       absurd (let no : true ≡ false = sym i ∙ ap (λ (x : State). is_inside x.part) same ∙ o in cc)
@@ -117,7 +117,7 @@ module _ (kind : TextKind) (threads : ℕ) (lift : Draft → Draft) (exit next :
             before = q ∷ r.before;
             behind = r.behind;
             draft = r.draft;
-            whole = ap (λ (l : List Placed). q ∷ l) r.whole;
+            whole = ap (λ (l : List TokenAt). q ∷ l) r.whole;
             by = r.by;
             led = λ g.
                 ap (test_step g p (lift h) q r.before) c

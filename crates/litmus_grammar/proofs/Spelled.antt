@@ -10,21 +10,7 @@ use Rattle.litmus_values.specs.declared.test.Quantifier.TheVariants.{Exists, Not
 use Rattle.litmus_conditions.specs.Grammar.{PlaceTree, Location, Register, ValueTree, Number, Address, FormulaTree, Word, Atom, Prefix, Pair, Group, spelled_place, spelled_value, prefix_token, connective_token, spelled, spelled_quantifier}
 use Rattle.litmus_table.specs.Grammar.{InstructionTree, CellTree, RowTree, ThreadTree, spelled_label, spelled_instruction, spelled_cell, spelled_cells, spelled_rows, spelled_steps, spelled_thread, spelled_names}
 use Rattle.litmus_grammar.specs.Grammar.{Listed, EntryTree, spelled_entry, spelled_end, spelled_others, spelled_listed, spelled_init, spelled_items, spelled_condition}
-
-label-append : (l : Option (List ℕ)) (xs ys : List Token) → spelled_label l xs ++ ys ≡ spelled_label l (xs ++ ys)
-label-append None xs ys = refl
-label-append (Some l) xs ys = refl
-
-instruction-append : (i : Option InstructionTree) (xs ys : List Token) → spelled_instruction i xs ++ ys ≡ spelled_instruction i (xs ++ ys)
-instruction-append None xs ys = refl
-instruction-append (Some i) xs ys = ap (λ (l : List Token). tokens.Word i.word ∷ l) (append_assoc i.operands xs ys)
-
-cell-append : (c : CellTree) (xs ys : List Token) → spelled_cell c xs ++ ys ≡ spelled_cell c (xs ++ ys)
-cell-append c xs ys = label-append c.label (spelled_instruction c.instruction xs) ys ∙ ap (spelled_label c.label) (instruction-append c.instruction xs ys)
-
-cells-append : (cs : List CellTree) (xs ys : List Token) → spelled_cells cs xs ++ ys ≡ spelled_cells cs (xs ++ ys)
-cells-append [] xs ys = refl
-cells-append (c ∷ cs) xs ys = ap (λ (l : List Token). tokens.Mark marks.Bar ∷ l) (cell-append c (spelled_cells cs xs) ys ∙ ap (spelled_cell c) (cells-append cs xs ys))
+use Rattle.litmus_table.proofs.Complete.{label-append, cell-append, cells-append}
 
 pub rows-append : (rs : List RowTree) (xs ys : List Token) → spelled_rows rs xs ++ ys ≡ spelled_rows rs (xs ++ ys)
 rows-append [] xs ys = refl

@@ -1,16 +1,16 @@
 -- Lists of tokens with their offsets, cut where their tokens are.
 use Rattle.std.proofs.Common.{◌≡◌, ℕ, List, [], ◌∷◌, ◌++◌, refl, ap, ◌∙◌}
 use Rattle.litmus_tokens.specs.declared.token.Token.{Token}
-use Rattle.litmus_tokens.specs.Texts.{Placed, tokens_of}
+use Rattle.litmus_tokens.specs.Texts.{TokenAt, tokens_of}
 
-pub record Split (ps : List Placed) (us vs : List Token) : Type 0 where
-  pub before : List Placed
-  pub behind : List Placed
+pub record Split (ps : List TokenAt) (us vs : List Token) : Type 0 where
+  pub before : List TokenAt
+  pub behind : List TokenAt
   pub whole : ps ≡ before ++ behind
   pub are_before : tokens_of before ≡ us
   pub are_behind : tokens_of behind ≡ vs
 
-pub split : (ps : List Placed) (us vs : List Token) → tokens_of ps ≡ us ++ vs → Split ps us vs
+pub split : (ps : List TokenAt) (us vs : List Token) → tokens_of ps ≡ us ++ vs → Split ps us vs
 split ps [] vs e = record { before = []; behind = ps; whole = refl; are_before = refl; are_behind = e }
 split [] (u ∷ us) vs e = absurd cc
 split (p ∷ ps) (u ∷ us) vs e =
@@ -20,13 +20,13 @@ split (p ∷ ps) (u ∷ us) vs e =
     record {
       before = p ∷ r.before;
       behind = r.behind;
-      whole = ap (λ (qs : List Placed). p ∷ qs) r.whole;
+      whole = ap (λ (qs : List TokenAt). p ∷ qs) r.whole;
       are_before = ap (λ (t : Token). t ∷ tokens_of r.before) first ∙ ap (λ (ts : List Token). u ∷ ts) r.are_before;
       are_behind = r.are_behind;
     }
 
 -- one token
-pub single : (ps : List Placed) (t : Token) → tokens_of ps ≡ t ∷ [] → (n : ℕ) × (ps ≡ record { token = t; offset = n } ∷ [])
+pub single : (ps : List TokenAt) (t : Token) → tokens_of ps ≡ t ∷ [] → (n : ℕ) × (ps ≡ record { token = t; offset = n } ∷ [])
 single [] t e = absurd cc
 single (p ∷ []) t e =
     let first : p.token ≡ t = cc in
@@ -76,19 +76,19 @@ rest_of (x ∷ xs) rest (u ∷ us) t e =
     by_rest first (More more k m) = More more k (ap (λ (y : Token). y ∷ (xs ++ more)) first ∙ ap (λ (ys : List Token). u ∷ ys) m)
 
 -- the last token with its place
-pub unsnoc_placed : (xs ys : List Placed) (p q : Placed) → xs ++ p ∷ [] ≡ ys ++ q ∷ [] → xs ≡ ys
+pub unsnoc_placed : (xs ys : List TokenAt) (p q : TokenAt) → xs ++ p ∷ [] ≡ ys ++ q ∷ [] → xs ≡ ys
 unsnoc_placed [] [] p q e = refl
 unsnoc_placed [] (y ∷ ys) p q e = absurd (nothing ys q cc)
   where
-    nothing : (zs : List Placed) (v : Placed) → [] ≡ zs ++ v ∷ [] → ⊥
+    nothing : (zs : List TokenAt) (v : TokenAt) → [] ≡ zs ++ v ∷ [] → ⊥
     nothing [] v k = absurd cc
     nothing (z ∷ zs) v k = absurd cc
 unsnoc_placed (x ∷ xs) [] p q e = absurd (nothing xs p cc)
   where
-    nothing : (zs : List Placed) (v : Placed) → zs ++ v ∷ [] ≡ [] → ⊥
+    nothing : (zs : List TokenAt) (v : TokenAt) → zs ++ v ∷ [] ≡ [] → ⊥
     nothing [] v k = absurd cc
     nothing (z ∷ zs) v k = absurd cc
 unsnoc_placed (x ∷ xs) (y ∷ ys) p q e =
     let first : x ≡ y = cc in
     let others : xs ++ p ∷ [] ≡ ys ++ q ∷ [] = cc in
-    ap (λ (z : Placed). z ∷ xs) first ∙ ap (λ (zs : List Placed). y ∷ zs) (unsnoc_placed xs ys p q others)
+    ap (λ (z : TokenAt). z ∷ xs) first ∙ ap (λ (zs : List TokenAt). y ∷ zs) (unsnoc_placed xs ys p q others)

@@ -9,7 +9,7 @@ use Rattle.litmus_tokens.specs.declared.token.Token.{Token}
 use Rattle.litmus_tokens.specs.declared.token.Token.TheVariants as tokens
 use Rattle.litmus_tokens.specs.declared.token.Mark.TheVariants as marks
 use Rattle.litmus_tokens.specs.Stage.{after}
-use Rattle.litmus_tokens.specs.Texts.{Placed, tokens_of, stage_after, begins_tail}
+use Rattle.litmus_tokens.specs.Texts.{TokenAt, tokens_of, stage_after, begins_tail}
 use Rattle.litmus_tokens.specs.Faults.{Begins}
 use Rattle.litmus_values.specs.declared.test.Place.{Place}
 use Rattle.litmus_values.specs.declared.test.Quantifier.{Quantifier}
@@ -28,7 +28,7 @@ use Rattle.litmus_grammar.specs.declared.parts.TextKind.TheVariants as kinds
 use Rattle.litmus_grammar.specs.Grammar.{Listed, members, spelled_items, spelled_observed, spelled_condition, AreItems}
 use Rattle.litmus_grammar.specs.InitMachine as init
 use Rattle.litmus_grammar.specs.TextMachine as text
-use Rattle.litmus_grammar.specs.TextMachine.{Part, Draft, Next, State, Ran, placed, and_then, stepped, part_step, nothing, start, run}
+use Rattle.litmus_grammar.specs.TextMachine.{Part, Draft, Next, State, Ran, with_offset, and_then, stepped, part_step, nothing, start, run}
 use Rattle.litmus_grammar.proofs.Conditions.{condition_taken, condition_reading}
 use Rattle.litmus_grammar.proofs.Ends.{ends_done}
 use Rattle.litmus_grammar.proofs.Lists.{list_whole}
@@ -38,7 +38,7 @@ use Rattle.litmus_grammar.proofs.Runs.{tokens_of-append, run-append}
 use Rattle.litmus_grammar.proofs.Spelled.{items-append, condition-append}
 use Rattle.litmus_grammar.proofs.Splits.{split, single, unsnoc, Rest, Nothing, More, rest_of, unsnoc_placed}
 
-abbrev pub last_at : ℕ → Placed
+abbrev pub last_at : ℕ → TokenAt
 last_at n = record { token = tokens.End; offset = n }
 
 -- the draft of a test before its condition
@@ -57,14 +57,14 @@ pub record IsTail (threads : ℕ) (ts : List Token) : Type 0 where
   pub fine : IsFormula limits threads condition
   pub whole : ts ≡ spelled_observed observed (spelled_condition quantifier condition)
 
-pub done_behind : (kind : TextKind) (n : ℕ) (g : Stage) (h : Draft) (ps : List Placed) (s : State) → run (text_at kind n g text.Done h) ps ≡ Ok s → (ps ≡ []) × (s ≡ text_at kind n g text.Done h)
+pub done_behind : (kind : TextKind) (n : ℕ) (g : Stage) (h : Draft) (ps : List TokenAt) (s : State) → run (text_at kind n g text.Done h) ps ≡ Ok s → (ps ≡ []) × (s ≡ text_at kind n g text.Done h)
 done_behind kind n g h [] s e =
     let same : text_at kind n g text.Done h ≡ s = cc in
     (refl, sym same)
 done_behind kind n g h (p ∷ ps) s e = absurd cc
 
 -- behind the part of a text alone stands the end
-pub end_behind : (kind : TextKind) (n : ℕ) (g : Stage) (h : Draft) (ps : List Placed) (s : State) → run (text_at kind n g text.WantsEnd h) ps ≡ Ok s → s.part ≡ text.Done → (m : ℕ) × (ps ≡ last_at m ∷ []) × (s.draft ≡ h)
+pub end_behind : (kind : TextKind) (n : ℕ) (g : Stage) (h : Draft) (ps : List TokenAt) (s : State) → run (text_at kind n g text.WantsEnd h) ps ≡ Ok s → s.part ≡ text.Done → (m : ℕ) × (ps ≡ last_at m ∷ []) × (s.draft ≡ h)
 end_behind kind n g h [] s e d =
     let same : text_at kind n g text.WantsEnd h ≡ s = cc in
     absurd (let no : text.WantsEnd ≡ text.Done = ap (λ (x : State). x.part) same ∙ d in cc)
@@ -73,7 +73,7 @@ end_behind kind n g h (p ∷ ps) s e d = by_token p.token p.offset e
     by_token : (t : Token) (m : ℕ) → run (text_at kind n g text.WantsEnd h) (record { token = t; offset = m } ∷ ps) ≡ Ok s → (k : ℕ) × (record { token = t; offset = m } ∷ ps ≡ last_at k ∷ []) × (s.draft ≡ h)
     by_token tokens.End m k =
         let r = done_behind kind n (after g tokens.End) h ps s k in
-        (m, ap (λ (l : List Placed). last_at m ∷ l) r.0, ap (λ (x : State). x.draft) r.1)
+        (m, ap (λ (l : List TokenAt). last_at m ∷ l) r.0, ap (λ (x : State). x.draft) r.1)
     by_token t m k = absurd cc
 
 module _ (name : List ℕ) (block : init.Block) (t : table.State) (few : length t.threads < 18446744073709551616) where
@@ -137,7 +137,7 @@ module _ (name : List ℕ) (block : init.Block) (t : table.State) (few : length 
   abbrev IsCondition : List Token → Type 0
   IsCondition = IsConditionText limits threads
 
-  pub condition_begins : (o : List Place) (ps : List Placed) (g : Stage) (s : State) → run (test_at g text.WantsQuantifier (early name block t o)) ps ≡ Ok s → Begins IsCondition (tokens_of ps)
+  pub condition_begins : (o : List Place) (ps : List TokenAt) (g : Stage) (s : State) → run (test_at g text.WantsQuantifier (early name block t o)) ps ≡ Ok s → Begins IsCondition (tokens_of ps)
   condition_begins o ps g s e = by_pass (passes kinds.Condition threads (with_condition o) text.Done text.Done in_condition (condition_alike o) ps stages.Tail g text.WantsQuantifier (nothing kinds.Condition) s refl e)
     where
       by_pass : Stays kinds.Condition threads (with_condition o) text.Done text.Done in_condition (condition_alike o) stages.Tail g text.WantsQuantifier (nothing kinds.Condition) ps s
@@ -145,25 +145,25 @@ module _ (name : List ℕ) (block : init.Block) (t : table.State) (few : length 
       by_pass (inl r) = (condition_reading threads few).begins ps _ r.by
       by_pass (inr r) =
           let d = done_behind kinds.Test 0 (stage_after g (tokens_of r.before)) (with_condition o r.draft) r.behind s r.on in
-          let same : ps ≡ r.before = r.whole ∙ ap (λ (l : List Placed). r.before ++ l) d.0 ∙ append-nil r.before in
-          subst (λ (l : List Placed). Begins IsCondition (tokens_of l)) (sym same) ((condition_reading threads few).begins r.before _ r.by)
+          let same : ps ≡ r.before = r.whole ∙ ap (λ (l : List TokenAt). r.before ++ l) d.0 ∙ append-nil r.before in
+          subst (λ (l : List TokenAt). Begins IsCondition (tokens_of l)) (sym same) ((condition_reading threads few).begins r.before _ r.by)
 
   -- a whole condition is taken
-  pub record TakesCondition (o : List Place) (ps : List Placed) (q : Quantifier) (a : Formula) (g : Stage) : Type 0 where
+  pub record TakesCondition (o : List Place) (ps : List TokenAt) (q : Quantifier) (a : Formula) (g : Stage) : Type 0 where
     pub stage : Stage
     pub by : run (test_at g text.WantsQuantifier (early name block t o)) ps ≡ Ok (test_at stage text.Done (with_all name block t o q a))
 
-  pub condition_led : (o : List Place) (ps : List Placed) (g : Stage) (x : IsCondition (tokens_of ps)) → TakesCondition o ps x.quantifier (meaning x.condition) g
+  pub condition_led : (o : List Place) (ps : List TokenAt) (g : Stage) (x : IsCondition (tokens_of ps)) → TakesCondition o ps x.quantifier (meaning x.condition) g
   condition_led o ps g x =
       let r = condition_taken threads few ps x in
       let cut = split ps (spelled_quantifier x.quantifier (spelled x.condition [])) (tokens.End ∷ []) (x.whole ∙ sym (condition-append x.quantifier x.condition)) in
       let end = single cut.behind tokens.End cut.are_behind in
-      let split_so : ps ≡ cut.before ++ last_at end.0 ∷ [] = cut.whole ∙ ap (λ (l : List Placed). cut.before ++ l) end.1 in
+      let split_so : ps ≡ cut.before ++ last_at end.0 ∷ [] = cut.whole ∙ ap (λ (l : List TokenAt). cut.before ++ l) end.1 in
       let d = ends_done (start kinds.Condition threads) r.0 cut.before end.0 (ap (run (start kinds.Condition threads)) (sym split_so) ∙ r.1) in
       let out : in_condition r.0.part ≡ false = ap in_condition d in
       let m = ends kinds.Condition threads (with_condition o) text.Done text.Done in_condition (condition_alike o) ps stages.Tail text.WantsQuantifier (nothing kinds.Condition) r.0 refl r.1 out in
       let b = done_behind kinds.Condition threads (stage_after stages.Tail (tokens_of m.before)) m.draft m.behind r.0 m.by in
-      let same : ps ≡ m.before = m.whole ∙ ap (λ (l : List Placed). m.before ++ l) b.0 ∙ append-nil m.before in
+      let same : ps ≡ m.before = m.whole ∙ ap (λ (l : List TokenAt). m.before ++ l) b.0 ∙ append-nil m.before in
       let draft : r.0.draft ≡ m.draft = ap (λ (y : State). y.draft) b.1 in
       let q : m.draft.quantifier ≡ x.quantifier = ap (λ (y : Draft). y.quantifier) (sym draft) ∙ r.2 in
       let a : m.draft.formula ≡ meaning x.condition = ap (λ (y : Draft). y.formula) (sym draft) ∙ r.3 in
@@ -224,7 +224,7 @@ module _ (name : List ℕ) (block : init.Block) (t : table.State) (few : length 
   abbrev first_draft : Draft
   first_draft = nothing kinds.Locations
 
-  abbrev word_at : ℕ → Placed
+  abbrev word_at : ℕ → TokenAt
   word_at n = record { token = tokens.Word (codes "locations"); offset = n }
 
   -- some condition
@@ -243,7 +243,7 @@ module _ (name : List ℕ) (block : init.Block) (t : table.State) (few : length 
       }
 
   -- a list that is read to its end
-  list_text : (ps : List Placed) (n : ℕ) (f : Stage) (h : Draft) → run (text_at kinds.Locations threads (after stages.Tail (tokens.Word (codes "locations"))) text.WantsList first_draft) ps ≡ Ok (text_at kinds.Locations threads f text.WantsEnd h) → (l : Listed PlaceTree) × AreItems threads (members (Some l)) × (tokens_of (word_at n ∷ ps) ≡ spelled_items l [])
+  list_text : (ps : List TokenAt) (n : ℕ) (f : Stage) (h : Draft) → run (text_at kinds.Locations threads (after stages.Tail (tokens.Word (codes "locations"))) text.WantsList first_draft) ps ≡ Ok (text_at kinds.Locations threads f text.WantsEnd h) → (l : Listed PlaceTree) × AreItems threads (members (Some l)) × (tokens_of (word_at n ∷ ps) ≡ spelled_items l [])
   list_text ps n f h e =
       let all = word_at n ∷ (ps ++ last_at 0 ∷ []) in
       let done : run (start kinds.Locations threads) all ≡ Ok (text_at kinds.Locations threads (after f tokens.End) text.Done h) = run-append (text_at kinds.Locations threads (after stages.Tail (tokens.Word (codes "locations"))) text.WantsList first_draft) (text_at kinds.Locations threads f text.WantsEnd h) ps (last_at 0 ∷ []) e in
@@ -254,7 +254,7 @@ module _ (name : List ℕ) (block : init.Block) (t : table.State) (few : length 
       by_items None fine k = absurd cc
       by_items (Some l) fine k = (l, fine, unsnoc (tokens_of (word_at n ∷ ps)) (spelled_items l []) tokens.End tokens.End (k ∙ sym (items-append l [] (tokens.End ∷ []))))
 
-  list_begins : (ps : List Placed) (n : ℕ) (g : Stage) (s : State) → run (test_at g text.WantsList (early name block t [])) ps ≡ Ok s → Begins (IsTail threads) (tokens_of (word_at n ∷ ps))
+  list_begins : (ps : List TokenAt) (n : ℕ) (g : Stage) (s : State) → run (test_at g text.WantsList (early name block t [])) ps ≡ Ok s → Begins (IsTail threads) (tokens_of (word_at n ∷ ps))
   list_begins ps n g s e = by_pass (passes kinds.Locations threads with_places text.WantsEnd text.WantsQuantifier in_list list_alike ps (after stages.Tail (tokens.Word (codes "locations"))) g text.WantsList first_draft s refl e)
     where
       ts : List Token
@@ -267,7 +267,7 @@ module _ (name : List ℕ) (block : init.Block) (t : table.State) (few : length 
       by_rest h p f i r l fine rest (Nothing k) =
           let cut = split (word_at n ∷ ps) (spelled_items l []) (tokens.End ∷ []) k in
           let end = single cut.behind tokens.End cut.are_behind in
-          let d = ends_done (start kinds.Locations threads) (text_at kinds.Locations threads f p h) cut.before end.0 (ap (run (start kinds.Locations threads)) (sym (cut.whole ∙ ap (λ (l : List Placed). cut.before ++ l) end.1)) ∙ r) in
+          let d = ends_done (start kinds.Locations threads) (text_at kinds.Locations threads f p h) cut.before end.0 (ap (run (start kinds.Locations threads)) (sym (cut.whole ∙ ap (λ (l : List TokenAt). cut.before ++ l) end.1)) ∙ r) in
           absurd (let no : true ≡ false = sym i ∙ ap in_list d in cc)
       by_rest h p f i r l fine rest (More more k m) = record { rest = more ++ c; text = subst (IsTail threads) (append_assoc ts more c) (tail_of (ts ++ more) l c fine m any_condition.text) }
 
@@ -284,7 +284,7 @@ module _ (name : List ℕ) (block : init.Block) (t : table.State) (few : length 
           let l = list_text r.before n _ r.draft r.by in
           let b = condition_begins r.draft.observed r.behind _ s r.on in
           let us = tokens_of (word_at n ∷ r.before) in
-          let same : ts ≡ us ++ tokens_of r.behind = ap (λ (y : List Placed). tokens_of (word_at n ∷ y)) r.whole ∙ ap (λ (y : List Token). tokens.Word (codes "locations") ∷ y) (tokens_of-append r.before r.behind) in
+          let same : ts ≡ us ++ tokens_of r.behind = ap (λ (y : List TokenAt). tokens_of (word_at n ∷ y)) r.whole ∙ ap (λ (y : List Token). tokens.Word (codes "locations") ∷ y) (tokens_of-append r.before r.behind) in
           record {
             rest = b.rest;
             text = subst (IsTail threads) (sym (append_assoc us (tokens_of r.behind) b.rest) ∙ ap (λ (y : List Token). y ++ b.rest) (sym same)) (tail_of us l.0 (tokens_of r.behind ++ b.rest) l.1 l.2 b.text);
@@ -295,14 +295,14 @@ module _ (name : List ℕ) (block : init.Block) (t : table.State) (few : length 
   abbrev there : Draft
   there = early name block t []
 
-  abbrev first_step : Stage → Part → Placed → List Placed → Option Next → Ran
-  first_step g p q ps o = and_then (placed q.offset (stepped (test_at g p there) q.token o)) (λ x. run x ps)
+  abbrev first_step : Stage → Part → TokenAt → List TokenAt → Option Next → Ran
+  first_step g p q ps o = and_then (with_offset q.offset (stepped (test_at g p there) q.token o)) (λ x. run x ps)
 
-  same_step : (g : Stage) (a b : Part) (q : Placed) (ps : List Placed) (o : Option Next) (s : State) → first_step g a q ps o ≡ Ok s → first_step g b q ps o ≡ Ok s
+  same_step : (g : Stage) (a b : Part) (q : TokenAt) (ps : List TokenAt) (o : Option Next) (s : State) → first_step g a q ps o ≡ Ok s → first_step g b q ps o ≡ Ok s
   same_step g a b q ps None s e = absurd cc
   same_step g a b q ps (Some n) s e = e
 
-  same_step_back : (g : Stage) (a b : Part) (q : Placed) (ps : List Placed) (n : Next) → first_step g a q ps (Some n) ≡ first_step g b q ps (Some n)
+  same_step_back : (g : Stage) (a b : Part) (q : TokenAt) (ps : List TokenAt) (n : Next) → first_step g a q ps (Some n) ≡ first_step g b q ps (Some n)
   same_step_back g a b q ps n = refl
 
   of_condition : (ts : List Token) → Begins IsCondition ts → Begins (IsTail threads) ts
@@ -311,7 +311,7 @@ module _ (name : List ℕ) (block : init.Block) (t : table.State) (few : length 
   pub any_tail : Begins (IsTail threads) []
   any_tail = of_condition [] any_condition
 
-  pub tail_begins : (q : Placed) (ps : List Placed) (g : Stage) (s : State) → first_step g text.Rows q ps (text.next_at there (text.tail_start q.token)) ≡ Ok s → Begins (IsTail threads) (tokens_of (q ∷ ps))
+  pub tail_begins : (q : TokenAt) (ps : List TokenAt) (g : Stage) (s : State) → first_step g text.Rows q ps (text.next_at there (text.tail_start q.token)) ≡ Ok s → Begins (IsTail threads) (tokens_of (q ∷ ps))
   tail_begins q ps g s e = by_token q.token q.offset e
     where
       by_word : (w : List ℕ) (n : ℕ) (b : Bool) → bytes_eq w (codes "locations") ≡ b → first_step g text.Rows (record { token = tokens.Word w; offset = n }) ps (text.next_at there (if b then Some text.WantsList else text.quantifier_read (tokens.Word w))) ≡ Ok s → Begins (IsTail threads) (tokens.Word w ∷ tokens_of ps)
@@ -319,24 +319,24 @@ module _ (name : List ℕ) (block : init.Block) (t : table.State) (few : length 
           let same : codes "locations" ≡ w = sym ((bytes_eq-Decides w (codes "locations")).0 c) in
           subst (λ (x : List ℕ). Begins (IsTail threads) (tokens.Word x ∷ tokens_of ps)) same (list_begins ps n (after g (tokens.Word w)) s k)
       by_word w n false c k =
-          let p : Placed = record { token = tokens.Word w; offset = n } in
+          let p : TokenAt = record { token = tokens.Word w; offset = n } in
           of_condition (tokens_of (p ∷ ps)) (condition_begins [] (p ∷ ps) g s (same_step g text.Rows text.WantsQuantifier p ps (text.next_at there (text.quantifier_read (tokens.Word w))) s k))
 
       by_token : (x : Token) (n : ℕ) → first_step g text.Rows (record { token = x; offset = n }) ps (text.next_at there (text.tail_start x)) ≡ Ok s → Begins (IsTail threads) (x ∷ tokens_of ps)
       by_token (tokens.Word w) n k = by_word w n (bytes_eq w (codes "locations")) refl k
       by_token (tokens.Mark marks.Tilde) n k =
-          let p : Placed = record { token = tokens.Mark marks.Tilde; offset = n } in
+          let p : TokenAt = record { token = tokens.Mark marks.Tilde; offset = n } in
           of_condition (tokens_of (p ∷ ps)) (condition_begins [] (p ∷ ps) g s k)
       by_token x n k = absurd cc
 
   -- ---- each tail is taken
 
   -- the list led to its condition
-  pub record TakesList (ps : List Placed) (o : List Place) (g : Stage) : Type 0 where
+  pub record TakesList (ps : List TokenAt) (o : List Place) (g : Stage) : Type 0 where
     pub stage : Stage
     pub by : run (test_at g text.WantsList there) ps ≡ Ok (test_at stage text.WantsQuantifier (early name block t o))
 
-  list_led : (l : Listed PlaceTree) (n : ℕ) (ps : List Placed) (g : Stage) → AreItems threads (members (Some l)) → tokens_of (word_at n ∷ ps) ≡ spelled_items l [] → TakesList ps (map place_meaning (members (Some l))) g
+  list_led : (l : Listed PlaceTree) (n : ℕ) (ps : List TokenAt) (g : Stage) → AreItems threads (members (Some l)) → tokens_of (word_at n ∷ ps) ≡ spelled_items l [] → TakesList ps (map place_meaning (members (Some l))) g
   list_led l n ps g fine e =
       let all = word_at n ∷ (ps ++ last_at 0 ∷ []) in
       let whole : tokens_of all ≡ spelled_observed (Some l) (tokens.End ∷ []) =
@@ -345,7 +345,7 @@ module _ (name : List ℕ) (block : init.Block) (t : table.State) (few : length 
       let d = ends_done (start kinds.Locations threads) r.0 (word_at n ∷ ps) 0 r.1 in
       let m = ends kinds.Locations threads with_places text.WantsEnd text.WantsQuantifier in_list list_alike (ps ++ last_at 0 ∷ []) (after stages.Tail (tokens.Word (codes "locations"))) text.WantsList first_draft r.0 refl r.1 (ap in_list d) in
       let b = end_behind kinds.Locations threads (stage_after (after stages.Tail (tokens.Word (codes "locations"))) (tokens_of m.before)) m.draft m.behind r.0 m.by d in
-      let same : ps ≡ m.before = unsnoc_placed ps m.before (last_at 0) (last_at b.0) (m.whole ∙ ap (λ (y : List Placed). m.before ++ y) b.1) in
+      let same : ps ≡ m.before = unsnoc_placed ps m.before (last_at 0) (last_at b.0) (m.whole ∙ ap (λ (y : List TokenAt). m.before ++ y) b.1) in
       let o : m.draft.observed ≡ map place_meaning (members (Some l)) = ap (λ (y : Draft). y.observed) (sym b.2) ∙ r.2 in
       record {
         stage = stage_after g (tokens_of m.before);
@@ -355,18 +355,18 @@ module _ (name : List ℕ) (block : init.Block) (t : table.State) (few : length 
       }
 
   module _ (row : table.is_row_start t ≡ true) where
-    row_first : (q : Placed) (ps : List Placed) (g : Stage) → begins_tail q.token ≡ true → run (test_at g text.Rows there) (q ∷ ps) ≡ first_step g text.Rows q ps (text.next_at there (text.tail_start q.token))
+    row_first : (q : TokenAt) (ps : List TokenAt) (g : Stage) → begins_tail q.token ≡ true → run (test_at g text.Rows there) (q ∷ ps) ≡ first_step g text.Rows q ps (text.next_at there (text.tail_start q.token))
     row_first q ps g e =
         ap (λ (b : Bool). first_step g text.Rows q ps (if b && begins_tail q.token then text.next_at there (text.tail_start q.token) else text.table_result there text.Rows (table.step t q.token q.offset))) row
         ∙ ap (λ (b : Bool). first_step g text.Rows q ps (if b then text.next_at there (text.tail_start q.token) else text.table_result there text.Rows (table.step t q.token q.offset))) e
 
-    first_token : (x : Token) (n : ℕ) (ps : List Placed) (g : Stage) (p : Part) → begins_tail x ≡ true → text.tail_start x ≡ Some p → text.quantifier_read x ≡ Some p → run (test_at g text.Rows there) (record { token = x; offset = n } ∷ ps) ≡ run (test_at g text.WantsQuantifier there) (record { token = x; offset = n } ∷ ps)
+    first_token : (x : Token) (n : ℕ) (ps : List TokenAt) (g : Stage) (p : Part) → begins_tail x ≡ true → text.tail_start x ≡ Some p → text.quantifier_read x ≡ Some p → run (test_at g text.Rows there) (record { token = x; offset = n } ∷ ps) ≡ run (test_at g text.WantsQuantifier there) (record { token = x; offset = n } ∷ ps)
     first_token x n ps g p e k m =
-        let q : Placed = record { token = x; offset = n } in
+        let q : TokenAt = record { token = x; offset = n } in
         row_first q ps g e ∙ ap (λ (o : Option Part). first_step g text.Rows q ps (text.next_at there o)) k ∙ same_step_back g text.Rows text.WantsQuantifier q ps (record { part = p; draft = there })
         ∙ ap (λ (o : Option Part). first_step g text.WantsQuantifier q ps (text.next_at there o)) (sym m)
 
-    quantifier_first : (q : Quantifier) (ps : List Placed) (ts : List Token) (g : Stage) → tokens_of ps ≡ spelled_quantifier q ts → run (test_at g text.Rows there) ps ≡ run (test_at g text.WantsQuantifier there) ps
+    quantifier_first : (q : Quantifier) (ps : List TokenAt) (ts : List Token) (g : Stage) → tokens_of ps ≡ spelled_quantifier q ts → run (test_at g text.Rows there) ps ≡ run (test_at g text.WantsQuantifier there) ps
     quantifier_first Exists [] ts g e = absurd cc
     quantifier_first NotExists [] ts g e = absurd cc
     quantifier_first Forall [] ts g e = absurd cc
@@ -383,28 +383,28 @@ module _ (name : List ℕ) (block : init.Block) (t : table.State) (few : length 
         subst (λ (y : Token). run (test_at g text.Rows there) (record { token = y; offset = p.offset } ∷ ps) ≡ run (test_at g text.WantsQuantifier there) (record { token = y; offset = p.offset } ∷ ps)) x
         (first_token (tokens.Mark marks.Tilde) p.offset ps g text.AfterTilde refl refl refl)
 
-    pub record TakesTail (ps : List Placed) (o : Option (Listed PlaceTree)) (q : Quantifier) (a : Formula) (g : Stage) : Type 0 where
+    pub record TakesTail (ps : List TokenAt) (o : Option (Listed PlaceTree)) (q : Quantifier) (a : Formula) (g : Stage) : Type 0 where
       pub stage : Stage
       pub by : run (test_at g text.Rows there) ps ≡ Ok (test_at stage text.Done (with_all name block t (map place_meaning (members o)) q a))
 
-    list_first : (l : Listed PlaceTree) (before behind : List Placed) (g : Stage) (q : Quantifier) (a : FormulaTree) → AreItems threads (members (Some l)) → IsFormula limits threads a → tokens_of before ≡ spelled_items l [] → tokens_of behind ≡ spelled_condition q a → TakesTail (before ++ behind) (Some l) q (meaning a) g
+    list_first : (l : Listed PlaceTree) (before behind : List TokenAt) (g : Stage) (q : Quantifier) (a : FormulaTree) → AreItems threads (members (Some l)) → IsFormula limits threads a → tokens_of before ≡ spelled_items l [] → tokens_of behind ≡ spelled_condition q a → TakesTail (before ++ behind) (Some l) q (meaning a) g
     list_first l [] behind g q a fine f e k = absurd cc
     list_first l (p ∷ before) behind g q a fine f e k =
         let x : tokens.Word (codes "locations") ≡ p.token = cc in
         let same : word_at p.offset ≡ p = ap (λ (y : Token). record { token = y; offset = p.offset }) x in
         let g' = after g (tokens.Word (codes "locations")) in
-        let r = list_led l p.offset before g' fine (ap (λ (y : Placed). tokens_of (y ∷ before)) same ∙ e) in
+        let r = list_led l p.offset before g' fine (ap (λ (y : TokenAt). tokens_of (y ∷ before)) same ∙ e) in
         let c = condition_led (map place_meaning (members (Some l))) behind r.stage (record { quantifier = q; condition = a; fine = f; whole = k }) in
         record {
           stage = c.stage;
           by =
-              ap (λ (y : Placed). run (test_at g text.Rows there) (y ∷ (before ++ behind))) (sym same)
+              ap (λ (y : TokenAt). run (test_at g text.Rows there) (y ∷ (before ++ behind))) (sym same)
               ∙ row_first (word_at p.offset) (before ++ behind) g refl
               ∙ run-append (test_at g' text.WantsList there) (test_at r.stage text.WantsQuantifier (early name block t (map place_meaning (members (Some l))))) before behind r.by
               ∙ c.by;
         }
 
-    pub tail_led : (ps : List Placed) (g : Stage) (o : Option (Listed PlaceTree)) (q : Quantifier) (a : FormulaTree) → AreItems threads (members o) → IsFormula limits threads a → tokens_of ps ≡ spelled_observed o (spelled_condition q a) → TakesTail ps o q (meaning a) g
+    pub tail_led : (ps : List TokenAt) (g : Stage) (o : Option (Listed PlaceTree)) (q : Quantifier) (a : FormulaTree) → AreItems threads (members o) → IsFormula limits threads a → tokens_of ps ≡ spelled_observed o (spelled_condition q a) → TakesTail ps o q (meaning a) g
     tail_led ps g None q a fine f e =
         let c = condition_led [] ps g (record { quantifier = q; condition = a; fine = f; whole = e }) in
         record { stage = c.stage; by = quantifier_first q ps (spelled a (tokens.End ∷ [])) g e ∙ c.by }

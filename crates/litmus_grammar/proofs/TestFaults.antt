@@ -3,7 +3,7 @@ use Rattle.std.proofs.Common.{◌≡◌, ℕ, zero, suc, ◌+◌, ◌<◌, ◌�
 use Rattle.std.specs.Prelude.{◌&&◌, ◌||◌, codes, if◌then◌else◌}
 use Rattle.std.specs.Str.{bytes_eq}
 use Rattle.std.proofs.lemmas.List.{length-append}
-use Rattle.std.proofs.lemmas.Bool.{and_parts}
+use Rattle.std.proofs.lemmas.Bool.{and_parts, or_from, or_parts}
 use Rattle.litmus_tokens.specs.declared.rule.LitmusRule.{LitmusRule}
 use Rattle.litmus_tokens.specs.declared.stage.Stage.{Stage}
 use Rattle.litmus_tokens.specs.declared.stage.Stage.TheVariants as stages
@@ -12,7 +12,7 @@ use Rattle.litmus_tokens.specs.declared.token.Token.TheVariants as tokens
 use Rattle.litmus_tokens.specs.declared.token.Mark.TheVariants as marks
 use Rattle.litmus_tokens.specs.Faults.{Begins, CanFollow, cell_ruling, ruling, Says, IsFault}
 use Rattle.litmus_tokens.specs.Stage.{after}
-use Rattle.litmus_tokens.specs.Texts.{Placed, tokens_of, stage_after, begins_tail}
+use Rattle.litmus_tokens.specs.Texts.{TokenAt, tokens_of, stage_after, begins_tail}
 use Rattle.litmus_tokens.specs.Words.{is_test_name}
 use Rattle.litmus_values.specs.declared.test.Quantifier.TheVariants.{Exists, Forall}
 use Rattle.litmus_conditions.specs.Grammar.{PlaceTree, Location, Register, ValueTree, Number, Address, spelled_place, spelled_value}
@@ -23,26 +23,21 @@ use Rattle.litmus_grammar.specs.declared.parts.TextKind.TheVariants as kinds
 use Rattle.litmus_grammar.specs.Grammar.{Listed, EntryTree, spelled_entry, spelled_others, spelled_listed, spelled_init, members, AreEntries, IsInitText, spelled_text, spelled_keylines}
 use Rattle.litmus_grammar.specs.InitMachine as init
 use Rattle.litmus_grammar.specs.TextMachine as text
-use Rattle.litmus_grammar.specs.TextMachine.{Part, Draft, Next, State, Ran, placed, and_then, stepped, part_step, start, run, rule_at}
+use Rattle.litmus_grammar.specs.TextMachine.{Part, Draft, Next, State, Ran, with_offset, and_then, stepped, part_step, start, run, rule_at}
 use Rattle.litmus_grammar.specs.Texts.{is_init, spelled_colon, IsBrokenOff, IsWhole, BreaksOff}
 use Rattle.litmus_grammar.proofs.Blocks.{IsBody, Opened, IsOne, IsBroken, brace_at, block_at, block_begins, body_of}
 use Rattle.litmus_grammar.proofs.Bodies.{any_header}
 use Rattle.litmus_grammar.proofs.Conditions.{tail_says}
 use Rattle.litmus_grammar.proofs.Heads.{magic, IsHeaded, any_body, test_of, keylines-append}
-use Rattle.litmus_grammar.proofs.Outcomes.{not_both}
+use Rattle.litmus_grammar.proofs.Outcomes.{not_both, stopped, stopped_is}
 use Rattle.litmus_grammar.proofs.Passing.{test_at}
 use Rattle.litmus_grammar.proofs.Runs.{tokens_of-append, went, run_one}
 use Rattle.litmus_grammar.proofs.Spelled.{init-append}
 use Rattle.litmus_grammar.proofs.Splits.{Rest, Nothing, More, rest_of}
 use Rattle.litmus_grammar.proofs.TestParts.{Agrees, AgreesRows, stood}
-use Rattle.litmus_grammar.proofs.TestTaken.{IsText, IsBegun, test_refused}
+use Rattle.litmus_grammar.proofs.TestAcceptance.{IsText, IsBegun, test_refused, first_draft}
 use Rattle.litmus_grammar.proofs.Threads.{says_so}
-
-abbrev bracket : Token
-bracket = tokens.Mark marks.OpenBracket
-
-abbrev first_draft : State
-first_draft = start kinds.Test 0
+use Rattle.litmus_grammar.proofs.InitStarts.{bracket}
 
 -- ---- within the entries no token leads out of the init block
 
@@ -111,7 +106,7 @@ AnyState s = Unit {0}
 any_start : Begins IsBodyStart []
 any_start = record { rest = any_body.rest; text = inl any_body.text }
 
-start_from : (name : List ℕ) (ps : List Placed) (n : ℕ) (g : Stage) (s : State) → length ps + 1 < 18446744073709551616 → run (block_at name g) ps ≡ Ok s → AnyState s → Begins IsBodyStart (tokens_of (brace_at n ∷ ps))
+start_from : (name : List ℕ) (ps : List TokenAt) (n : ℕ) (g : Stage) (s : State) → length ps + 1 < 18446744073709551616 → run (block_at name g) ps ≡ Ok s → AnyState s → Begins IsBodyStart (tokens_of (brace_at n ∷ ps))
 start_from name ps n g s few e q = by_opened (block_begins name ps n g s few e)
   where
     by_opened : Opened name ps n s → Begins IsBodyStart (tokens_of (brace_at n ∷ ps))
@@ -184,7 +179,7 @@ start_of ts x = by_body x.head.3
     by_body (inr b) = subst IsBegun (sym same) (BreaksOff (broken_of x.name x.is_name x.head.0 x.head.1 x.head.2 b))
 
 -- what is taken begins a test, or a text that is broken off
-pub test_begins : (ps : List Placed) (s : State) → length ps < 18446744073709551616 → run first_draft ps ≡ Ok s → Begins IsBegun (tokens_of ps)
+pub test_begins : (ps : List TokenAt) (s : State) → length ps < 18446744073709551616 → run first_draft ps ≡ Ok s → Begins IsBegun (tokens_of ps)
 test_begins ps s few e =
     let b = magic IsBodyStart AnyState any_start start_from ps stages.Magic s few e tt in
     record { rest = b.rest; text = start_of (tokens_of ps ++ b.rest) b.text }
@@ -211,15 +206,6 @@ none_result : (h : Draft) (o : Option table.State) → text.table_result h text.
 none_result h None e = refl
 none_result h (Some u) e = absurd cc
 
-neither : (a b : Bool) → a ≡ false → b ≡ false → (a || b) ≡ false
-neither false false e f = refl
-neither true b e f = absurd cc
-neither false true e f = absurd cc
-
-first_false : (a b : Bool) → (a || b) ≡ false → (a ≡ false) × (b ≡ false)
-first_false true b e = absurd cc
-first_false false b e = (refl, e)
-
 not_taken : (o : Option table.State) → is_taken o ≡ false → o ≡ None
 not_taken None e = refl
 not_taken (Some u) e = absurd cc
@@ -233,15 +219,15 @@ module _ (h : Draft) (t : Token) where
     where
       choose : (b : Bool) → ends_row ≡ b → (if b then text.next_at h (text.tail_start t) else text.table_result h text.Rows (table.step h.table t 0)) ≡ None → stands false h.table t ≡ false
       choose true e k = absurd (begins_goes t (and_parts (table.is_row_start h.table) (begins_tail t) e).1 (none_led h (text.tail_start t) k))
-      choose false e k = neither (is_taken (table.step h.table t 0)) (table.is_row_start h.table && begins_tail t) (none_result h (table.step h.table t 0) k) e
+      choose false e k = or_from (is_taken (table.step h.table t 0)) (table.is_row_start h.table && begins_tail t) (none_result h (table.step h.table t 0) k) e
 
   stuck : stands false h.table t ≡ false → text.row_read h t 0 ≡ None
   stuck e =
-      let x = first_false (is_taken (table.step h.table t 0)) (table.is_row_start h.table && begins_tail t) e in
+      let x = or_parts (is_taken (table.step h.table t 0)) (table.is_row_start h.table && begins_tail t) e in
       ap (λ (b : Bool). if b then text.next_at h (text.tail_start t) else text.table_result h text.Rows (table.step h.table t 0)) x.1
       ∙ ap (text.table_result h text.Rows) (not_taken (table.step h.table t 0) x.0)
 
-module _ (ps : List Placed) (few : length ps + 1 < 18446744073709551616) (g : Stage) (h : Draft) (reached : run first_draft ps ≡ Ok (test_at g text.Rows h)) where
+module _ (ps : List TokenAt) (few : length ps + 1 < 18446744073709551616) (g : Stage) (h : Draft) (reached : run first_draft ps ≡ Ok (test_at g text.Rows h)) where
   abbrev Can : Token → Type 0
   Can t = CanFollow IsBegun (tokens_of ps) t
 
@@ -250,7 +236,7 @@ module _ (ps : List Placed) (few : length ps + 1 < 18446744073709551616) (g : St
 
   goes : (t : Token) (n : Next) → text.row_read h t 0 ≡ Some n → Can t
   goes t n e =
-      let p : Placed = record { token = t; offset = 0 } in
+      let p : TokenAt = record { token = t; offset = 0 } in
       let many : length (ps ++ p ∷ []) ≡ length ps + 1 = length-append ps (p ∷ []) in
       subst (Begins IsBegun) (tokens_of-append ps (p ∷ [])) (test_begins (ps ++ p ∷ []) (went there t n) (let l : length (ps ++ p ∷ []) < 18446744073709551616 = omega (arith, many, few) in l) (run_one first_draft there ps p n reached e))
 
@@ -321,7 +307,7 @@ module _ (C : Token → Type 0) (u : table.State) where
   header_says k (tokens.Word w) = refl
   header_says k t = refl
 
-module _ (ps : List Placed) (few : length ps + 1 < 18446744073709551616) (g : Stage) (p : Part) (h : Draft) (reached : run first_draft ps ≡ Ok (test_at g p h)) (t : Token) (offset : ℕ) where
+module _ (ps : List TokenAt) (few : length ps + 1 < 18446744073709551616) (g : Stage) (p : Part) (h : Draft) (reached : run first_draft ps ≡ Ok (test_at g p h)) (t : Token) (offset : ℕ) where
   abbrev Follows : Token → Type 0
   Follows x = CanFollow IsBegun (tokens_of ps) x
 
@@ -343,7 +329,7 @@ module _ (ps : List Placed) (few : length ps + 1 < 18446744073709551616) (g : St
   all_say stages.InCell a none = rows_say stages.InCell tt a none
   all_say stages.Tail a none = tail_says Follows kinds.Test h.table t
 
-pub test_says : (ps : List Placed) (s : State) (t : Token) (offset : ℕ) → length ps + 1 < 18446744073709551616 → run first_draft ps ≡ Ok s → part_step s.kind s.threads s.draft s.part t offset ≡ None
+pub test_says : (ps : List TokenAt) (s : State) (t : Token) (offset : ℕ) → length ps + 1 < 18446744073709551616 → run first_draft ps ≡ Ok s → part_step s.kind s.threads s.draft s.part t offset ≡ None
     → Says (CanFollow IsBegun (tokens_of ps)) (stage_after stages.Magic (tokens_of ps)) (ruling (stage_after stages.Magic (tokens_of ps)) t) (rule_at s.kind s.draft.table s.stage t)
 test_says ps s t offset few e none =
     let y = stood ps s e in
@@ -353,17 +339,11 @@ test_says ps s t offset few e none =
 
 -- ---- the fault
 
-abbrev stopped : LitmusRule × ℕ → Ran
-stopped e = Err e
-
-stopped_is : (a b : LitmusRule × ℕ) → stopped a ≡ stopped b → a ≡ b
-stopped_is a b e = cc
-
-go : (before : List Placed) (s : State) (rest : List Placed) (r : LitmusRule) (n : ℕ) → length (before ++ rest) < 18446744073709551616 → run first_draft before ≡ Ok s → run s rest ≡ Err (r, n) → IsFault IsBegun stages.Magic (before ++ rest) r n
+go : (before : List TokenAt) (s : State) (rest : List TokenAt) (r : LitmusRule) (n : ℕ) → length (before ++ rest) < 18446744073709551616 → run first_draft before ≡ Ok s → run s rest ≡ Err (r, n) → IsFault IsBegun stages.Magic (before ++ rest) r n
 go before s [] r n few reached e = absurd (not_both (r, n) s (sym e))
 go before s (p ∷ rest) r n few reached e =
     by_next (part_step s.kind s.threads s.draft s.part p.token p.offset) refl e
-    (λ x q h. rw (← append_assoc before (p ∷ []) rest) (go (before ++ p ∷ []) x rest r n (subst (λ (l : List Placed). length l < 18446744073709551616) (sym (append_assoc before (p ∷ []) rest)) few) q h))
+    (λ x q h. rw (← append_assoc before (p ∷ []) rest) (go (before ++ p ∷ []) x rest r n (subst (λ (l : List TokenAt). length l < 18446744073709551616) (sym (append_assoc before (p ∷ []) rest)) few) q h))
   where
     short : length before + 1 < 18446744073709551616
     short = let many : length (before ++ p ∷ rest) ≡ length before + (length rest + 1) = (let a : length (before ++ p ∷ rest) ≡ length before + length (p ∷ rest) = length-append before (p ∷ rest) in omega (arith, a)) in omega (arith, many, few)
@@ -371,7 +351,7 @@ go before s (p ∷ rest) r n few reached e =
     fits : length before < 18446744073709551616
     fits = omega (arith, short)
 
-    by_next : (o : Option Next) → part_step s.kind s.threads s.draft s.part p.token p.offset ≡ o → and_then (placed p.offset (stepped s p.token o)) (λ x. run x rest) ≡ Err (r, n)
+    by_next : (o : Option Next) → part_step s.kind s.threads s.draft s.part p.token p.offset ≡ o → and_then (with_offset p.offset (stepped s p.token o)) (λ x. run x rest) ≡ Err (r, n)
         → ((x : State) → run first_draft (before ++ p ∷ []) ≡ Ok x → run x rest ≡ Err (r, n) → IsFault IsBegun stages.Magic (before ++ p ∷ rest) r n) → IsFault IsBegun stages.Magic (before ++ p ∷ rest) r n
     by_next (Some x) q h f = f (went s p.token x) (run_one first_draft s before p x reached q) h
     by_next None q h f =
@@ -388,5 +368,5 @@ go before s (p ∷ rest) r n few reached e =
           number = subst (Says (CanFollow IsBegun (tokens_of before)) stage (ruling stage p.token)) (ap (λ (x : LitmusRule × ℕ). x.0) same) (test_says before s p.token p.offset short reached q);
         }
 
-pub test_fault_where : (ps : List Placed) (r : LitmusRule) (n : ℕ) → length ps < 18446744073709551616 → run first_draft ps ≡ Err (r, n) → IsFault IsBegun stages.Magic ps r n
+pub test_fault_where : (ps : List TokenAt) (r : LitmusRule) (n : ℕ) → length ps < 18446744073709551616 → run first_draft ps ≡ Err (r, n) → IsFault IsBegun stages.Magic ps r n
 test_fault_where ps r n few e = go [] first_draft ps r n few refl e

@@ -9,7 +9,7 @@ use Rattle.litmus_tokens.specs.declared.token.Token.{Token}
 use Rattle.litmus_tokens.specs.declared.token.Token.TheVariants as tokens
 use Rattle.litmus_tokens.specs.declared.token.Mark.TheVariants as marks
 use Rattle.litmus_tokens.specs.Stage.{after}
-use Rattle.litmus_tokens.specs.Texts.{Placed, tokens_of, stage_after, begins_tail}
+use Rattle.litmus_tokens.specs.Texts.{TokenAt, tokens_of, stage_after, begins_tail}
 use Rattle.litmus_tokens.specs.Words.{is_test_name, names_column}
 use Rattle.litmus_values.specs.declared.test.Place.{Place}
 use Rattle.litmus_values.specs.declared.test.Quantifier.{Quantifier}
@@ -32,7 +32,7 @@ use Rattle.litmus_grammar.specs.declared.parts.TextKind.TheVariants as kinds
 use Rattle.litmus_grammar.specs.InitMachine as init
 use Rattle.litmus_grammar.specs.InitMachine.{Block}
 use Rattle.litmus_grammar.specs.TextMachine as text
-use Rattle.litmus_grammar.specs.TextMachine.{Part, Draft, Next, State, placed, and_then, stepped, part_step, run}
+use Rattle.litmus_grammar.specs.TextMachine.{Part, Draft, Next, State, with_offset, and_then, stepped, part_step, run}
 use Rattle.litmus_grammar.proofs.Passing.{test_at}
 use Rattle.litmus_grammar.proofs.Threads.{Matches, IsMatched, step_matches}
 
@@ -322,16 +322,16 @@ pub record Stood (g : Stage) (s : State) : Type 0 where
   pub same : s ≡ test_at g part draft
   pub agrees : Agrees g part draft.table.expected
 
-stood_on : (ps : List Placed) (g : Stage) (p : Part) (h : Draft) (s : State) → Agrees g p h.table.expected → run (test_at g p h) ps ≡ Ok s → Stood (stage_after g (tokens_of ps)) s
+stood_on : (ps : List TokenAt) (g : Stage) (p : Part) (h : Draft) (s : State) → Agrees g p h.table.expected → run (test_at g p h) ps ≡ Ok s → Stood (stage_after g (tokens_of ps)) s
 stood_on [] g p h s a e =
     let same : test_at g p h ≡ s = cc in
     record { part = p; draft = h; same = sym same; agrees = a }
 stood_on (q ∷ ps) g p h s a e = by_next (part_step kinds.Test 0 h p q.token q.offset) (step_agrees g p h q.token q.offset a) e (λ n x k. stood_on ps (after g q.token) n.part n.draft s x k)
   where
-    by_next : (o : Option Next) → NextAgrees (after g q.token) o → and_then (placed q.offset (stepped (test_at g p h) q.token o)) (λ x. run x ps) ≡ Ok s
+    by_next : (o : Option Next) → NextAgrees (after g q.token) o → and_then (with_offset q.offset (stepped (test_at g p h) q.token o)) (λ x. run x ps) ≡ Ok s
         → ((n : Next) → Agrees (after g q.token) n.part n.draft.table.expected → run (test_at (after g q.token) n.part n.draft) ps ≡ Ok s → Stood (stage_after (after g q.token) (tokens_of ps)) s) → Stood (stage_after g (tokens_of (q ∷ ps))) s
     by_next None x k later = absurd cc
     by_next (Some n) x k later = later n x k
 
-pub stood : (ps : List Placed) (s : State) → run (text.start kinds.Test 0) ps ≡ Ok s → Stood (stage_after stages.Magic (tokens_of ps)) s
+pub stood : (ps : List TokenAt) (s : State) → run (text.start kinds.Test 0) ps ≡ Ok s → Stood (stage_after stages.Magic (tokens_of ps)) s
 stood ps s e = stood_on ps stages.Magic text.Magic (text.nothing kinds.Test) s refl e

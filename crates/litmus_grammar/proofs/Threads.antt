@@ -9,7 +9,7 @@ use Rattle.litmus_tokens.specs.declared.token.Token.{Token}
 use Rattle.litmus_tokens.specs.declared.token.Token.TheVariants as tokens
 use Rattle.litmus_tokens.specs.declared.token.Mark.TheVariants as marks
 use Rattle.litmus_tokens.specs.Stage.{after}
-use Rattle.litmus_tokens.specs.Texts.{Placed, tokens_of, stage_after, is_end}
+use Rattle.litmus_tokens.specs.Texts.{TokenAt, tokens_of, stage_after, is_end}
 use Rattle.litmus_tokens.specs.Words.{ends_table}
 use Rattle.litmus_tokens.specs.Faults.{Begins, CanFollow, Ruling, Always, Where, cell_ruling, ruling, Says}
 use Rattle.litmus_table.specs.declared.opcode.Opcode.{Opcode}
@@ -28,13 +28,14 @@ use Rattle.litmus_table.proofs.Tables.{thread_complete, thread_begins}
 use Rattle.litmus_grammar.specs.declared.parts.TextKind.TheVariants as kinds
 use Rattle.litmus_grammar.specs.Grammar.{IsThreadText}
 use Rattle.litmus_grammar.specs.TextMachine as text
-use Rattle.litmus_grammar.specs.TextMachine.{Part, Draft, Next, State, with_table, placed, and_then, stepped, part_step, nothing, start, run, rule_at}
+use Rattle.litmus_grammar.specs.TextMachine.{Part, Draft, Next, State, with_table, with_offset, and_then, stepped, part_step, nothing, start, run, rule_at}
 use Rattle.litmus_grammar.proofs.Ends.{no_cell}
 use Rattle.litmus_grammar.proofs.Inner.{AreInner}
 use Rattle.litmus_grammar.proofs.Outcomes.{ReadingWhere, refused}
 use Rattle.litmus_grammar.proofs.Runs.{tokens_of-append, run-append}
 use Rattle.litmus_grammar.proofs.Spelled.{thread-append}
 use Rattle.litmus_grammar.proofs.Splits.{split, single}
+use Rattle.std.proofs.Math.Bool.{and-false}
 
 -- ---- a cell begins in the text where one begins in the table
 
@@ -55,7 +56,7 @@ in_cell stages.CellBegins h m = tt
 in_cell stages.InCell h m = tt
 in_cell g h m = absurd m
 
-module _ (threads : List table.Placed) (c offset : ℕ) where
+module _ (threads : List table.ThreadSteps) (c offset : ℕ) where
   operation_matches : (o : Option Opcode) → IsMatched stages.InCell (table.operation threads c offset o)
   operation_matches (Some (opcodes.Data op)) = tt
   operation_matches (Some (opcodes.Branch condition)) = tt
@@ -141,7 +142,7 @@ module _ (threads : List table.Placed) (c offset : ℕ) where
 
 -- ---- tables on lists of tokens
 
-table_append : (ps qs : List Placed) (s : table.State) → laws.run s (ps ++ qs) ≡ then_on (λ u. laws.run u qs) (laws.run s ps)
+table_append : (ps qs : List TokenAt) (s : table.State) → laws.run s (ps ++ qs) ≡ then_on (λ u. laws.run u qs) (laws.run s ps)
 table_append [] qs s = refl
 table_append (p ∷ ps) qs s = by_step (table.step s p.token p.offset) (table_append ps qs)
   where
@@ -150,7 +151,7 @@ table_append (p ∷ ps) qs s = by_step (table.step s p.token p.offset) (table_ap
     by_step (Some u) later = later u
 
 -- a token more
-pub table_one : (ps : List Placed) (s u v : table.State) (p : Placed) → laws.run s ps ≡ Some u → table.step u p.token p.offset ≡ Some v → laws.run s (ps ++ p ∷ []) ≡ Some v
+pub table_one : (ps : List TokenAt) (s u v : table.State) (p : TokenAt) → laws.run s ps ≡ Some u → table.step u p.token p.offset ≡ Some v → laws.run s (ps ++ p ∷ []) ≡ Some v
 table_one ps s u v p e m = table_append ps (p ∷ []) s ∙ ap (then_on (λ x. laws.run x (p ∷ []))) e ∙ ap (then_on (λ x. Some x)) m
 
 -- ---- what can stand, as tables know it and as texts do
@@ -164,12 +165,8 @@ token_end : (t : Token) → is_end t ≡ true → t ≡ tokens.End
 token_end tokens.End e = refl
 token_end t e = absurd cc
 
-end_placed : (p : Placed) → is_end p.token ≡ true → p ≡ record { token = tokens.End; offset = p.offset }
+end_placed : (p : TokenAt) → is_end p.token ≡ true → p ≡ record { token = tokens.End; offset = p.offset }
 end_placed p e = ap (λ (t : Token). record { token = t; offset = p.offset }) (token_end p.token e)
-
-and_false : (a : Bool) → (a && false) ≡ false
-and_false true = refl
-and_false false = refl
 
 -- a token that the table takes ends no text
 pub cell_goes : (h : Draft) (t : Token) (offset : ℕ) (v : table.State) → table.step h.table t offset ≡ Some v → text.cell_read h t offset ≡ Some (record { part = text.Cells; draft = with_table h v })
@@ -181,7 +178,7 @@ cell_goes h t offset v e = choose (is_end t) refl
         absurd (let no : Some v ≡ None = sym e ∙ none in cc)
     choose false k =
         ap (λ (b : Bool). if table.can_end h.table.expected && b then text.at h text.Done else text.table_result h text.Cells (table.step h.table t offset)) k
-        ∙ ap (λ (b : Bool). if b then text.at h text.Done else text.table_result h text.Cells (table.step h.table t offset)) (and_false (table.can_end h.table.expected))
+        ∙ ap (λ (b : Bool). if b then text.at h text.Done else text.table_result h text.Cells (table.step h.table t offset)) (and-false (table.can_end h.table.expected))
         ∙ ap (text.table_result h text.Cells) e
 
 -- ---- texts of threads
@@ -189,7 +186,7 @@ cell_goes h t offset v e = choose (is_end t) refl
 to_text : (ts : List Token) → IsThread ts → IsThreadText (ts ++ tokens.End ∷ [])
 to_text ts x = record { tree = x.tree; fine = x.fine; whole = ap (λ (l : List Token). l ++ tokens.End ∷ []) x.whole ∙ thread-append x.tree [] (tokens.End ∷ []) }
 
-inner_no_end : (qs : List Placed) (n : ℕ) → AreInner (tokens_of (qs ++ record { token = tokens.End; offset = n } ∷ [])) → ⊥
+inner_no_end : (qs : List TokenAt) (n : ℕ) → AreInner (tokens_of (qs ++ record { token = tokens.End; offset = n } ∷ [])) → ⊥
 inner_no_end [] n i = i.0
 inner_no_end (q ∷ qs) n i = inner_no_end qs n i.1
 
@@ -198,41 +195,41 @@ module _ (threads : ℕ) where
   standing g p h = record { kind = kinds.Thread; threads = threads; stage = g; part = p; draft = h }
 
   -- where a text that is taken so far stands
-  data Standing (g : Stage) (h : Draft) (ps : List Placed) (s : State) : Type 0 where
+  data Standing (g : Stage) (h : Draft) (ps : List TokenAt) (s : State) : Type 0 where
     Inside : (u : table.State) → laws.run h.table ps ≡ Some u → s ≡ standing (stage_after g (tokens_of ps)) text.Cells (with_table h u) → Matches (stage_after g (tokens_of ps)) u.expected → Standing g h ps s
-    Ended : (u : table.State) (qs : List Placed) (n : ℕ) → ps ≡ qs ++ record { token = tokens.End; offset = n } ∷ [] → laws.run h.table qs ≡ Some u → is_whole u ≡ true → s.draft ≡ with_table h u → Standing g h ps s
+    Ended : (u : table.State) (qs : List TokenAt) (n : ℕ) → ps ≡ qs ++ record { token = tokens.End; offset = n } ∷ [] → laws.run h.table qs ≡ Some u → is_whole u ≡ true → s.draft ≡ with_table h u → Standing g h ps s
 
-  prepend : (g : Stage) (h : Draft) (p : Placed) (ps : List Placed) (s : State) (u : table.State) → table.step h.table p.token p.offset ≡ Some u → Standing (after g p.token) (with_table h u) ps s → Standing g h (p ∷ ps) s
+  prepend : (g : Stage) (h : Draft) (p : TokenAt) (ps : List TokenAt) (s : State) (u : table.State) → table.step h.table p.token p.offset ≡ Some u → Standing (after g p.token) (with_table h u) ps s → Standing g h (p ∷ ps) s
   prepend g h p ps s u q (Inside v r e m) = Inside v (ap (then_on (λ x. laws.run x ps)) q ∙ r) e m
-  prepend g h p ps s u q (Ended v qs n whole r ended draft) = Ended v (p ∷ qs) n (ap (λ (l : List Placed). p ∷ l) whole) (ap (then_on (λ x. laws.run x qs)) q ∙ r) ended draft
+  prepend g h p ps s u q (Ended v qs n whole r ended draft) = Ended v (p ∷ qs) n (ap (λ (l : List TokenAt). p ∷ l) whole) (ap (then_on (λ x. laws.run x qs)) q ∙ r) ended draft
 
-  last : (g : Stage) (h : Draft) (p : Placed) (ps : List Placed) (s : State) → (table.can_end h.table.expected && is_end p.token) ≡ true → run (standing (after g p.token) text.Done h) ps ≡ Ok s → Standing g h (p ∷ ps) s
+  last : (g : Stage) (h : Draft) (p : TokenAt) (ps : List TokenAt) (s : State) → (table.can_end h.table.expected && is_end p.token) ≡ true → run (standing (after g p.token) text.Done h) ps ≡ Ok s → Standing g h (p ∷ ps) s
   last g h p [] s q e =
       let b = and_parts (table.can_end h.table.expected) (is_end p.token) q in
       let same : standing (after g p.token) text.Done h ≡ s = cc in
-      Ended h.table [] p.offset (ap (λ (x : Placed). x ∷ []) (end_placed p b.1)) refl b.0 (ap (λ (x : State). x.draft) (sym same))
+      Ended h.table [] p.offset (ap (λ (x : TokenAt). x ∷ []) (end_placed p b.1)) refl b.0 (ap (λ (x : State). x.draft) (sym same))
   last g h p (r ∷ ps) s q e = absurd cc
 
-  stands_there : (ps : List Placed) (g : Stage) (h : Draft) (s : State) → Matches g h.table.expected → run (standing g text.Cells h) ps ≡ Ok s → Standing g h ps s
+  stands_there : (ps : List TokenAt) (g : Stage) (h : Draft) (s : State) → Matches g h.table.expected → run (standing g text.Cells h) ps ≡ Ok s → Standing g h ps s
   stands_there [] g h s m e =
       let same : standing g text.Cells h ≡ s = cc in
       Inside h.table refl (sym same) m
   stands_there (p ∷ ps) g h s m e = by_end (table.can_end h.table.expected && is_end p.token) refl e (λ u k x. stands_there ps (after g p.token) (with_table h u) s k x)
     where
-      by_step : (o : Option table.State) → table.step h.table p.token p.offset ≡ o → and_then (placed p.offset (stepped (standing g text.Cells h) p.token (text.table_result h text.Cells o))) (λ x. run x ps) ≡ Ok s
+      by_step : (o : Option table.State) → table.step h.table p.token p.offset ≡ o → and_then (with_offset p.offset (stepped (standing g text.Cells h) p.token (text.table_result h text.Cells o))) (λ x. run x ps) ≡ Ok s
           → ((u : table.State) → Matches (after g p.token) u.expected → run (standing (after g p.token) text.Cells (with_table h u)) ps ≡ Ok s → Standing (after g p.token) (with_table h u) ps s) → Standing g h (p ∷ ps) s
       by_step None q k later = absurd cc
       by_step (Some u) q k later = prepend g h p ps s u q (later u (subst (IsMatched (after g p.token)) q (step_matches h.table.threads h.table.column p.offset g h.table.expected p.token m)) k)
 
       by_end : (b : Bool) → (table.can_end h.table.expected && is_end p.token) ≡ b
-          → and_then (placed p.offset (stepped (standing g text.Cells h) p.token (if b then text.at h text.Done else text.table_result h text.Cells (table.step h.table p.token p.offset)))) (λ x. run x ps) ≡ Ok s
+          → and_then (with_offset p.offset (stepped (standing g text.Cells h) p.token (if b then text.at h text.Done else text.table_result h text.Cells (table.step h.table p.token p.offset)))) (λ x. run x ps) ≡ Ok s
           → ((u : table.State) → Matches (after g p.token) u.expected → run (standing (after g p.token) text.Cells (with_table h u)) ps ≡ Ok s → Standing (after g p.token) (with_table h u) ps s) → Standing g h (p ∷ ps) s
       by_end true q k later = last g h p ps s q k
       by_end false q k later = by_step (table.step h.table p.token p.offset) refl k later
 
   -- ---- each text is taken
 
-  cells_run : (ps : List Placed) (g : Stage) (h : Draft) (u : table.State) → laws.run h.table ps ≡ Some u → run (standing g text.Cells h) ps ≡ Ok (standing (stage_after g (tokens_of ps)) text.Cells (with_table h u))
+  cells_run : (ps : List TokenAt) (g : Stage) (h : Draft) (u : table.State) → laws.run h.table ps ≡ Some u → run (standing g text.Cells h) ps ≡ Ok (standing (stage_after g (tokens_of ps)) text.Cells (with_table h u))
   cells_run [] g h u e =
       let same : h.table ≡ u = cc in
       ap (λ (x : table.State). Ok (standing g text.Cells (with_table h x))) same
@@ -243,20 +240,20 @@ module _ (threads : ℕ) where
           → run (standing g text.Cells h) (p ∷ ps) ≡ Ok (standing (stage_after g (tokens_of (p ∷ ps))) text.Cells (with_table h u))
       by_step None q k later = absurd cc
       by_step (Some v) q k later =
-          ap (λ (o : Option Next). and_then (placed p.offset (stepped (standing g text.Cells h) p.token o)) (λ x. run x ps)) (cell_goes h p.token p.offset v q) ∙ later v k
+          ap (λ (o : Option Next). and_then (with_offset p.offset (stepped (standing g text.Cells h) p.token o)) (λ x. run x ps)) (cell_goes h p.token p.offset v q) ∙ later v k
 
   abbrev first_draft : Draft
   first_draft = nothing kinds.Thread
 
   -- the machine behind a text, with what it keeps
-  pub record TakesThread (ps : List Placed) (x : IsThreadText (tokens_of ps)) : Type 0 where
+  pub record TakesThread (ps : List TokenAt) (x : IsThreadText (tokens_of ps)) : Type 0 where
     pub after : table.State
     pub stage : Stage
     pub by : run (start kinds.Thread threads) ps ≡ Ok (standing stage text.Done (with_table first_draft after))
     pub meant : steps_of after.threads ≡ thread_meaning x.tree ∷ []
     pub noted : AreNoted ps (thread_notes [] (x.tree.first ∷ x.tree.others) ∷ []) after.threads
 
-  pub thread_taken : (ps : List Placed) (x : IsThreadText (tokens_of ps)) → TakesThread ps x
+  pub thread_taken : (ps : List TokenAt) (x : IsThreadText (tokens_of ps)) → TakesThread ps x
   thread_taken ps x =
       let cut = split ps (spelled_thread x.tree []) (tokens.End ∷ []) (x.whole ∙ sym (thread-append x.tree [] (tokens.End ∷ []))) in
       let end = single cut.behind tokens.End cut.are_behind in
@@ -267,26 +264,26 @@ module _ (threads : ℕ) where
         after = r.after;
         stage = after g tokens.End;
         by =
-            ap (run (start kinds.Thread threads)) (cut.whole ∙ ap (λ (l : List Placed). cut.before ++ l) end.1)
+            ap (run (start kinds.Thread threads)) (cut.whole ∙ ap (λ (l : List TokenAt). cut.before ++ l) end.1)
             ∙ run-append (start kinds.Thread threads) there cut.before (record { token = tokens.End; offset = end.0 } ∷ []) (cells_run cut.before stages.CellBegins first_draft r.after r.by)
-            ∙ ap (λ (b : Bool). and_then (placed end.0 (stepped there tokens.End (if b && true then text.at there.draft text.Done else text.table_result there.draft text.Cells (table.step r.after tokens.End end.0)))) (λ s. Ok s)) r.ended;
+            ∙ ap (λ (b : Bool). and_then (with_offset end.0 (stepped there tokens.End (if b && true then text.at there.draft text.Done else text.table_result there.draft text.Cells (table.step r.after tokens.End end.0)))) (λ s. Ok s)) r.ended;
         meant = r.meant;
-        noted = subst (λ (l : List Placed). AreNoted l (thread_notes [] (x.tree.first ∷ x.tree.others) ∷ []) r.after.threads) (sym cut.whole) r.noted;
+        noted = subst (λ (l : List TokenAt). AreNoted l (thread_notes [] (x.tree.first ∷ x.tree.others) ∷ []) r.after.threads) (sym cut.whole) r.noted;
       }
 
-  takes : (ps : List Placed) → IsThreadText (tokens_of ps) → (s : State) × (run (start kinds.Thread threads) ps ≡ Ok s)
+  takes : (ps : List TokenAt) → IsThreadText (tokens_of ps) → (s : State) × (run (start kinds.Thread threads) ps ≡ Ok s)
   takes ps x = let r = thread_taken ps x in (standing r.stage text.Done (with_table first_draft r.after), r.by)
 
   -- ---- what is taken begins a text
 
-  ended_text : (ps qs : List Placed) (n : ℕ) (u : table.State) → ps ≡ qs ++ record { token = tokens.End; offset = n } ∷ [] → laws.run (laws.columns 0) qs ≡ Some u → is_whole u ≡ true → IsThreadText (tokens_of ps)
+  ended_text : (ps qs : List TokenAt) (n : ℕ) (u : table.State) → ps ≡ qs ++ record { token = tokens.End; offset = n } ∷ [] → laws.run (laws.columns 0) qs ≡ Some u → is_whole u ≡ true → IsThreadText (tokens_of ps)
   ended_text ps qs n u whole r ended =
       subst IsThreadText (sym (ap tokens_of whole ∙ tokens_of-append qs (record { token = tokens.End; offset = n } ∷ []))) (to_text (tokens_of qs) (thread_sound qs u r ended))
 
   begins_more : (ts : List Token) → Begins IsThread ts → Begins IsThreadText ts
   begins_more ts b = record { rest = b.rest ++ tokens.End ∷ []; text = subst IsThreadText (append_assoc ts b.rest (tokens.End ∷ [])) (to_text (ts ++ b.rest) b.text) }
 
-  begins_by : (ps : List Placed) (s : State) → Standing stages.CellBegins first_draft ps s → Begins IsThreadText (tokens_of ps)
+  begins_by : (ps : List TokenAt) (s : State) → Standing stages.CellBegins first_draft ps s → Begins IsThreadText (tokens_of ps)
   begins_by ps s (Inside u r e m) = begins_more (tokens_of ps) (thread_begins ps (record { after = u; by = r }))
   begins_by ps s (Ended u qs n whole r ended draft) = record { rest = []; text = subst IsThreadText (sym (append-nil (tokens_of ps))) (ended_text ps qs n u whole r ended) }
 
@@ -294,22 +291,22 @@ module _ (threads : ℕ) where
   is_done text.Done = true
   is_done p = false
 
-  whole_by : (ps : List Placed) (s : State) → Standing stages.CellBegins first_draft ps s → s.part ≡ text.Done → IsThreadText (tokens_of ps)
+  whole_by : (ps : List TokenAt) (s : State) → Standing stages.CellBegins first_draft ps s → s.part ≡ text.Done → IsThreadText (tokens_of ps)
   whole_by ps s (Inside u r e m) d = absurd (let no : false ≡ true = ap (λ (x : State). is_done x.part) (sym e) ∙ ap is_done d in cc)
   whole_by ps s (Ended u qs n whole r ended draft) d = ended_text ps qs n u whole r ended
 
-  pub thread_whole : (ps : List Placed) (s : State) → run (start kinds.Thread threads) ps ≡ Ok s → s.part ≡ text.Done → IsThreadText (tokens_of ps)
+  pub thread_whole : (ps : List TokenAt) (s : State) → run (start kinds.Thread threads) ps ≡ Ok s → s.part ≡ text.Done → IsThreadText (tokens_of ps)
   thread_whole ps s e d = whole_by ps s (stands_there ps stages.CellBegins first_draft s tt e) d
 
   -- ---- the rule that another token breaks
 
-  module _ (ps : List Placed) (u : table.State) (by : laws.run (laws.columns 0) ps ≡ Some u) (g : Stage) (reached : run (start kinds.Thread threads) ps ≡ Ok (standing g text.Cells (with_table first_draft u))) where
+  module _ (ps : List TokenAt) (u : table.State) (by : laws.run (laws.columns 0) ps ≡ Some u) (g : Stage) (reached : run (start kinds.Thread threads) ps ≡ Ok (standing g text.Cells (with_table first_draft u))) where
     abbrev Can : Token → Type 0
     Can t = CanFollow IsThreadText (tokens_of ps) t
 
     one_more : (t : Token) (v : table.State) → table.step u t 0 ≡ Some v → Can t
     one_more t v e =
-        let p : Placed = record { token = t; offset = 0 } in
+        let p : TokenAt = record { token = t; offset = 0 } in
         subst (Begins IsThreadText) (tokens_of-append ps (p ∷ [])) (begins_more (tokens_of (ps ++ p ∷ [])) (thread_begins (ps ++ p ∷ []) (record { after = v; by = table_one ps (laws.columns 0) u v p by e })))
 
     ends_here : (t : Token) → is_whole u ≡ true → is_end t ≡ true → Can t
@@ -359,7 +356,7 @@ module _ (threads : ℕ) where
   by_stage C u stages.InCell t i x = x
   by_stage C u g t i x = absurd i
 
-  says_by : (ps : List Placed) (s : State) (t : Token) (offset : ℕ) → AreInner (tokens_of ps) → run (start kinds.Thread threads) ps ≡ Ok s → part_step s.kind s.threads s.draft s.part t offset ≡ None → Standing stages.CellBegins first_draft ps s
+  says_by : (ps : List TokenAt) (s : State) (t : Token) (offset : ℕ) → AreInner (tokens_of ps) → run (start kinds.Thread threads) ps ≡ Ok s → part_step s.kind s.threads s.draft s.part t offset ≡ None → Standing stages.CellBegins first_draft ps s
       → Says (CanFollow IsThreadText (tokens_of ps)) (stage_after stages.CellBegins (tokens_of ps)) (ruling (stage_after stages.CellBegins (tokens_of ps)) t) (rule_at s.kind s.draft.table s.stage t)
   says_by ps s t offset fine e none (Inside u r same m) =
       let g = stage_after stages.CellBegins (tokens_of ps) in
@@ -367,7 +364,7 @@ module _ (threads : ℕ) where
       let still : text.cell_read (with_table first_draft u) t offset ≡ None = ap (λ (x : State). part_step x.kind x.threads x.draft x.part t offset) (sym same) ∙ none in
       subst (λ (x : State). Says (CanFollow IsThreadText (tokens_of ps)) g (ruling g t) (rule_at x.kind x.draft.table x.stage t)) (sym same)
       (by_stage (CanFollow IsThreadText (tokens_of ps)) u g t there (cell_says ps u r g (e ∙ ap (λ (x : State). Ok x) same) t offset there still))
-  says_by ps s t offset fine e none (Ended u qs n whole r ended draft) = absurd (inner_no_end qs n (subst (λ (l : List Placed). AreInner (tokens_of l)) whole fine))
+  says_by ps s t offset fine e none (Ended u qs n whole r ended draft) = absurd (inner_no_end qs n (subst (λ (l : List TokenAt). AreInner (tokens_of l)) whole fine))
 
   pub thread_reading : ReadingWhere AreInner IsThreadText kinds.Thread threads
   thread_reading = record {

@@ -3,7 +3,7 @@ use Rattle.std.specs.Prelude.{◌≡◌, ℕ, ◌+◌, List, [], ◌∷◌, ◌+
 use Rattle.litmus_tokens.specs.declared.token.Token.{Token}
 use Rattle.litmus_tokens.specs.declared.token.Token.TheVariants as tokens
 use Rattle.litmus_tokens.specs.declared.token.Mark.TheVariants.{Semicolon}
-use Rattle.litmus_tokens.specs.Texts.{Placed, StandsAt}
+use Rattle.litmus_tokens.specs.Texts.{TokenAt, StandsAt}
 use Rattle.litmus_values.specs.declared.test.InitEntry.{InitEntry}
 use Rattle.litmus_values.specs.declared.test.Place.{Place}
 use Rattle.litmus_values.specs.declared.test.Quantifier.{Quantifier}
@@ -19,7 +19,7 @@ use Rattle.litmus_grammar.specs.TextMachine.{Draft, State, start, run}
 use Rattle.litmus_grammar.specs.Texts.{before_entries, before_rows}
 
 -- The machine takes these tokens, and what it holds then is this.
-pub record Takes (kind : TextKind) (threads : ℕ) (ps : List Placed) (Holds : Draft → Type 0) : Type 0 where
+pub record Takes (kind : TextKind) (threads : ℕ) (ps : List TokenAt) (Holds : Draft → Type 0) : Type 0 where
   pub after : State
   pub by : run (start kind threads) ps ≡ Ok after
   pub holds : Holds after.draft
@@ -31,7 +31,7 @@ abbrev pub entry_kept : EntryTree → InitEntry
 entry_kept e = record { place = place_of (written_place e.place); value = value_meaning e.value }
 
 -- where the entries begin that stand behind these tokens
-abbrev pub AreStarts : List Placed → List Token → List EntryTree → List ℕ → Type 0
+abbrev pub AreStarts : List TokenAt → List Token → List EntryTree → List ℕ → Type 0
 AreStarts all before [] [] = Unit {0}
 AreStarts all before (e ∷ es) (s ∷ ss) =
     StandsAt all before s × AreStarts all (before ++ spelled_entry e (tokens.Mark Semicolon ∷ [])) es ss
@@ -47,17 +47,17 @@ abbrev pub HoldsPlaces : List Place → Draft → Type 0
 HoldsPlaces ps h = h.observed ≡ ps
 
 -- the entries of an init block, with the byte that each begins at,
-pub record HoldsEntries (ps : List Placed) (before : List Token) (es : List EntryTree) (h : Draft) : Type 0 where
+pub record HoldsEntries (ps : List TokenAt) (before : List Token) (es : List EntryTree) (h : Draft) : Type 0 where
   pub entries : h.init.entries ≡ map entry_kept es
   pub stand : AreStarts ps before es h.init.starts
 
 -- a thread, with the bytes of its labels,
-pub record HoldsThread (ps : List Placed) (t : ThreadTree) (h : Draft) : Type 0 where
+pub record HoldsThread (ps : List TokenAt) (t : ThreadTree) (h : Draft) : Type 0 where
   pub meant : steps_of h.table.threads ≡ thread_meaning t ∷ []
   pub noted : AreNoted ps (thread_notes [] (t.first ∷ t.others) ∷ []) h.table.threads
 
 -- and a test.
-pub record HoldsTest (ps : List Placed) (t : TestTree) (h : Draft) : Type 0 where
+pub record HoldsTest (ps : List TokenAt) (t : TestTree) (h : Draft) : Type 0 where
   pub name : h.name ≡ t.name
   pub init : HoldsEntries ps (before_entries t) (members t.init) h
   pub meant : steps_of h.table.threads ≡ columns_meaning 0 (t.others + 1) t.rows

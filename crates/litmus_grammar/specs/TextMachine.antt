@@ -9,7 +9,7 @@ use Rattle.litmus_tokens.specs.declared.token.Token.{Token}
 use Rattle.litmus_tokens.specs.declared.token.Token.TheVariants as tokens
 use Rattle.litmus_tokens.specs.declared.token.Mark.TheVariants as marks
 use Rattle.litmus_tokens.specs.Stage.{after, rule_of}
-use Rattle.litmus_tokens.specs.Texts.{Placed, is_end, begins_tail}
+use Rattle.litmus_tokens.specs.Texts.{TokenAt, is_end, begins_tail}
 use Rattle.litmus_tokens.specs.Words.{is_test_name, is_filter}
 use Rattle.litmus_values.specs.declared.test.Place.{Place}
 use Rattle.litmus_values.specs.declared.test.Quantifier.{Quantifier}
@@ -331,15 +331,15 @@ start kind threads = record { kind = kind; threads = threads; stage = first_stag
 abbrev pub Ran : Type 0
 Ran = Result State (LitmusRule × ℕ)
 
-abbrev pub placed : ℕ → Result State LitmusRule → Ran
-placed offset (Ok s) = Ok s
-placed offset (Err r) = Err (r, offset)
+abbrev pub with_offset : ℕ → Result State LitmusRule → Ran
+with_offset offset (Ok s) = Ok s
+with_offset offset (Err r) = Err (r, offset)
 
 abbrev pub and_then : Ran → (State → Ran) → Ran
 and_then (Ok s) f = f s
 and_then (Err e) f = Err e
 
 -- the tokens one after another, with the offset of the first that is refused
-abbrev pub run : State → List Placed → Ran
+abbrev pub run : State → List TokenAt → Ran
 run s [] = Ok s
-run s (p ∷ ps) = and_then (placed p.offset (step s p.token p.offset)) (λ s'. run s' ps)
+run s (p ∷ ps) = and_then (with_offset p.offset (step s p.token p.offset)) (λ s'. run s' ps)

@@ -27,9 +27,11 @@ use Rattle.litmus_printing.specs.Printing.{place_text, value_text, connective_te
 use Rattle.source_text.specs.Joined.{bracketed}
 use Rattle.litmus_grammar.specs.Texts.{ReadsCondition}
 use Rattle.litmus_laws.specs.Written.{begins_word, IsWord, IsPlace, IsFormula, IsTextOfCondition, one_where, nesting, joins, IsWithinLimits}
-use Rattle.litmus_laws.proofs.Read.{Within, Entries, Operands, Condition, part, core, free, inner, inner_turn, not_it}
+use Rattle.litmus_laws.proofs.Read.{Within, Entries, Operands, Condition, part, core, free, inner, inner_turn}
 use Rattle.litmus_laws.proofs.Numbers.{digits_first, word, are_back}
 use Rattle.litmus_laws.proofs.Places.{equals, Stops, value, value_tree, value_back, value_fine, value_first, place_tree, square_place, place_back, place_fine, place_there}
+use Rattle.litmus_conditions.proofs.Branches.{level-le}
+use Rattle.text_laws.proofs.Runs.{other}
 
 -- ---- words and signs
 
@@ -59,7 +61,7 @@ line_end Condition bs = free (part Condition) _ 0 1 bs refl
 
 open_here : (bs : List ℕ) → (slice_index bs 0 ≡ 42 → ⊥) → front Tail false (40 ∷ bs) ≡ Lexeme (tokens.Mark marks.Open) 1
 unfolding front
-open_here bs h = ap (λ (b : Bool). if b then comment_front (length (40 ∷ bs)) (comment_of (40 ∷ bs)) else Lexeme (tokens.Mark marks.Open) 1) (not_it (slice_index bs 0) 42 h)
+open_here bs h = ap (λ (b : Bool). if b then comment_front (length (40 ∷ bs)) (comment_of (40 ∷ bs)) else Lexeme (tokens.Mark marks.Open) 1) (other (slice_index bs 0) 42 h)
 
 open_stays : (w : Within) → core (after (part w) (tokens.Mark marks.Open)) ≡ part w
 open_stays Entries = refl
@@ -121,11 +123,6 @@ HasAtoms-grouped : (threads : ℕ) (b : Bool) (t : FormulaTree) → HasAtoms thr
 HasAtoms-grouped threads true t h = h
 HasAtoms-grouped threads false t h = h
 
-level_most : (op : Connective) → level op ≤ 3
-level_most connectives.And = omega arith
-level_most connectives.Or = omega arith
-level_most connectives.Implies = omega arith
-
 tight_pair : (least : ℕ) → least ≤ 4 → (b : Bool) (op : Connective) (x y : FormulaTree) → nat_lt (level op) least ≡ b → least ≤ tightness (grouped b (Pair op x y))
 tight_pair least low true op x y e = omega arith
 tight_pair least low false op x y e = ltb-false (level op) least e
@@ -141,7 +138,7 @@ grouping (Constant b) = tt
 grouping (Holds p v) = tt
 grouping (Not a) = (omega arith, grouping a)
 grouping (Join op a b) =
-    let l = level_most op in
+    let l = level-le op in
     (tight (level op + 1) (omega arith) a, tight (level op) (omega arith) b, IsGrouped-grouped (is_loose (level op + 1) a) (tree_of a) (grouping a), IsGrouped-grouped (is_loose (level op) b) (tree_of b) (grouping b))
 
 -- ---- the tokens of a proposition

@@ -8,12 +8,8 @@ use Rattle.text_laws.proofs.Nesting as nesting
 use Rattle.litmus_tokens.specs.declared.stage.Stage.TheVariants.{CellBegins}
 use Rattle.litmus_tokens.specs.Lexer.{is_space, begins_comment, over, gap_from}
 use Rattle.litmus_laws.specs.Tokens.{IsGap, Blank, LineEnd, Comment, gaps_text, AreGaps}
-
-gap_skip : (k n : ℕ) (bs : List ℕ) → k ≤ length bs → gap_from k n bs ≡ gap_from 0 (n + k) (drop k bs)
-unfolding gap_from
-gap_skip zero n bs le = ap (λ (m : ℕ). gap_from 0 m bs) (omega arith)
-gap_skip (suc k) n [] le = absurd (omega arith)
-gap_skip (suc k) n (b ∷ bs) le = gap_skip k (n + 1) bs (omega arith) ∙ ap (λ (m : ℕ). gap_from 0 m (drop k bs)) (omega arith)
+use Rattle.std.proofs.lemmas.Bool.{or_right}
+use Rattle.litmus_tokens.proofs.Turns.{skipped}
 
 gap_end : (n : ℕ) → gap_from 0 n [] ≡ n
 unfolding gap_from
@@ -38,7 +34,7 @@ at_comment n b bs e k o is =
 
 gap_comment : (n b : ℕ) (bs : List ℕ) (j : ℕ) → is_space b ≡ false → begins_comment (b ∷ bs) ≡ true → comment_of (b ∷ bs) ≡ Some (suc j) → j ≤ length bs → gap_from 0 n (b ∷ bs) ≡ gap_from 0 (n + suc j) (drop j bs)
 gap_comment n b bs j e k is le =
-    at_comment n b bs e k (Some (suc j)) is ∙ ap (λ (m : ℕ). gap_from m (n + 1) bs) (let one : suc j - 1 ≡ j = omega arith in one) ∙ gap_skip j (n + 1) bs le
+    at_comment n b bs e k (Some (suc j)) is ∙ ap (λ (m : ℕ). gap_from m (n + 1) bs) (let one : suc j - 1 ≡ j = omega arith in one) ∙ skipped j (n + 1) bs le
     ∙ ap (λ (m : ℕ). gap_from 0 m (drop j bs)) (let one : n + 1 + j ≡ n + suc j = omega arith in one)
 
 -- ---- the gaps that a text begins with
@@ -113,13 +109,9 @@ colon_stops n rest = gap_none n 58 rest refl refl
 blank_space : (b : ℕ) → is_blank b ≡ true → is_space b ≡ true
 blank_space b e = ap (λ (x : Bool). x || is_line_end b) e
 
-line_space : (x y : Bool) → y ≡ true → (x || y) ≡ true
-line_space true y e = refl
-line_space false y e = e
-
 one_gap : (n : ℕ) (g rest : List ℕ) → IsGap CellBegins g rest → gap_from 0 n (g ++ rest) ≡ gap_from 0 (n + length g) rest
 one_gap n g rest (Blank b e is) = ap (λ (xs : List ℕ). gap_from 0 n (xs ++ rest)) is ∙ gap_space n b rest (blank_space b e) ∙ ap (λ (xs : List ℕ). gap_from 0 (n + length xs) rest) (sym is)
-one_gap n g rest (LineEnd apart b e is) = ap (λ (xs : List ℕ). gap_from 0 n (xs ++ rest)) is ∙ gap_space n b rest (line_space (is_blank b) (is_line_end b) e) ∙ ap (λ (xs : List ℕ). gap_from 0 (n + length xs) rest) (sym is)
+one_gap n g rest (LineEnd apart b e is) = ap (λ (xs : List ℕ). gap_from 0 n (xs ++ rest)) is ∙ gap_space n b rest (or_right (is_blank b) (is_line_end b) e) ∙ ap (λ (xs : List ℕ). gap_from 0 (n + length xs) rest) (sym is)
 one_gap n [] rest (Comment c) =
     let some = nesting.some_bytes rest 0 c in
     absurd (omega arith)

@@ -15,7 +15,7 @@ use Rattle.litmus_tokens.specs.declared.lexer.Front.TheVariants.{Layout, Lexeme}
 use Rattle.litmus_tokens.specs.Words.{is_printable, are_printable, is_test_name, is_empty}
 use Rattle.litmus_tokens.specs.Lexer.{is_space, is_not_ascii, begins_comment, comment_front, ends_raw, raw_from, raw_front, front}
 use Rattle.litmus_tokens.specs.Stage.{after}
-use Rattle.litmus_tokens.specs.Texts.{Placed, tokens_of, ends_line, after_front, tokens_from}
+use Rattle.litmus_tokens.specs.Texts.{TokenAt, tokens_of, ends_line, after_front, tokens_from}
 use Rattle.litmus_laws.specs.Written.{holds_comment}
 use Rattle.litmus_grammar.proofs.Lexed.{tokens_skip}
 use Rattle.litmus_laws.proofs.Read.{three_tests, Entries, free, inner}
@@ -70,7 +70,7 @@ turn s f p b word rest t e =
     let l = length-append word rest in
     ap (λ (x : Front). tokens_of (after_front s f p b x (λ u g k. tokens_from u g k (p + 1) (word ++ rest)))) e
     ∙ ap (λ (k : ℕ). t ∷ tokens_of (tokens_from (after s t) (ends_line t) k (p + 1) (word ++ rest))) (omega arith)
-    ∙ ap (λ (ps : List Placed). t ∷ tokens_of ps) (tokens_skip (after s t) (ends_line t) (length word) (p + 1) (word ++ rest) (omega arith))
+    ∙ ap (λ (ps : List TokenAt). t ∷ tokens_of ps) (tokens_skip (after s t) (ends_line t) (length word) (p + 1) (word ++ rest) (omega arith))
     ∙ ap (λ (x : List ℕ). t ∷ tokens_of (tokens_from (after s t) (ends_line t) 0 (p + 1 + length word) x)) (drop_at word rest (length word) refl)
 
 magic : (bs : List ℕ) → tokens_of (tokens_from Magic false 0 0 (codes "PPC " ++ bs)) ≡ tokens.Word (codes "PPC") ∷ tokens_of (tokens_from Title false 0 4 bs)

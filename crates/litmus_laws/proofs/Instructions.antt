@@ -39,10 +39,11 @@ use Rattle.litmus_table.specs.Grammar.{InstructionTree, IsOperation}
 use Rattle.litmus_printing.specs.Printing.{register_text, operation_text, branch_text, fence_text, operands_text, based_text, instruction_text}
 use Rattle.source_text.specs.Joined.{joined}
 use Rattle.litmus_laws.specs.Written.{begins_word, IsWord, IsNumber, IsBase, IsInstruction}
-use Rattle.litmus_laws.proofs.Read.{Operands, core, read, free, turn, inner, first_of, not_it, word_byte}
+use Rattle.litmus_laws.proofs.Read.{Operands, core, read, free, turn, inner, first_of, word_byte}
 use Rattle.litmus_laws.proofs.Numbers.{second_test, word_len, word, number, signed_number, is_negative, digits_of, signed_back, is_int_back, register_back, register_word}
 use Rattle.litmus_laws.proofs.Places.{Stops}
 use Rattle.litmus_laws.proofs.Conditions.{is_word, blank, open_round, close_round}
+use Rattle.text_laws.proofs.Runs.{other}
 
 -- ---- a word that begins a cell
 
@@ -81,7 +82,7 @@ begins_here c cs bs h e =
     let l = o.low in
     let whole = (c ∷ cs) ++ bs in
     word_byte CellBegins c (cs ++ bs) o
-    ∙ second_test (c == 10) (is_letter c || c == 95) (Layout 1) (cell_front whole (position_or_len ends_word whole)) _ (not_it c 10 (λ x. absurd (omega arith))) h.first
+    ∙ second_test (c == 10) (is_letter c || c == 95) (Layout 1) (cell_front whole (position_or_len ends_word whole)) _ (other c 10 (λ x. absurd (omega arith))) h.first
     ∙ ap (cell_front whole) (word_len (c ∷ cs) bs h e)
     ∙ ap (λ (x : List ℕ). label_front whole (length (c ∷ cs)) (gap_from 0 0 x)) (drop_at (c ∷ cs) bs (length (c ∷ cs)) refl)
 
@@ -94,7 +95,7 @@ word_here c cs bs h e =
     ∙ ap (label_front whole n) (gap_one bs e)
     ∙ ap (λ (k : ℕ). if slice_index whole k == 58 then Lexeme (tokens.Label (take n whole)) (n + 1 + 1) else Lexeme (tokens.Word (take n whole)) n) next
     ∙ ap (λ (b : ℕ). if b == 58 then Lexeme (tokens.Label (take n whole)) (n + 1 + 1) else Lexeme (tokens.Word (take n whole)) n) (at_behind (c ∷ cs) 32 bs)
-    ∙ ap (λ (b : Bool). if b then Lexeme (tokens.Label (take n whole)) (n + 1 + 1) else Lexeme (tokens.Word (take n whole)) n) (not_it (slice_index bs 0) 58 e.no_colon)
+    ∙ ap (λ (b : Bool). if b then Lexeme (tokens.Label (take n whole)) (n + 1 + 1) else Lexeme (tokens.Word (take n whole)) n) (other (slice_index bs 0) 58 e.no_colon)
     ∙ ap (λ (t : List ℕ). Lexeme (tokens.Word t) n) (take_at (c ∷ cs) (32 ∷ bs) n refl)
 
 pub cell_word : (w bs : List ℕ) → IsWord w → NoColon bs → read CellBegins (w ++ 32 ∷ bs) ≡ tokens.Word w ∷ read (core (after CellBegins (tokens.Word w))) (32 ∷ bs)
@@ -215,7 +216,7 @@ label_first [] bs h = let bad : false ≡ true = h.first in absurd cc
 label_first (c ∷ cs) bs h =
     let o = first_of c h.first in
     let x = o.low in
-    record { no_space = spaceless c h.first; no_comment = and_left (c == 40) (slice_index (cs ++ bs) 0 == 42) (not_it c 40 (λ e. absurd (omega arith))); no_colon = uncoloned c h.first }
+    record { no_space = spaceless c h.first; no_comment = and_left (c == 40) (slice_index (cs ++ bs) 0 == 42) (other c 40 (λ e. absurd (omega arith))); no_colon = uncoloned c h.first }
   where
     spaceless : (c : ℕ) → begins_word c ≡ true → is_space c ≡ false
     spaceless c h = grind (arith, nat_tests)

@@ -448,7 +448,3 @@ columns_written k (suc n) others rs before r h e =
       labelled_back [] (cells_steps (column k rs)) (subst (AreFine []) (column_noted k others rs before r) (notes_fine [] (column_notes k before rs) parts.0)),
       columns_written (k + 1) n others rs before r h parts.1,
     )
-
-pub columns_count : (k n : ℕ) (rs : List RowTree) → length (columns_meaning k n rs) ≡ n
-columns_count k zero rs = refl
-columns_count k (suc n) rs = ap suc (columns_count (k + 1) n rs)

@@ -26,10 +26,11 @@ use Rattle.litmus_grammar.specs.Grammar.{Listed, spelled_others, spelled_listed,
 use Rattle.litmus_grammar.specs.Texts.{ReadsTest, is_there, late_entries, late_test, before_entries, before_rows}
 use Rattle.litmus_laws.specs.Written.{IsFormula, Lacks, AreEntries, ArePlaces, IsTest, IsTextOfTest}
 use Rattle.litmus_laws.proofs.Numbers.{own}
-use Rattle.litmus_laws.proofs.Read.{not_it}
 use Rattle.litmus_laws.proofs.Tokens.{AreDigits, AreFine, AllFine, tokens_fine, all_fine}
 use Rattle.litmus_laws.proofs.Meant.{place_meant, value_meant, formula_meant, behind_quantifier}
-use Rattle.litmus_laws.proofs.MeantRows.{in_second, in_both, rows_meant, columns_written, columns_count}
+use Rattle.litmus_laws.proofs.MeantRows.{in_second, in_both, rows_meant, columns_written}
+use Rattle.litmus_grammar.proofs.Bodies.{length-meaning}
+use Rattle.text_laws.proofs.Runs.{other}
 
 -- ---- places as they are written
 
@@ -37,7 +38,7 @@ canon : (ds : List ℕ) → AreDigits ds → words.decimal ds < 2 ^ 64 → signi
 canon [] h small = ap significant (decimal_digit 0 (omega arith))
 canon (d ∷ ds) h small =
     ap significant (decimal-digits_value own (d ∷ ds) h.digits (omega arith) (λ e. absurd (h.no_zero e)) small)
-    ∙ ap (λ (b : Bool). if b then significant ds else d ∷ ds) (not_it d 48 h.no_zero)
+    ∙ ap (λ (b : Bool). if b then significant ds else d ∷ ds) (other d 48 h.no_zero)
 
 abbrev rewritten : Place → WrittenPlace
 rewritten (places.Location n) = written.Location n
@@ -175,7 +176,7 @@ test_written most t h a late =
     let rows = rows_meant t.others t.rows Tail h.rows (behind_names 1 t.others Rows entries.1.1.1) in
     let observed = observed_written (t.others + 1) few t.observed (spelled_condition t.quantifier t.condition) h.observed rows.1 in
     let condition = formula_meant (t.others + 1) t.condition _ h.condition.atoms (behind_quantifier (t.others + 1) t.quantifier _ observed.1) in
-    let count : t.others + 1 ≡ length (columns_meaning 0 (t.others + 1) t.rows) = sym (columns_count 0 (t.others + 1) t.rows) in
+    let count : t.others + 1 ≡ length (columns_meaning 0 (t.others + 1) t.rows) = sym (length-meaning 0 (t.others + 1) t.rows) in
     record {
       name = h.name;
       no_comment = a.1.0;

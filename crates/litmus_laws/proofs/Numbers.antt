@@ -17,9 +17,9 @@ use Rattle.litmus_tokens.specs.Words.{are_digits, is_plain, is_empty, decimal_fr
 use Rattle.source_text.specs.Letters.{is_letter, is_digit}
 use Rattle.litmus_tokens.specs.Lexer.{is_word_byte, ends_word, ends_digits, significant, front, word_front, number_front, minus_front, sign_front}
 use Rattle.litmus_printing.specs.Printing.{register_text}
-use Rattle.text_laws.proofs.Runs.{seam}
+use Rattle.text_laws.proofs.Runs.{seam, other}
 use Rattle.litmus_laws.specs.Written.{IsWord, IsNumber}
-use Rattle.litmus_laws.proofs.Read.{Within, inner, inner_turn, word_stays, number_stays, first_of, digit_of, not_it, word_byte}
+use Rattle.litmus_laws.proofs.Read.{Within, inner, inner_turn, word_stays, number_stays, first_of, digit_of, word_byte}
 
 -- ---- words
 
@@ -39,7 +39,7 @@ word_here c cs bs h e =
     let o = first_of c h.first in
     let l = o.low in
     word_byte Tail c (cs ++ bs) o
-    ∙ second_test (c == 10) (is_letter c || c == 95) (Layout 1) (word_front Tail ((c ∷ cs) ++ bs) (position_or_len ends_word ((c ∷ cs) ++ bs))) _ (not_it c 10 (λ x. absurd (omega arith))) h.first
+    ∙ second_test (c == 10) (is_letter c || c == 95) (Layout 1) (word_front Tail ((c ∷ cs) ++ bs) (position_or_len ends_word ((c ∷ cs) ++ bs))) _ (other c 10 (λ x. absurd (omega arith))) h.first
     ∙ ap (word_front Tail ((c ∷ cs) ++ bs)) (word_len (c ∷ cs) bs h e)
     ∙ ap (λ (t : List ℕ). Lexeme (tokens.Word t) (length (c ∷ cs))) (take_at (c ∷ cs) bs (length (c ∷ cs)) refl)
 
@@ -76,7 +76,7 @@ third_test x y u a b c z p q r =
     ∙ ap (λ (t : Bool). if t then b else (if u then c else z)) q
     ∙ ap (λ (t : Bool). if t then c else z) r
 
-no_letter : (d : ℕ) → is_digit d ≡ true → (is_letter d || d == 95) ≡ false
+pub no_letter : (d : ℕ) → is_digit d ≡ true → (is_letter d || d == 95) ≡ false
 no_letter d h = grind (arith, nat_tests)
 
 digits_here : (d : ℕ) (ds bs : List ℕ) → are_digits (d ∷ ds) ≡ true → ends_digits (slice_index bs 0) ≡ true
@@ -88,7 +88,7 @@ digits_here d ds bs h e =
     let whole = (d ∷ ds) ++ bs in
     word_byte Tail d (ds ++ bs) o
     ∙ third_test (d == 10) (is_letter d || d == 95) (is_digit d) (Layout 1) (word_front Tail whole (position_or_len ends_word whole)) (number_front whole (position_or_len ends_digits whole)) _
-    (not_it d 10 (λ x. absurd (omega arith))) (no_letter d one) one
+    (other d 10 (λ x. absurd (omega arith))) (no_letter d one) one
     ∙ ap (number_front whole) (digits_len (d ∷ ds) bs h e)
     ∙ ap (λ (t : List ℕ). Lexeme (tokens.Number false (significant t)) (length (d ∷ ds))) (take_at (d ∷ ds) bs (length (d ∷ ds)) refl)
 
@@ -158,7 +158,7 @@ signed_number w (negsuc n) bs h e = negative w (suc n) bs (omega arith) e
 
 plain_first : (ds : List ℕ) → are_digits ds ≡ true → 48 < get_or ds 0 0 → is_plain ds ≡ true
 plain_first [] h lt = absurd (omega arith)
-plain_first (d ∷ ds) h lt = and_from (are_digits (d ∷ ds)) (is_empty ds || not (d == 48)) h (or_right (is_empty ds) (not (d == 48)) (ap not (not_it d 48 (λ e. absurd (omega arith)))))
+plain_first (d ∷ ds) h lt = and_from (are_digits (d ∷ ds)) (is_empty ds || not (d == 48)) h (or_right (is_empty ds) (not (d == 48)) (ap not (other d 48 (λ e. absurd (omega arith)))))
 
 plain_back : (n : ℕ) → n < 2 ^ 64 → is_plain (decimal n) ≡ true
 plain_back zero h = ap is_plain (decimal_digit 0 (omega arith))

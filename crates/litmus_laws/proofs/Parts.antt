@@ -14,7 +14,7 @@ use Rattle.litmus_tokens.specs.declared.token.Token.TheVariants as tokens
 use Rattle.litmus_tokens.specs.declared.token.Mark.TheVariants as marks
 use Rattle.litmus_tokens.specs.Faults.{IsFault, Ruling, Always, Where, Says, ruling, part_ruling, cell_ruling, word_ruling}
 use Rattle.litmus_tokens.specs.Stage.{rule_of, after}
-use Rattle.litmus_tokens.specs.Texts.{Placed, tokens_of, stage_after, are_none}
+use Rattle.litmus_tokens.specs.Texts.{TokenAt, tokens_of, stage_after, are_none}
 use Rattle.litmus_tokens.specs.Words.{ends_table, is_filter, is_int, column_name}
 use Rattle.litmus_values.specs.declared.test.Quantifier.{Quantifier}
 use Rattle.litmus_values.specs.declared.test.Quantifier.TheVariants.{Exists, NotExists, Forall}
@@ -29,6 +29,8 @@ use Rattle.litmus_grammar.specs.Grammar.{Listed, EntryTree, TestTree, spelled_en
 use Rattle.litmus_grammar.specs.Texts.{IsStart}
 use Rattle.litmus_grammar.proofs.Spelled.{init-append, names-append, rows-append}
 use Rattle.litmus_laws.specs.Parts.{Part, tokens_in, tail_of, test_parts, StandsIn, is_named, IsNumbered, OfToken, Named, OfPart, IsRefusal, IsOfItsPart, IsOfPart}
+use Rattle.litmus_grammar.proofs.Heads.{keylines-append}
+use Rattle.litmus_table.proofs.Rules.{no_opcode_exists, no_opcode_forall, no_opcode_locations}
 
 -- ---- walks
 
@@ -106,18 +108,6 @@ names_walk k zero left = (refl, refl)
 names_walk k (suc n) left = (refl, (refl, names_walk (k + 1) n (left - 1)))
 
 -- ---- the rows
-
-no_opcode_exists : opcode_of (codes "exists") ≡ None
-unfolding computing_of accessing_of fence_of branch_of
-no_opcode_exists = refl
-
-no_opcode_forall : opcode_of (codes "forall") ≡ None
-unfolding computing_of accessing_of fence_of branch_of
-no_opcode_forall = refl
-
-no_opcode_locations : opcode_of (codes "locations") ≡ None
-unfolding computing_of accessing_of fence_of branch_of
-no_opcode_locations = refl
 
 -- the word of an instruction does not end the table
 module _ (w : List ℕ) (op : Opcode) (known : opcode_of w ≡ Some op) where
@@ -259,10 +249,6 @@ stage_of_part most t before here rule h x =
 
 -- ---- the parts are the whole
 
-keylines-append : (n : ℕ) (xs ys : List Token) → spelled_keylines n xs ++ ys ≡ spelled_keylines n (xs ++ ys)
-keylines-append zero xs ys = refl
-keylines-append (suc n) xs ys = ap (λ (l : List Token). tokens.Keyline ∷ l) (keylines-append n xs ys)
-
 text-append : (b : Bool) (xs ys : List Token) → spelled_text b xs ++ ys ≡ spelled_text b (xs ++ ys)
 text-append true xs ys = refl
 text-append false xs ys = refl
@@ -333,7 +319,7 @@ numbered : (C : Token → Type 0) (s : Stage) (t : Token) (k : LitmusRule) → S
 numbered C s (tokens.Broken r) k e = OfToken (ap tokens.Broken (sym e))
 numbered C s t k e = said C s (part_ruling s t) t k (part_right s t) e
 
-pub refusal_of_part : (most : Limits) (t : TestTree) (ps : List Placed) (rule : LitmusRule) (offset : ℕ) → IsTest most t → (f : IsRefusal ps rule offset) → IsOfItsPart ps rule offset f t
+pub refusal_of_part : (most : Limits) (t : TestTree) (ps : List TokenAt) (rule : LitmusRule) (offset : ℕ) → IsTest most t → (f : IsRefusal ps rule offset) → IsOfItsPart ps rule offset f t
 refusal_of_part most t ps rule offset h f there of_part x =
     subst (λ (r : LitmusRule). IsNumbered f.here.token r rule) (stage_of_part most t (tokens_of f.before) there of_part h x)
     (numbered _ (stage_after stages.Magic (tokens_of f.before)) f.here.token rule f.number)
@@ -366,7 +352,7 @@ thread_stays before rest t h e =
     front_stands stages.CellBegins before rest (subst (InRow stages.CellBegins stages.InCell) (sym e)
     (cell_walk t.first.label t.first.instruction (spelled_steps t.others (tokens.End ∷ [])) stages.InCell h.0 (steps_walk t.others h.1)))
 
-module _ (ps : List Placed) (rule : LitmusRule) (offset : ℕ) where
+module _ (ps : List TokenAt) (rule : LitmusRule) (offset : ℕ) where
   of_rule : (IsText : List Token → Type 0) (start : Stage) (of_part : LitmusRule) (f : IsFault IsText start ps rule offset) → rule_of (stage_after start (tokens_of f.before)) ≡ of_part → IsNumbered f.here.token of_part rule
   of_rule IsText start of_part f e = subst (λ (r : LitmusRule). IsNumbered f.here.token r rule) e (numbered _ (stage_after start (tokens_of f.before)) f.here.token rule f.number)
 

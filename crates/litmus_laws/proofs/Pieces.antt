@@ -2,7 +2,7 @@
 use Rattle.std.proofs.Common.{◌≡◌, ℕ, zero, suc, ◌+◌, ◌-◌, ◌<◌, ◌≤◌, ◌⊎◌, inl, inr, Bool, true, false, List, [], ◌∷◌, ◌++◌, length, get_or, take, drop, refl, sym, ap, ◌∙◌, subst, arith, append_assoc}
 use Rattle.std.specs.Prelude.{Option, Some, None, slice_index, ◌==◌, ◌&&◌, ◌||◌, not, if◌then◌else◌}
 use Rattle.std.specs.List.{position_or_len}
-use Rattle.std.proofs.lemmas.Bool.{cases_lt}
+use Rattle.std.proofs.lemmas.Bool.{cases_lt, or_from}
 use Rattle.std.proofs.lemmas.Bool.Decides.{nat_tests}
 use Rattle.std.proofs.lemmas.List.{length-take, length-drop, length-append, get_or-take, get_or-drop, take-append-drop, take_all, drop_all, take_at, drop_at}
 use Rattle.std.proofs.lemmas.List.Sums.{fails_before_first, passes_at_first}
@@ -10,7 +10,7 @@ use Rattle.source_text.specs.Letters.{is_letter, is_digit}
 use Rattle.source_text.specs.Layout.{is_blank, is_line_end, is_quote, quoted_from, comment_of}
 use Rattle.text_laws.specs.Comments.{BeginsWithComment}
 use Rattle.text_laws.proofs.Nesting as nesting
-use Rattle.text_laws.proofs.Runs.{opposite, equals, less, pos_some, pos_le, first_in_take, lacks_before, string_text, tested, or_false, or_first, or_second, seam}
+use Rattle.text_laws.proofs.Runs.{opposite, equals, less, pos_some, pos_le, first_in_take, lacks_before, string_text, tested, or_first, or_second, seam}
 use Rattle.litmus_tokens.specs.declared.rule.LitmusRule.TheVariants as rules
 use Rattle.litmus_tokens.specs.declared.stage.Stage.{Stage}
 use Rattle.litmus_tokens.specs.declared.stage.Stage.TheVariants.{Magic, Title, TitleEnd, Head, Init, Header, CellBegins, InCell, Tail}
@@ -22,7 +22,7 @@ use Rattle.litmus_tokens.specs.declared.lexer.Front.{Front}
 use Rattle.litmus_tokens.specs.declared.lexer.Front.TheVariants as fronts
 use Rattle.litmus_tokens.specs.Lexer.{is_not_ascii, is_word_byte, ends_word, ends_digits, is_equals, is_space, begins_comment, gap_from, comment_front, ends_raw, raw_from, raw_front, quoted_front, line_front, word_token, word_front, significant, number_front, minus_front, mark_of, mark_front, sign_front, plain_front, head_front, stage_front, front}
 use Rattle.litmus_tokens.specs.Stage.{after}
-use Rattle.litmus_tokens.specs.Texts.{Placed, ends_line, fresh_after, after_front, tokens_from, lexed}
+use Rattle.litmus_tokens.specs.Texts.{TokenAt, ends_line, fresh_after, after_front, tokens_from, lexed}
 use Rattle.litmus_laws.specs.Tokens.{IsGap, Blank, LineEnd, Comment, begins_gap, IsRun, IsWord, gaps_text, AreGaps, IsLabel, IsLine, IsKeyline, is_first, is_plain, double_of, IsLexeme, FirstWord, NameEnd, Keyline, Quoted, Word, Label, Number, Negative, Double, Single, NotAscii, OpenComment, NoNameEnd, NoKeyline, NoQuoted, NoToken, Piece, Gap, Lexeme, text_of, ArePieces, tokens_at, IsCut, AreRising}
 use Rattle.litmus_grammar.proofs.Lexed.{tokens_skip}
 use Rattle.litmus_laws.proofs.Gaps.{gaps_of, all_gaps}
@@ -121,7 +121,7 @@ pub record IsOpen (b : ℕ) (bs : List ℕ) : Type 0 where
   pub comment : begins_comment (b ∷ bs) ≡ false
 
 no_gap : (b : ℕ) (bs : List ℕ) → IsOpen b bs → begins_gap (b ∷ bs) ≡ false
-no_gap b bs o = or_false (is_blank b) (begins_comment (b ∷ bs)) o.blank o.comment
+no_gap b bs o = or_from (is_blank b) (begins_comment (b ∷ bs)) o.blank o.comment
 
 -- ---- the first line
 
@@ -134,7 +134,7 @@ raw_piece s fresh b bs apart first o = tested (IsPiece s fresh (b ∷ bs)) (is_l
         let m = r.size in
         let same : raw_from 0 (b ∷ bs) ≡ m = r.counted ∙ (let e : 0 + m ≡ m = omega arith in e) in
         let goes : ends_raw b (slice_index bs 0) ≡ false =
-        or_false (is_space b || is_not_ascii b) (b == 40 && slice_index bs 0 == 42) (or_false (is_space b) (is_not_ascii b) (or_false (is_blank b) (is_line_end b) o.blank line) o.ascii) o.comment in
+        or_from (is_space b || is_not_ascii b) (b == 40 && slice_index bs 0 == 42) (or_from (is_space b) (is_not_ascii b) (or_from (is_blank b) (is_line_end b) o.blank line) o.ascii) o.comment in
         let le = r.le in
         let l = length-take m (b ∷ bs) in
         let d = length-drop m (b ∷ bs) in
@@ -239,7 +239,7 @@ module _ (s : Stage) (fresh : Bool) (b : ℕ) (bs : List ℕ) (apart : s ≡ Tit
       mark_piece line word minus (no_double x y z) (mark_of b) refl)))
 
   no_word_byte : (is_letter b || b == 95) ≡ false → is_digit b ≡ false → is_word_byte b ≡ false
-  no_word_byte x y = or_false (is_letter b || is_digit b) (b == 95) (or_false (is_letter b) (is_digit b) (or_first (is_letter b) (b == 95) x) y) (or_second (is_letter b) (b == 95) x)
+  no_word_byte x y = or_from (is_letter b || is_digit b) (b == 95) (or_from (is_letter b) (is_digit b) (or_first (is_letter b) (b == 95) x) y) (or_second (is_letter b) (b == 95) x)
 
   -- by the piece of a word, which rests on the part
   plain_piece : ((is_letter b || b == 95) ≡ true → IsPiece s fresh (b ∷ bs) (word_front s (b ∷ bs) (position_or_len ends_word (b ∷ bs)))) → IsPiece s fresh (b ∷ bs) (plain_front s (b ∷ bs))
@@ -279,7 +279,7 @@ module _ (fresh : Bool) (b : ℕ) (bs : List ℕ) (o : IsOpen b bs) (starts : (i
       let a3 = length-append (W ++ (g ++ 58 ∷ [])) others in
       let a4 = ap length whole in
       let long : length (W ++ (g ++ 58 ∷ [])) ≡ n + gap + 1 = omega arith in
-      let taken : take (n + gap + 1) (b ∷ bs) ≡ W ++ (g ++ 58 ∷ []) = ap (take (n + gap + 1)) whole ∙ take_at (W ++ (g ++ 58 ∷ [])) others (n + gap + 1) long in
+      let spelled_front : take (n + gap + 1) (b ∷ bs) ≡ W ++ (g ++ 58 ∷ []) = ap (take (n + gap + 1)) whole ∙ take_at (W ++ (g ++ 58 ∷ [])) others (n + gap + 1) long in
       let dropped : drop (n + gap + 1) (b ∷ bs) ≡ others = ap (drop (n + gap + 1)) whole ∙ drop_at (W ++ (g ++ 58 ∷ [])) others (n + gap + 1) long in
       let behind : drop n (b ∷ bs) ≡ g ++ 58 ∷ others = f.whole ∙ ap (λ (xs : List ℕ). g ++ xs) rest in
       let word : IsWord W (drop n (b ∷ bs)) = subst (λ (k : ℕ). IsWord (take k (b ∷ bs)) (drop k (b ∷ bs))) (sym size) (is_word CellBegins fresh b bs (λ k. absurd cc) refl o starts) in (
@@ -289,7 +289,7 @@ module _ (fresh : Bool) (b : ℕ) (bs : List ℕ) (o : IsOpen b bs) (starts : (i
           gaps = f.gaps;
           is_word = subst (IsWord W) behind word;
           between = subst (AreGaps f.gaps) rest f.are;
-          whole = taken;
+          whole = spelled_front;
         })) refl,
       )
   label_piece n gap size gaps false e =
@@ -385,7 +385,7 @@ quote_piece fresh b bs e = subst (λ (x : ℕ). IsPiece Head fresh (x ∷ bs) (q
 
 head_plain : (fresh : Bool) (b : ℕ) (bs : List ℕ) → IsOpen b bs → (fresh && is_letter b) ≡ false → (b == 34) ≡ false → IsPiece Head fresh (b ∷ bs) (plain_front Head (b ∷ bs))
 head_plain fresh b bs o letter quote =
-    let plain : is_plain Head fresh b ≡ true = ap not (or_false (fresh && is_letter b) (b == 34) letter quote) in
+    let plain : is_plain Head fresh b ≡ true = ap not (or_from (fresh && is_letter b) (b == 34) letter quote) in
     plain_piece Head fresh b bs (λ k. absurd cc) plain o (λ starts. word_piece Head fresh b bs (λ k. absurd cc) plain o starts (λ k. absurd cc))
 
 head_piece : (fresh : Bool) (b : ℕ) (bs : List ℕ) → IsOpen b bs → IsPiece Head fresh (b ∷ bs) (head_front fresh (b ∷ bs))
@@ -417,7 +417,7 @@ front_piece s fresh b bs =
 
 -- ---- all pieces
 
-record CutAt (s : Stage) (fresh : Bool) (n : ℕ) (bs : List ℕ) (ps : List Placed) : Type 0 where
+record CutAt (s : Stage) (fresh : Bool) (n : ℕ) (bs : List ℕ) (ps : List TokenAt) : Type 0 where
   pieces : List Piece
   fine : ArePieces s fresh pieces
   whole : text_of pieces ≡ bs
@@ -453,7 +453,7 @@ after_piece s fresh n b bs (fronts.Lexeme t (suc j)) h ih =
       pieces = Lexeme t (take (suc j) (b ∷ bs)) ∷ c.pieces;
       fine = (subst (IsLexeme s fresh t (take (suc j) (b ∷ bs))) (sym c.whole) h.2, c.fine);
       whole = ap (λ (xs : List ℕ). take (suc j) (b ∷ bs) ++ xs) c.whole ∙ take-append-drop (suc j) (b ∷ bs);
-      tokens = ap (λ (ps : List Placed). record { token = t; offset = n } ∷ ps) (ap (λ (k : ℕ). tokens_at k c.pieces) size ∙ c.tokens ∙ sym (skipped (after s t) (ends_line t) j n bs (omega arith)));
+      tokens = ap (λ (ps : List TokenAt). record { token = t; offset = n } ∷ ps) (ap (λ (k : ℕ). tokens_at k c.pieces) size ∙ c.tokens ∙ sym (skipped (after s t) (ends_line t) j n bs (omega arith)));
     }
 
 cut_at : (most : ℕ) (s : Stage) (fresh : Bool) (n : ℕ) (bs : List ℕ) → length bs ≤ most → CutAt s fresh n bs (tokens_from s fresh 0 n bs)

@@ -21,8 +21,9 @@ use Rattle.litmus_conditions.specs.Grammar as grammar
 use Rattle.litmus_conditions.specs.Grammar.{PlaceTree, Location, Register, ValueTree, Number, Address, spelled_place, spelled_value, place_meaning, value_meaning, HasThread}
 use Rattle.litmus_printing.specs.Printing.{register_text, value_text, bare_text, place_text}
 use Rattle.litmus_laws.specs.Written.{begins_word, IsWord, IsValue, IsPlace}
-use Rattle.litmus_laws.proofs.Read.{Within, Entries, Operands, Condition, part, core, free, inner, inner_turn, not_it}
+use Rattle.litmus_laws.proofs.Read.{Within, Entries, Operands, Condition, part, core, free, inner, inner_turn}
 use Rattle.litmus_laws.proofs.Numbers.{digits_first, word, number, are_back, signed_number, number_back, is_negative, digits_of, signed_back, is_int_back, register_back, register_word}
+use Rattle.text_laws.proofs.Runs.{other}
 
 -- ---- signs
 
@@ -42,7 +43,7 @@ close_square bs = ap (λ (ts : List Token). tokens.Mark marks.CloseBracket ∷ t
 
 equals_here : (bs : List ℕ) → (slice_index bs 0 ≡ 62 → ⊥) → front Tail false (61 ∷ bs) ≡ Lexeme (tokens.Mark marks.Equals) 1
 unfolding front
-equals_here bs h = ap (λ (b : Bool). if b then Lexeme (tokens.Mark marks.Implies) 2 else Lexeme (tokens.Mark marks.Equals) 1) (not_it (slice_index bs 0) 62 h)
+equals_here bs h = ap (λ (b : Bool). if b then Lexeme (tokens.Mark marks.Implies) 2 else Lexeme (tokens.Mark marks.Equals) 1) (other (slice_index bs 0) 62 h)
 
 equals_stays : (w : Within) → core (after (part w) (tokens.Mark marks.Equals)) ≡ part w
 equals_stays Entries = refl

@@ -16,9 +16,10 @@ use Rattle.litmus_tokens.specs.Words.{ends_table}
 use Rattle.source_text.specs.Letters.{is_digit}
 use Rattle.litmus_tokens.specs.Lexer.{front, begins_comment, stage_front}
 use Rattle.litmus_tokens.specs.Stage.{after, after_brace}
-use Rattle.litmus_tokens.specs.Texts.{Placed, tokens_of, ends_line, fresh_after, after_front, tokens_from}
+use Rattle.litmus_tokens.specs.Texts.{TokenAt, tokens_of, ends_line, fresh_after, after_front, tokens_from}
 use Rattle.litmus_grammar.proofs.Lexed.{tokens_skip}
 use Rattle.litmus_laws.specs.Written.{begins_word}
+use Rattle.text_laws.proofs.Runs.{other}
 
 -- the parts from the init block on: how a line began does not bear on them
 abbrev pub is_past : Stage → Bool
@@ -235,7 +236,7 @@ core_front CellBegins f bs h = refl
 core_front InCell f bs h = refl
 core_front Tail f bs h = refl
 
-after_free : (s : Stage) (f g : Bool) (p q b : ℕ) (x : Front) (later other : Stage → Bool → ℕ → List Placed)
+after_free : (s : Stage) (f g : Bool) (p q b : ℕ) (x : Front) (later other : Stage → Bool → ℕ → List TokenAt)
     → ((u v : Bool) (k : ℕ) → tokens_of (later s u k) ≡ tokens_of (other (core s) v k))
     → ((t : Token) (v : Bool) (k : ℕ) → tokens_of (later (after s t) v k) ≡ tokens_of (other (after (core s) t) v k))
     → tokens_of (after_front s f p b x later) ≡ tokens_of (after_front (core s) g q b x other)
@@ -264,7 +265,7 @@ turn s b word rest t h e =
     let l = length-append word rest in
     ap (λ (x : Front). tokens_of (after_front s false 0 b x (λ u g k. tokens_from u g k 1 (word ++ rest)))) e
     ∙ ap (λ (k : ℕ). t ∷ tokens_of (tokens_from (after s t) (ends_line t) k 1 (word ++ rest))) (omega arith)
-    ∙ ap (λ (ps : List Placed). t ∷ tokens_of ps) (tokens_skip (after s t) (ends_line t) (length word) 1 (word ++ rest) (omega arith))
+    ∙ ap (λ (ps : List TokenAt). t ∷ tokens_of ps) (tokens_skip (after s t) (ends_line t) (length word) 1 (word ++ rest) (omega arith))
     ∙ ap (λ (x : List ℕ). t ∷ tokens_of (tokens_from (after s t) (ends_line t) 0 (1 + length word) x)) (drop_at word rest (length word) refl)
     ∙ ap (λ (ts : List Token). t ∷ ts) (free (after s t) (ends_line t) 0 (1 + length word) rest (past_after s t h))
 
@@ -324,9 +325,6 @@ first_of b h = record { low = grind (arith, nat_tests); high = grind (arith, nat
 pub digit_of : (b : ℕ) → is_digit b ≡ true → IsOfWord b
 digit_of b h = record { low = grind (arith, nat_tests); high = grind (arith, nat_tests) }
 
-pub not_it : (b c : ℕ) → (b ≡ c → ⊥) → (b == c) ≡ false
-not_it b c h = grind (arith, nat_tests)
-
 no_blank : (b : ℕ) → IsOfWord b → (b == 32 || b == 9 || b == 13) ≡ false
 no_blank b h = let l = h.low in grind (arith, nat_tests)
 
@@ -344,4 +342,4 @@ pub word_byte : (s : Stage) (b : ℕ) (bs : List ℕ) → IsOfWord b → front s
 unfolding front
 word_byte s b bs h =
     let l = h.low in
-    three_tests (nat_le 128 b) (is_blank b) (begins_comment (b ∷ bs)) _ _ _ _ (ascii b h) (no_blank b h) (and_left (b == 40) (slice_index bs 0 == 42) (not_it b 40 (λ e. absurd (omega arith))))
+    three_tests (nat_le 128 b) (is_blank b) (begins_comment (b ∷ bs)) _ _ _ _ (ascii b h) (no_blank b h) (and_left (b == 40) (slice_index bs 0 == 42) (other b 40 (λ e. absurd (omega arith))))

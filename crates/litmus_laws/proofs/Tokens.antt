@@ -18,10 +18,11 @@ use Rattle.litmus_tokens.specs.Words.{are_digits}
 use Rattle.source_text.specs.Letters.{is_digit, is_letter}
 use Rattle.litmus_tokens.specs.Lexer.{is_word_byte, is_space, is_not_ascii, ends_word, ends_digits, is_equals, begins_comment, gap_from, comment_front, ends_raw, raw_from, raw_front, quoted_front, line_front, word_token, word_front, significant, number_front, minus_front, mark_of, mark_front, sign_front, plain_front, stage_front, front}
 use Rattle.litmus_tokens.specs.Stage.{after}
-use Rattle.litmus_tokens.specs.Texts.{Placed, tokens_of, ends_line, fresh_after, after_front, tokens_from}
+use Rattle.litmus_tokens.specs.Texts.{TokenAt, tokens_of, ends_line, fresh_after, after_front, tokens_from}
 use Rattle.litmus_laws.specs.Written.{begins_word, IsWord, holds_comment}
 use Rattle.litmus_laws.proofs.Read.{is_past, past_after}
 use Rattle.litmus_laws.proofs.Conditions.{all_of_word, is_word}
+use Rattle.text_laws.proofs.Runs.{tested}
 
 -- digits that no zero leads
 pub record AreDigits (ds : List ℕ) : Type 0 where
@@ -80,10 +81,6 @@ fine_in (Header (suc k)) t f n r = f
 fine_in CellBegins t f n r = f
 fine_in InCell t f n r = f
 fine_in Tail t f n r = f
-
-both : {A : Type 0} (P : A → Type 0) (c : Bool) (x y : A) → (c ≡ true → P x) → (c ≡ false → P y) → P (if c then x else y)
-both P true x y f g = f refl
-both P false x y f g = g refl
 
 -- ---- words and digits
 
@@ -168,12 +165,12 @@ mark_fine s None = fine_in s tokens.Bad tt tt tt
 
 sign_fine : (s : Stage) (b next : ℕ) → FrontFine s (sign_front b next)
 sign_fine s b next =
-    both (FrontFine s) (b == 47 && next == 92) _ _ (λ _. fine_in s (tokens.Mark _) tt tt tt)
-    (λ _. both (FrontFine s) (b == 92 && next == 47) _ _ (λ _. fine_in s (tokens.Mark _) tt tt tt)
-    (λ _. both (FrontFine s) (b == 61 && next == 62) _ _ (λ _. fine_in s (tokens.Mark _) tt tt tt) (λ _. mark_fine s (mark_of b))))
+    tested (FrontFine s) (b == 47 && next == 92) _ _ (λ _. fine_in s (tokens.Mark _) tt tt tt)
+    (λ _. tested (FrontFine s) (b == 92 && next == 47) _ _ (λ _. fine_in s (tokens.Mark _) tt tt tt)
+    (λ _. tested (FrontFine s) (b == 61 && next == 62) _ _ (λ _. fine_in s (tokens.Mark _) tt tt tt) (λ _. mark_fine s (mark_of b))))
 
 ninth_fine : (w : List ℕ) → IsWord w → FineIn (Header zero) (word_token (Header zero) w)
-ninth_fine w h = both (FineIn (Header zero)) (bytes_eq w (codes "P8")) (tokens.Broken rules.TooManyThreads) (tokens.Word w) (λ _. (tt, tt)) (λ e. (h, e))
+ninth_fine w h = tested (FineIn (Header zero)) (bytes_eq w (codes "P8")) (tokens.Broken rules.TooManyThreads) (tokens.Word w) (λ _. (tt, tt)) (λ e. (h, e))
 
 word_fine : (s : Stage) (bs : List ℕ) (n : ℕ) → is_raw s ≡ false → IsWord (take n bs) → FrontFine s (word_front s bs n)
 word_fine Magic bs n r h = absurd cc
@@ -185,7 +182,7 @@ word_fine (Header zero) bs n r h = ninth_fine (take n bs) h
 word_fine (Header (suc k)) bs n r h = h
 word_fine CellBegins bs n r h =
     let gap = gap_from 0 0 (drop n bs) in
-    both (FrontFine CellBegins) (slice_index bs (n + gap) == 58) (Lexeme (tokens.Label (take n bs)) (n + gap + 1)) (Lexeme (tokens.Word (take n bs)) n) (λ _. h) (λ _. h)
+    tested (FrontFine CellBegins) (slice_index bs (n + gap) == 58) (Lexeme (tokens.Label (take n bs)) (n + gap + 1)) (Lexeme (tokens.Word (take n bs)) n) (λ _. h) (λ _. h)
 word_fine InCell bs n r h = h
 word_fine Tail bs n r h = h
 
@@ -194,29 +191,29 @@ number_fine s negative ds r h = fine_in s (tokens.Number negative ds) h tt tt
 
 plain_fine : (s : Stage) (b : ℕ) (bs : List ℕ) → is_raw s ≡ false → FrontFine s (plain_front s (b ∷ bs))
 plain_fine s b bs r =
-    both (FrontFine s) (is_line_end b) (Layout 1) _ (λ _. tt)
-    (λ _. both (FrontFine s) (begins_word b) (word_front s (b ∷ bs) (position_or_len ends_word (b ∷ bs))) _ (λ e. word_fine s (b ∷ bs) (position_or_len ends_word (b ∷ bs)) r (word_taken b bs e))
-    (λ _. both (FrontFine s) (is_digit b) (number_front (b ∷ bs) (position_or_len ends_digits (b ∷ bs))) _ (λ _. number_fine s false (significant (take (position_or_len ends_digits (b ∷ bs)) (b ∷ bs))) r (significant_digits (take (position_or_len ends_digits (b ∷ bs)) (b ∷ bs)) (digit_span (b ∷ bs))))
-    (λ _. both (FrontFine s) (b == 45 && is_digit (slice_index bs 0)) (minus_front bs (position_or_len ends_digits bs)) (sign_front b (slice_index bs 0)) (λ _. number_fine s true (significant (take (position_or_len ends_digits bs) bs)) r (significant_digits (take (position_or_len ends_digits bs) bs) (digit_span bs)))
+    tested (FrontFine s) (is_line_end b) (Layout 1) _ (λ _. tt)
+    (λ _. tested (FrontFine s) (begins_word b) (word_front s (b ∷ bs) (position_or_len ends_word (b ∷ bs))) _ (λ e. word_fine s (b ∷ bs) (position_or_len ends_word (b ∷ bs)) r (word_taken b bs e))
+    (λ _. tested (FrontFine s) (is_digit b) (number_front (b ∷ bs) (position_or_len ends_digits (b ∷ bs))) _ (λ _. number_fine s false (significant (take (position_or_len ends_digits (b ∷ bs)) (b ∷ bs))) r (significant_digits (take (position_or_len ends_digits (b ∷ bs)) (b ∷ bs)) (digit_span (b ∷ bs))))
+    (λ _. tested (FrontFine s) (b == 45 && is_digit (slice_index bs 0)) (minus_front bs (position_or_len ends_digits bs)) (sign_front b (slice_index bs 0)) (λ _. number_fine s true (significant (take (position_or_len ends_digits bs) bs)) r (significant_digits (take (position_or_len ends_digits bs) bs) (digit_span bs)))
     (λ _. sign_fine s b (slice_index bs 0)))))
 
 line_fine : (line : List ℕ) → FrontFine Head (line_front line)
-line_fine line = both (FrontFine Head) (position_or_len is_equals line == length line) (Lexeme tokens.Bad 1) (Lexeme tokens.Keyline (position_or_len is_not_ascii line)) (λ _. tt) (λ _. tt)
+line_fine line = tested (FrontFine Head) (position_or_len is_equals line == length line) (Lexeme tokens.Bad 1) (Lexeme tokens.Keyline (position_or_len is_not_ascii line)) (λ _. tt) (λ _. tt)
 
 quoted_fine : (o : Option ℕ) → FrontFine Head (quoted_front o)
 quoted_fine (Some n) = tt
 quoted_fine None = tt
 
 raw_fine : (s : Stage) (bs : List ℕ) → IsRaw (tokens.Word (take (raw_from 0 bs) bs)) → ((t : Token) → IsRaw t → FineIn s t) → FrontFine s (raw_front bs (raw_from 0 bs))
-raw_fine s bs h is = both (FrontFine s) (is_line_end (slice_index bs 0)) (Layout 1) (Lexeme (tokens.Word (take (raw_from 0 bs) bs)) (raw_from 0 bs)) (λ _. tt) (λ _. is (tokens.Word (take (raw_from 0 bs) bs)) h)
+raw_fine s bs h is = tested (FrontFine s) (is_line_end (slice_index bs 0)) (Layout 1) (Lexeme (tokens.Word (take (raw_from 0 bs) bs)) (raw_from 0 bs)) (λ _. tt) (λ _. is (tokens.Word (take (raw_from 0 bs) bs)) h)
 
 stage_fine : (s : Stage) (f : Bool) (b : ℕ) (bs : List ℕ) → FrontFine s (stage_front s f (b ∷ bs))
 stage_fine Magic f b bs = raw_fine Magic (b ∷ bs) (raw_word (b ∷ bs)) (λ t h. h)
 stage_fine Title f b bs = raw_fine Title (b ∷ bs) (raw_word (b ∷ bs)) (λ t h. h)
-stage_fine TitleEnd f b bs = both (FrontFine TitleEnd) (is_line_end b) (Lexeme tokens.LineEnd 1) (Lexeme tokens.Bad 1) (λ _. tt) (λ _. tt)
+stage_fine TitleEnd f b bs = tested (FrontFine TitleEnd) (is_line_end b) (Lexeme tokens.LineEnd 1) (Lexeme tokens.Bad 1) (λ _. tt) (λ _. tt)
 stage_fine Head f b bs =
-    both (FrontFine Head) (f && is_letter b) _ _ (λ _. line_fine (take (position_or_len is_line_end (b ∷ bs)) (b ∷ bs)))
-    (λ _. both (FrontFine Head) (b == 34) (quoted_front (quoted_from (b ∷ bs))) (plain_front Head (b ∷ bs)) (λ _. quoted_fine (quoted_from (b ∷ bs))) (λ _. plain_fine Head b bs refl))
+    tested (FrontFine Head) (f && is_letter b) _ _ (λ _. line_fine (take (position_or_len is_line_end (b ∷ bs)) (b ∷ bs)))
+    (λ _. tested (FrontFine Head) (b == 34) (quoted_front (quoted_from (b ∷ bs))) (plain_front Head (b ∷ bs)) (λ _. quoted_fine (quoted_from (b ∷ bs))) (λ _. plain_fine Head b bs refl))
 stage_fine (Init a w) f b bs = plain_fine (Init a w) b bs refl
 stage_fine (Header n) f b bs = plain_fine (Header n) b bs refl
 stage_fine CellBegins f b bs = plain_fine CellBegins b bs refl
@@ -226,11 +223,11 @@ stage_fine Tail f b bs = plain_fine Tail b bs refl
 front_fine : (s : Stage) (f : Bool) (b : ℕ) (bs : List ℕ) → FrontFine s (front s f (b ∷ bs))
 unfolding front
 front_fine s f b bs =
-    both (FrontFine s) (is_not_ascii b) (Lexeme (tokens.Broken rules.NotAscii) 1) _ (λ _. fine_in s (tokens.Broken rules.NotAscii) tt tt tt)
-    (λ _. both (FrontFine s) (is_blank b) (Layout 1) _ (λ _. tt)
-    (λ _. both (FrontFine s) (begins_comment (b ∷ bs)) (comment_front (length (b ∷ bs)) (comment_of (b ∷ bs))) (stage_front s f (b ∷ bs)) (λ _. comment_fine s _ (comment_of (b ∷ bs))) (λ _. stage_fine s f b bs)))
+    tested (FrontFine s) (is_not_ascii b) (Lexeme (tokens.Broken rules.NotAscii) 1) _ (λ _. fine_in s (tokens.Broken rules.NotAscii) tt tt tt)
+    (λ _. tested (FrontFine s) (is_blank b) (Layout 1) _ (λ _. tt)
+    (λ _. tested (FrontFine s) (begins_comment (b ∷ bs)) (comment_front (length (b ∷ bs)) (comment_of (b ∷ bs))) (stage_front s f (b ∷ bs)) (λ _. comment_fine s _ (comment_of (b ∷ bs))) (λ _. stage_fine s f b bs)))
 
-after_fine : (s : Stage) (f : Bool) (p b : ℕ) (x : Front) (later : Stage → Bool → ℕ → List Placed) → FrontFine s x → ((u : Stage) (g : Bool) (k : ℕ) → AreFine u (tokens_of (later u g k))) → AreFine s (tokens_of (after_front s f p b x later))
+after_fine : (s : Stage) (f : Bool) (p b : ℕ) (x : Front) (later : Stage → Bool → ℕ → List TokenAt) → FrontFine s x → ((u : Stage) (g : Bool) (k : ℕ) → AreFine u (tokens_of (later u g k))) → AreFine s (tokens_of (after_front s f p b x later))
 after_fine s f p b (Layout n) later h all = all s (fresh_after f b) (n - 1)
 after_fine s f p b (Lexeme t n) later h all = (h, all (after s t) (ends_line t) (n - 1))
 

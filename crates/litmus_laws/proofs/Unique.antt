@@ -9,7 +9,7 @@ use Rattle.source_text.specs.Letters.{is_letter, is_digit}
 use Rattle.source_text.specs.Layout.{is_blank, is_line_end, is_quote, comment_of}
 use Rattle.text_laws.specs.Comments.{LacksQuote, BeginsWithComment}
 use Rattle.text_laws.proofs.Nesting as nesting
-use Rattle.text_laws.proofs.Runs.{opposite, neither_of, equals, or_first, or_second, seam, when_true, when_false, fails, quote_size, open_size}
+use Rattle.text_laws.proofs.Runs.{opposite, equals, or_first, or_second, seam, when_true, when_false, quote_size, open_size}
 use Rattle.litmus_tokens.specs.declared.rule.LitmusRule.TheVariants as rules
 use Rattle.litmus_tokens.specs.declared.stage.Stage.{Stage}
 use Rattle.litmus_tokens.specs.declared.stage.Stage.TheVariants.{Magic, Title, TitleEnd, Head, Init, Header, CellBegins, InCell, Tail}
@@ -21,15 +21,17 @@ use Rattle.litmus_tokens.specs.declared.lexer.Front.{Front}
 use Rattle.litmus_tokens.specs.declared.lexer.Front.TheVariants as fronts
 use Rattle.litmus_tokens.specs.Lexer.{is_not_ascii, is_word_byte, is_equals, begins_comment, gap_from, comment_front, ends_raw, raw_from, raw_front, quoted_front, line_front, word_token, label_front, word_front, significant, number_front, minus_front, mark_of, mark_front, sign_front, plain_front, stage_front, front}
 use Rattle.litmus_tokens.specs.Stage.{after}
-use Rattle.litmus_tokens.specs.Texts.{Placed, ends_line, fresh_after, after_front, tokens_from, lexed}
+use Rattle.litmus_tokens.specs.Texts.{TokenAt, ends_line, fresh_after, after_front, tokens_from, lexed}
 use Rattle.litmus_laws.specs.Tokens.{IsGap, Blank, LineEnd, Comment, begins_gap, IsRun, IsWord, IsRaw, gaps_text, AreGaps, IsLabel, IsLine, LacksEquals, IsKeyline, is_first, is_plain, double_of, IsLexeme, FirstWord, NameEnd, Keyline, Quoted, Word, Label, Number, Negative, Double, Single, NotAscii, OpenComment, NoNameEnd, NoKeyline, NoQuoted, NoToken, Piece, Gap, Lexeme, text_of, ArePieces, tokens_at, IsCut}
 use Rattle.litmus_laws.proofs.Gaps.{gaps_of, all_gaps}
 use Rattle.litmus_laws.proofs.Pieces.{IsOpen, stops, cons_at, skipped, lexeme_bytes}
+use Rattle.std.proofs.lemmas.Bool.{and_left, false_from_ne_true}
+use Rattle.litmus_laws.proofs.Numbers.{no_letter}
 
 -- ---- the reader's front, by its tests
 
 byte_open : (b : ℕ) (bs : List ℕ) → is_not_ascii b ≡ false → is_blank b ≡ false → (b == 40) ≡ false → IsOpen b bs
-byte_open b bs ascii blank bracket = record { ascii = ascii; blank = blank; comment = neither_of (b == 40) (slice_index bs 0 == 42) bracket }
+byte_open b bs ascii blank bracket = record { ascii = ascii; blank = blank; comment = and_left (b == 40) (slice_index bs 0 == 42) bracket }
 
 open_front : (s : Stage) (fresh : Bool) (b : ℕ) (bs : List ℕ) → IsOpen b bs → front s fresh (b ∷ bs) ≡ stage_front s fresh (b ∷ bs)
 unfolding front
@@ -116,9 +118,6 @@ digit_open b h = grind (arith, nat_tests)
 digit_end : (b : ℕ) → is_digit b ≡ true → is_line_end b ≡ false
 digit_end b h = grind (arith, nat_tests)
 
-digit_word : (b : ℕ) → is_digit b ≡ true → (is_letter b || b == 95) ≡ false
-digit_word b h = grind (arith, nat_tests)
-
 -- ---- gaps
 
 line_layout : (s : Stage) (fresh : Bool) (b : ℕ) (bs : List ℕ) → (s ≡ TitleEnd → ⊥) → is_line_end b ≡ true → stage_front s fresh (b ∷ bs) ≡ fronts.Layout 1
@@ -204,7 +203,7 @@ label_there s rest w e =
 cell_word : (s rest : List ℕ) → IsWord s rest → (BeginsWithLabel s (s ++ rest) → ⊥) → word_front CellBegins (s ++ rest) (length s) ≡ fronts.Lexeme (tokens.Word s) (length s)
 cell_word s rest w none =
     ap (λ (xs : List ℕ). label_front (s ++ rest) (length s) (gap_from 0 0 xs)) (drop_at s rest (length s) refl)
-    ∙ when_false (slice_index (s ++ rest) (length s + gap_from 0 0 rest) == 58) _ _ (fails _ (λ e. none (label_there s rest w e)))
+    ∙ when_false (slice_index (s ++ rest) (length s + gap_from 0 0 rest) == 58) _ _ (false_from_ne_true _ (λ e. none (label_there s rest w e)))
     ∙ ap (λ (xs : List ℕ). fronts.Lexeme (tokens.Word xs) (length s)) (take_at s rest (length s) refl)
 
 other_word : (stage : Stage) (s rest : List ℕ) → IsWord s rest → (stage ≡ CellBegins → BeginsWithLabel s (s ++ rest) → ⊥) → word_front stage (s ++ rest) (length s) ≡ fronts.Lexeme (word_token stage s) (length s)
@@ -242,7 +241,7 @@ front_number stage fresh [] rest plain some r = absurd (omega arith)
 front_number stage fresh (b ∷ bs) rest plain some r =
     let digit : is_digit b ≡ true = r.each 0 (omega arith) in
     open_plain stage fresh b (bs ++ rest) (byte_open b (bs ++ rest) (digit_ascii b digit) (digit_blank b digit) (digit_open b digit)) plain
-    ∙ when_false (is_line_end b) _ _ (digit_end b digit) ∙ when_false (is_letter b || b == 95) _ _ (digit_word b digit) ∙ when_true (is_digit b) _ _ digit
+    ∙ when_false (is_line_end b) _ _ (digit_end b digit) ∙ when_false (is_letter b || b == 95) _ _ (no_letter b digit) ∙ when_true (is_digit b) _ _ digit
     ∙ ap (number_front (b ∷ (bs ++ rest))) (run_size is_digit (b ∷ bs) rest r)
     ∙ ap (λ (xs : List ℕ). fronts.Lexeme (tokens.Number false (significant xs)) (length (b ∷ bs))) (take_at (b ∷ bs) rest (length (b ∷ bs)) refl)
 
@@ -312,7 +311,7 @@ front_double stage fresh a b m rest plain e =
     front_sign stage fresh a (b ∷ rest) plain sign ∙ pair_some (a == 47 && b == 92) (a == 92 && b == 47) (a == 61 && b == 62) m (mark_front (mark_of a)) e
   where
     known : (k : ℕ) → is_not_ascii k ≡ false → is_blank k ≡ false → (k == 40) ≡ false → is_line_end k ≡ false → (is_letter k || k == 95) ≡ false → is_digit k ≡ false → (k == 45) ≡ false → IsSign k (b ∷ rest)
-    known k ascii blank bracket line word digit minus = record { start = byte_open k (b ∷ rest) ascii blank bracket; line = line; word = word; digit = digit; minus = neither_of (k == 45) (is_digit b) minus }
+    known k ascii blank bracket line word digit minus = record { start = byte_open k (b ∷ rest) ascii blank bracket; line = line; word = word; digit = digit; minus = and_left (k == 45) (is_digit b) minus }
 
 -- what the tests before say of a mark of one sign
 abbrev IsMark : ℕ → Type 0
@@ -346,7 +345,7 @@ front_single stage fresh b m rest plain gap double is =
       line = k.2;
       word = k.3;
       digit = k.4;
-      minus = neither_of (b == 45) (is_digit (slice_index rest 0)) k.5;
+      minus = and_left (b == 45) (is_digit (slice_index rest 0)) k.5;
     }) double ∙ ap mark_front is
 
 gap_open : (b : ℕ) (bs : List ℕ) → is_not_ascii b ≡ false → begins_gap (b ∷ bs) ≡ false → IsOpen b bs
@@ -423,7 +422,7 @@ front_keyline s rest k =
     let in_line = k.in_line in
     let first : slice_index (s ++ rest) 0 ≡ slice_index k.line 0 = ap (λ (xs : List ℕ). slice_index xs 0) k.whole ∙ get_or_append_left k.line k.behind 0 0 (omega arith) in
     front_line (s ++ rest) k.line k.behind k.is_line k.whole (omega arith) (ap is_letter first ∙ k.letter)
-    ∙ when_false (position_or_len is_equals k.line == length k.line) _ _ (fails _ (λ h.
+    ∙ when_false (position_or_len is_equals k.line == length k.line) _ _ (false_from_ne_true _ (λ h.
     (let all = nesting.equal (position_or_len is_equals k.line) (length k.line) h in
     opposite (is_equals (slice_index k.line k.equals)) k.is_equals (fails_before_first is_equals k.line k.equals 0 (omega arith)))))
     ∙ ap (λ (n : ℕ). fronts.Lexeme tokens.Keyline n) (position_or_len_is is_not_ascii k.line (length s) 0 k.within k.ascii k.stops)
@@ -448,7 +447,7 @@ front_quoted fresh inside s rest lacks is =
     let at = quote_size inside rest lacks in
     let size : length inside + 2 ≡ length s = omega arith in
     ap (λ (xs : List ℕ). front Head fresh (xs ++ rest)) is ∙ ap (λ (xs : List ℕ). front Head fresh (34 ∷ xs)) (append_assoc inside (34 ∷ []) rest) ∙ front_quote fresh (inside ++ 34 ∷ rest)
-    ∙ ap quoted_front (when_false (position_or_len is_quote (inside ++ 34 ∷ rest) == length (inside ++ 34 ∷ rest)) None (Some (position_or_len is_quote (inside ++ 34 ∷ rest) + 2)) (fails _ (λ h.
+    ∙ ap quoted_front (when_false (position_or_len is_quote (inside ++ 34 ∷ rest) == length (inside ++ 34 ∷ rest)) None (Some (position_or_len is_quote (inside ++ 34 ∷ rest) + 2)) (false_from_ne_true _ (λ h.
     (let all = nesting.equal (position_or_len is_quote (inside ++ 34 ∷ rest)) (length (inside ++ 34 ∷ rest)) h in absurd (omega arith)))))
     ∙ ap (λ (k : ℕ). fronts.Lexeme tokens.Text (k + 2)) at ∙ ap (λ (k : ℕ). fronts.Lexeme tokens.Text k) size
 
@@ -536,7 +535,7 @@ lexeme_turn stage fresh n t [] rest some e = absurd (omega arith)
 lexeme_turn stage fresh n t (b ∷ bs) rest some e =
     let l = length-append bs rest in
     turn stage fresh n b (bs ++ rest) ∙ ap (λ (f : Front). after_front stage fresh n b f (λ s' fresh' skip. tokens_from s' fresh' skip (n + 1) (bs ++ rest))) e
-    ∙ ap (λ (ps : List Placed). record { token = t; offset = n } ∷ ps) (skipped (after stage t) (ends_line t) (length bs) n (bs ++ rest) (omega arith) ∙ ap (tokens_from (after stage t) (ends_line t) 0 (n + suc (length bs))) (drop_at bs rest (length bs) refl))
+    ∙ ap (λ (ps : List TokenAt). record { token = t; offset = n } ∷ ps) (skipped (after stage t) (ends_line t) (length bs) n (bs ++ rest) (omega arith) ∙ ap (tokens_from (after stage t) (ends_line t) 0 (n + suc (length bs))) (drop_at bs rest (length bs) refl))
 
 of_pieces : (stage : Stage) (fresh : Bool) (n : ℕ) (ps : List Piece) → ArePieces stage fresh ps → tokens_from stage fresh 0 n (text_of ps) ≡ tokens_at n ps
 of_pieces stage fresh n [] h = end_tokens stage fresh n
@@ -544,7 +543,7 @@ of_pieces stage fresh n (Gap s ∷ ps) h =
     gap_turn stage fresh n s (text_of ps) (gap_bytes stage s (text_of ps) h.0) (front_gap stage fresh s (text_of ps) h.0) ∙ of_pieces stage (fresh_after fresh (slice_index s 0)) (n + length s) ps h.1
 of_pieces stage fresh n (Lexeme t s ∷ ps) h =
     lexeme_turn stage fresh n t s (text_of ps) (lexeme_bytes stage fresh t s (text_of ps) h.0) (front_lexeme stage fresh t s (text_of ps) h.0)
-    ∙ ap (λ (qs : List Placed). record { token = t; offset = n } ∷ qs) (of_pieces (after stage t) (ends_line t) (n + length s) ps h.1)
+    ∙ ap (λ (qs : List TokenAt). record { token = t; offset = n } ∷ qs) (of_pieces (after stage t) (ends_line t) (n + length s) ps h.1)
 
-pub only_cut : (stage : Stage) (bytes : List ℕ) (ps : List Placed) → IsCut stage bytes ps → lexed stage bytes ≡ ps
+pub only_cut : (stage : Stage) (bytes : List ℕ) (ps : List TokenAt) → IsCut stage bytes ps → lexed stage bytes ≡ ps
 only_cut stage bytes ps c = ap (lexed stage) (sym c.whole) ∙ of_pieces stage false 0 c.pieces c.fine ∙ c.tokens

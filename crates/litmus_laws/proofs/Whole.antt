@@ -23,7 +23,7 @@ use Rattle.litmus_grammar.specs.Texts.{ReadsTest, late_entries, late_test, befor
 use Rattle.litmus_printing.specs.Printing.{line, all_of, entry_line, place_text, item_text, observed_text, formula_text, condition_text, names, row_text, rows_text, table_text, longest, printed}
 use Rattle.source_text.specs.Joined.{joined}
 use Rattle.litmus_laws.specs.Written.{ArePlaces, IsFormula, AreThreads, IsTest, IsTextOfTest, nesting, joins, IsWithinLimits}
-use Rattle.litmus_laws.proofs.Read.{Condition, read, free, inner, not_it}
+use Rattle.litmus_laws.proofs.Read.{Condition, read, free, inner}
 use Rattle.litmus_laws.proofs.Numbers.{word}
 use Rattle.litmus_laws.proofs.Places.{open_square, close_square, place_tree, square_place, place_back, place_fine, place_there}
 use Rattle.litmus_laws.proofs.Conditions.{is_word, blank, line_end, no_bytes, tree_of, first_byte, group_back, condition_back, meaning_back, enough, fine}
@@ -32,6 +32,7 @@ use Rattle.litmus_laws.proofs.Rows.{AreAllSteps, rows_of, rows_back, rows_fine, 
 use Rattle.litmus_laws.proofs.Labels.{AreAllLabelled, table_in_time}
 use Rattle.litmus_laws.proofs.Entries.{listed, members_listed, semicolon, entry_tree, entries_back, entries_mean, entries_fine, entries_in_time, block_ends, names_back}
 use Rattle.litmus_laws.proofs.Head.{head_back}
+use Rattle.text_laws.proofs.Runs.{other}
 
 -- ---- behind the table
 
@@ -43,7 +44,7 @@ module _ (threads : ℕ) (few : threads < 18446744073709551616) where
   group_first : (f : Formula) (bs : List ℕ) → IsFormula threads f → NoColon (40 ∷ ((formula_text f ++ 41 ∷ []) ++ bs))
   group_first f bs h = record {
     no_space = refl;
-    no_comment = ap (λ (l : List ℕ). slice_index l 0 == 42) (append_assoc (formula_text f) (41 ∷ []) bs) ∙ not_it (slice_index (formula_text f ++ 41 ∷ bs) 0) 42 (first_byte threads few f (41 ∷ bs) h);
+    no_comment = ap (λ (l : List ℕ). slice_index l 0 == 42) (append_assoc (formula_text f) (41 ∷ []) bs) ∙ other (slice_index (formula_text f ++ 41 ∷ bs) 0) 42 (first_byte threads few f (41 ∷ bs) h);
     no_colon = λ e. absurd (omega arith);
   }
 

@@ -5,7 +5,7 @@ use Rattle.litmus_tokens.specs.declared.rule.LitmusRule.TheVariants as rules
 use Rattle.litmus_tokens.specs.declared.token.Token.{Token}
 use Rattle.litmus_tokens.specs.declared.token.Token.TheVariants as tokens
 use Rattle.litmus_tokens.specs.Faults.{IsFault}
-use Rattle.litmus_tokens.specs.Texts.{Placed, tokens_of}
+use Rattle.litmus_tokens.specs.Texts.{TokenAt, tokens_of}
 use Rattle.litmus_tokens.specs.declared.stage.Stage.{Stage}
 use Rattle.litmus_tokens.specs.declared.stage.Stage.TheVariants.{Magic}
 use Rattle.litmus_conditions.specs.Grammar.{limits}
@@ -68,17 +68,17 @@ pub data IsNumbered (here : Token) (of_part rule : LitmusRule) : Type 0 where
   OfPart : rule ≡ of_part → IsNumbered here of_part rule
 
 -- the fault of a test, as its reader looks for it
-abbrev pub IsRefusal : List Placed → LitmusRule → ℕ → Type 0
+abbrev pub IsRefusal : List TokenAt → LitmusRule → ℕ → Type 0
 IsRefusal ps rule offset = IsFault (IsStart (IsTestText limits) Magic) Magic ps rule offset
 
 -- it is numbered by the part of this test in which the refused token would stand, behind the tokens before it
-abbrev pub IsOfItsPart : (ps : List Placed) (rule : LitmusRule) (offset : ℕ) → IsRefusal ps rule offset → TestTree → Type 0
+abbrev pub IsOfItsPart : (ps : List TokenAt) (rule : LitmusRule) (offset : ℕ) → IsRefusal ps rule offset → TestTree → Type 0
 IsOfItsPart ps rule offset f t =
     (there : Token) (of_part : LitmusRule) → StandsIn (test_parts t) (tokens_of f.before) there of_part
     → IsNumbered f.here.token of_part rule
 
 -- ---- parts that are read alone: each token that they name no rule for has the part's
 
-abbrev pub IsOfPart : {IsText : List Token → Type 0} {start : Stage} {ps : List Placed} {rule : LitmusRule} {offset : ℕ}
+abbrev pub IsOfPart : {IsText : List Token → Type 0} {start : Stage} {ps : List TokenAt} {rule : LitmusRule} {offset : ℕ}
     → LitmusRule → IsFault IsText start ps rule offset → Type 0
 IsOfPart {IsText} {start} {ps} {rule} {offset} of_part f = IsNumbered f.here.token of_part rule

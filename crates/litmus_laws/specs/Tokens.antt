@@ -13,7 +13,7 @@ use Rattle.litmus_tokens.specs.declared.token.Token.{Token}
 use Rattle.litmus_tokens.specs.declared.token.Token.TheVariants as tokens
 use Rattle.litmus_tokens.specs.Lexer.{is_not_ascii, is_word_byte, ends_raw, word_token, significant, mark_of}
 use Rattle.litmus_tokens.specs.Stage.{after}
-use Rattle.litmus_tokens.specs.Texts.{Placed, ends_line, fresh_after}
+use Rattle.litmus_tokens.specs.Texts.{TokenAt, ends_line, fresh_after}
 
 -- ---- gaps
 
@@ -162,19 +162,19 @@ ArePieces stage fresh (Gap s ∷ ps) = IsGap stage s (text_of ps) × ArePieces s
 ArePieces stage fresh (Lexeme t s ∷ ps) = IsLexeme stage fresh t s (text_of ps) × ArePieces (after stage t) (ends_line t) ps
 
 -- the tokens of pieces that begin at an offset, and the end
-abbrev pub tokens_at : ℕ → List Piece → List Placed
+abbrev pub tokens_at : ℕ → List Piece → List TokenAt
 tokens_at n [] = record { token = tokens.End; offset = n } ∷ []
 tokens_at n (Gap s ∷ ps) = tokens_at (n + length s) ps
 tokens_at n (Lexeme t s ∷ ps) = record { token = t; offset = n } ∷ tokens_at (n + length s) ps
 
 -- the text, from this part on, is cut into gaps and lexemes, of which these are the tokens
-pub record IsCut (stage : Stage) (bytes : List ℕ) (ps : List Placed) : Type 0 where
+pub record IsCut (stage : Stage) (bytes : List ℕ) (ps : List TokenAt) : Type 0 where
   pub pieces : List Piece
   pub fine : ArePieces stage false pieces
   pub whole : text_of pieces ≡ bytes
   pub tokens : tokens_at 0 pieces ≡ ps
 
 -- each token begins behind the one before it, from this offset on
-abbrev pub AreRising : ℕ → List Placed → Type 0
+abbrev pub AreRising : ℕ → List TokenAt → Type 0
 AreRising n [] = Unit {0}
 AreRising n (p ∷ ps) = (n ≤ p.offset) × AreRising (p.offset + 1) ps

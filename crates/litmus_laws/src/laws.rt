@@ -8,7 +8,7 @@ ghost use Rattle.litmus_tokens.specs.declared.stage.Stage.{Stage};
 ghost use Rattle.litmus_tokens.specs.declared.stage.Stage.TheVariants.{Magic, Init, CellBegins, Tail};
 ghost use Rattle.litmus_tokens.specs.declared.token.Token.{Token};
 ghost use Rattle.litmus_tokens.specs.Stage.{rule_of};
-ghost use Rattle.litmus_tokens.specs.Texts.{Placed, stage_after, lexed};
+ghost use Rattle.litmus_tokens.specs.Texts.{TokenAt, stage_after, lexed};
 ghost use Rattle.litmus_conditions.specs.Grammar.{Limits, limits, IsConditionText};
 ghost use Rattle.litmus_grammar.specs.Grammar.{TestTree, IsTest as IsTestTree, spelled_test, IsInitText, IsThreadText, IsLocationsText};
 ghost use Rattle.litmus_values.specs.declared.test.Quantifier.{Quantifier};
@@ -63,15 +63,15 @@ pub fn refusals_are_of_their_parts()
     // The part that the tokens so far lead to is the one in which the next token stands.
     ensures stage { (most : Limits) (t : TestTree) (before : List Token) (here : Token) (rule : LitmusRule) → IsTestTree most t → StandsIn (test_parts t) before here rule → rule_of (stage_after Magic before) ≡ rule }
     // So a refusal has the part's number, in whatever test it would stand.
-    ensures refusal { (most : Limits) (t : TestTree) (ps : List Placed) (rule : LitmusRule) (offset : ℕ) → IsTestTree most t → (f : IsRefusal ps rule offset) → IsOfItsPart ps rule offset f t }
+    ensures refusal { (most : Limits) (t : TestTree) (ps : List TokenAt) (rule : LitmusRule) (offset : ℕ) → IsTestTree most t → (f : IsRefusal ps rule offset) → IsOfItsPart ps rule offset f t }
 {}
 
 /// The number of a refused part that is read alone is that part's, unless the refused token names a rule of its own.
 pub fn refusals_of_parts()
-    ensures init { (ps : List Placed) (rule : LitmusRule) (offset : ℕ) → (f : IsFault (IsStart IsInitText (Init true false)) (Init true false) ps rule offset) → IsOfPart rules.Init f }
-    ensures thread { (ps : List Placed) (rule : LitmusRule) (offset : ℕ) → (f : IsFault IsThreadText CellBegins ps rule offset) → IsOfPart rules.Instruction f }
-    ensures locations { (threads : ℕ) (ps : List Placed) (rule : LitmusRule) (offset : ℕ) → (f : IsFault (IsLocationsText threads) Tail ps rule offset) → IsOfPart rules.Condition f }
-    ensures condition { (threads : ℕ) (ps : List Placed) (rule : LitmusRule) (offset : ℕ) → (f : IsFault (IsConditionText limits threads) Tail ps rule offset) → IsOfPart rules.Condition f }
+    ensures init { (ps : List TokenAt) (rule : LitmusRule) (offset : ℕ) → (f : IsFault (IsStart IsInitText (Init true false)) (Init true false) ps rule offset) → IsOfPart rules.Init f }
+    ensures thread { (ps : List TokenAt) (rule : LitmusRule) (offset : ℕ) → (f : IsFault IsThreadText CellBegins ps rule offset) → IsOfPart rules.Instruction f }
+    ensures locations { (threads : ℕ) (ps : List TokenAt) (rule : LitmusRule) (offset : ℕ) → (f : IsFault (IsLocationsText threads) Tail ps rule offset) → IsOfPart rules.Condition f }
+    ensures condition { (threads : ℕ) (ps : List TokenAt) (rule : LitmusRule) (offset : ℕ) → (f : IsFault (IsConditionText limits threads) Tail ps rule offset) → IsOfPart rules.Condition f }
 {}
 
 /// The tokens of a test's text are pieces of it, none of which goes on. With the gaps between them (blanks, line ends and
@@ -80,7 +80,7 @@ pub fn tokens_cover_the_text()
     // The text, read from any part on, is cut into such pieces, and its tokens are theirs.
     ensures cut { (start : Stage) (bytes : List ℕ) → IsCut start bytes (lexed start bytes) }
     // It is cut in no other way.
-    ensures only { (start : Stage) (bytes : List ℕ) (ps : List Placed) → IsCut start bytes ps → lexed start bytes ≡ ps }
+    ensures only { (start : Stage) (bytes : List ℕ) (ps : List TokenAt) → IsCut start bytes ps → lexed start bytes ≡ ps }
     // Each token begins behind the one before it.
     ensures rising { (start : Stage) (bytes : List ℕ) → AreRising 0 (lexed start bytes) }
 {}

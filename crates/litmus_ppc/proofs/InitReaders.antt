@@ -9,7 +9,7 @@ use Rattle.litmus_tokens.specs.declared.stage.Stage.TheVariants.{Init}
 use Rattle.litmus_tokens.specs.declared.token.Token.{Token}
 use Rattle.litmus_tokens.specs.declared.token.Token.TheVariants as tokens
 use Rattle.litmus_tokens.specs.declared.token.Mark.TheVariants as marks
-use Rattle.litmus_tokens.specs.Texts.{Placed, tokens_of, lexed, StandsAt}
+use Rattle.litmus_tokens.specs.Texts.{TokenAt, tokens_of, lexed, StandsAt}
 use Rattle.litmus_tokens.specs.Words.{decimal, register_of, or_zero}
 use Rattle.litmus_values.specs.declared.test.Place.{Place}
 use Rattle.litmus_values.specs.declared.test.Place.TheVariants as whole_places
@@ -34,12 +34,12 @@ use Rattle.litmus_grammar.proofs.Ends.{ends_done}
 use Rattle.litmus_grammar.proofs.InitLeft.{init_whole}
 use Rattle.litmus_grammar.proofs.InitStarts.{init_reading}
 use Rattle.litmus_grammar.specs.Laws.{entry_kept, AreStarts}
-use Rattle.litmus_grammar.proofs.InitTaken.{init_taken}
+use Rattle.litmus_grammar.proofs.InitAcceptance.{init_taken}
 use Rattle.litmus_grammar.proofs.Outcomes.{fault_found, no_fault}
 use Rattle.litmus_grammar.proofs.Runs.{same_state, ends_last, follows}
 
 -- the place that is found is where the definitions find one
-abbrev pub Matches : List Placed → Option Late → Option ℕ → Type 0
+abbrev pub Matches : List TokenAt → Option Late → Option ℕ → Type 0
 Matches all None None = Unit {0}
 Matches all (Some l) (Some n) = (l.rule ≡ rules.Init) × StandsAt all l.before n
 Matches all l n = ⊥
@@ -64,7 +64,7 @@ module _ (threads : ℕ) (few : threads < 18446744073709551616) where
   lacks_is (Location b n) = refl
   lacks_is (Register t r) = lacks_when (decimal t) (cases_lt (decimal t) threads)
 
-  pub late_matches : (all : List Placed) (before : List Token) (es : List EntryTree) (ss : List ℕ) → AreStarts all before es ss → Matches all (late_entries threads before es) (missing threads (map entry_kept es) ss)
+  pub late_matches : (all : List TokenAt) (before : List Token) (es : List EntryTree) (ss : List ℕ) → AreStarts all before es ss → Matches all (late_entries threads before es) (missing threads (map entry_kept es) ss)
   late_matches all before [] [] h = tt
   late_matches all before [] (s ∷ ss) h = absurd h
   late_matches all before (e ∷ es) [] h = absurd h
@@ -96,7 +96,7 @@ module _ (threads : ℕ) (few : threads < 18446744073709551616) where
       choose false k h later = absurd cc
 
   module _ (bytes : List ℕ) where
-    abbrev text_tokens : List Placed
+    abbrev text_tokens : List TokenAt
     text_tokens = lexed (Init true false) bytes
 
     abbrev made : Ran

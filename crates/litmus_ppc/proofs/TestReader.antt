@@ -1,7 +1,7 @@
 -- What `read_test` answers is what the grammar and the later checks say.
 use Rattle.std.proofs.Common.{◌≡◌, ℕ, ◌+◌, ◌<◌, ◌≤◌, List, map, length, Option, Some, None, Result, Ok, Err, refl, sym, ap, ◌∙◌, subst, arith, inl, inr, ◌⊎◌}
 use Rattle.std.proofs.lemmas.Bool.{cases_lt}
-use Rattle.litmus_tokens.specs.Texts.{Placed, tokens_of, lexed}
+use Rattle.litmus_tokens.specs.Texts.{TokenAt, tokens_of, lexed}
 use Rattle.litmus_values.specs.declared.test.InitEntry.{InitEntry}
 use Rattle.litmus_values.specs.declared.test.Step.{Step}
 use Rattle.litmus_values.specs.Value.{Content}
@@ -37,7 +37,7 @@ missing_in s = missing (threads_in s.kind s.threads s.draft) s.draft.init.entrie
 
 -- what the check of labels answered
 abbrev pub Answered : State → Result (Unit {0}) LitmusFault → Type 0
-Answered s r = (placed : List Placed) (notes : List (List Note)) → AreNoted placed notes s.draft.table.threads → IsLateFound placed r (first_late notes)
+Answered s r = (given : List TokenAt) (notes : List (List Note)) → AreNoted given notes s.draft.table.threads → IsLateFound given r (first_late notes)
 
 abbrev late_init : TestTree → Option Late
 late_init t = late_entries (t.others + 1) (before_entries t) (members t.init)
@@ -57,22 +57,22 @@ none_both : (a b : Option Late) → a ≡ None → b ≡ None → or_else a b �
 none_both None b e f = f
 none_both (Some l) b e f = absurd cc
 
-no_late : (ps : List Placed) (l : Option Late) (n : Option ℕ) → Matches ps l n → n ≡ None → l ≡ None
+no_late : (ps : List TokenAt) (l : Option Late) (n : Option ℕ) → Matches ps l n → n ≡ None → l ≡ None
 no_late ps None n m e = refl
 no_late ps (Some l) None m e = absurd m
 no_late ps (Some l) (Some n) m e = absurd cc
 
-not_there : (ps : List Placed) (l : Option Late) (n : Option ℕ) (k : ℕ) → Matches ps l n → n ≡ Some k → l ≡ None → ⊥
+not_there : (ps : List TokenAt) (l : Option Late) (n : Option ℕ) (k : ℕ) → Matches ps l n → n ≡ Some k → l ≡ None → ⊥
 not_there ps None None k m e f = absurd cc
 not_there ps None (Some n) k m e f = m
 not_there ps (Some l) n k m e f = absurd cc
 
-nothing_found : (ps : List Placed) (o : Option Late) → IsFoundAt ps None o → o ≡ None
+nothing_found : (ps : List TokenAt) (o : Option Late) → IsFoundAt ps None o → o ≡ None
 nothing_found ps None f = refl
 nothing_found ps (Some l) f = absurd f
 
 module _ (bytes : List ℕ) where
-  abbrev ps : List Placed
+  abbrev ps : List TokenAt
   ps = lexed (first_stage kinds.Test) bytes
 
   abbrev made : Ran

@@ -2,7 +2,7 @@
 use Rattle.std.proofs.Common.{◌≡◌, ℕ, ◌<◌, ◌≤◌, List, ◌∷◌, ◌++◌, length, Option, Some, None, Result, Ok, Err, refl, sym, ap, ◌∙◌, subst, inl, inr, ◌⊎◌}
 use Rattle.std.proofs.lemmas.Bool.{cases_lt}
 use Rattle.litmus_tokens.specs.declared.token.Token.{Token}
-use Rattle.litmus_tokens.specs.Texts.{Placed, tokens_of, lexed}
+use Rattle.litmus_tokens.specs.Texts.{TokenAt, tokens_of, lexed}
 use Rattle.litmus_table.specs.Checks.{IsFoundAt}
 use Rattle.litmus_table.specs.Late.{Late}
 use Rattle.litmus_ppc.specs.declared.fault.LitmusFault.{LitmusFault}
@@ -25,16 +25,16 @@ refusal d = Err d
 
 module _ (IsText : List Token → Type 0) (kind : TextKind) (threads : ℕ) (V : Type 0) (late : (ts : List Token) → IsText ts → Option Late) (value : (ts : List Token) → IsText ts → V)
     (known : ReadingWhere AreInner IsText kind threads)
-    (whole : (ps : List Placed) (s : State) → run (start kind threads) ps ≡ Ok s → s.part ≡ text.Done → IsText (tokens_of ps))
+    (whole : (ps : List TokenAt) (s : State) → run (start kind threads) ps ≡ Ok s → s.part ≡ text.Done → IsText (tokens_of ps))
     (draft : State → V)
-    (holds : (ps : List Placed) (s : State) (x : IsText (tokens_of ps)) → run (start kind threads) ps ≡ Ok s → draft s ≡ value (tokens_of ps) x) (bytes : List ℕ) where
-  abbrev ps : List Placed
+    (holds : (ps : List TokenAt) (s : State) (x : IsText (tokens_of ps)) → run (start kind threads) ps ≡ Ok s → draft s ≡ value (tokens_of ps) x) (bytes : List ℕ) where
+  abbrev ps : List TokenAt
   ps = lexed (first_stage kind) bytes
 
   abbrev made : Ran
   made = run (start kind threads) ps
 
-  fine : (before : List Placed) (p : Placed) (behind : List Placed) → ps ≡ before ++ p ∷ behind → AreInner (tokens_of before)
+  fine : (before : List TokenAt) (p : TokenAt) (behind : List TokenAt) → ps ≡ before ++ p ∷ behind → AreInner (tokens_of before)
   fine = lexed_inner (first_stage kind) bytes
 
   text_of : (s : State) → made ≡ Ok s → IsText (tokens_of ps)

@@ -1,6 +1,6 @@
 -- What `read_thread` answers is what the grammar and the checks of labels say.
 use Rattle.std.proofs.Common.{◌≡◌, ℕ, ◌<◌, ◌≤◌, List, [], ◌∷◌, length, Option, Some, None, Result, Ok, Err, refl, sym, ap, ◌∙◌, subst}
-use Rattle.litmus_tokens.specs.Texts.{Placed, tokens_of, lexed}
+use Rattle.litmus_tokens.specs.Texts.{TokenAt, tokens_of, lexed}
 use Rattle.litmus_values.specs.declared.test.Step.{Step}
 use Rattle.litmus_table.specs.Grammar.{thread_meaning}
 use Rattle.litmus_table.specs.Late.{Late, Note, or_else, late_notes, first_late, thread_notes}
@@ -21,11 +21,11 @@ use Rattle.litmus_grammar.proofs.Threads.{thread_taken, thread_whole, thread_rea
 abbrev kept_steps : State → List Step
 kept_steps s = first_steps s.draft.table.threads
 
-first_of_one : (ts : List table.Placed) (ss : List Step) → steps_of ts ≡ ss ∷ [] → first_steps ts ≡ ss
+first_of_one : (ts : List table.ThreadSteps) (ss : List Step) → steps_of ts ≡ ss ∷ [] → first_steps ts ≡ ss
 first_of_one [] ss e = absurd cc
 first_of_one (t ∷ ts) ss e = cc
 
-steps_hold : (ps : List Placed) (s : State) (x : IsThreadText (tokens_of ps)) → run (start kinds.Thread 1) ps ≡ Ok s → kept_steps s ≡ thread_meaning x.tree
+steps_hold : (ps : List TokenAt) (s : State) (x : IsThreadText (tokens_of ps)) → run (start kinds.Thread 1) ps ≡ Ok s → kept_steps s ≡ thread_meaning x.tree
 steps_hold ps s x e =
     let t = thread_taken 1 ps x in
     let same = same_state _ s (sym t.by ∙ e) in
@@ -36,7 +36,7 @@ alone None = refl
 alone (Some l) = refl
 
 module _ (bytes : List ℕ) where
-  abbrev ps : List Placed
+  abbrev ps : List TokenAt
   ps = lexed (first_stage kinds.Thread) bytes
 
   abbrev made : Ran
@@ -44,7 +44,7 @@ module _ (bytes : List ℕ) where
 
   -- what the check of labels answered
   abbrev Answered : State → Result (Unit {0}) LitmusFault → Type 0
-  Answered s r = (placed : List Placed) (notes : List (List Note)) → AreNoted placed notes s.draft.table.threads → IsLateFound placed r (first_late notes)
+  Answered s r = (given : List TokenAt) (notes : List (List Note)) → AreNoted given notes s.draft.table.threads → IsLateFound given r (first_late notes)
 
   finds : (s : State) (r : Result (Unit {0}) LitmusFault) → made ≡ Ok s → Answered s r → (x : IsThreadText (tokens_of ps)) → IsLateFound ps r (late_of_thread (tokens_of ps) x)
   finds s r e answered x =

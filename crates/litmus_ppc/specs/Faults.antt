@@ -1,6 +1,6 @@
 -- What a refusal says.
 use Rattle.std.specs.Prelude.{◌≡◌, ℕ, ◌≤◌, List, Option, Some, None, Result, Ok, Err}
-use Rattle.litmus_tokens.specs.Texts.{Placed}
+use Rattle.litmus_tokens.specs.Texts.{TokenAt}
 use Rattle.litmus_tokens.specs.declared.rule.LitmusRule.{LitmusRule}
 use Rattle.litmus_tokens.specs.declared.rule.LitmusRule.TheVariants.{TooLong, Init}
 use Rattle.litmus_table.specs.Checks.{IsFoundAt}
@@ -35,7 +35,7 @@ IsMissingFound (Err (Refused rule offset)) found = (rule ≡ Init) × (found ≡
 IsMissingFound (Err (OutOfMemory e)) found = ⊥
 
 -- and the label or the branch.
-abbrev pub IsLateFound : List Placed → Result (Unit {0}) LitmusFault → Option Late → Type 0
+abbrev pub IsLateFound : List TokenAt → Result (Unit {0}) LitmusFault → Option Late → Type 0
 IsLateFound text (Ok u) found = IsFoundAt text None found
 IsLateFound text (Err (Refused rule offset)) found = IsFoundAt text (Some (record { rule = rule; offset = offset })) found
 IsLateFound text (Err (OutOfMemory e)) found = Unit {0}

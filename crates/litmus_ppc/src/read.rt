@@ -99,7 +99,7 @@ fn read_whole(
     if bytes.len() > MAX_BYTES {
         return Err(LitmusFault::Refused {
             rule: LitmusRule::TooLong,
-            place: MAX_BYTES,
+            offset: MAX_BYTES,
         });
     }
     read_all(alloc, bytes, kind, threads)

@@ -1,14 +1,14 @@
 //! Reads the tokens of a text one after another.
 
 ghost use Rattle.std.specs.Prelude.{◌≡◌, ℕ, List, IfOk, IfErr};
-ghost use Rattle.litmus_tokens.specs.Texts.{Placed};
+ghost use Rattle.litmus_tokens.specs.Texts.{TokenAt};
 ghost use Rattle.litmus_table.specs.Late.{Note, first_late};
 ghost use Rattle.litmus_table.specs.Laws.{AreNoted};
 ghost use Rattle.litmus_table.specs.Reading.{table_of};
 ghost use Rattle.litmus_grammar.specs.Kept.{AreKept};
 ghost use Rattle.litmus_ppc.specs.Faults.{IsWithin, IsMissingFound, IsLateFound};
 ghost use Rattle.litmus_grammar.specs.InitMachine.{missing};
-ghost use Rattle.litmus_grammar.specs.TextMachine.{start, placed, step, rule_at, stage_rule, threads_in};
+ghost use Rattle.litmus_grammar.specs.TextMachine.{start, with_offset, step, rule_at, stage_rule, threads_in};
 ghost use Rattle.litmus_ppc.specs.TextReading.{draft_of, state_of, StepsAt};
 
 use crate::draft::Draft;
@@ -58,7 +58,7 @@ impl Reader {
     /// be dropped.
     pub fn step(&mut self, token: Token, offset: usize) -> Result<(), LitmusFault>
         // It does what the machine does.
-        ensures { StepsAt result self.new (placed offset (step (state_of self.old) token offset)) }
+        ensures { StepsAt result self.new (with_offset offset (step (state_of self.old) token offset)) }
     {
         let rule = self.rule(&token);
         let next = self.stage.after(&token);
@@ -72,10 +72,7 @@ impl Reader {
                 self.stage = next;
                 Ok(())
             }
-            Err(StepError::Refused) => Err(LitmusFault::Refused {
-                rule,
-                place: offset,
-            }),
+            Err(StepError::Refused) => Err(LitmusFault::Refused { rule, offset }),
             Err(StepError::OutOfMemory) => Err(LitmusFault::OutOfMemory(AllocError)),
         }
     }
@@ -114,7 +111,7 @@ impl Reader {
         match self.draft.init.missing(threads) {
             Some(offset) => Err(LitmusFault::Refused {
                 rule: LitmusRule::Init,
-                place: offset,
+                offset,
             }),
             None => Ok(()),
         }
@@ -124,15 +121,12 @@ impl Reader {
     /// whole text is read.
     pub fn check_labels(&self) -> Result<(), LitmusFault>
         // It answers what the definitions find, thread by thread.
-        ensures found { (text : List Placed) (notes : List (List Note)) → AreNoted text notes (state_of self.now).draft.table.threads → IsLateFound text result (first_late notes) }
+        ensures found { (text : List TokenAt) (notes : List (List Note)) → AreNoted text notes (state_of self.now).draft.table.threads → IsLateFound text result (first_late notes) }
         // A fault stands no further on than what is blamed.
         ensures within { (n : ℕ) → AreKept n (state_of self.now).draft → IfErr result (IsWithin n) }
     {
         match self.draft.table.check_labels() {
-            Ok(Some(LateFault { rule, offset })) => Err(LitmusFault::Refused {
-                rule,
-                place: offset,
-            }),
+            Ok(Some(LateFault { rule, offset })) => Err(LitmusFault::Refused { rule, offset }),
             Ok(None) => Ok(()),
             Err(error) => Err(LitmusFault::OutOfMemory(error)),
         }

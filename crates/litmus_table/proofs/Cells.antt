@@ -20,29 +20,29 @@ use Rattle.litmus_table.specs.declared.opcode.Want.{Want}
 use Rattle.litmus_table.specs.Words.{opcode_of, data_form, fits, all_fit, is_label, takes, registers, immediate, data_meaning, branch_meaning}
 use Rattle.litmus_table.specs.Grammar.{InstructionTree, CellTree, spelled_label, spelled_instruction, spelled_cell, IsInstruction, label_steps, operation_steps, instruction_steps, cell_steps}
 use Rattle.litmus_table.specs.Late.{Note, Defines, Branches, branch_notes, instruction_notes, label_notes, cell_notes}
-use Rattle.litmus_table.specs.Machine.{Placed, noted, Pending, Expectation, Begins, Labelled, Within, WantsLabel, Whole, State, pending_with, put_at, operation, operand, step, can_end}
+use Rattle.litmus_table.specs.Machine.{ThreadSteps, noted, Pending, Expectation, Begins, Labelled, Within, WantsLabel, Whole, State, pending_with, put_at, operation, operand, step, can_end}
 use Rattle.litmus_table.specs.Laws.{then_on, Mark, Defined, Branched, instruction_marks, step_marks, marks as marks_of, AreMarks}
 use Rattle.litmus_table.proofs.Finishes.{Wants, form_wants}
 use Rattle.litmus_table.proofs.Values.{registers-with, value_after, value_of}
 
-abbrev pub stand : List Placed → ℕ → Expectation → State
+abbrev pub stand : List ThreadSteps → ℕ → Expectation → State
 stand threads c h = record { threads = threads; column = c; expected = h }
 
-module _ (text : List texts.Placed) (whole : List Token) (byte : List Token → ℕ) (stands : (b : List Token) (t : Token) (ts : List Token) → whole ≡ b ++ (t ∷ ts) → StandsAt text b (byte b)) where
+module _ (text : List texts.TokenAt) (whole : List Token) (byte : List Token → ℕ) (stands : (b : List Token) (t : Token) (ts : List Token) → whole ≡ b ++ (t ∷ ts) → StandsAt text b (byte b)) where
   -- where tokens lead, behind these before them
   abbrev pub run_from : List Token → State → List Token → Option State
   run_from b s [] = Some s
   run_from b s (t ∷ ts) = then_on (λ u. run_from (b ++ t ∷ []) u ts) (step s t (byte b))
 
   -- a thread with these steps more
-  pub record Adds (t t' : Placed) (ss : List Step) (ns : List Note) : Type 0 where
+  pub record Adds (t t' : ThreadSteps) (ss : List Step) (ns : List Note) : Type 0 where
     pub offsets : List ℕ
     pub many : length ss ≡ length offsets
     pub steps_are : t'.steps ≡ t.steps ++ ss
     pub offsets_are : t'.offsets ≡ t.offsets ++ offsets
     pub marked : AreMarks text ns (marks_of ss offsets)
 
-  pub adds_none : (t : Placed) → Adds t t [] []
+  pub adds_none : (t : ThreadSteps) → Adds t t [] []
   adds_none t = record { offsets = []; many = refl; steps_are = sym (append-nil t.steps); offsets_are = sym (append-nil t.offsets); marked = tt }
 
   marks-append : (ss rs : List Step) (ps qs : List ℕ) → length ss ≡ length ps → marks_of (ss ++ rs) (ps ++ qs) ≡ marks_of ss ps ++ marks_of rs qs
@@ -63,7 +63,7 @@ module _ (text : List texts.Placed) (whole : List Token) (byte : List Token → 
   are_marks-append (Defines w before ∷ ns) os (Branched v offset ∷ ms) ls a z = absurd a
   are_marks-append (Branches w before ∷ ns) os (Defined v offset ∷ ms) ls a z = absurd a
 
-  pub adds_both : (t u v : Placed) (ss rs : List Step) (ns os : List Note) → Adds t u ss ns → Adds u v rs os → Adds t v (ss ++ rs) (ns ++ os)
+  pub adds_both : (t u v : ThreadSteps) (ss rs : List Step) (ns os : List Note) → Adds t u ss ns → Adds u v rs os → Adds t v (ss ++ rs) (ns ++ os)
   adds_both t u v ss rs ns os a z =
       let m = a.many in
       let k = z.many in
@@ -77,13 +77,13 @@ module _ (text : List texts.Placed) (whole : List Token) (byte : List Token → 
 
   -- ---- the thread of a column
 
-  put-there : (done : List Placed) (s : Step) (offset : ℕ) (t : Placed) (todo : List Placed) → put_at (length done) s offset (done ++ t ∷ todo) ≡ done ++ noted s offset t ∷ todo
+  put-there : (done : List ThreadSteps) (s : Step) (offset : ℕ) (t : ThreadSteps) (todo : List ThreadSteps) → put_at (length done) s offset (done ++ t ∷ todo) ≡ done ++ noted s offset t ∷ todo
   put-there [] s offset t todo = refl
-  put-there (d ∷ done) s offset t todo = ap (λ (l : List Placed). d ∷ l) (put-there done s offset t todo)
+  put-there (d ∷ done) s offset t todo = ap (λ (l : List ThreadSteps). d ∷ l) (put-there done s offset t todo)
 
   -- ---- operands
 
-  module _ (threads : List Placed) (c : ℕ) where
+  module _ (threads : List ThreadSteps) (c : ℕ) where
     abbrev pending : DataOpcode → List Want → List ℕ → ℤ → Pending
     pending op ws rs v = record { opcode = op; wants = ws; registers = rs; value = v }
 
@@ -129,14 +129,14 @@ module _ (text : List texts.Placed) (whole : List Token) (byte : List Token → 
   starts h = ⊥
 
   -- the cell of a column was read: these tokens led to where it may end
-  pub record CellRun (done : List Placed) (t : Placed) (todo : List Placed) (h : Expectation) (b ts by rest : List Token) (ss : List Step) (ns : List Note) : Type 0 where
-    pub after : Placed
+  pub record CellRun (done : List ThreadSteps) (t : ThreadSteps) (todo : List ThreadSteps) (h : Expectation) (b ts by rest : List Token) (ss : List Step) (ns : List Note) : Type 0 where
+    pub after : ThreadSteps
     pub expected : Expectation
     pub ended : can_end expected ≡ true
     pub adds : Adds t after ss ns
     pub leads : run_from b (stand (done ++ t ∷ todo) (length done) h) ts ≡ run_from (b ++ by) (stand (done ++ after ∷ todo) (length done) expected) rest
 
-  module _ (done : List Placed) (t : Placed) (todo : List Placed) where
+  module _ (done : List ThreadSteps) (t : ThreadSteps) (todo : List ThreadSteps) where
     abbrev here : Expectation → State
     here h = stand (done ++ t ∷ todo) (length done) h
 
@@ -147,7 +147,7 @@ module _ (text : List texts.Placed) (whole : List Token) (byte : List Token → 
     adds_step s offset ns m = record { offsets = offset ∷ []; many = refl; steps_are = refl; offsets_are = refl; marked = m }
 
     put_run : (s : Step) (offset : ℕ) (h : Expectation) (b rest : List Token) → run_from b (stand (put_at (length done) s offset (done ++ t ∷ todo)) (length done) h) rest ≡ run_from b (with_step s offset h) rest
-    put_run s offset h b rest = ap (λ (l : List Placed). run_from b (stand l (length done) h) rest) (put-there done s offset t todo)
+    put_run s offset h b rest = ap (λ (l : List ThreadSteps). run_from b (stand l (length done) h) rest) (put-there done s offset t todo)
 
     word_first : (h : Expectation) (w : List ℕ) (b ts : List Token) → starts h → run_from b (here h) (tokens.Word w ∷ ts) ≡ then_on (λ u. run_from (b ++ tokens.Word w ∷ []) u ts) (operation (done ++ t ∷ todo) (length done) (byte b) (opcode_of w))
     word_first Begins w b ts o = refl
@@ -252,7 +252,7 @@ module _ (text : List texts.Placed) (whole : List Token) (byte : List Token → 
         subst (λ (x : Option Opcode). CellRun done t todo h b (tokens.Word i.word ∷ (i.operands ++ rest)) (tokens.Word i.word ∷ (i.operands ++ [])) rest (operation_steps x i.operands) (branch_notes x i.operands b')) (sym fine.known) (
         subst (λ (l : List Token). CellRun done t todo h b (tokens.Word i.word ∷ (i.operands ++ rest)) (tokens.Word i.word ∷ l) rest (operation_steps (Some fine.opcode) i.operands) (branch_notes (Some fine.opcode) i.operands b')) (sym (append-nil i.operands)) r)
 
-  pub cell_run : (done : List Placed) (t : Placed) (todo : List Placed) (c : CellTree) (b rest : List Token) → IsInstruction c.instruction → whole ≡ b ++ spelled_cell c rest → CellRun done t todo Begins b (spelled_cell c rest) (spelled_cell c []) rest (cell_steps c) (cell_notes c b)
+  pub cell_run : (done : List ThreadSteps) (t : ThreadSteps) (todo : List ThreadSteps) (c : CellTree) (b rest : List Token) → IsInstruction c.instruction → whole ≡ b ++ spelled_cell c rest → CellRun done t todo Begins b (spelled_cell c rest) (spelled_cell c []) rest (cell_steps c) (cell_notes c b)
   cell_run done t todo c b rest fine all = by_label c.label all
     where
       by_label : (l : Option (List ℕ)) → whole ≡ b ++ spelled_label l (spelled_instruction c.instruction rest)

@@ -12,23 +12,23 @@ use Rattle.litmus_tokens.specs.Texts.{tokens_of, StandsAt}
 use Rattle.litmus_values.specs.declared.test.Step.{Step}
 use Rattle.litmus_table.specs.Grammar.{InstructionTree, CellTree, RowTree, spelled_label, spelled_instruction, spelled_cell, spelled_cells, spelled_rows, spelled_steps, AreCells, AreRows, cell_steps, cells_steps, nth_cell, column, columns_meaning}
 use Rattle.litmus_table.specs.Late.{Note, cell_notes, nth_notes, column_notes, thread_notes, columns_notes}
-use Rattle.litmus_table.specs.Machine.{Placed, fresh, Expectation, Begins, State, at, is_last, expected_step, step, can_end}
+use Rattle.litmus_table.specs.Machine.{ThreadSteps, fresh, Expectation, Begins, State, at, is_last, expected_step, step, can_end}
 use Rattle.litmus_table.specs.Laws.{then_on, run, steps_of, AreMarks, IsNoted, AreNoted, marks as marks_of}
 use Rattle.litmus_table.proofs.Cells.{stand, run_from, Adds, adds_none, adds_both, cell_run}
 use Rattle.litmus_table.proofs.Finishes.{separator}
 
-label-append : (l : Option (List ℕ)) (xs ys : List Token) → spelled_label l xs ++ ys ≡ spelled_label l (xs ++ ys)
+pub label-append : (l : Option (List ℕ)) (xs ys : List Token) → spelled_label l xs ++ ys ≡ spelled_label l (xs ++ ys)
 label-append None xs ys = refl
 label-append (Some l) xs ys = refl
 
-cell-append : (c : CellTree) (xs ys : List Token) → spelled_cell c xs ++ ys ≡ spelled_cell c (xs ++ ys)
+pub cell-append : (c : CellTree) (xs ys : List Token) → spelled_cell c xs ++ ys ≡ spelled_cell c (xs ++ ys)
 cell-append c xs ys = label-append c.label (spelled_instruction c.instruction xs) ys ∙ ap (spelled_label c.label) (by_instruction c.instruction)
   where
     by_instruction : (i : Option InstructionTree) → spelled_instruction i xs ++ ys ≡ spelled_instruction i (xs ++ ys)
     by_instruction None = refl
     by_instruction (Some i) = ap (λ (l : List Token). tokens.Word i.word ∷ l) (append_assoc i.operands xs ys)
 
-cells-append : (cs : List CellTree) (xs ys : List Token) → spelled_cells cs xs ++ ys ≡ spelled_cells cs (xs ++ ys)
+pub cells-append : (cs : List CellTree) (xs ys : List Token) → spelled_cells cs xs ++ ys ≡ spelled_cells cs (xs ++ ys)
 cells-append [] xs ys = refl
 cells-append (c ∷ cs) xs ys = ap (λ (l : List Token). tokens.Mark marks.Bar ∷ l) (cell-append c (spelled_cells cs xs) ys ∙ ap (spelled_cell c) (cells-append cs xs ys))
 
@@ -42,24 +42,24 @@ closes b c t = append_assoc b (spelled_cell c []) (t ∷ []) ∙ ap (λ (l : Lis
 row-append : (b : List Token) (r : RowTree) (ts : List Token) → (b ++ spelled_cell r.first (spelled_cells r.others [])) ++ ts ≡ b ++ spelled_cell r.first (spelled_cells r.others ts)
 row-append b r ts = append_assoc b (spelled_cell r.first (spelled_cells r.others [])) ts ∙ ap (λ (l : List Token). b ++ l) (cell-append r.first (spelled_cells r.others []) ts ∙ ap (spelled_cell r.first) (cells-append r.others [] ts))
 
-module _ (text : List texts.Placed) (whole : List Token) (byte : List Token → ℕ) (stands : (b : List Token) (t : Token) (ts : List Token) → whole ≡ b ++ (t ∷ ts) → StandsAt text b (byte b)) where
+module _ (text : List texts.TokenAt) (whole : List Token) (byte : List Token → ℕ) (stands : (b : List Token) (t : Token) (ts : List Token) → whole ≡ b ++ (t ∷ ts) → StandsAt text b (byte b)) where
   abbrev pub runs : List Token → State → List Token → Option State
   runs b s ts = run_from text whole byte stands b s ts
 
-  abbrev Grows : Placed → Placed → List Step → List Note → Type 0
+  abbrev Grows : ThreadSteps → ThreadSteps → List Step → List Note → Type 0
   Grows t u ss ns = Adds text whole byte stands t u ss ns
 
   -- each thread with these steps more
-  abbrev AllAdd : (ℕ → List Step) → (ℕ → List Note) → List Placed → List Placed → Type 0
+  abbrev AllAdd : (ℕ → List Step) → (ℕ → List Note) → List ThreadSteps → List ThreadSteps → Type 0
   AllAdd f g [] [] = Unit {0}
   AllAdd f g (t ∷ ts) (u ∷ us) = Grows t u (f zero) (g zero) × AllAdd (λ k. f (suc k)) (λ k. g (suc k)) ts us
   AllAdd f g ts us = ⊥
 
-  all_none : (ts : List Placed) → AllAdd (λ k. []) (λ k. []) ts ts
+  all_none : (ts : List ThreadSteps) → AllAdd (λ k. []) (λ k. []) ts ts
   all_none [] = tt
   all_none (t ∷ ts) = (adds_none text whole byte stands t, all_none ts)
 
-  all_both : (f f' : ℕ → List Step) (g g' : ℕ → List Note) (ts us vs : List Placed) → AllAdd f g ts us → AllAdd f' g' us vs → AllAdd (λ k. f k ++ f' k) (λ k. g k ++ g' k) ts vs
+  all_both : (f f' : ℕ → List Step) (g g' : ℕ → List Note) (ts us vs : List ThreadSteps) → AllAdd f g ts us → AllAdd f' g' us vs → AllAdd (λ k. f k ++ f' k) (λ k. g k ++ g' k) ts vs
   all_both f f' g g' [] [] [] a z = tt
   all_both f f' g g' (t ∷ ts) (u ∷ us) (v ∷ vs) a z =
       (adds_both text whole byte stands t u v (f zero) (f' zero) (g zero) (g' zero) a.0 z.0, all_both (λ k. f (suc k)) (λ k. f' (suc k)) (λ k. g (suc k)) (λ k. g' (suc k)) ts us vs a.1 z.1)
@@ -68,25 +68,25 @@ module _ (text : List texts.Placed) (whole : List Token) (byte : List Token → 
   all_both f f' g g' (t ∷ ts) [] vs a z = absurd a
   all_both f f' g g' (t ∷ ts) (u ∷ us) [] a z = absurd z
 
-  all_length : (f : ℕ → List Step) (g : ℕ → List Note) (ts us : List Placed) → AllAdd f g ts us → length us ≡ length ts
+  all_length : (f : ℕ → List Step) (g : ℕ → List Note) (ts us : List ThreadSteps) → AllAdd f g ts us → length us ≡ length ts
   all_length f g [] [] a = refl
   all_length f g (t ∷ ts) (u ∷ us) a = let e = all_length (λ k. f (suc k)) (λ k. g (suc k)) ts us a.1 in omega arith
   all_length f g [] (u ∷ us) a = absurd a
   all_length f g (t ∷ ts) [] a = absurd a
 
   -- a separator leads from the cell to where it leads from any that may end
-  separated : (threads : List Placed) (c : ℕ) (h : Expectation) (b : List Token) (m : declared_mark.Mark) (after : State) (ts : List Token) → expected_step threads c h (tokens.Mark m) (byte b) ≡ Some after
+  separated : (threads : List ThreadSteps) (c : ℕ) (h : Expectation) (b : List Token) (m : declared_mark.Mark) (after : State) (ts : List Token) → expected_step threads c h (tokens.Mark m) (byte b) ≡ Some after
       → runs b (stand threads c h) (tokens.Mark m ∷ ts) ≡ runs (b ++ tokens.Mark m ∷ []) after ts
   separated threads c h b m after ts e = ap (then_on (λ u. runs (b ++ tokens.Mark m ∷ []) u ts)) e
 
   -- ---- rows
 
-  record RowRun (done todo : List Placed) (cells : List CellTree) (b ts by rest : List Token) : Type 0 where
-    after : List Placed
+  record RowRun (done todo : List ThreadSteps) (cells : List CellTree) (b ts by rest : List Token) : Type 0 where
+    after : List ThreadSteps
     adds : AllAdd (λ k. cells_steps (nth_cell k cells)) (λ k. nth_notes k b cells) todo after
     leads : runs b (stand (done ++ todo) (length done) Begins) ts ≡ runs (b ++ by) (stand (done ++ after) 0 Begins) rest
 
-  row_run : (c : CellTree) (cs : List CellTree) (done : List Placed) (t : Placed) (todo : List Placed) (b rest : List Token) → AreCells (c ∷ cs) → length todo ≡ length cs → whole ≡ b ++ spelled_cell c (spelled_cells cs rest)
+  row_run : (c : CellTree) (cs : List CellTree) (done : List ThreadSteps) (t : ThreadSteps) (todo : List ThreadSteps) (b rest : List Token) → AreCells (c ∷ cs) → length todo ≡ length cs → whole ≡ b ++ spelled_cell c (spelled_cells cs rest)
       → RowRun done (t ∷ todo) (c ∷ cs) b (spelled_cell c (spelled_cells cs rest)) (spelled_cell c (spelled_cells cs [])) rest
   row_run c [] done t [] b rest fine size all =
       let r = cell_run text whole byte stands done t [] c b (tokens.Mark marks.Semicolon ∷ rest) fine.0 all in
@@ -122,9 +122,9 @@ module _ (text : List texts.Placed) (whole : List Token) (byte : List Token → 
             ((separator threads (length done) (byte (b ++ spelled_cell c [])) r.expected r.ended).1 ∙ ap (λ (x : Bool). if x then None else at threads (length done + 1) Begins) further)
             ∙ ap (λ (l : List Token). runs l (stand threads (length done + 1) Begins) more) (closes b c bar)
             ∙ ap (λ (k : ℕ). runs b' (stand threads k Begins) more) next
-            ∙ ap (λ (l : List Placed). runs b' (stand l (length done') Begins) more) split
+            ∙ ap (λ (l : List ThreadSteps). runs b' (stand l (length done') Begins) more) split
             ∙ q.leads
-            ∙ ap (λ (l : List Placed). runs (b' ++ spelled_cell d (spelled_cells cs [])) (stand l 0 Begins) rest) (append_assoc done (r.after ∷ []) q.after)
+            ∙ ap (λ (l : List ThreadSteps). runs (b' ++ spelled_cell d (spelled_cells cs [])) (stand l 0 Begins) rest) (append_assoc done (r.after ∷ []) q.after)
             ∙ ap (λ (l : List Token). runs l (stand (done ++ r.after ∷ q.after) 0 Begins) rest) (passes b c bar (spelled_cell d (spelled_cells cs [])));
       }
   row_run c [] done t (u ∷ todo) b rest fine size all = absurd (omega arith)
@@ -135,12 +135,12 @@ module _ (text : List texts.Placed) (whole : List Token) (byte : List Token → 
   rows_steps [] k = []
   rows_steps (r ∷ rs) k = cells_steps (nth_cell k (r.first ∷ r.others)) ++ rows_steps rs k
 
-  pub record TableRun (threads : List Placed) (rows : List RowTree) (b : List Token) : Type 0 where
-    pub after : List Placed
+  pub record TableRun (threads : List ThreadSteps) (rows : List RowTree) (b : List Token) : Type 0 where
+    pub after : List ThreadSteps
     pub adds : AllAdd (rows_steps rows) (λ k. column_notes k b rows) threads after
     pub leads : runs b (stand threads 0 Begins) (spelled_rows rows []) ≡ Some (stand after 0 Begins)
 
-  pub table_run : (n : ℕ) (rows : List RowTree) (threads : List Placed) (b : List Token) → AreRows n rows → length threads ≡ n + 1 → whole ≡ b ++ spelled_rows rows [] → TableRun threads rows b
+  pub table_run : (n : ℕ) (rows : List RowTree) (threads : List ThreadSteps) (b : List Token) → AreRows n rows → length threads ≡ n + 1 → whole ≡ b ++ spelled_rows rows [] → TableRun threads rows b
   table_run n [] threads b fine size all = record { after = threads; adds = all_none threads; leads = refl }
   table_run n (r ∷ rs) [] b fine size all = absurd (omega arith)
   table_run n (r ∷ rs) (t ∷ todo) b fine size all =
@@ -168,7 +168,7 @@ module _ (text : List texts.Placed) (whole : List Token) (byte : List Token → 
       ap (λ (l : List Step). cells_steps (nth_cell k (r.first ∷ r.others)) ++ l) (rows_steps-column rs k) ∙ sym (cells_steps-append (nth_cell k (r.first ∷ r.others)) (column k rs))
 
   -- what a thread has that had nothing
-  pub fresh_steps : (u : Placed) (ss : List Step) (ns : List Note) → Grows fresh u ss ns → (u.steps ≡ ss) × IsNoted text ns u
+  pub fresh_steps : (u : ThreadSteps) (ss : List Step) (ns : List Note) → Grows fresh u ss ns → (u.steps ≡ ss) × IsNoted text ns u
   fresh_steps u ss ns a = (
     a.steps_are,
     record {
@@ -177,11 +177,11 @@ module _ (text : List texts.Placed) (whole : List Token) (byte : List Token → 
     },
   )
 
-  abbrev pub freshes : ℕ → List Placed
+  abbrev pub freshes : ℕ → List ThreadSteps
   freshes zero = []
   freshes (suc n) = fresh ∷ freshes n
 
-  pub gathered : (n k : ℕ) (rs : List RowTree) (b : List Token) (f : ℕ → List Step) (g : ℕ → List Note) (us : List Placed) → ((j : ℕ) → f j ≡ cells_steps (column (k + j) rs)) → ((j : ℕ) → g j ≡ column_notes (k + j) b rs) → AllAdd f g (freshes n) us
+  pub gathered : (n k : ℕ) (rs : List RowTree) (b : List Token) (f : ℕ → List Step) (g : ℕ → List Note) (us : List ThreadSteps) → ((j : ℕ) → f j ≡ cells_steps (column (k + j) rs)) → ((j : ℕ) → g j ≡ column_notes (k + j) b rs) → AllAdd f g (freshes n) us
       → (steps_of us ≡ columns_meaning k n rs) × AreNoted text (columns_notes k n b rs) us
   gathered zero k rs b f g [] ef eg a = (refl, tt)
   gathered (suc n) k rs b f g (u ∷ us) ef eg a =
@@ -199,14 +199,14 @@ module _ (text : List texts.Placed) (whole : List Token) (byte : List Token → 
 
   -- ---- the text of a thread alone
 
-  pub record ThreadRun (t : Placed) (cells : List CellTree) (b ts : List Token) : Type 0 where
-    pub after : Placed
+  pub record ThreadRun (t : ThreadSteps) (cells : List CellTree) (b ts : List Token) : Type 0 where
+    pub after : ThreadSteps
     pub expected : Expectation
     pub ended : can_end expected ≡ true
     pub adds : Grows t after (cells_steps cells) (thread_notes b cells)
     pub leads : runs b (stand (t ∷ []) 0 Begins) ts ≡ Some (stand (after ∷ []) 0 expected)
 
-  pub thread_run : (c : CellTree) (cs : List CellTree) (t : Placed) (b : List Token) → AreCells (c ∷ cs) → whole ≡ b ++ spelled_cell c (spelled_steps cs []) → ThreadRun t (c ∷ cs) b (spelled_cell c (spelled_steps cs []))
+  pub thread_run : (c : CellTree) (cs : List CellTree) (t : ThreadSteps) (b : List Token) → AreCells (c ∷ cs) → whole ≡ b ++ spelled_cell c (spelled_steps cs []) → ThreadRun t (c ∷ cs) b (spelled_cell c (spelled_steps cs []))
   thread_run c [] t b fine all =
       let r = cell_run text whole byte stands [] t [] c b [] fine.0 all in
       record {
@@ -236,11 +236,11 @@ module _ (text : List texts.Placed) (whole : List Token) (byte : List Token → 
 
   -- ---- tokens with their bytes
 
-  abbrev pub Bytes : List Token → List texts.Placed → Type 0
+  abbrev pub Bytes : List Token → List texts.TokenAt → Type 0
   Bytes b [] = Unit {0}
   Bytes b (p ∷ ps) = (byte b ≡ p.offset) × Bytes (b ++ p.token ∷ []) ps
 
-  pub run_is : (ps : List texts.Placed) (b : List Token) (s : State) → Bytes b ps → run s ps ≡ runs b s (tokens_of ps)
+  pub run_is : (ps : List texts.TokenAt) (b : List Token) (s : State) → Bytes b ps → run s ps ≡ runs b s (tokens_of ps)
   run_is [] b s h = refl
   run_is (p ∷ ps) b s h = ap (λ (k : ℕ). then_on (λ u. run u ps) (step s p.token k)) (sym h.0) ∙ by_step (step s p.token (byte b)) (λ u. run_is ps (b ++ p.token ∷ []) u h.1)
     where
@@ -249,16 +249,16 @@ module _ (text : List texts.Placed) (whole : List Token) (byte : List Token → 
       by_step (Some u) later = later u
 
 -- the byte of the token behind these
-abbrev pub byte_at : List texts.Placed → List Token → ℕ
+abbrev pub byte_at : List texts.TokenAt → List Token → ℕ
 byte_at [] b = 0
 byte_at (p ∷ ps) [] = p.offset
 byte_at (p ∷ ps) (t ∷ b) = byte_at ps b
 
-pub tokens-append : (ps qs : List texts.Placed) → tokens_of (ps ++ qs) ≡ tokens_of ps ++ tokens_of qs
+pub tokens-append : (ps qs : List texts.TokenAt) → tokens_of (ps ++ qs) ≡ tokens_of ps ++ tokens_of qs
 tokens-append [] qs = refl
 tokens-append (p ∷ ps) qs = ap (λ (l : List Token). p.token ∷ l) (tokens-append ps qs)
 
-pub stands_at : (ps rs : List texts.Placed) (b : List Token) (t : Token) (ts : List Token) → tokens_of ps ≡ b ++ (t ∷ ts) → StandsAt (ps ++ rs) b (byte_at (ps ++ rs) b)
+pub stands_at : (ps rs : List texts.TokenAt) (b : List Token) (t : Token) (ts : List Token) → tokens_of ps ≡ b ++ (t ∷ ts) → StandsAt (ps ++ rs) b (byte_at (ps ++ rs) b)
 stands_at [] rs [] t ts e = absurd cc
 stands_at [] rs (u ∷ b) t ts e = absurd cc
 stands_at (p ∷ ps) rs [] t ts e = record { before = []; here = p; behind = ps ++ rs; split = refl; same = refl; at_place = refl }
@@ -270,11 +270,11 @@ stands_at (p ∷ ps) rs (u ∷ b) t ts e =
       before = p ∷ r.before;
       here = r.here;
       behind = r.behind;
-      split = ap (λ (l : List texts.Placed). p ∷ l) r.split;
+      split = ap (λ (l : List texts.TokenAt). p ∷ l) r.split;
       same = ap (λ (x : Token). x ∷ tokens_of r.before) first ∙ ap (λ (l : List Token). u ∷ l) r.same;
       at_place = r.at_place;
     }
 
-pub byte_there : (qs : List texts.Placed) (p : texts.Placed) (zs : List texts.Placed) → byte_at (qs ++ p ∷ zs) (tokens_of qs) ≡ p.offset
+pub byte_there : (qs : List texts.TokenAt) (p : texts.TokenAt) (zs : List texts.TokenAt) → byte_at (qs ++ p ∷ zs) (tokens_of qs) ≡ p.offset
 byte_there [] p zs = refl
 byte_there (q ∷ qs) p zs = byte_there qs p zs

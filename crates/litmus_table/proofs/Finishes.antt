@@ -15,7 +15,7 @@ use Rattle.litmus_table.specs.declared.opcode.Opcode.TheVariants as opcodes
 use Rattle.litmus_table.specs.declared.opcode.Want.{Want}
 use Rattle.litmus_table.specs.declared.opcode.Want.TheVariants as wants
 use Rattle.litmus_table.specs.Words.{opcode_of, data_form, fits, branch_meaning}
-use Rattle.litmus_table.specs.Machine.{Placed, Pending, Expectation, Begins, Labelled, Within, WantsLabel, Whole, State, first_of, pending_with, pending_after, instruction_of, put_at, at, is_last, ended, operation, begins, cell, goes_on, operand, target_read, expected_step, step, is_row_start, can_end}
+use Rattle.litmus_table.specs.Machine.{ThreadSteps, Pending, Expectation, Begins, Labelled, Within, WantsLabel, Whole, State, first_of, pending_with, pending_after, instruction_of, put_at, at, is_last, ended, operation, begins, cell, goes_on, operand, target_read, expected_step, step, is_row_start, can_end}
 use Rattle.litmus_table.specs.Laws.{then_on, run, columns, Finishes, is_whole}
 use Rattle.litmus_table.proofs.Sound.{columns-expected}
 
@@ -45,7 +45,7 @@ form_wants data_opcodes.StoreIndexed = tt
 form_wants data_opcodes.Compare = tt
 form_wants data_opcodes.CompareImmediate = tt
 
-module _ (threads : List Placed) (c offset : ℕ) where
+module _ (threads : List ThreadSteps) (c offset : ℕ) where
   either_way : (b : Bool) (a z : Option State) → IsOpenAt a → IsOpenAt z → IsOpenAt (if b then a else z)
   either_way true a z x y = x
   either_way false a z x y = y
@@ -88,7 +88,7 @@ module _ (threads : List Placed) (c offset : ℕ) where
   open_expectation (WantsLabel condition) t = open_target condition t
   open_expectation Whole t = open_end t
 
-stays_open : (ps : List texts.Placed) (s f : State) → IsOpen s.expected → run s ps ≡ Some f → IsOpen f.expected
+stays_open : (ps : List texts.TokenAt) (s f : State) → IsOpen s.expected → run s ps ≡ Some f → IsOpen f.expected
 stays_open [] s f o e = subst (λ (x : State). IsOpen x.expected) same o
   where
     same : s ≡ f
@@ -101,8 +101,8 @@ stays_open (p ∷ ps) s f o e = by_step (step s p.token p.offset) (open_expectat
 
 -- ---- to the end of the cell
 
-abbrev placed : Token → texts.Placed
-placed t = record { token = t; offset = 0 }
+abbrev first_token : Token → texts.TokenAt
+first_token t = record { token = t; offset = 0 }
 
 abbrev filler : Want → Token
 filler wants.Register = tokens.Word (codes "r1")
@@ -122,18 +122,18 @@ filler_fits wants.Comma = refl
 filler_fits wants.Open = refl
 filler_fits wants.Close = refl
 
-abbrev stand : List Placed → ℕ → Expectation → State
+abbrev stand : List ThreadSteps → ℕ → Expectation → State
 stand threads c h = record { threads = threads; column = c; expected = h }
 
 -- some tokens lead to a cell that may end
 record CellEnds (s : State) : Type 0 where
-  by : List texts.Placed
-  threads : List Placed
+  by : List texts.TokenAt
+  threads : List ThreadSteps
   expected : Expectation
   ended : can_end expected ≡ true
-  leads : (rest : List texts.Placed) → run s (by ++ rest) ≡ run (stand threads s.column expected) rest
+  leads : (rest : List texts.TokenAt) → run s (by ++ rest) ≡ run (stand threads s.column expected) rest
 
-module _ (threads : List Placed) (c : ℕ) where
+module _ (threads : List ThreadSteps) (c : ℕ) where
   abbrev pending : DataOpcode → List Want → List ℕ → ℤ → Pending
   pending op ws rs v = record { opcode = op; wants = ws; registers = rs; value = v }
 
@@ -142,7 +142,7 @@ module _ (threads : List Placed) (c : ℕ) where
       let t = filler w in
       let q = pending_with (pending op (w ∷ []) rs v) [] t in
       record {
-        by = placed t ∷ [];
+        by = first_token t ∷ [];
         threads = put_at c (steps.Instruction (instruction_of q)) 0 threads;
         expected = Whole;
         ended = refl;
@@ -153,7 +153,7 @@ module _ (threads : List Placed) (c : ℕ) where
       let q = pending_with (pending op (w ∷ w' ∷ ws) rs v) (w' ∷ ws) t in
       let r = filled op w' ws q.registers q.value in
       record {
-        by = placed t ∷ r.by;
+        by = first_token t ∷ r.by;
         threads = r.threads;
         expected = r.expected;
         ended = r.ended;
@@ -172,22 +172,22 @@ module _ (threads : List Placed) (c : ℕ) where
   cell_ends Labelled o = at_once Labelled refl
   cell_ends (Within p) o = pending_ends p.opcode p.wants p.registers p.value o
   cell_ends (WantsLabel condition) o =
-      record { by = placed (tokens.Word (codes "r1")) ∷ []; threads = put_at c (steps.Instruction (branch_meaning condition (codes "r1"))) 0 threads; expected = Whole; ended = refl; leads = λ rest. refl }
+      record { by = first_token (tokens.Word (codes "r1")) ∷ []; threads = put_at c (steps.Instruction (branch_meaning condition (codes "r1"))) 0 threads; expected = Whole; ended = refl; leads = λ rest. refl }
   cell_ends Whole o = at_once Whole refl
 
 -- ---- to the end of the row
 
-pub separator : (threads : List Placed) (c offset : ℕ) (h : Expectation) → can_end h ≡ true → (expected_step threads c h (tokens.Mark marks.Semicolon) offset ≡ ended threads c (tokens.Mark marks.Semicolon)) × (expected_step threads c h (tokens.Mark marks.Bar) offset ≡ ended threads c (tokens.Mark marks.Bar))
+pub separator : (threads : List ThreadSteps) (c offset : ℕ) (h : Expectation) → can_end h ≡ true → (expected_step threads c h (tokens.Mark marks.Semicolon) offset ≡ ended threads c (tokens.Mark marks.Semicolon)) × (expected_step threads c h (tokens.Mark marks.Bar) offset ≡ ended threads c (tokens.Mark marks.Bar))
 separator threads c offset Begins e = (refl, refl)
 separator threads c offset Labelled e = (refl, refl)
 separator threads c offset (Within p) e = absurd cc
 separator threads c offset (WantsLabel condition) e = absurd cc
 separator threads c offset Whole e = (refl, refl)
 
-row_ends : (left : ℕ) (threads : List Placed) (c : ℕ) (h : Expectation) → can_end h ≡ true → length threads ≤ c + 1 + left → Finishes is_row_start (stand threads c h)
+row_ends : (left : ℕ) (threads : List ThreadSteps) (c : ℕ) (h : Expectation) → can_end h ≡ true → length threads ≤ c + 1 + left → Finishes is_row_start (stand threads c h)
 row_ends zero threads c h e le =
     record {
-      rest = placed (tokens.Mark marks.Semicolon) ∷ [];
+      rest = first_token (tokens.Mark marks.Semicolon) ∷ [];
       after = stand threads 0 Begins;
       by =
           ap (then_on (λ u. run u [])) ((separator threads c 0 h e).0)
@@ -198,13 +198,13 @@ row_ends (suc left) threads c h e le = choose (is_last threads c) refl (row_ends
   where
     choose : (b : Bool) → is_last threads c ≡ b → Finishes is_row_start (stand threads (c + 1) Begins) → Finishes is_row_start (stand threads c h)
     choose true k later = record {
-      rest = placed (tokens.Mark marks.Semicolon) ∷ [];
+      rest = first_token (tokens.Mark marks.Semicolon) ∷ [];
       after = stand threads 0 Begins;
       by = ap (then_on (λ u. run u [])) ((separator threads c 0 h e).0) ∙ ap (λ (b : Bool). then_on (λ u. run u []) (if b then at threads 0 Begins else None)) k;
       ended = refl;
     }
     choose false k later = record {
-      rest = placed (tokens.Mark marks.Bar) ∷ later.rest;
+      rest = first_token (tokens.Mark marks.Bar) ∷ later.rest;
       after = later.after;
       by =
           ap (then_on (λ u. run u later.rest)) ((separator threads c 0 h e).1)
@@ -216,13 +216,13 @@ row_ends (suc left) threads c h e le = choose (is_last threads c) refl (row_ends
 columns_open : (n : ℕ) → IsOpen (columns n).expected
 columns_open n = subst IsOpen (sym (columns-expected n)) tt
 
-pub table_finishes : (n : ℕ) (ps : List texts.Placed) (s : State) → run (columns n) ps ≡ Some s → Finishes is_row_start s
+pub table_finishes : (n : ℕ) (ps : List texts.TokenAt) (s : State) → run (columns n) ps ≡ Some s → Finishes is_row_start s
 table_finishes n ps s e =
     let k = cell_ends s.threads s.column s.expected (stays_open ps (columns n) s (columns_open n) e) in
     let r = row_ends (length k.threads) k.threads s.column k.expected k.ended (omega arith) in
     record { rest = k.by ++ r.rest; after = r.after; by = k.leads r.rest ∙ r.by; ended = r.ended }
 
-pub thread_finishes : (ps : List texts.Placed) (s : State) → run (columns 0) ps ≡ Some s → Finishes is_whole s
+pub thread_finishes : (ps : List texts.TokenAt) (s : State) → run (columns 0) ps ≡ Some s → Finishes is_whole s
 thread_finishes ps s e =
     let k = cell_ends s.threads s.column s.expected (stays_open ps (columns 0) s tt e) in
     record { rest = k.by ++ []; after = stand k.threads s.column k.expected; by = k.leads []; ended = k.ended }

@@ -136,7 +136,7 @@ marks_define (s ∷ ss) [] e = absurd (omega arith)
 marks_define (steps.Label w ∷ ss) (p ∷ ps) e = let less : length ss ≡ length ps = omega arith in ap (λ (l : List (List ℕ)). w ∷ l) (marks_define ss ps less)
 marks_define (steps.Instruction i ∷ ss) (p ∷ ps) e = let less : length ss ≡ length ps = omega arith in branches_define i p (marks ss ps) ∙ marks_define ss ps less
 
-module _ (text : List texts.Placed) where
+module _ (text : List texts.TokenAt) where
   notes_define : (ns : List Note) (ms : List Mark) → AreMarks text ns ms → defined ns ≡ mark_labels ms
   notes_define [] [] a = refl
   notes_define (Defines w b ∷ ns) (Defined v p ∷ ms) a = ap (λ (x : List ℕ). x ∷ defined ns) (sym a.0) ∙ ap (λ (l : List (List ℕ)). v ∷ l) (notes_define ns ms a.2)

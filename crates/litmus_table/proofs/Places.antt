@@ -14,7 +14,7 @@ use Rattle.litmus_table.specs.declared.opcode.Opcode.TheVariants as opcodes
 use Rattle.litmus_table.specs.declared.opcode.Want.{Want}
 use Rattle.litmus_table.specs.declared.late.PlacedThread.{PlacedThread}
 use Rattle.litmus_table.specs.Words.{opcode_of, branch_meaning}
-use Rattle.litmus_table.specs.Machine.{Placed, fresh, Pending, Expectation, Begins, Labelled, Within, WantsLabel, Whole, State, put_at, at, finished, is_last, ended, operation, begins, cell, first_of, goes_on, operand, pending_after, target_read, expected_step, instruction_of}
+use Rattle.litmus_table.specs.Machine.{ThreadSteps, fresh, Pending, Expectation, Begins, Labelled, Within, WantsLabel, Whole, State, put_at, at, finished, is_last, ended, operation, begins, cell, first_of, goes_on, operand, pending_after, target_read, expected_step, instruction_of}
 use Rattle.litmus_table.specs.Reading.{thread_of, threads_of}
 use Rattle.litmus_table.specs.Within.{AllAtMost, AreWithin}
 
@@ -26,7 +26,7 @@ pushed n p (q ∷ ps) le all (suc k) lt =
     let fewer : k < length (ps ++ p ∷ []) = omega arith in
     pushed n p ps le (λ i less. let more : suc i < length (q ∷ ps) = omega arith in all (suc i) more) k fewer
 
-put_within : (n k : ℕ) (s : Step) (p : ℕ) (ts : List Placed) → p ≤ n → AreWithin n ts → AreWithin n (put_at k s p ts)
+put_within : (n k : ℕ) (s : Step) (p : ℕ) (ts : List ThreadSteps) → p ≤ n → AreWithin n ts → AreWithin n (put_at k s p ts)
 put_within n k s p [] le h = tt
 put_within n zero s p (t ∷ ts) le h = (pushed n p t.offsets le h.0, h.1)
 put_within n (suc k) s p (t ∷ ts) le h = (h.0, put_within n k s p ts le h.1)
@@ -35,7 +35,7 @@ abbrev WithinSome : ℕ → Option State → Type 0
 WithinSome n None = Unit {0}
 WithinSome n (Some s) = AreWithin n s.threads
 
-module _ (n p : ℕ) (le : p ≤ n) (ts : List Placed) (c : ℕ) (h : AreWithin n ts) where
+module _ (n p : ℕ) (le : p ≤ n) (ts : List ThreadSteps) (c : ℕ) (h : AreWithin n ts) where
   done : (i : Instruction) → WithinSome n (finished ts c i p)
   done i = put_within n c (steps.Instruction i) p ts le h
 
@@ -81,7 +81,7 @@ module _ (n p : ℕ) (le : p ≤ n) (ts : List Placed) (c : ℕ) (h : AreWithin 
   after_expectation (WantsLabel condition) t = after_target condition t
   after_expectation Whole t = after_end t
 
-pub expectation_within : (n p : ℕ) → p ≤ n → (ts : List Placed) (c : ℕ) → AreWithin n ts → (o : Expectation) (t : Token) (x : State) → expected_step ts c o t p ≡ Some x → AreWithin n x.threads
+pub expectation_within : (n p : ℕ) → p ≤ n → (ts : List ThreadSteps) (c : ℕ) → AreWithin n ts → (o : Expectation) (t : Token) (x : State) → expected_step ts c o t p ≡ Some x → AreWithin n x.threads
 expectation_within n p le ts c h o t x e = subst (WithinSome n) e (after_expectation n p le ts c h o t)
 
 -- a thread of the table
@@ -90,6 +90,6 @@ thread_within n [] k d h lt = absurd (omega arith)
 thread_within n (t ∷ ts) zero d h lt = h.0
 thread_within n (t ∷ ts) (suc k) d h lt = let less : k < length ts = omega arith in thread_within n ts k d h.1 less
 
-pub widened_within : (n : ℕ) (ts : List Placed) → AreWithin n ts → AreWithin n (ts ++ fresh ∷ [])
+pub widened_within : (n : ℕ) (ts : List ThreadSteps) → AreWithin n ts → AreWithin n (ts ++ fresh ∷ [])
 widened_within n [] h = (λ k lt. absurd (omega (arith, lt)), tt)
 widened_within n (t ∷ ts) h = (h.0, widened_within n ts h.1)

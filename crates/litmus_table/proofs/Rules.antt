@@ -4,7 +4,7 @@ use Rattle.std.specs.Prelude.{◌==◌, ◌&&◌, ◌||◌, not, codes, if◌the
 use Rattle.std.specs.Str.{bytes_eq}
 use Rattle.std.proofs.lemmas.Slice.Eq.{bytes_eq-Decides}
 use Rattle.std.proofs.lemmas.Bool.{and_parts}
-use Rattle.std.proofs.Math.Bool.{and-true}
+use Rattle.std.proofs.Math.Bool.{and-true, and-false}
 use Rattle.litmus_tokens.specs.declared.rule.LitmusRule.{LitmusRule}
 use Rattle.litmus_tokens.specs.declared.rule.LitmusRule.TheVariants as rules
 use Rattle.litmus_tokens.specs.declared.stage.Stage.{Stage}
@@ -19,13 +19,9 @@ use Rattle.litmus_table.specs.declared.opcode.DataOpcode.{DataOpcode}
 use Rattle.litmus_table.specs.declared.opcode.Want.{Want}
 use Rattle.litmus_table.specs.declared.opcode.Want.TheVariants as wants
 use Rattle.litmus_table.specs.Words.{opcode_of, computing_of, accessing_of, fence_of, branch_of, fits}
-use Rattle.litmus_table.specs.Machine.{Placed, Pending, Expectation, Begins, Labelled, Within, WantsLabel, Whole, State, first_of, pending_with, at, is_last, operation, operand, step, is_row_start, is_begin, can_end, wanted, is_base, is_zero, separator_rule, rule_at}
+use Rattle.litmus_table.specs.Machine.{ThreadSteps, Pending, Expectation, Begins, Labelled, Within, WantsLabel, Whole, State, first_of, pending_with, at, is_last, operation, operand, step, is_row_start, is_begin, can_end, wanted, is_base, is_zero, separator_rule, rule_at}
 use Rattle.litmus_table.specs.Laws.{is_whole, is_taken, ends_at, stands, IsInCell, GivesRules}
 use Rattle.litmus_tokens.specs.Texts.{begins_tail, is_end}
-
-and_false : (a : Bool) → (a && false) ≡ false
-and_false true = refl
-and_false false = refl
 
 either : (a b : Bool) → (a || b) ≡ true → (a ≡ true) ⊎ (b ≡ true)
 either true b e = inl refl
@@ -35,15 +31,15 @@ no_opcode_r1 : opcode_of (codes "r1") ≡ None
 unfolding computing_of accessing_of fence_of branch_of
 no_opcode_r1 = refl
 
-no_opcode_exists : opcode_of (codes "exists") ≡ None
+pub no_opcode_exists : opcode_of (codes "exists") ≡ None
 unfolding computing_of accessing_of fence_of branch_of
 no_opcode_exists = refl
 
-no_opcode_forall : opcode_of (codes "forall") ≡ None
+pub no_opcode_forall : opcode_of (codes "forall") ≡ None
 unfolding computing_of accessing_of fence_of branch_of
 no_opcode_forall = refl
 
-no_opcode_locations : opcode_of (codes "locations") ≡ None
+pub no_opcode_locations : opcode_of (codes "locations") ≡ None
 unfolding computing_of accessing_of fence_of branch_of
 no_opcode_locations = refl
 
@@ -62,7 +58,7 @@ no_opcode_tail w e = first (either (bytes_eq w (codes "locations") || bytes_eq w
     first (inr k) = ap opcode_of (is_word w (codes "forall") k) ∙ no_opcode_forall
 
 -- what stands behind the rows begins none
-tail_refused : (threads : List Placed) (c offset : ℕ) (h : Expectation) (t : Token) → is_begin h ≡ true → begins_tail t ≡ true → step (record { threads = threads; column = c; expected = h }) t offset ≡ None
+tail_refused : (threads : List ThreadSteps) (c offset : ℕ) (h : Expectation) (t : Token) → is_begin h ≡ true → begins_tail t ≡ true → step (record { threads = threads; column = c; expected = h }) t offset ≡ None
 tail_refused threads c offset Begins (tokens.Word w) b e = ap (operation threads c offset) (no_opcode_tail w e)
 tail_refused threads c offset Begins (tokens.Mark marks.Tilde) b e = refl
 tail_refused threads c offset Begins t b e = absurd cc
@@ -80,8 +76,8 @@ refused : (alone : Bool) (s : State) (t : Token) → stands alone s t ≡ false 
 refused alone s t out into = absurd (let e = taken_stands alone s t into in cc)
 
 no_end : (alone : Bool) (s : State) (t : Token) → begins_tail t ≡ false → is_end t ≡ false → ends_at alone s t ≡ false
-no_end false s t b e = ap (λ (x : Bool). is_row_start s && x) b ∙ and_false (is_row_start s)
-no_end true s t b e = ap (λ (x : Bool). is_whole s && x) e ∙ and_false (is_whole s)
+no_end false s t b e = ap (λ (x : Bool). is_row_start s && x) b ∙ and-false (is_row_start s)
+no_end true s t b e = ap (λ (x : Bool). is_whole s && x) e ∙ and-false (is_whole s)
 
 -- a token that is neither taken nor an end
 cannot : (alone : Bool) (s : State) (t : Token) → step s t 0 ≡ None → ends_at alone s t ≡ false → stands alone s t ≡ true → ⊥
@@ -94,7 +90,7 @@ Can alone s u = stands alone s u ≡ true
 abbrev Ruled : Bool → State → Token → LitmusRule → LitmusRule → Type 0
 Ruled alone s other n k = (Can alone s other × (k ≡ n)) ⊎ ((Can alone s other → ⊥) × (k ≡ rules.Instruction))
 
-module _ (alone : Bool) (threads : List Placed) (c : ℕ) where
+module _ (alone : Bool) (threads : List ThreadSteps) (c : ℕ) where
   abbrev here : Expectation → State
   here h = record { threads = threads; column = c; expected = h }
 
@@ -238,15 +234,15 @@ module _ (alone : Bool) (threads : List Placed) (c : ℕ) where
   filter_ruled h w e out = by_kind alone (exists_refused h w out) (if is_base (wanted h) && is_register w then rules.ZeroBase else rules.Instruction) (other e)
     where
       other : is_register w ≡ false → (if is_base (wanted h) && is_register w then rules.ZeroBase else rules.Instruction) ≡ rules.Instruction
-      other r = ap (λ (b : Bool). if b then rules.ZeroBase else rules.Instruction) (ap (λ (b : Bool). is_base (wanted h) && b) r ∙ and_false (is_base (wanted h)))
+      other r = ap (λ (b : Bool). if b then rules.ZeroBase else rules.Instruction) (ap (λ (b : Bool). is_base (wanted h) && b) r ∙ and-false (is_base (wanted h)))
 
       at_start : (b : Bool) → is_row_start (here h) ≡ b → step (here h) tail_word 0 ≡ None → (k : LitmusRule) → k ≡ rules.Instruction → Ruled false (here h) tail_word rules.Filter (if b && true && true then rules.Filter else k)
       at_start true r none k i = inl (ap (λ (o : Option State). is_taken o || (is_row_start (here h) && true)) none ∙ ap (λ (x : Bool). x && true) r, refl)
       at_start false r none k i = inr (cannot false (here h) tail_word none (ap (λ (x : Bool). x && true) r), i)
 
       text_alone : (b : Bool) → step (here h) tail_word 0 ≡ None → (k : LitmusRule) → k ≡ rules.Instruction → Ruled true (here h) tail_word rules.Filter (if b && false && true then rules.Filter else k)
-      text_alone true none k i = inr (cannot true (here h) tail_word none (and_false (can_end h)), i)
-      text_alone false none k i = inr (cannot true (here h) tail_word none (and_false (can_end h)), i)
+      text_alone true none k i = inr (cannot true (here h) tail_word none (and-false (can_end h)), i)
+      text_alone false none k i = inr (cannot true (here h) tail_word none (and-false (can_end h)), i)
 
       by_kind : (a : Bool) → step (here h) tail_word 0 ≡ None → (k : LitmusRule) → k ≡ rules.Instruction → Ruled a (here h) tail_word rules.Filter (if is_row_start (here h) && not a && true then rules.Filter else k)
       by_kind true none k i = text_alone (is_row_start (here h)) none k i
@@ -302,7 +298,7 @@ module _ (alone : Bool) (threads : List Placed) (c : ℕ) where
       where
         choose : (b : Bool) → is_int negative ds ≡ b → Ruling_says h (if b then Where zero_token rules.Offset else Always (rule_of stage)) (if is_zero (wanted h) && is_int negative ds then rules.Offset else rules.Instruction)
         choose true e = says_where h zero_token rules.Offset (if is_zero (wanted h) && is_int negative ds then rules.Offset else rules.Instruction) (number_ruled h negative ds e out)
-        choose false e = ap (λ (b : Bool). if is_zero (wanted h) && b then rules.Offset else rules.Instruction) e ∙ ap (λ (b : Bool). if b then rules.Offset else rules.Instruction) (and_false (is_zero (wanted h))) ∙ sym inner
+        choose false e = ap (λ (b : Bool). if is_zero (wanted h) && b then rules.Offset else rules.Instruction) e ∙ ap (λ (b : Bool). if b then rules.Offset else rules.Instruction) (and-false (is_zero (wanted h))) ∙ sym inner
 
     ruled : (h : Expectation) (t : Token) → stands alone (here h) t ≡ false → Ruling_says h (cell_ruling stage t) (rule_at alone (here h) t)
     ruled h (tokens.Mark marks.Semicolon) out = says_where h (tokens.Mark marks.Bar) rules.Columns (separator_rule h) (semicolon_ruled h out)

@@ -16,7 +16,7 @@ use Rattle.litmus_table.specs.declared.opcode.Opcode.TheVariants as opcodes
 use Rattle.litmus_table.specs.declared.opcode.Want.{Want}
 use Rattle.litmus_table.specs.Words.{opcode_of, fits, all_fit}
 use Rattle.litmus_table.specs.Grammar.{InstructionTree, CellTree, RowTree, spelled_instruction, spelled_cell, spelled_cells, spelled_rows, spelled_steps, IsInstruction, AreCells, AreRows}
-use Rattle.litmus_table.specs.Machine.{Placed, fresh, first_of, pending_after, Pending, Expectation, Begins, Labelled, Within, WantsLabel, Whole, State, pending_with, put_at, at, is_last, ended, operation, begins, cell, goes_on, operand, target_read, expected_step, step, is_row_start, can_end, is_begin}
+use Rattle.litmus_table.specs.Machine.{ThreadSteps, fresh, first_of, pending_after, Pending, Expectation, Begins, Labelled, Within, WantsLabel, Whole, State, pending_with, put_at, at, is_last, ended, operation, begins, cell, goes_on, operand, target_read, expected_step, step, is_row_start, can_end, is_begin}
 use Rattle.litmus_table.specs.Laws.{IsTable, IsThread, then_on, run, columns, is_whole}
 
 -- ---- what is left of a cell, before its tail
@@ -40,8 +40,8 @@ module _ (Tail Cell : ℕ → List Token → Type 0) where
 
   module _ (n : ℕ)
       (here : (c : ℕ) (ts tail : List Token) → Tail c tail → Left Begins ts tail → Cell c ts)
-      (behind : (threads : List Placed) (c : ℕ) (t : Token) (ts : List Token) → length threads ≡ n + 1 → c ≤ n → After ts (ended threads c t) → Tail c (t ∷ ts)) where
-    module _ (threads : List Placed) (c : ℕ) (size : length threads ≡ n + 1) (there : c ≤ n) (offset : ℕ) (ts : List Token) where
+      (behind : (threads : List ThreadSteps) (c : ℕ) (t : Token) (ts : List Token) → length threads ≡ n + 1 → c ≤ n → After ts (ended threads c t) → Tail c (t ∷ ts)) where
+    module _ (threads : List ThreadSteps) (c : ℕ) (size : length threads ≡ n + 1) (there : c ≤ n) (offset : ℕ) (ts : List Token) where
       after_word : (w : List ℕ) (o : Option Opcode) → opcode_of w ≡ o → After ts (operation threads c offset o) → Reads c Labelled (tokens.Word w ∷ ts)
       after_word w (Some (opcodes.Data op)) e r =
           (r.0, r.1, (Some (record { word = w; operands = r.2.0 }), record { opcode = opcodes.Data op; known = e; fit = r.2.1 }, ap (λ (l : List Token). tokens.Word w ∷ l) r.2.2))
@@ -96,12 +96,12 @@ module _ (Tail Cell : ℕ → List Token → Type 0) where
     Fits None = Unit {0}
     Fits (Some s) = (length s.threads ≡ n + 1) × (s.column ≤ n)
 
-    length-put : (k : ℕ) (s : Step) (p : ℕ) (ts : List Placed) → length (put_at k s p ts) ≡ length ts
+    length-put : (k : ℕ) (s : Step) (p : ℕ) (ts : List ThreadSteps) → length (put_at k s p ts) ≡ length ts
     length-put k s p [] = refl
     length-put zero s p (t ∷ ts) = refl
     length-put (suc k) s p (t ∷ ts) = let e = length-put k s p ts in omega arith
 
-    module _ (threads : List Placed) (c : ℕ) (size : length threads ≡ n + 1) (there : c ≤ n) (offset : ℕ) where
+    module _ (threads : List ThreadSteps) (c : ℕ) (size : length threads ≡ n + 1) (there : c ≤ n) (offset : ℕ) where
       fits_put : (s : Step) (h : Expectation) → Fits (at (put_at c s offset threads) c h)
       fits_put s h = (length-put c s offset threads ∙ size, there)
 
@@ -151,7 +151,7 @@ module _ (Tail Cell : ℕ → List Token → Type 0) where
       fits_expectation (WantsLabel condition) t = fits_target condition t
       fits_expectation Whole t = fits_end t
 
-    pub reads : (may_end : State → Bool) → ((s : State) → s.column ≤ n → may_end s ≡ true → Reads s.column s.expected []) → (ps : List texts.Placed) (s f : State) → length s.threads ≡ n + 1 → s.column ≤ n → run s ps ≡ Some f → may_end f ≡ true → Reads s.column s.expected (tokens_of ps)
+    pub reads : (may_end : State → Bool) → ((s : State) → s.column ≤ n → may_end s ≡ true → Reads s.column s.expected []) → (ps : List texts.TokenAt) (s f : State) → length s.threads ≡ n + 1 → s.column ≤ n → run s ps ≡ Some f → may_end f ≡ true → Reads s.column s.expected (tokens_of ps)
     reads may_end base [] s f size there e m = base s there (subst (λ (x : State). may_end x ≡ true) (sym same) m)
       where
         same : s ≡ f
@@ -182,7 +182,7 @@ rows_of n ts (inr r) =
       whole = r.2.2 ∙ ap (spelled_cell r.2.0) t.5;
     }
 
-table_behind : (n : ℕ) (threads : List Placed) (c : ℕ) (t : Token) (ts : List Token) → length threads ≡ n + 1 → c ≤ n → After (TableTail n) (TableCell n) ts (ended threads c t) → TableTail n c (t ∷ ts)
+table_behind : (n : ℕ) (threads : List ThreadSteps) (c : ℕ) (t : Token) (ts : List Token) → length threads ≡ n + 1 → c ≤ n → After (TableTail n) (TableCell n) ts (ended threads c t) → TableTail n c (t ∷ ts)
 table_behind n threads c (tokens.Mark marks.Semicolon) ts size there r = choose (is_last threads c) refl r
   where
     choose : (b : Bool) → is_last threads c ≡ b → After (TableTail n) (TableCell n) ts (if b then at threads 0 Begins else None) → TableTail n c (tokens.Mark marks.Semicolon ∷ ts)
@@ -216,7 +216,7 @@ table_ends n c (Within p) e z = absurd cc
 table_ends n c (WantsLabel condition) e z = absurd cc
 table_ends n c Whole e z = absurd cc
 
-length-widened : (ts : List Placed) (t : Placed) → length (ts ++ t ∷ []) ≡ length ts + 1
+length-widened : (ts : List ThreadSteps) (t : ThreadSteps) → length (ts ++ t ∷ []) ≡ length ts + 1
 length-widened [] t = refl
 length-widened (u ∷ ts) t = let e = length-widened ts t in omega arith
 
@@ -232,7 +232,7 @@ pub columns-expected : (n : ℕ) → (columns n).expected ≡ Begins
 columns-expected zero = refl
 columns-expected (suc n) = columns-expected n
 
-pub table_sound : (n : ℕ) (ps : List texts.Placed) (s : State) → run (columns n) ps ≡ Some s → is_row_start s ≡ true → IsTable n (tokens_of ps)
+pub table_sound : (n : ℕ) (ps : List texts.TokenAt) (s : State) → run (columns n) ps ≡ Some s → is_row_start s ≡ true → IsTable n (tokens_of ps)
 table_sound n ps s e m =
     let first = columns-column n in
     let r = reads (TableTail n) (TableCell n) n (λ c ts tail t l. inr (tail, t, l)) (table_behind n) is_row_start
@@ -248,7 +248,7 @@ ThreadTail c tail = (cells : List CellTree) × AreCells cells × (tail ≡ spell
 abbrev ThreadCell : ℕ → List Token → Type 0
 ThreadCell c ts = (tail : List Token) × ThreadTail c tail × Left Begins ts tail
 
-thread_behind : (threads : List Placed) (c : ℕ) (t : Token) (ts : List Token) → length threads ≡ 0 + 1 → c ≤ 0 → After ThreadTail ThreadCell ts (ended threads c t) → ThreadTail c (t ∷ ts)
+thread_behind : (threads : List ThreadSteps) (c : ℕ) (t : Token) (ts : List Token) → length threads ≡ 0 + 1 → c ≤ 0 → After ThreadTail ThreadCell ts (ended threads c t) → ThreadTail c (t ∷ ts)
 thread_behind threads c (tokens.Mark marks.Semicolon) ts size there r = choose (is_last threads c) r
   where
     choose : (b : Bool) → After ThreadTail ThreadCell ts (if b then at threads 0 Begins else None) → ThreadTail c (tokens.Mark marks.Semicolon ∷ ts)
@@ -267,7 +267,7 @@ thread_ends c (Within p) e = absurd cc
 thread_ends c (WantsLabel condition) e = absurd cc
 thread_ends c Whole e = ([], ([], tt, refl), refl)
 
-pub thread_sound : (ps : List texts.Placed) (s : State) → run (columns 0) ps ≡ Some s → is_whole s ≡ true → IsThread (tokens_of ps)
+pub thread_sound : (ps : List texts.TokenAt) (s : State) → run (columns 0) ps ≡ Some s → is_whole s ≡ true → IsThread (tokens_of ps)
 thread_sound ps s e m =
     let r = reads ThreadTail ThreadCell 0 (λ c ts tail t l. (tail, t, l)) thread_behind is_whole (λ u there k. thread_ends u.column u.expected k) ps (columns 0) s refl (omega arith) e m in
     record {

@@ -8,7 +8,7 @@ use Rattle.litmus_tokens.specs.Faults.{Begins}
 use Rattle.litmus_values.specs.declared.test.Step.{Step}
 use Rattle.litmus_table.specs.Grammar.{spelled_rows, spelled_thread, columns_meaning, cells_steps, column}
 use Rattle.litmus_table.specs.Late.{column_notes, columns_notes}
-use Rattle.litmus_table.specs.Machine.{Placed, fresh, State, widened, step, is_row_start}
+use Rattle.litmus_table.specs.Machine.{ThreadSteps, fresh, State, widened, step, is_row_start}
 use Rattle.litmus_table.specs.Machine as machine
 use Rattle.litmus_table.specs.Laws.{IsTable, IsThread, then_on, run, columns, Takes, TakesRows, TakesCells, AreNoted}
 use Rattle.litmus_table.proofs.Cells.{stand}
@@ -16,16 +16,16 @@ use Rattle.litmus_table.proofs.Complete.{runs, freshes, rows_steps, rows_steps-c
 use Rattle.litmus_table.proofs.Finishes.{table_finishes, thread_finishes}
 use Rattle.litmus_table.proofs.Sound.{table_sound, thread_sound}
 
-bytes : (text : List texts.Placed) (whole : List Token) (stands : (b : List Token) (t : Token) (ts : List Token) → whole ≡ b ++ (t ∷ ts) → StandsAt text b (byte_at text b)) (qs ps rs : List texts.Placed)
+bytes : (text : List texts.TokenAt) (whole : List Token) (stands : (b : List Token) (t : Token) (ts : List Token) → whole ≡ b ++ (t ∷ ts) → StandsAt text b (byte_at text b)) (qs ps rs : List texts.TokenAt)
     → text ≡ qs ++ (ps ++ rs) → Bytes text whole (byte_at text) stands (tokens_of qs) ps
 bytes text whole stands qs [] rs e = tt
 bytes text whole stands qs (p ∷ ps) rs e = (
-  ap (λ (l : List texts.Placed). byte_at l (tokens_of qs)) e ∙ byte_there qs p (ps ++ rs),
+  ap (λ (l : List texts.TokenAt). byte_at l (tokens_of qs)) e ∙ byte_there qs p (ps ++ rs),
   subst (λ (l : List Token). Bytes text whole (byte_at text) stands l ps) (tokens-append qs (p ∷ [])) (bytes text whole stands (qs ++ p ∷ []) ps rs (e ∙ sym (append_assoc qs (p ∷ []) (ps ++ rs)))),
 )
 
-module _ (qs ps rs : List texts.Placed) where
-  abbrev text : List texts.Placed
+module _ (qs ps rs : List texts.TokenAt) where
+  abbrev text : List texts.TokenAt
   text = qs ++ ps ++ rs
 
   abbrev whole : List Token
@@ -39,11 +39,11 @@ module _ (qs ps rs : List texts.Placed) where
 
   freshes_more : (n : ℕ) → freshes text whole byte stands n ++ fresh ∷ [] ≡ fresh ∷ freshes text whole byte stands n
   freshes_more zero = refl
-  freshes_more (suc n) = ap (λ (l : List Placed). fresh ∷ l) (freshes_more n)
+  freshes_more (suc n) = ap (λ (l : List ThreadSteps). fresh ∷ l) (freshes_more n)
 
   columns_are : (n : ℕ) → columns n ≡ stand (freshes text whole byte stands (suc n)) 0 machine.Begins
   columns_are zero = refl
-  columns_are (suc n) = ap widened (columns_are n) ∙ ap (λ (l : List Placed). stand (fresh ∷ l) 0 machine.Begins) (freshes_more n)
+  columns_are (suc n) = ap widened (columns_are n) ∙ ap (λ (l : List ThreadSteps). stand (fresh ∷ l) 0 machine.Begins) (freshes_more n)
 
   length-freshes : (n : ℕ) → length (freshes text whole byte stands n) ≡ n
   length-freshes zero = refl
@@ -88,7 +88,7 @@ module _ (qs ps rs : List texts.Placed) where
 
 -- ---- beginnings
 
-run-append : (ps qs : List texts.Placed) (s : State) → run s (ps ++ qs) ≡ then_on (λ u. run u qs) (run s ps)
+run-append : (ps qs : List texts.TokenAt) (s : State) → run s (ps ++ qs) ≡ then_on (λ u. run u qs) (run s ps)
 run-append [] qs s = refl
 run-append (p ∷ ps) qs s = by_step (step s p.token p.offset) (run-append ps qs)
   where
@@ -96,17 +96,17 @@ run-append (p ∷ ps) qs s = by_step (step s p.token p.offset) (run-append ps qs
     by_step None later = refl
     by_step (Some u) later = later u
 
-taken_first : (s f : State) (ps qs : List texts.Placed) → run s (ps ++ qs) ≡ Some f → Takes s ps
+taken_first : (s f : State) (ps qs : List texts.TokenAt) → run s (ps ++ qs) ≡ Some f → Takes s ps
 taken_first s f ps qs e = choose (run s ps) refl (sym (run-append ps qs s) ∙ e)
   where
     choose : (o : Option State) → run s ps ≡ o → then_on (λ u. run u qs) o ≡ Some f → Takes s ps
     choose None k m = absurd cc
     choose (Some u) k m = record { after = u; by = k }
 
-taken_on : (s u f : State) (ps qs : List texts.Placed) → run s ps ≡ Some u → run u qs ≡ Some f → run s (ps ++ qs) ≡ Some f
+taken_on : (s u f : State) (ps qs : List texts.TokenAt) → run s ps ≡ Some u → run u qs ≡ Some f → run s (ps ++ qs) ≡ Some f
 taken_on s u f ps qs e m = run-append ps qs s ∙ ap (then_on (λ v. run v qs)) e ∙ m
 
-abbrev unplaced : List Token → List texts.Placed
+abbrev unplaced : List Token → List texts.TokenAt
 unplaced [] = []
 unplaced (t ∷ ts) = record { token = t; offset = 0 } ∷ unplaced ts
 
@@ -114,25 +114,25 @@ tokens-unplaced : (ts : List Token) → tokens_of (unplaced ts) ≡ ts
 tokens-unplaced [] = refl
 tokens-unplaced (t ∷ ts) = ap (λ (l : List Token). t ∷ l) (tokens-unplaced ts)
 
-tokens-behind : (ps : List texts.Placed) (ts : List Token) → tokens_of (ps ++ unplaced ts) ≡ tokens_of ps ++ ts
+tokens-behind : (ps : List texts.TokenAt) (ts : List Token) → tokens_of (ps ++ unplaced ts) ≡ tokens_of ps ++ ts
 tokens-behind ps ts = tokens-append ps (unplaced ts) ∙ ap (λ (l : List Token). tokens_of ps ++ l) (tokens-unplaced ts)
 
-pub table_begins : (n : ℕ) (ps : List texts.Placed) → Takes (columns n) ps → Begins (IsTable n) (tokens_of ps)
+pub table_begins : (n : ℕ) (ps : List texts.TokenAt) → Takes (columns n) ps → Begins (IsTable n) (tokens_of ps)
 table_begins n ps t =
     let f = table_finishes n ps t.after t.by in
     record { rest = tokens_of f.rest; text = subst (IsTable n) (tokens-append ps f.rest) (table_sound n (ps ++ f.rest) f.after (taken_on (columns n) t.after f.after ps f.rest t.by f.by) f.ended) }
 
-pub table_taken : (n : ℕ) (ps : List texts.Placed) → Begins (IsTable n) (tokens_of ps) → Takes (columns n) ps
+pub table_taken : (n : ℕ) (ps : List texts.TokenAt) → Begins (IsTable n) (tokens_of ps) → Takes (columns n) ps
 table_taken n ps b =
     let r = table_complete [] (ps ++ unplaced b.rest) [] n (subst (IsTable n) (sym (tokens-behind ps b.rest)) b.text) in
     taken_first (columns n) r.after ps (unplaced b.rest) r.by
 
-pub thread_begins : (ps : List texts.Placed) → Takes (columns 0) ps → Begins IsThread (tokens_of ps)
+pub thread_begins : (ps : List texts.TokenAt) → Takes (columns 0) ps → Begins IsThread (tokens_of ps)
 thread_begins ps t =
     let f = thread_finishes ps t.after t.by in
     record { rest = tokens_of f.rest; text = subst IsThread (tokens-append ps f.rest) (thread_sound (ps ++ f.rest) f.after (taken_on (columns 0) t.after f.after ps f.rest t.by f.by) f.ended) }
 
-pub thread_taken : (ps : List texts.Placed) → Begins IsThread (tokens_of ps) → Takes (columns 0) ps
+pub thread_taken : (ps : List texts.TokenAt) → Begins IsThread (tokens_of ps) → Takes (columns 0) ps
 thread_taken ps b =
     let r = thread_complete [] (ps ++ unplaced b.rest) [] (subst IsThread (sym (tokens-behind ps b.rest)) b.text) in
     taken_first (columns 0) r.after ps (unplaced b.rest) r.by

@@ -7,15 +7,15 @@ use Rattle.litmus_table.specs.declared.late.PlacedThread.{PlacedThread}
 use Rattle.litmus_table.specs.Checks.{first_from, first_fault, IsFoundAt}
 use Rattle.litmus_table.specs.Late.{Late, Note, or_else, late_notes, first_late}
 use Rattle.litmus_table.specs.Laws.{AreNoted}
-use Rattle.litmus_table.specs.Machine.{Placed}
+use Rattle.litmus_table.specs.Machine.{ThreadSteps}
 use Rattle.litmus_table.specs.Reading.{thread_of, threads_of}
 use Rattle.litmus_table.proofs.Labels.{late_found}
 
 -- what the checks find in a thread
-abbrev pub found_in : Placed → Option LateFault
+abbrev pub found_in : ThreadSteps → Option LateFault
 found_in t = first_fault (λ w. first_from w 0 t.steps) 0 t.steps t.offsets
 
-module _ (text : List texts.Placed) where
+module _ (text : List texts.TokenAt) where
   none_late : (found : Option LateFault) (late : Option Late) → found ≡ None → IsFoundAt text found late → late ≡ None
   none_late None None e f = refl
   none_late None (Some late) e f = absurd f

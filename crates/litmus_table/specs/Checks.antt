@@ -56,7 +56,7 @@ first_fault first i (s ∷ ss) [] = None
 first_fault first i (s ∷ ss) (p ∷ ps) = or_later (step_rule first s i) p (first_fault first (i + 1) ss ps)
 
 -- what was found is what the definitions find, and its byte is where it stands
-abbrev pub IsFoundAt : List texts.Placed → Option LateFault → Option Late → Type 0
+abbrev pub IsFoundAt : List texts.TokenAt → Option LateFault → Option Late → Type 0
 IsFoundAt text None None = Unit {0}
 IsFoundAt text (Some fault) (Some late) = (fault.rule ≡ late.rule) × StandsAt text late.before fault.offset
 IsFoundAt text found late = ⊥

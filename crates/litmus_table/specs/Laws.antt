@@ -12,7 +12,7 @@ use Rattle.litmus_values.specs.declared.test.Step.{Step}
 use Rattle.litmus_values.specs.declared.test.Step.TheVariants as steps
 use Rattle.litmus_table.specs.Grammar.{RowTree, ThreadTree, spelled_rows, spelled_thread, AreCells, AreRows, columns_meaning, thread_meaning}
 use Rattle.litmus_table.specs.Late.{Note, Defines, Branches, thread_notes, columns_notes}
-use Rattle.litmus_table.specs.Machine.{Placed, State, start, widened, step, is_row_start, can_end, rule_at}
+use Rattle.litmus_table.specs.Machine.{ThreadSteps, State, start, widened, step, is_row_start, can_end, rule_at}
 
 -- ---- tables and threads on lists of tokens
 
@@ -35,7 +35,7 @@ then_on later None = None
 then_on later (Some s) = later s
 
 -- where these tokens lead
-abbrev pub run : State → List texts.Placed → Option State
+abbrev pub run : State → List texts.TokenAt → Option State
 run s [] = Some s
 run s (p ∷ ps) = then_on (λ u. run u ps) (step s p.token p.offset)
 
@@ -44,13 +44,13 @@ abbrev pub columns : ℕ → State
 columns zero = widened start
 columns (suc n) = widened (columns n)
 
-pub record Takes (s : State) (ps : List texts.Placed) : Type 0 where
+pub record Takes (s : State) (ps : List texts.TokenAt) : Type 0 where
   pub after : State
   pub by : run s ps ≡ Some after
 
 -- some tokens lead to where the table, or the text of a thread, may end
 pub record Finishes (may_end : State → Bool) (s : State) : Type 0 where
-  pub rest : List texts.Placed
+  pub rest : List texts.TokenAt
   pub after : State
   pub by : run s rest ≡ Some after
   pub ended : may_end after ≡ true
@@ -60,7 +60,7 @@ is_whole s = can_end s.expected
 
 -- ---- what is kept
 
-abbrev pub steps_of : List Placed → List (List Step)
+abbrev pub steps_of : List ThreadSteps → List (List Step)
 steps_of ts = map (λ t. t.steps) ts
 
 -- a label that a step defines or branches to, and the byte that is kept for it
@@ -83,24 +83,24 @@ marks (s ∷ ss) [] = []
 marks (s ∷ ss) (p ∷ ps) = step_marks s p ++ marks ss ps
 
 -- these are the labels of these notes, and each byte is where the label stands in the text
-abbrev pub AreMarks : List texts.Placed → List Note → List Mark → Type 0
+abbrev pub AreMarks : List texts.TokenAt → List Note → List Mark → Type 0
 AreMarks text [] [] = Unit {0}
 AreMarks text (Defines w before ∷ ns) (Defined v offset ∷ ms) = (v ≡ w) × StandsAt text before offset × AreMarks text ns ms
 AreMarks text (Branches w before ∷ ns) (Branched v offset ∷ ms) = (v ≡ w) × StandsAt text before offset × AreMarks text ns ms
 AreMarks text ns ms = ⊥
 
-pub record IsNoted (text : List texts.Placed) (ns : List Note) (t : Placed) : Type 0 where
+pub record IsNoted (text : List texts.TokenAt) (ns : List Note) (t : ThreadSteps) : Type 0 where
   pub each : length t.steps ≡ length t.offsets
   pub marked : AreMarks text ns (marks t.steps t.offsets)
 
 -- so for each thread
-abbrev pub AreNoted : List texts.Placed → List (List Note) → List Placed → Type 0
+abbrev pub AreNoted : List texts.TokenAt → List (List Note) → List ThreadSteps → Type 0
 AreNoted text [] [] = Unit {0}
 AreNoted text (ns ∷ nss) (t ∷ ts) = IsNoted text ns t × AreNoted text nss ts
 AreNoted text nss ts = ⊥
 
 -- In the text qs, ps, rs the tokens ps are these rows: they lead to where the table may end, with what the rows mean.
-pub record TakesRows (others : ℕ) (qs ps rs : List texts.Placed) (rows : List RowTree) : Type 0 where
+pub record TakesRows (others : ℕ) (qs ps rs : List texts.TokenAt) (rows : List RowTree) : Type 0 where
   pub after : State
   pub by : run (columns others) ps ≡ Some after
   pub ended : is_row_start after ≡ true
@@ -108,7 +108,7 @@ pub record TakesRows (others : ℕ) (qs ps rs : List texts.Placed) (rows : List 
   pub noted : AreNoted (qs ++ ps ++ rs) (columns_notes 0 (others + 1) (tokens_of qs) rows) after.threads
 
 -- and so for the text of a thread alone
-pub record TakesCells (qs ps rs : List texts.Placed) (tree : ThreadTree) : Type 0 where
+pub record TakesCells (qs ps rs : List texts.TokenAt) (tree : ThreadTree) : Type 0 where
   pub after : State
   pub by : run (columns 0) ps ≡ Some after
   pub ended : is_whole after ≡ true

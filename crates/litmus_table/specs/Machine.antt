@@ -19,7 +19,7 @@ use Rattle.litmus_table.specs.declared.opcode.Want.TheVariants as wants
 use Rattle.litmus_table.specs.Words.{opcode_of, data_form, fits, data_meaning, branch_meaning}
 
 -- the steps of a thread, with the byte of each label and of the label that each branch names
-pub record Placed : Type 0 where
+pub record ThreadSteps : Type 0 where
   pub steps : List Step
   pub offsets : List ℕ
 
@@ -40,7 +40,7 @@ pub data Expectation : Type 0 where
 
 -- the threads so far, and the number of the one whose cell is read
 pub record State : Type 0 where
-  pub threads : List Placed
+  pub threads : List ThreadSteps
   pub column : ℕ
   pub expected : Expectation
 
@@ -85,61 +85,61 @@ instruction_of p = data_meaning p.opcode p.registers p.value
 
 -- ---- cells
 
-abbrev pub noted : Step → ℕ → Placed → Placed
+abbrev pub noted : Step → ℕ → ThreadSteps → ThreadSteps
 noted s offset t = record { steps = t.steps ++ s ∷ []; offsets = t.offsets ++ offset ∷ [] }
 
 -- a step more in the thread of this number
-abbrev pub put_at : ℕ → Step → ℕ → List Placed → List Placed
+abbrev pub put_at : ℕ → Step → ℕ → List ThreadSteps → List ThreadSteps
 put_at k s offset [] = []
 put_at zero s offset (t ∷ ts) = noted s offset t ∷ ts
 put_at (suc k) s offset (t ∷ ts) = t ∷ put_at k s offset ts
 
-abbrev pub at : List Placed → ℕ → Expectation → Option State
+abbrev pub at : List ThreadSteps → ℕ → Expectation → Option State
 at threads column expected = Some (record { threads = threads; column = column; expected = expected })
 
-abbrev pub finished : List Placed → ℕ → Instruction → ℕ → Option State
+abbrev pub finished : List ThreadSteps → ℕ → Instruction → ℕ → Option State
 finished threads column i offset = at (put_at column (steps.Instruction i) offset threads) column Whole
 
-abbrev pub is_last : List Placed → ℕ → Bool
+abbrev pub is_last : List ThreadSteps → ℕ → Bool
 is_last threads column = nat_le (length threads) (column + 1)
 
 -- a token behind a cell that is whole
-abbrev pub ended : List Placed → ℕ → Token → Option State
+abbrev pub ended : List ThreadSteps → ℕ → Token → Option State
 ended threads column (tokens.Mark Semicolon) = if is_last threads column then at threads 0 Begins else None
 ended threads column (tokens.Mark Bar) = if is_last threads column then None else at threads (column + 1) Begins
 ended threads column t = None
 
-abbrev pub operation : List Placed → ℕ → ℕ → Option Opcode → Option State
+abbrev pub operation : List ThreadSteps → ℕ → ℕ → Option Opcode → Option State
 operation threads column offset (Some (opcodes.Data op)) = at threads column (Within (empty_pending op))
 operation threads column offset (Some (opcodes.Branch condition)) = at threads column (WantsLabel condition)
 operation threads column offset (Some (opcodes.Fence f)) = finished threads column (instructions.Fence f) offset
 operation threads column offset None = None
 
 -- a token where an instruction may begin, or the cell may end
-abbrev pub begins : List Placed → ℕ → Token → ℕ → Option State
+abbrev pub begins : List ThreadSteps → ℕ → Token → ℕ → Option State
 begins threads column (tokens.Word w) offset = operation threads column offset (opcode_of w)
 begins threads column t offset = ended threads column t
 
 -- a token where a cell begins
-abbrev pub cell : List Placed → ℕ → Token → ℕ → Option State
+abbrev pub cell : List ThreadSteps → ℕ → Token → ℕ → Option State
 cell threads column (tokens.Label w) offset = at (put_at column (steps.Label w) offset threads) column Labelled
 cell threads column t offset = begins threads column t offset
 
 -- an instruction ends with what it wants
-abbrev pub goes_on : List Placed → ℕ → Pending → Option Want → ℕ → Option State
+abbrev pub goes_on : List ThreadSteps → ℕ → Pending → Option Want → ℕ → Option State
 goes_on threads column p None offset = finished threads column (instruction_of p) offset
 goes_on threads column p (Some w) offset = at threads column (Within p)
 
-abbrev pub operand : List Placed → ℕ → Option Pending → ℕ → Option State
+abbrev pub operand : List ThreadSteps → ℕ → Option Pending → ℕ → Option State
 operand threads column (Some p) offset = goes_on threads column p (first_of p.wants) offset
 operand threads column None offset = None
 
 -- the label that a branch names
-abbrev pub target_read : List Placed → ℕ → Option BranchCondition → Token → ℕ → Option State
+abbrev pub target_read : List ThreadSteps → ℕ → Option BranchCondition → Token → ℕ → Option State
 target_read threads column condition (tokens.Word w) offset = finished threads column (branch_meaning condition w) offset
 target_read threads column condition t offset = None
 
-abbrev pub expected_step : List Placed → ℕ → Expectation → Token → ℕ → Option State
+abbrev pub expected_step : List ThreadSteps → ℕ → Expectation → Token → ℕ → Option State
 expected_step threads column Begins t offset = cell threads column t offset
 expected_step threads column Labelled t offset = begins threads column t offset
 expected_step threads column (Within p) t offset = operand threads column (pending_after p t) offset
@@ -152,7 +152,7 @@ step s t offset = expected_step s.threads s.column s.expected t offset
 
 -- ---- the header
 
-abbrev pub fresh : Placed
+abbrev pub fresh : ThreadSteps
 fresh = record { steps = []; offsets = [] }
 
 abbrev pub widened : State → State

@@ -11,14 +11,14 @@ use Rattle.litmus_table.specs.declared.table.Table.{Table}
 use Rattle.litmus_table.specs.Words.{data_form}
 use Rattle.litmus_table.specs.Machine as machine
 
-abbrev pub thread_of : PlacedThread → machine.Placed
+abbrev pub thread_of : PlacedThread → machine.ThreadSteps
 thread_of t = record { steps = t.steps.items; offsets = t.offsets.items }
 
-abbrev pub threads_of : List PlacedThread → List machine.Placed
+abbrev pub threads_of : List PlacedThread → List machine.ThreadSteps
 threads_of ts = map thread_of ts
 
 -- the steps of the first thread, if there is one
-abbrev pub first_steps : List machine.Placed → List Step
+abbrev pub first_steps : List machine.ThreadSteps → List Step
 first_steps [] = []
 first_steps (t ∷ ts) = t.steps
 

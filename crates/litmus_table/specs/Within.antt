@@ -1,13 +1,13 @@
 -- Where the parts of a table stand that a later check may blame.
 use Rattle.std.specs.Prelude.{ℕ, ◌<◌, ◌≤◌, List, [], ◌∷◌, length, slice_index, Option, Some, None}
 use Rattle.litmus_table.specs.declared.late.LateFault.{LateFault}
-use Rattle.litmus_table.specs.Machine.{Placed}
+use Rattle.litmus_table.specs.Machine.{ThreadSteps}
 
 abbrev pub AllAtMost : ℕ → List ℕ → Type 0
 AllAtMost n offsets = (k : ℕ) → k < length offsets → slice_index offsets k ≤ n
 
 -- every offset of every thread is at most this
-abbrev pub AreWithin : ℕ → List Placed → Type 0
+abbrev pub AreWithin : ℕ → List ThreadSteps → Type 0
 AreWithin n [] = Unit {0}
 AreWithin n (t ∷ ts) = AllAtMost n t.offsets × AreWithin n ts
 

@@ -2,7 +2,7 @@
 
 ghost use Rattle.std.specs.Prelude.{◌≡◌, ◌≤◌, ℕ, List, map, length, IfOk, OnOk, Some};
 ghost use Rattle.litmus_table.specs.Machine.{start, noted, put_at, is_last, ended, operation, begins, cell, operand, target_read, finished, goes_on, step, expected_step, widened, named, is_begin, is_row_start, can_end, wanted, rule_of_word, separator_rule, rule_at};
-ghost use Rattle.litmus_tokens.specs.Texts.{Placed};
+ghost use Rattle.litmus_tokens.specs.Texts.{TokenAt};
 ghost use Rattle.litmus_table.specs.Checks.{IsFoundAt};
 ghost use Rattle.litmus_table.specs.Late.{Note, first_late};
 ghost use Rattle.litmus_table.specs.Laws.{AreNoted, steps_of};
@@ -325,7 +325,7 @@ impl Table {
         // The byte is one of those that were kept.
         ensures within { (n : ℕ) → AreWithin n (table_of self.now).threads → IfOk result (IsFoundWithin n) }
         // What it finds is what the definitions find, at the byte where that stands.
-        ensures found { (text : List Placed) (notes : List (List Note)) → AreNoted text notes (table_of self.now).threads → IfOk result (λ f. IsFoundAt text f (first_late notes)) }
+        ensures found { (text : List TokenAt) (notes : List (List Note)) → AreNoted text notes (table_of self.now).threads → IfOk result (λ f. IsFoundAt text f (first_late notes)) }
     {
         for thread in &self.threads {
             if let Some(fault) = thread.check_labels(self.alloc)? {

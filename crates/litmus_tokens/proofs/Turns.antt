@@ -67,7 +67,7 @@ unfolding gap_from
 before_other n [] lt e f = absurd (omega arith)
 before_other n (b ∷ bs) lt e f = gap_stops n (is_space b) (begins_comment (b ∷ bs)) (comment_of (b ∷ bs)) (λ skip. gap_from skip (n + 1) bs) e f
 
-skipped : (skip n : ℕ) (l : List ℕ) → skip ≤ length l → gap_from skip n l ≡ gap_from 0 (n + skip) (drop skip l)
+pub skipped : (skip n : ℕ) (l : List ℕ) → skip ≤ length l → gap_from skip n l ≡ gap_from 0 (n + skip) (drop skip l)
 unfolding gap_from
 skipped zero n l le = ap (λ k. gap_from 0 k l) (omega arith)
 skipped (suc s) n [] le = absurd (omega arith)

@@ -9,7 +9,7 @@ use Rattle.litmus_tokens.specs.declared.token.Token.{Token}
 use Rattle.litmus_tokens.specs.declared.token.Token.TheVariants as tokens
 use Rattle.litmus_tokens.specs.declared.token.Mark.TheVariants.{Semicolon, Bar}
 use Rattle.litmus_tokens.specs.Stage.{rule_of}
-use Rattle.litmus_tokens.specs.Texts.{Placed, tokens_of, stage_after}
+use Rattle.litmus_tokens.specs.Texts.{TokenAt, tokens_of, stage_after}
 use Rattle.litmus_tokens.specs.Words.{is_filter, is_int}
 
 -- some text begins with these tokens
@@ -58,10 +58,10 @@ Says CanStand s (Always n) k = k ≡ n
 Says CanStand s (Where other n) k = (CanStand other × (k ≡ n)) ⊎ ((CanStand other → ⊥) × (k ≡ rule_of s))
 
 -- The tokens before the offset begin some text, and with the token at the offset they begin none.
-pub record IsFault (IsText : List Token → Type 0) (start : Stage) (ps : List Placed) (rule : LitmusRule) (offset : ℕ) : Type 0 where
-  pub before : List Placed
-  pub here : Placed
-  pub behind : List Placed
+pub record IsFault (IsText : List Token → Type 0) (start : Stage) (ps : List TokenAt) (rule : LitmusRule) (offset : ℕ) : Type 0 where
+  pub before : List TokenAt
+  pub here : TokenAt
+  pub behind : List TokenAt
   pub split : ps ≡ before ++ here ∷ behind
   pub begins : Begins IsText (tokens_of before)
   pub ends : CanFollow IsText (tokens_of before) here.token → ⊥

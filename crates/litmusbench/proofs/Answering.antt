@@ -38,36 +38,36 @@ log_said (Ok v) test model o name said e h = (o, said, h ∙ ap (λ (n : List �
 log_said (Err f) test model o name said e h = tt
 
 -- a refusal of `read_model`, and one of `read_test`
-pub model_refused : (bytes : List ℕ) (e : CatFault) (rule : CatRule) (place : ℕ) → e ≡ model_faults.Refused rule place → ((v : List Clause) → Reads Model bytes v → models.IsMemory e) → IsFaultOf Model bytes e → IsModelRefused bytes rule place
-model_refused bytes e rule place is only fault =
+pub model_refused : (bytes : List ℕ) (e : CatFault) (rule : CatRule) (offset : ℕ) → e ≡ model_faults.Refused rule offset → ((v : List Clause) → Reads Model bytes v → models.IsMemory e) → IsFaultOf Model bytes e → IsModelRefused bytes rule offset
+model_refused bytes e rule offset is only fault =
     record {
       unread = λ v h. subst (λ (f : CatFault). models.IsMemory f) is (only v h);
       fault = subst (λ (f : CatFault). IsFaultOf Model bytes f) is fault;
     }
 
-pub test_refused : (bytes : List ℕ) (e : LitmusFault) (rule : LitmusRule) (place : ℕ) → e ≡ test_faults.Refused rule place → ((v : Content) → ReadsTest bytes v → tests.IsMemory e) → tests.IsFaultOf (IsTestFault bytes) e → IsTestRefused bytes rule place
-test_refused bytes e rule place is only fault =
+pub test_refused : (bytes : List ℕ) (e : LitmusFault) (rule : LitmusRule) (offset : ℕ) → e ≡ test_faults.Refused rule offset → ((v : Content) → ReadsTest bytes v → tests.IsMemory e) → tests.IsFaultOf (IsTestFault bytes) e → IsTestRefused bytes rule offset
+test_refused bytes e rule offset is only fault =
     record {
       unread = λ v h. subst (λ (f : LitmusFault). tests.IsMemory f) is (only v h);
       fault = subst (λ (f : LitmusFault). tests.IsFaultOf (IsTestFault bytes) f) is fault;
     }
 
 -- a refusal of `eval`
-pub of_model : (model test : List ℕ) (e : EvalFault) (rule : CatRule) (place : ℕ) → e ≡ eval_faults.Model rule place → IsRefusal model test e → IsModelRefused model rule place
-of_model model test e rule place is h = subst (λ (x : EvalFault). IsRefusal model test x) is h
+pub of_model : (model test : List ℕ) (e : EvalFault) (rule : CatRule) (offset : ℕ) → e ≡ eval_faults.Model rule offset → IsRefusal model test e → IsModelRefused model rule offset
+of_model model test e rule offset is h = subst (λ (x : EvalFault). IsRefusal model test x) is h
 
-pub of_test : (model test : List ℕ) (e : EvalFault) (rule : LitmusRule) (place : ℕ) → e ≡ eval_faults.Test rule place → IsRefusal model test e → IsModel model × IsTestRefused test rule place
-of_test model test e rule place is h = subst (λ (x : EvalFault). IsRefusal model test x) is h
+pub of_test : (model test : List ℕ) (e : EvalFault) (rule : LitmusRule) (offset : ℕ) → e ≡ eval_faults.Test rule offset → IsRefusal model test e → IsModel model × IsTestRefused test rule offset
+of_test model test e rule offset is h = subst (λ (x : EvalFault). IsRefusal model test x) is h
 
-pub refuses_model : (r : Result Answer AllocError) (model test : List ℕ) (rule : CatRule) (number place : ℕ) → IsModelRefused model rule place → number ≡ model_rule_number rule → IfOk r (λ a. (a.text.items ≡ refused_line 67 number place) × (a.is_refused ≡ true)) → IfOk r (λ a. IsAnswer model test a.text.items a.is_refused)
-refuses_model (Ok a) model test rule number place refused e h =
-    RefusesModel h.1 rule place refused (h.0 ∙ ap (λ (n : ℕ). refused_line 67 n place) e)
-refuses_model (Err f) model test rule number place refused e h = tt
+pub refuses_model : (r : Result Answer AllocError) (model test : List ℕ) (rule : CatRule) (number offset : ℕ) → IsModelRefused model rule offset → number ≡ model_rule_number rule → IfOk r (λ a. (a.text.items ≡ refused_line 67 number offset) × (a.is_refused ≡ true)) → IfOk r (λ a. IsAnswer model test a.text.items a.is_refused)
+refuses_model (Ok a) model test rule number offset refused e h =
+    RefusesModel h.1 rule offset refused (h.0 ∙ ap (λ (n : ℕ). refused_line 67 n offset) e)
+refuses_model (Err f) model test rule number offset refused e h = tt
 
-pub refuses_test : (r : Result Answer AllocError) (model test : List ℕ) (rule : LitmusRule) (number place : ℕ) → IsModel model → IsTestRefused test rule place → number ≡ test_rule_number rule → IfOk r (λ a. (a.text.items ≡ refused_line 76 number place) × (a.is_refused ≡ true)) → IfOk r (λ a. IsAnswer model test a.text.items a.is_refused)
-refuses_test (Ok a) model test rule number place is_model refused e h =
-    RefusesTest h.1 rule place is_model refused (h.0 ∙ ap (λ (n : ℕ). refused_line 76 n place) e)
-refuses_test (Err f) model test rule number place is_model refused e h = tt
+pub refuses_test : (r : Result Answer AllocError) (model test : List ℕ) (rule : LitmusRule) (number offset : ℕ) → IsModel model → IsTestRefused test rule offset → number ≡ test_rule_number rule → IfOk r (λ a. (a.text.items ≡ refused_line 76 number offset) × (a.is_refused ≡ true)) → IfOk r (λ a. IsAnswer model test a.text.items a.is_refused)
+refuses_test (Ok a) model test rule number offset is_model refused e h =
+    RefusesTest h.1 rule offset is_model refused (h.0 ∙ ap (λ (n : ℕ). refused_line 76 n offset) e)
+refuses_test (Err f) model test rule number offset is_model refused e h = tt
 
 kept : (known : Option (List ℕ)) → Keeps known known
 kept None = tt

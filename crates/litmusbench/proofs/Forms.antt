@@ -6,6 +6,7 @@ use Rattle.std.proofs.lemmas.List.Sums.{position_or_len_is}
 use Rattle.std.specs.List.{list_all}
 use denote.Ref.{Bor}
 use Rattle.litmusbench.specs.Forms.{Asked, Table, texts_of, is_word, is_path, are_paths, dashes, word_at, asked_if, table_of, by_command, asked_in}
+use Rattle.std.proofs.lemmas.Bool.{and_from, and_right}
 
 count : (words : List (Bor (List ℕ))) → length (texts_of words) ≡ length words
 count words = length-map words (λ w. w.now)
@@ -24,27 +25,12 @@ absent words i end before =
 
 -- ---- paths
 
-both_true : (a b : Bool) → a ≡ true → b ≡ true → (a && b) ≡ true
-both_true a b p q = ap (λ (x : Bool). x && b) p ∙ q
-
-second_false : (a b : Bool) → b ≡ false → (a && b) ≡ false
-second_false true b q = q
-second_false false b q = refl
-
 all_pass : (p : List ℕ → Bool) (xs : List (List ℕ)) → ((k : ℕ) → k < length xs → p (get_or xs k []) ≡ true) → list_all p xs ≡ true
 all_pass p [] h = refl
-all_pass p (x ∷ xs) h = both_true (p x) (list_all p xs) (h 0 (omega arith)) (all_pass p xs (λ k g. h (suc k) (omega arith)))
-
-one_fails : (p : List ℕ → Bool) (xs : List (List ℕ)) (k : ℕ) → k < length xs → p (get_or xs k []) ≡ false → list_all p xs ≡ false
-one_fails p [] k h e = absurd (omega arith)
-one_fails p (x ∷ xs) zero h e = ap (λ (b : Bool). b && list_all p xs) e
-one_fails p (x ∷ xs) (suc k) h e = second_false (p x) (list_all p xs) (one_fails p xs k (omega arith) e)
+all_pass p (x ∷ xs) h = and_from (p x) (list_all p xs) (h 0 (omega arith)) (all_pass p xs (λ k g. h (suc k) (omega arith)))
 
 pub all_paths : (words : List (Bor (List ℕ))) (i : ℕ) → i ≡ length words → ((k : ℕ) → k < i → is_path (word_at (texts_of words) k) ≡ true) → true ≡ are_paths (texts_of words)
 all_paths words i end before = let n = count words in sym (all_pass is_path (texts_of words) (λ k h. before k (omega arith)))
-
-pub no_path : (words : List (Bor (List ℕ))) (i : ℕ) → i < length words → is_path (word_at (texts_of words) i) ≡ false → false ≡ are_paths (texts_of words)
-no_path words i inside e = let n = count words in sym (one_fails is_path (texts_of words) i (omega arith) e)
 
 -- ---- a table
 

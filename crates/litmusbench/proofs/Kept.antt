@@ -17,34 +17,34 @@ use Rattle.litmusbench.proofs.Answering.{streamed}
 
 -- ---- texts that are too long
 
-test_fault : (test whole : List ℕ) (rule : LitmusRule) (place : ℕ) → 65536 < length test → 65536 < length whole → IsTestFault test rule place → IsTestFault whole rule place
-test_fault test whole rule place long more (tests.IsTooLong h r p) = tests.IsTooLong more r p
-test_fault test whole rule place long more (tests.IsGrammar short f) = absurd (omega arith)
-test_fault test whole rule place long more (tests.IsLater short f) = absurd (omega arith)
+test_fault : (test whole : List ℕ) (rule : LitmusRule) (offset : ℕ) → 65536 < length test → 65536 < length whole → IsTestFault test rule offset → IsTestFault whole rule offset
+test_fault test whole rule offset long more (tests.IsTooLong h r p) = tests.IsTooLong more r p
+test_fault test whole rule offset long more (tests.IsGrammar short f) = absurd (omega arith)
+test_fault test whole rule offset long more (tests.IsLater short f) = absurd (omega arith)
 
-test_refused : (test whole : List ℕ) (rule : LitmusRule) (place : ℕ) → 65536 < length test → 65536 < length whole → IsTestRefused test rule place → IsTestRefused whole rule place
-test_refused test whole rule place long more h =
-    record { unread = λ v r. let short = r.short in omega arith; fault = test_fault test whole rule place long more h.fault }
+test_refused : (test whole : List ℕ) (rule : LitmusRule) (offset : ℕ) → 65536 < length test → 65536 < length whole → IsTestRefused test rule offset → IsTestRefused whole rule offset
+test_refused test whole rule offset long more h =
+    record { unread = λ v r. let short = r.short in omega arith; fault = test_fault test whole rule offset long more h.fault }
 
-model_fault : (model whole : List ℕ) (rule : CatRule) (place : ℕ) → 65536 < length model → 65536 < length whole → FaultAt Model model rule place → FaultAt Model whole rule place
-model_fault model whole rule place long more (models.IsLong h r p) = models.IsLong more r p
-model_fault model whole rule place long more (models.InText short f) = absurd (omega arith)
+model_fault : (model whole : List ℕ) (rule : CatRule) (offset : ℕ) → 65536 < length model → 65536 < length whole → FaultAt Model model rule offset → FaultAt Model whole rule offset
+model_fault model whole rule offset long more (models.IsLong h r p) = models.IsLong more r p
+model_fault model whole rule offset long more (models.InText short f) = absurd (omega arith)
 
-model_refused : (model whole : List ℕ) (rule : CatRule) (place : ℕ) → 65536 < length model → 65536 < length whole → IsModelRefused model rule place → IsModelRefused whole rule place
-model_refused model whole rule place long more h =
-    record { unread = λ v r. let short = r.short in omega arith; fault = model_fault model whole rule place long more h.fault }
+model_refused : (model whole : List ℕ) (rule : CatRule) (offset : ℕ) → 65536 < length model → 65536 < length whole → IsModelRefused model rule offset → IsModelRefused whole rule offset
+model_refused model whole rule offset long more h =
+    record { unread = λ v r. let short = r.short in omega arith; fault = model_fault model whole rule offset long more h.fault }
 
 -- two models that are both too long, with any tests
 long_models : (model test m t : List ℕ) → 65536 < length model → 65536 < length m → AreAnsweredAlike model test m t
 long_models model test m t long more text refused (IsEvaluated e log) = let short = log.model_read.short in absurd (omega arith)
-long_models model test m t long more text refused (RefusesModel e rule place fault line) = RefusesModel e rule place (model_refused model m rule place long more fault) line
-long_models model test m t long more text refused (RefusesTest e rule place (v, read) fault line) = let short = read.short in absurd (omega arith)
+long_models model test m t long more text refused (RefusesModel e rule offset fault line) = RefusesModel e rule offset (model_refused model m rule offset long more fault) line
+long_models model test m t long more text refused (RefusesTest e rule offset (v, read) fault line) = let short = read.short in absurd (omega arith)
 
 -- one model, and two tests that are both too long
 long_tests : (model test t : List ℕ) → 65536 < length test → 65536 < length t → AreAnsweredAlike model test model t
 long_tests model test t long more text refused (IsEvaluated e log) = let short = log.test_read.short in absurd (omega arith)
-long_tests model test t long more text refused (RefusesModel e rule place fault line) = RefusesModel e rule place fault line
-long_tests model test t long more text refused (RefusesTest e rule place is_model fault line) = RefusesTest e rule place is_model (test_refused test t rule place long more fault) line
+long_tests model test t long more text refused (RefusesModel e rule offset fault line) = RefusesModel e rule offset fault line
+long_tests model test t long more text refused (RefusesTest e rule offset is_model fault line) = RefusesTest e rule offset is_model (test_refused test t rule offset long more fault) line
 
 -- a front of a text is all of it, or both are too long
 front_of : (n : ℕ) (whole : List ℕ) → 65536 < n → (take n whole ≡ whole) ⊎ ((65536 < length (take n whole)) × (65536 < length whole))
@@ -75,14 +75,14 @@ dot_or_not : (bytes : List ℕ) (n : ℕ) → IsDotLine bytes n ⊎ (IsDotLine b
 dot_or_not bytes n = by_place (cases_order n (length bytes))
   where
     ends : n < length bytes → get_or bytes n 0 ≡ 46 → (0 < n → get_or bytes (n - 1) 0 ≡ 10) → (n + 1 ≡ length bytes) ⊎ ((n + 1 < length bytes) ⊎ (length bytes < n + 1)) → (get_or bytes (n + 1) 0 ≡ 10) ⊎ ((get_or bytes (n + 1) 0 < 10) ⊎ (10 < get_or bytes (n + 1) 0)) → IsDotLine bytes n ⊎ (IsDotLine bytes n → ⊥)
-    ends inside dot begins place (inl ten) = inl (record { inside = inside; dot = dot; begins = begins; ends = λ h. ten })
+    ends inside dot begins offset (inl ten) = inl (record { inside = inside; dot = dot; begins = begins; ends = λ h. ten })
     ends inside dot begins (inl last) byte = inl (record { inside = inside; dot = dot; begins = begins; ends = λ h. absurd (omega arith) })
     ends inside dot begins (inr (inr past)) byte = inl (record { inside = inside; dot = dot; begins = begins; ends = λ h. absurd (omega arith) })
     ends inside dot begins (inr (inl more)) (inr (inl less)) = inr (λ d. let e = d.ends more in omega arith)
     ends inside dot begins (inr (inl more)) (inr (inr above)) = inr (λ d. let e = d.ends more in omega arith)
 
     begins : n < length bytes → get_or bytes n 0 ≡ 46 → (n ≡ 0) ⊎ ((n < 0) ⊎ (0 < n)) → (get_or bytes (n - 1) 0 ≡ 10) ⊎ ((get_or bytes (n - 1) 0 < 10) ⊎ (10 < get_or bytes (n - 1) 0)) → IsDotLine bytes n ⊎ (IsDotLine bytes n → ⊥)
-    begins inside dot place (inl ten) = ends inside dot (λ h. ten) (cases_order (n + 1) (length bytes)) (cases_order (get_or bytes (n + 1) 0) 10)
+    begins inside dot offset (inl ten) = ends inside dot (λ h. ten) (cases_order (n + 1) (length bytes)) (cases_order (get_or bytes (n + 1) 0) 10)
     begins inside dot (inl first) byte = ends inside dot (λ h. absurd (omega arith)) (cases_order (n + 1) (length bytes)) (cases_order (get_or bytes (n + 1) 0) 10)
     begins inside dot (inr (inl none)) byte = absurd (omega arith)
     begins inside dot (inr (inr later)) (inr (inl less)) = inr (λ d. let e = d.begins later in omega arith)
@@ -98,7 +98,7 @@ dot_or_not bytes n = by_place (cases_order n (length bytes))
     by_place (inr (inr past)) = inr (λ d. let e = d.inside in omega arith)
     by_place (inr (inl inside)) = by_byte inside (cases_order (get_or bytes n 0) 46)
 
--- the first line of a full stop that begins before this place, or none
+-- the first line of a full stop that begins before this offset, or none
 abbrev FirstBefore : List ℕ → ℕ → Type 0
 FirstBefore bytes n = ((i : ℕ) × (i < n) × IsDotLine bytes i × HasNoDotLine bytes i) ⊎ HasNoDotLine bytes n
 

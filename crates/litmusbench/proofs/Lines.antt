@@ -37,25 +37,3 @@ end_of_line bs i n inside h more =
     let v : get_or (drop i bs) (position_or_len is_line_end (drop i bs)) 0 ≡ 10 = end_is_ten _ passes in
     let w : get_or (drop i bs) n 0 ≡ 10 = ap (λ (k : ℕ). get_or (drop i bs) k 0) p ∙ v in
     grind (arith, common_steps)
-
--- past a line that is no such line
-pub line_passed : (bs : List ℕ) (start end : ℕ) → start ≤ end → ((k : ℕ) → start ≤ k → k < end → get_or bs k 0 ≢ 10) → HasNoDotLine bs start → (IsDotLine bs start → ⊥) → HasNoDotLine bs (end + 1)
-line_passed bs start end low inside none here j high d = by_place (cases_order j start)
-  where
-    by_place : (j ≡ start) ⊎ ((j < start) ⊎ (start < j)) → ⊥
-    by_place (inr (inl before)) = none j before d
-    by_place (inl same) = here (subst (λ (k : ℕ). IsDotLine bs k) same d)
-    by_place (inr (inr after)) = inside (j - 1) (omega arith) (omega arith) (d.begins (omega arith))
-
--- such a line is one byte long
-pub dot_line_ends : (bs : List ℕ) (start end : ℕ) → start ≤ end → end ≤ length bs → ((k : ℕ) → start ≤ k → k < end → get_or bs k 0 ≢ 10) → (end < length bs → get_or bs end 0 ≡ 10) → IsDotLine bs start → end ≡ start + 1
-dot_line_ends bs start end low high inside ends d = by_place (cases_order end (start + 1))
-  where
-    by_place : (end ≡ start + 1) ⊎ ((end < start + 1) ⊎ (start + 1 < end)) → end ≡ start + 1
-    by_place (inr (inl before)) =
-        let same : end ≡ start = let i = d.inside in omega arith in
-        let ten : get_or bs end 0 ≡ 10 = ends (let i = d.inside in omega arith) in
-        let dot : get_or bs end 0 ≡ 46 = ap (λ (k : ℕ). get_or bs k 0) same ∙ d.dot in
-        absurd (omega arith)
-    by_place (inl same) = same
-    by_place (inr (inr after)) = absurd (inside (start + 1) (omega arith) after (d.ends (omega arith)))

@@ -12,6 +12,7 @@ use Rattle.litmusbench.specs.declared.reading.NamedModel.{NamedModel}
 use Rattle.litmusbench.specs.Answer.{IsModelRefused, IsTestRefused}
 use Rattle.litmusbench.specs.Files.{fault_line}
 use Rattle.litmusbench.specs.Reports.{AddsModel, IsModelFault, IsTestFault, AreModels, NoModel, NextModel, AddsTest, AreTests, NoTest, NextTest}
+use Rattle.binding_graph.proofs.Labels.{zip_push}
 
 pub on_ok : {T E P Q : Type 0} (r : Result T E) → (P → Q) → OnOk r P → OnOk r Q
 on_ok (Ok x) f h = f h
@@ -23,15 +24,15 @@ no_models models faults p q = subst (λ (l : List NamedModel). AreModels [] l fa
 pub no_tests : (first : List ℕ) (tests : List Test) → tests ≡ [] → AreTests first [] tests first
 no_tests first tests p = subst (λ (l : List Test). AreTests first [] l first) (sym p) NoTest
 
-pub model_fault_added : (file : TextFile) (models : List NamedModel) (faults lines : List ℕ) (rule : CatRule) (number offset place : ℕ) → IsModelRefused file.text.items rule offset → number ≡ model_rule_number rule → place ≡ offset
-    → lines ≡ faults ++ fault_line file.path.now file.text.items 67 number place → AddsModel file models faults models lines
-model_fault_added file models faults lines rule number offset place refused e same put =
-    IsModelFault rule offset refused refl (put ∙ ap (λ (n : ℕ). faults ++ fault_line file.path.now file.text.items 67 n place) e ∙ ap (λ (n : ℕ). faults ++ fault_line file.path.now file.text.items 67 (model_rule_number rule) n) same)
+pub model_fault_added : (file : TextFile) (models : List NamedModel) (faults lines : List ℕ) (rule : CatRule) (number offset position : ℕ) → IsModelRefused file.text.items rule offset → number ≡ model_rule_number rule → position ≡ offset
+    → lines ≡ faults ++ fault_line file.path.now file.text.items 67 number position → AddsModel file models faults models lines
+model_fault_added file models faults lines rule number offset position refused e same put =
+    IsModelFault rule offset refused refl (put ∙ ap (λ (n : ℕ). faults ++ fault_line file.path.now file.text.items 67 n position) e ∙ ap (λ (n : ℕ). faults ++ fault_line file.path.now file.text.items 67 (model_rule_number rule) n) same)
 
-pub test_fault_added : (file : TextFile) (tests : List Test) (faults lines : List ℕ) (rule : LitmusRule) (number offset place : ℕ) → IsTestRefused file.text.items rule offset → number ≡ test_rule_number rule → place ≡ offset
-    → lines ≡ faults ++ fault_line file.path.now file.text.items 76 number place → AddsTest file tests faults tests lines
-test_fault_added file tests faults lines rule number offset place refused e same put =
-    IsTestFault rule offset refused refl (put ∙ ap (λ (n : ℕ). faults ++ fault_line file.path.now file.text.items 76 n place) e ∙ ap (λ (n : ℕ). faults ++ fault_line file.path.now file.text.items 76 (test_rule_number rule) n) same)
+pub test_fault_added : (file : TextFile) (tests : List Test) (faults lines : List ℕ) (rule : LitmusRule) (number offset position : ℕ) → IsTestRefused file.text.items rule offset → number ≡ test_rule_number rule → position ≡ offset
+    → lines ≡ faults ++ fault_line file.path.now file.text.items 76 number position → AddsTest file tests faults tests lines
+test_fault_added file tests faults lines rule number offset position refused e same put =
+    IsTestFault rule offset refused refl (put ∙ ap (λ (n : ℕ). faults ++ fault_line file.path.now file.text.items 76 n position) e ∙ ap (λ (n : ℕ). faults ++ fault_line file.path.now file.text.items 76 (test_rule_number rule) n) same)
 
 pub models_more : (files : List TextFile) (i : ℕ) (file : TextFile) (models more : List NamedModel) (faults lines : List ℕ) → i < length files → file ≡ get_or files i file
     → AreModels (take i files) models faults → AddsModel file models faults more lines → AreModels (take (i + 1) files) more lines
@@ -45,16 +46,10 @@ tests_more first files i file tests more faults lines inside at_i before adds =
     let cut : take (i + 1) files ≡ take i files ++ file ∷ [] = take_more files i file inside ∙ ap (λ (f : TextFile). take i files ++ f ∷ []) (sym at_i) in
     subst (λ (l : List TextFile). AreTests first l more lines) (sym cut) (NextTest (take i files) file tests more faults lines before adds)
 
-zip_end : {A B : Type 0} (R : A → B → Type 0) (xs : List A) (ys : List B) (x : A) (y : B) → AllZip R xs ys → R x y → AllZip R (xs ++ x ∷ []) (ys ++ y ∷ [])
-zip_end R [] [] x y h r = (r, tt)
-zip_end R [] (b ∷ bs) x y h r = absurd h
-zip_end R (a ∷ rest) [] x y h r = absurd h
-zip_end R (a ∷ rest) (b ∷ bs) x y h r = (h.0, zip_end R rest bs x y h.1 r)
-
 -- one more of each
 pub zip_more : {A B C : Type 0} (R : A → B → Type 0) (f : C → B) (xs : List A) (i : ℕ) (x : A) (old new : List C) (y : C) → i < length xs → x ≡ get_or xs i x → new ≡ old ++ y ∷ []
     → AllZip R (take i xs) (map f old) → R x (f y) → AllZip R (take (i + 1) xs) (map f new)
 zip_more {A} {B} {C} R f xs i x old new y inside at_i pushed before r =
     let cut : take (i + 1) xs ≡ take i xs ++ x ∷ [] = take_more xs i x inside ∙ ap (λ (a : A). take i xs ++ a ∷ []) (sym at_i) in
     let ends : map f new ≡ map f old ++ f y ∷ [] = ap (λ (l : List C). map f l) pushed ∙ map-append f old (y ∷ []) in
-    subst (λ (l : List A). AllZip R l (map f new)) (sym cut) (subst (λ (l : List B). AllZip R (take i xs ++ x ∷ []) l) (sym ends) (zip_end R (take i xs) (map f old) x (f y) before r))
+    subst (λ (l : List A). AllZip R l (map f new)) (sym cut) (subst (λ (l : List B). AllZip R (take i xs ++ x ∷ []) l) (sym ends) (zip_push R (take i xs) (map f old) x (f y) before r))

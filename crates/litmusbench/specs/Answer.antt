@@ -40,14 +40,14 @@ pub record IsLog (model test log : List ℕ) : Type 0 where
 -- ---- refusals
 
 -- the text means no model, and is blamed at this offset, by this rule
-pub record IsModelRefused (model : List ℕ) (rule : CatRule) (place : ℕ) : Type 0 where
+pub record IsModelRefused (model : List ℕ) (rule : CatRule) (offset : ℕ) : Type 0 where
   pub unread : (v : List cat_value.Clause) → Reads Model model v → ⊥
-  pub fault : FaultAt Model model rule place
+  pub fault : FaultAt Model model rule offset
 
 -- the text means no test that the later checks pass, and is blamed at this offset, by this rule
-pub record IsTestRefused (test : List ℕ) (rule : LitmusRule) (place : ℕ) : Type 0 where
+pub record IsTestRefused (test : List ℕ) (rule : LitmusRule) (offset : ℕ) : Type 0 where
   pub unread : (v : Content) → ReadsTest test v → ⊥
-  pub fault : IsTestFault test rule place
+  pub fault : IsTestFault test rule offset
 
 -- the text means some model
 abbrev pub IsModel : List ℕ → Type 0
@@ -55,34 +55,34 @@ IsModel model = (v : List cat_value.Clause) × Reads Model model v
 
 -- what stands in the way of a log: the fault of the model's text,
 abbrev pub IsOfModel : List ℕ → EvalFault → Type 0
-IsOfModel model (eval_faults.Model rule place) = IsModelRefused model rule place
-IsOfModel model (eval_faults.Test rule place) = ⊥
+IsOfModel model (eval_faults.Model rule offset) = IsModelRefused model rule offset
+IsOfModel model (eval_faults.Test rule offset) = ⊥
 IsOfModel model (eval_faults.Memory e) = Unit {0}
 
 -- that of the test's text,
 abbrev pub IsOfTest : List ℕ → EvalFault → Type 0
-IsOfTest test (eval_faults.Model rule place) = ⊥
-IsOfTest test (eval_faults.Test rule place) = IsTestRefused test rule place
+IsOfTest test (eval_faults.Model rule offset) = ⊥
+IsOfTest test (eval_faults.Test rule offset) = IsTestRefused test rule offset
 IsOfTest test (eval_faults.Memory e) = Unit {0}
 
 -- the first of the two, or want of memory
 abbrev pub IsRefusal : List ℕ → List ℕ → EvalFault → Type 0
-IsRefusal model test (eval_faults.Model rule place) = IsModelRefused model rule place
-IsRefusal model test (eval_faults.Test rule place) = IsModel model × IsTestRefused test rule place
+IsRefusal model test (eval_faults.Model rule offset) = IsModelRefused model rule offset
+IsRefusal model test (eval_faults.Test rule offset) = IsModel model × IsTestRefused test rule offset
 IsRefusal model test (eval_faults.Memory e) = Unit {0}
 
--- the line of a refusal: the letter of its rules, the rule's number, and the place
+-- the line of a refusal: the letter of its rules, the rule's number, and the offset
 unfoldable pub refused_line : ℕ → ℕ → ℕ → List ℕ
-refused_line letter number place =
-    codes "refused " ++ letter ∷ decimal number ++ codes " " ++ decimal place ++ line_end
+refused_line letter number offset =
+    codes "refused " ++ letter ∷ decimal number ++ codes " " ++ decimal offset ++ line_end
 
 -- ---- answers
 
 -- this is said of the two texts, where `refused` is whether one is refused: the log, or the line of the first text that is refused
 pub data IsAnswer (model test text : List ℕ) (refused : Bool) : Type 0 where
   IsEvaluated : refused ≡ false → IsLog model test text → IsAnswer model test text refused
-  RefusesModel : refused ≡ true → (rule : CatRule) → (place : ℕ) → IsModelRefused model rule place → text ≡ refused_line 67 (model_rule_number rule) place → IsAnswer model test text refused
-  RefusesTest : refused ≡ true → (rule : LitmusRule) → (place : ℕ) → IsModel model → IsTestRefused test rule place → text ≡ refused_line 76 (test_rule_number rule) place → IsAnswer model test text refused
+  RefusesModel : refused ≡ true → (rule : CatRule) → (offset : ℕ) → IsModelRefused model rule offset → text ≡ refused_line 67 (model_rule_number rule) offset → IsAnswer model test text refused
+  RefusesTest : refused ≡ true → (rule : LitmusRule) → (offset : ℕ) → IsModel model → IsTestRefused test rule offset → text ≡ refused_line 76 (test_rule_number rule) offset → IsAnswer model test text refused
 
 -- whatever is said of the first two texts is said of the other two
 abbrev pub AreAnsweredAlike : List ℕ → List ℕ → List ℕ → List ℕ → Type 0

@@ -1,18 +1,18 @@
 -- Where a model and a test are cut apart.
 use Rattle.std.specs.Prelude.{◌≡◌, ℕ, ◌+◌, ◌-◌, ◌<◌, ◌⊎◌, List, [], length, take, drop, slice_index}
 
--- at this place begins a line that is exactly a full stop
+-- at this offset begins a line that is exactly a full stop
 pub record IsDotLine (bytes : List ℕ) (at_byte : ℕ) : Type 0 where
   pub inside : at_byte < length bytes
   pub dot : slice_index bytes at_byte ≡ 46
   pub begins : 0 < at_byte → slice_index bytes (at_byte - 1) ≡ 10
   pub ends : at_byte + 1 < length bytes → slice_index bytes (at_byte + 1) ≡ 10
 
--- no such line begins before this place
+-- no such line begins before this offset
 abbrev pub HasNoDotLine : List ℕ → ℕ → Type 0
 HasNoDotLine bytes n = (j : ℕ) → j < n → IsDotLine bytes j → ⊥
 
--- the first such line is at this place, and the texts stand before and after it
+-- the first such line is at this offset, and the texts stand before and after it
 pub record IsCutAt (bytes model test : List ℕ) (at_byte : ℕ) : Type 0 where
   pub here : IsDotLine bytes at_byte
   pub first : HasNoDotLine bytes at_byte

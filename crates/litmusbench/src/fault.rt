@@ -10,12 +10,12 @@ use thiserror::Error;
 pub enum EvalFault {
     /// The model's text is refused: the rule that it breaks, and the offset of the first token that
     /// no model could have there.
-    #[error("the cat text: the text is refused at byte {place}")]
-    Model { rule: CatRule, place: usize },
+    #[error("the cat text: the text is refused at byte {offset}")]
+    Model { rule: CatRule, offset: usize },
     /// The test's text is refused: the rule that it breaks, and the offset of the first token that
     /// no test could have there.
-    #[error("the litmus text: the text is refused at byte {place}")]
-    Test { rule: LitmusRule, place: usize },
+    #[error("the litmus text: the text is refused at byte {offset}")]
+    Test { rule: LitmusRule, offset: usize },
     /// A growth was refused.
     #[error("out of memory")]
     Memory(#[from(alloc)] AllocError),

@@ -55,8 +55,8 @@ fn read_model_file(
     match read_model(alloc, &file.text) {
         Ok(model) => push_model(&mut read.models, alloc, file.path, model),
         Err(CatFault::OutOfMemory(e)) => Err(e),
-        Err(CatFault::Refused { rule, place }) => {
-            put_fault(&mut read.faults, file, b'C', rule.number(), place)
+        Err(CatFault::Refused { rule, offset }) => {
+            put_fault(&mut read.faults, file, b'C', rule.number(), offset)
         }
     }
 }
@@ -92,8 +92,8 @@ fn read_test_file(
     match read_test(alloc, &file.text) {
         Ok(test) => push_test(&mut read.tests, test),
         Err(LitmusFault::OutOfMemory(e)) => Err(e),
-        Err(LitmusFault::Refused { rule, place }) => {
-            put_fault(&mut read.faults, file, b'L', rule.number(), place)
+        Err(LitmusFault::Refused { rule, offset }) => {
+            put_fault(&mut read.faults, file, b'L', rule.number(), offset)
         }
     }
 }

@@ -24,23 +24,23 @@ pub fn put_refusal(
     text: &mut Vec<u8>,
     letter: u8,
     number: u8,
-    place: usize,
+    offset: usize,
 ) -> Result<(), AllocError>
-    ensures { OnOk result (text.new.items ≡ text.old.items ++ refused_line letter number place) }
+    ensures { OnOk result (text.new.items ≡ text.old.items ++ refused_line letter number offset) }
 {
     put_bytes(text, b"refused ")?;
     text.push(letter)?;
     put_decimal(text, u64::from(number))?;
     put_bytes(text, b" ")?;
-    put_decimal(text, place as u64)?;
+    put_decimal(text, offset as u64)?;
     put_bytes(text, b"\n")
 }
 
-fn refusal(alloc: Global, letter: u8, number: u8, place: usize) -> Result<Answer, AllocError>
-    ensures { IfOk result (λ a. (a.text.items ≡ refused_line letter number place) × (a.is_refused ≡ true)) }
+fn refusal(alloc: Global, letter: u8, number: u8, offset: usize) -> Result<Answer, AllocError>
+    ensures { IfOk result (λ a. (a.text.items ≡ refused_line letter number offset) × (a.is_refused ≡ true)) }
 {
     let mut text = Vec::new(alloc);
-    put_refusal(&mut text, letter, number, place)?;
+    put_refusal(&mut text, letter, number, offset)?;
     Ok(Answer {
         text,
         is_refused: true,
@@ -55,13 +55,13 @@ fn answer_to(alloc: Global, model: &[u8], test: &[u8]) -> Result<Answer, AllocEr
             text,
             is_refused: false,
         }),
-        Err(EvalFault::Model { rule, place }) => refusal(alloc, b'C', rule.number(), place),
-        Err(EvalFault::Test { rule, place }) => refusal(alloc, b'L', rule.number(), place),
+        Err(EvalFault::Model { rule, offset }) => refusal(alloc, b'C', rule.number(), offset),
+        Err(EvalFault::Test { rule, offset }) => refusal(alloc, b'L', rule.number(), offset),
         Err(EvalFault::Memory(e)) => Err(e),
     }
 }
 
-/// Writes the log of the test under the model, or a line `refused`, number and place. Whether a text
+/// Writes the log of the test under the model, or a line `refused`, number and offset. Whether a text
 /// was refused. After a fault, what was written is a front of that text. Errors: `Write` where a
 /// call failed, or, before the first call, `Memory`.
 pub fn write_answer<W: ByteSink>(

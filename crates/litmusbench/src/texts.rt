@@ -22,7 +22,7 @@ fn model_of(alloc: Global, text: &[u8]) -> Result<ModelText, EvalFault>
     match read_model(alloc, text) {
         Ok(model) => Ok(model),
         Err(CatFault::OutOfMemory(e)) => Err(EvalFault::Memory(e)),
-        Err(CatFault::Refused { rule, place }) => Err(EvalFault::Model { rule, place }),
+        Err(CatFault::Refused { rule, offset }) => Err(EvalFault::Model { rule, offset }),
     }
 }
 
@@ -33,7 +33,7 @@ fn test_of(alloc: Global, text: &[u8]) -> Result<Test, EvalFault>
     match read_test(alloc, text) {
         Ok(test) => Ok(test),
         Err(LitmusFault::OutOfMemory(e)) => Err(EvalFault::Memory(e)),
-        Err(LitmusFault::Refused { rule, place }) => Err(EvalFault::Test { rule, place }),
+        Err(LitmusFault::Refused { rule, offset }) => Err(EvalFault::Test { rule, offset }),
     }
 }
 

@@ -12,13 +12,22 @@ use Rattle.memo_core.specs.Graph.{at, memo_of, named_values, IsSettled}
 use Rattle.memo_core.specs.Right.{Making, ArePresent, IsRight, IsCounted, IsMadeNow}
 use Rattle.memo_core.specs.Views.{as_memos, shown_outputs, shown_values}
 use Rattle.memo_core.specs.Step.{State, Return, state, return_of, Gives, open_claims, AreNumbered}
-use Rattle.memo_core.specs.Run.{IsFreshFrom}
+use Rattle.memo_core.specs.Run.{Bench, IsFreshFrom, Refuses}
+use Rattle.memo_core.specs.Laws.{meaning}
 use Rattle.memo_core.specs.Marks.{IsMarkedTo}
 
 module _ {K T V G E P F : Type 0} {k : NameGhosts K} {t : Ghosts T V G E P F} where
   -- what the texts say, what is kept, what is out, and how many numbers are taken
   abbrev pub state_of : Graph K T V G E P F k t → State V G
   state_of g = state (t.net g.texts) g.memos.entries g.claims.entries g.taken
+
+  -- the graph as lists of events see it
+  abbrev pub bench_of : Graph K T V G E P F k t → Bench T V
+  bench_of g = record { texts = g.texts; memos = as_memos g.memos.entries; claims = open_claims g.claims.entries; taken = g.taken }
+
+  -- the call is refused: all is as it was, but that the texts may have more room
+  abbrev pub IsRefused : Graph K T V G E P F k t → Graph K T V G E P F k t → Type 0
+  IsRefused old new = Refuses (meaning t.net t.is_valid t.since t.makes t.keeps t.edited) (bench_of old) (bench_of new)
 
   -- the texts are valid, and each memo was computed from values that its inputs have as long as their stamps are the present ones
   abbrev pub HasRightMemos : Graph K T V G E P F k t → Type 0

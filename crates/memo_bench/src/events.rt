@@ -1,9 +1,9 @@
 //! The calls that change a graph, returns aside, and what it shows.
 
-ghost use Rattle.std.specs.Prelude.{◌≡◌, ◌<◌, ◌≤◌, leb, ℕ, IsTrue, IsFalse, IfOk, OnOk, OnErr, IfErr, IfSome, IfNone, Err, Some};
+ghost use Rattle.std.specs.Prelude.{[], ◌≡◌, ◌<◌, ◌≤◌, leb, ℕ, IsTrue, IsFalse, IfOk, OnOk, OnErr, IfErr, IfSome, IfNone, Err, Some};
 ghost use Rattle.memo_core.specs.declared.keys.Node.{Node};
 ghost use Rattle.memo_core.specs.Step.{Has, Loses, Renews, Edits, IsWork};
-ghost use Rattle.memo_bench.specs.Clauses.{state_of, HasRightMemos, HasFreshClaims, IsMarked, GivesJob, IsSettledIn, ShowsStored, ShowsSolved};
+ghost use Rattle.memo_bench.specs.Clauses.{state_of, HasRightMemos, HasFreshClaims, IsMarked, GivesJob, IsSettledIn, IsRefused, ShowsStored, ShowsSolved};
 
 use crate::graph::{Graph, LAST};
 use crate::job::Job;
@@ -27,6 +27,8 @@ impl<K: StoreName, T: Texts> Graph<K, T> {
         requires last { T.last texts ≡ 0 }
         requires valid { T.is_valid texts }
         ensures texts { result.texts ≡ texts }
+        ensures memos { result.memos.entries ≡ [] }
+        ensures claims { result.claims.entries ≡ [] }
         ensures taken { result.taken ≡ 0 }
         ensures right { HasRightMemos result }
         ensures fresh { HasFreshClaims result }
@@ -60,6 +62,7 @@ impl<K: StoreName, T: Texts> Graph<K, T> {
         ensures err { OnErr result (state_of self.new ≡ state_of self.old) }
         ensures no_edit { OnErr result (T.last self.new.texts ≡ T.last self.old.texts) }
         ensures since { OnErr result (T.since self.old.texts self.new.texts) }
+        ensures refused { OnErr result (IsRefused self.old self.new) }
     {
         let spent = self.taken >= LAST;
         let prepared = match self.texts.prepare(alloc, edit, spent) {
@@ -89,6 +92,7 @@ impl<K: StoreName, T: Texts> Graph<K, T> {
         ensures spent { LAST ≤ self.old.taken → result ≡ Err ClaimFault.Spent }
         ensures spent_only { result ≡ Err ClaimFault.Spent → LAST ≤ self.old.taken }
         ensures err { OnErr result (state_of self.new ≡ state_of self.old) }
+        ensures refused { OnErr result (IsRefused self.old self.new) }
     {
         if self.taken >= LAST {
             return Err(ClaimFault::Spent);

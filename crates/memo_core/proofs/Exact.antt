@@ -7,7 +7,7 @@ use Rattle.memo_core.specs.declared.claims.Finish.TheVariants.{Unknown, Stale, S
 use Rattle.memo_core.specs.Graph.{Memo, Net, present_inputs, input_nodes, IsSettled, IsSettledBy, put_memo}
 use Rattle.memo_core.specs.Tests.{is_match, all_nodes}
 use Rattle.memo_core.specs.Step.{OpenClaim, State, Return, Has, claim_of, without_claim, AreNumbered, Accepts, Finishes, Gives, Loses, Edits}
-use Rattle.memo_core.specs.Run.{Bench, Event, Edit, Claim, NoClaim, Returned, Lose, Renew, Meaning, state_in, Step, Run, IsStart, IsKept, IsFreshFrom, count_unsettled}
+use Rattle.memo_core.specs.Run.{Bench, Event, Edit, Claim, NoClaim, Returned, Lose, Renew, Refused, Meaning, state_in, Step, Run, IsStart, IsKept, IsFreshFrom, count_unsettled}
 use Rattle.memo_core.specs.Laws.{DecidesSettled, Falls, IsUsedClosed}
 use Rattle.memo_core.specs.Work.{IsJobEvent, numbers_given, has_number, is_accepted, accepted_by, accepted_count, ReturnsLowerInRuns, WorkIsBounded, WorkUnsettlesNone, SettledIsDecided, QuietRunIsSettled}
 use Rattle.memo_core.proofs.Tests.{and_true}
@@ -102,6 +102,7 @@ module _ {T E V G : Type 0} (means : Meaning T E V G) where
   step_apart old new (Returned r answer) w h = finish_apart (state_in means old) (state_in means new) r answer w h.2
   step_apart old new (Lose n answer) w h = lose_apart (state_in means old) (state_in means new) n answer w h.1
   step_apart old new Renew w h = renew_apart (state_in means old) (state_in means new) h.1
+  step_apart old new Refused w h = record { fresh = rw (h.memos, h.claims) w.fresh; numbered = rw (h.claims, h.taken) w.numbered }
 
   pub run_apart : (es : List (Event E V G)) (old new : Bench T V) → AreApart (state_in means old) → Run means old es new → AreApart (state_in means new)
   run_apart [] old new w h = rw h w
@@ -253,6 +254,7 @@ module _ {T E V G : Type 0} (means : Meaning T E V G) where
   given_above first (Returned r answer ∷ es) old new low h n has = let more = (step_goes means old h.0 (Returned r answer) h.1).more in given_above first es h.0 new (omega (arith, more)) h.2 n has
   given_above first (Lose m answer ∷ es) old new low h n has = let more = (step_goes means old h.0 (Lose m answer) h.1).more in given_above first es h.0 new (omega (arith, more)) h.2 n has
   given_above first (Renew ∷ es) old new low h n has = let more = (step_goes means old h.0 Renew h.1).more in given_above first es h.0 new (omega (arith, more)) h.2 n has
+  given_above first (Refused ∷ es) old new low h n has = let more = (step_goes means old h.0 Refused h.1).more in given_above first es h.0 new (omega (arith, more)) h.2 n has
 
   step_works : (first : ℕ) (old new : Bench T V) (e : Event E V G) → IsJobEvent e → IsWorking first (state_in means old) → Step means old e new → IsWorking first (state_in means new)
   step_works first old new (Edit e) job w h = absurd job
@@ -261,14 +263,20 @@ module _ {T E V G : Type 0} (means : Meaning T E V G) where
   step_works first old new (Returned r answer) job w h = finish_works first (state_in means old) (state_in means new) r answer w h.2
   step_works first old new (Lose n answer) job w h = lose_works first (state_in means old) (state_in means new) n answer w h.1
   step_works first old new Renew job w h = absurd job
+  step_works first old new Refused job w h = record {
+    apart = step_apart means old new Refused w.apart h;
+    low = omega (arith, w.low, h.taken);
+    ready = rw (h.texts.net, h.memos, h.claims) w.ready;
+  }
 
-  step_texts : (old new : Bench T V) (e : Event E V G) → IsJobEvent e → Step means old e new → new.texts ≡ old.texts
-  step_texts old new (Edit e) job h = absurd job
-  step_texts old new (Claim number n given keys values) job h = h.0
-  step_texts old new NoClaim job h = ap (λ (b : Bench T V). b.texts) h.1
-  step_texts old new (Returned r answer) job h = h.1
-  step_texts old new (Lose n answer) job h = h.0
-  step_texts old new Renew job h = absurd job
+  step_valid : (old new : Bench T V) (e : Event E V G) → IsJobEvent e → means.is_valid old.texts → Step means old e new → means.is_valid new.texts
+  step_valid old new (Edit e) job valid h = absurd job
+  step_valid old new (Claim number n given keys values) job valid h = rw h.0 valid
+  step_valid old new NoClaim job valid h = rw h.1 valid
+  step_valid old new (Returned r answer) job valid h = rw h.1 valid
+  step_valid old new (Lose n answer) job valid h = rw h.0 valid
+  step_valid old new Renew job valid h = absurd job
+  step_valid old new Refused job valid h = h.texts.valid valid
 
   step_lowers : (first : ℕ) (numbers : List ℕ) (old new : Bench T V) (e : Event E V G) (p q : Node → Bool) → ((n : ℕ) → has_number n numbers ≡ true → first < n) → IsJobEvent e → IsWorking first (state_in means old) → Step means old e new
       → DecidesSettled (state_in means old) p → DecidesSettled (state_in means new) q → Lowers (accepted_by numbers e) (state_in means old) (state_in means new) p q
@@ -279,6 +287,7 @@ module _ {T E V G : Type 0} (means : Meaning T E V G) where
   step_lowers first numbers old new (Returned r answer) p q above job w h before after = finish_lowers first numbers (state_in means old) (state_in means new) r answer p q (above r.claim) w h.2 before after
   step_lowers first numbers old new (Lose n answer) p q above job w h before after = lose_lowers (state_in means old) (state_in means new) n answer p q h.1 before after
   step_lowers first numbers old new Renew p q above job w h before after = absurd job
+  step_lowers first numbers old new Refused p q above job w h before after = same_lowers (state_in means old) (state_in means new) p q h.texts.net h.memos before after
 
 -- what texts owe: ranks fall, and the input nodes of used nodes are used
 pub record HasRanks {T E V G : Type 0} (means : Meaning T E V G) (rank : T → Node → ℕ) : Type 0 where
@@ -298,7 +307,7 @@ module _ {T E V G : Type 0} (means : Meaning T E V G) (rank : T → Node → ℕ
       same_lowers (state_in means old) (state_in means new) p q (ap (λ (b : Bench T V). means.net b.texts) h) (ap (λ (b : Bench T V). b.memos) h) before after
   run_lowers first numbers (e ∷ es) old new p q above valid jobs w h before after =
       let mid = h.0 in
-      let later : means.is_valid mid.texts = subst means.is_valid (sym (step_texts means old mid e jobs.0 h.1)) valid in
+      let later : means.is_valid mid.texts = step_valid means old mid e jobs.0 valid h.1 in
       let now = decision_is mid later in
       let one = step_lowers means first numbers old mid e p (decision mid) above jobs.0 w h.1 before now in
       let rest = run_lowers first numbers es mid new (decision mid) q above later jobs.1 (step_works means first old mid e jobs.0 w h.1) h.2 now after in

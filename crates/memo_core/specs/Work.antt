@@ -1,4 +1,4 @@
--- Read after Laws: exact work in any list of claims, returns and losses, which edits and renewals come before or after.
+-- Read after Laws: exact work in any list of claims, returns, losses and refused calls, which edits and renewals come before or after.
 use Rattle.std.specs.Prelude.{◌≡◌, ℕ, ◌+◌, ◌<◌, ◌≤◌, ⊤, Bool, true, false, ◌&&◌, ◌==◌, List, [], ◌∷◌, ◌++◌, if◌then◌else◌}
 use Rattle.std.specs.List.{AllByRecursion as Each}
 use Rattle.memo_core.specs.declared.keys.Node.{Node}
@@ -6,10 +6,10 @@ use Rattle.memo_core.specs.declared.claims.Finish.{Finish}
 use Rattle.memo_core.specs.declared.claims.Finish.TheVariants.{Unknown, Stale, Same, Stored}
 use Rattle.memo_core.specs.Graph.{IsSettled, input_nodes}
 use Rattle.memo_core.specs.Step.{Return, Has}
-use Rattle.memo_core.specs.Run.{Bench, Event, Edit, Claim, NoClaim, Returned, Lose, Renew, Meaning, state_in, Step, Run, IsStart, count_unsettled}
+use Rattle.memo_core.specs.Run.{Bench, Event, Edit, Claim, NoClaim, Returned, Lose, Renew, Refused, Meaning, state_in, Step, Run, IsStart, count_unsettled}
 use Rattle.memo_core.specs.Laws.{DecidesSettled}
 
--- a claim, a return or a loss
+-- a claim, a return, a loss or a refused call
 abbrev pub IsJobEvent : {E V G : Type 0} → Event E V G → Type 0
 IsJobEvent (Edit e) = ⊥
 IsJobEvent (Claim number n given keys values) = ⊤
@@ -17,6 +17,7 @@ IsJobEvent NoClaim = ⊤
 IsJobEvent (Returned r answer) = ⊤
 IsJobEvent (Lose n answer) = ⊤
 IsJobEvent Renew = ⊥
+IsJobEvent Refused = ⊤
 
 -- the number of the claim that the event gives, if it gives one
 abbrev pub number_given : {E V G : Type 0} → Event E V G → List ℕ
@@ -26,6 +27,7 @@ number_given NoClaim = []
 number_given (Returned r answer) = []
 number_given (Lose n answer) = []
 number_given Renew = []
+number_given Refused = []
 
 abbrev pub numbers_given : {E V G : Type 0} → List (Event E V G) → List ℕ
 numbers_given [] = []
@@ -49,6 +51,7 @@ accepted_by claims NoClaim = 0
 accepted_by claims (Returned r answer) = if is_accepted answer && has_number r.claim claims then 1 else 0
 accepted_by claims (Lose n answer) = 0
 accepted_by claims Renew = 0
+accepted_by claims Refused = 0
 
 -- how many returns of these claims are accepted
 abbrev pub accepted_count : {E V G : Type 0} → List ℕ → List (Event E V G) → ℕ
@@ -62,7 +65,7 @@ ReturnsLowerInRuns {T} {E} {V} {G} means =
     → is_accepted answer ≡ true → Each (IsSettled (means.net old.texts) old.memos) (input_nodes ((means.net old.texts).inputs r.node)) → DecidesSettled (state_in means old) before → DecidesSettled (state_in means new) after
     → count_unsettled after (means.net new.texts).used < count_unsettled before (means.net old.texts).used
 
--- of the claims that a list of claims, returns and losses gives, no more returns are accepted than it settles used nodes
+-- of the claims that a list of claims, returns, losses and refused calls gives, no more returns are accepted than it settles used nodes
 abbrev pub WorkIsBounded : {T E V G : Type 0} → Meaning T E V G → Type 0
 WorkIsBounded {T} {E} {V} {G} means =
     (earlier events : List (Event E V G)) (first start end : Bench T V) (before after : Node → Bool) → IsStart means.is_valid means.net first → Run means first earlier start → Run means start events end

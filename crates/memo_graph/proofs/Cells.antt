@@ -58,15 +58,15 @@ by_result items test space checks flags (Evaluated e) s h = (checks, flags, s, h
 -- from the answers of the model's checks and flags, as they were found and as they are given on
 pub outcome_said : (items : List ResolvedItem) (test : Test) (space : Space) (answers : ItemAnswers) (observed : List Place) (vectors : List (Vec Bool Global)) (found lent : List (Bor (List Bool))) (given : List FlagAnswer) (raised : Vec Raised Global) (flags : List Raised) (r : Result Outcome AllocError) → observed ≡ test.observed.items → vectors ≡ answers.checks.items → map (λ c. c.now) found ≡ map (λ v. v.items) vectors → lent ≡ found → given ≡ answers.flags.items → of_raised raised.items ≡ of_flags given → flags ≡ raised.items
     → AreSaid space (reverse items) (checks_of answers) (flags_of answers) → IfOk r (λ o. IsOutcome space.locations.items (shown_in space) test.condition.quantifier (formula_of test.condition.proposition) observed (map (λ c. c.now) lent) (of_raised flags) o) → IfOk r (λ o. IsEvaluatedAs (IsEvaluationBy items space test) o.result)
-outcome_said items test space answers observed vectors found lent given raised flags (Ok o) seen same are lends from gives on said h =
+outcome_said items test space answers observed vectors found lent given raised flags (Ok o) said_is same are lends from gives on said h =
     let names : of_raised flags ≡ flags_of answers = ap of_raised on ∙ gives ∙ ap of_flags from in
     let checks : map (λ c. c.now) lent ≡ checks_of answers = ap (λ (l : List (Bor (List Bool))). map (λ c. c.now) l) lends ∙ are ∙ ap (λ (l : List (Vec Bool Global)). map (λ v. v.items) l) same in
-    by_result items test space (map (λ c. c.now) lent) (of_raised flags) o.result (rw (checks, names) said) (rw seen at h.result)
-outcome_said items test space answers observed vectors found lent given raised flags (Err e) seen same are lends from gives on said h = tt
+    by_result items test space (map (λ c. c.now) lent) (of_raised flags) o.result (rw (checks, names) said) (rw said_is at h.result)
+outcome_said items test space answers observed vectors found lent given raised flags (Err e) said_is same are lends from gives on said h = tt
 
 pub said_from : (test : Test) (space : Space) (observed : List Place) (checks : List (List Bool)) (flags : List Flag) (r : Result Outcome AllocError) → observed ≡ test.observed.items → IfOk r (λ o. IsOutcome space.locations.items (shown_in space) test.condition.quantifier (formula_of test.condition.proposition) observed checks flags o) → IfOk r (IsSaid space test)
-said_from test space observed checks flags (Ok o) seen h = (checks, flags, rw seen at h)
-said_from test space observed checks flags (Err e) seen h = tt
+said_from test space observed checks flags (Ok o) said_is h = (checks, flags, rw said_is at h)
+said_from test space observed checks flags (Err e) said_is h = tt
 
 -- an evaluation over that space, where the items are ordered
 over_space : (items : List ResolvedItem) (test : Test) (space : Space) (P : Evaluation → Type 0) (r : OutcomeResult) → ListsExecutions test space → IsEvaluatedAs P r → (AreSound items → IsEvaluatedAs (IsEvaluationBy items space test) r) → OfModel (λ _. ⊥) (Unit {0}) (λ e. AreSound items → IsEvaluationOver items test e) r

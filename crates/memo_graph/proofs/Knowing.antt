@@ -2,7 +2,7 @@
 use Rattle.std.proofs.Common.{ℕ, ◌≡◌, ◌+◌, ◌<◌, ◌≤◌, ◌⊎◌, inl, inr, zero, suc, List, [], ◌∷◌, ◌++◌, length, map, reverse, take, get_or, Option, Some, None, Bool, true, false, Vec, Global, vec_len, Result, Ok, Err, slice_get, Contains, refl, sym, ap, ◌∙◌, subst, add-one, arith}
 use Rattle.std.proofs.lemmas.List.{take_more, append-nil, map-append, reverse-append, length-reverse, length-take}
 use Rattle.std.proofs.lemmas.Option.{slice_get_within, slice_get_read, slice_get_past, get_or_from_slice_get}
-use Rattle.std.proofs.lemmas.Bool.{cases_order}
+use Rattle.std.proofs.lemmas.Bool.{cases_order, cases_lt}
 use Rattle.std.specs.Prelude.{OnOk, option_map}
 use Rattle.std.specs.Slice.{IsItemAt}
 use Rattle.std.specs.List.{filter_map, cons_option, AllByRecursion}
@@ -24,18 +24,12 @@ use Rattle.binding_graph.specs.Reach.{is_check, IsCheckAt, UsesAt, Leads, IsReac
 use Rattle.verdict.specs.Kept.{Flag}
 use Rattle.memo_graph.specs.Answers.{IsNamed, AreNamed, HasAnswers, IsValued, IsSaidAs, IsSaidBy, AreSaid, IsBound, AreOrdered, AreLeast, LeastOf, AreRising, IsRising, AreSound}
 use Rattle.memo_graph.specs.Known.{column_in, column_of, AreFound, checks_of, flags_of, ColumnsAt, IsAnswered, AreKnown, AreKnownTo}
+use Rattle.binding_graph.proofs.Reaching.{leads_more}
+use Rattle.cat_eval.proofs.Columns.{columns_named}
 
 -- ---- the first items, seen from the last of them
 
-order_by : (a b : ℕ) → (a ≡ b) ⊎ ((a < b) ⊎ (b < a)) → (a < b) ⊎ (b ≤ a)
-order_by a b (inl e) = inr (omega arith)
-order_by a b (inr (inl less)) = inl less
-order_by a b (inr (inr more)) = inr (omega arith)
-
-order : (a b : ℕ) → (a < b) ⊎ (b ≤ a)
-order a b = order_by a b (cases_order a b)
-
-item_at : {X : Type 0} (xs : List X) (k : ℕ) → k < length xs → (x : X) × (slice_get xs k ≡ Some x)
+pub item_at : {X : Type 0} (xs : List X) (k : ℕ) → k < length xs → (x : X) × (slice_get xs k ≡ Some x)
 item_at [] k lt = absurd (omega arith)
 item_at (x ∷ xs) zero lt = (x, refl)
 item_at (x ∷ xs) (suc k) lt = item_at xs k (omega arith)
@@ -59,13 +53,8 @@ value_below space [] j cs h = absurd h
 value_below space (r ∷ rs) j cs (inl h) = omega (arith, h.0)
 value_below space (r ∷ rs) j cs (inr h) = omega (arith, value_below space rs j cs h)
 
-columns_long : (role : Role) (inputs : List (Bor Column)) (space : Space) (cs : List Column) → ColumnsOf role inputs space cs → length cs ≡ name_count role
-columns_long (roles.Group r b) inputs space cs h = h.as_many
-columns_long (roles.Check c) inputs space cs h = ap length h
-columns_long roles.Silent inputs space cs h = ap length h
-
 long_at : (space : Space) (rs : List ResolvedItem) (j : ℕ) (s : ResolvedItem) (cs : List Column) → length rs ≡ j → IsValued space (s ∷ rs) j cs → length cs ≡ name_count s.role
-long_at space rs j s cs long (inl h) = columns_long s.role h.1.0 space cs h.1.2
+long_at space rs j s cs long (inl h) = columns_named s.role h.1.0 space cs h.1.2
 long_at space rs j s cs long (inr h) = absurd (omega (arith, value_below space rs j cs h))
 
 value_long : (space : Space) (items : List ResolvedItem) (j : ℕ) (s : ResolvedItem) (cs : List Column) → slice_get items j ≡ Some s → IsValued space (reverse (take (suc j) items)) j cs → length cs ≡ name_count s.role
@@ -104,7 +93,7 @@ ordered_by items k n lt h rest (inr more) le = let e : suc k ≡ n = omega arith
 
 ordered_front : (items : List ResolvedItem) (m n : ℕ) → m ≤ length items → n ≤ m → AreOrdered (reverse (take m items)) → AreOrdered (reverse (take n items))
 ordered_front items zero n le below h = let e : zero ≡ n = omega arith in subst (λ k. AreOrdered (reverse (take k items))) e h
-ordered_front items (suc k) n le below h = ordered_by items k n (omega arith) h (λ less rest. ordered_front items k n (omega arith) (omega arith) rest) (order n (suc k)) below
+ordered_front items (suc k) n le below h = ordered_by items k n (omega arith) h (λ less rest. ordered_front items k n (omega arith) (omega arith) rest) (cases_lt n (suc k)) below
 
 ordered_at : (items : List ResolvedItem) (k : ℕ) (r : ResolvedItem) → slice_get items k ≡ Some r → AreOrdered (reverse items) → AllByRecursion (IsBound (reverse (take k items))) r.inputs.items
 ordered_at items k r e h =
@@ -119,29 +108,29 @@ ordered_at items k r e h =
 abbrev IsOne : (ℕ → List Column → Type 0) → ItemAnswers → Input → Type 0
 IsOne Values a name = (c : Column) × (column_of a.columns.items name ≡ Some c) × ((b : Bor Column) → b.now ≡ c → IsNamed Values name b)
 
-none_between : (places : List ℕ) (n at j : ℕ) → ((k : ℕ) → n ≤ k → k < at → Contains places k → ⊥) → Contains places j → j < at → (j < n) ⊎ (n ≤ j) → j < n
-none_between places n at j gap is lt (inl less) = less
-none_between places n at j gap is lt (inr more) = absurd (gap j more lt is)
+none_between : (indexes : List ℕ) (n at j : ℕ) → ((k : ℕ) → n ≤ k → k < at → Contains indexes k → ⊥) → Contains indexes j → j < at → (j < n) ⊎ (n ≤ j) → j < n
+none_between indexes n at j gap is lt (inl less) = less
+none_between indexes n at j gap is lt (inr more) = absurd (gap j more lt is)
 
 one_of : (Values : ℕ → List Column → Type 0) (a : ItemAnswers) (name : Input) (v : Vec Column Global) (c : Column) → slice_get a.columns.items name.item ≡ Some v → slice_get v.items name.position ≡ Some c → Values name.item v.items → IsOne Values a name
-one_of Values a name v c at_item at_place value = (c, ap (λ o. column_in o name.position) at_item ∙ at_place, λ b same. (v.items, value, at_place ∙ ap Some (sym same)))
+one_of Values a name v c at_item at_index value = (c, ap (λ o. column_in o name.position) at_item ∙ at_index, λ b same. (v.items, value, at_index ∙ ap Some (sym same)))
 
-one_name : (space : Space) (items : List ResolvedItem) (places : List ℕ) (n at : ℕ) (a : ItemAnswers) (name : Input) → AreKnown space items places n a → at ≤ length items → ((k : ℕ) → n ≤ k → k < at → Contains places k → ⊥) → Contains places name.item → IsThere items at name → IsOne (IsValued space (reverse (take at items))) a name
-one_name space items places n at a name known le gap is t =
+one_name : (space : Space) (items : List ResolvedItem) (indexes : List ℕ) (n at : ℕ) (a : ItemAnswers) (name : Input) → AreKnown space items indexes n a → at ≤ length items → ((k : ℕ) → n ≤ k → k < at → Contains indexes k → ⊥) → Contains indexes name.item → IsThere items at name → IsOne (IsValued space (reverse (take at items))) a name
+one_name space items indexes n at a name known le gap is t =
     let j = name.item in
-    let less : j < n = none_between places n at j gap is t.2 (order j n) in
+    let less : j < n = none_between indexes n at j gap is t.2 (cases_lt j n) in
     let at_j = item_at a.columns.items j (omega (arith, known.count, slice_get_within items j t.0 t.1)) in
     let v = at_j.0 in
     let value : IsValued space (reverse (take (suc j) items)) j v.items = subst (λ (w : Vec Column Global). IsValued space (reverse (take (suc j) items)) j w.items) (get_or_from_slice_get a.columns.items j v v at_j.1) (known.values j less is v) in
     let c = item_at v.items name.position (omega (arith, t.3, value_long space items j t.0 v.items t.1 value)) in
     one_of (IsValued space (reverse (take at items))) a name v c.0 at_j.1 c.1 (value_later space items j at v.items t.2 le value)
 
-all_names : (space : Space) (items : List ResolvedItem) (places : List ℕ) (n at : ℕ) (a : ItemAnswers) (names : List Input) → AreKnown space items places n a → at ≤ length items → ((k : ℕ) → n ≤ k → k < at → Contains places k → ⊥) → ((k : ℕ) → k < length items → Contains (map (λ i. i.item) names) k → Contains places k) → AllByRecursion (IsBound (reverse (take at items))) names → AllByRecursion (IsOne (IsValued space (reverse (take at items))) a) names
-all_names space items places n at a [] known le gap used h = tt
-all_names space items places n at a (x ∷ xs) known le gap used h =
+all_names : (space : Space) (items : List ResolvedItem) (indexes : List ℕ) (n at : ℕ) (a : ItemAnswers) (names : List Input) → AreKnown space items indexes n a → at ≤ length items → ((k : ℕ) → n ≤ k → k < at → Contains indexes k → ⊥) → ((k : ℕ) → k < length items → Contains (map (λ i. i.item) names) k → Contains indexes k) → AllByRecursion (IsBound (reverse (take at items))) names → AllByRecursion (IsOne (IsValued space (reverse (take at items))) a) names
+all_names space items indexes n at a [] known le gap used h = tt
+all_names space items indexes n at a (x ∷ xs) known le gap used h =
     let t = there items at x le h.0 in (
-      one_name space items places n at a x known le gap (used x.item (slice_get_within items x.item t.0 t.1) (0, omega arith, refl)) t,
-      all_names space items places n at a xs known le gap (λ k lt m. used k lt (suc m.0, omega (arith, m.1), m.2)) h.1,
+      one_name space items indexes n at a x known le gap (used x.item (slice_get_within items x.item t.0 t.1) (0, omega arith, refl)) t,
+      all_names space items indexes n at a xs known le gap (λ k lt m. used k lt (suc m.0, omega (arith, m.1), m.2)) h.1,
     )
 
 head_is : {X : Type 0} (x y : X) (xs ys : List X) → ◌≡◌ {A = List X} (x ∷ xs) (y ∷ ys) → x ≡ y
@@ -189,7 +178,7 @@ said_later_at space items n k cs fs lt le gap h rest (inr more) = let e : n ≡ 
 said_later : (space : Space) (items : List ResolvedItem) (n m : ℕ) (cs : List (List Bool)) (fs : List Flag) → n ≤ m → m ≤ length items → ((j : ℕ) → n ≤ j → j < m → IsCheckAt items j → ⊥) → AreSaid space (reverse (take n items)) cs fs → AreSaid space (reverse (take m items)) cs fs
 said_later space items n zero cs fs below le gap h = let e : n ≡ zero = omega arith in subst (λ m. AreSaid space (reverse (take m items)) cs fs) e h
 said_later space items n (suc k) cs fs below le gap h =
-    said_later_at space items n k cs fs (omega arith) below gap h (λ less. said_later space items n k cs fs less (omega arith) (λ j from to. gap j from (omega arith)) h) (order n (suc k))
+    said_later_at space items n k cs fs (omega arith) below gap h (λ less. said_later space items n k cs fs less (omega arith) (λ j from to. gap j from (omega arith)) h) (cases_lt n (suc k))
 
 -- ---- recursive groups
 
@@ -209,13 +198,13 @@ least_of roles.Silent inputs space cs rising h = tt
 
 -- ---- one item more
 
-pub known_more : (space : Space) (items : List ResolvedItem) (places : List ℕ) (n at : ℕ) (r : ResolvedItem) (old new : ItemAnswers) → slice_get items at ≡ Some r → n ≤ at → ((k : ℕ) → n ≤ k → k < at → Contains places k → ⊥) → ((k : ℕ) → IsCheckAt items k → Contains places k) → ((k : ℕ) → k < length items → Contains (map (λ i. i.item) r.inputs.items) k → Contains places k)
-    → AreSound items → AreKnown space items places n old → IsAnswered space at r old new → AreKnown space items places (suc at) new
-known_more space items places n at r old new e le gap checks used ordered known given =
+pub known_more : (space : Space) (items : List ResolvedItem) (indexes : List ℕ) (n at : ℕ) (r : ResolvedItem) (old new : ItemAnswers) → slice_get items at ≡ Some r → n ≤ at → ((k : ℕ) → n ≤ k → k < at → Contains indexes k → ⊥) → ((k : ℕ) → IsCheckAt items k → Contains indexes k) → ((k : ℕ) → k < length items → Contains (map (λ i. i.item) r.inputs.items) k → Contains indexes k)
+    → AreSound items → AreKnown space items indexes n old → IsAnswered space at r old new → AreKnown space items indexes (suc at) new
+known_more space items indexes n at r old new e le gap checks used ordered known given =
     let lt = slice_get_within items at r e in
     let Before : ℕ → List Column → Type 0 = λ j ds. IsValued space (reverse (take at items)) j ds in
     let named : AreNamed Before r.inputs.items given.inputs =
-    named_all Before old r.inputs.items given.inputs (all_names space items places n at old r.inputs.items known (omega arith) gap used (ordered_at items at r e ordered.0)) given.found in
+    named_all Before old r.inputs.items given.inputs (all_names space items indexes n at old r.inputs.items known (omega arith) gap used (ordered_at items at r e ordered.0)) given.found in
     let said = said_later space items n at (checks_of old) (flags_of old) le (omega arith) (λ j from to c. gap j from to (checks j c)) known.said in
     let here : ColumnsAt new at (IsValued space (reverse (take (suc at) items)) at) =
     λ d.
@@ -224,34 +213,30 @@ known_more space items places n at r old new e le gap checks used ordered known 
     rw (rev_suc items at r e) (inl (sym (rev_count items at (omega arith)), (given.inputs, named, columns, least))) in
     record {
       count = given.count ∙ known.count;
-      values = λ j less is. value_of j less is here (order j at);
+      values = λ j less is. value_of j less is here (cases_lt j at);
       empty = λ j from to d. subst (λ (v : Vec Column Global). v.items ≡ []) (sym (given.others j (λ same. omega arith) d)) (known.empty j (omega arith) to d);
       said = rw (rev_suc items at r e) (said_by r.role (AnswersOf r.role given.inputs space) (HasAnswers space Before r) (λ cs fs. (cs ≡ checks_of old) × (fs ≡ flags_of old)) (AreSaid space (reverse (take at items))) (checks_of new) (flags_of new) (λ one h. (given.inputs, named, h)) (λ cs fs same. rw (same.0, same.1) said) given.said);
     }
   where
-    value_of : (j : ℕ) → j < suc at → Contains places j → ColumnsAt new at (IsValued space (reverse (take (suc at) items)) at) → (j < at) ⊎ (at ≤ j) → ColumnsAt new j (IsValued space (reverse (take (suc j) items)) j)
-    value_of j less is here (inl before) = λ d. subst (λ (v : Vec Column Global). IsValued space (reverse (take (suc j) items)) j v.items) (sym (given.others j (λ same. omega arith) d)) (known.values j (none_between places n at j gap is before (order j n)) is d)
+    value_of : (j : ℕ) → j < suc at → Contains indexes j → ColumnsAt new at (IsValued space (reverse (take (suc at) items)) at) → (j < at) ⊎ (at ≤ j) → ColumnsAt new j (IsValued space (reverse (take (suc j) items)) j)
+    value_of j less is here (inl before) = λ d. subst (λ (v : Vec Column Global). IsValued space (reverse (take (suc j) items)) j v.items) (sym (given.others j (λ same. omega arith) d)) (known.values j (none_between indexes n at j gap is before (cases_lt j n)) is d)
     value_of j less is here (inr after) = let same : at ≡ j = omega arith in subst (λ k. ColumnsAt new k (IsValued space (reverse (take (suc k) items)) k)) same here
 
 -- behind the last of them
-pub known_all : (space : Space) (items : List ResolvedItem) (places : List ℕ) (n : ℕ) (a : ItemAnswers) → n ≤ length items → ((k : ℕ) → n ≤ k → k < length items → Contains places k → ⊥) → ((k : ℕ) → IsCheckAt items k → Contains places k) → AreKnown space items places n a → AreSaid space (reverse items) (checks_of a) (flags_of a)
-known_all space items places n a le gap checks known =
+pub known_all : (space : Space) (items : List ResolvedItem) (indexes : List ℕ) (n : ℕ) (a : ItemAnswers) → n ≤ length items → ((k : ℕ) → n ≤ k → k < length items → Contains indexes k → ⊥) → ((k : ℕ) → IsCheckAt items k → Contains indexes k) → AreKnown space items indexes n a → AreSaid space (reverse items) (checks_of a) (flags_of a)
+known_all space items indexes n a le gap checks known =
     let all = said_later space items n (length items) (checks_of a) (flags_of a) le (omega arith) (λ j from to c. gap j from to (checks j c)) known.said in
     rw (take_whole items) at all
 
 -- ---- the items that are reached
 
-leads_more : (items : List ResolvedItem) (a : ℕ) (through : List ℕ) (b c : ℕ) → Leads items a through b → UsesAt items b c → Leads items a (through ++ c ∷ []) c
-leads_more items a [] b c e u = (subst (λ (j : ℕ). UsesAt items j c) (sym e) u, refl)
-leads_more items a (d ∷ ds) b c h u = (h.0, leads_more items d ds b c h.1 u)
-
-reached_used : (items : List ResolvedItem) (places : List ℕ) → AreReached items places → (b c : ℕ) → Contains places b → UsesAt items b c → c < length items → Contains places c
-reached_used items places all b c is uses lt =
+reached_used : (items : List ResolvedItem) (indexes : List ℕ) → AreReached items indexes → (b c : ℕ) → Contains indexes b → UsesAt items b c → c < length items → Contains indexes c
+reached_used items indexes all b c is uses lt =
     let r : IsReached items b = ((all.exact b).0 is).1 in
     (all.exact c).1 (lt, record { from = r.from; is_check = r.is_check; through = r.through ++ c ∷ []; leads = leads_more items r.from r.through b c r.leads uses })
 
-reached_check : (items : List ResolvedItem) (places : List ℕ) → AreReached items places → (k : ℕ) → IsCheckAt items k → Contains places k
-reached_check items places all k is = (all.exact k).1 (slice_get_within items k is.0 is.1, record { from = k; is_check = is; through = []; leads = refl })
+reached_check : (items : List ResolvedItem) (indexes : List ℕ) → AreReached items indexes → (k : ℕ) → IsCheckAt items k → Contains indexes k
+reached_check items indexes all k is = (all.exact k).1 (slice_get_within items k is.0 is.1, record { from = k; is_check = is; through = []; leads = refl })
 
 pub same_at : (xs : List ℕ) (i a b : ℕ) → i < length xs → get_or xs i a ≡ get_or xs i b
 same_at [] i a b lt = absurd (omega arith)
@@ -260,8 +245,8 @@ same_at (x ∷ xs) (suc i) a b lt = same_at xs i a b (omega arith)
 
 -- ---- along the places
 
-pub known_start : (space : Space) (items : List ResolvedItem) (places : List ℕ) (n : ℕ) (a : ItemAnswers) → n ≡ length items → vec_len a.columns ≡ n → ((j : ℕ) → j < n → ColumnsAt a j (λ cs. cs ≡ [])) → checks_of a ≡ [] → flags_of a ≡ [] → AreKnownTo space items places 0 a
-known_start space items places n a long count empty checks flags = record {
+pub known_start : (space : Space) (items : List ResolvedItem) (indexes : List ℕ) (n : ℕ) (a : ItemAnswers) → n ≡ length items → vec_len a.columns ≡ n → ((j : ℕ) → j < n → ColumnsAt a j (λ cs. cs ≡ [])) → checks_of a ≡ [] → flags_of a ≡ [] → AreKnownTo space items indexes 0 a
+known_start space items indexes n a long count empty checks flags = record {
   number = 0;
   within = omega arith;
   below = λ q d lt. absurd (omega arith);
@@ -275,34 +260,34 @@ known_start space items places n a long count empty checks flags = record {
 }
 
 -- no place lies between
-gap_at : (items : List ResolvedItem) (places : List ℕ) (n p at : ℕ) → AreReached items places → p < length places → ((d : ℕ) → at ≡ get_or places p d) → ((q d : ℕ) → q < p → get_or places q d < n) → (k : ℕ) → n ≤ k → k < at → Contains places k → ⊥
-gap_at items places n p at all lt is below k from to m = by_order (cases_order m.0 p)
+gap_at : (items : List ResolvedItem) (indexes : List ℕ) (n p at : ℕ) → AreReached items indexes → p < length indexes → ((d : ℕ) → at ≡ get_or indexes p d) → ((q d : ℕ) → q < p → get_or indexes q d < n) → (k : ℕ) → n ≤ k → k < at → Contains indexes k → ⊥
+gap_at items indexes n p at all lt is below k from to m = by_order (cases_order m.0 p)
   where
     by_order : (m.0 ≡ p) ⊎ ((m.0 < p) ⊎ (p < m.0)) → ⊥
-    by_order (inl e) = let same : get_or places m.0 k ≡ get_or places p k = ap (λ q. get_or places q k) e in omega (arith, same, is k, m.2)
+    by_order (inl e) = let same : get_or indexes m.0 k ≡ get_or indexes p k = ap (λ q. get_or indexes q k) e in omega (arith, same, is k, m.2)
     by_order (inr (inl less)) = omega (arith, below m.0 k less, m.2)
     by_order (inr (inr more)) = omega (arith, all.rising p m.0 k more m.1, is k, m.2)
 
-pub known_next : (space : Space) (items : List ResolvedItem) (places : List ℕ) (p at : ℕ) (r : ResolvedItem) (old new : ItemAnswers) → AreReached items places → AreSound items → p < length places → ((d : ℕ) → at ≡ get_or places p d) → slice_get items at ≡ Some r
-    → AreKnownTo space items places p old → IsAnswered space at r old new → AreKnownTo space items places (p + 1) new
-known_next space items places p at r old new all ordered lt is e to given =
+pub known_next : (space : Space) (items : List ResolvedItem) (indexes : List ℕ) (p at : ℕ) (r : ResolvedItem) (old new : ItemAnswers) → AreReached items indexes → AreSound items → p < length indexes → ((d : ℕ) → at ≡ get_or indexes p d) → slice_get items at ≡ Some r
+    → AreKnownTo space items indexes p old → IsAnswered space at r old new → AreKnownTo space items indexes (p + 1) new
+known_next space items indexes p at r old new all ordered lt is e to given =
     let le : to.number ≤ at = omega (arith, to.above p 0 (omega arith) lt, is 0) in
-    let here : Contains places at = (p, lt, sym (is at)) in
+    let here : Contains indexes at = (p, lt, sym (is at)) in
     record {
       number = suc at;
       within = omega (arith, slice_get_within items at r e);
-      below = λ q d less. below_at q d less (order q p);
+      below = λ q d less. below_at q d less (cases_lt q p);
       above = λ q d from within. omega (arith, all.rising p q d (omega arith) within, is d);
-      known = known_more space items places to.number at r old new e le (gap_at items places to.number p at all lt is to.below) (reached_check items places all) (λ k less m. reached_used items places all at k here (r, e, inl m) less) ordered to.known given;
+      known = known_more space items indexes to.number at r old new e le (gap_at items indexes to.number p at all lt is to.below) (reached_check items indexes all) (λ k less m. reached_used items indexes all at k here (r, e, inl m) less) ordered to.known given;
     }
   where
-    below_at : (q d : ℕ) → q < p + 1 → (q < p) ⊎ (p ≤ q) → get_or places q d < suc at
+    below_at : (q d : ℕ) → q < p + 1 → (q < p) ⊎ (p ≤ q) → get_or indexes q d < suc at
     below_at q d less (inl before) = omega (arith, to.below q d before, to.above p 0 (omega arith) lt, is 0)
-    below_at q d less (inr after) = let same : get_or places q d ≡ get_or places p d = (let e : q ≡ p = omega arith in ap (λ k. get_or places k d) e) in omega (arith, same, is d)
+    below_at q d less (inr after) = let same : get_or indexes q d ≡ get_or indexes p d = (let e : q ≡ p = omega arith in ap (λ k. get_or indexes k d) e) in omega (arith, same, is d)
 
-pub known_end : (space : Space) (items : List ResolvedItem) (places : List ℕ) (p : ℕ) (a : ItemAnswers) → AreReached items places → length places ≤ p → AreKnownTo space items places p a → AreSaid space (reverse items) (checks_of a) (flags_of a)
-known_end space items places p a all le to =
-    known_all space items places to.number a to.within (λ k from less m. omega (arith, to.below m.0 k (omega (arith, m.1)), m.2)) (reached_check items places all) to.known
+pub known_end : (space : Space) (items : List ResolvedItem) (indexes : List ℕ) (p : ℕ) (a : ItemAnswers) → AreReached items indexes → length indexes ≤ p → AreKnownTo space items indexes p a → AreSaid space (reverse items) (checks_of a) (flags_of a)
+known_end space items indexes p a all le to =
+    known_all space items indexes to.number a to.within (λ k from less m. omega (arith, to.below m.0 k (omega (arith, m.1)), m.2)) (reached_check items indexes all) to.known
 
 -- ---- the columns that are found, one by one
 
@@ -320,54 +305,6 @@ found_more columns names i d found all lt h one is grown =
 
 -- ---- what one item adds
 
-said_group : (role : Role) (recursive : Bool) (bodies : Vec Body Global) (A : List Bool → Type 0) (P : List (List Bool) → List Flag → Type 0) (cs : List (List Bool)) (fs : List Flag) → role ≡ roles.Group recursive bodies → P cs fs → IsSaidBy role A P cs fs
-said_group role recursive bodies A P cs fs e h = rw e h
-
-pub answered_group : (space : Space) (place : ℕ) (r : ResolvedItem) (recursive : Bool) (bodies : Vec Body Global) (old new : ItemAnswers) (inputs : List (Bor Column)) (found : Vec Column Global) → r.role ≡ roles.Group recursive bodies → AreFound old.columns.items r.inputs.items inputs → ColumnsOf r.role inputs space found.items
-    → vec_len new.columns ≡ vec_len old.columns → ((j : ℕ) → (j ≡ place → ⊥) → (d : Vec Column Global) → get_or new.columns.items j d ≡ get_or old.columns.items j d) → (place < vec_len old.columns → (d : Vec Column Global) → get_or new.columns.items place d ≡ found)
-    → checks_of new ≡ checks_of old → flags_of new ≡ flags_of old → IsAnswered space place r old new
-answered_group space place r recursive bodies old new inputs found role are given count others here checks flags = record {
-  inputs = inputs;
-  found = are;
-  count = count;
-  others = others;
-  here = λ lt empty d. subst (λ (v : Vec Column Global). ColumnsOf r.role inputs space v.items) (sym (here lt d)) given;
-  said = said_group r.role recursive bodies _ _ _ _ role (checks, flags);
-}
-
-said_check : (A : List Bool → Type 0) (old_checks checks : List (List Bool)) (old_flags flags : List Flag) (one : List Bool) (o : Option (List ℕ)) → o ≡ None → A one → checks ≡ old_checks ++ one ∷ [] → flags ≡ old_flags → IsSaidAs o A (λ cs fs. (cs ≡ old_checks) × (fs ≡ old_flags)) checks flags
-said_check A old_checks checks old_flags flags one o e h grown same = rw e (old_checks, one, grown, h, (refl, same))
-
-said_flag : (A : List Bool → Type 0) (old_checks checks : List (List Bool)) (old_flags flags : List Flag) (name : List ℕ) (one : List Bool) (o : Option (List ℕ)) → o ≡ Some name → A one → checks ≡ old_checks → flags ≡ old_flags ++ (name, one) ∷ [] → IsSaidAs o A (λ cs fs. (cs ≡ old_checks) × (fs ≡ old_flags)) checks flags
-said_flag A old_checks checks old_flags flags name one o e h same grown = rw e (old_flags, one, grown, h, (same, refl))
-
-of_check : (role : Role) (check : CheckCode) (A : List Bool → Type 0) (P : List (List Bool) → List Flag → Type 0) (cs : List (List Bool)) (fs : List Flag) → role ≡ roles.Check check → IsSaidAs check.flag A P cs fs → IsSaidBy role A P cs fs
-of_check role check A P cs fs e h = rw e h
-
-none_given : (role : Role) (check : CheckCode) (inputs : List (Bor Column)) (space : Space) (cs : List Column) → role ≡ roles.Check check → cs ≡ [] → ColumnsOf role inputs space cs
-none_given role check inputs space cs e h = rw e h
-
-answered_alone : (space : Space) (place : ℕ) (r : ResolvedItem) (check : CheckCode) (old new : ItemAnswers) (inputs : List (Bor Column)) → r.role ≡ roles.Check check → AreFound old.columns.items r.inputs.items inputs → new.columns ≡ old.columns
-    → IsSaidAs check.flag (AnswersOf r.role inputs space) (λ cs fs. (cs ≡ checks_of old) × (fs ≡ flags_of old)) (checks_of new) (flags_of new) → IsAnswered space place r old new
-answered_alone space place r check old new inputs role are same said = record {
-  inputs = inputs;
-  found = are;
-  count = ap (λ v. vec_len v) same;
-  others = λ j other d. ap (λ v. get_or v.items j d) same;
-  here = λ lt empty d. none_given r.role check inputs space (get_or new.columns.items place d).items role (ap (λ v. (get_or v.items place d).items) same ∙ empty d);
-  said = of_check r.role check _ _ _ _ role said;
-}
-
-pub answered_check : (space : Space) (place : ℕ) (r : ResolvedItem) (check : CheckCode) (old new : ItemAnswers) (inputs : List (Bor Column)) (one : List Bool) → r.role ≡ roles.Check check → check.flag ≡ None → AreFound old.columns.items r.inputs.items inputs → AnswersOf r.role inputs space one → new.columns ≡ old.columns
-    → checks_of new ≡ checks_of old ++ one ∷ [] → flags_of new ≡ flags_of old → IsAnswered space place r old new
-answered_check space place r check old new inputs one role none are given same checks flags =
-    answered_alone space place r check old new inputs role are same (said_check (AnswersOf r.role inputs space) (checks_of old) (checks_of new) (flags_of old) (flags_of new) one check.flag none given checks flags)
-
-pub answered_flag : (space : Space) (place : ℕ) (r : ResolvedItem) (check : CheckCode) (name : List ℕ) (old new : ItemAnswers) (inputs : List (Bor Column)) (one : List Bool) → r.role ≡ roles.Check check → check.flag ≡ Some name → AreFound old.columns.items r.inputs.items inputs → AnswersOf r.role inputs space one → new.columns ≡ old.columns
-    → checks_of new ≡ checks_of old → flags_of new ≡ flags_of old ++ (name, one) ∷ [] → IsAnswered space place r old new
-answered_flag space place r check name old new inputs one role some are given same checks flags =
-    answered_alone space place r check old new inputs role are same (said_flag (AnswersOf r.role inputs space) (checks_of old) (checks_of new) (flags_of old) (flags_of new) name one check.flag some given checks flags)
-
 -- references to these columns
 refs : (cs : List Column) → (bs : List (Bor Column)) × (map (λ c. c.now) bs ≡ cs)
 refs [] = ([], refl)
@@ -379,42 +316,38 @@ said_silent role A P cs fs e h = rw e h
 silent_given : (role : Role) (inputs : List (Bor Column)) (space : Space) (cs : List Column) → role ≡ roles.Silent → cs ≡ [] → ColumnsOf role inputs space cs
 silent_given role inputs space cs e h = rw e h
 
-pub answered_silent : (space : Space) (place : ℕ) (r : ResolvedItem) (a : ItemAnswers) → r.role ≡ roles.Silent → IsAnswered space place r a a
-answered_silent space place r a role =
+pub answered_silent : (space : Space) (index : ℕ) (r : ResolvedItem) (a : ItemAnswers) → r.role ≡ roles.Silent → IsAnswered space index r a a
+answered_silent space index r a role =
     let found = refs (filter_map (column_of a.columns.items) r.inputs.items) in
     record {
       inputs = found.0;
       found = found.1;
       count = refl;
       others = λ j other d. refl;
-      here = λ lt empty d. silent_given r.role found.0 space (get_or a.columns.items place d).items role (empty d);
+      here = λ lt empty d. silent_given r.role found.0 space (get_or a.columns.items index d).items role (empty d);
       said = said_silent r.role _ _ _ _ role (refl, refl);
     }
 
-pub on_ok : {T E : Type 0} (r : Result T E) (A B : Type 0) → (A → B) → OnOk r A → OnOk r B
-on_ok (Ok x) A B f h = f h
-on_ok (Err e) A B f h = tt
-
-found_as : (columns : List (Vec Column Global)) (names seen : List Input) (i : ℕ) (d : Input) (found all : List (Bor Column)) (one : Option Column) → seen ≡ names → i < length seen → AreFound columns (take i names) found → one ≡ column_of columns (get_or seen i d) → map (λ c. c.now) all ≡ map (λ c. c.now) found ++ cons_option one [] → AreFound columns (take (i + 1) names) all
-found_as columns names seen i d found all one same lt h is grown =
+found_as : (columns : List (Vec Column Global)) (names used_names : List Input) (i : ℕ) (d : Input) (found all : List (Bor Column)) (one : Option Column) → used_names ≡ names → i < length used_names → AreFound columns (take i names) found → one ≡ column_of columns (get_or used_names i d) → map (λ c. c.now) all ≡ map (λ c. c.now) found ++ cons_option one [] → AreFound columns (take (i + 1) names) all
+found_as columns names used_names i d found all one same lt h is grown =
     found_more columns names i d found all (subst (λ (xs : List Input). i < length xs) same lt) h one (is ∙ ap (λ (xs : List Input). column_of columns (get_or xs i d)) same) grown
 
-pub found_some : (columns : List (Vec Column Global)) (names seen : List Input) (i : ℕ) (d : Input) (found all : List (Bor Column)) (c : Bor Column) → seen ≡ names → i < length seen → AreFound columns (take i names) found → Some c.now ≡ column_of columns (get_or seen i d) → all ≡ found ++ c ∷ [] → AreFound columns (take (i + 1) names) all
-found_some columns names seen i d found all c same lt h is grown =
-    found_as columns names seen i d found all (Some c.now) same lt h is (ap (map (λ (b : Bor Column). b.now)) grown ∙ map-append (λ (b : Bor Column). b.now) found (c ∷ []))
+pub found_some : (columns : List (Vec Column Global)) (names used_names : List Input) (i : ℕ) (d : Input) (found all : List (Bor Column)) (c : Bor Column) → used_names ≡ names → i < length used_names → AreFound columns (take i names) found → Some c.now ≡ column_of columns (get_or used_names i d) → all ≡ found ++ c ∷ [] → AreFound columns (take (i + 1) names) all
+found_some columns names used_names i d found all c same lt h is grown =
+    found_as columns names used_names i d found all (Some c.now) same lt h is (ap (map (λ (b : Bor Column). b.now)) grown ∙ map-append (λ (b : Bor Column). b.now) found (c ∷ []))
 
-pub found_none : (columns : List (Vec Column Global)) (names seen : List Input) (i : ℕ) (d : Input) (found all : List (Bor Column)) → seen ≡ names → i < length seen → AreFound columns (take i names) found → None ≡ column_of columns (get_or seen i d) → all ≡ found → AreFound columns (take (i + 1) names) all
-found_none columns names seen i d found all same lt h is stays =
-    found_as columns names seen i d found all None same lt h is (ap (map (λ (b : Bor Column). b.now)) stays ∙ sym (append-nil (map (λ (b : Bor Column). b.now) found)))
+pub found_none : (columns : List (Vec Column Global)) (names used_names : List Input) (i : ℕ) (d : Input) (found all : List (Bor Column)) → used_names ≡ names → i < length used_names → AreFound columns (take i names) found → None ≡ column_of columns (get_or used_names i d) → all ≡ found → AreFound columns (take (i + 1) names) all
+found_none columns names used_names i d found all same lt h is stays =
+    found_as columns names used_names i d found all None same lt h is (ap (map (λ (b : Bor Column). b.now)) stays ∙ sym (append-nil (map (λ (b : Bor Column). b.now) found)))
 
 -- one column, read
-place_read : (xs : List Column) (i : ℕ) (r : Option (Bor Column)) → IsItemAt xs i r → option_map (λ (b : Bor Column). b.now) r ≡ slice_get xs i
-place_read xs i None h = sym (slice_get_past xs i h.3)
-place_read xs i (Some x) h = sym (slice_get_read xs (length xs) i x.now refl h.3.0 h.1)
+index_read : (xs : List Column) (i : ℕ) (r : Option (Bor Column)) → IsItemAt xs i r → option_map (λ (b : Bor Column). b.now) r ≡ slice_get xs i
+index_read xs i None h = sym (slice_get_past xs i h.3)
+index_read xs i (Some x) h = sym (slice_get_read xs (length xs) i x.now refl h.3.0 h.1)
 
 pub column_read : (columns : List (Vec Column Global)) (name : Input) (names : Vec Column Global) (xs : List Column) (r : Option (Bor Column)) → slice_get columns name.item ≡ Some names → xs ≡ names.items → IsItemAt xs name.position r → option_map (λ (b : Bor Column). b.now) r ≡ column_of columns name
 column_read columns name names xs r e same h =
-    place_read xs name.position r h ∙ ap (λ (ys : List Column). slice_get ys name.position) same ∙ ap (λ (o : Option (Vec Column Global)). column_in o name.position) (sym e)
+    index_read xs name.position r h ∙ ap (λ (ys : List Column). slice_get ys name.position) same ∙ ap (λ (o : Option (Vec Column Global)). column_in o name.position) (sym e)
 
 pub no_column : (columns : List (Vec Column Global)) (name : Input) → length columns ≤ name.item → None ≡ column_of columns name
 no_column columns name le = ap (λ (o : Option (Vec Column Global)). column_in o name.position) (sym (slice_get_past columns name.item le))

@@ -23,7 +23,7 @@ use Rattle.binding_graph.specs.declared.resolved.Body.{Body}
 use Rattle.binding_graph.specs.declared.resolved.Role.{Role}
 use Rattle.binding_graph.specs.declared.resolved.Role.TheVariants as roles
 use Rattle.binding_graph.specs.declared.resolved.ResolvedItem.{ResolvedItem}
-use Rattle.binding_graph.specs.Inputs.{place_of, noted, with_binder, with_name, inputs_of}
+use Rattle.binding_graph.specs.Inputs.{index_of, noted, with_binder, with_name, inputs_of}
 use Rattle.binding_graph.specs.Usages.{Usage, all_noted, values_of, usage_at, usage_seen, with_meaning, with_values, with_values_among, with_all_values, usage_of_function, usages_after}
 use Rattle.binding_graph.specs.Resolved.{AreBodies, IsGroupRole, IsResolvedIn, AreResolved}
 use Rattle.cat_eval.specs.Candidates.{name_count}
@@ -71,7 +71,7 @@ noted_by rs us u false h b = (b, h)
 with_binder_bound : (rs : List ResolvedItem) (us : List Used) (slot : ℕ) (b : Binder) → OfBinder rs b → AllBound rs us → AllBound rs (with_binder us slot b)
 unfolding OfBinder
 with_binder_bound rs us slot (binders.Predefined p) o h = h
-with_binder_bound rs us slot (binders.Bound i) o h = noted_by rs us (record { slot = slot; input = i }) (is_some (place_of us slot)) h o
+with_binder_bound rs us slot (binders.Bound i) o h = noted_by rs us (record { slot = slot; input = i }) (is_some (index_of us slot)) h o
 with_binder_bound rs us slot (binders.Applicable f) o h = h
 
 with_found_by : (rs : List ResolvedItem) (us : List Used) (from : ℕ) (f : Found) (t : Bool) → (t ≡ false → OfBinder rs f.binder) → AllBound rs us → AllBound rs (if t then us else with_binder us f.slot f.binder)
@@ -88,19 +88,19 @@ with_meaning_bound rs names from x vs None b h = with_name_bound rs names from x
 
 all_noted_bound : (rs : List ResolvedItem) (vs us : List Used) → AllBound rs vs → AllBound rs us → AllBound rs (all_noted vs us)
 all_noted_bound rs vs [] h all = h
-all_noted_bound rs vs (u ∷ us) h all = all_noted_bound rs (noted vs u) us (noted_by rs vs u (is_some (place_of vs u.slot)) h all.0) all.1
+all_noted_bound rs vs (u ∷ us) h all = all_noted_bound rs (noted vs u) us (noted_by rs vs u (is_some (index_of vs u.slot)) h all.0) all.1
 
 -- what functions use
 abbrev AreClosed : List ResolvedItem → List Usage → Type 0
 AreClosed rs us = AllByRecursion (λ u. AllBound rs u.values) us
 
-place_bound : (rs : List ResolvedItem) (us : List Usage) (i : ℕ) → AreClosed rs us → AllBound rs (values_of (slice_get us i))
-place_bound rs [] i h = tt
-place_bound rs (u ∷ us) zero h = h.0
-place_bound rs (u ∷ us) (suc i) h = place_bound rs us i h.1
+index_bound : (rs : List ResolvedItem) (us : List Usage) (i : ℕ) → AreClosed rs us → AllBound rs (values_of (slice_get us i))
+index_bound rs [] i h = tt
+index_bound rs (u ∷ us) zero h = h.0
+index_bound rs (u ∷ us) (suc i) h = index_bound rs us i h.1
 
 usage_bound : (rs : List ResolvedItem) (us : List Usage) (r : Result ℕ ModelFault) → AreClosed rs us → AllBound rs (values_of (usage_at us r))
-usage_bound rs us (Ok i) h = place_bound rs us i h
+usage_bound rs us (Ok i) h = index_bound rs us i h
 usage_bound rs us (Err k) h = tt
 
 module _ (rs : List ResolvedItem) (us : List Usage) (names : List Naming) (ps : List (List ℕ)) (from : ℕ) (closed : AreClosed rs us) (b : AreBound rs from names) where
@@ -131,7 +131,7 @@ all_push : {X : Type 0} (P : X → Type 0) (xs : List X) (x : X) → AllByRecurs
 all_push P [] x h p = (p, tt)
 all_push P (y ∷ ys) x h p = (h.0, all_push P ys x h.1 p)
 
-all_reverse : {X : Type 0} (P : X → Type 0) (xs : List X) → AllByRecursion P xs → AllByRecursion P (reverse xs)
+pub all_reverse : {X : Type 0} (P : X → Type 0) (xs : List X) → AllByRecursion P xs → AllByRecursion P (reverse xs)
 all_reverse P [] h = tt
 all_reverse {X} P (x ∷ xs) h = subst (λ (ys : List X). AllByRecursion P ys) (sym (reverse-append (x ∷ []) xs)) (all_push P (reverse xs) x (all_reverse P xs h.1) h.0)
 

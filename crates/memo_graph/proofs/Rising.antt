@@ -139,20 +139,20 @@ relation_steps OfRelation s r none = refl
 relation_steps OfAny s r none = refl
 
 more : (t : RelTree) (ts : List RelTree) → IsMonotone t → AreMonotone ts → AreMonotone (t ∷ ts)
-more t ts one all = λ x lt. at_place x lt
+more t ts one all = λ x lt. at_index x lt
   where
-    at_place : (x : ℕ) → x < length (t ∷ ts) → IsMonotone (body (t ∷ ts) x)
-    at_place zero lt = one
-    at_place (suc x) lt = all x (omega arith)
+    at_index : (x : ℕ) → x < length (t ∷ ts) → IsMonotone (body (t ∷ ts) x)
+    at_index zero lt = one
+    at_index (suc x) lt = all x (omega arith)
 
 -- the bodies of a recursive group without fault are the steps of monotone trees
-group_rises : (ss : List Sense) (us : List Usage) (names : List Naming) (from n : ℕ) (vs : List Used) (seen : List (List ℕ)) (bs : List Bound) (bodies : List Body) → n ≤ from → AreSafe n ss → AreBodies ss us names from vs bs bodies → ((p : ℕ) (k : ModelFault) → IsFaultIn ss names from true seen bs p k → ⊥) → (trees : List RelTree) × AreCodes trees bodies × AreMonotone trees
-group_rises ss us names from n vs seen [] [] le safe h none = ([], tt, λ x lt. absurd (omega arith))
-group_rises ss us names from n vs seen [] (r ∷ rs) le safe h none = absurd h
-group_rises ss us names from n vs seen (b ∷ bs) [] le safe h none = absurd h
-group_rises ss us names from n vs seen (b ∷ bs) (r ∷ rs) le safe h none =
+group_rises : (ss : List Sense) (us : List Usage) (names : List Naming) (from n : ℕ) (vs : List Used) (earlier : List (List ℕ)) (bs : List Bound) (bodies : List Body) → n ≤ from → AreSafe n ss → AreBodies ss us names from vs bs bodies → ((p : ℕ) (k : ModelFault) → IsFaultIn ss names from true earlier bs p k → ⊥) → (trees : List RelTree) × AreCodes trees bodies × AreMonotone trees
+group_rises ss us names from n vs earlier [] [] le safe h none = ([], tt, λ x lt. absurd (omega arith))
+group_rises ss us names from n vs earlier [] (r ∷ rs) le safe h none = absurd h
+group_rises ss us names from n vs earlier (b ∷ bs) [] le safe h none = absurd h
+group_rises ss us names from n vs earlier (b ∷ bs) (r ∷ rs) le safe h none =
     let used = with_values us names [] from b.body vs in
-    let rest = group_rises ss us names from n used (b.name ∷ seen) bs rs le safe h.2 (λ p k f. none (1 + width b.body + p) k (inr (inr (p, refl, f)))) in
+    let rest = group_rises ss us names from n used (b.name ∷ earlier) bs rs le safe h.2 (λ p k f. none (1 + width b.body + p) k (inr (inr (p, refl, f)))) in
     let no_set : kind_in ss names b.body ≡ OfSet → ⊥ = λ e. none 0 faults.SetInRec (inl (refl, inr (search rules, e, refl))) in
     let one : IsMonotone (relation_of used from (formula_in ss names [] b.body)) = monotone ss names used from n le safe b.body (λ p k f. none (1 + p) k (inr (inl (p, refl, f)))) in
     (relation_of used from (formula_in ss names [] b.body) ∷ rest.0, (h.1.1 ∙ relation_steps (kind_in ss names b.body) (set_of used from (formula_in ss names [] b.body)) (relation_of used from (formula_in ss names [] b.body)) no_set, rest.1), more (relation_of used from (formula_in ss names [] b.body)) rest.0 one rest.2)

@@ -3,7 +3,7 @@
 use Rattle.std.proofs.Common.{ℕ, ◌≡◌, ◌≤◌, ◌+◌, zero, suc, List, [], ◌∷◌, ◌++◌, length, map, reverse, Bool, true, false, nat_le, Option, Some, None, Result, Ok, Err, refl, sym, ap, ◌∙◌, subst, arith, get_or}
 use Rattle.std.specs.Prelude.{◌||◌, ◌&&◌, is_some, nat_eq, if◌then◌else◌, slice_get}
 use Rattle.std.specs.List.{AllByRecursion}
-use Rattle.std.proofs.lemmas.Bool.{leb-true}
+use Rattle.std.proofs.lemmas.Bool.{leb-true, or_left, or_right}
 use Rattle.std.proofs.lemmas.Bool.Decides.{nat_tests}
 use Rattle.cat_values.specs.declared.model.Infix.TheVariants as infixes
 use Rattle.cat_values.specs.Value.{Term, Terms, Atom, AllEvents as Everywhere, EmptyRelation, EmptySet, Join, Mark, Not, On, Apply, NoTerm, OneMore}
@@ -109,14 +109,6 @@ fill_twice gs fs (Identity a) = ap (λ (x : Formula). Identity x) (fill_twice gs
 
 -- ---- the function that a name stands for
 
-or_left : (a b : Bool) → a ≡ true → (a || b) ≡ true
-or_left true b e = refl
-or_left false b e = absurd (let f : false ≡ true = e in cc)
-
-or_right : (a b : Bool) → b ≡ true → (a || b) ≡ true
-or_right true b e = refl
-or_right false b e = e
-
 some_and : (o : Option Sense) (s : Sense) (b : Bool) → o ≡ Some s → b ≡ true → (is_some o && b) ≡ true
 some_and None s b is e = absurd (let f : None ≡ Some s = is in cc)
 some_and (Some t) s b is e = e
@@ -198,8 +190,8 @@ module _ (ss : List Sense) (names : List Naming) (ps : List (List ℕ)) (us : Li
   apply_rises None fs one h = tt
   apply_rises (Some s) fs one h = subst (Rises us from) (sym (fill_twice args fs s.formula)) ((one us from (map (filled args) fs) le).1 (h s refl))
 
-  seen : (ts : Terms) (x : List ℕ) → SafeIf (length names) (sense_seen ss names ps (count_of ts) x)
-  seen ts x = seen_safe (length names) ss names ps (count_of ts) x (parameter_of (reverse ps) x) (sense_of ss (count_of ts) (found names x)) refl refl safe
+  sense_safe : (ts : Terms) (x : List ℕ) → SafeIf (length names) (sense_seen ss names ps (count_of ts) x)
+  sense_safe ts x = seen_safe (length names) ss names ps (count_of ts) x (parameter_of (reverse ps) x) (sense_of ss (count_of ts) (found names x)) refl refl safe
 
   -- seen under a complement
   mutual
@@ -218,7 +210,7 @@ module _ (ss : List Sense) (names : List Naming) (ps : List (List ℕ)) (us : Li
     body_fixed (On a) h = tt
     body_fixed (Apply x ts) h =
         let o = sense_seen ss names ps (count_of ts) x in
-        apply_fixed o (formulas_in ss names ps ts) (seen ts x) (λ s is. bodies_fixed (under_at o) 0 ts (λ j e. h j (some_and o s _ is e)))
+        apply_fixed o (formulas_in ss names ps ts) (sense_safe ts x) (λ s is. bodies_fixed (under_at o) 0 ts (λ j e. h j (some_and o s _ is e)))
 
     bodies_fixed : (turned : ℕ → Bool) (k : ℕ) (ts : Terms) → ((j : ℕ) → is_under_among ss names ps j true turned k ts ≡ true → Fixed us from (get_or args j NoPairs)) → AllFixed us from (map (filled args) (formulas_in ss names ps ts))
     bodies_fixed turned k NoTerm h = tt
@@ -241,7 +233,7 @@ module _ (ss : List Sense) (names : List Naming) (ps : List (List ℕ)) (us : Li
     body_rises (On a) h rises = tt
     body_rises (Apply x ts) h rises =
         let o = sense_seen ss names ps (count_of ts) x in
-        apply_rises o (formulas_in ss names ps ts) (seen ts x) (λ s is. bodies_rise (under_at o) 0 ts (λ j e. h j (some_and o s _ is e)) rises)
+        apply_rises o (formulas_in ss names ps ts) (sense_safe ts x) (λ s is. bodies_rise (under_at o) 0 ts (λ j e. h j (some_and o s _ is e)) rises)
 
     bodies_rise : (turned : ℕ → Bool) (k : ℕ) (ts : Terms) → ((j : ℕ) → is_under_among ss names ps j false turned k ts ≡ true → Fixed us from (get_or args j NoPairs)) → ((j : ℕ) → Rises us from (get_or args j NoPairs)) → AllRise us from turned k (map (filled args) (formulas_in ss names ps ts))
     bodies_rise turned k NoTerm h rises = tt

@@ -44,19 +44,19 @@ both_first : (i j p q m n : ℕ) → (i < j) ⊎ ((i ≡ j) × ((p < q) ⊎ ((p 
 both_first i j p q m n (inl x) (inl y) = absurd (omega (arith, x, y))
 both_first i j p q m n (inl x) (inr y) = absurd (omega (arith, x, y.0))
 both_first i j p q m n (inr x) (inl y) = absurd (omega (arith, x.0, y))
-both_first i j p q m n (inr x) (inr y) = at_place x.1 y.1
+both_first i j p q m n (inr x) (inr y) = at_index x.1 y.1
   where
-    at_place : (p < q) ⊎ ((p ≡ q) × (m ≤ n)) → (q < p) ⊎ ((q ≡ p) × (n ≤ m)) → m ≡ n
-    at_place (inl u) (inl v) = absurd (omega (arith, u, v))
-    at_place (inl u) (inr v) = absurd (omega (arith, u, v.0))
-    at_place (inr u) (inl v) = absurd (omega (arith, u.0, v))
-    at_place (inr u) (inr v) = omega (arith, u.1, v.1)
+    at_index : (p < q) ⊎ ((p ≡ q) × (m ≤ n)) → (q < p) ⊎ ((q ≡ p) × (n ≤ m)) → m ≡ n
+    at_index (inl u) (inl v) = absurd (omega (arith, u, v))
+    at_index (inl u) (inr v) = absurd (omega (arith, u, v.0))
+    at_index (inr u) (inl v) = absurd (omega (arith, u.0, v))
+    at_index (inr u) (inr v) = omega (arith, u.1, v.1)
 
 pub one_fault : (ss : List Sense) (names : List Naming) (from : ℕ) (items : List Clause) (k l : ModelFault) → FirstFault ss names from items k → FirstFault ss names from items l → k ≡ l
-one_fault ss names from items k l f g = one_rank k l (both_first f.item g.item f.place g.place (rank k) (rank l) (f.none_before g.item g.place l g.there) (g.none_before f.item f.place k f.there))
+one_fault ss names from items k l f g = one_rank k l (both_first f.item g.item f.index g.index (rank k) (rank l) (f.none_before g.item g.index l g.there) (g.none_before f.item f.index k f.there))
 
 pub fault_or_none : (ss : List Sense) (names : List Naming) (from : ℕ) (items : List Clause) (k : ModelFault) → FirstFault ss names from items k → HasNoFault ss names from items → ⊥
-fault_or_none ss names from items k f none = none f.item f.place k f.there
+fault_or_none ss names from items k f none = none f.item f.index k f.there
 
 -- ---- the outcome of a model with a fault
 

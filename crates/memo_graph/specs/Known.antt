@@ -35,30 +35,30 @@ of_flags flags = map (λ f. (f.name.now, f.holds.items)) flags
 abbrev pub flags_of : ItemAnswers → List Flag
 flags_of a = of_flags a.flags.items
 
--- the columns that are known at that place
+-- the columns that are known at that index
 abbrev pub ColumnsAt : ItemAnswers → ℕ → (List Column → Type 0) → Type 0
-ColumnsAt a place P = (d : Vec Column Global) → P (slice_index_or a.columns.items place d).items
+ColumnsAt a index P = (d : Vec Column Global) → P (slice_index_or a.columns.items index d).items
 
--- what the item at that place gives, from what was known, is known too
-pub record IsAnswered (space : Space) (place : ℕ) (r : ResolvedItem) (old new : ItemAnswers) : Type 0 where
+-- what the item at that index gives, from what was known, is known too
+pub record IsAnswered (space : Space) (index : ℕ) (r : ResolvedItem) (old new : ItemAnswers) : Type 0 where
   pub inputs : List (Bor Column)
   pub found : AreFound old.columns.items r.inputs.items inputs
   pub count : vec_len new.columns ≡ vec_len old.columns
-  pub others : (j : ℕ) → (j ≡ place → ⊥) → (d : Vec Column Global) → slice_index_or new.columns.items j d ≡ slice_index_or old.columns.items j d
-  pub here : place < vec_len old.columns → ColumnsAt old place (λ cs. cs ≡ []) → ColumnsAt new place (ColumnsOf r.role inputs space)
+  pub others : (j : ℕ) → (j ≡ index → ⊥) → (d : Vec Column Global) → slice_index_or new.columns.items j d ≡ slice_index_or old.columns.items j d
+  pub here : index < vec_len old.columns → ColumnsAt old index (λ cs. cs ≡ []) → ColumnsAt new index (ColumnsOf r.role inputs space)
   pub said : IsSaidBy r.role (AnswersOf r.role inputs space) (λ cs fs. (cs ≡ checks_of old) × (fs ≡ flags_of old)) (checks_of new) (flags_of new)
 
--- of the items before that number, the columns of those at these places are known, and the answers of all
-pub record AreKnown (space : Space) (items : List ResolvedItem) (places : List ℕ) (n : ℕ) (a : ItemAnswers) : Type 0 where
+-- of the items before that number, the columns of those at these indexes are known, and the answers of all
+pub record AreKnown (space : Space) (items : List ResolvedItem) (indexes : List ℕ) (n : ℕ) (a : ItemAnswers) : Type 0 where
   pub count : vec_len a.columns ≡ length items
-  pub values : (j : ℕ) → j < n → Contains places j → ColumnsAt a j (IsValued space (reverse (take (suc j) items)) j)
+  pub values : (j : ℕ) → j < n → Contains indexes j → ColumnsAt a j (IsValued space (reverse (take (suc j) items)) j)
   pub empty : (j : ℕ) → n ≤ j → j < length items → ColumnsAt a j (λ cs. cs ≡ [])
   pub said : AreSaid space (reverse (take n items)) (checks_of a) (flags_of a)
 
--- that many of the places are behind, which rise
-pub record AreKnownTo (space : Space) (items : List ResolvedItem) (places : List ℕ) (p : ℕ) (a : ItemAnswers) : Type 0 where
+-- that many of the indexes are behind, which rise
+pub record AreKnownTo (space : Space) (items : List ResolvedItem) (indexes : List ℕ) (p : ℕ) (a : ItemAnswers) : Type 0 where
   pub number : ℕ
   pub within : number ≤ length items
-  pub below : (q d : ℕ) → q < p → slice_index_or places q d < number
-  pub above : (q d : ℕ) → p ≤ q → q < length places → number ≤ slice_index_or places q d
-  pub known : AreKnown space items places number a
+  pub below : (q d : ℕ) → q < p → slice_index_or indexes q d < number
+  pub above : (q d : ℕ) → p ≤ q → q < length indexes → number ≤ slice_index_or indexes q d
+  pub known : AreKnown space items indexes number a

@@ -185,8 +185,8 @@ fn answers<'a>(
     ensures { let items = resolved.now.items.items in AreSound items → IfOk result (λ a. AreSaid space.now (reverse items) (checks_of a) (flags_of a)) }
 {
     let mut answers = no_answers(alloc, resolved.items.len())?;
-    let places = used(alloc, resolved)?;
-    for at in &places {
+    let indexes = used(alloc, resolved)?;
+    for at in &indexes {
         answer_item(alloc, space, *at, &resolved.items[*at], &mut answers)?;
     }
     Ok(answers)

@@ -35,8 +35,8 @@ each_before P (r ∷ items) rs h before =
     let at_start : length rs + 0 ≡ length rs = omega arith in
     let here : P (length rs) r = subst (λ (n : ℕ). P n r) at_start (h 0 r refl) in
     let next : (k : ℕ) (s : ResolvedItem) → slice_get items k ≡ Some s → P (length (r ∷ rs) + k) s = λ k s e.
-    let moved : length rs + suc k ≡ length (r ∷ rs) + k = omega arith in
-    subst (λ (n : ℕ). P n s) moved (h (suc k) s e) in
+    let same_count : length rs + suc k ≡ length (r ∷ rs) + k = omega arith in
+    subst (λ (n : ℕ). P n s) same_count (h (suc k) s e) in
     subst (λ (xs : List ResolvedItem). Each P xs) (sym (reverse_more r items rs)) (each_before P items (r ∷ rs) next (here, before))
 
 pub each_reversed : (P : ℕ → ResolvedItem → Type 0) (items : List ResolvedItem) → ((k : ℕ) (r : ResolvedItem) → slice_get items k ≡ Some r → P k r) → Each P (reverse items)

@@ -28,10 +28,6 @@ pub record Fits (table : Table) (needed : ℕ → Bool) (index : ℕ) (r : Resol
   pub closed : needed index ≡ true → is_node r.role ≡ true → AllByRecursion (λ name. needed name.item ≡ true) r.inputs.items
   pub solved : needed index ≡ true → is_node r.role ≡ true → IsSolvedItem table index r
 
-columns_back : (cs : List Column) → columns_of (map OfColumn cs) ≡ cs
-columns_back [] = refl
-columns_back (c ∷ cs) = ap (λ (l : List Column). c ∷ l) (columns_back cs)
-
 column_there : (cs : List Column) (k : ℕ) (v : NodeContent) → slice_get (map OfColumn cs) k ≡ Some v → (c : Column) × (slice_get cs k ≡ Some c) × (v ≡ OfColumn c)
 column_there [] k v e = absurd (none-some v e)
 column_there (c ∷ cs) zero v e = (c, refl, let same : Some (OfColumn c) ≡ Some v = e in cc)

@@ -17,7 +17,7 @@ use Rattle.ppc_semantics.specs.declared.fault.DomainRefusal.{DomainRefusal}
 use Rattle.ppc_semantics.specs.declared.fault.DomainRefusal.TheVariants as domains
 use Rattle.candidates.specs.Executions.{Execution}
 use Rattle.candidates.specs.Listed.{ListsExecutions, AreTestExecutions, HasNoDomain, IsRefusal}
-use Rattle.execution_laws.proofs.Outcomes.{shown_alike}
+use Rattle.candidates.proofs.Outcomes.{shown_alike}
 use Rattle.node_values.specs.Laws.{HasOneSpace, IsOfEachTest}
 use Rattle.node_values.specs.Parts.{SpacePartsContent, HasParts}
 use Rattle.node_values.specs.Spaces.{space_content}

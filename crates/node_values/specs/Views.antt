@@ -9,16 +9,16 @@ use Rattle.node_values.specs.declared.given.GivenParts.{GivenParts}
 use Rattle.node_values.specs.declared.given.GivenParts.TheVariants as givens
 use Rattle.node_values.specs.declared.given.SpaceParts.{SpaceParts}
 use Rattle.node_values.specs.declared.given.VerdictParts.{VerdictParts}
-use Rattle.node_values.specs.declared.value.Held.{Held}
-use Rattle.node_values.specs.declared.value.Held.TheVariants as held
+use Rattle.node_values.specs.declared.value.ValueContent.{ValueContent}
+use Rattle.node_values.specs.declared.value.ValueContent.TheVariants as contents
 
-abbrev pub held_content : Held → NodeContent
-held_content (held.Space space) = OfSpace (space_content space)
-held_content (held.Refused refusal) = OfRefusal refusal
-held_content (held.Column column) = OfColumn column
-held_content (held.Check answers) = OfCheck answers.items
-held_content (held.Flag answers) = OfFlag answers.items
-held_content (held.Outcome outcome) = OfOutcome outcome
+abbrev pub value_content : ValueContent → NodeContent
+value_content (contents.Space space) = OfSpace (space_content space)
+value_content (contents.Refused refusal) = OfRefusal refusal
+value_content (contents.Column column) = OfColumn column
+value_content (contents.Check answers) = OfCheck answers.items
+value_content (contents.Flag answers) = OfFlag answers.items
+value_content (contents.Outcome outcome) = OfOutcome outcome
 
 abbrev pub space_parts : SpaceParts → SpacePartsContent
 space_parts p = parts_of p.init.items p.threads.items p.locations.items

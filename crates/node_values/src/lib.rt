@@ -15,4 +15,4 @@ pub use given::{FaultParts, Given, GivenParts, SpaceParts, VerdictParts};
 pub use items::SharedItem;
 pub use run::run_node;
 pub use same::same_role;
-pub use value::{Held, NodeValue};
+pub use value::{NodeValue, ValueContent};

@@ -12,7 +12,7 @@ ghost use Rattle.node_values.specs.Makes.{IsSpaceValue, IsMadeBy, HasColumns, Ha
 ghost use Rattle.node_values.specs.Parts.{HasParts};
 ghost use Rattle.node_values.specs.Spaces.{space_content, no_executions};
 ghost use Rattle.node_values.specs.Values.{NodeContent, OfColumn, OfOutcome, first_space, space_of, refusal_of, columns_of, checks_of, flags_of};
-ghost use Rattle.node_values.specs.Views.{held_content, given_content, space_parts, verdict_parts, fault_parts};
+ghost use Rattle.node_values.specs.Views.{value_content, given_content, space_parts, verdict_parts, fault_parts};
 
 use crate::given::{FaultParts, Given, GivenParts, SpaceParts, VerdictParts};
 use crate::value::NodeValue;

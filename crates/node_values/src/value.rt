@@ -3,7 +3,7 @@
 ghost use Rattle.std.specs.Prelude.{◌≡◌, ◌↔◌, IsTrue, option_map};
 ghost use Rattle.node_values.specs.Spaces.{space_content};
 ghost use Rattle.node_values.specs.Values.{OfSpace, OfRefusal, OfColumn, OfCheck, OfFlag, OfOutcome, space_in, column_in, check_in, flag_in, outcome_in, refusal_in};
-ghost use Rattle.node_values.specs.Views.{held_content};
+ghost use Rattle.node_values.specs.Views.{value_content};
 
 use candidates::{EvalRefusal, Space};
 use cat_eval::Column;
@@ -12,7 +12,7 @@ use verdict::Outcome;
 
 /// What a node holds.
 #[derive(Drop)]
-pub enum Held {
+pub enum ValueContent {
     /// The space of a test.
     Space(Space),
     /// Why a test has no space.
@@ -30,7 +30,7 @@ pub enum Held {
 /// The value of a node. Contracts see it as plain data: two that show the same are equal.
 #[derive(Drop)]
 pub struct NodeValue {
-    held: Held,
+    content: ValueContent,
 }
 
 impl Model for NodeValue {
@@ -38,9 +38,9 @@ impl Model for NodeValue {
 
     ghost Value = { NodeContent };
 
-    ghost use Rattle.node_values.specs.Views.{held_content};
+    ghost use Rattle.node_values.specs.Views.{value_content};
 
-    ghost view = { λ v. held_content v.held };
+    ghost view = { λ v. value_content v.content };
 }
 
 fn same_answers(these: &[bool], those: &[bool]) -> bool
@@ -49,175 +49,175 @@ fn same_answers(these: &[bool], those: &[bool]) -> bool
     these == those
 }
 
-impl Held {
+impl ValueContent {
     fn space(&self) -> Option<&Space>
-        ensures { option_map (λ s. space_content s.now) result ≡ space_in (held_content self.now) }
+        ensures { option_map (λ s. space_content s.now) result ≡ space_in (value_content self.now) }
     {
         match self {
-            Held::Space(space) => Some(space),
-            Held::Refused(_) => None,
-            Held::Column(_) => None,
-            Held::Check(_) => None,
-            Held::Flag(_) => None,
-            Held::Outcome(_) => None,
+            ValueContent::Space(space) => Some(space),
+            ValueContent::Refused(_) => None,
+            ValueContent::Column(_) => None,
+            ValueContent::Check(_) => None,
+            ValueContent::Flag(_) => None,
+            ValueContent::Outcome(_) => None,
         }
     }
 
     fn column(&self) -> Option<&Column>
-        ensures { option_map (λ c. c.now) result ≡ column_in (held_content self.now) }
+        ensures { option_map (λ c. c.now) result ≡ column_in (value_content self.now) }
     {
         match self {
-            Held::Column(column) => Some(column),
-            Held::Space(_) => None,
-            Held::Refused(_) => None,
-            Held::Check(_) => None,
-            Held::Flag(_) => None,
-            Held::Outcome(_) => None,
+            ValueContent::Column(column) => Some(column),
+            ValueContent::Space(_) => None,
+            ValueContent::Refused(_) => None,
+            ValueContent::Check(_) => None,
+            ValueContent::Flag(_) => None,
+            ValueContent::Outcome(_) => None,
         }
     }
 
     fn check(&self) -> Option<&[bool]>
-        ensures { option_map (λ c. c.now) result ≡ check_in (held_content self.now) }
+        ensures { option_map (λ c. c.now) result ≡ check_in (value_content self.now) }
     {
         match self {
-            Held::Check(answers) => Some(answers.as_slice()),
-            Held::Space(_) => None,
-            Held::Refused(_) => None,
-            Held::Column(_) => None,
-            Held::Flag(_) => None,
-            Held::Outcome(_) => None,
+            ValueContent::Check(answers) => Some(answers.as_slice()),
+            ValueContent::Space(_) => None,
+            ValueContent::Refused(_) => None,
+            ValueContent::Column(_) => None,
+            ValueContent::Flag(_) => None,
+            ValueContent::Outcome(_) => None,
         }
     }
 
     fn flag(&self) -> Option<&[bool]>
-        ensures { option_map (λ c. c.now) result ≡ flag_in (held_content self.now) }
+        ensures { option_map (λ c. c.now) result ≡ flag_in (value_content self.now) }
     {
         match self {
-            Held::Flag(answers) => Some(answers.as_slice()),
-            Held::Space(_) => None,
-            Held::Refused(_) => None,
-            Held::Column(_) => None,
-            Held::Check(_) => None,
-            Held::Outcome(_) => None,
+            ValueContent::Flag(answers) => Some(answers.as_slice()),
+            ValueContent::Space(_) => None,
+            ValueContent::Refused(_) => None,
+            ValueContent::Column(_) => None,
+            ValueContent::Check(_) => None,
+            ValueContent::Outcome(_) => None,
         }
     }
 
     fn outcome(&self) -> Option<&Outcome>
-        ensures { option_map (λ o. o.now) result ≡ outcome_in (held_content self.now) }
+        ensures { option_map (λ o. o.now) result ≡ outcome_in (value_content self.now) }
     {
         match self {
-            Held::Outcome(outcome) => Some(outcome),
-            Held::Space(_) => None,
-            Held::Refused(_) => None,
-            Held::Column(_) => None,
-            Held::Check(_) => None,
-            Held::Flag(_) => None,
+            ValueContent::Outcome(outcome) => Some(outcome),
+            ValueContent::Space(_) => None,
+            ValueContent::Refused(_) => None,
+            ValueContent::Column(_) => None,
+            ValueContent::Check(_) => None,
+            ValueContent::Flag(_) => None,
         }
     }
 
     fn refusal(&self) -> Option<EvalRefusal>
-        ensures { result ≡ refusal_in (held_content self.now) }
+        ensures { result ≡ refusal_in (value_content self.now) }
     {
         match self {
-            Held::Refused(refusal) => Some(*refusal),
-            Held::Space(_) => None,
-            Held::Column(_) => None,
-            Held::Check(_) => None,
-            Held::Flag(_) => None,
-            Held::Outcome(_) => None,
+            ValueContent::Refused(refusal) => Some(*refusal),
+            ValueContent::Space(_) => None,
+            ValueContent::Column(_) => None,
+            ValueContent::Check(_) => None,
+            ValueContent::Flag(_) => None,
+            ValueContent::Outcome(_) => None,
         }
     }
 }
 
-impl Held {
+impl ValueContent {
     fn is_space(&self, space: &Space) -> bool
-        ensures { IsTrue result ↔ (OfSpace (space_content space.now) ≡ held_content self.now) }
+        ensures { IsTrue result ↔ (OfSpace (space_content space.now) ≡ value_content self.now) }
     {
         match self {
-            Held::Space(other) => space.is_same(other),
-            Held::Refused(_) => false,
-            Held::Column(_) => false,
-            Held::Check(_) => false,
-            Held::Flag(_) => false,
-            Held::Outcome(_) => false,
+            ValueContent::Space(other) => space.is_same(other),
+            ValueContent::Refused(_) => false,
+            ValueContent::Column(_) => false,
+            ValueContent::Check(_) => false,
+            ValueContent::Flag(_) => false,
+            ValueContent::Outcome(_) => false,
         }
     }
 
     fn is_refusal(&self, refusal: EvalRefusal) -> bool
-        ensures { IsTrue result ↔ (OfRefusal refusal ≡ held_content self.now) }
+        ensures { IsTrue result ↔ (OfRefusal refusal ≡ value_content self.now) }
     {
         match self {
-            Held::Space(_) => false,
-            Held::Refused(other) => refusal == *other,
-            Held::Column(_) => false,
-            Held::Check(_) => false,
-            Held::Flag(_) => false,
-            Held::Outcome(_) => false,
+            ValueContent::Space(_) => false,
+            ValueContent::Refused(other) => refusal == *other,
+            ValueContent::Column(_) => false,
+            ValueContent::Check(_) => false,
+            ValueContent::Flag(_) => false,
+            ValueContent::Outcome(_) => false,
         }
     }
 
     fn is_column(&self, column: &Column) -> bool
-        ensures { IsTrue result ↔ (OfColumn column.now ≡ held_content self.now) }
+        ensures { IsTrue result ↔ (OfColumn column.now ≡ value_content self.now) }
     {
         match self {
-            Held::Space(_) => false,
-            Held::Refused(_) => false,
-            Held::Column(other) => column.is_same(other),
-            Held::Check(_) => false,
-            Held::Flag(_) => false,
-            Held::Outcome(_) => false,
+            ValueContent::Space(_) => false,
+            ValueContent::Refused(_) => false,
+            ValueContent::Column(other) => column.is_same(other),
+            ValueContent::Check(_) => false,
+            ValueContent::Flag(_) => false,
+            ValueContent::Outcome(_) => false,
         }
     }
 
     fn is_check(&self, answers: &[bool]) -> bool
-        ensures { IsTrue result ↔ (OfCheck answers.now ≡ held_content self.now) }
+        ensures { IsTrue result ↔ (OfCheck answers.now ≡ value_content self.now) }
     {
         match self {
-            Held::Space(_) => false,
-            Held::Refused(_) => false,
-            Held::Column(_) => false,
-            Held::Check(other) => same_answers(answers, other),
-            Held::Flag(_) => false,
-            Held::Outcome(_) => false,
+            ValueContent::Space(_) => false,
+            ValueContent::Refused(_) => false,
+            ValueContent::Column(_) => false,
+            ValueContent::Check(other) => same_answers(answers, other),
+            ValueContent::Flag(_) => false,
+            ValueContent::Outcome(_) => false,
         }
     }
 
     fn is_flag(&self, answers: &[bool]) -> bool
-        ensures { IsTrue result ↔ (OfFlag answers.now ≡ held_content self.now) }
+        ensures { IsTrue result ↔ (OfFlag answers.now ≡ value_content self.now) }
     {
         match self {
-            Held::Space(_) => false,
-            Held::Refused(_) => false,
-            Held::Column(_) => false,
-            Held::Check(_) => false,
-            Held::Flag(other) => same_answers(answers, other),
-            Held::Outcome(_) => false,
+            ValueContent::Space(_) => false,
+            ValueContent::Refused(_) => false,
+            ValueContent::Column(_) => false,
+            ValueContent::Check(_) => false,
+            ValueContent::Flag(other) => same_answers(answers, other),
+            ValueContent::Outcome(_) => false,
         }
     }
 
     fn is_outcome(&self, outcome: &Outcome) -> bool
-        ensures { IsTrue result ↔ (OfOutcome outcome.now ≡ held_content self.now) }
+        ensures { IsTrue result ↔ (OfOutcome outcome.now ≡ value_content self.now) }
     {
         match self {
-            Held::Space(_) => false,
-            Held::Refused(_) => false,
-            Held::Column(_) => false,
-            Held::Check(_) => false,
-            Held::Flag(_) => false,
-            Held::Outcome(other) => outcome.is_same(other),
+            ValueContent::Space(_) => false,
+            ValueContent::Refused(_) => false,
+            ValueContent::Column(_) => false,
+            ValueContent::Check(_) => false,
+            ValueContent::Flag(_) => false,
+            ValueContent::Outcome(other) => outcome.is_same(other),
         }
     }
 
-    fn is_same(&self, other: &Held) -> bool
-        ensures { IsTrue result ↔ (held_content self.now ≡ held_content other.now) }
+    fn is_same(&self, other: &ValueContent) -> bool
+        ensures { IsTrue result ↔ (value_content self.now ≡ value_content other.now) }
     {
         match self {
-            Held::Space(space) => other.is_space(space),
-            Held::Refused(refusal) => other.is_refusal(*refusal),
-            Held::Column(column) => other.is_column(column),
-            Held::Check(answers) => other.is_check(answers),
-            Held::Flag(answers) => other.is_flag(answers),
-            Held::Outcome(outcome) => other.is_outcome(outcome),
+            ValueContent::Space(space) => other.is_space(space),
+            ValueContent::Refused(refusal) => other.is_refusal(*refusal),
+            ValueContent::Column(column) => other.is_column(column),
+            ValueContent::Check(answers) => other.is_check(answers),
+            ValueContent::Flag(answers) => other.is_flag(answers),
+            ValueContent::Outcome(outcome) => other.is_outcome(outcome),
         }
     }
 }
@@ -227,7 +227,7 @@ impl NodeValue {
     pub fn is_same(&self, other: &NodeValue) -> bool
         ensures { IsTrue result ↔ (self.now ≡ other.now) }
     {
-        self.held.is_same(&other.held)
+        self.content.is_same(&other.content)
     }
 
     /// The value of a node of spaces.
@@ -235,7 +235,7 @@ impl NodeValue {
         ensures { result ≡ OfSpace (space_content space) }
     {
         NodeValue {
-            held: Held::Space(space),
+            content: ValueContent::Space(space),
         }
     }
 
@@ -244,7 +244,7 @@ impl NodeValue {
         ensures { result ≡ OfRefusal refusal }
     {
         NodeValue {
-            held: Held::Refused(refusal),
+            content: ValueContent::Refused(refusal),
         }
     }
 
@@ -253,7 +253,7 @@ impl NodeValue {
         ensures { result ≡ OfColumn column }
     {
         NodeValue {
-            held: Held::Column(column),
+            content: ValueContent::Column(column),
         }
     }
 
@@ -262,7 +262,7 @@ impl NodeValue {
         ensures { result ≡ OfCheck answers.items }
     {
         NodeValue {
-            held: Held::Check(answers),
+            content: ValueContent::Check(answers),
         }
     }
 
@@ -271,7 +271,7 @@ impl NodeValue {
         ensures { result ≡ OfFlag answers.items }
     {
         NodeValue {
-            held: Held::Flag(answers),
+            content: ValueContent::Flag(answers),
         }
     }
 
@@ -280,7 +280,7 @@ impl NodeValue {
         ensures { result ≡ OfOutcome outcome }
     {
         NodeValue {
-            held: Held::Outcome(outcome),
+            content: ValueContent::Outcome(outcome),
         }
     }
 
@@ -288,41 +288,41 @@ impl NodeValue {
     pub fn space(&self) -> Option<&Space>
         ensures { option_map (λ s. space_content s.now) result ≡ space_in self.now }
     {
-        self.held.space()
+        self.content.space()
     }
 
     /// The column, if it is one.
     pub fn column(&self) -> Option<&Column>
         ensures { option_map (λ c. c.now) result ≡ column_in self.now }
     {
-        self.held.column()
+        self.content.column()
     }
 
     /// The answers of a check, if it holds such.
     pub fn check(&self) -> Option<&[bool]>
         ensures { option_map (λ c. c.now) result ≡ check_in self.now }
     {
-        self.held.check()
+        self.content.check()
     }
 
     /// The answers of a flag, if it holds such.
     pub fn flag(&self) -> Option<&[bool]>
         ensures { option_map (λ c. c.now) result ≡ flag_in self.now }
     {
-        self.held.flag()
+        self.content.flag()
     }
 
     /// The outcome, if it is one.
     pub fn outcome(&self) -> Option<&Outcome>
         ensures { option_map (λ o. o.now) result ≡ outcome_in self.now }
     {
-        self.held.outcome()
+        self.content.outcome()
     }
 
     /// Why a test has no space, if it says so.
     pub fn refusal(&self) -> Option<EvalRefusal>
         ensures { result ≡ refusal_in self.now }
     {
-        self.held.refusal()
+        self.content.refusal()
     }
 }

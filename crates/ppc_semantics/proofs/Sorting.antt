@@ -77,9 +77,6 @@ added_noted xs zs name i new = subst (λ (ws : List (List ℕ)). Adds (name ∷ 
       );
 })
 
-pub adds_none : (xs : List (List ℕ)) → Adds [] xs xs
-adds_none xs = record { exact = λ n. ((λ w. inl w), (λ w. elim w [ inl u ↦ u | inr none ↦ absurd (let below = none.1 in omega arith) ])) }
-
 pub adds_after : (a b x y z : List (List ℕ)) → Adds a x y → Adds b y z → Adds (a ++ b) x z
 adds_after a b x y z p q = record {
   exact = λ n. (

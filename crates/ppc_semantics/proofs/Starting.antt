@@ -67,7 +67,7 @@ none_in (Number n) = 0
 none_in (Address l) = 0
 
 -- the number of a name that is there
-is_equal : (o : Ordering) → is_eq o ≡ true → o ≡ Equal
+pub is_equal : (o : Ordering) → is_eq o ≡ true → o ≡ Equal
 is_equal Less e = absurd (let f : zero ≡ suc zero = ap (λ (b : Bool). if b then suc zero else zero) e in omega arith)
 is_equal Equal e = refl
 is_equal Greater e = absurd (let f : zero ≡ suc zero = ap (λ (b : Bool). if b then suc zero else zero) e in omega arith)

@@ -7,7 +7,7 @@ use std::alloc::{AllocError, Global};
 
 fn put_fault(answer: &mut Vec<u8>, fault: CatFault) -> Result<(), AllocError> {
     match fault {
-        CatFault::Refused { rule, place } => put_refusal(answer, b"C", rule.number(), place),
+        CatFault::Refused { rule, offset } => put_refusal(answer, b"C", rule.number(), offset),
         CatFault::OutOfMemory(error) => Err(error),
     }
 }
@@ -61,9 +61,9 @@ pub fn put_printed(alloc: Global, answer: &mut Vec<u8>, text: &[u8]) -> Result<(
 fn cut_letter(alloc: Global, text: &[u8]) -> Result<u8, AllocError> {
     match read_model(alloc, text) {
         Ok(_) => Ok(b'.'),
-        Err(CatFault::Refused { rule, place }) => {
-            let before = text.len().saturating_sub(place);
-            if rule == CatRule::Syntax && place <= text.len() && before < 26 {
+        Err(CatFault::Refused { rule, offset }) => {
+            let before = text.len().saturating_sub(offset);
+            if rule == CatRule::Syntax && offset <= text.len() && before < 26 {
                 Ok(b'A' + before as u8)
             } else {
                 Ok(b'?')

@@ -18,7 +18,7 @@ fn put_outcome<T: Drop>(
 
 fn put_fault(answer: &mut Vec<u8>, fault: LitmusFault) -> Result<(), AllocError> {
     match fault {
-        LitmusFault::Refused { rule, place } => put_refusal(answer, b"L", rule.number(), place),
+        LitmusFault::Refused { rule, offset } => put_refusal(answer, b"L", rule.number(), offset),
         LitmusFault::OutOfMemory(_) => Err(AllocError),
     }
 }
@@ -78,8 +78,8 @@ fn number_letter(rule: LitmusRule) -> u8 {
 fn cut_letters(alloc: Global, text: &[u8]) -> Result<(u8, u8), AllocError> {
     match read_test(alloc, text) {
         Ok(_) => Ok((b'.', b'.')),
-        Err(LitmusFault::Refused { rule, place }) => {
-            let before = text.len().saturating_sub(place);
+        Err(LitmusFault::Refused { rule, offset }) => {
+            let before = text.len().saturating_sub(offset);
             Ok((number_letter(rule), b'0' + before.min(9) as u8))
         }
         Err(LitmusFault::OutOfMemory(_)) => Err(AllocError),
@@ -104,7 +104,7 @@ fn put_cuts(alloc: Global, answer: &mut Vec<u8>, text: &[u8]) -> Result<(), Allo
 /// Where a text is refused, and past its end where it is read.
 fn offset_of(alloc: Global, text: &[u8]) -> usize {
     match read_test(alloc, text) {
-        Err(LitmusFault::Refused { place, .. }) => place,
+        Err(LitmusFault::Refused { offset, .. }) => offset,
         _ => usize::MAX,
     }
 }

@@ -4,6 +4,7 @@ use Rattle.std.specs.Prelude.{Option, Some, None, slice_index, ◌==◌, ◌&&�
 use Rattle.std.proofs.lemmas.Bool.Decides.{nat_tests}
 use Rattle.source_text.specs.Layout.{comment_from, comment_through, comment_of}
 use Rattle.text_laws.specs.Comments.{begins_comment, ends_comment, Inside, Nothing, Byte, Nested, spelled, IsPlain, BeginsWithComment}
+use Rattle.std.proofs.lemmas.Bool.{or_parts}
 
 abbrev size : Inside → ℕ
 size Nothing = 0
@@ -52,14 +53,10 @@ no_turn d n = refl
 
 -- ---- a comment is read
 
-neither : (x y : Bool) → (x || y) ≡ false → (x ≡ false) × (y ≡ false)
-neither true y h = absurd cc
-neither false y h = (refl, h)
-
 inside_read : (i : Inside) (d n : ℕ) (rest : List ℕ) → IsPlain i rest → comment_from 0 (suc d) n (spelled i rest) ≡ comment_from 0 (suc d) (n + size i) rest
 inside_read Nothing d n rest h = ap (λ (k : ℕ). comment_from 0 (suc d) k rest) (omega arith)
 inside_read (Byte b more) d n rest h =
-    let x = neither (begins_comment (b ∷ spelled more rest)) (ends_comment (b ∷ spelled more rest)) h.0 in
+    let x = or_parts (begins_comment (b ∷ spelled more rest)) (ends_comment (b ∷ spelled more rest)) h.0 in
     plain_turn (suc d) n b (spelled more rest) x.0 x.1 ∙ inside_read more d (n + 1) rest h.1 ∙ ap (λ (k : ℕ). comment_from 0 (suc d) k rest) (omega arith)
 inside_read (Nested inner more) d n rest h =
     open_turn (suc d) n (spelled inner (42 ∷ 41 ∷ spelled more rest))

@@ -2,7 +2,7 @@
 use Rattle.std.proofs.Common.{◌≡◌, ℕ, suc, ◌+◌, ◌<◌, ◌≤◌, ◌⊎◌, inl, inr, Bool, true, false, List, [], ◌∷◌, ◌++◌, length, get_or, take, drop, refl, sym, ap, ◌∙◌, arith}
 use Rattle.std.specs.Prelude.{slice_index, ◌==◌, ◌&&◌, ◌||◌, not, if◌then◌else◌}
 use Rattle.std.specs.List.{position_or_len}
-use Rattle.std.proofs.lemmas.Bool.{cases_lt}
+use Rattle.std.proofs.lemmas.Bool.{cases_lt, false_from_ne_true}
 use Rattle.std.proofs.lemmas.Bool.Decides.{nat_tests}
 use Rattle.std.proofs.lemmas.List.{length-take, length-append, get_or-take, get_or_append_left, take_more}
 use Rattle.std.proofs.lemmas.List.Sums.{fails_before_first, passes_at_first, prefix_len-le-length, position_or_len_is}
@@ -12,9 +12,6 @@ use Rattle.text_laws.proofs.Nesting.{equal}
 
 pub other : (b c : ℕ) → (b ≡ c → ⊥) → (b == c) ≡ false
 other b c h = grind (arith, nat_tests)
-
-pub neither_of : (x y : Bool) → x ≡ false → (x && y) ≡ false
-neither_of x y e = ap (λ (z : Bool). z && y) e
 
 pub clash : (x : Bool) → x ≡ true → not x ≡ true → ⊥
 clash true e k = absurd cc
@@ -93,9 +90,6 @@ pub tested : {A : Type 0} (P : A → Type 0) (b : Bool) (x y : A) → (b ≡ tru
 tested P true x y p q = p refl
 tested P false x y p q = q refl
 
-pub or_false : (x y : Bool) → x ≡ false → y ≡ false → (x || y) ≡ false
-or_false x y e f = ap (λ (z : Bool). z || y) e ∙ f
-
 pub or_first : (x y : Bool) → (x || y) ≡ false → x ≡ false
 or_first true y e = absurd cc
 or_first false y e = refl
@@ -113,11 +107,6 @@ when_true x a b e = ap (λ (y : Bool). if y then a else b) e
 
 pub when_false : {A : Type 0} (x : Bool) (a b : A) → x ≡ false → (if x then a else b) ≡ b
 when_false x a b e = ap (λ (y : Bool). if y then a else b) e
-
--- a test fails that cannot pass
-pub fails : (x : Bool) → (x ≡ true → ⊥) → x ≡ false
-fails true h = absurd (h refl)
-fails false h = refl
 
 -- where the first quote stands
 pub quote_size : (inside rest : List ℕ) → LacksQuote inside → position_or_len is_quote (inside ++ 34 ∷ rest) ≡ length inside

@@ -9,10 +9,7 @@ use Rattle.thread_runs.specs.declared.instruction.Line.TheVariants.{Label, Does}
 use Rattle.thread_runs.specs.declared.free.FreeWalk.{FreeWalk}
 use Rattle.thread_runs.specs.Machine.{is_load, is_branch}
 use Rattle.thread_runs.specs.FreeWalks.{over, over_line, does_next, next_on, next_of}
-
-same_lists : {A B : Type 0} (f g : A → List B) (xs : List A) → ((x : A) → f x ≡ g x) → flat_map f xs ≡ flat_map g xs
-same_lists f g [] same = refl
-same_lists f g (x ∷ xs) same = let e = same x in let r : flat_map f xs ≡ flat_map g xs = same_lists f g xs same in cc
+use Rattle.thread_runs.proofs.RunList.{flat_map_same}
 
 module _ (V : List Value) (on there : Bool) (ws : List FreeWalk) where
   label_one : (m : ℕ) (sk : Option ℕ) (w : FreeWalk) → next_on V on there sk (Label m) w ≡ over_line sk (Label m) w ∷ []
@@ -24,7 +21,7 @@ module _ (V : List Value) (on there : Bool) (ws : List FreeWalk) where
   plain_one i None w d b = ap (λ (t : Bool). does_next t (is_branch i) V on there i w) d ∙ ap (λ (t : Bool). does_next false t V on there i w) b
 
   pub label_on : (x : Line) (m : ℕ) (new : List FreeWalk) → x ≡ Label m → new ≡ map (over x) ws → new ≡ flat_map (next_of V on there x) ws
-  label_on x m new e n = n ∙ sym (flat_map_single (over x) ws) ∙ sym (same_lists (next_of V on there x) (λ w. over x w ∷ []) ws (λ w. subst (λ (y : Line). next_of V on there y w ≡ over y w ∷ []) (sym e) (label_one m w.seeking w)))
+  label_on x m new e n = n ∙ sym (flat_map_single (over x) ws) ∙ sym (flat_map_same (next_of V on there x) (λ w. over x w ∷ []) ws (λ w. subst (λ (y : Line). next_of V on there y w ≡ over y w ∷ []) (sym e) (label_one m w.seeking w)))
 
   pub plain_on : (x : Line) (i : Instruction) (new : List FreeWalk) → x ≡ Does i → is_load i ≡ false → is_branch i ≡ false → new ≡ map (over (Does i)) ws → new ≡ flat_map (next_of V on there x) ws
-  plain_on x i new e d b n = n ∙ ap (λ (y : Line). map (over y) ws) (sym e) ∙ sym (flat_map_single (over x) ws) ∙ sym (same_lists (next_of V on there x) (λ w. over x w ∷ []) ws (λ w. subst (λ (y : Line). next_of V on there y w ≡ over y w ∷ []) (sym e) (plain_one i w.seeking w d b)))
+  plain_on x i new e d b n = n ∙ ap (λ (y : Line). map (over y) ws) (sym e) ∙ sym (flat_map_single (over x) ws) ∙ sym (flat_map_same (next_of V on there x) (λ w. over x w ∷ []) ws (λ w. subst (λ (y : Line). next_of V on there y w ≡ over y w ∷ []) (sym e) (plain_one i w.seeking w d b)))

@@ -34,7 +34,7 @@ pre_end p q (Some f) = Some (ended f.faulted (pre p q f.walk))
 abbrev so_walked : State → Option ℕ → List RunStep → List Event → Walk
 so_walked s k p q = record { state = s; seeking = k; steps = p; events = q }
 
-abbrev step_of : Instruction → Value → RunStep
+abbrev pub step_of : Instruction → Value → RunStep
 step_of i v = record { instruction = i; loaded = v }
 
 advanced_pre : (i : Instruction) (b : Bool) (v : Value) (p : List RunStep) (q : List Event) (w : Walk) → advanced i b v (pre p q w) ≡ pre p q (advanced i b v w)

@@ -16,7 +16,7 @@ pub flat_map-flat_map : {A B C : Type 0} (f : B → List C) (g : A → List B) (
 flat_map-flat_map f g [] = refl
 flat_map-flat_map f g (x ∷ xs) = flat_map-append f (g x) (flat_map g xs) ∙ ap (λ (ys : List _). flat_map f (g x) ++ ys) (flat_map-flat_map f g xs)
 
-flat_map_same : {A B : Type 0} (f g : A → List B) (xs : List A) → ((x : A) → f x ≡ g x) → flat_map f xs ≡ flat_map g xs
+pub flat_map_same : {A B : Type 0} (f g : A → List B) (xs : List A) → ((x : A) → f x ≡ g x) → flat_map f xs ≡ flat_map g xs
 flat_map_same f g [] same = refl
 flat_map_same f g (x ∷ xs) same = let e = same x in let r : flat_map f xs ≡ flat_map g xs = flat_map_same f g xs same in cc
 

@@ -66,8 +66,8 @@ next_of V on there x w = next_on V on there w.seeking x w
 
 -- whether free runs go on behind a line
 abbrev pub goes_by : ℕ → List Line → Bool → Line → Bool
-goes_by size xs taken (Label m) = false
-goes_by size xs taken (Does i) = nat_lt 0 (count_free size xs (target i taken))
+goes_by size xs jumps (Label m) = false
+goes_by size xs jumps (Does i) = nat_lt 0 (count_free size xs (target i jumps))
 
 -- some of the walks stores the value on the line
 abbrev pub SomeStores : Line → List FreeWalk → Value → Type 0

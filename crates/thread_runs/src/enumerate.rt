@@ -69,8 +69,8 @@ impl Beginning {
                     if self.walk.is_fault(instruction) {
                         self.stopped = true;
                     } else {
-                        let taken = self.walk.goes(instruction);
-                        self.walk.advance(instruction, taken, Value::NoValue)?;
+                        let jumps = self.walk.goes(instruction);
+                        self.walk.advance(instruction, jumps, Value::NoValue)?;
                     }
                 }
             },

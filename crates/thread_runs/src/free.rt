@@ -163,19 +163,19 @@ impl FreeWalk {
     ghost use Rattle.thread_runs.specs.FreeWalks as free;
 
     /// One instruction more.
-    fn advance(&mut self, instruction: Instruction, taken: bool, loaded: Value)
-        ensures { self.new ≡ free.walked instruction taken loaded self.old }
+    fn advance(&mut self, instruction: Instruction, jumps: bool, loaded: Value)
+        ensures { self.new ≡ free.walked instruction jumps loaded self.old }
     {
         apply(instruction, loaded, &mut self.state);
-        self.seeking = target(instruction, taken);
+        self.seeking = target(instruction, jumps);
     }
 
     /// What it becomes by one instruction.
-    fn advanced(&self, instruction: Instruction, taken: bool, loaded: Value) -> FreeWalk
-        ensures { result ≡ free.walked instruction taken loaded self.now }
+    fn advanced(&self, instruction: Instruction, jumps: bool, loaded: Value) -> FreeWalk
+        ensures { result ≡ free.walked instruction jumps loaded self.now }
     {
         let mut walk = *self;
-        walk.advance(instruction, taken, loaded);
+        walk.advance(instruction, jumps, loaded);
         walk
     }
 
@@ -368,16 +368,16 @@ fn goes_by(
     size: usize,
     from: usize,
     line: Line,
-    taken: bool,
+    jumps: bool,
 ) -> bool
     requires within { from ≤ length lines.now }
     requires counted { AreCounts lines.now size counts.now from }
-    ensures { result ≡ free.goes_by size (drop from lines.now) taken line }
+    ensures { result ≡ free.goes_by size (drop from lines.now) jumps line }
 {
     match line {
         Line::Label(_) => false,
         Line::Does(instruction) => {
-            count_on(lines, counts, size, from, target(instruction, taken)) > 0
+            count_on(lines, counts, size, from, target(instruction, jumps)) > 0
         }
     }
 }

@@ -211,11 +211,11 @@ pub fn goes(instruction: Instruction, state: &State) -> bool
 }
 
 /// The label at which the thread goes on, or `None` if it goes on at the next line.
-pub fn target(instruction: Instruction, taken: bool) -> Option<usize>
-    ensures { result ≡ machine.target instruction taken }
+pub fn target(instruction: Instruction, jumps: bool) -> Option<usize>
+    ensures { result ≡ machine.target instruction jumps }
 {
     match instruction {
-        Instruction::Branch(_, label) => { if taken { Some(label) } else { None } }
+        Instruction::Branch(_, label) => { if jumps { Some(label) } else { None } }
         Instruction::Jump(label) => Some(label),
         _ => None,
     }

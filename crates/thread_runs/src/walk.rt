@@ -54,10 +54,10 @@ impl Walk {
     pub fn advance(
         &mut self,
         instruction: Instruction,
-        taken: bool,
+        jumps: bool,
         loaded: Value,
     ) -> Result<(), AllocError>
-        ensures { OnOk result (self.new ≡ runs.advanced instruction taken loaded self.old) }
+        ensures { OnOk result (self.new ≡ runs.advanced instruction jumps loaded self.old) }
     {
         if let Some(event) = event(instruction, loaded, &self.state) {
             self.events.push(event)?;
@@ -67,7 +67,7 @@ impl Walk {
             loaded,
         })?;
         apply(instruction, loaded, &mut self.state);
-        self.seeking = target(instruction, taken);
+        self.seeking = target(instruction, jumps);
         Ok(())
     }
 

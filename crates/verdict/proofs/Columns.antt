@@ -3,9 +3,10 @@ use Rattle.std.proofs.Common.{ℕ, suc, ◌+◌, ◌-◌, ◌<◌, ◌≤◌, Bo
 use Rattle.std.proofs.lemmas.List.{take_more, append-nil, length-map, length-take-le, length-append, get_or-drop, drop-drop, drop_all}
 use Rattle.std.proofs.lemmas.Bool.{cases_lt}
 use Rattle.std.proofs.lemmas.List.Concat.{flat_map-append}
-use Rattle.candidates.specs.Lists.{lists_of}
-use Rattle.candidates.specs.Space.{pairs, candidates_of, candidates_in}
-use Rattle.candidates.specs.declared.candidate.Combination.{Combination}
+use Rattle.run_combinations.specs.Lists.{lists_of}
+use Rattle.run_combinations.specs.Combinations.{pairs, candidates_of}
+use Rattle.candidates.specs.Space.{candidates_in}
+use Rattle.run_combinations.specs.declared.combination.Combination.{Combination}
 use Rattle.verdict.specs.Kept.{holds_at}
 use Rattle.verdict.specs.Counting.{count_kept, count_column}
 

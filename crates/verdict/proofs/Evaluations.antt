@@ -33,11 +33,12 @@ use Rattle.verdict.specs.declared.answer.FinalValue.{FinalValue}
 use Rattle.verdict.specs.declared.formula.Formula as code
 use Rattle.verdict.specs.declared.shown_place.ShownPlace.{ShownPlace}
 use Rattle.verdict.specs.contracts.answer.FinalValueOrd.TheImpl as value_ord
-use Rattle.verdict.proofs.Atoms.{or_left, known_of_both}
+use Rattle.verdict.proofs.Atoms.{known_of_both}
 use Rattle.verdict.proofs.KeptLists.{counted_by_places, many_within, raised_by_places, rising_read}
 use Rattle.verdict.proofs.Orders.{value_orders, state_total, is_state_same}
-use Rattle.verdict.proofs.Spread.{how_many, weigh, many_agree, length-filter_twice, weighed, all_seen, own_number, All-of_map}
+use Rattle.verdict.proofs.Spread.{how_many, weigh, many_agree, length-filter_twice, weighed, all_keys, own_number, All-of_map}
 use Rattle.verdict.proofs.Tallies.{Entries}
+use Rattle.std.proofs.lemmas.Bool.{or_left}
 
 abbrev State : Type 0
 State = List FinalValue
@@ -156,7 +157,7 @@ module _ (locations : List (List ℕ)) (all : List Shown) (kind : Quantifier) (p
         All-weaker (λ x. list_any (is_state (end x)) (keys_of (pairs_of e.states)) ≡ true) (λ x. Contains (values_of e.states) (end x))
         (λ x h. Contains-from_any {eq = is_state} is_state_same (end x) (values_of e.states) (subst (λ (l : List State). list_any (is_state (end x)) l ≡ true) (keys_of_pairs e.states) h))
         (kept checks all)
-        (all_seen is_state is_state_equiv is_state_same end (pairs_of e.states) is_in numbered (λ v. omega (arith, number_at v)))
+        (all_keys is_state is_state_equiv is_state_same end (pairs_of e.states) is_in numbered (λ v. omega (arith, number_at v)))
 
     summed : (b : Bool) (n : ℕ) → n ≡ min (total_of (λ s. is_same s.holds b) e.states) (2 ^ 64 - 1) → n ≡ number_that (λ x. is_same (is_satisfied locations proposition x) b) (kept checks all)
     summed b n h =
@@ -186,7 +187,7 @@ module _ (locations : List (List ℕ)) (all : List Shown) (kind : Quantifier) (p
           text = word.0;
           count = number ∙ number_at s.values ∙ sym (number_is (λ x. is_state s.values (final_state shown x)));
           above = some;
-          holds = λ held is. word.1 ∙ ap (λ (v : State). value_of v f) is ∙ means shows held;
+          holds = λ content is. word.1 ∙ ap (λ (v : State). value_of v f) is ∙ means shows content;
         }
 
     pub says : e.positive ≡ min (total_of (λ s. is_same s.holds true) e.states) (2 ^ 64 - 1) → e.negative ≡ min (total_of (λ s. is_same s.holds false) e.states) (2 ^ 64 - 1) → e.flags ≡ names_of (λ g. holds_on_some keep g.1) flags → IsJudged kind e → Says locations kind proposition shown (kept checks all) flags e

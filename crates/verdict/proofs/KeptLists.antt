@@ -8,6 +8,7 @@ use Rattle.std.proofs.lemmas.List.{get_or-drop}
 use Rattle.verdict.specs.Counting.{count_kept}
 use Rattle.verdict.specs.Kept.{holds_at, holds_on_some}
 use Rattle.verdict.proofs.Spread.{how_many}
+use Rattle.std.proofs.Math.Bool.{and-false}
 
 -- a count by answers is one by what they say of places
 pub counted_by_places : {X : Type 0} (q : ℕ → Bool) (test : X → Bool) (n : ℕ) (keep : List Bool) (xs : List X) → ((k : ℕ) → k < length xs → holds_at k keep ≡ q (n + k)) → count_kept test keep xs ≡ how_many (λ x. q x.0 && test x.1) (enumerate_from n xs)
@@ -38,10 +39,6 @@ no_answers : (keep : List Bool) → holds_on_some keep [] ≡ false
 no_answers [] = refl
 no_answers (b ∷ bs) = refl
 
-and_false : (b : Bool) → (b && false) ≡ false
-and_false true = refl
-and_false false = refl
-
 -- some answer is true where all are kept
 pub raised_by_places : {X : Type 0} (q g : ℕ → Bool) (n : ℕ) (keep answers : List Bool) (xs : List X) → length keep ≡ length xs → ((k : ℕ) → k < length xs → holds_at k keep ≡ q (n + k)) → ((k : ℕ) → holds_at k answers ≡ g (n + k)) → holds_on_some keep answers ≡ list_any (λ x. g x.0) (filter (λ x. q x.0) (enumerate_from n xs))
 raised_by_places q g n [] answers [] long h a = refl
@@ -54,7 +51,7 @@ raised_by_places {X} q g n (b ∷ bs) [] (x ∷ xs) long h a =
     let later : holds_on_some bs [] ≡ list_any (λ x. g x.0) rest = raised_by_places q g (n + 1) bs [] xs (omega (arith, long))
     (λ k lt. let f : n + suc k ≡ (n + 1) + k = omega arith in h (suc k) (omega arith) ∙ ap q f)
     (λ k. let f : n + suc k ≡ (n + 1) + k = omega arith in a (suc k) ∙ ap g f) in
-    sym (any_cond (λ x. g x.0) (q n) (n, x) rest ∙ ap (λ (c : Bool). (q n && c) || list_any (λ x. g x.0) rest) none ∙ ap (λ (c : Bool). c || list_any (λ x. g x.0) rest) (and_false (q n)) ∙ sym later ∙ no_answers bs)
+    sym (any_cond (λ x. g x.0) (q n) (n, x) rest ∙ ap (λ (c : Bool). (q n && c) || list_any (λ x. g x.0) rest) none ∙ ap (λ (c : Bool). c || list_any (λ x. g x.0) rest) (and-false (q n)) ∙ sym later ∙ no_answers bs)
 raised_by_places {X} q g n (b ∷ bs) (first ∷ others) (x ∷ xs) long h a =
     let e : n + 0 ≡ n = add-zero n in
     let kept : b ≡ q n = h 0 (omega arith) ∙ ap q e in

@@ -18,6 +18,7 @@ use Rattle.verdict.specs.declared.shown_place.ShownPlace.{ShownPlace}
 use Rattle.verdict.proofs.Orders.{place_orders, place_total}
 use Rattle.verdict.specs.contracts.shown_place.ShownPlaceOrd.TheImpl as place_ord
 use Rattle.verdict.specs.Meaning.{known_place}
+use Rattle.std.proofs.Math.Bool.{or_assoc}
 
 pub first_found : {X : Type 0} (p : X → Bool) (xs : List X) (i : ℕ) (d : X) → i < length xs → ((k : ℕ) → k < i → p (get_or xs k d) ≡ false) → p (get_or xs i d) ≡ true → position p xs ≡ Some i
 first_found p xs i d lt before here =
@@ -42,10 +43,6 @@ one_added old new k h p =
     subst (λ (R : ShownPlace → ShownPlace → Ordering). (q : ShownPlace) → list_any (λ x. is_eq (R q x)) new ≡ cond (is_eq (R k q)) true (list_any (λ x. is_eq (R q x)) old)) place_orders h p
     ∙ ap (λ (b : Bool). cond b true (is_among old p)) ((eq_by_cmp_equiv place_total).symm k p)
     ∙ either_way (is_among old p) (is_place p k)
-
-or_assoc : (a b d : Bool) → ((a || b) || d) ≡ (a || (b || d))
-or_assoc true b d = refl
-or_assoc false b d = refl
 
 pub added_twice : (ls : List (List ℕ)) (old mid new : List ShownPlace) (ps qs : List Place) → Adds old mid (known_places ls ps) → Adds mid new (known_places ls qs) → Adds old new (known_places ls (ps ++ qs))
 added_twice ls old mid new ps qs h k p =

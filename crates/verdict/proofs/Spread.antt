@@ -4,7 +4,7 @@ use Rattle.std.specs.Cmp.{IsEquivalence}
 use Rattle.std.specs.List.{All, IsDistinct, list_any}
 use Rattle.std.specs.Map.{keys_of, lookup}
 use Rattle.std.specs.Option.{unwrap_or}
-use Rattle.std.proofs.lemmas.Bool.{false≢true}
+use Rattle.std.proofs.lemmas.Bool.{false≢true, or_right}
 use Rattle.std.proofs.lemmas.List.{length-map, get_or-map}
 use Rattle.std.proofs.lemmas.List.Elements.{All-nil, All-cons}
 use Rattle.std.proofs.lemmas.Map.{lookup-none}
@@ -57,10 +57,6 @@ length-filter_twice {X} g p (x ∷ xs) =
 unfoldable pub weigh : {V : Type 0} → (V → Bool) → List (V × ℕ) → ℕ
 weigh t [] = 0
 weigh t (p ∷ ps) = cond (t p.0) p.1 0 + weigh t ps
-
-some_past : (a b : Bool) → b ≡ true → (a || b) ≡ true
-some_past true b h = refl
-some_past false b h = h
 
 no_bit : (b c : Bool) (n : ℕ) → c ≡ true → 0 ≡ cond (b && c) 1 0 + n → b ≡ false
 no_bit false c n e h = refl
@@ -138,32 +134,32 @@ module _ {V X : Type 0} (e : V → V → Bool) (laws : IsEquivalence e) (same : 
       ∙ sym (many_split (λ x. g x && t (f x)) (λ x. t p.0 && (g x && e p.0 (f x))) (λ x. (g x && not (e p.0 (f x))) && t (f x))
       (λ x. parts (g x) (e p.0 (f x)) (t p.0) (t (f x)) (λ s. ap t (sym (same p.0 (f x) s)))) xs)
 
-  seen_at : (v : V) (p : V × ℕ) (ps : List (V × ℕ)) (b : Bool) → e v p.0 ≡ b → 0 < at (p ∷ ps) v → (0 < at ps v → list_any (e v) (keys_of ps) ≡ true) → (e v p.0 || list_any (e v) (keys_of ps)) ≡ true
-  seen_at v p ps true is h more = ap (λ (b : Bool). b || list_any (e v) (keys_of ps)) is
-  seen_at v p ps false is h more = some_past (e v p.0) (list_any (e v) (keys_of ps)) (more (subst (λ (n : ℕ). 0 < n) (ap (λ o. unwrap_or o 0) (lookup_tail (e v) p ps is)) h))
+  is_key_at : (v : V) (p : V × ℕ) (ps : List (V × ℕ)) (b : Bool) → e v p.0 ≡ b → 0 < at (p ∷ ps) v → (0 < at ps v → list_any (e v) (keys_of ps) ≡ true) → (e v p.0 || list_any (e v) (keys_of ps)) ≡ true
+  is_key_at v p ps true is h more = ap (λ (b : Bool). b || list_any (e v) (keys_of ps)) is
+  is_key_at v p ps false is h more = or_right (e v p.0) (list_any (e v) (keys_of ps)) (more (subst (λ (n : ℕ). 0 < n) (ap (λ o. unwrap_or o 0) (lookup_tail (e v) p ps is)) h))
 
-  seen : (v : V) (ps : List (V × ℕ)) → 0 < at ps v → list_any (e v) (keys_of ps) ≡ true
-  seen v [] h = absurd (omega arith)
-  seen v (p ∷ ps) h = seen_at v p ps (e v p.0) refl h (seen v ps)
+  is_key : (v : V) (ps : List (V × ℕ)) → 0 < at ps v → list_any (e v) (keys_of ps) ≡ true
+  is_key v [] h = absurd (omega arith)
+  is_key v (p ∷ ps) h = is_key_at v p ps (e v p.0) refl h (is_key v ps)
 
-  abbrev Seen : List (V × ℕ) → X → Type 0
-  Seen ps x = list_any (e (f x)) (keys_of ps) ≡ true
+  abbrev IsKey : List (V × ℕ) → X → Type 0
+  IsKey ps x = list_any (e (f x)) (keys_of ps) ≡ true
 
-  all_seen_at : (ps : List (V × ℕ)) (g : X → Bool) (x : X) (xs : List X) (b : Bool) → g x ≡ b → 0 < at ps (f x) ⊎ (g x ≡ false) → All (Seen ps) (filter g xs) → All (Seen ps) (cond b (x ∷ filter g xs) (filter g xs))
-  all_seen_at ps g x xs true is h later = All-cons (Seen ps) x (filter g xs) (⊎_elim (λ lt. seen (f x) ps lt) (λ no. absurd (false≢true (sym no ∙ is))) h) later
-  all_seen_at ps g x xs false is h later = later
+  all_keys_at : (ps : List (V × ℕ)) (g : X → Bool) (x : X) (xs : List X) (b : Bool) → g x ≡ b → 0 < at ps (f x) ⊎ (g x ≡ false) → All (IsKey ps) (filter g xs) → All (IsKey ps) (cond b (x ∷ filter g xs) (filter g xs))
+  all_keys_at ps g x xs true is h later = All-cons (IsKey ps) x (filter g xs) (⊎_elim (λ lt. is_key (f x) ps lt) (λ no. absurd (false≢true (sym no ∙ is))) h) later
+  all_keys_at ps g x xs false is h later = later
 
   counted_once : (ps : List (V × ℕ)) (g : X → Bool) (x : X) (xs : List X) (b : Bool) → g x ≡ b → cond (g x && e (f x) (f x)) 1 0 + how_many (λ y. g y && e (f x) (f y)) xs ≤ at ps (f x) → 0 < at ps (f x) ⊎ (g x ≡ false)
   counted_once ps g x xs true is h = inl (one_bit (g x) (e (f x) (f x)) (how_many (λ y. g y && e (f x) (f y)) xs) (at ps (f x)) is (laws.refl (f x)) h)
   counted_once ps g x xs false is h = inr is
 
   -- each member that is counted has its value among the pairs
-  pub all_seen : (ps : List (V × ℕ)) (g : X → Bool) (xs : List X) → ((v : V) → how_many (λ x. g x && e v (f x)) xs ≤ at ps v) → All (λ x. list_any (e (f x)) (keys_of ps) ≡ true) (filter g xs)
+  pub all_keys : (ps : List (V × ℕ)) (g : X → Bool) (xs : List X) → ((v : V) → how_many (λ x. g x && e v (f x)) xs ≤ at ps v) → All (λ x. list_any (e (f x)) (keys_of ps) ≡ true) (filter g xs)
   unfolding how_many
-  all_seen ps g [] h = All-nil (Seen ps)
-  all_seen ps g (x ∷ xs) h =
-      all_seen_at ps g x xs (g x) refl (counted_once ps g x xs (g x) refl (h (f x)))
-      (all_seen ps g xs (λ v. let top : cond (g x && e v (f x)) 1 0 + how_many (λ y. g y && e v (f y)) xs ≤ at ps v = h v in omega (arith, top)))
+  all_keys ps g [] h = All-nil (IsKey ps)
+  all_keys ps g (x ∷ xs) h =
+      all_keys_at ps g x xs (g x) refl (counted_once ps g x xs (g x) refl (h (f x)))
+      (all_keys ps g xs (λ v. let top : cond (g x && e v (f x)) 1 0 + how_many (λ y. g y && e v (f y)) xs ≤ at ps v = h v in omega (arith, top)))
 
   -- each pair has the number at its value
   pub own_number : (ps : List (V × ℕ)) → IsDistinct e (keys_of ps) → All (λ p. p.1 ≡ at ps p.0) ps

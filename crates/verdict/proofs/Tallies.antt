@@ -16,6 +16,7 @@ use Rattle.verdict.specs.Counting.{tally, AreAbove, Counts}
 use Rattle.verdict.specs.declared.answer.FinalValue.{FinalValue}
 use Rattle.verdict.proofs.Orders.{value_orders, state_total}
 use Rattle.verdict.specs.contracts.answer.FinalValueOrd.TheImpl as value_ord
+use Rattle.ppc_semantics.proofs.Starting.{is_equal}
 
 abbrev pub Entries : Type 0
 Entries = List (Vec FinalValue Global × ℕ)
@@ -29,11 +30,6 @@ found v es = lookup (λ k. is_state v k.items) es
 either : (b : Bool) (w : ℕ) (o : Option ℕ) → unwrap_or (cond b (Some w) o) 0 ≡ cond b w (unwrap_or o 0)
 either true w o = refl
 either false w o = refl
-
-is_eq_Equal : (o : Ordering) → is_eq o ≡ true → o ≡ Equal
-is_eq_Equal Less h = cc
-is_eq_Equal Equal h = refl
-is_eq_Equal Greater h = cc
 
 same_swap : (a b : Bool) (w u t : ℕ) → a ≡ b → cond b w t ≡ cond a w (cond b u t)
 same_swap true true w u t h = refl
@@ -61,8 +57,8 @@ put_at v k w e es Greater is more =
   where
     apart : is_state v k.items ≡ true → is_state v e.0.items ≡ true → ⊥
     apart h g =
-        let a : state_cmp v k.items ≡ Equal = is_eq_Equal (state_cmp v k.items) h in
-        let b : state_cmp v e.0.items ≡ Equal = is_eq_Equal (state_cmp v e.0.items) g in
+        let a : state_cmp v k.items ≡ Equal = is_equal (state_cmp v k.items) h in
+        let b : state_cmp v e.0.items ≡ Equal = is_equal (state_cmp v e.0.items) g in
         let m : state_cmp v e.0.items ≡ state_cmp k.items e.0.items = state_total.congr v k.items e.0.items a in
         cc
 
@@ -72,7 +68,7 @@ put_found v k w (e ∷ es) = put_at v k w e es (state_cmp k.items e.0.items) ref
 
 alike_found : (v s : List FinalValue) (es : Entries) → is_state v s ≡ true → found s es ≡ found v es
 alike_found v s es h =
-    ap (λ (t : Vec FinalValue Global → Bool). lookup t es) (fun_ext (λ k. ap is_eq (sym (state_total.congr v s k.items (is_eq_Equal (state_cmp v s) h)))))
+    ap (λ (t : Vec FinalValue Global → Bool). lookup t es) (fun_ext (λ k. ap is_eq (sym (state_total.congr v s k.items (is_equal (state_cmp v s) h)))))
 
 gained : (v s : List FinalValue) (es : Entries) (had more : ℕ) (b : Bool) → is_state v s ≡ b → had ≡ unwrap_or (found s es) 0 → cond b (min (had + more) (2 ^ 64 - 1)) (unwrap_or (found v es) 0) ≡ cond b (min (unwrap_or (found v es) 0 + more) (2 ^ 64 - 1)) (unwrap_or (found v es) 0)
 gained v s es had more true h e = ap (λ (n : ℕ). min (n + more) (2 ^ 64 - 1)) (e ∙ ap (λ (o : Option ℕ). unwrap_or o 0) (alike_found v s es h))

@@ -11,7 +11,7 @@ use Rattle.verdict.specs.declared.shown_place.ShownPlace.{ShownPlace}
 
 abbrev pub is_there : Option FinalValue → FinalValue → Bool
 is_there None value = false
-is_there (Some held) value = is_value held value
+is_there (Some content) value = is_value content value
 
 -- whether it is true of the state
 abbrev pub value_of : List FinalValue → code.Formula → Bool
@@ -26,4 +26,4 @@ Shows locations shown places = (p : ShownPlace) → is_among (known_places locat
 
 -- it is true of each state over these places just where the proposition is
 abbrev pub Means : List (List ℕ) → List ShownPlace → text.Formula → code.Formula → Type 0
-Means locations shown proposition f = Shows locations shown (places_of proposition) → (held : ShownPlace → FinalValue) → value_of (map held shown) f ≡ satisfies locations held proposition
+Means locations shown proposition f = Shows locations shown (places_of proposition) → (content : ShownPlace → FinalValue) → value_of (map content shown) f ≡ satisfies locations content proposition

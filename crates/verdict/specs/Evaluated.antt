@@ -44,7 +44,7 @@ pub record IsCounted (locations : List (List ℕ)) (proposition : Formula) (show
   pub text : s.text ≡ state_text locations shown s.values
   pub count : s.count ≡ number_that (λ x. is_state s.values (final_state shown x)) candidates
   pub above : 0 < s.count
-  pub holds : (held : ShownPlace → FinalValue) → s.values ≡ map held shown → s.holds ≡ satisfies locations held proposition
+  pub holds : (content : ShownPlace → FinalValue) → s.values ≡ map content shown → s.holds ≡ satisfies locations content proposition
 
 -- the evaluation says this of these executions over these places
 pub record Says (locations : List (List ℕ)) (kind : Quantifier) (proposition : Formula) (shown : List ShownPlace) (candidates : List (ℕ × Shown)) (flags : List Flag) (e : Evaluation) : Type 0 where

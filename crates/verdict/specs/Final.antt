@@ -2,12 +2,12 @@
 use Rattle.std.specs.Prelude.{ℕ, ◌==◌, List, [], ◌∷◌, Option, Some, None, map, slice_get, unwrap_or, option_and_then, if◌then◌else◌}
 use Rattle.std.specs.List.{filter_map}
 use Rattle.std.specs.Int.{cast_signed, w32}
-use Rattle.candidates.specs.declared.candidate.Action.{Action}
-use Rattle.candidates.specs.declared.candidate.Action.TheVariants as actions
-use Rattle.candidates.specs.declared.candidate.Event.{Event}
+use Rattle.run_combinations.specs.declared.combination.Action.{Action}
+use Rattle.run_combinations.specs.declared.combination.Action.TheVariants as actions
+use Rattle.run_combinations.specs.declared.combination.Event.{Event}
 use Rattle.candidates.specs.Space.{Shown}
 use Rattle.thread_runs.specs.declared.value.Value.{Value}
-use Rattle.thread_runs.specs.declared.value.Value.TheVariants as held
+use Rattle.thread_runs.specs.declared.value.Value.TheVariants as run_values
 use Rattle.verdict.specs.declared.answer.FinalValue.{FinalValue}
 use Rattle.verdict.specs.declared.answer.FinalValue.TheVariants as values
 use Rattle.verdict.specs.declared.shown_place.ShownPlace.{ShownPlace}
@@ -15,13 +15,13 @@ use Rattle.verdict.specs.declared.shown_place.ShownPlace.TheVariants as shown
 
 -- a value as states have it: numbers are signed
 abbrev pub value_shown : Value → FinalValue
-value_shown (held.Number n) = values.Number (cast_signed w32 n)
-value_shown (held.Address l) = values.Address l
-value_shown held.NoValue = values.NoValue
+value_shown (run_values.Number n) = values.Number (cast_signed w32 n)
+value_shown (run_values.Address l) = values.Address l
+value_shown run_values.NoValue = values.NoValue
 
 -- what a register of a thread holds at the end
 abbrev pub final_register : Shown → ℕ → ℕ → Value
-final_register e thread register = unwrap_or (option_and_then (λ registers. slice_get registers register) (slice_get e.registers thread)) held.NoValue
+final_register e thread register = unwrap_or (option_and_then (λ registers. slice_get registers register) (slice_get e.registers thread)) run_values.NoValue
 
 -- what an action stores at a location, if it stores there
 abbrev pub stored_by : ℕ → Action → Option Value
@@ -40,7 +40,7 @@ last_or d (x ∷ xs) = last_or x xs
 
 -- what a location holds at the end: what the last store at it stores, in coherence order
 abbrev pub final_word : Shown → ℕ → Value
-final_word e location = last_or held.NoValue (filter_map (stored_at e.events location) e.order)
+final_word e location = last_or run_values.NoValue (filter_map (stored_at e.events location) e.order)
 
 -- what an observable holds at the end
 abbrev pub final_value : Shown → ShownPlace → FinalValue

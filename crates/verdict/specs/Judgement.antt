@@ -41,12 +41,3 @@ IsEvaluated kind (Evaluated e) = IsJudged kind e
 -- an evaluation of a test of this kind
 abbrev pub IsOutcomeOf : Quantifier → Outcome → Type 0
 IsOutcomeOf kind o = (o.kind ≡ kind) × IsEvaluated kind o.result
-
--- what a test of this kind may say: a refusal, or an evaluation whose words follow from its numbers
-abbrev pub IsResultOf : Quantifier → OutcomeResult → Type 0
-IsResultOf kind (Refused _) = Unit {0}
-IsResultOf kind (Evaluated e) = IsJudged kind e
-
--- an outcome of a test of this kind
-abbrev pub IsAnswerOf : Quantifier → Outcome → Type 0
-IsAnswerOf kind o = (o.kind ≡ kind) × IsResultOf kind o.result

@@ -42,9 +42,9 @@ is_value values.NoValue (values.Address l) = false
 
 -- whether a known place holds a known value: nothing holds of others
 abbrev pub is_held : (ShownPlace → FinalValue) → Option ShownPlace → Option FinalValue → Bool
-is_held held (Some place) (Some value) = is_value (held place) value
-is_held held (Some place) None = false
-is_held held None value = false
+is_held content (Some place) (Some value) = is_value (content place) value
+is_held content (Some place) None = false
+is_held content None value = false
 
 abbrev pub joined_by : Connective → Bool → Bool → Bool
 joined_by And a b = a && b
@@ -53,10 +53,10 @@ joined_by Implies a b = not a || b
 
 -- whether a proposition is true where the places hold this
 abbrev pub satisfies : List (List ℕ) → (ShownPlace → FinalValue) → Formula → Bool
-satisfies locations held (Constant b) = b
-satisfies locations held (Holds place value) = is_held held (known_place locations place) (known_value locations value)
-satisfies locations held (Not a) = not (satisfies locations held a)
-satisfies locations held (Join op a b) = joined_by op (satisfies locations held a) (satisfies locations held b)
+satisfies locations content (Constant b) = b
+satisfies locations content (Holds place value) = is_held content (known_place locations place) (known_value locations value)
+satisfies locations content (Not a) = not (satisfies locations content a)
+satisfies locations content (Join op a b) = joined_by op (satisfies locations content a) (satisfies locations content b)
 
 -- the places of a proposition
 abbrev pub places_of : Formula → List Place

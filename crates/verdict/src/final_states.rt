@@ -1,7 +1,8 @@
 //! The final states of the kept candidates.
 
 ghost use Rattle.std.specs.Prelude.{◌≡◌, ℕ, ◌<◌, ◌+◌, ◌-◌, ◌^◌, min, List, map, drop, length, if◌then◌else◌, IfOk, OnOk};
-ghost use Rattle.candidates.specs.Space.{candidates_of, shown_in};
+ghost use Rattle.run_combinations.specs.Combinations.{candidates_of};
+ghost use Rattle.candidates.specs.Space.{shown_in};
 ghost use Rattle.verdict.specs.Counting.{count_kept, count_column, tally, AreAbove, Counts};
 ghost use Rattle.verdict.specs.Kept.{holds_at};
 ghost use Rattle.verdict.specs.Final as shown;

@@ -32,8 +32,8 @@ loop-to-preserved c =
       elim c.if-is_fenced_end.branch [
         | then-is_fenced_end w ↦
             let t = c.is_fenced_end.ensures.0 w.if-is_fenced_end.true in
-            rw w.place-is (row_more _ _ _ _ c.loop-to.invariant.1 (end.0 (t.0, t.1, at.1 t.2)) w.insert.ensures)
-        | else-is_fenced_end w ↦ rw w.place-is (row_less _ _ _ _ c.loop-to.invariant.1 (λ h.
+            rw w.target-is (row_more _ _ _ _ c.loop-to.invariant.1 (end.0 (t.0, t.1, at.1 t.2)) w.insert.ensures)
+        | else-is_fenced_end w ↦ rw w.target-is (row_less _ _ _ _ c.loop-to.invariant.1 (λ h.
             let b = end.1 h in
             absurd (false≢true (rw w.if-is_fenced_end.false at (c.is_fenced_end.ensures.1 (b.0, b.1, at.0 b.2))))))
       ],

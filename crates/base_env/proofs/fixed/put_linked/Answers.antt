@@ -10,5 +10,5 @@ loop-from-preserved c = rows_more _ _ _ c.loop-from.invariant c.put_linked_from.
 
 pub returns : goal.returns
 returns c =
-    let last : c.loop-from.from ≡ c.args.place.now.count = omega (arith, c.loop-from.auto, c.loop-from-test, c.count-from-end.ensures) in
+    let last : c.loop-from.from ≡ c.args.target.now.count = omega (arith, c.loop-from.auto, c.loop-from-test, c.count-from-end.ensures) in
     rows_done _ _ _ last c.loop-from.invariant

@@ -5,5 +5,5 @@ use Rattle.base_env.specs.Known.{shared_names}
 use Rattle.base_env.specs.Candidate.{SharedIn}
 use Rattle.base_env.proofs.names.put_shared.Given as goal
 
-abbrev pub invariant-loop-place : goal.invariant-loop-place
-invariant-loop-place l = (length l.shared ≡ length l.initial.shared) × (shared_names l.shared ≡ shared_names l.initial.shared) × ((i : ℕ) → i < l.place → (d : Shared) → IsRelation (get_or l.shared i d).relation l.count (SharedIn l.combination l.count (get_or l.shared i d).name))
+abbrev pub invariant-loop-index : goal.invariant-loop-index
+invariant-loop-index l = (length l.shared ≡ length l.initial.shared) × (shared_names l.shared ≡ shared_names l.initial.shared) × ((i : ℕ) → i < l.index → (d : Shared) → IsRelation (get_or l.shared i d).relation l.count (SharedIn l.combination l.count (get_or l.shared i d).name))

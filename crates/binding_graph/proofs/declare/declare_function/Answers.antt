@@ -22,8 +22,8 @@ returns-clause-functions c = λ ss kept none.
     let ps = c.args.parameters.now in
     let fault : c.parameter_fault-fault.result ≡ None = none_of c.parameter_fault-fault.result (sym c.if-is_some.ensures) in
     let few : length ps ≤ 8 = few_parameters ps (sym c.parameter_fault-fault.ensures ∙ fault) in
-    let seen : AreKept c.deref-2.result.now ss = rw c.deref-2.ensures.value kept in
-    let one : IsKept c.in_ok-function.function (sense_of_function ss (reverse (map entry_of c.args.scope.now.entries.items)) ps (term_of c.args.body.now)) = rw c.deref.ensures.value at (c.in_ok-function.ensures.kept ss seen few) in
+    let kept_there : AreKept c.deref-2.result.now ss = rw c.deref-2.ensures.value kept in
+    let one : IsKept c.in_ok-function.function (sense_of_function ss (reverse (map entry_of c.args.scope.now.entries.items)) ps (term_of c.args.body.now)) = rw c.deref.ensures.value at (c.in_ok-function.ensures.kept ss kept_there few) in
     functions_more c.args.scope.now.functions.items _ ss c.in_ok-function.function _ kept c.in_ok-push.ensures.items one
 
 pub returns-clause-usages : goal.returns-clause-usages
@@ -32,5 +32,5 @@ returns-clause-usages c = λ none.
     let lists = c.into_lists-values.ensures in
     let new = c.new-uses.ensures in
     let from : c.len.result ≡ length c.args.scope.now.entries.items = let n = c.len.ensures in let k = c.args.scope.now.entries.ok in omega (arith, n, k) in
-    usages_declared c.args.scope.now.functions.items c.deref-2.result.now _ c.args.scope.now.entries.items c.deref.result.now c.in_ok-function.function c.args.place c.args.parameters.now (term_of c.args.body.now) c.len.result c.new-uses.result.values.items c.add_term.new.self.values.items c.new-uses.result.functions.items c.add_term.new.self.functions.items
+    usages_declared c.args.scope.now.functions.items c.deref-2.result.now _ c.args.scope.now.entries.items c.deref.result.now c.in_ok-function.function c.args.index c.args.parameters.now (term_of c.args.body.now) c.len.result c.new-uses.result.values.items c.add_term.new.self.values.items c.new-uses.result.functions.items c.add_term.new.self.functions.items
     c.deref-2.ensures.value c.deref.ensures.value from new.values new.functions c.in_ok-push.ensures.items given.0 given.1 (ap (λ v. v.items) (given.2 ∙ lists.values)) (ap (λ v. v.items) (given.3 ∙ lists.functions)) (c.in_ok-add_term.ensures.values new.indexed) (c.in_ok-add_term.ensures.functions new.listed)

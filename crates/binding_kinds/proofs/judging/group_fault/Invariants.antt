@@ -1,5 +1,5 @@
 use Rattle.std.proofs.Common.{◌≡◌, List, reverse, map, take, drop, []}
-use Rattle.binding_kinds.specs.Seen.{names_of}
+use Rattle.binding_kinds.specs.GroupNames.{names_of}
 use Rattle.binding_kinds.specs.Value.{entry_of, bound_of}
 use Rattle.binding_kinds.specs.Senses.{Sense, AreKept}
 use Rattle.binding_kinds.specs.First.{first_in}

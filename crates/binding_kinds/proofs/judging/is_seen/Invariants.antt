@@ -1,5 +1,5 @@
 use Rattle.std.proofs.Common.{◌≡◌, take}
-use Rattle.binding_kinds.specs.Seen.{names_of}
+use Rattle.binding_kinds.specs.GroupNames.{names_of}
 use Rattle.binding_kinds.specs.Verdict.{is_seen}
 use Rattle.binding_kinds.proofs.judging.is_seen.Given as goal
 

@@ -1,6 +1,6 @@
 use Rattle.std.proofs.Common.{arith, sym, ◌∙◌}
 use Rattle.bit_relations.proofs.Writing.{written_none}
-use Rattle.bit_relations.proofs.EightWords.{written_block, lane_fits, lanes_still, lane_taken}
+use Rattle.bit_relations.proofs.EightWords.{written_block, lane_fits, lanes_still, lane_union}
 use Rattle.bit_relations.proofs.lanes.join_own.Goals as goal
 
 pub loop-block-init : goal.loop-block-init
@@ -13,4 +13,4 @@ loop-block-preserved c =
     let step = c.join-joined.ensures.lanes in
     written_block _ _ _ _ _ _ _ (omega arith) (c.store.array_long ∙ sym (before.height ∙ c.told-words)) before c.store.ensures
     (λ f j lt. lane_fits _ _ _ _ _ j lt c.ranges.word.fits (rw (from j lt) (f _)) step)
-    (λ j lt b. let old = lanes_still _ _ _ _ j _ before (from j lt) in lane_taken _ _ _ _ _ _ j _ _ lt old old step b)
+    (λ j lt b. let old = lanes_still _ _ _ _ j _ before (from j lt) in lane_union _ _ _ _ _ _ j _ _ lt old old step b)

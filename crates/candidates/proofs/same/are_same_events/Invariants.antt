@@ -1,5 +1,5 @@
 use Rattle.std.proofs.Common.{ℕ, ◌≡◌, ◌<◌, get_or}
-use Rattle.candidates.specs.declared.candidate.Event.{Event}
+use Rattle.run_combinations.specs.declared.combination.Event.{Event}
 use Rattle.candidates.proofs.same.are_same_events.Given as goal
 
 abbrev pub invariant-loop-index : goal.invariant-loop-index

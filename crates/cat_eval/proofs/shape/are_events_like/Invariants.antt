@@ -1,7 +1,7 @@
 use Rattle.std.proofs.Common.{ℕ, ◌<◌, slice_index_or}
-use Rattle.candidates.specs.declared.candidate.Event.{Event}
+use Rattle.run_combinations.specs.declared.combination.Event.{Event}
 use Rattle.cat_eval.specs.Alike.{IsLike}
 use Rattle.cat_eval.proofs.shape.are_events_like.Given as goal
 
-abbrev pub invariant-loop-place : goal.invariant-loop-place
-invariant-loop-place l = (i : ℕ) → i < l.place → (d : Event) → IsLike (slice_index_or l.first i d) (slice_index_or l.second i d)
+abbrev pub invariant-loop-index : goal.invariant-loop-index
+invariant-loop-index l = (i : ℕ) → i < l.index → (d : Event) → IsLike (slice_index_or l.first i d) (slice_index_or l.second i d)

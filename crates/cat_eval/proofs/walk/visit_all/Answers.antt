@@ -11,7 +11,7 @@ loop-combination-init g c =
       made.known,
       held_of c.in_ok-base.base names (rw c.deref.ensures.value at made.sets) (rw c.deref.ensures.value at made.relations),
       tt,
-      (λ begun. ([], tt, begun)),
+      (λ given. ([], tt, given)),
     )
 
 pub loop-combination-preserved : goal.loop-combination-preserved
@@ -22,9 +22,9 @@ loop-combination-preserved g c =
       c.visit_combination.ensures.ready.known,
       c.visit_combination.ensures.ready.held,
       c.visit_combination.ensures.ready.entered,
-      (λ begun.
-          let (bases, worlds, was) = before.3 begun in
-          let (new, here, now) = c.in_ok-visit_combination.ensures.taken c.args.visitor.now bases was in (
+      (λ given.
+          let (bases, worlds, was) = before.3 given in
+          let (new, here, now) = c.in_ok-visit_combination.ensures.worlds c.args.visitor.now bases was in (
             bases ++ new,
             rw (flat_step (λ one. reading_in one one.sources.items) combinations c.loop-combination.combination-index c.combination-item.result (rw c.deref-combination-items.ensures.value at c.loop-combination-test.true) (rw c.deref-combination-items.ensures.value at c.combination-item.is))
                 (worlds_more needs.names.items needs.reads needs.orders bases new _ _ worlds here),
@@ -33,8 +33,8 @@ loop-combination-preserved g c =
     )
 
 pub returns : goal.returns
-returns g c = λ begun.
+returns g c = λ given.
     let index = c.loop-combination.combination-index in
     let combinations = c.args.space.now.combinations.items in
     let whole : take index combinations ≡ combinations = take_all index combinations (omega (arith, c.loop-combination-test.false, c.deref-combination-items.ensures.len)) in
-    rw (whole, listed combinations) at (c.loop-combination.invariant.3 begun)
+    rw (whole, listed combinations) at (c.loop-combination.invariant.3 given)

@@ -10,9 +10,9 @@ loop-sources-preserved g c =
     let needs = c.args.needs.now in
     let before = c.loop-sources.invariant in (
       c.visit_orders.ensures.ready,
-      (λ first bases taken.
-          let (more, worlds, was) = before.1 first bases taken in
-          let (new, here, now) = c.in_ok-visit_orders.ensures.taken c.sources-item.result.items (λ reads. rw c.deref.ensures.value at (c.go_to_sources.ensures.reading reads)) first (bases ++ more) was in (
+      (λ first bases given.
+          let (more, worlds, was) = before.1 first bases given in
+          let (new, here, now) = c.in_ok-visit_orders.ensures.worlds c.sources-item.result.items (λ reads. rw c.deref.ensures.value at (c.go_to_sources.ensures.reading reads)) first (bases ++ more) was in (
             more ++ new,
             rw (flat_step (λ sources. reading_so combination sources.items combination.orders.items) combination.sources.items c.loop-sources.sources-index c.sources-item.result (rw c.deref-sources-items.ensures.value at c.loop-sources-test.true) (rw c.deref-sources-items.ensures.value at c.sources-item.is))
                 (worlds_more needs.names.items needs.reads needs.orders more new _ _ worlds here),
@@ -20,9 +20,9 @@ loop-sources-preserved g c =
           )),
     )
 
-pub returns-clause-taken : goal.returns-clause-taken
-returns-clause-taken g c = λ first bases taken.
+pub returns-clause-worlds : goal.returns-clause-worlds
+returns-clause-worlds g c = λ first bases given.
     let index = c.loop-sources.sources-index in
     let ways = c.args.combination.now.sources.items in
     let whole : take index ways ≡ ways = take_all index ways (omega (arith, c.loop-sources-test.false, c.deref-sources-items.ensures.len)) in
-    rw whole at (c.loop-sources.invariant.1 first bases taken)
+    rw whole at (c.loop-sources.invariant.1 first bases given)

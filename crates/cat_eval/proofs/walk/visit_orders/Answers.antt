@@ -13,8 +13,8 @@ loop-order-preserved g c =
     let base = c.go_to_order.new.base in (
       c.go_to_order.ensures.ready before.0,
       (λ sources held. c.go_to_order.ensures.reading sources (before.1 sources held)),
-      (λ sources reading first bases taken.
-          let (more, worlds, was) = before.2 sources reading first bases taken in
+      (λ sources reading first bases given.
+          let (more, worlds, was) = before.2 sources reading first bases given in
           let world : IsWorld needs.names.items needs.reads needs.orders base (combination, (sources, c.order-item.result.items)) = record {
             ready = c.go_to_order.ensures.ready before.0;
             reading = λ reads. c.go_to_order.ensures.reading sources (before.1 sources (reading reads));
@@ -27,9 +27,9 @@ loop-order-preserved g c =
           )),
     )
 
-pub returns-clause-taken : goal.returns-clause-taken
-returns-clause-taken g c = λ sources reading first bases taken.
+pub returns-clause-worlds : goal.returns-clause-worlds
+returns-clause-worlds g c = λ sources reading first bases given.
     let index = c.loop-order.order-index in
     let orders = c.args.combination.now.orders.items in
     let whole : take index orders ≡ orders = take_all index orders (omega (arith, c.loop-order-test.false, c.deref-order-items.ensures.len)) in
-    rw whole at (c.loop-order.invariant.2 sources reading first bases taken)
+    rw whole at (c.loop-order.invariant.2 sources reading first bases given)

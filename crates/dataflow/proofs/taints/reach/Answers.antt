@@ -9,22 +9,22 @@ use Rattle.dataflow.proofs.taints.reach.Goals.{then-is_event, else-is_event}
 pub loop-step-init : goal.loop-step-init
 loop-step-init c = reached_first c.args.narrow c.args.stored (executed c.args.steps.now) c.no_taints-taints.result _ c.no_taints-taints.ensures.registers c.no_taints-taints.ensures.compared (search rules)
 
-pub bounds-columns-place : goal.bounds-columns-place
-bounds-columns-place c =
+pub bounds-columns-index : goal.bounds-columns-index
+bounds-columns-index c =
     let lt = below_128 c.args.steps.now c.loop-step.step-index _ (instruction_at c.args.steps.now c.loop-step.step-index _ c.loop-step-test.true) (sym c.is_event.ensures ∙ c.if-is_event.true) c.loop-step-test.true c.requires in
-    let here : c.loop-step.place ≡ event_place (executed c.args.steps.now) c.loop-step.step-index = c.loop-step.invariant.here in
+    let here : c.loop-step.index ≡ event_place (executed c.args.steps.now) c.loop-step.step-index = c.loop-step.invariant.here in
     omega (arith, lt, here)
 
 pub note-requires : goal.note-requires
 note-requires c =
     let lt = below_128 c.args.steps.now c.loop-step.step-index _ (instruction_at c.args.steps.now c.loop-step.step-index _ c.loop-step-test.true) (sym c.is_event.ensures ∙ c.if-is_event.true) c.loop-step-test.true c.requires in
-    let here : c.loop-step.place ≡ event_place (executed c.args.steps.now) c.loop-step.step-index = c.loop-step.invariant.here in
+    let here : c.loop-step.index ≡ event_place (executed c.args.steps.now) c.loop-step.step-index = c.loop-step.invariant.here in
     λ load. omega (arith, lt, here)
 
-pub overflow_add-place : goal.overflow_add-place
-overflow_add-place c =
+pub overflow_add-index : goal.overflow_add-index
+overflow_add-index c =
     let lt = below_128 c.args.steps.now c.loop-step.step-index _ (instruction_at c.args.steps.now c.loop-step.step-index _ c.loop-step-test.true) (sym c.is_event.ensures ∙ c.if-is_event.true) c.loop-step-test.true c.requires in
-    let here : c.loop-step.place ≡ event_place (executed c.args.steps.now) c.loop-step.step-index = c.loop-step.invariant.here in
+    let here : c.loop-step.index ≡ event_place (executed c.args.steps.now) c.loop-step.step-index = c.loop-step.invariant.here in
     omega (arith, lt, here)
 
 pub loop-step-preserved : goal.loop-step-preserved
@@ -34,10 +34,10 @@ loop-step-preserved c =
     elim c.if-is_event.branch [
       | then-is_event w ↦
           let event = sym c.is_event.ensures ∙ w.if-is_event.true in
-          reached_as _ _ _ _ _ _ _ _ _ _ (w.taints-is ∙ w.note.ensures) (w.columns-is ∙ ap (λ (v : ℕ). set c.loop-step.columns c.loop-step.place v) w.reads.ensures) w.place-is
-          (reached_event c.args.narrow c.args.stored (executed c.args.steps.now) c.loop-step.step-index c.loop-step.taints c.loop-step.columns c.loop-step.place _ same event
+          reached_as _ _ _ _ _ _ _ _ _ _ (w.taints-is ∙ w.note.ensures) (w.columns-is ∙ ap (λ (v : ℕ). set c.loop-step.columns c.loop-step.index v) w.reads.ensures) w.index-is
+          (reached_event c.args.narrow c.args.stored (executed c.args.steps.now) c.loop-step.step-index c.loop-step.taints c.loop-step.columns c.loop-step.index _ same event
           (below_128 c.args.steps.now c.loop-step.step-index _ same event c.loop-step-test.true c.requires) inside c.loop-step.invariant)
       | else-is_event w ↦
-          reached_as _ _ _ _ _ _ _ _ _ _ (w.taints-is ∙ w.note-else-is_event.ensures) w.columns-is w.place-is
-          (reached_other c.args.narrow c.args.stored (executed c.args.steps.now) c.loop-step.step-index c.loop-step.taints c.loop-step.columns c.loop-step.place _ same (sym c.is_event.ensures ∙ w.if-is_event.false) inside c.loop-step.invariant)
+          reached_as _ _ _ _ _ _ _ _ _ _ (w.taints-is ∙ w.note-else-is_event.ensures) w.columns-is w.index-is
+          (reached_other c.args.narrow c.args.stored (executed c.args.steps.now) c.loop-step.step-index c.loop-step.taints c.loop-step.columns c.loop-step.index _ same (sym c.is_event.ensures ∙ w.if-is_event.false) inside c.loop-step.invariant)
     ]

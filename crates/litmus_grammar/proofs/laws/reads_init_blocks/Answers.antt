@@ -5,7 +5,7 @@ use Rattle.litmus_grammar.specs.Grammar.{IsInitText}
 use Rattle.litmus_grammar.specs.Texts.{IsStart}
 use Rattle.litmus_grammar.proofs.InitLeft.{init_whole}
 use Rattle.litmus_grammar.proofs.InitStarts.{init_reading}
-use Rattle.litmus_grammar.proofs.InitTaken.{init_taken}
+use Rattle.litmus_grammar.proofs.InitAcceptance.{init_taken}
 use Rattle.litmus_grammar.proofs.Outcomes.{fault_found}
 use Rattle.litmus_grammar.proofs.laws.reads_init_blocks.Goals as goal
 

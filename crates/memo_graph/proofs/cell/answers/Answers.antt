@@ -12,18 +12,18 @@ loop-at-init c = λ ordered.
 pub loop-at-preserved : goal.loop-at-preserved
 loop-at-preserved c = λ ordered.
     let items = c.args.resolved.now.items.items in
-    let places = c.deref-at-items.result.now in
-    let all = subst (λ (xs : List ℕ). AreReached items xs) (sym c.deref-at-items.ensures.value) c.in_ok-places.ensures.reached in
+    let indexes = c.deref-at-items.result.now in
+    let all = subst (λ (xs : List ℕ). AreReached items xs) (sym c.deref-at-items.ensures.value) c.in_ok-indexes.ensures.reached in
     let h = c.loop-at.invariant ordered in
-    let place = get_or places c.loop-at.at-index 0 in
+    let index = get_or indexes c.loop-at.at-index 0 in
     let r = c.index.result.now in
-    let less : place < length items = ((all.exact place).0 (c.loop-at.at-index, omega arith, same_at places c.loop-at.at-index place 0 (omega arith))).0 in
-    let is : r ≡ get_or items place r = c.index.ensures in
+    let less : index < length items = ((all.exact index).0 (c.loop-at.at-index, omega arith, same_at indexes c.loop-at.at-index index 0 (omega arith))).0 in
+    let is : r ≡ get_or items index r = c.index.ensures in
     let one = c.in_ok-answer_item.ensures in
-    known_next c.args.space.now items places c.loop-at.at-index place r c.loop-at.answers _ all ordered (omega arith) (λ d. same_at places c.loop-at.at-index 0 d (omega arith)) (slice_get_read items (length items) place r refl less is) h one
+    known_next c.args.space.now items indexes c.loop-at.at-index index r c.loop-at.answers _ all ordered (omega arith) (λ d. same_at indexes c.loop-at.at-index 0 d (omega arith)) (slice_get_read items (length items) index r refl less is) h one
 
 pub returns : goal.returns
 returns c = λ ordered.
     let items = c.args.resolved.now.items.items in
-    let all = subst (λ (xs : List ℕ). AreReached items xs) (sym c.deref-at-items.ensures.value) c.in_ok-places.ensures.reached in
+    let all = subst (λ (xs : List ℕ). AreReached items xs) (sym c.deref-at-items.ensures.value) c.in_ok-indexes.ensures.reached in
     known_end c.args.space.now items c.deref-at-items.result.now c.loop-at.at-index c.loop-at.answers all (omega arith) (c.loop-at.invariant ordered)

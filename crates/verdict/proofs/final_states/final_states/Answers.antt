@@ -1,7 +1,8 @@
 use Rattle.std.proofs.Common.{◌≡◌, ℕ, ◌+◌, ◌<◌, ◌≤◌, get_or, ◌-◌, ◌^◌, min, Bool, List, [], take, length, refl, sym, ap, subst, ◌∙◌}
 use Rattle.std.proofs.lemmas.List.{take_all}
-use Rattle.candidates.specs.Space.{candidates_of, candidates_in}
-use Rattle.candidates.specs.declared.candidate.Combination.{Combination}
+use Rattle.run_combinations.specs.Combinations.{candidates_of}
+use Rattle.candidates.specs.Space.{candidates_in}
+use Rattle.run_combinations.specs.declared.combination.Combination.{Combination}
 use Rattle.verdict.specs.Counting.{Counts, count_kept}
 use Rattle.verdict.specs.Ends.{final_state}
 use Rattle.verdict.specs.Order.{is_state}

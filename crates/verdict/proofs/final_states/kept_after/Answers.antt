@@ -1,5 +1,5 @@
 use Rattle.std.proofs.Common.{ℕ, ◌≤◌, ◌-◌, ◌^◌, min, length, drop, ap, ◌∙◌, arith}
-use Rattle.candidates.specs.Space.{candidates_of}
+use Rattle.run_combinations.specs.Combinations.{candidates_of}
 use Rattle.verdict.proofs.Columns.{drop_up_to}
 use Rattle.verdict.proofs.final_states.kept_after.Goals as goal
 

@@ -1,7 +1,7 @@
 use Rattle.std.proofs.Common.{◌≡◌, rules, ◌∙◌}
 use Rattle.std.specs.Vec.{with_items}
 use Rattle.std.proofs.lemmas.List.{with_items_is}
-use Rattle.base_env.proofs.Held.{under_set, under_shared}
+use Rattle.base_env.proofs.Lookups.{under_set, under_shared}
 use Rattle.base_env.proofs.names.Base.enter.Goals as goal
 
 pub returns-clause-entered : goal.returns-clause-entered

@@ -16,7 +16,7 @@ pub returns-then-len-ge-MAX_ITEMS-clause-answer : goal.returns-then-len-ge-MAX_I
 returns-then-len-ge-MAX_ITEMS-clause-answer c =
     let held : model_items (texts_of c.args.self.now) c.args.model.now ≡ (model_of c.index.result.now).items = rw (← c.in_ok-at.ensures.0) (index-map model_of (λ m. m.items) c.args.self.now.models.items c.in_ok-at.at c.index.result.now [] (omega (arith, c.in_ok-at.ensures.2)) c.index.ensures) in (
       rw (c.in_ok-at.ensures.1, c.in_ok-index.ensures.1) refl,
-      inr (record { item = clause_of c.in-Ok.item; reads = c.in-Ok.ensures.found; many = rw held (omega arith); rule_is = refl; place_is = refl }),
+      inr (record { item = clause_of c.in-Ok.item; reads = c.in-Ok.ensures.found; many = rw held (omega arith); rule_is = refl; offset_is = refl }),
     )
 
 pub returns-clause-answer : goal.returns-clause-answer

@@ -25,7 +25,7 @@ returns-after-loop-index t c = λ ss kept.
     let count : c.len.result ≡ length c.in-Applied.arguments.items = let k = c.in-Applied.arguments.ok in let m = c.len.ensures in omega (arith, k, m) in
     let long : h.sense.arity ≡ length c.deref-argument-items.result.now = h.arity ∙ (count ∙ sym (ap length v)) in
     marked_all ss names ps c.args.under c.args.term.now c.in-Applied.name c.in-Applied.arguments c.deref-argument-items.result.now h.sense c.len.result c.loop-index.index c.args.self.now.of c.loop-index.self.of c.loop-index.self.of
-    c.in-Applied.is v count h.seen (omega (arith, c.loop-index-test.false)) refl (c.loop-index.invariant ss h.one h.sense kept h.there h.kept long)
+    c.in-Applied.is v count h.sense_is (omega (arith, c.loop-index-test.false)) refl (c.loop-index.invariant ss h.one h.sense kept h.there h.kept long)
 
 pub returns-in_default : goal.returns-in_default
 returns-in_default t c = λ ss kept.

@@ -31,5 +31,5 @@ returns-after-loop-argument t c = λ ss kept.
     let ps = c.args.sight.now.parameters.now in
     let h : IsApplied c.args.sight.now.functions.now ss c.in-Ok.function c.len.result (sense_seen ss names ps c.len.result c.in-Applied.name) = told_by c.args.sight.now.functions.now ss names ps c.len.result c.in-Applied.name (Ok c.in-Ok.function) kept c.in-Ok.ensures in
     let count : c.len.result ≡ length c.in-Applied.arguments.items = let k = c.in-Applied.arguments.ok in let m = c.len.ensures in omega (arith, k, m) in
-    put_applied ss names ps c.args.term.now c.in-Applied.name c.in-Applied.arguments c.len.result h.sense c.args.self.now c.put_function.new.self c.put_function.result c.deref-argument-items.result.now c.loop-argument.argument-index c.loop-argument.made.items c.deref-in-Ok.result.now c.in-Applied.is count h.seen
+    put_applied ss names ps c.args.term.now c.in-Applied.name c.in-Applied.arguments c.len.result h.sense c.args.self.now c.put_function.new.self c.put_function.result c.deref-argument-items.result.now c.loop-argument.argument-index c.loop-argument.made.items c.deref-in-Ok.result.now c.in-Applied.is count h.sense_is
     c.deref-argument-items.ensures.value (omega (arith, c.loop-argument-test.false)) c.deref-in-Ok.ensures.value (c.loop-argument.invariant ss kept) (λ wholes all. c.put_function.ensures h.one h.sense wholes h.there h.kept all)

@@ -11,8 +11,8 @@ invariant-loop-argument l =
     let names = reverse (map entry_of l.sight.entries.now) in
     let ps = l.sight.parameters.now in
     record {
-      uses : IsIndexed l.initial.self.places.items l.initial.self.values.items → with_values_among us names ps l.sight.from (terms_in (drop l.argument-index l.argument-items)) (reverse l.self.values.items) ≡ with_values_among us names ps l.sight.from (terms_in l.argument-items) (reverse l.initial.self.values.items);
+      uses : IsIndexed l.initial.self.indexes.items l.initial.self.values.items → with_values_among us names ps l.sight.from (terms_in (drop l.argument-index l.argument-items)) (reverse l.self.values.items) ≡ with_values_among us names ps l.sight.from (terms_in l.argument-items) (reverse l.initial.self.values.items);
       functions : IsListed l.initial.self.applied.items l.initial.self.functions.items → with_functions_among us names ps (terms_in (drop l.argument-index l.argument-items)) (reverse l.self.functions.items) ≡ with_functions_among us names ps (terms_in l.argument-items) (reverse l.initial.self.functions.items);
-      indexed : IsIndexed l.initial.self.places.items l.initial.self.values.items → IsIndexed l.self.places.items l.self.values.items;
+      indexed : IsIndexed l.initial.self.indexes.items l.initial.self.values.items → IsIndexed l.self.indexes.items l.self.values.items;
       listed : IsListed l.initial.self.applied.items l.initial.self.functions.items → IsListed l.self.applied.items l.self.functions.items;
     }

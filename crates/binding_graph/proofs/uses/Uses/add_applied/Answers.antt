@@ -1,6 +1,6 @@
 use Rattle.std.proofs.Common.{◌≡◌, Some, None, Err, length, slice_get, refl}
 use Rattle.std.proofs.lemmas.Option.{slice_get_read, slice_get_past}
-use Rattle.binding_graph.proofs.Seen.{seen_usage, seen_function}
+use Rattle.binding_graph.proofs.Sights.{seen_usage, seen_function}
 use Rattle.binding_graph.proofs.uses.Uses.add_applied.Goals as goal
 
 pub returns-in-Err-clause-values : goal.returns-in-Err-clause-values

@@ -1,9 +1,10 @@
 use Rattle.std.proofs.Common.{◌≡◌, ◌<◌, Vec, List, length, get_or, ap, subst, ◌∙◌, arith, rules, HoldsAt}
 use Rattle.std.specs.declared.alloc.Global.{Global}
 use Rattle.thread_runs.specs.declared.value.Value.{Value}
-use Rattle.candidates.specs.Space.{candidates_of, candidates_in, IsExecution}
+use Rattle.run_combinations.specs.Combinations.{candidates_of}
+use Rattle.candidates.specs.Space.{candidates_in, IsExecution}
 use Rattle.candidates.proofs.Alike.{shown_there}
-use Rattle.candidates.specs.declared.candidate.Combination.{Combination}
+use Rattle.run_combinations.specs.declared.combination.Combination.{Combination}
 use Rattle.candidates.proofs.Spaces.{place_within, found_there}
 use Rattle.candidates.proofs.candidate.Space.execution.Goals as goal
 

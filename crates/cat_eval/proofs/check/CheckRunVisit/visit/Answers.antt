@@ -5,7 +5,7 @@ use Rattle.cat_eval.proofs.Visits.{answers_more, answers_moved, answer_is}
 use Rattle.cat_eval.proofs.check.CheckRunVisit.visit.Goals as goal
 
 pub returns : goal.returns
-returns c = λ first bases taken.
+returns c = λ first bases given.
     let run = c.args.self.now in
     let base = c.args.base.now in
     let check = run.check.now in
@@ -19,9 +19,9 @@ returns c = λ first bases taken.
     (λ t code. relation_left base.count events pairs c.deref.result.now us vs c.in_ok-run.ensures t (c.deref.ensures.value ∙ code))
     c.is_as_asked-met.ensures.set c.is_as_asked-met.ensures.relation check.code.kind refl in
     let long : c.len.result ≡ length run.answers.items = omega (arith, c.len.ensures, run.answers.ok.0) in (
-      taken.0,
-      taken.1,
-      answers_moved run.check first.check run.inputs first.inputs taken.0 taken.1 (bases ++ base ∷ []) c.push.new.self.items
+      given.0,
+      given.1,
+      answers_moved run.check first.check run.inputs first.inputs given.0 given.1 (bases ++ base ∷ []) c.push.new.self.items
           (rw c.in_ok-push.ensures.items
-          (answers_more check inputs bases run.answers.items base _ (answers_moved first.check run.check first.inputs run.inputs (sym taken.0) (sym taken.1) bases run.answers.items taken.2) (rw long at now))),
+          (answers_more check inputs bases run.answers.items base _ (answers_moved first.check run.check first.inputs run.inputs (sym given.0) (sym given.1) bases run.answers.items given.2) (rw long at now))),
     )

@@ -3,7 +3,7 @@ use Rattle.std.proofs.lemmas.Bool.{cases_eq}
 use denote.Ref.{Bor}
 use Rattle.binding_graph.specs.declared.resolved.Body.{Body}
 use Rattle.cat_eval.specs.declared.column.Column.{Column}
-use Rattle.cat_eval.specs.Held.{IsHeldMeaning}
+use Rattle.cat_eval.specs.OverNames.{IsMeaningOver}
 use Rattle.cat_eval.proofs.group.GroupRun.evaluate_each.Goals as goal
 
 pub loop-position-preserved : goal.loop-position-preserved
@@ -30,8 +30,8 @@ loop-position-preserved c =
               s,
               r,
               rw (before.5 at (omega arith) col) at adds,
-              subst (λ (x : Bor (List Body)). IsHeldMeaning (get_or x.now at b).code.kind (get_or x.now at b).code.steps.items c.args.self.now.inputs.now base k s r) before.0
-                  (subst (λ (y : Bor (List (Bor Column))). IsHeldMeaning (get_or run.bodies.now at b).code.kind (get_or run.bodies.now at b).code.steps.items y.now base k s r) before.1 meant),
+              subst (λ (x : Bor (List Body)). IsMeaningOver (get_or x.now at b).code.kind (get_or x.now at b).code.steps.items c.args.self.now.inputs.now base k s r) before.0
+                  (subst (λ (y : Bor (List (Bor Column))). IsMeaningOver (get_or run.bodies.now at b).code.kind (get_or run.bodies.now at b).code.steps.items y.now base k s r) before.1 meant),
             )
         | inr other ↦
             let (s, r, adds, meant) = before.6 none j (omega (arith, less, other)) inside col b in

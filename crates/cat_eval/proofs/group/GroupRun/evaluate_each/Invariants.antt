@@ -2,7 +2,7 @@ use Rattle.std.proofs.Common.{ℕ, ◌≡◌, ◌<◌, ◌≤◌, [], length, sl
 use Rattle.bit_relations.specs.Relation.{Events, Relation}
 use Rattle.binding_graph.specs.declared.resolved.Body.{Body}
 use Rattle.cat_eval.specs.declared.column.Column.{Column}
-use Rattle.cat_eval.specs.Held.{IsHeldMeaning}
+use Rattle.cat_eval.specs.OverNames.{IsMeaningOver}
 use Rattle.cat_eval.specs.Values.{Adds}
 use Rattle.cat_eval.proofs.group.GroupRun.evaluate_each.Given as goal
 
@@ -13,4 +13,4 @@ invariant-loop-position l =
     × ((j : ℕ) → l.position ≤ j → (c : Column) → slice_index_or l.self.columns.items j c ≡ slice_index_or l.initial.self.columns.items j c)
     × (l.initial.self.solver.own.items ≡ [] → (j : ℕ) → j < l.position → j < length l.initial.self.columns.items → (c : Column) (b : Body)
     → (s : Events) × (r : Relation) × Adds (slice_index_or l.initial.self.columns.items j c) (slice_index_or l.self.columns.items j c) s r
-    × IsHeldMeaning (slice_index_or l.initial.self.bodies.now j b).code.kind (slice_index_or l.initial.self.bodies.now j b).code.steps.items l.initial.self.inputs.now l.base l.candidate s r)
+    × IsMeaningOver (slice_index_or l.initial.self.bodies.now j b).code.kind (slice_index_or l.initial.self.bodies.now j b).code.steps.items l.initial.self.inputs.now l.base l.candidate s r)

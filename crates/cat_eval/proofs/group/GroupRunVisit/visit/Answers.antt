@@ -3,33 +3,33 @@ use Rattle.cat_eval.proofs.Columns.{evaluated_more, solved_more, columns_moved, 
 use Rattle.cat_eval.proofs.group.GroupRunVisit.visit.Goals as goal
 
 pub returns-in_ok-solve : goal.returns-in_ok-solve
-returns-in_ok-solve c = λ first bases taken.
+returns-in_ok-solve c = λ first bases given.
     let run = c.args.self.now in
     let new = c.solve.new.self in
     let fixed = c.solve.ensures.fixed in
-    let columns = columns_moved first.recursive run.recursive first.bodies run.bodies first.inputs run.inputs (sym taken.2) (sym taken.0) (sym taken.1) bases run.columns.items taken.4 in
-    let own = own_moved first.recursive run.recursive first.bodies run.bodies (sym taken.2) (sym taken.0) run.solver.own.items taken.3 in
-    let now = solved_more run.bodies.now run.inputs.now bases c.args.base.now run.columns.items new.columns.items c.taken-candidate.result c.solve.ensures.long (rw c.deref.ensures.value at c.taken-candidate.ensures)
+    let columns = columns_moved first.recursive run.recursive first.bodies run.bodies first.inputs run.inputs (sym given.2) (sym given.0) (sym given.1) bases run.columns.items given.4 in
+    let own = own_moved first.recursive run.recursive first.bodies run.bodies (sym given.2) (sym given.0) run.solver.own.items given.3 in
+    let now = solved_more run.bodies.now run.inputs.now bases c.args.base.now run.columns.items new.columns.items c.candidate_count-candidate.result c.solve.ensures.long (rw c.deref.ensures.value at c.candidate_count-candidate.ensures)
     run.recursive run.solver.own.items new.solver.own.items c.if-self.true own columns c.in_ok-solve.ensures.added c.in_ok-solve.ensures.least in (
-      fixed.0 ∙ taken.0,
-      fixed.1 ∙ taken.1,
-      fixed.2 ∙ taken.2,
-      own_moved run.recursive first.recursive run.bodies first.bodies taken.2 taken.0 new.solver.own.items (own_long run.recursive run.bodies.now run.solver.own.items new.solver.own.items c.if-self.true fixed.3 own),
-      columns_moved run.recursive first.recursive run.bodies first.bodies run.inputs first.inputs taken.2 taken.0 taken.1 (bases ++ c.args.base.now ∷ []) new.columns.items now,
+      fixed.0 ∙ given.0,
+      fixed.1 ∙ given.1,
+      fixed.2 ∙ given.2,
+      own_moved run.recursive first.recursive run.bodies first.bodies given.2 given.0 new.solver.own.items (own_long run.recursive run.bodies.now run.solver.own.items new.solver.own.items c.if-self.true fixed.3 own),
+      columns_moved run.recursive first.recursive run.bodies first.bodies run.inputs first.inputs given.2 given.0 given.1 (bases ++ c.args.base.now ∷ []) new.columns.items now,
     )
 
 pub returns-in_ok-evaluate_each : goal.returns-in_ok-evaluate_each
-returns-in_ok-evaluate_each c = λ first bases taken.
+returns-in_ok-evaluate_each c = λ first bases given.
     let run = c.args.self.now in
     let new = c.evaluate_each.new.self in
     let fixed = c.evaluate_each.ensures.fixed in
-    let columns = columns_moved first.recursive run.recursive first.bodies run.bodies first.inputs run.inputs (sym taken.2) (sym taken.0) (sym taken.1) bases run.columns.items taken.4 in
-    let none = own_none run.recursive run.bodies.now run.solver.own.items c.if-self.false (own_moved first.recursive run.recursive first.bodies run.bodies (sym taken.2) (sym taken.0) run.solver.own.items taken.3) in
-    let now = evaluated_more run.bodies.now run.inputs.now bases c.args.base.now run.columns.items new.columns.items c.taken-candidate.result c.evaluate_each.ensures.long (rw c.deref.ensures.value at c.taken-candidate.ensures)
+    let columns = columns_moved first.recursive run.recursive first.bodies run.bodies first.inputs run.inputs (sym given.2) (sym given.0) (sym given.1) bases run.columns.items given.4 in
+    let none = own_none run.recursive run.bodies.now run.solver.own.items c.if-self.false (own_moved first.recursive run.recursive first.bodies run.bodies (sym given.2) (sym given.0) run.solver.own.items given.3) in
+    let now = evaluated_more run.bodies.now run.inputs.now bases c.args.base.now run.columns.items new.columns.items c.candidate_count-candidate.result c.evaluate_each.ensures.long (rw c.deref.ensures.value at c.candidate_count-candidate.ensures)
     run.recursive c.if-self.false columns (c.in_ok-evaluate_each.ensures.added none) in (
-      fixed.0 ∙ taken.0,
-      fixed.1 ∙ taken.1,
-      fixed.2 ∙ taken.2,
-      rw fixed.3 taken.3,
-      columns_moved run.recursive first.recursive run.bodies first.bodies run.inputs first.inputs taken.2 taken.0 taken.1 (bases ++ c.args.base.now ∷ []) new.columns.items now,
+      fixed.0 ∙ given.0,
+      fixed.1 ∙ given.1,
+      fixed.2 ∙ given.2,
+      rw fixed.3 given.3,
+      columns_moved run.recursive first.recursive run.bodies first.bodies run.inputs first.inputs given.2 given.0 given.1 (bases ++ c.args.base.now ∷ []) new.columns.items now,
     )

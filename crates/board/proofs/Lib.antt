@@ -1,0 +1,5 @@
+pub mod Changed
+pub mod Lookups
+pub mod Legal
+pub mod Names
+pub mod Announcing

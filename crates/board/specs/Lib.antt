@@ -1,0 +1,5 @@
+pub mod Contents
+pub mod Operations
+pub mod Legal
+pub mod Right
+pub mod Lines

@@ -1,7 +1,0 @@
-use Rattle.candidates.proofs.Spaces.{length-candidates}
-use Rattle.std.proofs.Common.{arith}
-use Rattle.std.proofs.lemmas.Grind.{common_steps}
-use Rattle.candidates.proofs.candidate.Combination.candidate_count.Goals as goal
-
-pub returns : goal.returns
-returns c = rw (length-candidates c.args.self.now) (grind (arith, common_steps))

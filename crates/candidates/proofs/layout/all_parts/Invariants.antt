@@ -1,6 +1,0 @@
-use Rattle.std.proofs.Common.{take}
-use Rattle.candidates.specs.Parts.{AreThreads}
-use Rattle.candidates.proofs.layout.all_parts.Given as goal
-
-abbrev pub invariant-loop-thread : goal.invariant-loop-thread
-invariant-loop-thread l = AreThreads 0 (take l.thread l.runs) (take l.thread l.sketches) l.threads.items

@@ -1,6 +1,0 @@
-use Rattle.std.proofs.Common.{◌≡◌, ◌-◌, ◌^◌, min, length}
-use Rattle.candidates.specs.Orders.{AreApart, all_orders}
-use Rattle.candidates.proofs.orders.order_count.Given as goal
-
-abbrev pub invariant-loop-location : goal.invariant-loop-location
-invariant-loop-location l = AreApart l.events l.location → l.count ≡ min (length (all_orders l.events l.location)) (2 ^ 64 - 1)

@@ -1,5 +1,0 @@
-use Rattle.candidates.proofs.Parting.{KeptUpTo}
-use Rattle.candidates.proofs.part.keep_readable.Given as goal
-
-abbrev pub invariant-loop-runs : goal.invariant-loop-runs
-invariant-loop-runs l = KeptUpTo l.stored l.runs-index l.initial.threads l.threads

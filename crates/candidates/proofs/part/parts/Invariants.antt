@@ -1,7 +1,0 @@
-use Rattle.std.proofs.Common.{take}
-use Rattle.candidates.specs.Parts.{IsMade}
-use Rattle.std.specs.List.{AllZip}
-use Rattle.candidates.proofs.part.parts.Given as goal
-
-abbrev pub invariant-loop-sketch : goal.invariant-loop-sketch
-invariant-loop-sketch l = AllZip (IsMade l.thread l.runs) (take l.sketch-index l.sketches) l.parts.items

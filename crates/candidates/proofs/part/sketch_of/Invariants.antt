@@ -1,7 +1,0 @@
-use Rattle.std.proofs.Common.{ℕ, take}
-use Rattle.candidates.specs.Keys.{AreKeys, bit_of}
-use Rattle.candidates.specs.Events.{thread_events}
-use Rattle.candidates.proofs.part.sketch_of.Given as goal
-
-abbrev pub invariant-loop-event : goal.invariant-loop-event
-invariant-loop-event l = (thread : ℕ) → AreKeys (bit_of l.values) (thread_events thread (take l.event-index l.event-items)) l.reads l.writes

@@ -1,5 +1,0 @@
-use Rattle.candidates.proofs.Parting.{AreFirst}
-use Rattle.candidates.proofs.part.sketches.Given as goal
-
-abbrev pub invariant-loop-index : goal.invariant-loop-index
-invariant-loop-index l = AreFirst l.values l.runs l.index l.made.items

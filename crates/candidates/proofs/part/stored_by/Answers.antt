@@ -1,8 +1,0 @@
-use Rattle.std.proofs.Common.{subst, List, arith}
-use Rattle.candidates.proofs.Parting.{all_more}
-use Rattle.candidates.specs.Parts.{HasWritesOf}
-use Rattle.candidates.specs.declared.part.Sketch.{Sketch}
-use Rattle.candidates.proofs.part.stored_by.Goals as goal
-
-pub loop-runs-preserved : goal.loop-runs-preserved
-loop-runs-preserved c = all_more c.args.initial.now c.args.threads.now c.loop-runs.runs-index c.runs-item.result c.loop-runs.stored c.join_writes.new.set (omega arith) c.runs-item.is (c.join_writes.ensures.0, subst (λ (l : List Sketch). HasWritesOf c.join_writes.new.set l) c.deref.ensures.value c.join_writes.ensures.1) c.loop-runs.invariant

@@ -1,7 +1,0 @@
-use Rattle.std.proofs.Common.{take}
-use Rattle.candidates.specs.Keys.{IsWithin}
-use Rattle.candidates.specs.Parts.{HasWritesOfAll}
-use Rattle.candidates.proofs.part.stored_by.Given as goal
-
-abbrev pub invariant-loop-runs : goal.invariant-loop-runs
-invariant-loop-runs l = IsWithin l.initial' l.stored × HasWritesOfAll l.stored (take l.runs-index l.threads)

@@ -1,6 +1,0 @@
-use Rattle.candidates.specs.Lists.{lists_of}
-use Rattle.candidates.specs.Rounds.{AreNext}
-use Rattle.candidates.proofs.reading.Reading.extended.Given as goal
-
-abbrev pub invariant-loop-way : goal.invariant-loop-way
-invariant-loop-way l = AreNext l.self l.load l.place l.way-index (lists_of l.ways) (lists_of l.longer.items)

@@ -1,5 +1,0 @@
-use Rattle.candidates.specs.Rounds.{AreStores}
-use Rattle.candidates.proofs.reading.stores_of.Given as goal
-
-abbrev pub invariant-loop-number : goal.invariant-loop-number
-invariant-loop-number l = AreStores l.events l.need_pairs l.number l.stores.items

@@ -1,0 +1,63 @@
+-- The space of a layout, or why it has none; and the space of a test, or why it has none.
+use Rattle.std.specs.Prelude.{Vec, ℕ, ◌≡◌, ◌<◌, ◌≤◌, ◌+◌, ◌*◌, ◌⊎◌, List, [], ◌∷◌, length, map, true, Option, Result, Ok, Err}
+use Rattle.candidates.specs.declared.fault.EvalRefusal.{EvalRefusal}
+use Rattle.candidates.specs.declared.fault.EvalRefusal.TheVariants.{TooManyCandidates, AddressFault}
+use Rattle.std.specs.declared.alloc.Global.{Global}
+use Rattle.thread_runs.specs.declared.value.Value.{Value}
+use Rattle.candidates.specs.declared.fault.SpaceFault.{SpaceFault}
+use Rattle.candidates.specs.declared.fault.SpaceFault.TheVariants.{Refused, OutOfMemory}
+use Rattle.thread_runs.specs.declared.instruction.Program.{Program}
+use Rattle.thread_runs.specs.declared.run.Run.{Run}
+use Rattle.ppc_semantics.specs.Domain.{IsDomain}
+use Rattle.ppc_semantics.specs.Lowering.{IsProgram, IsTestFault}
+use Rattle.ppc_semantics.specs.declared.fault.DomainRefusal.{DomainRefusal}
+use Rattle.ppc_semantics.specs.declared.fault.DomainFault.TheVariants as domain_faults
+use Rattle.candidates.specs.Faults.{refusal_of}
+use Rattle.litmus_values.specs.declared.test.Test.{Test}
+use Rattle.run_combinations.specs.Keys.{IsKeyed}
+use Rattle.run_combinations.specs.Events.{initial_stores}
+use Rattle.run_combinations.specs.Layouts.{AreAllRuns, IsLaidOut}
+use Rattle.run_combinations.specs.Ways.{AreWays}
+use Rattle.run_combinations.specs.Search.{PrefixLists, all_combinations, location_count}
+use Rattle.run_combinations.specs.Combinations.{CombinationLists, combination_lists, ordered}
+use Rattle.candidates.specs.declared.candidate.Space.{Space}
+use Rattle.run_combinations.specs.declared.layout.Layout.{Layout}
+use Rattle.run_combinations.specs.Candidates.{AreCandidates, AreTooMany, AreFaulted}
+
+-- the registers at the ends of the runs, and the locations
+abbrev pub HasEnds : Layout → Space → Type 0
+HasEnds l s = (map (λ v. v.items) s.registers.items ≡ map (λ t. map (λ p. p.registers) t.parts.items) l.threads.items) × (s.locations ≡ l.locations)
+
+-- the space of a layout, or why there is none
+abbrev pub IsSpaceOf : Layout → Space → Type 0
+IsSpaceOf l s = AreCandidates (location_count l) (all_combinations l) (map combination_lists s.combinations.items) × HasEnds l s
+
+abbrev pub IsRefusedAs : Layout → EvalRefusal → Type 0
+IsRefusedAs l TooManyCandidates = AreTooMany (location_count l) (all_combinations l)
+IsRefusedAs l AddressFault = AreFaulted (location_count l) (all_combinations l)
+IsRefusedAs l _ = ⊥
+
+abbrev pub IsAnswer : Layout → Result Space EvalRefusal → Type 0
+IsAnswer l (Ok s) = IsSpaceOf l s
+IsAnswer l (Err r) = IsRefusedAs l r
+
+-- what the candidates of the test are made of: the initial stores of its program, and runs of each of its threads over
+-- its domain
+abbrev pub HasLayout : Test → Layout → Type 0
+HasLayout t l = (p : Program) × (values : List Value) × (runs : List (Vec Run Global)) × IsProgram t p × IsDomain p values × AreAllRuns p values runs × IsLaidOut p runs l
+
+-- with the sets of what its runs read and store
+abbrev pub IsReady : Test → Layout → Type 0
+IsReady t l = HasLayout t l × (key : ℕ → Value → Option (ℕ × ℕ)) × (initial : List Value) × IsKeyed key l × (l.initial.items ≡ initial_stores 0 initial)
+
+-- the space of the test, or why it has none: a refusal of its domain, or one that its candidates call for
+abbrev pub IsTestSpace : Test → Space → Type 0
+IsTestSpace t s = (l : Layout) × HasLayout t l × IsSpaceOf l s
+
+abbrev pub IsLayoutFault : Test → SpaceFault → Type 0
+IsLayoutFault t (Refused r) = (d : DomainRefusal) × (r ≡ refusal_of d) × IsTestFault t (domain_faults.Refused d)
+IsLayoutFault t (OutOfMemory e) = Unit {0}
+
+abbrev pub IsTestRefusal : Test → SpaceFault → Type 0
+IsTestRefusal t (Refused r) = IsLayoutFault t (Refused r) ⊎ ((l : Layout) × HasLayout t l × IsRefusedAs l r)
+IsTestRefusal t (OutOfMemory e) = Unit {0}

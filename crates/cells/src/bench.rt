@@ -1,0 +1,130 @@
+//! The calls of a bench of cells.
+
+ghost use Rattle.std.specs.Prelude.{◌≡◌, ◌<◌, ◌≤◌, ◌+◌, leb, [], ℕ, List, IsTrue, IsFalse, IfOk, OnOk, OnErr, IfErr, IfSome, IfNone, Err};
+ghost use Rattle.memo_core.specs.Laws.{meaning};
+ghost use Rattle.memo_core.specs.Run.{Edit as Edited, Claim as Claimed, NoClaim, Returned, Lose as Lost, Renew as Renewed, Refused, Step};
+ghost use Rattle.cells.specs.Cells.{cells, IsShown, ShowsFromScratch, AllAreSettled};
+
+use crate::job::{Done, Job};
+use crate::shown::Shown;
+use crate::texts::CellTexts;
+use memo_bench::graph::{Graph, LAST};
+use memo_core::claims::{ClaimFault, Finish};
+use memo_core::table::output_token;
+use std::alloc::Global;
+use std::marker::Model;
+use std::sync::Arc;
+use value_store::{Store, StoreName};
+
+/// Tests and models, with the outcome of each test under each model as far as it is known.
+#[derive(Drop)]
+pub struct Bench<K: StoreName, T: CellTexts> {
+    graph: Graph<K, T>,
+}
+
+impl<K: StoreName, T: CellTexts> Model for Bench<K, T> {
+    ghost use Rattle.memo_core.specs.Laws.{meaning};
+    ghost use Rattle.memo_core.specs.Run.{Bench as Plain};
+    ghost use Rattle.cells.specs.Views.{plain_bench, IsSoundBench};
+
+    ghost Value = { Plain T T.Value };
+
+    ghost view = { λ b. plain_bench b.graph.texts b.graph.memos.entries b.graph.claims.entries b.graph.taken };
+
+    ghost invariant = { λ b. IsSoundBench (meaning T.net T.is_valid T.since T.makes T.keeps T.edited) b.graph.texts b.graph.memos.entries b.graph.claims.entries b.graph.taken };
+}
+
+impl<K: StoreName, T: CellTexts> Bench<K, T> {
+    /// A bench without tests and models.
+    pub fn new(alloc: Global, store: Arc<Store<K, T::Value>, Global>) -> Self
+        ensures memos { result.memos ≡ [] }
+        ensures claims { result.claims ≡ [] }
+        ensures taken { result.taken ≡ 0 }
+        ensures valid { T.is_valid result.texts }
+        ensures parts { (p q : ℕ) → (T.net result.texts).part p q ≡ 0 }
+    {
+        Bench {
+            graph: Graph::new(alloc, T::empty(alloc), store),
+        }
+    }
+
+    /// Makes an edit, and gives its number. A refusal, by a rule or for want of memory, leaves all as it was.
+    pub fn edit(&mut self, alloc: Global, edit: T::Edit) -> Result<u64, T::Fault>
+        ensures number { IfOk result (λ number. number ≡ self.old.taken + 1) }
+        ensures edited { OnOk result (Step (meaning T.net T.is_valid T.since T.makes T.keeps T.edited) self.old (Edited edit) self.new) }
+        ensures unspent { OnOk result (self.old.taken < LAST) }
+        ensures fault { IfErr result (λ fault. T.refuses self.old.texts edit (leb LAST self.old.taken) fault) }
+        ensures refused { OnErr result (Step (meaning T.net T.is_valid T.since T.makes T.keeps T.edited) self.old Refused self.new) }
+    {
+        self.graph.edit(alloc, edit)
+    }
+
+    /// Gives out a job, if there is any work: a node that some cell needs, whose inputs are settled, which is not up to date
+    /// and not out with the present inputs. It makes the room for all that its return keeps.
+    pub fn claim(&mut self, alloc: Global) -> Result<Option<Job<K, T>>, ClaimFault>
+        ensures given { IfOk result (λ r. IfSome r (λ j. Step (meaning T.net T.is_valid T.since T.makes T.keeps T.edited) self.old (Claimed j.claim j.node j.given j.keys j.values) self.new)) }
+        ensures none { IfOk result (λ r. IfNone r (Step (meaning T.net T.is_valid T.since T.makes T.keeps T.edited) self.old NoClaim self.new)) }
+        ensures spent { LAST ≤ self.old.taken → result ≡ Err ClaimFault.Spent }
+        ensures spent_only { result ≡ Err ClaimFault.Spent → LAST ≤ self.old.taken }
+        ensures refused { OnErr result (Step (meaning T.net T.is_valid T.since T.makes T.keeps T.edited) self.old Refused self.new) }
+    {
+        match self.graph.claim(alloc) {
+            Ok(Some(job)) => Ok(Some(Job { job })),
+            Ok(None) => Ok(None),
+            Err(fault) => Err(fault),
+        }
+    }
+
+    /// Takes a return, by the first case that holds. It takes no memory.
+    pub fn finish(&mut self, done: Done<K, T>) -> Finish
+        ensures { Step (meaning T.net T.is_valid T.since T.makes T.keeps T.edited) self.old (Returned done result) self.new }
+    {
+        let Done { done } = done;
+        self.graph.finish(done)
+    }
+
+    /// Closes a claim, and says whether it was out. It takes no memory.
+    pub fn lose(&mut self, claim: u64) -> bool
+        ensures { Step (meaning T.net T.is_valid T.since T.makes T.keeps T.edited) self.old (Lost claim result) self.new }
+    {
+        self.graph.lose(claim)
+    }
+
+    /// Forgets all that was computed, and closes every claim. It takes no memory.
+    pub fn renew(&mut self)
+        ensures { Step (meaning T.net T.is_valid T.since T.makes T.keeps T.edited) self.old Renewed self.new }
+    {
+        self.graph.renew();
+    }
+
+    /// What is shown of a test under a model. It takes no memory.
+    pub fn shown(&self, test: &[u8], model: &[u8]) -> Shown<'_, T::Outcome>
+        ensures shown { IsShown T.net (cells T.verdict_of T.outcome_in T.from_scratch T.reaches) self.now test.now model.now result }
+        ensures from_scratch { ShowsFromScratch (cells T.verdict_of T.outcome_in T.from_scratch T.reaches) self.now.texts test.now model.now result }
+    {
+        let verdict = match self.graph.texts.verdict_of(test, model) {
+            Some(verdict) => verdict,
+            None => return Shown::NoCell,
+        };
+        let outputs = match self.graph.shown(verdict) {
+            Some(outputs) => outputs,
+            None => return Shown::Open,
+        };
+        let token = match output_token(outputs, 0) {
+            Some(token) => token,
+            None => unreachable!(),
+        };
+        match T::outcome_in(self.graph.see(token)) {
+            Some(outcome) => Shown::Settled(outcome),
+            None => unreachable!(),
+        }
+    }
+
+    /// Whether every used node is settled, and so every cell. It takes no memory.
+    pub fn all_settled(&self) -> bool
+        ensures yes { IsTrue result → AllAreSettled T.net self.now }
+        ensures no { IsFalse result → AllAreSettled T.net self.now → ⊥ }
+    {
+        self.graph.all_settled()
+    }
+}

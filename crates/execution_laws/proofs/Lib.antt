@@ -1,9 +1,0 @@
-pub mod Addresses
-pub mod AllListed
-pub mod AnyValues
-pub mod Covering
-pub mod LoadValues
-pub mod NoLocation
-pub mod OneOutcome
-pub mod Outcomes
-pub mod StepValues

@@ -1,8 +1,0 @@
-use Rattle.thread_runs.specs.ValueSet.{IsOne}
-use Rattle.candidates.proofs.Needs.{stands, at}
-use Rattle.execution_laws.proofs.dependencies_name_events_of_their_steps.Goals as goal
-
-pub returns : goal.returns
-returns c = λ initial threads runs are thread step r there is.
-    let s = stands IsOne threads initial runs are thread r step there is in
-    (s.event, at IsOne threads initial runs are thread r step there s, s.kind)

@@ -1,5 +1,0 @@
-use Rattle.execution_laws.proofs.Outcomes.{shown_alike}
-use Rattle.execution_laws.proofs.spaces_show_the_same.Goals as goal
-
-pub returns : goal.returns
-returns c = shown_alike c.args.test.now c.args.first.now c.args.second.now

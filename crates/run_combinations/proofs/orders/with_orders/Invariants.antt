@@ -1,0 +1,6 @@
+use Rattle.std.proofs.Common.{◌≡◌, map, min}
+use Rattle.run_combinations.specs.Combinations.{combination_lists, ordered}
+use Rattle.run_combinations.proofs.orders.with_orders.Given as goal
+
+abbrev pub invariant-loop-combination : goal.invariant-loop-combination
+invariant-loop-combination l = map combination_lists l.made.items ≡ map (λ c. ordered (min l.locations 128) (combination_lists c)) l.yielded

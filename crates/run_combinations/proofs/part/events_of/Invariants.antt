@@ -1,0 +1,6 @@
+use Rattle.std.proofs.Common.{◌≡◌, take}
+use Rattle.run_combinations.specs.Events.{thread_events}
+use Rattle.run_combinations.proofs.part.events_of.Given as goal
+
+abbrev pub invariant-loop-event : goal.invariant-loop-event
+invariant-loop-event l = l.events.items ≡ thread_events l.thread (take l.event-index l.event-items)

@@ -1,0 +1,37 @@
+-- A combination of runs as plain data, and its candidates as a list.
+use Rattle.std.specs.Prelude.{Vec, ℕ, ◌≡◌, List, length, map}
+use Rattle.std.specs.List.{flat_map}
+use Rattle.dataflow.specs.DependencyLists.{DependencyLists, dependency_lists}
+use Rattle.run_combinations.specs.Lists.{lists_of}
+use Rattle.run_combinations.specs.Orders.{all_orders}
+use Rattle.run_combinations.specs.declared.combination.Event.{Event}
+use Rattle.run_combinations.specs.declared.combination.Combination.{Combination}
+
+-- each of the first list with each of the second, the first one slowest
+abbrev pub pairs : {X Y : Type 0} → List X → List Y → List (X × Y)
+pairs xs ys = flat_map (λ x. map (λ y. (x, y)) ys) xs
+
+-- the candidates of a combination: each way to read with each order of the stores
+unfoldable pub candidates_of : Combination → List (List ℕ × List ℕ)
+candidates_of c = pairs (lists_of c.sources.items) (lists_of c.orders.items)
+
+-- a combination as plain data
+pub record CombinationLists : Type 0 where
+  pub events : List Event
+  pub dependencies : DependencyLists
+  pub runs : List ℕ
+  pub sources : List (List ℕ)
+  pub orders : List (List ℕ)
+
+abbrev pub combination_lists : Combination → CombinationLists
+combination_lists c = record {
+  events = c.events.items;
+  dependencies = dependency_lists c.dependencies;
+  runs = c.runs.items;
+  sources = lists_of c.sources.items;
+  orders = lists_of c.orders.items;
+}
+
+-- the combination with the orders of its stores, of the first locations
+abbrev pub ordered : ℕ → CombinationLists → CombinationLists
+ordered n s = record s { orders = all_orders s.events n }

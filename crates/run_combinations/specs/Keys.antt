@@ -1,0 +1,79 @@
+-- Sets of pairs of a location and a value, each of which has one bit.
+use Rattle.std.specs.Prelude.{ℕ, ◌≡◌, ◌+◌, ◌*◌, ◌/◌, ◌%◌, ◌⊎◌, ◌&&◌, if◌then◌else◌, nat_lt, Bool, true, false, List, [], ◌∷◌, Option, Some, None}
+use Rattle.std.specs.List.{position_or_len}
+use Rattle.bit_relations.specs.Rows.{RowsHave}
+use Rattle.thread_runs.specs.declared.value.Value.{Value}
+use Rattle.run_combinations.specs.Events.{HasLoad, HasStore}
+use Rattle.run_combinations.specs.Ways.{same_value}
+use Rattle.run_combinations.specs.declared.combination.Event.{Event}
+use Rattle.run_combinations.specs.declared.keys.KeySet.{KeySet}
+use Rattle.run_combinations.specs.declared.layout.Layout.{Layout}
+use Rattle.run_combinations.specs.declared.layout.ThreadParts.{ThreadParts}
+use Rattle.run_combinations.specs.declared.part.Part.{Part}
+use Rattle.run_combinations.specs.declared.search.Prefix.{Prefix}
+
+-- the set has the bit of a word
+abbrev pub HasKey : KeySet → ℕ → ℕ → Type 0
+HasKey s word bit = RowsHave s.words word bit
+
+-- the number of the pair of a location and a value, by the place of the value among these; none past 128 locations and
+-- 16 values
+abbrev pub number_at : ℕ → ℕ → Option ℕ
+number_at location place = if nat_lt location 128 && nat_lt place 16 then Some (location * 16 + place) else None
+
+abbrev pub key_in : List Value → ℕ → Value → Option ℕ
+key_in values location value = number_at location (position_or_len (λ v. same_value v value) values)
+
+-- the bit that the pair has in a set, as a word and the place in it
+abbrev pub bit_at : Option ℕ → Option (ℕ × ℕ)
+bit_at None = None
+bit_at (Some key) = Some (key / 64, key % 64)
+
+abbrev pub bit_of : List Value → ℕ → Value → Option (ℕ × ℕ)
+bit_of values location value = bit_at (key_in values location value)
+
+-- whether the second set has all of the first: if not, one is missing
+abbrev pub TellsAll : Bool → (ℕ → Type 0) → (ℕ → Type 0) → Type 0
+TellsAll true S T = (b : ℕ) → S b → T b
+TellsAll false S T = (b : ℕ) × S b × (T b → ⊥)
+
+abbrev pub TellsWithin : Bool → (ℕ → ℕ → Type 0) → (ℕ → ℕ → Type 0) → Type 0
+TellsWithin true R S = (a b : ℕ) → R a b → S a b
+TellsWithin false R S = (a b : ℕ) × R a b × (S a b → ⊥)
+
+-- all pairs of the one set are in the other
+abbrev pub IsWithin : KeySet → KeySet → Type 0
+IsWithin s t = (a b : ℕ) → HasKey s a b → HasKey t a b
+
+-- the set has all that some run of the threads stores
+abbrev pub HasWrites : KeySet → List ThreadParts → Type 0
+HasWrites s [] = Unit {0}
+HasWrites s (t ∷ ts) = IsWithin t.writes s × HasWrites s ts
+
+-- each pair of the first set is one that a load reads, and the second has each that a store stores, where `key` says
+-- which bit a location and a value have, if any
+pub record AreKeys (key : ℕ → Value → Option (ℕ × ℕ)) (es : List Event) (reads writes : KeySet) : Type 0 where
+  pub loads : (a b : ℕ) → HasKey reads a b → (location : ℕ) × (value : Value) × (key location value ≡ Some (a, b)) × HasLoad location value es
+  pub stores : (location : ℕ) (value : Value) (a b : ℕ) → HasStore location value es → key location value ≡ Some (a, b) → HasKey writes a b
+
+-- so are the sets of each run of a thread, of which this one has all that they store
+abbrev pub PartsAreKeyed : (ℕ → Value → Option (ℕ × ℕ)) → KeySet → List Part → Type 0
+PartsAreKeyed key all [] = Unit {0}
+PartsAreKeyed key all (p ∷ ps) = AreKeys key p.events.items p.reads p.writes × IsWithin p.writes all × PartsAreKeyed key all ps
+
+abbrev pub ThreadsAreKeyed : (ℕ → Value → Option (ℕ × ℕ)) → List ThreadParts → Type 0
+ThreadsAreKeyed key [] = Unit {0}
+ThreadsAreKeyed key (t ∷ ts) = PartsAreKeyed key t.writes t.parts.items × ThreadsAreKeyed key ts
+
+-- the sets of a layout
+pub record IsKeyed (key : ℕ → Value → Option (ℕ × ℕ)) (l : Layout) : Type 0 where
+  pub initial : (location : ℕ) (value : Value) (a b : ℕ) → HasStore location value l.initial.items → key location value ≡ Some (a, b) → HasKey l.initial_writes a b
+  pub threads : ThreadsAreKeyed key l.threads.items
+
+-- a load of the prefix or of the run reads it
+abbrev pub IsRead : Prefix → Part → ℕ → ℕ → Type 0
+IsRead f p a b = HasKey f.reads a b ⊎ HasKey p.reads a b
+
+-- the prefix, the run or a later thread stores it
+abbrev pub IsStored : Prefix → Part → KeySet → ℕ → ℕ → Type 0
+IsStored f p after a b = (HasKey after a b ⊎ HasKey f.writes a b) ⊎ HasKey p.writes a b

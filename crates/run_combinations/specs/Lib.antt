@@ -1,0 +1,11 @@
+pub mod Candidates
+pub mod Combinations
+pub mod Events
+pub mod Keys
+pub mod Layouts
+pub mod Lists
+pub mod Orders
+pub mod Parts
+pub mod Rounds
+pub mod Search
+pub mod Ways

@@ -1,0 +1,82 @@
+-- The ways in which the loads of a combination of runs read its stores.
+use Rattle.std.specs.Prelude.{Bool, true, false, ◌&&◌, nat_eq, filter, ℕ, ◌≡◌, ◌<◌, ◌≤◌, List, [], ◌∷◌, ◌++◌, map, length, slice_index, slice_index_or, Option, None, Some, Contains}
+use Rattle.bit_relations.specs.Pairs.{Union, IsAcyclic}
+use Rattle.thread_runs.specs.declared.value.Value.{Value}
+use Rattle.thread_runs.specs.declared.value.Value.TheVariants.{Number, Address, NoValue}
+use Rattle.run_combinations.specs.Lists.{tuples, IsFiltered}
+use Rattle.run_combinations.specs.Events.{numbers, is_load, is_store, ReadsFrom}
+use Rattle.run_combinations.specs.declared.combination.Action.{Action}
+use Rattle.run_combinations.specs.declared.combination.Action.TheVariants.{Read, Write}
+use Rattle.run_combinations.specs.declared.combination.Event.{Event}
+
+-- the loads, by their numbers in event order, the stores that each may read, and which stores there are, and which
+-- loads the value of a store needs
+pub record Accesses : Type 1 where
+  pub loads : List ℕ
+  pub sources : List (List ℕ)
+  pub Store : ℕ → Type 0
+  pub Need : ℕ → ℕ → Type 0
+
+-- the load at a place may read the store
+abbrev pub Source : Accesses → ℕ → ℕ → Type 0
+Source g i s = Contains (slice_index_or g.sources i []) s
+
+-- what is read together with what is needed has no cycle
+abbrev pub IsWay : Accesses → List ℕ → Type 0
+IsWay g way = IsAcyclic (Union g.Need (ReadsFrom g.loads way))
+
+-- the value of the event can arise, where the first loads read what the way says and the others some store that they
+-- may read, and where one load is left out, if any: that of a store once those that it needs have arisen, that of a
+-- load once that of the store that it reads has
+pub data Derived (g : Accesses) (way : List ℕ) (without : Option ℕ) : ℕ → Type 0 where
+  stored : {x : ℕ} → g.Store x → ((a : ℕ) → g.Need a x → Derived g way without a) → Derived g way without x
+  read : {x : ℕ} (i : ℕ) → i < length g.loads → (without ≡ Some i → ⊥) → x ≡ slice_index g.loads i → i < length way → Derived g way without (slice_index way i) → Derived g way without x
+  chosen : {x : ℕ} (i s : ℕ) → i < length g.loads → (without ≡ Some i → ⊥) → x ≡ slice_index g.loads i → length way ≤ i → Source g i s → Derived g way without s → Derived g way without x
+
+-- the first loads read stores that they may, and all loads can
+pub record IsPossible (g : Accesses) (way : List ℕ) : Type 0 where
+  pub few : length way ≤ length g.loads
+  pub allowed : (i : ℕ) → i < length way → Source g i (slice_index way i)
+  pub arises : (i : ℕ) → i < length g.loads → Derived g way None (slice_index g.loads i)
+
+-- each access is an event, and is either one load or a store; a load reads stores, and a store needs loads
+pub record IsProper (n : ℕ) (g : Accesses) : Type 0 where
+  pub paired : length g.sources ≡ length g.loads
+  pub loads_within : (i : ℕ) → i < length g.loads → slice_index g.loads i < n
+  pub apart : (i j : ℕ) → i < length g.loads → j < length g.loads → slice_index g.loads i ≡ slice_index g.loads j → i ≡ j
+  pub stores_within : (x : ℕ) → g.Store x → x < n
+  pub never_both : (i : ℕ) → i < length g.loads → g.Store (slice_index g.loads i) → ⊥
+  pub sources : (i s : ℕ) → i < length g.loads → Source g i s → g.Store s
+  pub needed : (a x : ℕ) → g.Need a x → (i : ℕ) × (i < length g.loads) × (a ≡ slice_index g.loads i)
+  pub needing : (a x : ℕ) → g.Need a x → g.Store x
+
+-- the front with each of the choices behind it
+abbrev pub nexts : List ℕ → List ℕ → List (List ℕ)
+nexts choices front = map (λ x. front ++ x ∷ []) choices
+
+abbrev pub same_value : Value → Value → Bool
+same_value (Number m) (Number n) = nat_eq m n
+same_value (Address k) (Address l) = nat_eq k l
+same_value NoValue NoValue = true
+same_value _ _ = false
+
+-- a load may read the stores of its location and value
+abbrev pub may_read : Action → Action → Bool
+may_read (Read location value) (Write place written) = nat_eq place location && same_value written value
+may_read _ _ = false
+
+abbrev pub sources_of : List Event → Event → List ℕ
+sources_of es load = numbers (λ e. may_read load.action e.action) 0 es
+
+-- the accesses among events, where pairs of a load and a store say which values are needed
+abbrev pub accesses_in : List Event → List (ℕ × ℕ) → Accesses
+accesses_in es pairs = record {
+  loads = numbers is_load 0 es;
+  sources = map (sources_of es) (filter is_load es);
+  Store = Contains (numbers is_store 0 es);
+  Need = λ a x. Contains pairs (a, x) × Contains (numbers is_load 0 es) a × Contains (numbers is_store 0 es) x;
+}
+
+-- the ways to read: a store of its location and value for each load, in lexicographic order, without a cycle
+abbrev pub AreWays : List Event → List (ℕ × ℕ) → List (List ℕ) → Type 0
+AreWays es pairs ways = IsFiltered (IsWay (accesses_in es pairs)) (tuples [] (accesses_in es pairs).sources) ways

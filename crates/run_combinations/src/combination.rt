@@ -1,0 +1,69 @@
+//! Combinations of runs, with what makes candidates of them.
+ghost use Rattle.std.specs.Prelude.{◌≡◌, ◌-◌, ◌^◌, ◌<◌, ◌≤◌, ◌↔◌, min, length, IsTrue};
+
+use dataflow::Dependencies;
+use litmus_values::Fence;
+use ppc_semantics::Value;
+
+/// What an event does.
+#[derive(Clone, Copy)]
+pub enum Action {
+    /// A load of the value from the location, by its index among the test's.
+    Read { location: usize, value: Value },
+    /// A store of the value at the location, by its index among the test's.
+    Write { location: usize, value: Value },
+    /// A fence.
+    Fence(Fence),
+}
+
+/// An event: an initial store, which has no thread, or an access or fence of a thread.
+#[derive(Clone, Copy)]
+pub struct Event {
+    /// The thread's number, from 0; none for an initial store.
+    pub thread: Option<usize>,
+    /// What it does.
+    pub action: Action,
+}
+
+/// One run for each thread, with all ways to read and all orders of the stores that make
+/// candidates of it: each way to read with each order is one candidate, the ways outside.
+/// Events are numbered: initial stores by location, then threads in order, each in program
+/// order.
+#[derive(Drop)]
+pub struct Combination {
+    /// The events, by their numbers.
+    pub events: Vec<Event>,
+    /// The dependencies, by the numbers of their events.
+    pub dependencies: Dependencies,
+    /// For each thread, the index of its run in `Space::registers`.
+    pub runs: Vec<usize>,
+    /// Each a way to read: for each load in event order, the number of the store that it reads.
+    pub sources: Vec<Vec<u8>>,
+    /// Each an order of the stores: those of each location after one another, locations in order,
+    /// the initial store first.
+    pub orders: Vec<Vec<u8>>,
+    /// There are at most 128 events.
+    pub ghost few: { length events.items ≤ 128 },
+}
+
+impl Combination {
+    ghost use Rattle.run_combinations.specs.Combinations.{candidates_of};
+
+    /// How many candidates it has, or the greatest number where that is less.
+    pub fn candidate_count(&self) -> usize
+        ensures { result ≡ min (length (candidates_of self.now)) (2 ^ 64 - 1) }
+    {
+        self.sources.len().saturating_mul(self.orders.len())
+    }
+
+    /// Whether it has a candidate at this index.
+    pub fn has(&self, index: usize) -> bool
+        ensures { IsTrue result ↔ (index < length (candidates_of self.now)) }
+    {
+        let orders = self.orders.len();
+        if orders == 0 {
+            return false;
+        }
+        index / orders < self.sources.len()
+    }
+}

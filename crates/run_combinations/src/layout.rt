@@ -1,0 +1,176 @@
+//! What a test's candidates are made of: initial stores, and runs of each thread.
+
+ghost use Rattle.std.specs.Prelude.{Vec, ℕ, ◌≡◌, ◌<◌, List, Some, length, map, IfOk};
+ghost use Rattle.std.specs.declared.alloc.Global.{Global};
+ghost use Rattle.thread_runs.specs.declared.value.Value.{Value};
+ghost use Rattle.thread_runs.specs.declared.run.Run.{Run};
+ghost use Rattle.thread_runs.specs.ValueSet.{IsSet};
+ghost use Rattle.run_combinations.specs.Keys.{HasKey, IsKeyed, bit_of};
+ghost use Rattle.run_combinations.specs.Events.{initial_stores, HasStore};
+ghost use Rattle.run_combinations.specs.Parts.{AreSketches, HasWritesOf, AreBelow, IsMade, NamesRuns, AreThreads};
+ghost use Rattle.std.specs.List.{AllZip};
+ghost use Rattle.run_combinations.specs.Layouts.{AreAllRuns, IsLaidOut};
+
+use crate::combination::{Action, Event};
+use crate::keys::KeySet;
+use crate::part::{Part, Sketch, add_keys, join_writes, parts, sift, sketches};
+use ppc_semantics::{Domain, Program, Run, Value, runs_of};
+use source_text::Name;
+use std::alloc::{AllocError, Global};
+
+/// The runs of a thread that may be part of a candidate.
+#[derive(Drop)]
+pub struct ThreadParts {
+    pub parts: Vec<Part>,
+    /// The locations and values that some of them stores.
+    pub writes: KeySet,
+}
+
+/// What the candidates of a test are made of.
+#[derive(Drop)]
+pub struct Layout {
+    /// The test's locations, sorted by name bytes.
+    pub locations: Vec<Name>,
+    /// The initial stores, by location.
+    pub initial: Vec<Event>,
+    /// The locations and values that the initial stores store.
+    pub initial_writes: KeySet,
+    pub threads: Vec<ThreadParts>,
+}
+
+/// The initial stores, by location.
+fn initial_events(alloc: Global, initial: &[Value]) -> Result<Vec<Event>, AllocError>
+    ensures { IfOk result (λ v. v.items ≡ initial_stores 0 initial.now) }
+{
+    let mut events = Vec::with_capacity(alloc, initial.len())?;
+    for location in 0..initial.len() {
+        events.push(Event {
+            thread: None,
+            action: Action::Write {
+                location,
+                value: initial[location],
+            },
+        })?;
+    }
+    Ok(events)
+}
+
+/// What the initial stores store.
+fn initial_keys(values: &[Value], initial: &[Event]) -> KeySet
+    ensures { (location : ℕ) (value : Value) (a b : ℕ) → HasStore location value initial.now → bit_of values.now location value ≡ Some (a, b) → HasKey result a b }
+{
+    let mut reads = KeySet::empty();
+    let mut writes = KeySet::empty();
+    for event in initial {
+        add_keys(values, event.action, &mut reads, &mut writes);
+    }
+    writes
+}
+
+/// The runs of each thread.
+fn all_runs(alloc: Global, program: &Program, domain: &Domain) -> Result<Vec<Vec<Run>>, AllocError>
+    requires { IsSet domain.now.values.items }
+    ensures { IfOk result (λ v. AreAllRuns program.now domain.now.values.items v.items) }
+{
+    let mut threads = Vec::with_capacity(alloc, program.threads.len())?;
+    for thread in 0..program.threads.len() {
+        threads.push(runs_of(alloc, program, thread, domain)?)?;
+    }
+    Ok(threads)
+}
+
+/// The runs of each thread in short.
+fn all_sketches(
+    alloc: Global,
+    domain: &Domain,
+    runs: &[Vec<Run>],
+) -> Result<Vec<Vec<Sketch>>, AllocError>
+    ensures { IfOk result (λ v. AllZip (λ r s. AreSketches domain.now.values.items r.items s.items) runs.now v.items) }
+{
+    let mut threads = Vec::with_capacity(alloc, runs.len())?;
+    for thread in runs {
+        threads.push(sketches(alloc, &domain.values, thread)?)?;
+    }
+    Ok(threads)
+}
+
+/// The runs of a thread that may be part of a candidate.
+fn thread_parts(
+    alloc: Global,
+    thread: usize,
+    runs: &[Run],
+    sketches: &[Sketch],
+) -> Result<ThreadParts, AllocError>
+    requires { AreBelow (length runs.now) sketches.now }
+    ensures writes { IfOk result (λ t. HasWritesOf t.writes sketches.now) }
+    ensures parts { IfOk result (λ t. AllZip (IsMade thread runs.now) sketches.now t.parts.items) }
+{
+    let mut writes = KeySet::empty();
+    join_writes(&mut writes, sketches);
+    Ok(ThreadParts {
+        parts: parts(alloc, thread, runs, sketches)?,
+        writes,
+    })
+}
+
+/// The runs of each thread that may be part of a candidate.
+fn all_parts(
+    alloc: Global,
+    runs: &[Vec<Run>],
+    sketches: &[Vec<Sketch>],
+) -> Result<Vec<ThreadParts>, AllocError>
+    requires { AllZip NamesRuns runs.now sketches.now }
+    ensures { IfOk result (λ v. AreThreads 0 runs.now sketches.now v.items) }
+{
+    let mut threads = Vec::with_capacity(alloc, runs.len())?;
+    for thread in 0..runs.len() {
+        threads.push(thread_parts(alloc, thread, &runs[thread], &sketches[thread])?)?;
+    }
+    Ok(threads)
+}
+
+impl Layout {
+    /// What the candidates of a program over a domain are made of.
+    pub fn new(alloc: Global, program: Program, domain: &Domain) -> Result<Layout, AllocError>
+        requires { IsSet domain.now.values.items }
+        ensures { IfOk result (λ l. (runs : List (Vec Run Global)) × AreAllRuns program domain.now.values.items runs × IsLaidOut program runs l × IsKeyed (bit_of domain.now.values.items) l) }
+    {
+        let runs = all_runs(alloc, &program, domain)?;
+        let initial = initial_events(alloc, &program.initial)?;
+        let initial_writes = initial_keys(&domain.values, &initial);
+        let mut sketches = all_sketches(alloc, domain, &runs)?;
+        sift(&initial_writes, &mut sketches);
+        let threads = all_parts(alloc, &runs, &sketches)?;
+        Ok(Layout {
+            locations: program.locations,
+            initial,
+            initial_writes,
+            threads,
+        })
+    }
+}
+
+/// What the registers hold at the end of each run.
+fn ends_of(alloc: Global, parts: &[Part]) -> Result<Vec<[Value; 32]>, AllocError>
+    ensures { IfOk result (λ v. v.items ≡ map (λ p. p.registers) parts.now) }
+{
+    let mut ends = Vec::with_capacity(alloc, parts.len())?;
+    for part in parts {
+        ends.push(part.registers)?;
+    }
+    Ok(ends)
+}
+
+/// For each thread and each of its runs, what the registers hold at the end.
+pub fn registers(
+    alloc: Global,
+    threads: &[ThreadParts],
+) -> Result<Vec<Vec<[Value; 32]>>, AllocError>
+    ensures { IfOk result (λ v. map (λ w. w.items) v.items ≡ map (λ t. map (λ p. p.registers) t.parts.items) threads.now) }
+{
+    let mut all = Vec::with_capacity(alloc, threads.len())?;
+    for thread in threads {
+        all.push(ends_of(alloc, &thread.parts)?)?;
+    }
+    Ok(all)
+}

@@ -1,0 +1,24 @@
+//! The search for the candidates of a test: the parts that runs of its threads give, the combinations
+//! of a run of each thread, and for each of them the ways to read and the orders of the stores.
+//!
+//! Read `specs/Events` first, then `specs/Ways`, `specs/Orders` and `specs/Candidates`. What `space`
+//! makes of these, in the words of the field, stands in `candidates`.
+#![tactic(auto)]
+
+mod combination;
+mod keys;
+mod layout;
+mod orders;
+mod part;
+mod reading;
+mod search;
+
+pub use combination::{Action, Combination, Event};
+pub use layout::{Layout, ThreadParts, registers};
+pub use orders::with_orders;
+pub use part::Part;
+pub use reading::is_same;
+pub use search::{Found, find_combinations};
+
+/// The greatest number of candidates that a test may have.
+pub const MAX_CANDIDATES: usize = 16_384;

@@ -1,0 +1,215 @@
+//! Runs of one thread, as parts of candidates.
+
+ghost use Rattle.std.specs.Prelude.{ℕ, ◌≡◌, ◌<◌, ◌++◌, List, [], ◌∷◌, Option, length, IfOk};
+ghost use Rattle.run_combinations.specs.declared.combination.Event.{Event};
+ghost use Rattle.run_combinations.specs.Keys.{IsWithin, AreKeys, bit_of};
+ghost use Rattle.run_combinations.specs.Events.{action_in, thread_events};
+ghost use Rattle.run_combinations.specs.Parts.{AreSketches, AreKept, HasWritesOf, HasWritesOfAll, AreBelow, IsSifted, IsPartOf, IsMade};
+ghost use Rattle.std.specs.List.{AllZip};
+
+use crate::combination::{Action, Event};
+use crate::keys::KeySet;
+use dataflow::{Links, links};
+use ppc_semantics::{Run, Value};
+use std::alloc::{AllocError, Global};
+
+/// A run of a thread that may be part of a candidate.
+#[derive(Drop)]
+pub struct Part {
+    /// The index of the run among the runs of its thread.
+    pub run: usize,
+    pub events: Vec<Event>,
+    pub links: Links,
+    /// The locations and values that its loads read.
+    pub reads: KeySet,
+    /// The locations and values that its stores store.
+    pub writes: KeySet,
+    pub registers: [Value; 32],
+    pub is_faulted: bool,
+}
+
+/// A run by its index among the runs of its thread, with what its loads read and its stores store.
+#[derive(Clone, Copy)]
+pub struct Sketch {
+    pub run: usize,
+    pub reads: KeySet,
+    pub writes: KeySet,
+}
+
+/// What an event of a run does, where its address is a location.
+fn action_of(event: ppc_semantics::Event) -> Option<Action>
+    ensures { result ≡ action_in event }
+{
+    match event {
+        ppc_semantics::Event::Reads(Value::Address(location), value) => {
+            Some(Action::Read { location, value })
+        }
+        ppc_semantics::Event::Writes(Value::Address(location), value) => {
+            Some(Action::Write { location, value })
+        }
+        ppc_semantics::Event::Orders(fence) => Some(Action::Fence(fence)),
+        _ => None,
+    }
+}
+
+/// Adds what an action reads or stores.
+pub fn add_keys(values: &[Value], action: Action, reads: &mut KeySet, writes: &mut KeySet)
+    ensures { (es : List Event) (thread : Option ℕ) → AreKeys (bit_of values.now) es reads.old writes.old → AreKeys (bit_of values.now) (es ++ record { thread = thread; action = action } ∷ []) reads.new writes.new }
+{
+    match action {
+        Action::Read { location, value } => reads.insert_pair(values, location, value),
+        Action::Write { location, value } => writes.insert_pair(values, location, value),
+        Action::Fence(_) => {}
+    }
+}
+
+/// The accesses and fences of a run.
+fn events_in(run: &Run) -> &[ppc_semantics::Event]
+    ensures { result.now ≡ run.now.events.items }
+{
+    &run.events
+}
+
+/// What the events of the run at this index read and store.
+fn sketch_of(values: &[Value], index: usize, run: &Run) -> Sketch
+    ensures index { result.run ≡ index }
+    ensures keys { (thread : ℕ) → AreKeys (bit_of values.now) (thread_events thread run.now.events.items) result.reads result.writes }
+{
+    let mut reads = KeySet::empty();
+    let mut writes = KeySet::empty();
+    for event in events_in(run) {
+        match action_of(*event) {
+            Some(action) => add_keys(values, action, &mut reads, &mut writes),
+            None => {}
+        }
+    }
+    Sketch {
+        run: index,
+        reads,
+        writes,
+    }
+}
+
+/// The runs of a thread, in their order.
+pub fn sketches(alloc: Global, values: &[Value], runs: &[Run]) -> Result<Vec<Sketch>, AllocError>
+    ensures { IfOk result (λ v. AreSketches values.now runs.now v.items) }
+{
+    let mut made = Vec::with_capacity(alloc, runs.len())?;
+    for index in 0..runs.len() {
+        made.push(sketch_of(values, index, &runs[index]))?;
+    }
+    Ok(made)
+}
+
+/// How many runs there are in all.
+fn total(threads: &[Vec<Sketch>]) -> usize {
+    let mut total = 0usize;
+    for runs in threads {
+        total = total.saturating_add(runs.len());
+    }
+    total
+}
+
+/// Adds what the stores of these runs store.
+pub fn join_writes(set: &mut KeySet, runs: &[Sketch])
+    ensures { IsWithin set.old set.new × HasWritesOf set.new runs.now }
+{
+    for run in runs {
+        set.join(&run.writes);
+    }
+}
+
+/// What the initial stores and the stores of these runs store.
+fn stored_by(initial: &KeySet, threads: &[Vec<Sketch>]) -> KeySet
+    ensures { IsWithin initial.now result × HasWritesOfAll result threads.now }
+{
+    let mut stored = *initial;
+    for runs in threads {
+        join_writes(&mut stored, runs);
+    }
+    stored
+}
+
+/// Leaves out the runs with a load that reads what is not stored.
+fn keep_stored(stored: &KeySet, runs: &mut Vec<Sketch>)
+    ensures { AreKept stored.now runs.old.items runs.new.items }
+{
+    runs.retain(|run| run.reads.is_within(stored));
+}
+
+/// Leaves out the runs with a load that reads what no initial store and no store of any run
+/// stores.
+fn keep_readable(initial: &KeySet, threads: &mut [Vec<Sketch>])
+    ensures { IsSifted initial.now threads.old threads.new }
+{
+    let stored = stored_by(initial, threads);
+    for runs in threads.iter_mut() {
+        keep_stored(&stored, runs);
+    }
+}
+
+/// Leaves out runs, until each load of those that stay reads what an initial store or a store of
+/// one that stays stores.
+pub fn sift(initial: &KeySet, threads: &mut [Vec<Sketch>])
+    ensures { IsSifted initial.now threads.old threads.new }
+{
+    let mut count = total(threads);
+    for _ in 0..count {
+        keep_readable(initial, threads);
+        let left = total(threads);
+        if left == count {
+            break;
+        }
+        count = left;
+    }
+}
+
+/// The events of a run of a thread.
+fn events_of(alloc: Global, thread: usize, run: &Run) -> Result<Vec<Event>, AllocError>
+    ensures { IfOk result (λ v. v.items ≡ thread_events thread run.now.events.items) }
+{
+    let mut events = Vec::with_capacity(alloc, run.events.len())?;
+    for event in events_in(run) {
+        match action_of(*event) {
+            Some(action) => events.push(Event {
+                thread: Some(thread),
+                action,
+            })?,
+            None => {}
+        }
+    }
+    Ok(events)
+}
+
+/// A run as a part of candidates.
+fn part_of(alloc: Global, thread: usize, run: &Run, sketch: &Sketch) -> Result<Part, AllocError>
+    ensures part { IfOk result (λ p. IsPartOf thread run.now p) }
+    ensures sketch { IfOk result (λ p. (p.run ≡ sketch.now.run) × (p.reads ≡ sketch.now.reads) × (p.writes ≡ sketch.now.writes)) }
+{
+    Ok(Part {
+        run: sketch.run,
+        events: events_of(alloc, thread, run)?,
+        links: links(alloc, run)?,
+        reads: sketch.reads,
+        writes: sketch.writes,
+        registers: run.registers,
+        is_faulted: run.faulted,
+    })
+}
+
+/// The runs that the sketches name.
+pub fn parts(
+    alloc: Global,
+    thread: usize,
+    runs: &[Run],
+    sketches: &[Sketch],
+) -> Result<Vec<Part>, AllocError>
+    requires { AreBelow (length runs.now) sketches.now }
+    ensures { IfOk result (λ v. AllZip (IsMade thread runs.now) sketches.now v.items) }
+{
+    let mut parts = Vec::with_capacity(alloc, sketches.len())?;
+    for sketch in sketches {
+        parts.push(part_of(alloc, thread, &runs[sketch.run], sketch)?)?;
+    }
+    Ok(parts)
+}

@@ -1,0 +1,372 @@
+//! The ways in which the loads of a combination of runs read its stores.
+
+ghost use Rattle.std.specs.Prelude.{◌≡◌, ◌<◌, ◌≤◌, ◌↔◌, ◌⊎◌, length, Contains, IsTrue, IfOk, OnOk, MatchOption};
+ghost use Rattle.bit_relations.specs.Relation.{IsMember, IsEvents};
+ghost use Rattle.run_combinations.specs.Rounds.{IsInside, IsMeeting, CanRead, CanArise, WithStores, WithLoads, IsRound, HasDerived, TellsPossible, GainsNext, AreNext, AreOver, HasOver, HasWays, Shows, AreLoads, AreStores};
+ghost use Rattle.run_combinations.specs.Lists.{lists_of};
+ghost use Rattle.run_combinations.specs.Events.{numbers, is_load, is_store};
+ghost use Rattle.run_combinations.specs.Ways.{may_read, same_value};
+ghost use Rattle.run_combinations.specs.Ways as ways;
+
+use crate::combination::{Action, Event};
+use crate::orders::joined;
+use bit_relations::{EventSet, MAX_EVENTS};
+use ppc_semantics::Value;
+use std::alloc::{AllocError, Global};
+
+/// A load with the stores of its location and value.
+#[derive(Clone, Copy)]
+struct Load {
+    event: usize,
+    sources: EventSet,
+}
+
+/// A store with the loads whose values its value needs.
+#[derive(Clone, Copy)]
+struct Store {
+    event: usize,
+    needs: EventSet,
+}
+
+/// The loads and stores of a combination of runs, in event order.
+#[derive(Drop)]
+pub struct Reading {
+    count: usize,
+    loads: Vec<Load>,
+    stores: Vec<Store>,
+}
+
+/// Adds the event, if it is wanted and the set can have it.
+fn add_if(set: &mut EventSet, is_wanted: bool, event: usize)
+    ensures { IsEvents set.new set.old.count (λ x. IsMember set.old x ⊎ ((x < set.old.count) × (x ≡ event) × IsTrue is_wanted)) }
+{
+    let count = set.count();
+    if is_wanted && event < count {
+        set.insert(event);
+    }
+}
+
+/// Whether the set has the event.
+fn has(set: &EventSet, event: usize) -> bool
+    ensures { IsTrue result ↔ IsMember set.now event }
+{
+    event < set.count() && set.contains(event)
+}
+
+/// Whether the second set has all events of the first.
+fn is_within(set: &EventSet, other: &EventSet) -> bool
+    ensures { IsTrue result ↔ IsInside set.now other.now }
+{
+    set.count() == other.count() && set.minus(other).is_empty()
+}
+
+/// Whether the sets have a common event.
+fn meets(set: &EventSet, other: &EventSet) -> bool
+    ensures { IsTrue result ↔ IsMeeting set.now other.now }
+{
+    set.count() == other.count() && !set.inter(other).is_empty()
+}
+
+/// Whether both sets have the event.
+fn has_both(set: &EventSet, other: &EventSet, event: usize) -> bool
+    ensures { IsTrue result ↔ (IsMember set.now event × IsMember other.now event) }
+{
+    has(set, event) && has(other, event)
+}
+
+/// Whether the load at this place is the one to leave out.
+fn is_left(without: Option<usize>, place: usize) -> bool
+    ensures { IsTrue result ↔ (without ≡ Some place) }
+{
+    match without {
+        Some(left) => left == place,
+        None => false,
+    }
+}
+
+/// Whether the load at this place reads an event of the set: the first ones what `way` says, the
+/// others any store of their location and value.
+fn can_read(load: &Load, way: &[u8], place: usize, derived: &EventSet) -> bool
+    ensures { IsTrue result ↔ CanRead way.now derived.now place load.now }
+{
+    if place < way.len() {
+        has(derived, usize::from(way[place]))
+    } else {
+        meets(&load.sources, derived)
+    }
+}
+
+/// Whether the load at this place reads an event of the set, and is not the one to leave out.
+fn can_arise(
+    load: &Load,
+    way: &[u8],
+    without: Option<usize>,
+    place: usize,
+    derived: &EventSet,
+) -> bool
+    ensures { IsTrue result ↔ CanArise way.now without derived.now place load.now }
+{
+    !is_left(without, place) && can_read(load, way, place, derived)
+}
+
+/// Whether the event is a load.
+fn is_read(event: &Event) -> bool
+    ensures { result ≡ is_load event.now }
+{
+    matches!(event.action, Action::Read { .. })
+}
+
+/// Whether the event is a store.
+fn is_write(event: &Event) -> bool
+    ensures { result ≡ is_store event.now }
+{
+    matches!(event.action, Action::Write { .. })
+}
+
+/// Whether there is a load of this number.
+fn has_load(events: &[Event], number: usize) -> bool
+    ensures { IsTrue result ↔ Contains (numbers is_load 0 events.now) number }
+{
+    number < events.len() && is_read(&events[number])
+}
+
+/// Whether the load may read the store: they have one location and value.
+fn is_source(load: &Event, store: &Event) -> bool
+    ensures { result ≡ may_read load.now.action store.now.action }
+{
+    match (load.action, store.action) {
+        (
+            Action::Read { location, value },
+            Action::Write {
+                location: place,
+                value: written,
+            },
+        ) => place == location && is_same(written, value),
+        _ => false,
+    }
+}
+
+/// Whether both are one value.
+pub fn is_same(value: Value, other: Value) -> bool
+    ensures { result ≡ same_value value other }
+{
+    match (value, other) {
+        (Value::Number(m), Value::Number(n)) => m == n,
+        (Value::Address(k), Value::Address(l)) => k == l,
+        (Value::NoValue, Value::NoValue) => true,
+        _ => false,
+    }
+}
+
+/// The stores that the load may read.
+fn sources_of(events: &[Event], load: &Event) -> EventSet
+    requires { length events.now ≤ MAX_EVENTS }
+    ensures { IsEvents result (length events.now) (Contains (ways.sources_of events.now load.now)) }
+{
+    let mut found = EventSet::empty(events.len());
+    for number in 0..events.len() {
+        add_if(&mut found, is_source(load, &events[number]), number);
+    }
+    found
+}
+
+/// Whether the pair is a load and the store, which needs its value.
+fn is_need(events: &[Event], pair: (usize, usize), store: usize) -> bool
+    ensures { IsTrue result ↔ ((pair.1 ≡ store) × Contains (numbers is_load 0 events.now) pair.0) }
+{
+    pair.1 == store && has_load(events, pair.0)
+}
+
+/// The loads that the store needs.
+fn needs_of(events: &[Event], need_pairs: &[(usize, usize)], store: usize) -> EventSet
+    requires { length events.now ≤ MAX_EVENTS }
+    ensures { IsEvents result (length events.now) (λ a. Contains need_pairs.now (a, store) × Contains (numbers is_load 0 events.now) a) }
+{
+    let mut found = EventSet::empty(events.len());
+    for number in 0..need_pairs.len() {
+        let pair = need_pairs[number];
+        add_if(&mut found, is_need(events, pair, store), pair.0);
+    }
+    found
+}
+
+/// The loads among the events.
+fn loads_of(alloc: Global, events: &[Event]) -> Result<Vec<Load>, AllocError>
+    requires { length events.now ≤ MAX_EVENTS }
+    ensures { IfOk result (λ v. AreLoads events.now (length events.now) v.items) }
+{
+    let mut loads = Vec::new(alloc);
+    for number in 0..events.len() {
+        if is_read(&events[number]) {
+            loads.push(Load {
+                event: number,
+                sources: sources_of(events, &events[number]),
+            })?;
+        }
+    }
+    Ok(loads)
+}
+
+/// The stores among the events.
+fn stores_of(
+    alloc: Global,
+    events: &[Event],
+    need_pairs: &[(usize, usize)],
+) -> Result<Vec<Store>, AllocError>
+    requires { length events.now ≤ MAX_EVENTS }
+    ensures { IfOk result (λ v. AreStores events.now need_pairs.now (length events.now) v.items) }
+{
+    let mut stores = Vec::new(alloc);
+    for number in 0..events.len() {
+        if is_write(&events[number]) {
+            stores.push(Store {
+                event: number,
+                needs: needs_of(events, need_pairs, number),
+            })?;
+        }
+    }
+    Ok(stores)
+}
+
+impl Reading {
+    /// The loads and stores among the events, of which there are at most 128. A pair of
+    /// `need_pairs` is a load and a store whose value needs that of the load.
+    pub fn new(
+        alloc: Global,
+        events: &[Event],
+        need_pairs: &[(usize, usize)],
+    ) -> Result<Reading, AllocError>
+        ensures { IfOk result (λ r. length events.now ≤ MAX_EVENTS → Shows events.now need_pairs.now r) }
+    {
+        let events = &events[..events.len().min(MAX_EVENTS)];
+        Ok(Reading {
+            count: events.len(),
+            loads: loads_of(alloc, events)?,
+            stores: stores_of(alloc, events, need_pairs)?,
+        })
+    }
+
+    /// The events, and the stores whose needs are among them.
+    fn with_stores(&self, derived: &EventSet) -> EventSet
+        ensures { WithStores self.now derived.now result }
+    {
+        let mut next = *derived;
+        let _count = derived.count();
+        for store in &self.stores {
+            add_if(&mut next, is_within(&store.needs, derived), store.event);
+        }
+        next
+    }
+
+    /// The events, and the loads but for one, if any, that read one of them.
+    fn with_loads(&self, way: &[u8], without: Option<usize>, derived: &EventSet) -> EventSet
+        ensures { WithLoads self.now way.now without derived.now result }
+    {
+        let mut next = *derived;
+        let _count = derived.count();
+        for (place, load) in self.loads.iter().enumerate() {
+            let is_wanted = can_arise(load, way, without, place, derived);
+            add_if(&mut next, is_wanted, load.event);
+        }
+        next
+    }
+
+    /// The events, and what arises from them at once.
+    fn round(&self, way: &[u8], without: Option<usize>, derived: &EventSet) -> EventSet
+        ensures { IsRound self.now way.now without derived.now result }
+    {
+        self.with_loads(way, without, &self.with_stores(derived))
+    }
+
+    /// The loads and stores whose values can arise in some order, where the first loads read as
+    /// `way` says and one load, if any, is left out.
+    fn derived(&self, way: &[u8], without: Option<usize>) -> EventSet
+        ensures { HasDerived self.now way.now without result }
+    {
+        let mut derived = EventSet::empty(self.count.min(MAX_EVENTS));
+        let mut next = self.round(way, without, &derived);
+        while !next.is_same(&derived) {
+            derived = next;
+            next = self.round(way, without, &derived);
+        }
+        derived
+    }
+
+    /// Whether all loads can read without a cycle.
+    fn is_possible(&self) -> bool
+        ensures { TellsPossible self.now result }
+    {
+        let derived = self.derived(&[], None);
+        for load in &self.loads {
+            if !has(&derived, load.event) {
+                return false;
+            }
+        }
+        true
+    }
+
+    /// Adds to `longer` the way with each store that the load at `place`, the first without one,
+    /// can read.
+    fn extend(
+        &self,
+        alloc: Global,
+        way: &[u8],
+        load: &Load,
+        place: usize,
+        longer: &mut Vec<Vec<u8>>,
+    ) -> Result<(), AllocError>
+        ensures { OnOk result (GainsNext self.now load.now place way.now (lists_of longer.old.items) (lists_of longer.new.items)) }
+    {
+        let derived = self.derived(way, Some(place));
+        for store in 0..self.count.min(MAX_EVENTS) {
+            if has_both(&load.sources, &derived, store) {
+                longer.push(joined(alloc, way, &[store as u8])?)?;
+            }
+        }
+        Ok(())
+    }
+
+    /// Each way with each store that the load at `place` can read; `None` where there are over
+    /// `limit`.
+    fn extended(
+        &self,
+        alloc: Global,
+        ways: &[Vec<u8>],
+        load: &Load,
+        place: usize,
+        limit: usize,
+    ) -> Result<Option<Vec<Vec<u8>>>, AllocError>
+        ensures { IfOk result (λ o. MatchOption o (AreOver self.now load.now place (lists_of ways.now) limit) (λ v. AreNext self.now load.now place (length ways.now) (lists_of ways.now) (lists_of v.items))) }
+    {
+        let mut longer = Vec::with_capacity(alloc, ways.len())?;
+        for way in ways {
+            self.extend(alloc, way, load, place, &mut longer)?;
+            if longer.len() > limit {
+                return Ok(None);
+            }
+        }
+        Ok(Some(longer))
+    }
+
+    /// The ways to read in which what is read and what is needed make no cycle, in lexicographic
+    /// order: for each load in event order the number of its store. `None` where there are over
+    /// `limit`.
+    pub fn ways(&self, alloc: Global, limit: usize) -> Result<Option<Vec<Vec<u8>>>, AllocError>
+        ensures { IfOk result (λ o. MatchOption o (HasOver self.now limit) (λ v. HasWays self.now (lists_of v.items) × (length v.items ≤ limit))) }
+    {
+        let mut ways = Vec::new(alloc);
+        if self.is_possible() {
+            ways.push(Vec::new(alloc))?;
+        }
+        for (place, load) in self.loads.iter().enumerate() {
+            match self.extended(alloc, &ways, load, place, limit)? {
+                Some(longer) => ways = longer,
+                None => return Ok(None),
+            }
+        }
+        if ways.len() > limit {
+            return Ok(None);
+        }
+        Ok(Some(ways))
+    }
+}
