@@ -36,13 +36,13 @@ both_of a b h i = rw h i
 
 -- ---- what a used node is
 
-used_test : (t : NodeTable) (n : Node) → Has (used t) n → has_test t.tests.items n.test ≡ true
+pub used_test : (t : NodeTable) (n : Node) → Has (used t) n → has_test t.tests.items n.test ≡ true
 used_test t n h = first_of (has_test t.tests.items n.test) (has_slot t.slots.items n.kind n.of) (sym (has_used t.slots.items t.tests.items n) ∙ has_is n (used t) h)
 
-used_slot : (t : NodeTable) (n : Node) → Has (used t) n → has_slot t.slots.items n.kind n.of ≡ true
+pub used_slot : (t : NodeTable) (n : Node) → Has (used t) n → has_slot t.slots.items n.kind n.of ≡ true
 used_slot t n h = second_of (has_test t.tests.items n.test) (has_slot t.slots.items n.kind n.of) (sym (has_used t.slots.items t.tests.items n) ∙ has_is n (used t) h)
 
-used_by : (t : NodeTable) (n : Node) → has_test t.tests.items n.test ≡ true → has_slot t.slots.items n.kind n.of ≡ true → Has (used t) n
+pub used_by : (t : NodeTable) (n : Node) → has_test t.tests.items n.test ≡ true → has_slot t.slots.items n.kind n.of ≡ true → Has (used t) n
 used_by t n a b = has_yes n (used t) (has_used t.slots.items t.tests.items n ∙ both_of (has_test t.tests.items n.test) (has_slot t.slots.items n.kind n.of) a b)
 
 -- ---- the inputs of a space are parts

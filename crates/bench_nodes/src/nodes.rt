@@ -122,7 +122,7 @@ fn test_node(slots: &[Slot], test: u64, i: usize) -> Node
 impl NodeTable {
     ghost use Rattle.std.specs.Prelude.{◌≡◌, ◌∷◌, ◌+◌, ◌<◌, Some, length, drop, slice_get};
     ghost use Rattle.memo_core.specs.Tests.{has_node};
-    ghost use Rattle.bench_nodes.specs.Nodes.{part_stamp, used, inputs_of, inputs, users};
+    ghost use Rattle.bench_nodes.specs.Nodes.{part_stamp, used, inputs_of, inputs, users, has_test, slot_keys};
 
     /// The stamp of a part, 0 where it is not there.
     pub fn part_stamp(&self, part: u64, of: u64) -> u64
@@ -135,6 +135,20 @@ impl NodeTable {
         } else {
             test_stamp(&self.tests, part, of)
         }
+    }
+
+    /// Whether a test of that number is there.
+    pub fn has_test(&self, id: u64) -> bool
+        ensures { result ≡ has_test self.now.tests.items id }
+    {
+        has_test(&self.tests, id)
+    }
+
+    /// The inputs of the nodes of this kind of the item or model of that number, without their test.
+    pub fn slot_keys(&self, kind: Kind, of: u64) -> &[SlotKey]
+        ensures { result.now ≡ slot_keys self.now.slots.items kind of }
+    {
+        slot_keys(&self.slots, kind, of)
     }
 
     /// How many inputs a node has.

@@ -151,6 +151,8 @@ impl Texts {
         ensures answer { Answers (texts_of self.old) spent (PutTest text.now) result }
         ensures ready { IfOk result (IsReady self.new) }
         ensures kept { texts_of self.new ≡ texts_of self.old }
+        ensures tests { self.new.tests.items ≡ self.old.tests.items }
+        ensures models { self.new.models.items ≡ self.old.models.items }
         ensures read { AreRead self.old → AreRead self.new }
     {
         let test = match read_test(alloc, text) {

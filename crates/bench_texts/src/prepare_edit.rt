@@ -29,8 +29,10 @@ impl Texts {
         ensures ready { IfOk result (λ p. IsReplaceable self.new p.replacement) }
         // It is known whether the edit puts or drops a whole test or model.
         ensures whole { IfOk result (λ p. p.whole ≡ is_whole (edit_of edit.now)) }
-        // No text is changed.
+        // No text is changed: each test and each model is the one that it was.
         ensures kept { texts_of self.new ≡ texts_of self.old }
+        ensures tests { self.new.tests.items ≡ self.old.tests.items }
+        ensures models { self.new.models.items ≡ self.old.models.items }
         // Each model holds what its items are resolved to.
         ensures read { AreRead self.old → AreRead self.new }
     {
@@ -56,6 +58,8 @@ impl Texts {
         ensures answer { Answers (texts_of self.old) spent (edit_of edit.now) result }
         ensures ready { IfOk result (IsReady self.new) }
         ensures kept { texts_of self.new ≡ texts_of self.old }
+        ensures tests { self.new.tests.items ≡ self.old.tests.items }
+        ensures models { self.new.models.items ≡ self.old.models.items }
         ensures read { AreRead self.old → AreRead self.new }
     {
         match edit {

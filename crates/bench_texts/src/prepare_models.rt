@@ -127,6 +127,8 @@ impl Texts {
         ensures change { IfOk result (λ c. texts_after c (texts_of self.old) ≡ with_models (put_at at (record { name = name.now; items = numbered_items (texts_of self.old).next (clauses_of text.items.items) })) ((texts_of self.old).next + length (clauses_of text.items.items)) (texts_of self.old)) }
         ensures ready { IfOk result (IsReady self.new) }
         ensures kept { texts_of self.new ≡ texts_of self.old }
+        ensures tests { self.new.tests.items ≡ self.old.tests.items }
+        ensures models { self.new.models.items ≡ self.old.models.items }
         ensures read { AreRead self.old → AreRead self.new }
     {
         let next = self.next + text.items.len() as u64;
@@ -145,6 +147,8 @@ impl Texts {
         ensures answer { Answers (texts_of self.old) spent (PutModel model.now text.now) result }
         ensures ready { IfOk result (IsReady self.new) }
         ensures kept { texts_of self.new ≡ texts_of self.old }
+        ensures tests { self.new.tests.items ≡ self.old.tests.items }
+        ensures models { self.new.models.items ≡ self.old.models.items }
         ensures read { AreRead self.old → AreRead self.new }
     {
         if !is_model_name(model) {

@@ -23,7 +23,7 @@ use Rattle.cat_eval.specs.Candidates.{name_count}
 use Rattle.binding_graph.specs.Reach.{is_check, IsCheckAt, UsesAt, Leads, IsReached, AreReached}
 use Rattle.verdict.specs.Kept.{Flag}
 use Rattle.memo_graph.specs.Answers.{IsNamed, AreNamed, HasAnswers, IsValued, IsSaidAs, IsSaidBy, AreSaid, IsBound, AreOrdered, AreLeast, LeastOf, AreRising, IsRising, AreSound}
-use Rattle.memo_graph.specs.Known.{column_in, column_of, AreFound, checks_of, flags_of, ColumnsAt, IsAnswered, AreKnown, AreKnownTo}
+use Rattle.memo_graph.specs.Known.{column_in, column_of, AreFound, checks_of, flags_of, ColumnsAt, HasAllColumns, IsAnswered, AreKnown, AreKnownTo}
 use Rattle.binding_graph.proofs.Reaching.{leads_more}
 use Rattle.cat_eval.proofs.Columns.{columns_named}
 
@@ -288,6 +288,13 @@ known_next space items indexes p at r old new all ordered lt is e to given =
 pub known_end : (space : Space) (items : List ResolvedItem) (indexes : List ℕ) (p : ℕ) (a : ItemAnswers) → AreReached items indexes → length indexes ≤ p → AreKnownTo space items indexes p a → AreSaid space (reverse items) (checks_of a) (flags_of a)
 known_end space items indexes p a all le to =
     known_all space items indexes to.number a to.within (λ k from less m. omega (arith, to.below m.0 k (omega (arith, m.1)), m.2)) (reached_check items indexes all) to.known
+
+-- those of an item that is reached are known
+pub columns_end : (space : Space) (items : List ResolvedItem) (indexes : List ℕ) (p : ℕ) (a : ItemAnswers) → AreReached items indexes → length indexes ≤ p → AreKnownTo space items indexes p a → HasAllColumns space items a
+columns_end space items indexes p a all le to j lt reached d =
+    let m : Contains indexes j = (all.exact j).1 (lt, reached) in
+    let before : j < to.number = omega (arith, to.below m.0 j (omega (arith, m.1)), m.2) in
+    rw (← take_whole items) (value_later space items j (length items) _ lt (omega arith) (to.known.values j before m d))
 
 -- ---- the columns that are found, one by one
 

@@ -5,6 +5,7 @@ use Rattle.std.specs.declared.alloc.Global.{Global}
 use denote.Ref.{Bor}
 use Rattle.binding_kinds.specs.declared.scope.Input.{Input}
 use Rattle.binding_graph.specs.declared.resolved.ResolvedItem.{ResolvedItem}
+use Rattle.binding_graph.specs.Reach.{IsReached}
 use Rattle.candidates.specs.declared.candidate.Space.{Space}
 use Rattle.cat_eval.specs.declared.column.Column.{Column}
 use Rattle.memo_graph.specs.declared.cell.ItemAnswers.{ItemAnswers}
@@ -38,6 +39,10 @@ flags_of a = of_flags a.flags.items
 -- the columns that are known at that index
 abbrev pub ColumnsAt : ItemAnswers → ℕ → (List Column → Type 0) → Type 0
 ColumnsAt a index P = (d : Vec Column Global) → P (slice_index_or a.columns.items index d).items
+
+-- the columns of each item that checks and flags reach are known
+abbrev pub HasAllColumns : Space → List ResolvedItem → ItemAnswers → Type 0
+HasAllColumns space items a = (j : ℕ) → j < length items → IsReached items j → ColumnsAt a j (IsValued space (reverse items) j)
 
 -- what the item at that index gives, from what was known, is known too
 pub record IsAnswered (space : Space) (index : ℕ) (r : ResolvedItem) (old new : ItemAnswers) : Type 0 where

@@ -9,7 +9,7 @@ ghost use Rattle.cat_eval.specs.Values.{AnswersOf};
 ghost use Rattle.verdict.specs.Evaluated.{IsEvaluatedAs};
 ghost use Rattle.verdict.specs.Kept.{of_raised};
 ghost use Rattle.memo_graph.specs.Answers.{AreSaid, AreSound};
-ghost use Rattle.memo_graph.specs.Known.{column_of, AreFound, IsAnswered, ColumnsAt, of_flags, checks_of, flags_of};
+ghost use Rattle.memo_graph.specs.Known.{column_of, AreFound, IsAnswered, ColumnsAt, HasAllColumns, of_flags, checks_of, flags_of};
 ghost use Rattle.memo_graph.specs.FromScratch.{IsFromScratch};
 ghost use Rattle.memo_graph.specs.Cell.{IsSaid, IsCell, IsEvaluationBy, IsEvaluationOver, OfModel};
 
@@ -25,18 +25,22 @@ use verdict::{Outcome, OutcomeResult, Raised, Refusal, outcome};
 
 /// A flag: its name, and whether its check holds on each candidate.
 #[derive(Drop)]
-struct FlagAnswer<'a> {
-    name: &'a Name,
-    holds: Vec<bool>,
+pub struct FlagAnswer<'a> {
+    /// The name after `as`.
+    pub name: &'a Name,
+    /// For each candidate, whether the check holds there.
+    pub holds: Vec<bool>,
 }
 
 /// What is known of a model's items over the candidates.
 #[derive(Drop)]
-struct ItemAnswers<'a> {
+pub struct ItemAnswers<'a> {
     /// For each item, the values of its names; none where it is no group or is not used.
-    columns: Vec<Vec<Column>>,
-    checks: Vec<Vec<bool>>,
-    flags: Vec<FlagAnswer<'a>>,
+    pub columns: Vec<Vec<Column>>,
+    /// For each check, whether it holds in each candidate.
+    pub checks: Vec<Vec<bool>>,
+    /// The flags, in the order of the text.
+    pub flags: Vec<FlagAnswer<'a>>,
 }
 
 fn no_answers<'a>(alloc: Global, items: usize) -> Result<ItemAnswers<'a>, AllocError>
@@ -66,8 +70,9 @@ fn column_of<'c>(columns: &'c [Vec<Column>], name: &Input) -> Option<&'c Column>
     }
 }
 
-// The values of the names of other items that the item uses, in its order.
-fn inputs<'c>(
+/// The values of the names of other items that the item uses, in its order, of those that are known.
+/// Errors: want of memory.
+pub fn inputs<'c>(
     alloc: Global,
     columns: &'c [Vec<Column>],
     item: &ResolvedItem,
@@ -176,13 +181,14 @@ fn answer_item<'a>(
     }
 }
 
-// The items that checks and flags reach, over all candidates.
-fn answers<'a>(
+/// The items that checks and flags reach, over all candidates. Errors: want of memory.
+pub fn answers<'a>(
     alloc: Global,
     space: &Space,
     resolved: &'a Resolved,
 ) -> Result<ItemAnswers<'a>, AllocError>
-    ensures { let items = resolved.now.items.items in AreSound items → IfOk result (λ a. AreSaid space.now (reverse items) (checks_of a) (flags_of a)) }
+    ensures said { let items = resolved.now.items.items in AreSound items → IfOk result (λ a. AreSaid space.now (reverse items) (checks_of a) (flags_of a)) }
+    ensures columns { let items = resolved.now.items.items in AreSound items → IfOk result (HasAllColumns space.now items) }
 {
     let mut answers = no_answers(alloc, resolved.items.len())?;
     let indexes = used(alloc, resolved)?;

@@ -6,4 +6,4 @@ mod cell;
 pub mod fixtures;
 pub mod laws;
 
-pub use cell::eval_cell;
+pub use cell::{FlagAnswer, ItemAnswers, answers, eval_cell, inputs};

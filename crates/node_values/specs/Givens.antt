@@ -1,5 +1,5 @@
 -- What a node is given of the texts, as plain data: contracts see a `Given` so.
-use Rattle.std.specs.Prelude.{ℕ, List}
+use Rattle.std.specs.Prelude.{ℕ, List, []}
 use Rattle.litmus_values.specs.declared.test.Condition.{Condition}
 use Rattle.litmus_values.specs.declared.test.Place.{Place}
 use Rattle.litmus_values.specs.declared.test.Quantifier.{Quantifier}
@@ -34,3 +34,10 @@ pub data GivenContent : Type 0 where
   ForItem : (role : RoleContent) → GivenContent
   ForVerdict : (parts : VerdictPartsContent) → GivenContent
   ForFault : (parts : FaultPartsContent) → GivenContent
+
+-- the names of flags that a verdict is given
+abbrev pub given_flags : GivenContent → List (List ℕ)
+given_flags (ForSpace parts) = []
+given_flags (ForItem role) = []
+given_flags (ForVerdict parts) = parts.flags
+given_flags (ForFault parts) = []

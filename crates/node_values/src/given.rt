@@ -2,7 +2,7 @@
 
 ghost use Rattle.std.specs.Prelude.{◌≡◌, ◌↔◌, IsTrue, IfOk};
 ghost use Rattle.litmus_values.specs.Value.{formula_of};
-ghost use Rattle.node_values.specs.Givens.{ForSpace, ForItem, ForVerdict, ForFault, asked, faulted};
+ghost use Rattle.node_values.specs.Givens.{ForSpace, ForItem, ForVerdict, ForFault, asked, faulted, given_flags};
 ghost use Rattle.node_values.specs.Items.{role_content};
 ghost use Rattle.node_values.specs.Parts.{parts_of};
 ghost use Rattle.node_values.specs.Views.{given_content};
@@ -90,6 +90,17 @@ fn same_condition(this: &Condition, that: &Condition) -> bool
 }
 
 impl GivenParts {
+    fn flags(&self) -> &[Name]
+        ensures { result.now ≡ given_flags (given_content self.now) }
+    {
+        match self {
+            GivenParts::Space(_) => &[],
+            GivenParts::Item(_) => &[],
+            GivenParts::Verdict(parts) => &parts.flags,
+            GivenParts::Fault(_) => &[],
+        }
+    }
+
     fn is_space(&self, init: &[InitEntry], threads: &[Thread], locations: &[Name]) -> bool
         ensures { IsTrue result ↔ (ForSpace (parts_of init.now threads.now locations.now) ≡ given_content self.now) }
     {
@@ -162,6 +173,13 @@ impl Given {
         Ok(Given {
             parts: Arc::try_clone(&self.parts)?,
         })
+    }
+
+    /// The names of flags that a verdict is given; no name where it is for another node.
+    pub fn flags(&self) -> &[Name]
+        ensures { result.now ≡ given_flags self.now }
+    {
+        self.parts.flags()
     }
 
     /// Whether it is what the space of these parts is given.

@@ -1,5 +1,5 @@
 -- Lines and commands, read one after another.
-use Rattle.std.proofs.Common.{◌≡◌, ℕ, zero, suc, ◌+◌, ◌-◌, ◌<◌, ◌≤◌, List, [], ◌∷◌, ◌++◌, length, take, drop, Bool, true, false, Option, Some, None, refl, sym, ap, ◌∙◌, subst, arith, append_assoc}
+use Rattle.std.proofs.Common.{◌≡◌, ℕ, zero, suc, ◌+◌, ◌-◌, ◌<◌, ◌≤◌, List, [], ◌∷◌, ◌++◌, length, take, drop, Bool, true, false, Option, Some, None, Result, Ok, Err, IfOk, refl, sym, ap, ◌∙◌, subst, arith, append_assoc}
 use Rattle.std.specs.Prelude.{option_map}
 use Rattle.std.specs.declared.alloc.Global.{Global}
 use Rattle.std.specs.declared.vec.Vec.{Vec}
@@ -16,6 +16,7 @@ use Rattle.session_script.specs.declared.command.Command.{Command}
 use Rattle.session_script.specs.declared.command.Command.TheVariants.{Asked, Refused}
 use Rattle.session_script.specs.declared.command.ScriptRule.TheVariants.{NoCommand, NoTextEnd}
 use Rattle.session_script.specs.declared.request.Request.{Request}
+use Rattle.session_script.specs.declared.source.ReadFault.{ReadFault}
 use Rattle.session_script.proofs.Broken.{ended_line, last_line, unbroken_joined, unbroken_line, cut_at_end}
 use Rattle.session_script.proofs.Fronts.{front_of_front}
 
@@ -197,10 +198,14 @@ without_text (Some bytes) words r text e f g = ap (λ (o : Option Request). said
 text_said : (r : Request) (bytes : List ℕ) → has_text r ≡ true → said_by (Some r) ++ commands_from (stage_behind (Some r)) (lines_of bytes) ≡ commands_from (Within r []) (lines_of bytes)
 text_said r bytes e = rw e refl
 
-pub behind_words : (old new : Option (List ℕ)) (words : List (List ℕ)) (r : Request) (c : Command) → Some r ≡ request_of words → has_text r ≡ true → HasText old new r c → IsSaid old new words c
+behind_words : (old new : Option (List ℕ)) (words : List (List ℕ)) (r : Request) (c : Command) → Some r ≡ request_of words → has_text r ≡ true → HasText old new r c → IsSaid old new words c
 behind_words None new words r c e f h = tt
 behind_words (Some old) None words r c e f h = absurd h
 behind_words (Some old) (Some new) words r c e f h = ap (λ (o : Option Request). said_by o ++ commands_from (stage_behind o) (lines_of old)) (sym e) ∙ text_said r old f ∙ h
+
+pub text_answered : (old new : Option (List ℕ)) (words : List (List ℕ)) (r : Request) (result : Result Command ReadFault) → Some r ≡ request_of words → has_text r ≡ true → IfOk result (HasText old new r) → IfOk result (IsSaid old new words)
+text_answered old new words r (Ok command) e f h = behind_words old new words r command e f h
+text_answered old new words r (Err fault) e f h = tt
 
 -- the commands that are left are those that were left at first
 abbrev pub AreSame : Option (List ℕ) → Option (List ℕ) → Type 0

@@ -14,3 +14,4 @@ pub use command::{Command, ScriptRule};
 pub use request::{Names, Request, ScriptText};
 pub use source::{ByteSource, CallFailed, MemorySource, OfRead, ReadFault, read_front};
 pub use state::ScriptReader;
+pub use words::number_of;

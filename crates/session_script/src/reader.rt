@@ -1,6 +1,6 @@
 //! The commands of a script, one after another.
 
-ghost use Rattle.std.specs.Prelude.{◌≡◌, ◌≢◌, ◌+◌, ◌-◌, ◌<◌, ◌≤◌, ◌^◌, ◌++◌, ◌∷◌, [], true, false, length, take, IfOk, OnOk, IfSome, option_map};
+ghost use Rattle.std.specs.Prelude.{◌≡◌, ◌≢◌, ◌+◌, ◌-◌, ◌<◌, ◌≤◌, ◌^◌, ◌++◌, ◌∷◌, [], true, false, length, take, IfOk, OnOk, option_map};
 ghost use Rattle.std.specs.Io.KnownBytes.{Consumes, IsAtEnd};
 ghost use Rattle.session_script.specs.Commands.{is_dot, skips};
 ghost use Rattle.session_script.specs.Lines.{without_return};
@@ -137,7 +137,7 @@ impl ScriptReader {
     fn read_line<S: ByteSource>(&mut self, source: &mut S) -> Result<Option<Vec<u8>>, ReadFault>
         requires { S.failed_calls source.old < 2 ^ 64 - 1 }
         ensures line { IfOk result (λ line. IsLine (left_to self.old (S.remaining source.old)) (left_to self.new (S.remaining source.new)) (option_map (λ l. l.items) line)) }
-        ensures work { IfOk result (λ line. IfSome line (λ l. work_of self.new < work_of self.old)) }
+        ensures work { IfOk result (λ line. work_of self.new < work_of self.old) }
         ensures read { result ≡ Err ReadFault.Read → S.failed_calls source.new ≡ S.failed_calls source.old + 1 }
         ensures same { result ≢ Err ReadFault.Read → S.failed_calls source.new ≡ S.failed_calls source.old }
     {
@@ -162,6 +162,7 @@ impl ScriptReader {
     fn text<S: ByteSource>(&mut self, source: &mut S) -> Result<Option<ScriptText>, ReadFault>
         requires { S.failed_calls source.old < 2 ^ 64 - 1 }
         ensures text { IfOk result (IsText (left_to self.old (S.remaining source.old)) (left_to self.new (S.remaining source.new))) }
+        ensures work { IfOk result (λ text. work_of self.new < work_of self.old) }
         ensures read { result ≡ Err ReadFault.Read → S.failed_calls source.new ≡ S.failed_calls source.old + 1 }
         ensures same { result ≢ Err ReadFault.Read → S.failed_calls source.new ≡ S.failed_calls source.old }
     {
@@ -189,6 +190,7 @@ impl ScriptReader {
     ) -> Result<Command, ReadFault>
         requires { S.failed_calls source.old < 2 ^ 64 - 1 }
         ensures text { IfOk result (HasText (left_to self.old (S.remaining source.old)) (left_to self.new (S.remaining source.new)) request) }
+        ensures work { IfOk result (λ c. work_of self.new ≤ work_of self.old) }
         ensures read { result ≡ Err ReadFault.Read → S.failed_calls source.new ≡ S.failed_calls source.old + 1 }
         ensures same { result ≢ Err ReadFault.Read → S.failed_calls source.new ≡ S.failed_calls source.old }
     {
@@ -207,6 +209,7 @@ impl ScriptReader {
     ) -> Result<Command, ReadFault>
         requires { S.failed_calls source.old < 2 ^ 64 - 1 }
         ensures said { IfOk result (λ c. IsSaid (left_to self.old (S.remaining source.old)) (left_to self.new (S.remaining source.new)) words.now c) }
+        ensures work { IfOk result (λ c. work_of self.new ≤ work_of self.old) }
         ensures read { result ≡ Err ReadFault.Read → S.failed_calls source.new ≡ S.failed_calls source.old + 1 }
         ensures same { result ≢ Err ReadFault.Read → S.failed_calls source.new ≡ S.failed_calls source.old }
     {
@@ -225,12 +228,15 @@ impl ScriptReader {
     }
 
     /// The next command, or none at the end of the script. No more is read than holds the last line feed of the
-    /// command. Behind a last line that lacks its line feed the source is read once more. A line that a failed read cuts off is not taken. Errors: a call that failed, 16,777,216 calls over
-    /// the whole script before its end, or want of memory; after them nothing is promised of further calls.
+    /// command. Behind a last line that lacks its line feed the source is read once more. A line that a failed read
+    /// cuts off is not taken. Errors: a call that failed, 16,777,216 calls over the whole script before its end, or
+    /// want of memory; after them nothing is promised of further calls.
     pub fn next<S: ByteSource>(&mut self, source: &mut S) -> Result<Option<Command>, ReadFault>
         requires { S.failed_calls source.old < 2 ^ 64 - 1 }
         // The command is the first of those that were left, and the others are left still.
         ensures next { IfOk result (λ c. IsNext (left_to self.old (S.remaining source.old)) (left_to self.new (S.remaining source.new)) c) }
+        // Each call takes some of the work that is left, so that asking until there is no command ends.
+        ensures work { IfOk result (λ c. work_of self.new < work_of self.old) }
         // `Read` comes after one failed call, and all else after none.
         ensures read { result ≡ Err ReadFault.Read → S.failed_calls source.new ≡ S.failed_calls source.old + 1 }
         ensures same { result ≢ Err ReadFault.Read → S.failed_calls source.new ≡ S.failed_calls source.old }

@@ -69,7 +69,7 @@ fn with_digit(number: u64, byte: u8) -> Option<u64>
 }
 
 /// The number below 2^64 that the digits of a word make, if they make one.
-pub(crate) fn number_of(word: &[u8]) -> Option<u64>
+pub fn number_of(word: &[u8]) -> Option<u64>
     ensures { result ≡ number_of word.now }
 {
     let mut number = 0;

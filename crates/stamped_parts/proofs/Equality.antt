@@ -1,5 +1,5 @@
 -- The tests of specs/Equal are exact.
-use Rattle.std.proofs.Common.{◌≡◌, ◌↔◌, ◌&&◌, Bool, true, false, Option, Some, None, refl, ap, sym, ◌∙◌, eqb-true, eq-eqb}
+use Rattle.std.proofs.Common.{◌≡◌, ◌↔◌, ◌&&◌, Bool, true, false, Option, Some, None, Result, Ok, Err, IfOk, refl, ap, sym, ◌∙◌, eqb-true, eq-eqb}
 use base.Stored.{Gv, gnil, gnum, gcons, Coded}
 use Rattle.node_values.specs.contracts.given.Given as given
 use Rattle.node_values.specs.contracts.value.NodeValue as value
@@ -51,3 +51,8 @@ given_is (Some f) g h = ap Some ((given_exact f g).0 h)
 
 pub is_given_some : (o : Option GivenContent) (g : GivenContent) → o ≡ Some g → is_given o g ≡ true
 is_given_some o g e = ap (λ (p : Option GivenContent). is_given p g) e ∙ (given_exact g g).1 refl
+
+-- what is made of what is given now is given
+pub gives : {E : Type 0} (r : Result GivenContent E) (x : GivenContent) (o : Option GivenContent) → Some x ≡ o → IfOk r (λ g. g ≡ x) → IfOk r (λ g. is_given o g ≡ true)
+gives (Ok g) x o e h = is_given_some o g (sym e ∙ ap Some (sym h))
+gives (Err f) x o e h = tt

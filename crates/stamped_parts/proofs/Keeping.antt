@@ -14,7 +14,7 @@ use Rattle.node_values.proofs.Counting.{makes_many}
 use Rattle.bench_nodes.specs.Nodes.{part_stamp, used, inputs}
 use Rattle.bench_nodes.proofs.Laws.{used_is_closed}
 use Rattle.stamped_parts.specs.Contents.{PartContent, State, content}
-use Rattle.stamped_parts.specs.States.{contents, first_given, given, is_given, net_in, numbered, makes, HasOutput, IsValid, IsThere, IsSince, IsPartAfter, IsStamped}
+use Rattle.stamped_parts.specs.States.{contents, given_by, given, is_given, net_in, numbered, makes, HasOutput, IsValid, IsThere, IsSince, IsPartAfter, IsStamped}
 use Rattle.stamped_parts.proofs.Equality.{given_is}
 
 -- ---- each output among inputs gets a value
@@ -74,7 +74,7 @@ contents_stay s t (Output n x ∷ ks) since h = contents_stay s t ks since h.1
 
 pub given_is_kept : (s t : State) (n : Node) (g : GivenContent) → IsSince s t → inputs t.parts.table n ≡ inputs s.parts.table n → Each (IsSamePart (net_in s) (net_in t)) (inputs t.parts.table n) → is_given (given s n) g ≡ true → is_given (given t n) g ≡ true
 given_is_kept s t n g since same parts gives =
-    ap (λ (cs : List (Option PartContent)). is_given (first_given cs) g) (contents_stay s t (inputs t.parts.table n) since parts ∙ ap (contents s) same) ∙ gives
+    ap (λ (cs : List (Option PartContent)). is_given (given_by n.kind cs) g) (contents_stay s t (inputs t.parts.table n) since parts ∙ ap (contents s) same) ∙ gives
 
 -- ---- states since others
 

@@ -1,2 +1,10 @@
+pub mod Among
+pub mod Built
+pub mod BuiltRows
+pub mod BuiltSlots
 pub mod Equality
 pub mod Keeping
+pub mod Numbering
+pub mod Rows
+pub mod Same
+pub mod SpaceParts

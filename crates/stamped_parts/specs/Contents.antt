@@ -66,6 +66,9 @@ pub record State : Type 0 where
   pub parts : Parts
   pub tests : List Test
 
+abbrev pub state_of : Parts → List Test → State
+state_of parts tests = record { parts = parts; tests = tests }
+
 -- items have their part 0, models 1, tests the others
 abbrev pub content : State → ℕ → ℕ → Option PartContent
 content s part of =

@@ -1,3 +1,5 @@
+pub mod Built
 pub mod Contents
 pub mod Equal
 pub mod States
+pub mod Views

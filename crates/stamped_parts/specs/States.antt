@@ -1,23 +1,29 @@
 -- What nodes are given and make, what a state owes, and what an edit does to stamps.
-use Rattle.std.specs.Prelude.{◌≡◌, ⊤, ℕ, ◌+◌, ◌<◌, ◌≤◌, ◌⊎◌, Bool, false, List, [], ◌∷◌, ◌++◌, Option, Some, None}
+use Rattle.std.specs.Prelude.{◌≡◌, ⊤, ℕ, ◌+◌, ◌<◌, ◌≤◌, ◌⊎◌, ◌==◌, ◌&&◌, ◌||◌, Bool, true, false, is_some, List, [], ◌∷◌, ◌++◌, Option, Some, None, if◌then◌else◌}
 use Rattle.std.specs.List.{AllByRecursion as Each}
 use Rattle.litmus_values.specs.declared.test.InitEntry.{InitEntry}
 use Rattle.litmus_values.specs.declared.test.Place.{Place}
 use Rattle.litmus_values.specs.declared.test.Quantifier.{Quantifier}
 use Rattle.litmus_values.specs.declared.test.Step.{Step}
 use Rattle.litmus_values.specs.Value.{Formula}
+use Rattle.memo_core.specs.declared.keys.Kind.{Kind}
+use Rattle.memo_core.specs.declared.keys.Kind.TheVariants as kinds
 use Rattle.memo_core.specs.declared.keys.Key.{Key}
 use Rattle.memo_core.specs.declared.keys.Key.TheVariants.{Part, Output}
 use Rattle.memo_core.specs.declared.keys.Node.{Node}
 use Rattle.memo_core.specs.Graph.{Net}
+use Rattle.memo_core.specs.Names.{kind_number}
 use Rattle.memo_core.specs.Right.{Making}
 use Rattle.memo_core.specs.Step.{Has}
 use Rattle.node_values.specs.Givens.{GivenContent, ForSpace, ForItem, ForVerdict, ForFault}
 use Rattle.node_values.specs.Items.{RoleContent, Check}
 use Rattle.node_values.specs.Makes.{Makes, output_count}
 use Rattle.node_values.specs.Values.{NodeContent}
-use Rattle.bench_nodes.specs.Nodes.{part_stamp, used, inputs, net_of}
+use Rattle.bench_nodes.specs.declared.table.ItemRow.{ItemRow}
+use Rattle.bench_nodes.specs.declared.table.ModelRow.{ModelRow}
+use Rattle.bench_nodes.specs.Nodes.{part_stamp, used, inputs, has_test, net_of}
 use Rattle.bench_nodes.specs.Order.{IsOrdered}
+use Rattle.stamped_parts.specs.declared.parts.Parts.{Parts}
 use Rattle.stamped_parts.specs.Contents.{PartContent, OfRole, OfFault, OfCondition, OfObserved, OfLocations, OfInit, OfThread, State, content}
 use Rattle.stamped_parts.specs.Equal.{same_given}
 
@@ -55,15 +61,29 @@ verdict_given kind proposition (Some (OfObserved observed) ∷ cs) = Some (asked
 verdict_given kind proposition (Some (OfFault fault) ∷ cs) = Some (ForFault (record { kind = kind; proposition = proposition; fault = fault }))
 verdict_given kind proposition _ = None
 
-abbrev pub first_given : List (Option PartContent) → Option GivenContent
-first_given (Some (OfRole role) ∷ cs) = Some (ForItem role)
-first_given (Some (OfInit init) ∷ cs) = space_given init [] cs
-first_given (Some (OfCondition kind proposition) ∷ cs) = verdict_given kind proposition cs
-first_given _ = None
+-- a space begins with initial values, an item with what it does, a verdict with a condition
+abbrev pub given_space : List (Option PartContent) → Option GivenContent
+given_space (Some (OfInit init) ∷ cs) = space_given init [] cs
+given_space _ = None
+
+abbrev pub given_item : List (Option PartContent) → Option GivenContent
+given_item (Some (OfRole role) ∷ cs) = Some (ForItem role)
+given_item _ = None
+
+abbrev pub given_verdict : List (Option PartContent) → Option GivenContent
+given_verdict (Some (OfCondition kind proposition) ∷ cs) = verdict_given kind proposition cs
+given_verdict _ = None
+
+-- by the kind of the node
+abbrev pub given_by : Kind → List (Option PartContent) → Option GivenContent
+given_by kinds.Space cs = given_space cs
+given_by kinds.Group cs = given_item cs
+given_by kinds.Check cs = given_item cs
+given_by kinds.Verdict cs = given_verdict cs
 
 -- what a job of the node is given, if the node is there
 abbrev pub given : State → Node → Option GivenContent
-given s n = first_given (contents s (inputs s.parts.table n))
+given s n = given_by n.kind (contents s (inputs s.parts.table n))
 
 abbrev pub is_given : Option GivenContent → GivenContent → Bool
 is_given None g = false
@@ -92,6 +112,7 @@ HasOutput s (Output n x) = (g : GivenContent) → given s n ≡ Some g → x < o
 pub record IsValid (s : State) : Type 0 where
   pub ordered : IsOrdered s.parts.table
   pub outputs : (n : Node) → Has (used s.parts.table) n → Each (HasOutput s) (inputs s.parts.table n)
+  pub gives : (n : Node) → Has (used s.parts.table) n → is_some (given s n) ≡ true
   pub empty : (part of : ℕ) → part_stamp s.parts.table part of ≡ 0 → content s part of ≡ None
   pub low : (part of : ℕ) → part_stamp s.parts.table part of ≤ s.parts.last
 
@@ -99,6 +120,47 @@ pub record IsValid (s : State) : Type 0 where
 pub record IsThere (s : State) (n : Node) : Type 0 where
   pub valid : IsValid s
   pub is_used : Has (used s.parts.table) n
+
+-- ---- which nodes may keep what they hold
+
+abbrev pub is_kind : Kind → Option Kind → Bool
+is_kind kind None = false
+is_kind kind (Some k) = kind_number kind == kind_number k
+
+-- the item of that number is a node of that kind by its text
+abbrev pub has_kind : List ItemRow → List (Option Kind) → Kind → ℕ → Bool
+has_kind [] ks kind number = false
+has_kind (i ∷ is) [] kind number = false
+has_kind (i ∷ is) (k ∷ ks) kind number = if i.number == number then is_kind kind k else has_kind is ks kind number
+
+abbrev pub has_model : List ModelRow → ℕ → Bool
+has_model [] id = false
+has_model (m ∷ ms) id = (id == m.id) || has_model ms id
+
+-- the item or model of that number is there, for a node of that kind
+abbrev pub has_own : Parts → Kind → ℕ → Bool
+has_own p kinds.Space of = true
+has_own p kinds.Group of = has_kind p.table.items.items p.kinds.items kinds.Group of
+has_own p kinds.Check of = has_kind p.table.items.items p.kinds.items kinds.Check of
+has_own p kinds.Verdict of = has_model p.table.models.items of
+
+-- its test is there, and the item or model whose node it is, also where the model has a fault or nothing uses the node
+abbrev pub keeps : Parts → Node → Bool
+keeps p n = has_test p.table.tests.items n.test && has_own p n.kind n.of
+
+-- ---- the same state, wherever it lies in memory
+
+pub record IsSameState (s t : State) : Type 0 where
+  pub tests : t.tests ≡ s.tests
+  pub test_rows : t.parts.table.tests.items ≡ s.parts.table.tests.items
+  pub locations : t.parts.locations.items ≡ s.parts.locations.items
+  pub model_rows : t.parts.table.models.items ≡ s.parts.table.models.items
+  pub faults : t.parts.faults.items ≡ s.parts.faults.items
+  pub item_rows : t.parts.table.items.items ≡ s.parts.table.items.items
+  pub roles : t.parts.roles.items ≡ s.parts.roles.items
+  pub kinds : t.parts.kinds.items ≡ s.parts.kinds.items
+  pub slots : t.parts.table.slots.items ≡ s.parts.table.slots.items
+  pub last : t.parts.last ≡ s.parts.last
 
 -- ---- what edits do
 

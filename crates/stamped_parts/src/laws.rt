@@ -1,14 +1,16 @@
 //! Laws of states, as the memo core asks for them of texts.
 
-ghost use Rattle.std.specs.Prelude.{◌≡◌, ◌↔◌, ℕ, true};
+ghost use Rattle.std.specs.Prelude.{◌≡◌, ◌↔◌, ℕ, List, true};
 ghost use Rattle.std.specs.List.{AllByRecursion as Each};
 ghost use Rattle.memo_core.specs.Laws.{GivenStays, IsUsedClosed, AreUsers, Falls};
 ghost use Rattle.memo_core.specs.Right.{IsSound, PartsGoOn};
 ghost use Rattle.node_values.specs.Values.{NodeContent};
 ghost use Rattle.bench_nodes.specs.Nodes.{used, users, rank};
+ghost use Rattle.model_slots.specs.Tables.{ModelReading};
+ghost use Rattle.stamped_parts.specs.Built.{IsBuilt};
 ghost use Rattle.stamped_parts.specs.Contents.{State};
 ghost use Rattle.stamped_parts.specs.Equal.{same_value};
-ghost use Rattle.stamped_parts.specs.States.{net_in, makes, IsValid, IsThere, IsSince, IsStamped};
+ghost use Rattle.stamped_parts.specs.States.{net_in, makes, IsValid, IsThere, IsSameState, IsSince, IsStamped};
 
 /// Two values of nodes are equal where their codes are.
 pub fn equal_values_are_same()
@@ -58,4 +60,24 @@ pub fn given_stays()
 /// An edit leaves each part its stamp, gives it the edit's number, or drops it.
 pub fn parts_go_on()
     ensures { (s t : State) (number : ℕ) → IsStamped s number t → PartsGoOn (net_in s) number (net_in t) }
+{}
+
+/// States that are the same, wherever they lie in memory, say the same of nodes.
+pub fn same_states_say_the_same()
+    ensures { (s t : State) → IsSameState s t → net_in t ≡ net_in s }
+{}
+
+/// They are since the same states.
+pub fn same_states_are_since()
+    ensures { (r s t : State) → IsSameState s t → IsSince r s → IsSince r t }
+{}
+
+/// They are built of the same models.
+pub fn same_states_are_built()
+    ensures { (s t : State) (models : List ModelReading) → IsSameState s t → IsBuilt s models → IsBuilt t models }
+{}
+
+/// A state that is built of its tests, and of models as they are read, is valid.
+pub fn built_states_are_valid()
+    ensures { (s : State) (models : List ModelReading) → IsBuilt s models → IsValid s }
 {}

@@ -2,7 +2,14 @@
 //! `specs/Contents` first: what a part holds, then `specs/States`: what a job is given, and what the states owe.
 #![tactic(auto)]
 
+mod content;
+mod find;
+mod flags;
+mod give;
+mod jobs;
 pub mod laws;
+mod nodes;
 mod parts;
 
+pub use jobs::{is_same, run};
 pub use parts::Parts;

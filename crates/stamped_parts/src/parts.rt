@@ -1,9 +1,12 @@
 //! What the parts of the texts hold, beside the tests.
 
+use crate::find::{item_index, model_index, test_index};
 use bench_nodes::NodeTable;
 use binding_graph::ModelFault;
+use memo_core::keys::Kind;
 use node_values::SharedItem;
 use source_text::Name;
+use std::alloc::Global;
 
 /// The stamps of the parts, with what the parts hold that the tests do not.
 #[derive(Drop)]
@@ -16,6 +19,61 @@ pub struct Parts {
     pub faults: Vec<Option<ModelFault>>,
     /// What each item does, where its model was without fault since the item has its text.
     pub roles: Vec<Option<SharedItem>>,
+    /// The kind of node that each item is by its text, if it is one: a group of bindings, or a check or a flag.
+    pub kinds: Vec<Option<Kind>>,
     /// The number of the last edit.
     pub last: u64,
+}
+
+impl Parts {
+    ghost use Rattle.std.specs.Prelude.{◌≡◌, ◌==◌, ◌≤◌, [], length};
+    ghost use Rattle.std.specs.List.{position_or_len};
+    ghost use Rattle.stamped_parts.specs.Built.{IsBuilt};
+    ghost use Rattle.stamped_parts.specs.Contents.{state_of};
+
+    /// The parts of a bench without tests and models, before its first edit.
+    pub fn new(alloc: Global) -> Parts
+        ensures built { IsBuilt (state_of result []) [] }
+        ensures items { result.table.items.items ≡ [] }
+        ensures models { result.table.models.items ≡ [] }
+        ensures last { result.last ≡ 0 }
+    {
+        Parts {
+            table: NodeTable {
+                tests: Vec::new(alloc),
+                models: Vec::new(alloc),
+                items: Vec::new(alloc),
+                slots: Vec::new(alloc),
+            },
+            locations: Vec::new(alloc),
+            faults: Vec::new(alloc),
+            roles: Vec::new(alloc),
+            kinds: Vec::new(alloc),
+            last: 0,
+        }
+    }
+
+    /// The index of the first test of that number, or how many tests there are.
+    pub fn test_index(&self, id: u64) -> usize
+        ensures found { result ≡ position_or_len (λ t. t.id == id) self.now.table.tests.items }
+        ensures within { result ≤ length self.now.table.tests.items }
+    {
+        test_index(&self.table.tests, id)
+    }
+
+    /// The index of the first model of that number, or how many models there are.
+    pub fn model_index(&self, id: u64) -> usize
+        ensures found { result ≡ position_or_len (λ m. m.id == id) self.now.table.models.items }
+        ensures within { result ≤ length self.now.table.models.items }
+    {
+        model_index(&self.table.models, id)
+    }
+
+    /// The index of the first item of that number, or how many items there are.
+    pub fn item_index(&self, number: u64) -> usize
+        ensures found { result ≡ position_or_len (λ i. i.number == number) self.now.table.items.items }
+        ensures within { result ≤ length self.now.table.items.items }
+    {
+        item_index(&self.table.items, number)
+    }
 }

@@ -1,7 +1,7 @@
 use Rattle.std.proofs.Common.{rules, ℕ, ◌≡◌, ◌<◌, List, length, get_or, refl, sym, subst, arith}
 use Rattle.std.proofs.lemmas.Option.{slice_get_read}
 use Rattle.binding_graph.specs.Reach.{AreReached}
-use Rattle.memo_graph.proofs.Knowing.{same_at, known_start, known_next, known_end}
+use Rattle.memo_graph.proofs.Knowing.{same_at, known_start, known_next, known_end, columns_end}
 use Rattle.memo_graph.proofs.cell.answers.Goals as goal
 
 pub loop-at-init : goal.loop-at-init
@@ -22,8 +22,14 @@ loop-at-preserved c = λ ordered.
     let one = c.in_ok-answer_item.ensures in
     known_next c.args.space.now items indexes c.loop-at.at-index index r c.loop-at.answers _ all ordered (omega arith) (λ d. same_at indexes c.loop-at.at-index 0 d (omega arith)) (slice_get_read items (length items) index r refl less is) h one
 
-pub returns : goal.returns
-returns c = λ ordered.
+pub returns-clause-said : goal.returns-clause-said
+returns-clause-said c = λ ordered.
     let items = c.args.resolved.now.items.items in
     let all = subst (λ (xs : List ℕ). AreReached items xs) (sym c.deref-at-items.ensures.value) c.in_ok-indexes.ensures.reached in
     known_end c.args.space.now items c.deref-at-items.result.now c.loop-at.at-index c.loop-at.answers all (omega arith) (c.loop-at.invariant ordered)
+
+pub returns-clause-columns : goal.returns-clause-columns
+returns-clause-columns c = λ ordered.
+    let items = c.args.resolved.now.items.items in
+    let all = subst (λ (xs : List ℕ). AreReached items xs) (sym c.deref-at-items.ensures.value) c.in_ok-indexes.ensures.reached in
+    columns_end c.args.space.now items c.deref-at-items.result.now c.loop-at.at-index c.loop-at.answers all (omega arith) (c.loop-at.invariant ordered)

@@ -1,4 +1,4 @@
-use Rattle.std.proofs.Common.{◌≡◌}
+use Rattle.std.proofs.Common.{◌≡◌, ◌≤◌}
 use Rattle.session_script.specs.Reading.{left_to, work_of}
 use Rattle.session_script.proofs.Steps.{AreSame}
 use Rattle.session_script.proofs.state.ScriptReader.next.Given as goal
@@ -6,6 +6,7 @@ use Rattle.session_script.proofs.state.ScriptReader.next.Given as goal
 -- the lines so far say nothing
 abbrev pub invariant-lines : goal.invariant-lines
 invariant-lines g l = record {
+  work : work_of l.self ≤ work_of l.initial.self;
   same : g.S.ByteSource.failed_calls l.source ≡ g.S.ByteSource.failed_calls l.initial.source;
   commands : AreSame (left_to l.initial.self (g.S.ByteSource.remaining l.initial.source)) (left_to l.self (g.S.ByteSource.remaining l.source));
 }

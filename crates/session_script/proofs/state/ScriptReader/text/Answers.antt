@@ -7,6 +7,7 @@ use Rattle.session_script.proofs.state.ScriptReader.text.Goals as goal
 
 pub lines-init : goal.lines-init
 lines-init g c = record {
+  work = omega arith;
   same = refl;
   short = rw c.new-text.ensures.items (omega arith);
   kept = λ r. text_begins (left_to c.args.self.now (g.S.ByteSource.remaining c.args.source.now)) r c.new-text.result.items c.new-text.ensures.items;
@@ -35,6 +36,7 @@ lines-preserved g c =
     let ends : is_dot c.in-Some.line.items ≡ false = ap (λ (l : List ℕ). is_dot l) (sym c.deref.ensures.value) ∙ sym c.if-dot.ensures in
     let put : c.put_line.new.text.items ≡ take 65537 (c.lines.text.items ++ c.in-Some.line.items ++ 10 ∷ []) = c.in_ok-put_line-in-Some.ensures ∙ ap (λ (l : List ℕ). take 65537 (c.lines.text.items ++ l ++ 10 ∷ [])) c.deref-in-Some.ensures.value in
     record {
+      work = omega (arith, c.in_ok-read.ensures.work);
       same = search rules;
       short = front_is_short c.put_line.new.text.items 65537 (c.lines.text.items ++ c.in-Some.line.items ++ 10 ∷ []) put;
       kept = λ r. text_goes_on first now next r c.lines.text.items c.put_line.new.text.items c.in-Some.line.items (c.lines.invariant.kept r) (read_one now next c.in_ok-read.read c.in-Some.line c.in-Some.is c.in_ok-read.ensures.line) ends put;

@@ -7,6 +7,7 @@ use Rattle.session_script.proofs.state.ScriptReader.text.Given as goal
 -- the lines so far are those of the text
 abbrev pub invariant-lines : goal.invariant-lines
 invariant-lines g l = record {
+  work : work_of l.self ≤ work_of l.initial.self;
   same : g.S.ByteSource.failed_calls l.source ≡ g.S.ByteSource.failed_calls l.initial.source;
   short : length l.text.items ≤ 65537;
   kept : (r : Request) → InText (left_to l.initial.self (g.S.ByteSource.remaining l.initial.source)) (left_to l.self (g.S.ByteSource.remaining l.source)) r l.text.items;

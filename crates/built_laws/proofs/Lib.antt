@@ -1,0 +1,5 @@
+pub mod Nodes
+pub mod Origin
+pub mod Scratch
+pub mod Standing
+pub mod Tests

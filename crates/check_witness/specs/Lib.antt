@@ -1,0 +1,4 @@
+pub mod Values
+pub mod Witnesses
+pub mod Refusals
+pub mod Pairs

@@ -1,0 +1,143 @@
+//! Whether the state in which one execution ends satisfies a proposition. Read `Final` and `Meaning` of verdict/specs:
+//! the call gives their `is_satisfied` (verdict/specs/Evaluated).
+#![tactic(auto)]
+
+ghost use Rattle.std.specs.Prelude.{◌≡◌, option_map};
+ghost use Rattle.candidates.specs.Space.{shown_by};
+ghost use Rattle.litmus_values.specs.Value.{formula_of};
+ghost use Rattle.verdict.specs.Evaluated.{is_satisfied};
+ghost use Rattle.verdict.specs.Final as ends;
+ghost use Rattle.verdict.specs.Meaning.{is_held, joined_by, known_place, known_value, location_of};
+
+use candidates::{Action, Execution};
+use litmus_values::{Connective, Place, Proposition, Value};
+use ppc_semantics::Value as RunValue;
+use source_text::Name;
+use verdict::FinalValue;
+
+fn location_of(locations: &[Name], name: &Name) -> Option<usize>
+    ensures { result ≡ location_of locations.now name.now }
+{
+    for (index, location) in locations.iter().enumerate() {
+        if location.is_same(name) {
+            return Some(index);
+        }
+    }
+    None
+}
+
+fn value_shown(value: RunValue) -> FinalValue
+    ensures { result ≡ ends.value_shown value }
+{
+    match value {
+        RunValue::Number(number) => FinalValue::Number(number.cast_signed()),
+        RunValue::Address(location) => FinalValue::Address(location),
+        RunValue::NoValue => FinalValue::NoValue,
+    }
+}
+
+fn final_register(execution: &Execution, thread: usize, register: u8) -> RunValue
+    ensures { result ≡ ends.final_register (shown_by execution.now) thread register }
+{
+    match execution.registers.get(thread) {
+        Some(registers) => match registers.get(usize::from(register)) {
+            Some(value) => *value,
+            None => RunValue::NoValue,
+        },
+        None => RunValue::NoValue,
+    }
+}
+
+// What the event stores at the location, if it stores there.
+fn stored_at(execution: &Execution, location: usize, event: u8) -> Option<RunValue>
+    ensures { result ≡ ends.stored_at execution.now.events.items location event }
+{
+    let event = execution.events.get(usize::from(event))?;
+    match event.action {
+        Action::Write {
+            location: to,
+            value,
+        } => { if to == location { Some(value) } else { None } }
+        Action::Read { .. } => None,
+        Action::Fence(_) => None,
+    }
+}
+
+fn final_word(execution: &Execution, location: usize) -> RunValue
+    ensures { result ≡ ends.final_word (shown_by execution.now) location }
+{
+    let mut word = RunValue::NoValue;
+    for event in &execution.order {
+        if let Some(value) = stored_at(execution, location, *event) {
+            word = value;
+        }
+    }
+    word
+}
+
+// What an observable holds at the end, where it is one of the test.
+fn final_value(locations: &[Name], place: &Place, execution: &Execution) -> Option<FinalValue>
+    ensures { result ≡ option_map (ends.final_value (shown_by execution.now)) (known_place locations.now place.now) }
+{
+    match place {
+        Place::Register(thread, register) => {
+            let value = final_register(execution, *thread, register.number());
+            Some(value_shown(value))
+        }
+        Place::Location(name) => match location_of(locations, name) {
+            Some(location) => Some(value_shown(final_word(execution, location))),
+            None => None,
+        },
+    }
+}
+
+fn known_value(locations: &[Name], value: &Value) -> Option<FinalValue>
+    ensures { result ≡ known_value locations.now value.now }
+{
+    match value {
+        Value::Number(number) => Some(FinalValue::Number(*number)),
+        Value::Address(name) => match location_of(locations, name) {
+            Some(location) => Some(FinalValue::Address(location)),
+            None => None,
+        },
+    }
+}
+
+fn is_held(locations: &[Name], place: &Place, value: &Value, execution: &Execution) -> bool
+    ensures { result ≡ is_held (ends.final_value (shown_by execution.now)) (known_place locations.now place.now) (known_value locations.now value.now) }
+{
+    let Some(held) = final_value(locations, place, execution) else {
+        return false;
+    };
+    match known_value(locations, value) {
+        Some(value) => held == value,
+        None => false,
+    }
+}
+
+fn joined_by(connective: Connective, left: bool, right: bool) -> bool
+    ensures { result ≡ joined_by connective left right }
+{
+    match connective {
+        Connective::And => left && right,
+        Connective::Or => left || right,
+        Connective::Implies => !left || right,
+    }
+}
+
+/// Whether the state in which the execution ends satisfies the proposition. `locations` are the names of
+/// the test's locations, in their order.
+pub fn is_satisfied(locations: &[Name], proposition: &Proposition, execution: &Execution) -> bool
+    ensures { result ≡ is_satisfied locations.now (formula_of proposition.now) (shown_by execution.now) }
+{
+    match proposition {
+        Proposition::Constant(value) => *value,
+        Proposition::Holds(place, value) => is_held(locations, place, value, execution),
+        Proposition::Not(negated) => !is_satisfied(locations, negated, execution),
+        Proposition::Joined(connective, left, right) => {
+            let first = is_satisfied(locations, left, execution);
+            let second = is_satisfied(locations, right, execution);
+            joined_by(*connective, first, second)
+        }
+    }
+}

@@ -1,0 +1,13 @@
+-- The outcomes of a test as a row of settled cells.
+use Rattle.std.specs.Prelude.{map, slice_index_or}
+use Rattle.compare_report.specs.Cells.{NoCell, Settled}
+use Rattle.compare_report.specs.Columns.{Row}
+use Rattle.compare_report.specs.Differences.{Pair}
+use Rattle.session_answers.specs.declared.rows.TestOutcomes.{TestOutcomes}
+
+abbrev pub row_said : TestOutcomes → Row
+row_said r = record { name = r.name; cells = map Settled r.outcomes.items }
+
+-- the first two cells of a row
+abbrev pub pair_in : Row → Pair
+pair_in row = record { name = row.name; first = slice_index_or row.cells 0 NoCell; second = slice_index_or row.cells 1 NoCell }

@@ -1,0 +1,4 @@
+pub mod Answer
+pub mod Requests
+pub mod Faults
+pub mod Edits

@@ -1,0 +1,4 @@
+pub mod Naming
+pub mod Using
+pub mod Items
+pub mod Reached

@@ -1,0 +1,110 @@
+-- States that are the same, wherever they lie in memory.
+use Rattle.std.proofs.Common.{ℕ, ◌<◌, ◌≤◌, ◌≡◌, true, Bool, is_some, List, [], ◌∷◌, map, Option, Some, None, refl, ap, sym, subst, ◌∙◌}
+use Rattle.std.proofs.Math.Path.{fun_ext}
+use Rattle.std.specs.List.{AllZip, AllByRecursion as Each}
+use Rattle.binding_graph.specs.declared.resolved.ResolvedItem.{ResolvedItem}
+use Rattle.memo_core.specs.declared.keys.Kind.{Kind}
+use Rattle.memo_core.specs.declared.keys.Kind.TheVariants.{Space, Group, Check, Verdict}
+use Rattle.memo_core.specs.declared.keys.Key.{Key}
+use Rattle.memo_core.specs.declared.keys.Key.TheVariants.{Part, Output}
+use Rattle.memo_core.specs.declared.keys.Node.{Node}
+use Rattle.memo_core.specs.Graph.{Net}
+use Rattle.memo_core.specs.Step.{Has}
+use Rattle.node_values.specs.Givens.{GivenContent}
+use Rattle.node_values.specs.Makes.{output_count}
+use Rattle.bench_nodes.specs.Nodes.{part_stamp, used, inputs_of, inputs}
+use Rattle.bench_nodes.specs.Order.{AreOrderedAfter}
+use Rattle.model_slots.specs.Slots.{plain, number_at}
+use Rattle.model_slots.specs.Tables.{ModelReading, Sound, Faulty, all_slots}
+use Rattle.stamped_parts.specs.Built.{AreHeld, IsModelIn, IsItemRow, IsModelRow, AreTestRows, IsBuilt}
+use Rattle.stamped_parts.specs.Contents.{PartContent, State, content}
+use Rattle.stamped_parts.specs.States.{contents, given_by, given, is_given, net_in, HasOutput, IsValid, IsSameState, IsSince}
+
+module _ (s t : State) (same : IsSameState s t) where
+  pub content_is : (part of : ℕ) → content t part of ≡ content s part of
+  content_is part of = cc
+
+  stamp_is : (part of : ℕ) → part_stamp t.parts.table part of ≡ part_stamp s.parts.table part of
+  stamp_is part of = cc
+
+  used_is : used t.parts.table ≡ used s.parts.table
+  used_is = cc
+
+  inputs_by : (kind : Kind) (test of : ℕ) → inputs_of t.parts.table kind test of ≡ inputs_of s.parts.table kind test of
+  inputs_by Space test of = cc
+  inputs_by Group test of = cc
+  inputs_by Check test of = cc
+  inputs_by Verdict test of = cc
+
+  inputs_are : (n : Node) → inputs t.parts.table n ≡ inputs s.parts.table n
+  inputs_are n = inputs_by n.kind n.test n.of
+
+  contents_are : (ks : List Key) → contents t ks ≡ contents s ks
+  contents_are [] = refl
+  contents_are (Part part of ∷ ks) = ap (λ (c : Option PartContent). c ∷ contents t ks) (content_is part of) ∙ ap (λ (cs : List (Option PartContent)). content s part of ∷ cs) (contents_are ks)
+  contents_are (Output n x ∷ ks) = contents_are ks
+
+  given_is : (n : Node) → given t n ≡ given s n
+  given_is n = ap (given_by n.kind) (contents_are (inputs t.parts.table n) ∙ ap (contents s) (inputs_are n))
+
+  pub net_is : net_in t ≡ net_in s
+  net_is =
+      let stamps : part_stamp t.parts.table ≡ part_stamp s.parts.table = fun_ext (λ part. fun_ext (λ of. stamp_is part of)) in
+      let keys : inputs t.parts.table ≡ inputs s.parts.table = fun_ext inputs_are in
+      let gives_t : Node → GivenContent → Bool = λ n g. is_given (given t n) g in
+      let gives_s : Node → GivenContent → Bool = λ n g. is_given (given s n) g in
+      let gives : gives_t ≡ gives_s = fun_ext (λ n. fun_ext (λ g. ap (λ (o : Option GivenContent). is_given o g) (given_is n))) in
+      ap (λ (p : ℕ → ℕ → ℕ). let m : Net GivenContent = record { part = p; inputs = inputs t.parts.table; used = used t.parts.table; gives = gives_t } in m) stamps
+      ∙ ap (λ (k : Node → List Key). let m : Net GivenContent = record { part = part_stamp s.parts.table; inputs = k; used = used t.parts.table; gives = gives_t } in m) keys
+      ∙ ap (λ (u : List Node). let m : Net GivenContent = record { part = part_stamp s.parts.table; inputs = inputs s.parts.table; used = u; gives = gives_t } in m) used_is
+      ∙ ap (λ (f : Node → GivenContent → Bool). let m : Net GivenContent = record { part = part_stamp s.parts.table; inputs = inputs s.parts.table; used = used s.parts.table; gives = f } in m) gives
+
+  -- ---- the same holds of both
+
+  output_is : (k : Key) → HasOutput s k → HasOutput t k
+  output_is (Part part of) h = tt
+  output_is (Output n x) h = λ g e. h g (sym (given_is n) ∙ e)
+
+  outputs_are : (ks : List Key) → Each (HasOutput s) ks → Each (HasOutput t) ks
+  outputs_are [] h = tt
+  outputs_are (k ∷ ks) h = (output_is k h.0, outputs_are ks h.1)
+
+  is_used : (n : Node) → Has (used t.parts.table) n → Has (used s.parts.table) n
+  is_used n h = subst (λ (ns : List Node). Has ns n) used_is h
+
+  pub valid_is : IsValid s → IsValid t
+  valid_is valid = record {
+    ordered = subst (λ ss. AreOrderedAfter [] ss) (sym same.slots) valid.ordered;
+    outputs = λ n h. subst (λ (ks : List Key). Each (HasOutput t) ks) (sym (inputs_are n)) (outputs_are (inputs s.parts.table n) (valid.outputs n (is_used n h)));
+    gives = λ n h. ap is_some (given_is n) ∙ valid.gives n (is_used n h);
+    empty = λ part of e. content_is part of ∙ valid.empty part of (sym (stamp_is part of) ∙ e);
+    low = λ part of. subst (λ l. part_stamp t.parts.table part of ≤ l) (sym same.last) (subst (λ n. n ≤ s.parts.last) (sym (stamp_is part of)) (valid.low part of));
+  }
+
+  pub since_is : (r : State) → IsSince r s → IsSince r t
+  since_is r since = record {
+    valid = since.valid;
+    still_valid = valid_is since.still_valid;
+    later = subst (λ l. r.parts.last ≤ l) (sym same.last) since.later;
+    same = λ part of e. content_is part of ∙ since.same part of (sym (stamp_is part of) ∙ e);
+  }
+
+  held_is : (numbers : List ℕ) (items : List ResolvedItem) → AreHeld s numbers items → AreHeld t numbers items
+  held_is numbers items h = λ index r e. content_is 0 (number_at numbers index) ∙ h index r e
+
+  model_is : (m : ModelReading) → IsModelIn s m → IsModelIn t m
+  model_is (Sound id numbers items used) h = (h.0, held_is numbers items h.1)
+  model_is (Faulty id fault) h = content_is 1 id ∙ h
+
+  models_are : (ms : List ModelReading) → Each (IsModelIn s) ms → Each (IsModelIn t) ms
+  models_are [] h = tt
+  models_are (m ∷ ms) h = (model_is m h.0, models_are ms h.1)
+
+  pub built_is : (models : List ModelReading) → IsBuilt s models → IsBuilt t models
+  built_is models built = record {
+    slots = ap (map plain) same.slots ∙ built.slots;
+    models_in = models_are models built.models_in;
+    items = subst (λ l. AllZip (IsItemRow l) t.parts.table.items.items t.parts.roles.items) (sym same.last) (subst (λ rows. AllZip (IsItemRow s.parts.last) rows t.parts.roles.items) (sym same.item_rows) (subst (λ roles. AllZip (IsItemRow s.parts.last) s.parts.table.items.items roles) (sym same.roles) built.items));
+    faults = subst (λ l. AllZip (IsModelRow l) t.parts.table.models.items t.parts.faults.items) (sym same.last) (subst (λ rows. AllZip (IsModelRow s.parts.last) rows t.parts.faults.items) (sym same.model_rows) (subst (λ faults. AllZip (IsModelRow s.parts.last) s.parts.table.models.items faults) (sym same.faults) built.faults));
+    tests = subst (λ l. AreTestRows l t.parts.table.tests.items t.tests t.parts.locations.items) (sym same.last) (subst (λ rows. AreTestRows s.parts.last rows t.tests t.parts.locations.items) (sym same.test_rows) (subst (λ tests. AreTestRows s.parts.last s.parts.table.tests.items tests t.parts.locations.items) (sym same.tests) (subst (λ ls. AreTestRows s.parts.last s.parts.table.tests.items s.tests ls) (sym same.locations) built.tests)));
+  }

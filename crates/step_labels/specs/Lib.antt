@@ -1,0 +1,3 @@
+pub mod Operands
+pub mod Scanning
+pub mod Labels

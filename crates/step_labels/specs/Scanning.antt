@@ -1,0 +1,59 @@
+-- The steps of an expression, read from the last to the first: the operator stands before its operands.
+use Rattle.std.specs.Prelude.{List, [], ◌∷◌, Bool, true, false, Option, Some, None}
+use Rattle.std.specs.List.{cons_option}
+use Rattle.binding_graph.specs.declared.resolved.Blend.TheVariants as blends
+use Rattle.binding_graph.specs.declared.resolved.Source.{Source}
+use Rattle.binding_graph.specs.declared.resolved.Step.{Step}
+use Rattle.binding_graph.specs.declared.resolved.Step.TheVariants as steps
+
+-- of the relations that are still to come, the next first, whether each is an operand of the union
+abbrev pub without_next : List Bool → List Bool
+without_next [] = []
+without_next (b ∷ bs) = bs
+
+abbrev pub next_twice : List Bool → List Bool
+next_twice [] = []
+next_twice (b ∷ bs) = b ∷ b ∷ bs
+
+abbrev pub next_inside : List Bool → List Bool
+next_inside [] = []
+next_inside (b ∷ bs) = false ∷ bs
+
+abbrev pub open_after : Step → List Bool → List Bool
+open_after (steps.PushSet source) bs = bs
+open_after steps.PushAllEvents bs = bs
+open_after steps.PushNoEvents bs = bs
+open_after (steps.BlendSets how) bs = bs
+open_after steps.TurnSet bs = bs
+open_after (steps.PushRelation source) bs = without_next bs
+open_after steps.PushNoPairs bs = without_next bs
+open_after (steps.BlendRelations blends.Union) bs = next_twice bs
+open_after (steps.BlendRelations blends.Intersection) bs = next_twice (next_inside bs)
+open_after (steps.BlendRelations blends.Difference) bs = next_twice (next_inside bs)
+open_after steps.Compose bs = next_twice (next_inside bs)
+open_after steps.Multiply bs = without_next bs
+open_after steps.Restrict bs = without_next bs
+open_after (steps.Close how) bs = next_inside bs
+open_after steps.TurnRelation bs = next_inside bs
+
+abbrev pub is_operand : List Bool → Bool
+is_operand [] = false
+is_operand (b ∷ bs) = b
+
+abbrev pub source_where : Bool → Source → Option Source
+source_where true source = Some source
+source_where false source = None
+
+-- the name that the step adds, where it is an operand
+abbrev pub name_at : Step → List Bool → Option Source
+name_at (steps.PushRelation source) bs = source_where (is_operand bs) source
+name_at step bs = None
+
+-- what is still to come when these steps are read, and the names that they add
+abbrev pub open_from : List Step → List Bool
+open_from [] = true ∷ []
+open_from (x ∷ xs) = open_after x (open_from xs)
+
+abbrev pub names_from : List Step → List Source
+names_from [] = []
+names_from (x ∷ xs) = cons_option (name_at x (open_from xs)) (names_from xs)
