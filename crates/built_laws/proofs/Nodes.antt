@@ -1,10 +1,10 @@
 -- The nodes of each cell are those of the test under the items.
-use Rattle.std.proofs.Common.{ℕ, ◌≡◌, ◌<◌, ◌≤◌, ◌+◌, inl, inr, zero, suc, ◌==◌, ◌||◌, Bool, true, false, if◌then◌else◌, List, [], ◌∷◌, ◌++◌, length, map, take, Option, Some, None, slice_get, refl, sym, ap, ◌∙◌, subst, eqb-true, eq-eqb, arith}
-use Rattle.std.specs.List.{AllByRecursion as Each, filter_map, cons_option}
+use Rattle.std.proofs.Common.{ℕ, ◌≡◌, ◌<◌, ◌+◌, inl, inr, suc, ◌==◌, ◌||◌, Bool, true, false, if◌then◌else◌, List, [], ◌∷◌, ◌++◌, map, take, Option, Some, None, slice_get, refl, sym, ap, ◌∙◌, subst, eqb-true, eq-eqb, arith}
+use Rattle.std.specs.List.{AllByRecursion as Each, cons_option}
 use Rattle.std.proofs.Math.Seq.{take-length}
 use Rattle.std.proofs.lemmas.Bool.{cases_Bool}
 use Rattle.std.proofs.lemmas.List.{append_assoc}
-use Rattle.std.proofs.lemmas.Option.{none-some, slice_get_within}
+use Rattle.std.proofs.lemmas.Option.{slice_get_within}
 use Rattle.litmus_values.specs.declared.test.Test.{Test}
 use Rattle.litmus_values.specs.declared.test.Thread.{Thread}
 use Rattle.litmus_values.specs.Value.{formula_of}
@@ -24,7 +24,7 @@ use Rattle.bench_nodes.specs.declared.table.Slot.{Slot}
 use Rattle.bench_nodes.specs.declared.table.SlotKey.{SlotKey}
 use Rattle.bench_nodes.specs.declared.table.SlotKey.TheVariants as slots
 use Rattle.bench_nodes.specs.declared.table.TestRow.{TestRow}
-use Rattle.bench_nodes.specs.Nodes.{used, key_at, keys_at, slot_keys, thread_parts, row_of, row_parts, space_keys, inputs_of}
+use Rattle.bench_nodes.specs.Nodes.{used, key_at, keys_at, slot_keys, thread_parts, row_of, row_parts}
 use Rattle.bench_nodes.proofs.Laws.{used_by}
 use Rattle.node_values.specs.Givens.{GivenContent, ForSpace, ForItem, ForVerdict, ForFault, asked, faulted}
 use Rattle.node_values.specs.Items.{role_content}
@@ -33,18 +33,18 @@ use Rattle.node_values.specs.Parts.{parts_of}
 use Rattle.node_laws.specs.Solved.{is_node, flag_name, flag_names}
 use Rattle.model_slots.specs.Slots.{number_at, function_key, name_key, space_key, item_keys, flag_key, answer_key, keys_by, verdict_keys}
 use Rattle.model_slots.specs.Tables.{ModelReading, Sound, Faulty, IsNameOf}
-use Rattle.model_slots.proofs.Lists.{has_map, has_contains, contains_has, each_has, each_from_has}
+use Rattle.model_slots.proofs.Lists.{has_map, contains_has, each_has, each_from_has}
 use Rattle.slot_laws.specs.Closed.{all_keys}
 use Rattle.slot_laws.proofs.Reached.{name_reached, all_flags, all_answers}
-use Rattle.stamped_parts.specs.Contents.{PartContent, OfRole, OfFault, OfCondition, OfObserved, State, content}
-use Rattle.stamped_parts.specs.States.{contents, flags_among, given_space, given_item, given_verdict, asked_with, given, is_given, net_in}
+use Rattle.stamped_parts.specs.Contents.{PartContent, OfRole, OfCondition, OfObserved, State, content}
+use Rattle.stamped_parts.specs.States.{contents, flags_among, given_item, given_verdict, given, net_in}
 use Rattle.stamped_parts.specs.Built.{AreHeld, IsModelIn}
 use Rattle.stamped_parts.specs.Views.{FoundTest}
 use Rattle.stamped_parts.proofs.Equality.{given_is}
 use Rattle.stamped_parts.proofs.SpaceParts.{part_is, space_is}
-use Rattle.cell_laws.specs.Settled.{CellNodes, outputs_of, IsNode, check_keys, AreNodesOf}
+use Rattle.cell_laws.specs.Settled.{outputs_of, IsNode, check_keys, AreNodesOf}
 use Rattle.built_laws.specs.Kept.{id_in, IsKept, IsTestAt, item_node, space_node, verdict_node, nodes_of}
-use Rattle.built_laws.proofs.Origin.{HasKind, verdict_inputs, item_keys_are, verdict_keys_are, verdict_there}
+use Rattle.built_laws.proofs.Origin.{HasKind, item_keys_are, verdict_keys_are, verdict_there}
 use Rattle.built_laws.proofs.Standing.{named_kind, closed, reach, node_is}
 use Rattle.built_laws.proofs.Tests.{IsFound, find_test, parts_had}
 

@@ -1,9 +1,8 @@
 -- Of which model and item each slot is, and what its inputs are.
-use Rattle.std.proofs.Common.{ℕ, ◌≡◌, ◌<◌, ◌⊎◌, inl, inr, zero, suc, ◌+◌, ◌==◌, Bool, true, false, List, [], ◌∷◌, ◌++◌, length, map, get_or, Option, Some, None, slice_get, Contains, AllPairs, refl, sym, ap, ◌∙◌, subst, eq-eqb, arith}
+use Rattle.std.proofs.Common.{ℕ, ◌≡◌, ◌<◌, inl, inr, zero, suc, true, List, [], ◌∷◌, length, map, get_or, Option, Some, None, slice_get, AllPairs, refl, sym, ap, ◌∙◌, subst, eq-eqb, arith}
 use Rattle.std.specs.List.{AllByRecursion as Each, flat_map}
 use Rattle.std.specs.Prelude.{slice_index_or}
 use Rattle.std.proofs.lemmas.Bool.{cases_order}
-use Rattle.std.proofs.lemmas.Option.{none-some}
 use Rattle.memo_core.specs.declared.keys.Kind.{Kind}
 use Rattle.memo_core.specs.declared.keys.Kind.TheVariants as kinds
 use Rattle.memo_core.specs.Step.{Has}
@@ -14,12 +13,12 @@ use Rattle.bench_nodes.specs.declared.table.Slot.{Slot}
 use Rattle.bench_nodes.specs.declared.table.SlotKey.{SlotKey}
 use Rattle.bench_nodes.specs.declared.table.SlotKey.TheVariants as slots
 use Rattle.bench_nodes.specs.Nodes.{has_slot, slot_keys}
-use Rattle.model_slots.specs.Slots.{PlainSlot, plain, number_at, item_keys, slots_of, item_slots, used_slots, verdict_keys, sound_slots}
-use Rattle.model_slots.specs.Tables.{ModelReading, Sound, Faulty, space_slot, space_slots, slots_in, all_slots}
+use Rattle.model_slots.specs.Slots.{PlainSlot, plain, number_at, item_keys, slots_of, item_slots, used_slots, verdict_keys}
+use Rattle.model_slots.specs.Tables.{ModelReading, Sound, Faulty, space_slots, slots_in, all_slots}
 use Rattle.model_slots.proofs.Lists.{each_append, has_contains, each_has}
 use Rattle.model_slots.proofs.Ordered.{has_plain, has_slot_plain, has_left, has_right}
 use Rattle.stamped_parts.proofs.BuiltSlots.{slot_inputs}
-use Rattle.built_laws.specs.Kept.{IsReadFrom, IsRead, id_in, numbers_in, AreOther}
+use Rattle.built_laws.specs.Kept.{IsRead, id_in, AreOther}
 
 -- a group or a check has a node of its kind
 abbrev pub HasKind : Role → Kind → Type 0

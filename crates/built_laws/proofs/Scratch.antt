@@ -1,13 +1,12 @@
 -- A settled verdict of a cell holds what evaluating from nothing gives.
-use Rattle.std.proofs.Common.{ℕ, ◌≡◌, true, zero, suc, List, [], ◌∷◌, Option, Some, None, refl, sym, ap, ◌∙◌, subst}
-use Rattle.std.proofs.lemmas.Option.{none-some}
+use Rattle.std.proofs.Common.{ℕ, ◌≡◌, true, List, [], ◌∷◌, Option, Some, refl, sym, ap, ◌∙◌, subst}
 use Rattle.litmus_values.specs.declared.test.Test.{Test}
 use Rattle.cat_values.specs.declared.model.ModelText.{ModelText}
 use Rattle.memo_core.specs.declared.keys.Key.{Key}
 use Rattle.memo_core.specs.declared.keys.Key.TheVariants.{Output}
 use Rattle.memo_core.specs.declared.keys.Node.{Node}
 use Rattle.memo_core.specs.declared.keys.Output.{Output as Made}
-use Rattle.memo_core.specs.Graph.{Memo, Net, at, memo_of, stored_at, output_at, named_values, IsSettled}
+use Rattle.memo_core.specs.Graph.{Memo, Net, at, stored_at, output_at, named_values, IsSettled}
 use Rattle.memo_core.specs.Right as core
 use Rattle.memo_core.specs.Step.{Has}
 use Rattle.binding_kinds.specs.declared.fault.ModelFault.{ModelFault}
@@ -23,7 +22,7 @@ use Rattle.stamped_parts.specs.Contents.{State}
 use Rattle.stamped_parts.specs.States.{net_in, makes, numbered}
 use Rattle.cells.specs.Cells as cells
 use Rattle.cells.specs.Cells.{SolvedIsFromScratch}
-use Rattle.cell_laws.specs.Settled.{IsNode, AreSolved, Carries}
+use Rattle.cell_laws.specs.Settled.{IsNode, AreSolved}
 use Rattle.cell_laws.proofs.Cells.{cell_scratch, settled_fault_scratch}
 use Rattle.built_laws.specs.Kept.{IsKept, IsTestAt, verdict_node, nodes_of}
 use Rattle.built_laws.proofs.Nodes.{verdict_used, fault_is_node, are_nodes}

@@ -1,5 +1,5 @@
 -- Each used node is one that a verdict stands on.
-use Rattle.std.proofs.Common.{ℕ, ◌≡◌, ◌<◌, inl, inr, zero, suc, true, List, [], ◌∷◌, ◌++◌, length, map, Option, Some, None, slice_get, refl, sym, ap, ◌∙◌, subst, arith}
+use Rattle.std.proofs.Common.{ℕ, ◌≡◌, ◌<◌, inl, inr, suc, true, List, [], ◌∷◌, length, map, Option, Some, slice_get, refl, sym, ap, ◌∙◌, subst, arith}
 use Rattle.std.specs.List.{AllByRecursion as Each}
 use Rattle.std.proofs.lemmas.Option.{slice_get_within}
 use Rattle.memo_core.specs.declared.keys.Kind.{Kind}
@@ -11,22 +11,22 @@ use Rattle.binding_kinds.specs.declared.scope.Input.{Input}
 use Rattle.binding_graph.specs.declared.resolved.ResolvedItem.{ResolvedItem}
 use Rattle.binding_graph.specs.declared.resolved.Role.{Role}
 use Rattle.binding_graph.specs.declared.resolved.Role.TheVariants as roles
-use Rattle.binding_graph.specs.Reach.{is_check, IsCheckAt, AreReached}
+use Rattle.binding_graph.specs.Reach.{is_check, AreReached}
 use Rattle.bench_nodes.specs.declared.table.Slot.{Slot}
 use Rattle.bench_nodes.specs.declared.table.SlotKey.{SlotKey}
 use Rattle.bench_nodes.specs.declared.table.SlotKey.TheVariants as slots
 use Rattle.bench_nodes.specs.Nodes.{used, keys_at, has_slot, slot_keys, inputs_of}
 use Rattle.bench_nodes.proofs.Laws.{used_slot}
 use Rattle.model_slots.specs.Slots.{number_at, function_key, name_key, space_key, item_keys, flag_key, answer_key, key_by, keys_by, verdict_keys}
-use Rattle.model_slots.specs.Tables.{ModelReading, Sound, Faulty, name_count, IsNameOf}
+use Rattle.model_slots.specs.Tables.{ModelReading, Sound, name_count, IsNameOf}
 use Rattle.model_slots.proofs.Lists.{has_append, has_behind, has_map, has_contains, contains_has, each_has}
-use Rattle.slot_laws.specs.Closed.{NamesItem, IsClosedItem, AreClosed, NamesAt, LeadsByNames, IsReachedByNames}
+use Rattle.slot_laws.specs.Closed.{NamesItem, AreClosed, LeadsByNames}
 use Rattle.slot_laws.proofs.Items.{resolved_closed}
 use Rattle.slot_laws.proofs.Reached.{name_reached, reached_by_names}
 use Rattle.stamped_parts.specs.Contents.{State}
 use Rattle.stamped_parts.specs.States.{net_in}
-use Rattle.cells.specs.Cells.{StandsOnBy, StandsOn}
-use Rattle.built_laws.specs.Kept.{IsReadFrom, IsRead, id_in, IsKept, node_kind, item_node, space_node, verdict_node, IsUnderVerdict}
+use Rattle.cells.specs.Cells.{StandsOn}
+use Rattle.built_laws.specs.Kept.{IsRead, id_in, IsKept, node_kind, item_node, space_node, verdict_node, IsUnderVerdict}
 use Rattle.built_laws.proofs.Origin.{HasKind, verdict_inputs, IsOfItem, IsOfSpace, IsOfVerdict, origin, item_keys_are, verdict_keys_are}
 
 -- ---- keys and nodes

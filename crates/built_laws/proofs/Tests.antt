@@ -1,8 +1,7 @@
 -- The test at an index, by the number of its row.
-use Rattle.std.proofs.Common.{ℕ, ◌≡◌, ◌↔◌, ◌⊎◌, inl, inr, zero, suc, ◌==◌, ◌||◌, Bool, true, false, List, [], ◌∷◌, ◌++◌, Vec, Option, Some, None, slice_get, map, Contains, AllPairs, refl, sym, ap, ◌∙◌, subst, eqb-true, eq-eqb, ne_eqb}
+use Rattle.std.proofs.Common.{ℕ, ◌≡◌, ◌⊎◌, inl, inr, zero, suc, ◌==◌, ◌||◌, Bool, true, false, List, [], ◌∷◌, ◌++◌, Vec, Some, slice_get, Contains, AllPairs, refl, subst, eq-eqb, ne_eqb}
 use Rattle.std.specs.List.{AllZip, flat_map}
 use Rattle.std.specs.declared.alloc.Global.{Global}
-use Rattle.std.proofs.lemmas.Bool.{cases_Bool}
 use Rattle.std.proofs.lemmas.List.Elements.{Contains-append_left}
 use Rattle.std.proofs.lemmas.Option.{none-some}
 use Rattle.litmus_values.specs.declared.test.Test.{Test}
@@ -11,9 +10,9 @@ use Rattle.ppc_semantics.specs.Lowering.{AreNames, place_names, entry_names, for
 use Rattle.memo_core.specs.Step.{Has}
 use Rattle.bench_nodes.specs.declared.table.TestRow.{TestRow}
 use Rattle.bench_nodes.specs.Nodes.{has_test}
-use Rattle.node_values.specs.Parts.{SpacePartsContent, parts_of, HasParts}
+use Rattle.node_values.specs.Parts.{parts_of, HasParts}
 use Rattle.stamped_parts.specs.Built.{IsTestRow, AreTestRows}
-use Rattle.stamped_parts.specs.Views.{FoundTest, view_of}
+use Rattle.stamped_parts.specs.Views.{view_of}
 use Rattle.built_laws.proofs.Origin.{pairs_tail, pairs_head}
 
 -- what is found by the number of a row

@@ -3,12 +3,14 @@
 ghost use Rattle.std.specs.Prelude.{◌≡◌, ◌<◌, ◌≤◌, ◌+◌, leb, [], ℕ, List, IsTrue, IsFalse, IfOk, OnOk, OnErr, IfErr, IfSome, IfNone, Err};
 ghost use Rattle.memo_core.specs.Laws.{meaning};
 ghost use Rattle.memo_core.specs.Run.{Edit as Edited, Claim as Claimed, NoClaim, Returned, Lose as Lost, Renew as Renewed, Refused, Step};
+ghost use Rattle.memo_bench.specs.Told.{IsTold, OnNone};
 ghost use Rattle.cells.specs.Cells.{cells, IsShown, ShowsFromScratch, AllAreSettled};
 
 use crate::job::{Done, Job};
 use crate::shown::Shown;
 use crate::texts::CellTexts;
 use memo_bench::graph::{Graph, LAST};
+use memo_bench::witness::Witness;
 use memo_core::claims::{ClaimFault, Finish};
 use memo_core::table::output_token;
 use std::alloc::Global;
@@ -43,8 +45,21 @@ impl<K: StoreName, T: CellTexts> Bench<K, T> {
         ensures valid { T.is_valid result.texts }
         ensures parts { (p q : ℕ) → (T.net result.texts).part p q ≡ 0 }
     {
+        Bench::over(alloc, T::empty(alloc), store)
+    }
+
+    /// A bench over texts without parts.
+    pub fn over(alloc: Global, texts: T, store: Arc<Store<K, T::Value>, Global>) -> Self
+        requires new { (p q : ℕ) → (T.net texts).part p q ≡ 0 }
+        requires last { T.last texts ≡ 0 }
+        requires valid { T.is_valid texts }
+        ensures texts { result.texts ≡ texts }
+        ensures memos { result.memos ≡ [] }
+        ensures claims { result.claims ≡ [] }
+        ensures taken { result.taken ≡ 0 }
+    {
         Bench {
-            graph: Graph::new(alloc, T::empty(alloc), store),
+            graph: Graph::new(alloc, texts, store),
         }
     }
 
@@ -57,6 +72,27 @@ impl<K: StoreName, T: CellTexts> Bench<K, T> {
         ensures refused { OnErr result (Step (meaning T.net T.is_valid T.since T.makes T.keeps T.edited) self.old Refused self.new) }
     {
         self.graph.edit(alloc, edit)
+    }
+
+    /// Makes an edit as `edit` does, where the witness, who is told of it before it is put in place, does not hold it back.
+    /// None where the witness does: then all is as after a refusal.
+    pub fn edit_told<W: Witness<T>>(
+        &mut self,
+        alloc: Global,
+        edit: T::Edit,
+        witness: &mut W,
+    ) -> Result<Option<u64>, T::Fault>
+        requires may_tell { (t : T) (p : T.Prepared) → T.prepares self.old.texts edit p t → W.may_tell witness.old t p (self.old.taken + 1) }
+        ensures number { IfOk result (λ r. IfSome r (λ number. number ≡ self.old.taken + 1)) }
+        ensures edited { IfOk result (λ r. IfSome r (λ _. Step (meaning T.net T.is_valid T.since T.makes T.keeps T.edited) self.old (Edited edit) self.new)) }
+        ensures told { IfOk result (λ r. IfSome r (λ number. IsTold T.prepares T.commits W.told self.old.texts edit number self.new.texts witness.old witness.new)) }
+        ensures unspent { OnOk result (self.old.taken < LAST) }
+        ensures held { IfOk result (λ r. IfNone r (W.held witness.old witness.new)) }
+        ensures fault { IfErr result (λ fault. T.refuses self.old.texts edit (leb LAST self.old.taken) fault) }
+        ensures unseen { OnErr result (witness.new ≡ witness.old) }
+        ensures refused { OnNone result (Step (meaning T.net T.is_valid T.since T.makes T.keeps T.edited) self.old Refused self.new) }
+    {
+        self.graph.edit_told(alloc, edit, witness)
     }
 
     /// Gives out a job, if there is any work: a node that some cell needs, whose inputs are settled, which is not up to date

@@ -85,6 +85,16 @@ fn put_form_of(alloc: Global, answer: &mut Vec<u8>, words: &[&str]) -> Result<()
         }
         Ok(Form::Table { models, tests }) => put_files(answer, b"table", models, tests),
         Ok(Form::Diff { models, tests }) => put_files(answer, b"diff", models, tests),
+        Ok(Form::Session { workers }) => {
+            put_bytes(answer, b"session with ")?;
+            put_decimal(answer, workers)
+        }
+        Ok(Form::Why { model, test }) => {
+            put_bytes(answer, b"why ")?;
+            put_bytes(answer, model.as_bytes())?;
+            put_bytes(answer, b" ")?;
+            put_bytes(answer, test.as_bytes())
+        }
         Err(_) => put_bytes(answer, b"usage"),
     }
 }

@@ -28,8 +28,9 @@ use Rattle.litmusbench.specs.declared.fault.SessionFault.{SessionFault}
 use Rattle.litmusbench.specs.declared.fault.SessionFault.TheVariants as faults
 use Rattle.litmusbench.specs.declared.stream.Answer.{Answer}
 use Rattle.memo_graph.specs.FromScratch.{IsFromScratch}
-use Rattle.litmusbench.specs.Answer.{IsLogOf, IsModel, IsModelRefused, IsTestRefused, IsAnswer, RefusesModel, RefusesTest, IsRefusal, IsWritten, IsStreamed, refused_line}
+use Rattle.litmusbench.specs.Answer.{IsLogOf, IsModel, IsModelRefused, IsTestRefused, IsAnswer, RefusesModel, RefusesTest, IsRefusal, IsWritten, IsStreamed}
 use Rattle.litmusbench.specs.Cut.{IsCut}
+use Rattle.session_edits.specs.Answer.{refused_line}
 use Rattle.compare_report.specs.Log.{log_of}
 
 -- the log of an outcome, by the test's name

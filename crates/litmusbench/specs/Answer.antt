@@ -1,5 +1,5 @@
 -- What is said of a model's text and a test's text.
-use Rattle.std.specs.Prelude.{◌≡◌, ◌+◌, ◌≤◌, ◌⊎◌, ℕ, List, ◌∷◌, ◌++◌, length, Bool, true, false, codes, decimal, Option, Result, Ok, Err, IfSome}
+use Rattle.std.specs.Prelude.{◌≡◌, ◌+◌, ◌≤◌, ◌⊎◌, ℕ, List, length, Bool, true, false, Option, Result, Ok, Err, IfSome}
 use Rattle.std.specs.Io.KnownBytes.{Keeps, Appends}
 use Rattle.litmus_tokens.specs.declared.rule.LitmusRule.{LitmusRule}
 use Rattle.litmus_tokens.specs.Numbers.{number_of as test_rule_number}
@@ -20,7 +20,8 @@ use Rattle.litmusbench.specs.declared.fault.EvalFault.TheVariants as eval_faults
 use Rattle.litmusbench.specs.declared.fault.SessionFault.{SessionFault}
 use Rattle.litmusbench.specs.declared.fault.SessionFault.TheVariants as session_faults
 use Rattle.litmusbench.specs.Cut.{IsCut}
-use Rattle.compare_report.specs.Log.{line_end, log_of}
+use Rattle.compare_report.specs.Log.{log_of}
+use Rattle.session_edits.specs.Answer.{refused_line}
 use Rattle.litmusbench.specs.Written.{WritesFront}
 
 -- ---- what a test that was read says under a model that was read
@@ -70,11 +71,6 @@ abbrev pub IsRefusal : List ℕ → List ℕ → EvalFault → Type 0
 IsRefusal model test (eval_faults.Model rule offset) = IsModelRefused model rule offset
 IsRefusal model test (eval_faults.Test rule offset) = IsModel model × IsTestRefused test rule offset
 IsRefusal model test (eval_faults.Memory e) = Unit {0}
-
--- the line of a refusal: the letter of its rules, the rule's number, and the offset
-unfoldable pub refused_line : ℕ → ℕ → ℕ → List ℕ
-refused_line letter number offset =
-    codes "refused " ++ letter ∷ decimal number ++ codes " " ++ decimal offset ++ line_end
 
 -- ---- answers
 

@@ -3,7 +3,7 @@ use Rattle.std.specs.Prelude.{ℕ, ◌+◌, ◌-◌, ◌==◌, List, ◌++◌, B
 use Rattle.std.specs.Cmp.Lexicographic.{pointwise}
 use Rattle.std.specs.List.{filter, position_or_len}
 use Rattle.source_text.specs.Layout.{is_line_end}
-use Rattle.litmusbench.specs.Answer.{refused_line}
+use Rattle.session_edits.specs.Answer.{refused_line}
 
 -- how many bytes stand behind the last byte of this value: all of them where there is none
 abbrev pub count_behind : ℕ → List ℕ → ℕ

@@ -1,5 +1,5 @@
 -- What is said of files of models and files of tests. A file whose text is refused is one line, and the others go on.
-use Rattle.std.specs.Prelude.{◌≡◌, ℕ, List, [], ◌∷◌, ◌++◌, map, slice_index_or}
+use Rattle.std.specs.Prelude.{◌≡◌, ℕ, List, [], ◌∷◌, ◌++◌, map}
 use Rattle.std.specs.List.{AllZip}
 use Rattle.cat_grammar.specs.declared.form.Form.TheVariants.{Model}
 use Rattle.cat_syntax.specs.Reads.{Reads}
@@ -8,7 +8,8 @@ use Rattle.cat_tokens.specs.Tokens.{number_of as model_rule_number}
 use Rattle.cat_values.specs.Values.{clauses_of}
 use Rattle.compare_report.specs.Cells.{Cell, NoCell, Open, Settled}
 use Rattle.compare_report.specs.Columns.{Row, table_of}
-use Rattle.compare_report.specs.Differences.{Pair, difference_of}
+use Rattle.compare_report.specs.Differences.{difference_of}
+use Rattle.session_answers.specs.Rows.{pair_in}
 use Rattle.litmus_grammar.specs.Texts.{ReadsTest}
 use Rattle.litmus_tokens.specs.declared.rule.LitmusRule.{LitmusRule}
 use Rattle.litmus_tokens.specs.Numbers.{number_of as test_rule_number}
@@ -73,10 +74,6 @@ pub record IsTable (model_files test_files : List TextFile) (text faults : List 
   pub rows : List Row
   pub read : AreRead model_files test_files models rows faults
   pub text_is : text ≡ table_of (names_of models) rows
-
--- the first two cells of a row
-abbrev pub pair_in : Row → Pair
-pair_in row = record { name = row.name; first = slice_index_or row.cells 0 NoCell; second = slice_index_or row.cells 1 NoCell }
 
 -- where two models tell the tests apart: nothing where they are not two
 abbrev pub difference_under : List NamedModel → List Row → List ℕ

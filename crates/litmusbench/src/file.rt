@@ -5,7 +5,7 @@ ghost use Rattle.std.specs.List.{filter};
 ghost use Rattle.source_text.specs.Layout.{is_line_end};
 ghost use Rattle.litmusbench.specs.Files.{count_behind, file_name, model_name, line_number, column_number, position_label, fault_line};
 
-use crate::stream::put_refusal;
+use session_edits::put_refusal;
 use source_text::{put_bytes, put_decimal};
 use std::alloc::AllocError;
 

@@ -1,21 +1,32 @@
 //! What the words of a command line ask for.
 
 ghost use Rattle.std.specs.Prelude.{◌≡◌, ◌≤◌, ◌+◌, Some, None, IfOk, OnErr, length, option_map};
-ghost use Rattle.litmusbench.specs.Forms.{texts_of, asked_by, is_word, is_path, are_paths, dashes, word_at, eval_of, table_of, diff_of, by_command, asked_in};
+ghost use Rattle.litmusbench.specs.Forms.{texts_of, asked_by, is_word, is_path, are_paths, dashes, word_at, eval_of, table_of, diff_of, why_of, session_with, session_of, by_command, asked_in};
 
 use clap::error::ErrorKind;
 use clap::{Arg, ArgAction, Command, Error};
+use session_script::number_of;
 use std::alloc::{AllocError, Global};
 
 const ABOUT: &str =
     "Says which final states a memory model allows a litmus test to end in. With no \
     words, standard input holds the model, a line that is exactly `.`, and the test.";
 
-const AFTER: &str = "What was asked for goes to standard output. Exit status: 0 done, 1 a text was \
-    refused, 2 usage or help, 3 a fault of reading, writing or memory. A path that begins with `-` \
+const AFTER: &str =
+    "What was asked for goes to standard output. Exit status: 0 done, 1 a text or a \
+    command was refused, 2 usage or help, 3 a fault of reading, writing or memory. A path that begins with `-` \
     is written `./-..`.\n\nExample: pipitsolder table sc.cat power.cat -- MP.litmus CoWR.litmus";
 
 const VERSION: &str = "0.1.0";
+
+const SESSION_AFTER: &str =
+    "Commands with a text, which ends in a line that is exactly `.`: test, model M, init T, \
+    thread T K, cond T, locations T, item M N, insert M N. Without: remove M N, drop test T, drop model M, \
+    items M, show T M, counts T M, table M .., diff M M.\n\nExample: printf 'model sc\\nacyclic \
+    po|rf|fr|co\\n.\\nitems sc\\n' | pipitsolder session";
+
+/// The most workers of a session.
+const MOST_WORKERS: u64 = 32;
 
 /// What the program is asked to do.
 #[derive(Clone, Copy, Debug, PartialEq, Eq)]
@@ -36,6 +47,15 @@ pub enum Form<'a> {
     Diff {
         models: &'a [&'a str],
         tests: &'a [&'a str],
+    },
+    /// A script stands on standard input: its commands are answered one after another, with so many workers.
+    Session {
+        workers: u64,
+    },
+    /// Why the model of a file forbids what the test of another asks for.
+    Why {
+        model: &'a str,
+        test: &'a str,
     },
 }
 
@@ -121,6 +141,38 @@ fn diff_form<'a>(words: &'a [&'a str]) -> Option<Form<'a>>
     None
 }
 
+fn session_with<'a>(workers: Option<u64>) -> Option<Form<'a>>
+    ensures { option_map asked_by result ≡ session_with workers }
+{
+    match workers {
+        Some(workers) if workers <= MOST_WORKERS => Some(Form::Session { workers }),
+        _ => None,
+    }
+}
+
+fn session_form<'a>(words: &[&str]) -> Option<Form<'a>>
+    ensures { option_map asked_by result ≡ session_of (texts_of words.now) }
+{
+    if words.is_empty() {
+        return Some(Form::Session { workers: 0 });
+    }
+    if words.len() == 2 && word_at(words, 0) == "--workers" {
+        return session_with(number_of(word_at(words, 1).as_bytes()));
+    }
+    None
+}
+
+fn why_form<'a>(words: &'a [&'a str]) -> Option<Form<'a>>
+    ensures { option_map asked_by result ≡ why_of (texts_of words.now) }
+{
+    if words.len() == 2 && are_paths(words) {
+        let model = word_at(words, 0);
+        let test = word_at(words, 1);
+        return Some(Form::Why { model, test });
+    }
+    None
+}
+
 fn command_form<'a>(command: &str, words: &'a [&'a str]) -> Option<Form<'a>>
     ensures { option_map asked_by result ≡ by_command command.now (texts_of words.now) }
 {
@@ -130,6 +182,10 @@ fn command_form<'a>(command: &str, words: &'a [&'a str]) -> Option<Form<'a>>
         table_form(words)
     } else if command == "diff" {
         diff_form(words)
+    } else if command == "session" {
+        session_form(words)
+    } else if command == "why" {
+        why_form(words)
     } else {
         None
     }
@@ -190,6 +246,28 @@ fn diff_command<'a>(alloc: Global) -> Result<Command<'a>, AllocError> {
         .arg(tests)
 }
 
+fn session_command<'a>(alloc: Global) -> Result<Command<'a>, AllocError> {
+    let workers = Arg::new(alloc, "N")
+        .long("workers")
+        .help("How many workers, 0 to 32: for now any number does the same")
+        .action(ArgAction::Set);
+    Command::new(alloc, "session")
+        .about(
+            "Answers the commands of a script on standard input: edits of tests and models, and questions",
+        )
+        .after_help(SESSION_AFTER)
+        .arg(workers)
+}
+
+fn why_command<'a>(alloc: Global) -> Result<Command<'a>, AllocError> {
+    let model = path(alloc, "MODEL", "The file of a model");
+    let test = path(alloc, "TEST", "The file of a test");
+    Command::new(alloc, "why")
+        .about("Why a model forbids what a test asks for, or an execution that it keeps")
+        .arg(model)?
+        .arg(test)
+}
+
 fn program<'a>(alloc: Global) -> Result<Command<'a>, AllocError> {
     Command::new(alloc, "pipitsolder")
         .about(ABOUT)
@@ -197,7 +275,9 @@ fn program<'a>(alloc: Global) -> Result<Command<'a>, AllocError> {
         .version(VERSION)
         .subcommand(eval_command(alloc)?)?
         .subcommand(table_command(alloc)?)?
-        .subcommand(diff_command(alloc)?)
+        .subcommand(diff_command(alloc)?)?
+        .subcommand(session_command(alloc)?)?
+        .subcommand(why_command(alloc)?)
 }
 
 // What clap says of words that have no form. It takes a few such words, as `eval -- A B`.

@@ -1,25 +1,22 @@
 //! Tables and differences over files.
 
-ghost use Rattle.std.specs.Prelude.{◌≡◌, ◌^◌, ◌-◌, ◌<◌, ◌++◌, ◌==◌, not, IfOk, OnOk, length, map, slice_index_or};
+ghost use Rattle.std.specs.Prelude.{◌≡◌, ◌^◌, ◌-◌, ◌<◌, ◌++◌, ◌==◌, not, IfOk, OnOk, length, map};
 ghost use Rattle.std.specs.List.{AllZip};
 ghost use Rattle.std.specs.Io.KnownBytes.{Appends};
-ghost use Rattle.compare_report.specs.Cells as cells;
-ghost use Rattle.compare_report.specs.Cells.{cell_of};
-ghost use Rattle.compare_report.specs.Columns.{row_of, table_of};
-ghost use Rattle.compare_report.specs.Differences.{pair_of, difference_of};
-ghost use Rattle.litmusbench.specs.Outcomes.{row_said};
-ghost use Rattle.litmusbench.specs.Reports.{IsRow, AreRead, names_of, IsTable, pair_in, difference_under, IsDifference};
+ghost use Rattle.compare_report.specs.Columns.{table_of};
+ghost use Rattle.session_answers.specs.Rows.{row_said};
+ghost use Rattle.litmusbench.specs.Reports.{IsRow, AreRead, names_of, IsTable, difference_under, IsDifference};
 ghost use Rattle.litmusbench.specs.Written.{WritesFront};
 
 use crate::fault::SessionFault;
 use crate::file::TextFile;
 use crate::reading::{NamedModel, read_models, read_tests};
 use crate::sink::{ByteSink, write_whole};
-use compare_report::{Shown, TestPair, TestRow, difference_text, table_text};
+use compare_report::{difference_text, table_text};
 use litmus_ppc::{Name, Test};
 use memo_graph::eval_cell;
+use session_answers::{TestOutcomes, test_pairs, test_rows};
 use std::alloc::{AllocError, Global};
-use verdict::Outcome;
 
 /// What is said of files of models and tests.
 #[derive(Drop)]
@@ -30,14 +27,7 @@ pub struct Report {
     pub faults: Vec<u8>,
 }
 
-/// The outcomes of a test, in the order of the models.
-#[derive(Drop)]
-struct TestOutcomes {
-    name: Name,
-    outcomes: Vec<Outcome>,
-}
-
-/// What was read and evaluated.
+// What was read and evaluated.
 #[derive(Drop)]
 struct EvaluatedFiles {
     models: Vec<NamedModel>,
@@ -91,35 +81,6 @@ fn evaluate_files(
     })
 }
 
-fn cells_of<'a>(alloc: Global, outcomes: &'a [Outcome]) -> Result<Vec<Shown<'a>>, AllocError>
-    ensures { IfOk result (λ v. map cell_of v.items ≡ map cells.Settled outcomes.now) }
-{
-    let mut cells = Vec::with_capacity(alloc, outcomes.len())?;
-    for outcome in outcomes {
-        cells.push(Shown::Settled(outcome))?;
-    }
-    Ok(cells)
-}
-
-fn test_row<'a>(alloc: Global, row: &'a TestOutcomes) -> Result<TestRow<'a>, AllocError>
-    ensures { IfOk result (λ r. row_of r ≡ row_said row.now) }
-{
-    Ok(TestRow {
-        name: row.name.as_bytes(),
-        cells: cells_of(alloc, &row.outcomes)?,
-    })
-}
-
-fn test_rows<'a>(alloc: Global, rows: &'a [TestOutcomes]) -> Result<Vec<TestRow<'a>>, AllocError>
-    ensures { IfOk result (λ v. map row_of v.items ≡ map row_said rows.now) }
-{
-    let mut found = Vec::with_capacity(alloc, rows.len())?;
-    for row in rows {
-        found.push(test_row(alloc, row)?)?;
-    }
-    Ok(found)
-}
-
 fn names(alloc: Global, models: &[NamedModel]) -> Result<Vec<Name>, AllocError>
     ensures { IfOk result (λ v. v.items ≡ names_of models.now) }
 {
@@ -156,35 +117,6 @@ pub fn table_report(
         text,
         faults: found.faults,
     })
-}
-
-fn cell_at<'a>(outcomes: &'a [Outcome], index: usize) -> Shown<'a>
-    ensures { cell_of result ≡ slice_index_or (map cells.Settled outcomes.now) index cells.NoCell }
-{
-    match outcomes.get(index) {
-        Some(outcome) => Shown::Settled(outcome),
-        None => Shown::NoCell,
-    }
-}
-
-fn test_pair<'a>(row: &'a TestOutcomes) -> TestPair<'a>
-    ensures { pair_of result ≡ pair_in (row_said row.now) }
-{
-    TestPair {
-        name: row.name.as_bytes(),
-        first: cell_at(&row.outcomes, 0),
-        second: cell_at(&row.outcomes, 1),
-    }
-}
-
-fn test_pairs<'a>(alloc: Global, rows: &'a [TestOutcomes]) -> Result<Vec<TestPair<'a>>, AllocError>
-    ensures { IfOk result (λ v. map pair_of v.items ≡ map pair_in (map row_said rows.now)) }
-{
-    let mut pairs = Vec::with_capacity(alloc, rows.len())?;
-    for row in rows {
-        pairs.push(test_pair(row))?;
-    }
-    Ok(pairs)
 }
 
 fn difference_of_rows(

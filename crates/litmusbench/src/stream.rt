@@ -1,14 +1,15 @@
 //! A model and a test from a source, and what is said of them to a sink.
 
-ghost use Rattle.std.specs.Prelude.{◌≡◌, ◌≢◌, ◌+◌, ◌-◌, ◌<◌, ◌^◌, ◌++◌, true, OnOk, IfOk, IfSome, take};
-ghost use Rattle.litmusbench.specs.Answer.{IsAnswer, IsReadFault, IsWritten, IsStreamed, refused_line};
+ghost use Rattle.std.specs.Prelude.{◌≡◌, ◌≢◌, ◌+◌, ◌-◌, ◌<◌, ◌^◌, true, IfOk, IfSome, take};
+ghost use Rattle.litmusbench.specs.Answer.{IsAnswer, IsReadFault, IsWritten, IsStreamed};
+ghost use Rattle.session_edits.specs.Answer.{refused_line};
 
 use crate::cut::cut_at_dot;
 use crate::fault::{EvalFault, SessionFault};
 use crate::sink::{ByteSink, write_whole};
-use crate::texts::eval;
+use crate::texts::{eval, why_report};
+use session_edits::put_refusal;
 use session_script::{ByteSource, ReadFault, read_front};
-use source_text::{put_bytes, put_decimal};
 use std::alloc::{AllocError, Global};
 
 // What is printed, and whether a text was refused.
@@ -16,24 +17,6 @@ use std::alloc::{AllocError, Global};
 struct Answer {
     text: Vec<u8>,
     is_refused: bool,
-}
-
-// The line of a refusal.
-#[tactic(auto, unfolding(crate::specs::Answer::refused_line))]
-pub fn put_refusal(
-    text: &mut Vec<u8>,
-    letter: u8,
-    number: u8,
-    offset: usize,
-) -> Result<(), AllocError>
-    ensures { OnOk result (text.new.items ≡ text.old.items ++ refused_line letter number offset) }
-{
-    put_bytes(text, b"refused ")?;
-    text.push(letter)?;
-    put_decimal(text, u64::from(number))?;
-    put_bytes(text, b" ")?;
-    put_decimal(text, offset as u64)?;
-    put_bytes(text, b"\n")
 }
 
 fn refusal(alloc: Global, letter: u8, number: u8, offset: usize) -> Result<Answer, AllocError>
@@ -85,6 +68,44 @@ pub fn write_answer<W: ByteSink>(
     };
     match write_whole(sink, &answer.text) {
         Ok(()) => Ok(answer.is_refused),
+        Err(_) => Err(SessionFault::Write),
+    }
+}
+
+fn why_answer(alloc: Global, model: &[u8], test: &[u8]) -> Result<Answer, AllocError> {
+    match why_report(alloc, model, test) {
+        Ok(text) => Ok(Answer {
+            text,
+            is_refused: false,
+        }),
+        Err(EvalFault::Model { rule, offset }) => refusal(alloc, b'C', rule.number(), offset),
+        Err(EvalFault::Test { rule, offset }) => refusal(alloc, b'L', rule.number(), offset),
+        Err(EvalFault::Memory(e)) => Err(e),
+    }
+}
+
+/// Writes what `why_report` says of the texts, or a line `refused`, number and offset. Whether a text
+/// was refused. Errors: those of `write_answer`.
+pub fn write_why<W: ByteSink>(
+    alloc: Global,
+    model: &[u8],
+    test: &[u8],
+    sink: &mut W,
+) -> Result<bool, SessionFault>
+    requires { W.failed_calls sink.old < 2 ^ 64 - 1 }
+    // `Write` comes after one failed call, and all else after none.
+    ensures failed { result ≡ Err SessionFault.Write → W.failed_calls sink.new ≡ W.failed_calls sink.old + 1 }
+    ensures same { result ≢ Err SessionFault.Write → W.failed_calls sink.new ≡ W.failed_calls sink.old }
+    // Nothing is read.
+    ensures fault { result ≢ Err SessionFault.Read }
+{
+    let answer = match why_answer(alloc, model, test) {
+        Ok(answer) => answer,
+        Err(_) => return Err(SessionFault::Memory),
+    };
+    let is_refused = answer.is_refused;
+    match write_whole(sink, &answer.text) {
+        Ok(()) => Ok(is_refused),
         Err(_) => Err(SessionFault::Write),
     }
 }

@@ -13,6 +13,7 @@ use cat_syntax::{CatFault, ModelText, read_model};
 use compare_report::outcome_log;
 use litmus_ppc::{LitmusFault, Test, read_test};
 use memo_graph::eval_cell;
+use reasons::why;
 use std::alloc::{AllocError, Global};
 
 fn model_of(alloc: Global, text: &[u8]) -> Result<ModelText, EvalFault>
@@ -62,6 +63,26 @@ pub fn eval(alloc: Global, model: &[u8], test: &[u8]) -> Result<Vec<u8>, EvalFau
     };
     match outcome_text(alloc, &known_test, &known_model) {
         Ok(log) => Ok(log),
+        Err(e) => Err(EvalFault::Memory(e)),
+    }
+}
+
+/// Why the model forbids what the condition of the test asks for, or an execution that it keeps. The
+/// model is read first. Errors: those of `eval`.
+pub fn why_report(alloc: Global, model: &[u8], test: &[u8]) -> Result<Vec<u8>, EvalFault>
+    // A refusal is that of the first text that means nothing.
+    ensures { IfErr result (IsRefusal model.now test.now) }
+{
+    let known_model = match model_of(alloc, model) {
+        Ok(known) => known,
+        Err(fault) => return Err(fault),
+    };
+    let known_test = match test_of(alloc, test) {
+        Ok(known) => known,
+        Err(fault) => return Err(fault),
+    };
+    match why(alloc, &known_test, &known_model) {
+        Ok(text) => Ok(text),
         Err(e) => Err(EvalFault::Memory(e)),
     }
 }

@@ -1,14 +1,16 @@
 //! The calls that change a graph, returns aside, and what it shows.
 
-ghost use Rattle.std.specs.Prelude.{[], ◌≡◌, ◌<◌, ◌≤◌, leb, ℕ, IsTrue, IsFalse, IfOk, OnOk, OnErr, IfErr, IfSome, IfNone, Err, Some};
+ghost use Rattle.std.specs.Prelude.{[], ◌≡◌, ◌+◌, ◌<◌, ◌≤◌, leb, ℕ, IsTrue, IsFalse, IfOk, OnOk, OnErr, IfErr, IfSome, IfNone, Err, Some};
 ghost use Rattle.memo_core.specs.declared.keys.Node.{Node};
 ghost use Rattle.memo_core.specs.Step.{Has, Loses, Renews, Edits, IsWork};
 ghost use Rattle.memo_bench.specs.Clauses.{state_of, HasRightMemos, HasFreshClaims, IsMarked, GivesJob, IsSettledIn, IsRefused, ShowsStored, ShowsSolved};
+ghost use Rattle.memo_bench.specs.Told.{IsTold, OnNone};
 
 use crate::graph::{Graph, LAST};
 use crate::job::Job;
 use crate::marks::{are_used_marked, is_marked, settle_all};
 use crate::stores::drop_gone;
+use crate::witness::{Nobody, Witness};
 use crate::work::{current_inputs, earlier_tokens, find_work, hold_all, present_keys};
 use indexmap::IndexMap;
 use memo_core::claims::{Claim, ClaimFault};
@@ -64,17 +66,55 @@ impl<K: StoreName, T: Texts> Graph<K, T> {
         ensures since { OnErr result (T.since self.old.texts self.new.texts) }
         ensures refused { OnErr result (IsRefused self.old self.new) }
     {
+        match self.edit_told(alloc, edit, &mut Nobody) {
+            Ok(Some(number)) => Ok(number),
+            Ok(None) => unreachable!(),
+            Err(fault) => Err(fault),
+        }
+    }
+
+    /// Makes an edit as `edit` does, where the witness, who is told of it before it is put in place, does not hold it back.
+    /// None where the witness does: then all is as after a refusal.
+    pub fn edit_told<W: Witness<T>>(
+        &mut self,
+        alloc: Global,
+        edit: T::Edit,
+        witness: &mut W,
+    ) -> Result<Option<u64>, T::Fault>
+        requires right { HasRightMemos self.old }
+        requires fresh { HasFreshClaims self.old }
+        requires marks { IsMarked self.old }
+        requires may_tell { (t : T) (p : T.Prepared) → T.prepares self.old.texts edit p t → W.may_tell witness.old t p (self.old.taken + 1) }
+        ensures right { HasRightMemos self.new }
+        ensures fresh { HasFreshClaims self.new }
+        ensures marks { IsMarked self.new }
+        ensures number { IfOk result (λ r. IfSome r (λ number. number ≡ self.new.taken)) }
+        ensures edited { IfOk result (λ r. IfSome r (λ number. T.edited self.old.texts edit number self.new.texts)) }
+        ensures unspent { OnOk result (self.old.taken < LAST) }
+        ensures step { IfOk result (λ r. IfSome r (λ _. Edits (T.keeps self.new.texts) (state_of self.old) (state_of self.new))) }
+        ensures told { IfOk result (λ r. IfSome r (λ number. IsTold T.prepares T.commits W.told self.old.texts edit number self.new.texts witness.old witness.new)) }
+        ensures held { IfOk result (λ r. IfNone r (W.held witness.old witness.new)) }
+        ensures fault { IfErr result (λ fault. T.refuses self.old.texts edit (leb LAST self.old.taken) fault) }
+        ensures unseen { OnErr result (witness.new ≡ witness.old) }
+        ensures err { OnNone result (state_of self.new ≡ state_of self.old) }
+        ensures no_edit { OnNone result (T.last self.new.texts ≡ T.last self.old.texts) }
+        ensures since { OnNone result (T.since self.old.texts self.new.texts) }
+        ensures refused { OnNone result (IsRefused self.old self.new) }
+    {
         let spent = self.taken >= LAST;
         let prepared = match self.texts.prepare(alloc, edit, spent) {
             Ok(prepared) => prepared,
             Err(fault) => return Err(fault),
         };
         let number = self.taken + 1;
+        if !witness.tell(alloc, &self.texts, &prepared, number) {
+            return Ok(None);
+        }
         self.texts.commit(prepared, number);
         drop_gone(&self.texts, &mut self.memos);
         settle_all(&self.texts, &mut self.memos);
         self.taken = number;
-        Ok(number)
+        Ok(Some(number))
     }
 
     /// Hands out a node that has work, if any has. It makes the room for all that its return keeps.

@@ -9,4 +9,5 @@ pub mod job;
 mod marks;
 mod returns;
 mod stores;
+pub mod witness;
 mod work;

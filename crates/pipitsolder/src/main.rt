@@ -5,7 +5,7 @@ use clap::Error;
 use clap::error::ErrorKind;
 use litmusbench::{
     Form, OfRead, OfWrite, Report, RunEnd, SessionFault, TextFile, difference_report, eval_stream,
-    exit_status, form_of, read_text, table_report, write_answer, write_report,
+    exit_status, form_of, read_text, session, table_report, write_answer, write_report, write_why,
 };
 use std::alloc::AllocError;
 use std::fs::File;
@@ -47,6 +47,13 @@ fn stream<R: AllocGlobal + Input + Print>(rt: &R) -> Result<bool, SessionFault> 
     eval_stream(rt, &mut source, &mut sink)
 }
 
+// Any number of workers does the same for now: cells are evaluated one after another.
+fn run_session<R: AllocGlobal + Input + Print>(rt: &R) -> Result<bool, SessionFault> {
+    let mut source = OfRead::new(rt.reader());
+    let mut sink = OfWrite::new(io::writer(rt));
+    session(rt, &mut source, &mut sink)
+}
+
 fn text_of_file<R: AllocGlobal + Files>(rt: &R, path: &str) -> Result<Vec<u8>, SessionFault> {
     match File::open(rt, path) {
         Ok(file) => read_text(rt.alloc(), &mut OfRead::new(file)),
@@ -63,6 +70,17 @@ fn eval_files<R: AllocGlobal + Files + Print>(
     let test = text_of_file(rt, test)?;
     let mut sink = OfWrite::new(io::writer(rt));
     write_answer(rt.alloc(), &model, &test, &mut sink)
+}
+
+fn why_files<R: AllocGlobal + Files + Print>(
+    rt: &R,
+    model: &str,
+    test: &str,
+) -> Result<bool, SessionFault> {
+    let model = text_of_file(rt, model)?;
+    let test = text_of_file(rt, test)?;
+    let mut sink = OfWrite::new(io::writer(rt));
+    write_why(rt.alloc(), &model, &test, &mut sink)
 }
 
 fn files_of<'a, R: AllocGlobal + Files>(
@@ -128,6 +146,8 @@ fn answer<R: AllocGlobal + Eprint + Files + Input + Print, E: Print>(
             tell_done(rt, table_files(rt, errors, models, tests))
         }
         Ok(Form::Diff { models, tests }) => tell_done(rt, diff_files(rt, errors, models, tests)),
+        Ok(Form::Session { workers: _ }) => tell_done(rt, run_session(rt)),
+        Ok(Form::Why { model, test }) => tell_done(rt, why_files(rt, model, test)),
         Err(error) => tell_usage(rt, &error),
     }
 }

@@ -2,12 +2,10 @@
 use Rattle.std.proofs.Common.{ℕ, ◌+◌, ◌<◌, ◌≡◌, ◌↔◌, List, [], ◌∷◌, ◌++◌, drop, get_or, length, Option, Some, None, refl, ap, sym, ◌∙◌}
 use Rattle.std.proofs.lemmas.List.{append-nil}
 use Rattle.std.proofs.lemmas.Option.{slice_get_read}
-use Rattle.memo_core.specs.declared.keys.Key.{Key}
-use Rattle.memo_core.specs.declared.keys.Key.TheVariants.{Part, Output}
 use Rattle.memo_core.proofs.Inputs.{drop_get}
 use Rattle.bench_nodes.specs.declared.table.SlotKey.{SlotKey}
 use Rattle.bench_nodes.specs.declared.table.SlotKey.TheVariants as slots
-use Rattle.bench_nodes.specs.Nodes.{key_at, keys_at}
+use Rattle.bench_nodes.specs.Nodes.{keys_at}
 use Rattle.stamped_parts.specs.Contents.{PartContent, OfRole, OfFault, OfCondition, OfObserved, OfLocations, OfInit, OfThread, State, content}
 use Rattle.stamped_parts.specs.States.{contents, flag_names, flags_among}
 use Rattle.stamped_parts.specs.Views.{FoundPart, first_part, flags_at}

@@ -1,5 +1,5 @@
 -- A state that is built of its tests and models is valid.
-use Rattle.std.proofs.Common.{ℕ, ◌+◌, ◌<◌, ◌≤◌, ◌≡◌, ◌⊎◌, inl, inr, Bool, true, false, List, [], ◌∷◌, ◌++◌, length, Option, Some, None, is_some, refl, ap, sym, subst, ◌∙◌, arith}
+use Rattle.std.proofs.Common.{ℕ, ◌+◌, ◌<◌, ◌≡◌, ◌⊎◌, inl, inr, true, false, List, [], ◌∷◌, ◌++◌, Option, Some, None, is_some, refl, ap, sym, subst, ◌∙◌, arith}
 use Rattle.std.specs.List.{AllByRecursion as Each}
 use Rattle.std.proofs.lemmas.Bool.{cases_Bool}
 use Rattle.std.proofs.lemmas.Option.{none-some}
@@ -8,7 +8,6 @@ use Rattle.litmus_values.specs.declared.test.Step.{Step}
 use Rattle.litmus_values.specs.Value.{formula_of}
 use Rattle.memo_core.specs.declared.keys.Kind.{Kind}
 use Rattle.memo_core.specs.declared.keys.Kind.TheVariants as kinds
-use Rattle.memo_core.specs.declared.keys.Key.{Key}
 use Rattle.memo_core.specs.declared.keys.Key.TheVariants.{Part, Output}
 use Rattle.memo_core.specs.declared.keys.Node.{Node}
 use Rattle.memo_core.specs.Step.{Has}
@@ -16,7 +15,7 @@ use Rattle.bench_nodes.specs.declared.table.Slot.{Slot}
 use Rattle.bench_nodes.specs.declared.table.SlotKey.{SlotKey}
 use Rattle.bench_nodes.specs.declared.table.SlotKey.TheVariants as slots
 use Rattle.bench_nodes.specs.declared.table.TestRow.{TestRow}
-use Rattle.bench_nodes.specs.Nodes.{used, keys_at, is_slot, has_slot, has_test, slot_keys, thread_parts, row_of, row_parts, space_keys, inputs_of}
+use Rattle.bench_nodes.specs.Nodes.{used, keys_at, is_slot, has_slot, slot_keys, thread_parts, row_of, row_parts, space_keys, inputs_of}
 use Rattle.bench_nodes.proofs.Laws.{used_test, used_slot}
 use Rattle.node_values.specs.Givens.{GivenContent, ForItem}
 use Rattle.node_values.specs.Items.{RoleContent}

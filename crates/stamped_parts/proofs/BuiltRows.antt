@@ -1,10 +1,9 @@
 -- Stamps and contents of the parts of a state that is built of its tests and models.
-use Rattle.std.proofs.Common.{ℕ, inl, inr, ◌-◌, ◌<◌, ◌≤◌, ◌≡◌, ◌==◌, Bool, true, false, if◌then◌else◌, ◌||◌, List, [], ◌∷◌, length, map, get_or, Vec, Option, Some, None, option_map, slice_get, refl, ap, sym, subst, ◌∙◌, zero, suc, eqb-true, eq-eqb, arith}
+use Rattle.std.proofs.Common.{ℕ, inl, inr, ◌-◌, ◌≤◌, ◌≡◌, ◌==◌, true, false, List, [], ◌∷◌, length, map, get_or, Vec, Option, Some, None, option_map, slice_get, refl, sym, ◌∙◌, zero, suc, eqb-true, eq-eqb, arith}
 use Rattle.std.specs.List.{AllZip, AllByRecursion as Each}
 use Rattle.std.specs.declared.alloc.Global.{Global}
 use Rattle.std.proofs.lemmas.Bool.{cases_Bool}
 use Rattle.std.proofs.lemmas.List.{length-map}
-use Rattle.std.proofs.lemmas.Option.{slice_get_past}
 use Rattle.litmus_values.specs.declared.test.Step.{Step}
 use Rattle.litmus_values.specs.declared.test.Test.{Test}
 use Rattle.litmus_values.specs.Value.{steps_of}
@@ -14,8 +13,8 @@ use Rattle.bench_nodes.specs.declared.table.ModelRow.{ModelRow}
 use Rattle.bench_nodes.specs.declared.table.TestRow.{TestRow}
 use Rattle.bench_nodes.specs.Nodes.{item_stamp, fault_stamp, stamp_in, test_stamp, has_test, part_stamp}
 use Rattle.node_values.specs.declared.items.SharedItem.{SharedItem}
-use Rattle.stamped_parts.specs.Contents.{PartContent, OfThread, role_part, item_content, fault_part, fault_content, test_part, test_content, State, content}
-use Rattle.stamped_parts.specs.Built.{IsStamp, IsItemRow, IsModelRow, IsTestRow, AreTestRows, IsBuilt}
+use Rattle.stamped_parts.specs.Contents.{OfThread, role_part, item_content, fault_part, fault_content, test_part, test_content, State, content}
+use Rattle.stamped_parts.specs.Built.{IsStamp, IsItemRow, IsModelRow, IsTestRow, AreTestRows}
 use Rattle.stamped_parts.specs.Views.{FoundTest, view_of}
 
 -- ---- items and models

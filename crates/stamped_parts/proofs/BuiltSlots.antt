@@ -1,5 +1,5 @@
 -- What the slots of models begin with, and that each output among their inputs is one that its node gives.
-use Rattle.std.proofs.Common.{ℕ, ◌<◌, ◌≡◌, ◌⊎◌, inl, inr, ◌==◌, ◌&&◌, Bool, true, false, List, [], ◌∷◌, ◌++◌, length, map, Option, Some, None, slice_get, refl, ap, sym, subst, ◌∙◌, eqb-true, arith}
+use Rattle.std.proofs.Common.{ℕ, ◌<◌, ◌≡◌, ◌⊎◌, inl, inr, ◌==◌, ◌&&◌, Bool, true, false, List, [], ◌∷◌, map, Option, Some, None, slice_get, refl, sym, subst, eqb-true, arith}
 use Rattle.std.specs.List.{AllByRecursion as Each, flat_map}
 use Rattle.std.proofs.lemmas.Bool.{cases_Bool}
 use Rattle.std.proofs.lemmas.List.{length-map}
@@ -20,7 +20,7 @@ use Rattle.node_values.specs.Items.{RoleContent, body_content, role_content}
 use Rattle.node_values.specs.Makes.{role_outputs}
 use Rattle.model_slots.proofs.Lists.{each_append}
 use Rattle.model_slots.specs.Slots.{PlainSlot, plain, number_at, function_key, name_key, space_key, item_keys, slots_of, item_slots, used_slots, flag_key, answer_key, key_by, keys_by, verdict_keys, sound_slots}
-use Rattle.model_slots.specs.Tables.{ModelReading, Sound, Faulty, name_count, IsNameOf, UsesNames, AreOrderedItems, space_slot, space_slots, slots_in, all_slots}
+use Rattle.model_slots.specs.Tables.{ModelReading, Sound, Faulty, name_count, IsNameOf, UsesNames, AreOrderedItems, space_slots, slots_in, all_slots}
 use Rattle.stamped_parts.specs.Contents.{OfRole, OfFault, State, content}
 use Rattle.stamped_parts.specs.Built.{AreHeld, IsModelIn}
 

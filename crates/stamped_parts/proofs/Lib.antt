@@ -5,6 +5,7 @@ pub mod BuiltSlots
 pub mod Equality
 pub mod Keeping
 pub mod Numbering
+pub mod Owners
 pub mod Rows
 pub mod Same
 pub mod SpaceParts

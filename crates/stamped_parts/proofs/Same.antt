@@ -1,5 +1,5 @@
 -- States that are the same, wherever they lie in memory.
-use Rattle.std.proofs.Common.{ℕ, ◌<◌, ◌≤◌, ◌≡◌, true, Bool, is_some, List, [], ◌∷◌, map, Option, Some, None, refl, ap, sym, subst, ◌∙◌}
+use Rattle.std.proofs.Common.{ℕ, ◌≤◌, ◌≡◌, Bool, is_some, List, [], ◌∷◌, map, Option, refl, ap, sym, subst, ◌∙◌}
 use Rattle.std.proofs.Math.Path.{fun_ext}
 use Rattle.std.specs.List.{AllZip, AllByRecursion as Each}
 use Rattle.binding_graph.specs.declared.resolved.ResolvedItem.{ResolvedItem}
@@ -11,11 +11,10 @@ use Rattle.memo_core.specs.declared.keys.Node.{Node}
 use Rattle.memo_core.specs.Graph.{Net}
 use Rattle.memo_core.specs.Step.{Has}
 use Rattle.node_values.specs.Givens.{GivenContent}
-use Rattle.node_values.specs.Makes.{output_count}
 use Rattle.bench_nodes.specs.Nodes.{part_stamp, used, inputs_of, inputs}
 use Rattle.bench_nodes.specs.Order.{AreOrderedAfter}
 use Rattle.model_slots.specs.Slots.{plain, number_at}
-use Rattle.model_slots.specs.Tables.{ModelReading, Sound, Faulty, all_slots}
+use Rattle.model_slots.specs.Tables.{ModelReading, Sound, Faulty}
 use Rattle.stamped_parts.specs.Built.{AreHeld, IsModelIn, IsItemRow, IsModelRow, AreTestRows, IsBuilt}
 use Rattle.stamped_parts.specs.Contents.{PartContent, State, content}
 use Rattle.stamped_parts.specs.States.{contents, given_by, given, is_given, net_in, HasOutput, IsValid, IsSameState, IsSince}

@@ -1,19 +1,19 @@
 -- What the space of a test is given.
-use Rattle.std.proofs.Common.{ℕ, zero, suc, ◌+◌, ◌-◌, inl, inr, ◌<◌, ◌≤◌, ◌≡◌, ◌≢◌, ◌==◌, Bool, true, false, if◌then◌else◌, List, [], ◌∷◌, ◌++◌, length, map, take, drop, Vec, Option, Some, None, option_map, slice_get, refl, ap, sym, subst, ◌∙◌, ne_eqb, arith}
+use Rattle.std.proofs.Common.{ℕ, suc, ◌+◌, ◌-◌, inl, inr, ◌<◌, ◌≤◌, ◌≡◌, ◌≢◌, List, [], ◌∷◌, ◌++◌, length, map, take, drop, Option, Some, None, option_map, slice_get, refl, ap, sym, ◌∙◌, ne_eqb, arith}
 use Rattle.std.proofs.lemmas.List.{append_assoc, append-nil, length-map, take-map}
-use Rattle.std.proofs.lemmas.Option.{slice_get_past, slice_get_cases}
+use Rattle.std.proofs.lemmas.Option.{slice_get_cases}
 use Rattle.litmus_values.specs.declared.test.InitEntry.{InitEntry}
 use Rattle.litmus_values.specs.declared.test.Step.{Step}
 use Rattle.litmus_values.specs.declared.test.Test.{Test}
 use Rattle.litmus_values.specs.Value.{steps_of}
 use Rattle.memo_core.specs.declared.keys.Key.{Key}
-use Rattle.memo_core.specs.declared.keys.Key.TheVariants.{Part, Output}
+use Rattle.memo_core.specs.declared.keys.Key.TheVariants.{Part}
 use Rattle.memo_core.proofs.Inputs.{drop_get}
 use Rattle.bench_nodes.specs.declared.table.TestRow.{TestRow}
-use Rattle.bench_nodes.specs.Nodes.{row_of, row_parts, thread_parts, space_parts, space_keys}
+use Rattle.bench_nodes.specs.Nodes.{row_of, row_parts, thread_parts, space_keys}
 use Rattle.node_values.specs.Givens.{GivenContent, ForSpace}
 use Rattle.node_values.specs.Parts.{parts_of}
-use Rattle.stamped_parts.specs.Contents.{PartContent, OfLocations, OfInit, OfThread, State, test_part, test_content, content}
+use Rattle.stamped_parts.specs.Contents.{PartContent, OfLocations, OfThread, State, test_part, test_content, content}
 use Rattle.stamped_parts.specs.States.{contents, space_given, given_space}
 use Rattle.stamped_parts.specs.Views.{FoundTest, view_of}
 use Rattle.stamped_parts.proofs.Rows.{part_in, test_in, row_in, row_number}

@@ -1,5 +1,6 @@
 pub mod Built
 pub mod Contents
 pub mod Equal
+pub mod Kept
 pub mod States
 pub mod Views

@@ -1,5 +1,6 @@
 //! The parts of the bench's texts: what they hold, with their stamps, and what the nodes are given of them. Read
-//! `specs/Contents` first: what a part holds, then `specs/States`: what a job is given, and what the states owe.
+//! `specs/Contents` first: what a part holds, then `specs/States`: what a job is given, and what the states owe, then
+//! `specs/Built`: of what a state is built.
 #![tactic(auto)]
 
 mod content;

@@ -1,6 +1,6 @@
 use Rattle.std.proofs.Common.{rules}
 use Rattle.litmusbench.proofs.Reports.{zip_more}
-use Rattle.litmusbench.specs.Outcomes.{row_said}
+use Rattle.session_answers.specs.Rows.{row_said}
 use Rattle.litmusbench.specs.Reports.{IsRow}
 use Rattle.litmusbench.proofs.report.all_outcomes.Goals as goal
 

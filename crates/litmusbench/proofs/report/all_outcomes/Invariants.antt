@@ -1,6 +1,6 @@
 use Rattle.std.proofs.Common.{take, map}
 use Rattle.std.specs.List.{AllZip}
-use Rattle.litmusbench.specs.Outcomes.{row_said}
+use Rattle.session_answers.specs.Rows.{row_said}
 use Rattle.litmusbench.specs.Reports.{IsRow}
 use Rattle.litmusbench.proofs.report.all_outcomes.Given as goal
 

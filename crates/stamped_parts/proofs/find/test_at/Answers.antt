@@ -1,4 +1,4 @@
-use Rattle.std.proofs.Common.{refl, sym, ap, ◌∙◌, Some, Option, arith}
+use Rattle.std.proofs.Common.{refl, sym, ap, ◌∙◌, Some, arith}
 use Rattle.std.proofs.lemmas.Option.{slice_get_read}
 use Rattle.stamped_parts.specs.Views.{FoundTest}
 use Rattle.stamped_parts.proofs.Rows.{view_at, no_view}

@@ -1,6 +1,6 @@
-use Rattle.std.proofs.Common.{◌≡◌, ◌<◌, ◌≤◌, length, Option, Some, None, ap, sym, ◌∙◌, arith}
+use Rattle.std.proofs.Common.{◌≡◌, ◌<◌, ◌≤◌, length, Some, ap, sym, ◌∙◌, arith}
 use Rattle.stamped_parts.specs.Contents.{state_of}
-use Rattle.stamped_parts.specs.Views.{FoundTest, test_view, view_of}
+use Rattle.stamped_parts.specs.Views.{test_view, view_of}
 use Rattle.stamped_parts.proofs.SpaceParts.{no_space, space_is, threads_lack}
 use Rattle.stamped_parts.proofs.nodes.space_parts.Goals as goal
 

@@ -1,0 +1,89 @@
+-- What lies under the desk's lock, and what each call makes of it.
+use Rattle.std.specs.Prelude.{◌≡◌, ℕ, ◌+◌, Bool, true, false, List, [], ◌∷◌, ◌++◌}
+use Rattle.std.specs.List.{AllByRecursion as Each}
+use mathlib.Core.List.{IsPrefix}
+use Rattle.memo_core.specs.Run as core
+use Rattle.memo_core.specs.Run.{Bench, Meaning, Step}
+use Rattle.desk.specs.declared.answer.Accepted.{Accepted}
+use Rattle.desk.specs.declared.answer.Accepted.TheVariants.{Now, Later}
+use Rattle.desk.specs.declared.answer.Posted.{Posted}
+use Rattle.desk.specs.declared.answer.Posted.TheVariants as posts
+use Rattle.desk.specs.declared.answer.Settling.{Settling}
+use Rattle.desk.specs.declared.answer.Settling.TheVariants.{Done, Waits, Refused}
+
+pub record Held (T V O : Type 0) : Type 0 where
+  pub bench : Bench T V
+  pub all : List O  -- what was appended: the published operations, and then the pending ones
+  pub published : List O  -- what readers see
+  pub spare : ℕ  -- how many viewers are left to give
+  pub closed : Bool
+
+abbrev pub held : {T V O : Type 0} → Bench T V → List O → List O → ℕ → Bool → Held T V O
+held bench all published spare closed = record { bench = bench; all = all; published = published; spare = spare; closed = closed }
+
+abbrev pub number_of : Accepted → ℕ
+number_of (Now number) = number
+number_of (Later number) = number
+
+-- operations that settle cells were appended, and nothing else changed but the bench and what is published
+pub record Appends {T V O : Type 0} (is_settle : O → Type 0) (before : List O) (old new : Held T V O) : Type 0 where
+  pub settles : List O
+  pub are_settles : Each is_settle settles
+  pub all : new.all ≡ before ++ settles
+  pub spare : new.spare ≡ old.spare
+  pub closed : new.closed ≡ old.closed
+
+-- one edit was made under the next number, and its operation appended
+pub record IsMade {T E V G O : Type 0} (means : Meaning T E V G) (is_edit : O → E → ℕ → Type 0) (e : E) (old new : Bench T V) (before after : List O) (number : ℕ) : Type 0 where
+  pub step : Step means old (core.Edit e) new
+  pub number_is : number ≡ old.taken + 1
+  pub op : O
+  pub is : is_edit op e number
+  pub list : after ≡ before ++ op ∷ []
+
+-- so it is, and settled cells were appended after it
+pub record IsEditTurn {T E V G O : Type 0} (means : Meaning T E V G) (is_edit : O → E → ℕ → Type 0) (is_settle : O → Type 0) (e : E) (old new : Held T V O) (number : ℕ) : Type 0 where
+  pub list : List O
+  pub made : IsMade means is_edit e old.bench new.bench old.all list number
+  pub appends : Appends is_settle list old new
+
+-- all is published and the viewer was told; or readers see what they saw, and the viewer knows what it knew
+abbrev pub Publishes : {T V O : Type 0} → (old new : Held T V O) → (me me' : List O) → Accepted → Type 0
+Publishes old new me me' (Now number) = (new.published ≡ new.all) × (me' ≡ new.all)
+Publishes old new me me' (Later number) = (new.published ≡ old.published) × (me' ≡ me)
+
+-- the viewer's list goes on from its old one, has the edit at its number, and ends with what was appended after it
+pub record HasEdit {E O : Type 0} (is_legal : List O → Type 0) (is_edit : O → E → ℕ → Type 0) (is_settle : O → Type 0) (e : E) (number : ℕ) (me me' : List O) : Type 0 where
+  pub between : List O
+  pub op : O
+  pub is : is_edit op e number
+  pub settles : List O
+  pub are_settles : Each is_settle settles
+  pub list : me' ≡ ((me ++ between) ++ op ∷ []) ++ settles
+  pub legal : is_legal me'
+
+abbrev pub Tells : {E O : Type 0} → (List O → Type 0) → (O → E → ℕ → Type 0) → (O → Type 0) → E → (me me' : List O) → Accepted → Type 0
+Tells is_legal is_edit is_settle e me me' (Now number) = HasEdit is_legal is_edit is_settle e number me me'
+Tells is_legal is_edit is_settle e me me' (Later number) = me' ≡ me
+
+-- all is published, and each cell that is settled on the bench is settled there; or readers see what they saw
+abbrev pub PublishesOr : {T V O : Type 0} → (Bench T V → List O → Type 0) → (old new : Held T V O) → Posted → Type 0
+PublishesOr are_posted old new posts.Now = (new.published ≡ new.all) × are_posted new.bench new.published
+PublishesOr are_posted old new posts.Later = new.published ≡ old.published
+
+-- the viewer was told all that is published, which goes on from what it knew, and there every cell is settled
+pub record IsDone {T V O : Type 0} (is_legal : List O → Type 0) (are_settled : List O → Type 0) (new : Held T V O) (me me' : List O) : Type 0 where
+  pub list : me' ≡ new.published
+  pub whole : new.published ≡ new.all
+  pub begins : IsPrefix me me'
+  pub settled : are_settled me'
+  pub legal : is_legal me'
+
+abbrev pub Settles : {T V O : Type 0} → (is_legal : List O → Type 0) → (are_settled : List O → Type 0) → (new : Held T V O) → (me me' : List O) → Settling → Type 0
+Settles is_legal are_settled new me me' Done = IsDone is_legal are_settled new me me'
+Settles is_legal are_settled new me me' Waits = me' ≡ me
+Settles is_legal are_settled new me me' Refused = me' ≡ me
+
+-- the call was refused: the texts of the bench may have more room, and nothing else changed
+abbrev pub IsRefusedTurn : {T E V G O : Type 0} → Meaning T E V G → (old new : Held T V O) → Type 0
+IsRefusedTurn means old new = Step means old.bench core.Refused new.bench × (new ≡ held new.bench old.all old.published old.spare old.closed)

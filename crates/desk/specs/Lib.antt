@@ -1,0 +1,5 @@
+pub mod Boards
+pub mod Told
+pub mod Posts
+pub mod Held
+pub mod Rows

@@ -1,0 +1,41 @@
+//! What the desk answers.
+
+use memo_core::claims::Finish;
+
+/// What becomes of an edit that is accepted, with its number.
+#[derive(Clone, Copy, Debug, PartialEq, Eq)]
+pub enum Accepted {
+    /// It is published, and the viewer was told.
+    Now(u64),
+    /// It is published with what is published next.
+    Later(u64),
+}
+
+/// What becomes of the cells that are settled.
+#[derive(Clone, Copy, Debug, PartialEq, Eq)]
+pub enum Posted {
+    /// They are published.
+    Now,
+    /// Some are published with what is published next.
+    Later,
+}
+
+/// What becomes of a call that settles.
+#[derive(Clone, Copy, Debug, PartialEq, Eq)]
+pub enum Settling {
+    /// Each cell is settled and published, and the viewer was told.
+    Done,
+    /// Some cell is open.
+    Waits,
+    /// Memory was refused.
+    Refused,
+}
+
+/// What a return came to, and what becomes of the cells that are settled.
+#[derive(Drop)]
+pub struct Taken {
+    /// What the bench answers.
+    pub finish: Finish,
+    /// What becomes of the cells that are settled.
+    pub posted: Posted,
+}

@@ -1,0 +1,108 @@
+//! Appends the cells that are settled on the bench and open on the board.
+
+ghost use Rattle.std.specs.Prelude.{◌≡◌, ◌<◌, ℕ, length, IsTrue, IfOk, IfSome, IfNone, fold};
+ghost use Rattle.cells.specs.Cells.{cells as cells_of};
+ghost use Rattle.desk.specs.Boards.{ArePosted, AreSettled};
+ghost use Rattle.desk.specs.Posts.{IsPosted, SettlesRight, Posts};
+
+use crate::texts::BoardTexts;
+use cells::bench::Bench;
+use cells::shown::Shown;
+use desk_rule::{Naming, Press};
+use std::alloc::{AllocError, Global};
+use value_store::StoreName;
+
+// The operation that settles the cell at an index, if the bench shows its outcome and the board does not.
+fn settle_of<K: StoreName, X: BoardTexts>(
+    alloc: Global,
+    bench: &Bench<K, X>,
+    board: &X::Board,
+    index: usize,
+) -> Result<Option<X::Op>, AllocError>
+    requires { index < length (X.cells board.now) }
+    ensures made { IfOk result (λ r. IfSome r (λ op. SettlesRight X.settles (X.from_scratch bench.now.texts) board.now (X.cells board.now) index op)) }
+    ensures none { IfOk result (λ r. IfNone r (IsPosted X.net (cells_of X.verdict_of X.outcome_in X.from_scratch X.reaches) bench.now (X.cells board.now) index)) }
+{
+    let Some(names) = X::open_cell(board, index) else {
+        return Ok(None);
+    };
+    match bench.shown(names.test, names.model) {
+        Shown::Settled(outcome) => Ok(Some(X::settle(alloc, board, index, outcome)?)),
+        Shown::Open => Ok(None),
+        Shown::NoCell => Ok(None),
+    }
+}
+
+// Appends the cell at an index, if it is settled on the bench and open on the board. False where it could not.
+fn post<J: Naming, K: StoreName, X: BoardTexts>(
+    alloc: Global,
+    bench: &Bench<K, X>,
+    press: &mut Press<J, X>,
+    index: usize,
+) -> bool
+    requires valid { X.is_valid bench.now.texts }
+    requires after { X.are_after bench.now.texts press.old.all }
+    requires at { index < length (X.cells (fold X.after X.none press.old.all)) }
+    ensures posts { Posts X.is_settle X.are_after X.last_number (λ ops. length (X.cells (fold X.after X.none ops))) bench.now.texts press.old press.new }
+    ensures posted { IsTrue result → IsPosted X.net (cells_of X.verdict_of X.outcome_in X.from_scratch X.reaches) bench.now (X.cells (fold X.after X.none press.new.all)) index }
+    ensures kept { (k : ℕ) → IsPosted X.net (cells_of X.verdict_of X.outcome_in X.from_scratch X.reaches) bench.now (X.cells (fold X.after X.none press.old.all)) k
+        → IsPosted X.net (cells_of X.verdict_of X.outcome_in X.from_scratch X.reaches) bench.now (X.cells (fold X.after X.none press.new.all)) k }
+{
+    let made = match press.board() {
+        Some(board) => settle_of(alloc, bench, board, index),
+        None => return false,
+    };
+    match made {
+        Ok(Some(op)) => press.append(op).is_ok(),
+        Ok(None) => true,
+        Err(_) => false,
+    }
+}
+
+// How many cells the board after all operations has. None where memory for that board was refused.
+fn cell_count<J: Naming, X: BoardTexts>(press: &Press<J, X>) -> Option<usize>
+    ensures { IfSome result (λ n. n ≡ length (X.cells (fold X.after X.none press.now.all))) }
+{
+    match press.board() {
+        Some(board) => Some(X::cell_count(board)),
+        None => None,
+    }
+}
+
+/// Appends all such cells, as far as it can. True where none is left.
+pub(crate) fn post_settled<J: Naming, K: StoreName, X: BoardTexts>(
+    alloc: Global,
+    bench: &Bench<K, X>,
+    press: &mut Press<J, X>,
+) -> bool
+    requires valid { X.is_valid bench.now.texts }
+    requires after { X.are_after bench.now.texts press.old.all }
+    ensures posts { Posts X.is_settle X.are_after X.last_number (λ ops. length (X.cells (fold X.after X.none ops))) bench.now.texts press.old press.new }
+    ensures posted { IsTrue result → ArePosted X.net (cells_of X.verdict_of X.outcome_in X.from_scratch X.reaches) bench.now (X.cells (fold X.after X.none press.new.all)) }
+{
+    press.catch_up();
+    let Some(count) = cell_count(press) else {
+        return false;
+    };
+    for index in 0..count {
+        if !post(alloc, bench, press, index) {
+            return false;
+        }
+    }
+    true
+}
+
+/// Whether each cell of the board after all operations is settled.
+pub(crate) fn is_settled<J: Naming, X: BoardTexts>(press: &Press<J, X>) -> bool
+    ensures { IsTrue result → AreSettled (X.cells (fold X.after X.none press.now.all)) }
+{
+    let Some(board) = press.board() else {
+        return false;
+    };
+    for index in 0..X::cell_count(board) {
+        if X::open_cell(board, index).is_some() {
+            return false;
+        }
+    }
+    true
+}

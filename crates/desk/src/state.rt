@@ -1,0 +1,313 @@
+//! What lies under the lock. Each change of it is a method here.
+
+ghost use Rattle.std.specs.Prelude.{◌≡◌, ◌≢◌, ◌↔◌, ◌+◌, ◌≤◌, [], ℕ, true, false, length, fold, IfOk, OnOk, OnErr, Ok, Err, IfSome, IfNone};
+ghost use mathlib.Core.List.{IsPrefix};
+ghost use Rattle.memo_core.specs.Laws.{meaning};
+ghost use Rattle.memo_core.specs.Run.{Claim as Claimed, NoClaim, Returned, Lose as Lost, Renew as Renewed, Refused, Step};
+ghost use Rattle.cells.specs.Cells.{cells as cells_of};
+ghost use Rattle.desk.specs.Boards.{ArePosted, AreSettled};
+ghost use Rattle.desk.specs.Held.{IsMade};
+
+use crate::answer::{Accepted, Posted, Settling, Taken};
+use crate::fault::DeskFault;
+use crate::ledger::Ledger;
+use crate::texts::BoardTexts;
+use cells::bench::Bench;
+use cells::job::{Done, Job};
+use desk_rule::{Entry, Naming, Opening, Plate, Seats, Viewer};
+use left_right::Absorb;
+use memo_core::claims::ClaimFault;
+use std::alloc::Global;
+use std::marker::Model;
+use std::sync::Wait;
+use value_store::StoreName;
+
+/// A bench, the operations of its board with those that readers see, and the viewers that are left to give.
+pub struct DeskState<J: Naming + StoreName, X: BoardTexts, R: Wait + Drop>
+where
+    Plate<J, X>: Absorb<Entry<J, X>, State = [X::Op; 0]>,
+{
+    bench: Bench<J, X>,
+    ledger: Ledger<J, X>,
+    seats: Seats<J, X>,
+    closed: bool,
+    alloc: Global,
+    // Its drop waits for the viewers.
+    rt: Box<R>,
+}
+
+impl<J: Naming + StoreName, X: BoardTexts, R: Wait + Drop> Model for DeskState<J, X, R>
+where
+    Plate<J, X>: Absorb<Entry<J, X>, State = [X::Op; 0]>,
+{
+    ghost use Rattle.std.specs.Prelude.{◌≡◌, ◌≤◌};
+    ghost use Rattle.desk.specs.Held.{Held, held};
+
+    ghost Value = { Held X X.Value X.Op };
+
+    ghost view = { λ s. held s.bench s.ledger.all s.ledger.published s.seats s.closed };
+
+    ghost invariant = { λ s. X.is_valid s.bench.texts × X.are_after s.bench.texts s.ledger.all × (X.last_number s.ledger.all ≤ s.bench.taken) };
+}
+
+// Why an edit is refused.
+fn refused<X: BoardTexts>(fault: X::Fault) -> DeskFault<X::Fault>
+    ensures { result ≢ DeskFault.Closed }
+{
+    if X::wants_memory(&fault) {
+        DeskFault::OutOfMemory
+    } else {
+        DeskFault::Edit(fault)
+    }
+}
+
+// Makes an edit on the bench, and appends its operation before it is put in place.
+fn make_edit<J: Naming + StoreName, X: BoardTexts>(
+    alloc: Global,
+    bench: &mut Bench<J, X>,
+    ledger: &mut Ledger<J, X>,
+    edit: X::Edit,
+) -> Result<u64, DeskFault<X::Fault>>
+    requires valid { X.is_valid bench.old.texts }
+    requires after { X.are_after bench.old.texts ledger.old.all }
+    requires last { X.last_number ledger.old.all ≤ bench.old.taken }
+    ensures open { result ≢ Err DeskFault.Closed }
+    ensures valid { X.is_valid bench.new.texts }
+    ensures after { X.are_after bench.new.texts ledger.new.all }
+    ensures last { X.last_number ledger.new.all ≤ bench.new.taken }
+    ensures published { ledger.new.published ≡ ledger.old.published }
+    ensures made { IfOk result (λ number. IsMade (meaning X.net X.is_valid X.since X.makes X.keeps X.edited) X.is_edit edit bench.old bench.new ledger.old.all ledger.new.all number) }
+    ensures err { OnErr result (Step (meaning X.net X.is_valid X.since X.makes X.keeps X.edited) bench.old Refused bench.new × (ledger.new ≡ ledger.old)) }
+{
+    match bench.edit_told(alloc, edit, ledger) {
+        Ok(Some(number)) => Ok(number),
+        Ok(None) => Err(DeskFault::OutOfMemory),
+        Err(fault) => Err(refused::<X>(fault)),
+    }
+}
+
+impl<J: Naming + StoreName, X: BoardTexts, R: Wait + Drop> DeskState<J, X, R> {
+    ghost use Rattle.desk.specs.Held.{held, number_of, Appends, IsEditTurn, IsRefusedTurn, Publishes, PublishesOr, Settles, Tells};
+
+    /// A bench without texts, and a board that shows nothing.
+    pub fn new(
+        alloc: Global,
+        bench: Bench<J, X>,
+        opening: Opening<J, X>,
+        rt: Box<R>,
+    ) -> DeskState<J, X, R>
+        requires valid { X.is_valid bench.texts }
+        requires after { X.are_after bench.texts [] }
+        requires press { (opening.press.all ≡ []) × (opening.press.published ≡ []) }
+        ensures { result ≡ held bench [] [] opening.seats false }
+    {
+        let Opening { press, seats } = opening;
+        DeskState {
+            bench,
+            ledger: Ledger { press },
+            seats,
+            closed: false,
+            alloc,
+            rt,
+        }
+    }
+
+    /// Whether it was closed. What it keeps at all times: the published operations and then the pending ones are legal, and
+    /// the texts of the bench are those after them.
+    pub fn is_closed(&self) -> bool
+        ensures closed { result ≡ self.now.closed }
+        ensures legal { X.is_legal self.now.all }
+        ensures begins { IsPrefix self.now.published self.now.all }
+        ensures valid { X.is_valid self.now.bench.texts }
+        ensures after { X.are_after self.now.bench.texts self.now.all }
+        ensures last { X.last_number self.now.all ≤ self.now.bench.taken }
+    {
+        let _legal = self.ledger.front();
+        self.closed
+    }
+
+    /// Makes an edit, publishes it and tells this viewer. Errors: K1 if the desk is closed, K2 if the viewer has seen more than
+    /// this desk has, the bench's refusals, want of memory; the viewer's list and the operations stay what they are.
+    pub fn edit<W: Wait>(
+        &mut self,
+        rt: &W,
+        me: &mut Viewer<J, X>,
+        edit: X::Edit,
+    ) -> Result<Accepted, DeskFault<X::Fault>>
+        ensures closed { (result ≡ Err DeskFault.Closed) ↔ (self.old.closed ≡ true) }
+        ensures err { OnErr result (IsRefusedTurn (meaning X.net X.is_valid X.since X.makes X.keeps X.edited) self.old self.new × (me.new ≡ me.old)) }
+        ensures turn { IfOk result (λ a. IsEditTurn (meaning X.net X.is_valid X.since X.makes X.keeps X.edited) X.is_edit X.is_settle edit self.old self.new (number_of a)) }
+        ensures published { IfOk result (λ a. Publishes self.old self.new me.old me.new a) }
+        ensures told { IfOk result (λ a. Tells X.is_legal X.is_edit X.is_settle edit me.old me.new a) }
+    {
+        if self.closed {
+            return Err(DeskFault::Closed);
+        }
+        if !me.is_behind(self.ledger.front()) {
+            return Err(DeskFault::NoSeat);
+        }
+        let number = make_edit(self.alloc, &mut self.bench, &mut self.ledger, edit)?;
+        let _posted = self.ledger.post(self.alloc, &self.bench);
+        if !self.ledger.publish(rt) {
+            return Ok(Accepted::Later(number));
+        }
+        me.tell(self.ledger.front());
+        Ok(Accepted::Now(number))
+    }
+
+    // Appends the cells that are settled, and publishes.
+    fn catch_up<W: Wait>(&mut self, rt: &W) -> Posted
+        ensures bench { self.new.bench ≡ self.old.bench }
+        ensures appends { Appends X.is_settle self.old.all self.old self.new }
+        ensures posted { PublishesOr (λ bench ops. ArePosted X.net (cells_of X.verdict_of X.outcome_in X.from_scratch X.reaches) bench (X.cells (fold X.after X.none ops))) self.old self.new result }
+    {
+        if !self.ledger.post(self.alloc, &self.bench) {
+            return Posted::Later;
+        }
+        if !self.ledger.publish(rt) {
+            return Posted::Later;
+        }
+        Posted::Now
+    }
+
+    /// Gives out a job, if there is any work. Errors: K1, B1, want of memory; nothing is appended then.
+    pub fn claim<W: Wait>(&mut self, rt: &W) -> Result<Option<Job<J, X>>, DeskFault<X::Fault>>
+        ensures closed { (result ≡ Err DeskFault.Closed) ↔ (self.old.closed ≡ true) }
+        ensures err { OnErr result (IsRefusedTurn (meaning X.net X.is_valid X.since X.makes X.keeps X.edited) self.old self.new) }
+        ensures given { IfOk result (λ r. IfSome r (λ j. Step (meaning X.net X.is_valid X.since X.makes X.keeps X.edited) self.old.bench (Claimed j.claim j.node j.given j.keys j.values) self.new.bench)) }
+        ensures none { IfOk result (λ r. IfNone r (Step (meaning X.net X.is_valid X.since X.makes X.keeps X.edited) self.old.bench NoClaim self.new.bench)) }
+        ensures appends { OnOk result (Appends X.is_settle self.old.all self.old self.new) }
+    {
+        if self.closed {
+            return Err(DeskFault::Closed);
+        }
+        let job = match self.bench.claim(self.alloc) {
+            Ok(job) => job,
+            Err(ClaimFault::OutOfMemory) => return Err(DeskFault::OutOfMemory),
+            Err(fault) => return Err(DeskFault::Claim(fault)),
+        };
+        let _posted = self.catch_up(rt);
+        Ok(job)
+    }
+
+    /// Takes a return, and publishes the cells that are settled. Errors: K1.
+    pub fn finish<W: Wait>(
+        &mut self,
+        rt: &W,
+        done: Done<J, X>,
+    ) -> Result<Taken, DeskFault<X::Fault>>
+        ensures closed { (result ≡ Err DeskFault.Closed) ↔ (self.old.closed ≡ true) }
+        ensures err { OnErr result (self.new ≡ self.old) }
+        ensures step { IfOk result (λ r. Step (meaning X.net X.is_valid X.since X.makes X.keeps X.edited) self.old.bench (Returned done r.finish) self.new.bench) }
+        ensures appends { OnOk result (Appends X.is_settle self.old.all self.old self.new) }
+        ensures posted { IfOk result (λ r. PublishesOr (λ bench ops. ArePosted X.net (cells_of X.verdict_of X.outcome_in X.from_scratch X.reaches) bench (X.cells (fold X.after X.none ops))) self.old self.new r.posted) }
+    {
+        if self.closed {
+            return Err(DeskFault::Closed);
+        }
+        let finish = self.bench.finish(done);
+        let posted = self.catch_up(rt);
+        Ok(Taken { finish, posted })
+    }
+
+    /// Closes a claim, and says whether it was out. Errors: K1.
+    pub fn lose<W: Wait>(&mut self, rt: &W, claim: u64) -> Result<bool, DeskFault<X::Fault>>
+        ensures closed { (result ≡ Err DeskFault.Closed) ↔ (self.old.closed ≡ true) }
+        ensures err { OnErr result (self.new ≡ self.old) }
+        ensures step { IfOk result (λ r. Step (meaning X.net X.is_valid X.since X.makes X.keeps X.edited) self.old.bench (Lost claim r) self.new.bench) }
+        ensures appends { OnOk result (Appends X.is_settle self.old.all self.old self.new) }
+    {
+        if self.closed {
+            return Err(DeskFault::Closed);
+        }
+        let lost = self.bench.lose(claim);
+        let _posted = self.catch_up(rt);
+        Ok(lost)
+    }
+
+    /// Forgets all that was computed, and closes every claim. Errors: K1.
+    pub fn renew<W: Wait>(&mut self, rt: &W) -> Result<(), DeskFault<X::Fault>>
+        ensures closed { (result ≡ Err DeskFault.Closed) ↔ (self.old.closed ≡ true) }
+        ensures err { OnErr result (self.new ≡ self.old) }
+        ensures step { OnOk result (Step (meaning X.net X.is_valid X.since X.makes X.keeps X.edited) self.old.bench Renewed self.new.bench) }
+        ensures appends { OnOk result (Appends X.is_settle self.old.all self.old self.new) }
+    {
+        if self.closed {
+            return Err(DeskFault::Closed);
+        }
+        self.bench.renew();
+        let _posted = self.catch_up(rt);
+        Ok(())
+    }
+
+    /// Publishes, and tells the viewer once each cell is settled. Errors: K1, and K2 if the viewer has seen more than this desk
+    /// has.
+    pub fn settle<W: Wait>(
+        &mut self,
+        rt: &W,
+        me: &mut Viewer<J, X>,
+    ) -> Result<Settling, DeskFault<X::Fault>>
+        ensures closed { (result ≡ Err DeskFault.Closed) ↔ (self.old.closed ≡ true) }
+        ensures err { OnErr result ((self.new ≡ self.old) × (me.new ≡ me.old)) }
+        ensures bench { self.new.bench ≡ self.old.bench }
+        ensures appends { OnOk result (Appends X.is_settle self.old.all self.old self.new) }
+        ensures settles { IfOk result (λ r. Settles X.is_legal (λ ops. AreSettled (X.cells (fold X.after X.none ops))) self.new me.old me.new r) }
+    {
+        if self.closed {
+            return Err(DeskFault::Closed);
+        }
+        if !me.is_behind(self.ledger.front()) {
+            return Err(DeskFault::NoSeat);
+        }
+        if self.catch_up(rt) == Posted::Later {
+            return Ok(Settling::Refused);
+        }
+        if !self.ledger.is_settled() {
+            return Ok(Settling::Waits);
+        }
+        me.tell(self.ledger.front());
+        Ok(Settling::Done)
+    }
+
+    /// One of the viewers, which is not given again. It has seen nothing. Errors: K1, and K2 where none is left.
+    pub fn viewer(&mut self) -> Result<Viewer<J, X>, DeskFault<X::Fault>>
+        ensures closed { (result ≡ Err DeskFault.Closed) ↔ (self.old.closed ≡ true) }
+        ensures no_seat { (result ≡ Err DeskFault.NoSeat) ↔ ((self.old.closed ≡ false) × (self.old.spare ≡ 0)) }
+        ensures err { OnErr result (self.new ≡ self.old) }
+        ensures given { IfOk result (λ v. (v ≡ []) × (self.new.spare + 1 ≡ self.old.spare) × (self.new ≡ held self.old.bench self.old.all self.old.published self.new.spare self.old.closed)) }
+    {
+        if self.closed {
+            return Err(DeskFault::Closed);
+        }
+        match self.seats.give() {
+            Some(viewer) => Ok(viewer),
+            None => Err(DeskFault::NoSeat),
+        }
+    }
+
+    /// From now on each call is refused. Errors: K1, if it was closed.
+    pub fn close(&mut self) -> Result<(), DeskFault<X::Fault>>
+        ensures closed { (result ≡ Err DeskFault.Closed) ↔ (self.old.closed ≡ true) }
+        ensures now { self.new ≡ held self.old.bench self.old.all self.old.published self.old.spare true }
+    {
+        if self.closed {
+            return Err(DeskFault::Closed);
+        }
+        self.closed = true;
+        Ok(())
+    }
+}
+
+impl<J: Naming + StoreName, X: BoardTexts, R: Wait + Drop> Drop for DeskState<J, X, R> {
+    fn drop(self) {
+        let DeskState {
+            bench: _,
+            ledger,
+            seats: _,
+            closed: _,
+            alloc: _,
+            rt,
+        } = self;
+        ledger.close(&*rt);
+    }
+}

@@ -1,0 +1,45 @@
+//! Items before an edit.
+
+ghost use Rattle.std.specs.Prelude.{◌≡◌, option_map, option_and_then, slice_get};
+ghost use Rattle.bench_nodes.specs.Nodes.{item_stamp};
+ghost use Rattle.stamped_parts.specs.Contents.{item_content};
+ghost use Rattle.edited_items.specs.Held.{held_part};
+
+use node_values::SharedItem;
+use stamped_parts::Parts;
+
+/// What an item did before an edit, where that is known, with its stamp.
+#[derive(Clone, Copy)]
+pub struct HeldItem<'p> {
+    pub role: Option<&'p SharedItem>,
+    pub stamp: u64,
+}
+
+// What the item at an index did.
+fn role_at(roles: &[Option<SharedItem>], index: usize) -> Option<&SharedItem>
+    ensures { option_map (λ r. r.now) result ≡ option_and_then (λ r. r) (slice_get roles.now index) }
+{
+    match roles.get(index) {
+        Some(role) => role.as_ref(),
+        None => None,
+    }
+}
+
+/// The item of that number.
+pub fn held_item(parts: &Parts, number: u64) -> HeldItem<'_>
+    ensures role { held_part result ≡ item_content parts.now.table.items.items parts.now.roles.items number }
+    ensures stamp { result.stamp ≡ item_stamp parts.now.table.items.items number }
+{
+    let index = parts.item_index(number);
+    if index < parts.table.items.len() {
+        HeldItem {
+            role: role_at(&parts.roles, index),
+            stamp: parts.table.items[index].stamp,
+        }
+    } else {
+        HeldItem {
+            role: None,
+            stamp: 0,
+        }
+    }
+}

@@ -1,0 +1,192 @@
+//! The rows of items after an edit, made before it is put in place.
+
+ghost use Rattle.std.specs.Prelude.{◌≡◌, ◌∷◌, ◌++◌, [], List, IfOk, OnOk, Some, option_map};
+ghost use Rattle.std.specs.Arc.{arc_value};
+ghost use Rattle.cat_values.specs.Values.{clause_of};
+ghost use Rattle.node_values.specs.Items.{shared_role};
+ghost use Rattle.stamped_parts.specs.Contents.{role_part};
+ghost use Rattle.edited_tables.specs.Stamps.{IsStampOf};
+ghost use Rattle.edited_items.specs.Held.{held_part};
+ghost use Rattle.edited_items.specs.Items.{node_kind, read_role, held_after, facts_of_all, AreListsOf};
+
+use crate::held::{HeldItem, held_item};
+use bench_nodes::ItemRow;
+use binding_graph::Resolved;
+use cat_values::Item;
+use memo_core::keys::Kind;
+use node_values::{SharedItem, same_role};
+use stamped_parts::Parts;
+use std::alloc::{AllocError, Global};
+use std::sync::Arc;
+
+/// The items of a model after an edit.
+#[derive(Clone, Copy)]
+pub struct ModelItems<'m> {
+    /// Their numbers, in their order.
+    pub numbers: &'m [u64],
+    /// What they say.
+    pub items: &'m [Item],
+    /// What they are resolved to, where the model has no fault.
+    pub resolved: Option<&'m Arc<Resolved>>,
+}
+
+/// The items of all models after an edit, in their order.
+#[derive(Drop)]
+pub struct ItemLists {
+    /// Their numbers and stamps.
+    pub rows: Vec<ItemRow>,
+    /// What each of them does, where its model was without fault since the item has its text.
+    pub roles: Vec<Option<SharedItem>>,
+    /// The kind of node that each of them is by its text, if it is one.
+    pub kinds: Vec<Option<Kind>>,
+}
+
+/// The kind of node that an item is by its text, if it is one: a group of bindings, or a check or a flag.
+fn node_kind(item: &Item) -> Option<Kind>
+    ensures { result ≡ node_kind (clause_of item.now) }
+{
+    match item {
+        Item::Let { .. } => Some(Kind::Group),
+        Item::Check { .. } | Item::Flag { .. } => Some(Kind::Check),
+        Item::Function { .. } | Item::Show { .. } | Item::Include(_) => None,
+    }
+}
+
+// The stamp of an item that does this now: an equal role keeps its stamp.
+fn stamp_of(fresh: u64, held: &HeldItem, role: Option<&SharedItem>) -> u64
+    ensures { IsStampOf fresh (held_part held.now) held.now.stamp (role_part (option_map (λ r. r.now) role.entry)) result }
+{
+    let Some(role) = role else {
+        return 0;
+    };
+    match held.role {
+        Some(before) => {
+            if same_role(&before.item().role, &role.item().role) {
+                held.stamp
+            } else {
+                fresh
+            }
+        }
+        None => fresh,
+    }
+}
+
+// The item at an index, if there is one. Errors: too many shares of what it is resolved to.
+fn shared_item(resolved: &Arc<Resolved>, index: usize) -> Result<Option<SharedItem>, AllocError>
+    ensures { IfOk result (λ r. option_map shared_role r ≡ read_role (Some (arc_value resolved.now).items.items) index) }
+{
+    if index < resolved.items.len() {
+        Ok(Some(SharedItem::new(Arc::try_clone(resolved)?, index)))
+    } else {
+        Ok(None)
+    }
+}
+
+impl ModelItems<'_> {
+    ghost use Rattle.edited_items.specs.Items.{kind_at, resolved_items};
+
+    // The kind of node that the item at an index is.
+    fn kind(&self, index: usize) -> Option<Kind>
+        ensures { result ≡ kind_at self.now.items.now index }
+    {
+        match self.items.get(index) {
+            Some(item) => node_kind(item),
+            None => None,
+        }
+    }
+
+    // What the item at an index does, where the model has no fault. Errors: too many shares of what it is resolved to.
+    fn role(&self, index: usize) -> Result<Option<SharedItem>, AllocError>
+        ensures { IfOk result (λ r. option_map shared_role r ≡ read_role (resolved_items self.now) index) }
+    {
+        match self.resolved {
+            Some(resolved) => shared_item(resolved, index),
+            None => Ok(None),
+        }
+    }
+
+    // What the item at an index does: under a fault of its model what it did before. Errors: too many shares.
+    fn role_after(&self, index: usize, held: &HeldItem) -> Result<Option<SharedItem>, AllocError>
+        ensures { IfOk result (λ r. role_part r ≡ held_after (read_role (resolved_items self.now) index) (held_part held.now)) }
+    {
+        if let Some(role) = self.role(index)? {
+            return Ok(Some(role));
+        }
+        match held.role {
+            Some(before) => Ok(Some(before.again()?)),
+            None => Ok(None),
+        }
+    }
+}
+
+impl ItemLists {
+    ghost use Rattle.std.specs.Prelude.{◌<◌, length};
+    ghost use Rattle.edited_items.specs.Items.{ItemFact, fact_at, facts_of, facts_of_all, resolved_items, AreListsOf};
+
+    /// No items.
+    pub fn new(alloc: Global) -> ItemLists
+        ensures rows { result.rows.items ≡ [] }
+        ensures roles { result.roles.items ≡ [] }
+        ensures kinds { result.kinds.items ≡ [] }
+    {
+        ItemLists {
+            rows: Vec::new(alloc),
+            roles: Vec::new(alloc),
+            kinds: Vec::new(alloc),
+        }
+    }
+
+    // The item at an index of a model, behind these. Errors: want of memory.
+    fn add_item(
+        &mut self,
+        fresh: u64,
+        before: &Parts,
+        model: &ModelItems,
+        index: usize,
+    ) -> Result<(), AllocError>
+        requires { index < length model.now.numbers.now }
+        ensures { (facts : List ItemFact) → AreListsOf fresh before.now facts self.old → OnOk result (AreListsOf fresh before.now (facts ++ fact_at model.now.numbers.now model.now.items.now (resolved_items model.now) index ∷ []) self.new) }
+    {
+        let number = model.numbers[index];
+        let held = held_item(before, number);
+        let role = model.role_after(index, &held)?;
+        let stamp = stamp_of(fresh, &held, role.as_ref());
+        self.rows.push(ItemRow { number, stamp })?;
+        self.roles.push(role)?;
+        self.kinds.push(model.kind(index))?;
+        Ok(())
+    }
+
+    /// Adds the items of a model, over the parts before the edit, where `fresh` stands for the stamp of what changed.
+    /// Errors: want of memory.
+    pub fn add_model(
+        &mut self,
+        fresh: u64,
+        before: &Parts,
+        model: &ModelItems,
+    ) -> Result<(), AllocError>
+        ensures { (facts : List ItemFact) → AreListsOf fresh before.now facts self.old → OnOk result (AreListsOf fresh before.now (facts ++ facts_of model.now) self.new) }
+    {
+        for index in 0..model.numbers.len() {
+            self.add_item(fresh, before, model, index)?;
+        }
+        Ok(())
+    }
+}
+
+/// The items of these models after an edit, over the parts before it, where `fresh` stands for the stamp of what
+/// changed. Errors: want of memory.
+pub fn edit_items(
+    alloc: Global,
+    fresh: u64,
+    before: &Parts,
+    models: &[ModelItems],
+) -> Result<ItemLists, AllocError>
+    ensures { IfOk result (AreListsOf fresh before.now (facts_of_all models.now)) }
+{
+    let mut lists = ItemLists::new(alloc);
+    for model in models {
+        lists.add_model(fresh, before, model)?;
+    }
+    Ok(lists)
+}

@@ -1,0 +1,7 @@
+use Rattle.std.proofs.Common.{map, take}
+use Rattle.edited_items.specs.Items.{AreListsOf}
+use Rattle.edited_parts.specs.Readings.{all_facts}
+use Rattle.edited_parts.proofs.models.model_items.Given as goal
+
+abbrev pub invariant-loop-model : goal.invariant-loop-model
+invariant-loop-model l = AreListsOf l.fresh l.parts (all_facts (map (λ m. m.now) (take l.model-index l.models))) l.lists

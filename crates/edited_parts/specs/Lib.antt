@@ -1,0 +1,4 @@
+pub mod Edited
+pub mod Laws
+pub mod Owed
+pub mod Readings

@@ -1,0 +1,42 @@
+-- Read this first: models of the bench as the parts of the bench take them.
+use Rattle.std.specs.Prelude.{ℕ, List, [], ◌∷◌, Option, Some, None}
+use Rattle.std.specs.Arc.{arc_value}
+use Rattle.std.specs.List.{flat_map}
+use Rattle.binding_kinds.specs.declared.fault.ModelFault.{ModelFault}
+use Rattle.binding_graph.specs.declared.resolved.ResolvedItem.{ResolvedItem}
+use Rattle.bench_texts.specs.declared.model.NamedModel.{NamedModel}
+use Rattle.bench_texts.specs.declared.reading.Reading.{Reading}
+use Rattle.bench_texts.specs.declared.reading.Reading.TheVariants as readings
+use Rattle.bench_nodes.specs.declared.table.ModelRow.{ModelRow}
+use Rattle.model_slots.specs.Tables.{ModelReading, Sound, Faulty}
+use Rattle.edited_items.specs.Items.{ItemFact, item_facts}
+
+-- the fault of a model, if it has one
+abbrev pub fault_in : Reading → Option ModelFault
+fault_in (readings.Sound resolved used) = None
+fault_in (readings.Faulty fault) = Some fault
+
+-- what its items are resolved to, if it has none
+abbrev pub resolved_in : Reading → Option (List ResolvedItem)
+resolved_in (readings.Sound resolved used) = Some (arc_value resolved).items.items
+resolved_in (readings.Faulty fault) = None
+
+abbrev pub reading_by : ℕ → List ℕ → Reading → ModelReading
+reading_by id numbers (readings.Sound resolved used) = Sound id numbers (arc_value resolved).items.items used.items
+reading_by id numbers (readings.Faulty fault) = Faulty id fault
+
+-- a model by its number, as it is read
+abbrev pub reading_of : ModelRow → NamedModel → ModelReading
+reading_of row m = reading_by row.id m.numbers.items m.reading
+
+abbrev pub readings_of : List ModelRow → List NamedModel → List ModelReading
+readings_of [] ms = []
+readings_of (r ∷ rs) [] = []
+readings_of (r ∷ rs) (m ∷ ms) = reading_of r m ∷ readings_of rs ms
+
+-- what is known of the items of a model, and of all models
+abbrev pub facts_in : NamedModel → List ItemFact
+facts_in m = item_facts m.numbers.items m.text.items.items (resolved_in m.reading)
+
+abbrev pub all_facts : List NamedModel → List ItemFact
+all_facts models = flat_map facts_in models

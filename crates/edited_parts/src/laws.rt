@@ -1,0 +1,23 @@
+//! Laws of the parts of the bench after an edit.
+
+ghost use Rattle.edited_parts.specs.Laws.{TestEditsKeepParts, TestEditsGoOn, EditsKeepParts, EditsGoOn};
+
+/// After an edit of a test the parts are those of the texts after it.
+pub fn test_edits_keep_parts()
+    ensures { TestEditsKeepParts }
+{}
+
+/// After an edit of a test each part is as it was, has the number of the edit, or is gone.
+pub fn test_edits_go_on()
+    ensures { TestEditsGoOn }
+{}
+
+/// After any edit the parts are those of the texts after it, where no two items have one number and each model is read.
+pub fn edits_keep_parts()
+    ensures { EditsKeepParts }
+{}
+
+/// After any edit each part is as it was, has the number of the edit, or is gone.
+pub fn edits_go_on()
+    ensures { EditsGoOn }
+{}

@@ -1,0 +1,4 @@
+pub mod Laws
+pub mod Models
+pub mod Stamps
+pub mod Tests

@@ -1,6 +1,0 @@
-use Rattle.std.proofs.Common.{◌≡◌, take, map}
-use Rattle.compare_report.specs.Cells.{cell_of, Settled}
-use Rattle.litmusbench.proofs.report.cells_of.Given as goal
-
-abbrev pub invariant-loop-outcome : goal.invariant-loop-outcome
-invariant-loop-outcome l = map cell_of l.cells.items ≡ map Settled (take l.outcome-index l.outcomes)

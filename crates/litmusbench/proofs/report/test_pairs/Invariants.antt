@@ -1,8 +1,0 @@
-use Rattle.std.proofs.Common.{◌≡◌, take, map}
-use Rattle.compare_report.specs.Differences.{pair_of}
-use Rattle.litmusbench.specs.Outcomes.{row_said}
-use Rattle.litmusbench.specs.Reports.{pair_in}
-use Rattle.litmusbench.proofs.report.test_pairs.Given as goal
-
-abbrev pub invariant-loop-row : goal.invariant-loop-row
-invariant-loop-row l = map pair_of l.pairs.items ≡ map pair_in (map row_said (take l.row-index l.rows))

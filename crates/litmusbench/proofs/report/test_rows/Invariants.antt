@@ -1,7 +1,0 @@
-use Rattle.std.proofs.Common.{◌≡◌, take, map}
-use Rattle.compare_report.specs.Columns.{row_of}
-use Rattle.litmusbench.specs.Outcomes.{row_said}
-use Rattle.litmusbench.proofs.report.test_rows.Given as goal
-
-abbrev pub invariant-loop-row : goal.invariant-loop-row
-invariant-loop-row l = map row_of l.found.items ≡ map row_said (take l.row-index l.rows)

@@ -1,0 +1,6 @@
+use Rattle.std.specs.List.{All}
+use Rattle.reasons.specs.Checked.{IsChecked}
+use Rattle.reasons.proofs.checks.all_checks.Given as goal
+
+abbrev pub invariant-loop-index : goal.invariant-loop-index
+invariant-loop-index l = All (IsChecked l.space l.columns l.items) l.checks.items

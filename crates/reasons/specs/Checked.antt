@@ -1,0 +1,37 @@
+-- The checks of a model over the candidates of a test, and the first that refuses one.
+use Rattle.std.specs.Prelude.{ℕ, ◌≡◌, ◌<◌, List, length, Option, Some, None, Vec, slice_get, slice_index_or}
+use Rattle.std.specs.declared.alloc.Global.{Global}
+use denote.Ref.{Bor}
+use Rattle.binding_graph.specs.declared.resolved.ResolvedItem.{ResolvedItem}
+use Rattle.binding_graph.specs.declared.resolved.Role.TheVariants as roles
+use Rattle.candidates.specs.declared.candidate.Space.{Space}
+use Rattle.cat_eval.specs.declared.column.Column.{Column}
+use Rattle.check_witness.specs.Refusals.{IsRefusal}
+use Rattle.check_witness.specs.Values.{AreValues}
+use Rattle.memo_graph.specs.Known.{AreFound}
+use Rattle.reasons.specs.declared.checks.CheckValues.{CheckValues}
+use Rattle.reasons.specs.declared.checks.FirstRefusal.{FirstRefusal}
+
+-- the values are those of the expression of this check, where the names of other items have the columns that are found
+pub record IsChecked (space : Space) (columns : List (Vec Column Global)) (items : List ResolvedItem) (c : CheckValues) : Type 0 where
+  pub item : ResolvedItem
+  pub stands : slice_get items c.item ≡ Some item
+  pub check : item.role ≡ roles.Check c.check.now
+  pub not_flag : c.check.now.flag ≡ None
+  pub inputs : List (Bor Column)
+  pub found : AreFound columns item.inputs.items inputs
+  pub values : AreValues c.check.now.code inputs space c.values
+
+-- the check accepts the candidate, and the check refuses it for this reason
+abbrev pub Accepts : CheckValues → ℕ → Type 0
+Accepts c k = IsRefusal c.check.now c.values k None
+
+-- the checks before an index accept the candidate
+abbrev pub AcceptBelow : List CheckValues → ℕ → ℕ → Type 0
+AcceptBelow checks k end = (j : ℕ) → j < end → (d : CheckValues) → j < length checks → Accepts (slice_index_or checks j d) k
+
+-- the first check that refuses the candidate, and why
+pub record IsFirstRefusal (checks : List CheckValues) (k : ℕ) (first : FirstRefusal) : Type 0 where
+  pub within : first.index < length checks
+  pub before : AcceptBelow checks k first.index
+  pub refuses : (d : CheckValues) → let c = slice_index_or checks first.index d in IsRefusal c.check.now c.values k (Some first.witness)

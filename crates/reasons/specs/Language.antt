@@ -1,0 +1,16 @@
+-- The values of a name of the language.
+use Rattle.std.specs.Prelude.{◌≡◌, [], ◌∷◌}
+use Rattle.binding_kinds.specs.declared.kinds.Kind.TheVariants as kinds
+use Rattle.binding_graph.specs.declared.resolved.Code.{Code}
+use Rattle.binding_graph.specs.declared.resolved.Source.TheVariants as sources
+use Rattle.binding_graph.specs.declared.resolved.Step.TheVariants as steps
+use Rattle.candidates.specs.declared.candidate.Space.{Space}
+use Rattle.check_witness.specs.Values.{AreValues}
+use Rattle.step_labels.specs.declared.label.PredefinedValue.{PredefinedValue}
+
+-- the values are those of the expression that is the name alone
+pub record IsOfLanguage (space : Space) (v : PredefinedValue) : Type 0 where
+  pub code : Code
+  pub kind : code.kind ≡ kinds.OfRelation
+  pub steps : code.steps.items ≡ steps.PushRelation (sources.Predefined v.name) ∷ []
+  pub values : AreValues code [] space v.column

@@ -1,0 +1,122 @@
+//! The checks of a model over the candidates of a test.
+
+ghost use Rattle.std.specs.Prelude.{◌≡◌, IfOk, IfSome, MatchOption, None, Some, length, slice_get};
+ghost use Rattle.std.specs.List.{All};
+ghost use Rattle.check_witness.specs.Refusals.{IsRefusal};
+ghost use Rattle.reasons.specs.Checked.{AcceptBelow, IsChecked, IsFirstRefusal};
+
+use binding_graph::{CheckCode, ResolvedItem, Role};
+use candidates::Space;
+use cat_eval::Column;
+use check_witness::{Witness, expression_column, refusal_of};
+use memo_graph::inputs;
+use std::alloc::{AllocError, Global};
+
+/// A check of a model, which is no flag.
+#[derive(Drop)]
+pub struct CheckValues<'a> {
+    /// The index of its item.
+    pub item: usize,
+    /// What is asked.
+    pub check: &'a CheckCode,
+    /// The values of its expression in all candidates.
+    pub values: Column,
+}
+
+/// The first check that refuses a candidate.
+#[derive(Drop)]
+pub struct FirstRefusal {
+    /// The index of the check among the checks.
+    pub index: usize,
+    /// Why it does.
+    pub witness: Witness,
+}
+
+// The check that an item is, with the values of its expression.
+fn checked<'a>(
+    alloc: Global,
+    space: &Space,
+    columns: &[Vec<Column>],
+    index: usize,
+    item: &ResolvedItem,
+    check: &'a CheckCode,
+) -> Result<CheckValues<'a>, AllocError>
+    ensures { IfOk result (λ c. (items : _) → slice_get items index ≡ Some item.now → item.now.role ≡ Role.Check check.now → check.now.flag ≡ None → IsChecked space.now columns.now items c) }
+{
+    let inputs = inputs(alloc, columns, item)?;
+    let values = expression_column(alloc, &check.code, space, &inputs)?;
+    Ok(CheckValues {
+        item: index,
+        check,
+        values,
+    })
+}
+
+// The check that an item is, if it is one and no flag.
+fn check_of<'a>(
+    alloc: Global,
+    space: &Space,
+    columns: &[Vec<Column>],
+    index: usize,
+    item: &'a ResolvedItem,
+) -> Result<Option<CheckValues<'a>>, AllocError>
+    ensures { IfOk result (λ found. IfSome found (λ c. (items : _) → slice_get items index ≡ Some item.now → IsChecked space.now columns.now items c)) }
+{
+    match &item.role {
+        Role::Check(check) => match &check.flag {
+            Some(_) => Ok(None),
+            None => Ok(Some(checked(alloc, space, columns, index, item, check)?)),
+        },
+        Role::Group { .. } | Role::Silent => Ok(None),
+    }
+}
+
+/// The checks among the items that are no flags, in order, where `columns` are the values of the names
+/// of each item. Errors: want of memory.
+pub fn all_checks<'a>(
+    alloc: Global,
+    space: &Space,
+    columns: &[Vec<Column>],
+    items: &'a [ResolvedItem],
+) -> Result<Vec<CheckValues<'a>>, AllocError>
+    ensures { IfOk result (λ v. All (IsChecked space.now columns.now items.now) v.items) }
+{
+    let mut checks = Vec::new(alloc);
+    for index in 0..items.len() {
+        if let Some(check) = check_of(alloc, space, columns, index, &items[index])? {
+            checks.push(check)?;
+        }
+    }
+    Ok(checks)
+}
+
+// Why a check refuses a candidate, if it does.
+fn refusal_by(
+    alloc: Global,
+    check: &CheckValues<'_>,
+    candidate: usize,
+) -> Result<Option<Witness>, AllocError>
+    ensures { IfOk result (IsRefusal check.now.check.now check.now.values candidate) }
+{
+    if candidate >= check.values.len() {
+        return Ok(None);
+    }
+    refusal_of(alloc, check.check, &check.values, candidate)
+}
+
+/// The first of the checks that refuses the candidate of this number, and why; none where all accept
+/// it. Errors: want of memory.
+pub fn first_refusal(
+    alloc: Global,
+    checks: &[CheckValues<'_>],
+    candidate: usize,
+) -> Result<Option<FirstRefusal>, AllocError>
+    ensures { IfOk result (λ found. MatchOption found (AcceptBelow checks.now candidate (length checks.now)) (IsFirstRefusal checks.now candidate)) }
+{
+    for index in 0..checks.len() {
+        if let Some(witness) = refusal_by(alloc, &checks[index], candidate)? {
+            return Ok(Some(FirstRefusal { index, witness }));
+        }
+    }
+    Ok(None)
+}

@@ -1,0 +1,85 @@
+//! What carries a step.
+
+ghost use Rattle.std.specs.Prelude.{◌≡◌, IfOk};
+ghost use Rattle.std.specs.List.{All};
+ghost use Rattle.reasons.specs.Language.{IsOfLanguage};
+
+use crate::checks::CheckValues;
+use binding_graph::{Code, Input, Kind, ResolvedItem, Role, Source, Step};
+use candidates::Space;
+use cat_values::{PREDEFINED, Predefined};
+use check_witness::expression_column;
+use std::alloc::{AllocError, Global};
+use step_labels::{EventPair, ModelName, NameValues, PredefinedValue, innermost, operands};
+
+fn predefined_value(
+    alloc: Global,
+    space: &Space,
+    name: Predefined,
+) -> Result<PredefinedValue, AllocError>
+    ensures { IfOk result (IsOfLanguage space.now) }
+{
+    let mut steps = Vec::new(alloc);
+    steps.push(Step::PushRelation(Source::Predefined(name)))?;
+    let code = Code {
+        kind: Kind::OfRelation,
+        steps,
+    };
+    let column = expression_column(alloc, &code, space, &[])?;
+    Ok(PredefinedValue { name, column })
+}
+
+/// The values of the names of the language that stand for relations. Errors: want of memory.
+pub fn predefined_values(alloc: Global, space: &Space) -> Result<Vec<PredefinedValue>, AllocError>
+    ensures { IfOk result (λ v. All (IsOfLanguage space.now) v.items) }
+{
+    let mut values = Vec::new(alloc);
+    for name in &PREDEFINED {
+        if !name.is_set() {
+            values.push(predefined_value(alloc, space, *name)?)?;
+        }
+    }
+    Ok(values)
+}
+
+// How a model writes a name.
+fn name_bytes(items: &[ResolvedItem], name: ModelName) -> &[u8] {
+    let input = match name {
+        ModelName::Predefined(name) => return name.spelling(),
+        ModelName::Bound(input) => input,
+    };
+    let Some(item) = items.get(input.item) else {
+        return b"";
+    };
+    match &item.role {
+        Role::Group { bodies, .. } => match bodies.get(input.position) {
+            Some(body) => body.name.as_bytes(),
+            None => b"",
+        },
+        Role::Check(_) | Role::Silent => b"",
+    }
+}
+
+fn inputs_at(items: &[ResolvedItem], index: usize) -> &[Input] {
+    match items.get(index) {
+        Some(item) => &item.inputs,
+        None => &[],
+    }
+}
+
+/// The innermost name of the check's expression that relates the two events, as a model writes it;
+/// nothing where none does. Errors: want of memory.
+pub fn label(
+    alloc: Global,
+    items: &[ResolvedItem],
+    values: &NameValues<'_>,
+    check: &CheckValues<'_>,
+    pair: EventPair,
+) -> Result<Vec<u8>, AllocError> {
+    let inputs = inputs_at(items, check.item);
+    let names = operands(alloc, check.item, inputs, &check.check.code)?;
+    match innermost(alloc, items, values, &names, check.item, pair)? {
+        Some(name) => Vec::from_slice(alloc, name_bytes(items, name)),
+        None => Ok(Vec::new(alloc)),
+    }
+}
