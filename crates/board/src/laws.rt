@@ -4,12 +4,11 @@ ghost use Rattle.std.specs.Prelude.{List, ◌++◌, ◌∷◌, []};
 ghost use Rattle.board.specs.declared.operation.BoardOp.{BoardOp};
 ghost use Rattle.board.specs.Legal.{texts_after, last_number, MayFollow, IsLegal};
 ghost use Rattle.board.specs.Right.{OutcomesAreRight, HasNamesOf};
-ghost use Rattle.slice_laws.specs.Laws.{ItemsDecide};
 
 /// After each legal list of operations, each settled cell carries what evaluating its test under its model from nothing gives,
-/// for the texts at that moment, if two models without fault that give a test one slice give it the same evaluations.
+/// for the texts at that moment.
 pub fn legal_is_right()
-    ensures { ItemsDecide → (ops : List BoardOp) → IsLegal ops → OutcomesAreRight ops }
+    ensures { (ops : List BoardOp) → IsLegal ops → OutcomesAreRight ops }
 {}
 
 /// After each legal list of operations, the names of the board are those of the texts at that moment, in their orders.

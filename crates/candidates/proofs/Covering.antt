@@ -147,7 +147,7 @@ pub covers : (t : Test) → CoversEachStore t
 covers t p V x is domain executes store c =
     let found : Numbered is_store 0 es store = contained is_store es store c in
     let s : StoreOf found.item.action = store_of found.item found.passes in
-    let at : store ≡ found.place = omega (arith, found.is) in
+    let at : store ≡ found.index = omega (arith, found.is) in
     let there : slice_get es store ≡ Some found.item = ap (λ (k : ℕ). slice_get es k) at ∙ found.there in
     let lt : s.location < length p.initial.items = all_below found.item s.location s.value (event_there es store found.item there) s.is in
     let o : OrderAt es x.coherence s.location (0 + s.location) = order_at es 0 p.initial.items x.coherence s.location executes.orders lt in

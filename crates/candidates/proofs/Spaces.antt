@@ -15,7 +15,7 @@ use Rattle.run_combinations.specs.Combinations.{pairs, candidates_of}
 use Rattle.candidates.specs.Space.{candidates_in, end_at, registers_at, IsExecution}
 use Rattle.run_combinations.specs.declared.combination.Combination.{Combination}
 use Rattle.candidates.specs.declared.execution.Execution.{Execution}
-use Rattle.run_combinations.proofs.Pairs.{beside, candidate_at, has_orders, has_place}
+use Rattle.run_combinations.proofs.Pairs.{beside, candidate_at, has_orders, has_index}
 
 -- one combination after others
 pub length-one : (c : Combination) → length {A = Combination × (List ℕ × List ℕ)} (map (λ t. (c, t)) (candidates_of c)) ≡ length (candidates_of c)
@@ -53,7 +53,7 @@ candidate_there threads c p n v w x is lt source order holds d =
   where
     there : get_or (candidates_of c) p d ≡ (v.items, w.items)
     there =
-        candidate_at c p d v w (has_orders c p lt) ((has_place c p (has_orders c p lt)).1 lt)
+        candidate_at c p d v w (has_orders c p lt) ((has_index c p (has_orders c p lt)).1 lt)
         ∙ sym (ap (λ (k : ℕ). ((get_or c.sources.items (p / k) v).items, (get_or c.orders.items (p % k) w).items)) is)
         ∙ sym (ap (λ (u : Vec ℕ Global). (u.items, (get_or c.orders.items (p % n) w).items)) source)
         ∙ sym (ap (λ (u : Vec ℕ Global). (v.items, u.items)) order)

@@ -74,7 +74,7 @@ pub get_last : {X : Type 0} (xs : List X) (x : X) → slice_get (xs ++ x ∷ [])
 get_last [] x = refl
 get_last (z ∷ zs) x = get_last zs x
 
-one_of : {X : Type 0} (xs : List X) (j : ℕ) → j < length xs → X
+pub one_of : {X : Type 0} (xs : List X) (j : ℕ) → j < length xs → X
 one_of [] j lt = absurd (omega (arith, lt))
 one_of (x ∷ xs) j lt = x
 

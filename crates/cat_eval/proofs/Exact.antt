@@ -40,7 +40,7 @@ world_at names reads orders (b ∷ bs) (c ∷ cs) h zero one at =
     (b, refl, subst (λ (x : Candidate). IsWorld names reads orders b x) same h.0)
 world_at names reads orders (b ∷ bs) (c ∷ cs) h (suc k) one at = world_at names reads orders bs cs h.1 k one at
 
-unless_same : (negated : Bool) (A P Q : Type 0) → P ↔ Q → A ↔ Unless negated P → A ↔ Unless negated Q
+pub unless_same : (negated : Bool) (A P Q : Type 0) → P ↔ Q → A ↔ Unless negated P → A ↔ Unless negated Q
 unless_same false A P Q s h = ((λ a. s.0 (h.0 a)), (λ q. h.1 (s.1 q)))
 unless_same true A P Q s h = ((λ a q. h.0 a (s.1 q)), (λ f. h.1 (λ p. f (s.0 p))))
 

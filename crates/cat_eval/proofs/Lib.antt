@@ -11,6 +11,7 @@ pub mod Likeness
 pub mod Listed
 pub mod Monotone
 pub mod Slots
+pub mod Repeating
 pub mod Same
 pub mod Standing
 pub mod Stacks

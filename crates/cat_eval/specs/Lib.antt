@@ -10,6 +10,7 @@ pub mod Named
 pub mod Needed
 pub mod Rising
 pub mod Running
+pub mod Steady
 pub mod Uses
 pub mod Values
 pub mod Worlds

@@ -1,14 +1,16 @@
 //! Whether a check holds.
 
-ghost use Rattle.std.specs.Prelude.{◌≡◌, ℕ, List, IfOk};
+ghost use Rattle.std.specs.Prelude.{◌≡◌, ℕ, ◌++◌, ◌∷◌, [], List, Bool, length, IfOk, OnOk};
 ghost use Rattle.base_env.specs.Known.{Known};
 ghost use Rattle.cat_eval.specs.Values.{AnswersOf};
 ghost use Rattle.cat_eval.specs.OverNames.{AreAnswersOver};
+ghost use Rattle.cat_eval.specs.Steady.{IsSteady};
 
 use crate::column::Column;
 use crate::machine::Machine;
 use crate::names::Names;
 use crate::needs::Needs;
+use crate::steady::{is_as_before, steady_after};
 use crate::walk::{Visit, visit_all};
 use base_env::Base;
 use binding_graph::{CheckCode, ResolvedItem, Role};
@@ -22,17 +24,40 @@ struct CheckRun<'a> {
     inputs: &'a [&'a Column],
     machine: Machine,
     answers: Vec<bool>,
+    /// Up to where the candidates have the inputs of the last one.
+    steady: usize,
+}
+
+/// Adds the last answer once more: to no answers nothing.
+fn push_last(answers: &mut Vec<bool>) -> Result<(), AllocError>
+    ensures { OnOk result ((before : List Bool) (answer : Bool) → answers.old.items ≡ before ++ answer ∷ [] → answers.new.items ≡ answers.old.items ++ answer ∷ []) }
+{
+    match answers.last() {
+        Some(answer) => {
+            let answer = *answer;
+            answers.push(answer)?;
+        }
+        None => {}
+    }
+    Ok(())
 }
 
 impl Visit for CheckRun<'_> {
-    ghost has_taken = { λ first bases run. (run.check ≡ first.check) × (run.inputs ≡ first.inputs) × AreAnswersOver first.check.now first.inputs.now bases run.answers.items };
+    ghost has_taken = { λ first bases run. (run.check ≡ first.check) × (run.inputs ≡ first.inputs) × AreAnswersOver first.check.now first.inputs.now bases run.answers.items × IsSteady first.inputs.now (length run.answers.items) run.steady };
 
-    fn visit(&mut self, base: &Base) -> Result<(), AllocError> {
+    fn visit(&mut self, base: &Base, again: bool) -> Result<(), AllocError> {
+        let candidate = self.answers.len();
+        let same = is_as_before(again, candidate, self.steady);
+        self.steady = steady_after(self.inputs, self.steady, candidate);
+        if same {
+            push_last(&mut self.answers)?;
+            return Ok(());
+        }
         let names = Names {
             base,
             inputs: self.inputs,
             own: &[],
-            candidate: self.answers.len(),
+            candidate,
         };
         self.machine.run(&self.check.code.steps, &names)?;
         let met = self
@@ -60,6 +85,7 @@ pub fn eval_check(
                 inputs,
                 machine: Machine::new(alloc),
                 answers: Vec::new(alloc),
+                steady: 0,
             };
             visit_all(alloc, space, &Needs::of(alloc, item)?, &mut run)?;
             Ok(run.answers)

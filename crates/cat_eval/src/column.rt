@@ -1,11 +1,12 @@
 //! The value of a name over a list of candidates.
 
-ghost use Rattle.std.specs.Prelude.{◌≡◌, ◌≤◌, ◌↔◌, slice_get, IsTrue, OnOk};
+ghost use Rattle.std.specs.Prelude.{◌≡◌, ◌<◌, ◌≤◌, ◌↔◌, ℕ, slice_get, IsTrue, OnOk};
 ghost use Rattle.bit_relations.specs.Relation.{IsRelation, IsEvents};
 ghost use Rattle.base_env.specs.Known.{EventsFound};
 ghost use Rattle.binding_kinds.specs.declared.kinds.Kind.TheVariants as kinds;
 ghost use Rattle.cat_eval.specs.Values.{Adds, IsFor, column_len};
 ghost use Rattle.cat_eval.specs.Named.{ColumnEvents, ColumnPairs, PairsFound};
+ghost use Rattle.cat_eval.specs.Steady.{HasSame, Repeats};
 
 use bit_relations::{EventSet, Rel};
 use columns::{Cursor, RunColumn, SetRuns};
@@ -98,6 +99,28 @@ impl Column {
             Column::Relations(values) => values.push(relation)?,
         }
         Ok(())
+    }
+
+    /// Gives the next candidate the last value too: a list without a value stays so.
+    pub(crate) fn push_last(&mut self) -> Result<(), AllocError>
+        ensures { OnOk result (Repeats self.old self.new) }
+    {
+        match self {
+            Column::Sets(values) => values.push_last()?,
+            Column::Relations(values) => values.push_last()?,
+        }
+        Ok(())
+    }
+
+    /// Up to where the candidates from one on have the same value.
+    pub(crate) fn same_until(&self, candidate: usize) -> usize
+        ensures { (k : ℕ) → candidate ≤ k → k < result → HasSame self.now candidate k }
+    {
+        match self {
+            Column::Sets(values) if candidate < values.len() => values.same_until(candidate),
+            Column::Relations(values) if candidate < values.len() => values.same_until(candidate),
+            _ => candidate,
+        }
     }
 }
 

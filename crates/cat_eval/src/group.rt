@@ -10,11 +10,13 @@ ghost use Rattle.cat_eval.specs.OverNames.{AreColumnsOver, IsMeaningOver};
 ghost use Rattle.cat_eval.specs.Least.{IsLeast, AreMonotone};
 ghost use Rattle.cat_eval.specs.Named.{EventsIn, PairsOutside};
 ghost use Rattle.cat_eval.specs.Rising.{AreCodes};
+ghost use Rattle.cat_eval.specs.Steady.{IsSteady, Repeats};
 ghost use Rattle.cat_eval.specs.Values.{Adds, IsFor, column_len};
 
 use crate::column::Column;
 use crate::needs::Needs;
 use crate::solver::Solver;
+use crate::steady::{is_as_before, steady_after};
 use crate::walk::{Visit, visit_all};
 use base_env::Base;
 use binding_graph::{Body, Kind, ResolvedItem, Role};
@@ -30,6 +32,8 @@ struct GroupRun<'a> {
     recursive: bool,
     solver: Solver,
     columns: Vec<Column>,
+    /// Up to where the candidates have the inputs of the last one.
+    steady: usize,
 }
 
 /// Adds a value to one of the columns: what is of its kind.
@@ -62,6 +66,29 @@ fn put_all(columns: &mut Vec<Column>, values: &[Rel], count: usize) -> Result<()
     Ok(())
 }
 
+/// Gives the next candidate the last value of one of the columns too.
+fn repeat(columns: &mut Vec<Column>, position: usize) -> Result<(), AllocError>
+    ensures long { length columns.new.items ≡ length columns.old.items }
+    ensures others { (j : ℕ) → (j ≡ position → ⊥) → (c : Column) → slice_index_or columns.new.items j c ≡ slice_index_or columns.old.items j c }
+    ensures repeated { OnOk result (position < length columns.old.items → (c : Column) → Repeats (slice_index_or columns.old.items position c) (slice_index_or columns.new.items position c)) }
+{
+    if position < columns.len() {
+        columns[position].push_last()?;
+    }
+    Ok(())
+}
+
+/// Gives the next candidate the last value of each column too.
+fn repeat_all(columns: &mut Vec<Column>) -> Result<(), AllocError>
+    ensures long { length columns.new.items ≡ length columns.old.items }
+    ensures repeated { OnOk result ((j : ℕ) → j < length columns.old.items → (c : Column) → Repeats (slice_index_or columns.old.items j c) (slice_index_or columns.new.items j c)) }
+{
+    for position in 0..columns.len() {
+        repeat(columns, position)?;
+    }
+    Ok(())
+}
+
 /// How many candidates the columns have values for.
 fn candidate_count(columns: &[Column]) -> usize
     ensures { 0 < length columns.now → (c : Column) → result ≡ column_len (slice_index_or columns.now 0 c) }
@@ -82,7 +109,7 @@ impl GroupRun<'_> {
         position: usize,
     ) -> Result<(), AllocError>
         requires { position < length self.old.bodies.now }
-        ensures fixed { (self.new.bodies ≡ self.old.bodies) × (self.new.inputs ≡ self.old.inputs) × (self.new.recursive ≡ self.old.recursive) × (self.new.solver.own ≡ self.old.solver.own) }
+        ensures fixed { (self.new.bodies ≡ self.old.bodies) × (self.new.inputs ≡ self.old.inputs) × (self.new.recursive ≡ self.old.recursive) × (self.new.solver.own ≡ self.old.solver.own) × (self.new.steady ≡ self.old.steady) }
         ensures long { length self.new.columns.items ≡ length self.old.columns.items }
         ensures others { (j : ℕ) → (j ≡ position → ⊥) → (c : Column) → slice_index_or self.new.columns.items j c ≡ slice_index_or self.old.columns.items j c }
         ensures added { OnOk result (self.old.solver.own.items ≡ [] → position < length self.old.columns.items → (c : Column) (b : Body) → (s : Events) × (r : Relation) × Adds (slice_index_or self.old.columns.items position c) (slice_index_or self.new.columns.items position c) s r × IsMeaningOver (slice_index_or self.old.bodies.now position b).code.kind (slice_index_or self.old.bodies.now position b).code.steps.items self.old.inputs.now base.now candidate s r) }
@@ -98,7 +125,7 @@ impl GroupRun<'_> {
 
     /// Evaluates each body once.
     fn evaluate_each(&mut self, base: &Base, candidate: usize) -> Result<(), AllocError>
-        ensures fixed { (self.new.bodies ≡ self.old.bodies) × (self.new.inputs ≡ self.old.inputs) × (self.new.recursive ≡ self.old.recursive) × (self.new.solver.own ≡ self.old.solver.own) }
+        ensures fixed { (self.new.bodies ≡ self.old.bodies) × (self.new.inputs ≡ self.old.inputs) × (self.new.recursive ≡ self.old.recursive) × (self.new.solver.own ≡ self.old.solver.own) × (self.new.steady ≡ self.old.steady) }
         ensures long { length self.new.columns.items ≡ length self.old.columns.items }
         ensures added { OnOk result (self.old.solver.own.items ≡ [] → (j : ℕ) → j < length self.old.bodies.now → j < length self.old.columns.items → (c : Column) (b : Body) → (s : Events) × (r : Relation) × Adds (slice_index_or self.old.columns.items j c) (slice_index_or self.new.columns.items j c) s r × IsMeaningOver (slice_index_or self.old.bodies.now j b).code.kind (slice_index_or self.old.bodies.now j b).code.steps.items self.old.inputs.now base.now candidate s r) }
     {
@@ -110,7 +137,7 @@ impl GroupRun<'_> {
 
     /// Makes the names the least values that satisfy the equations.
     fn solve(&mut self, base: &Base, candidate: usize) -> Result<(), AllocError>
-        ensures fixed { (self.new.bodies ≡ self.old.bodies) × (self.new.inputs ≡ self.old.inputs) × (self.new.recursive ≡ self.old.recursive) × (length self.new.solver.own.items ≡ length self.old.solver.own.items) }
+        ensures fixed { (self.new.bodies ≡ self.old.bodies) × (self.new.inputs ≡ self.old.inputs) × (self.new.recursive ≡ self.old.recursive) × (length self.new.solver.own.items ≡ length self.old.solver.own.items) × (self.new.steady ≡ self.old.steady) }
         ensures long { length self.new.columns.items ≡ length self.old.columns.items }
         ensures added { OnOk result ((j : ℕ) → j < length self.old.solver.own.items → j < length self.old.columns.items → (c : Column) → (s : Events) × Adds (slice_index_or self.old.columns.items j c) (slice_index_or self.new.columns.items j c) s (slice_index_or self.new.solver.own.items j no_slot)) }
         ensures least { OnOk result (length self.old.solver.own.items ≡ length self.old.bodies.now → (trees : List RelTree) → AreCodes trees self.old.bodies.now → AreMonotone trees → IsLeast base.now.count (EventsIn base.now self.old.inputs.now candidate) (PairsOutside base.now self.old.inputs.now candidate) trees self.new.solver.own.items) }
@@ -123,10 +150,16 @@ impl GroupRun<'_> {
 }
 
 impl Visit for GroupRun<'_> {
-    ghost has_taken = { λ first bases run. (run.bodies ≡ first.bodies) × (run.inputs ≡ first.inputs) × (run.recursive ≡ first.recursive) × HasOwn first.recursive first.bodies.now run.solver.own.items × AreColumnsOver first.recursive first.bodies.now first.inputs.now bases run.columns.items };
+    ghost has_taken = { λ first bases run. (run.bodies ≡ first.bodies) × (run.inputs ≡ first.inputs) × (run.recursive ≡ first.recursive) × HasOwn first.recursive first.bodies.now run.solver.own.items × AreColumnsOver first.recursive first.bodies.now first.inputs.now bases run.columns.items × (0 < length first.bodies.now → IsSteady first.inputs.now (length bases) run.steady) };
 
-    fn visit(&mut self, base: &Base) -> Result<(), AllocError> {
+    fn visit(&mut self, base: &Base, again: bool) -> Result<(), AllocError> {
         let candidate = candidate_count(&self.columns);
+        let same = is_as_before(again, candidate, self.steady);
+        self.steady = steady_after(self.inputs, self.steady, candidate);
+        if same {
+            repeat_all(&mut self.columns)?;
+            return Ok(());
+        }
         if self.recursive {
             self.solve(base, candidate)?;
         } else {
@@ -190,6 +223,7 @@ pub fn eval_group(
                 recursive: *recursive,
                 solver: solver_of(alloc, *recursive, bodies)?,
                 columns: columns_of(alloc, bodies)?,
+                steady: 0,
             };
             visit_all(alloc, space, &Needs::of(alloc, item)?, &mut run)?;
             Ok(run.columns)

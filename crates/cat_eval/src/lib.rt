@@ -14,6 +14,7 @@ pub mod rounds;
 mod shape;
 mod solver;
 mod stack;
+mod steady;
 mod walk;
 
 pub use check::eval_check;

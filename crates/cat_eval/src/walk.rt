@@ -1,11 +1,12 @@
 //! All candidates of a space, one after another.
 
-ghost use Rattle.std.specs.Prelude.{◌≡◌, ℕ, ◌++◌, List, [], ◌∷◌, length, IsTrue, IfSome, OnOk, MatchOption};
+ghost use Rattle.std.specs.Prelude.{◌≡◌, ℕ, ◌++◌, List, [], ◌∷◌, length, IsTrue, IfOk, IfSome, OnOk, MatchOption};
 ghost use Rattle.candidates.specs.Space.{candidates_in};
 ghost use Rattle.base_env.specs.Known.{Known, IsConsistent};
 ghost use Rattle.base_env.specs.Candidate.{IsEntered, IsReading, IsOrdered};
 ghost use Rattle.cat_eval.specs.Alike.{AreAlike};
 ghost use Rattle.cat_eval.specs.Candidates.{reading_so, reading_in};
+ghost use Rattle.cat_eval.specs.Steady.{EndsWith};
 ghost use Rattle.cat_eval.specs.Worlds.{AreHeld, IsReady, AreWorlds};
 
 use crate::needs::Needs;
@@ -20,78 +21,112 @@ pub(crate) trait Visit {
     /// another.
     ghost has_taken: { Self → List Known → Self → Type 0 };
 
-    /// Takes the next candidate, of which the predefined names are given.
-    fn visit(&mut self, base: &Base) -> Result<(), AllocError>
-        ensures { (first : _) (bases : List Known) → has_taken first bases self.old → OnOk result (has_taken first (bases ++ base.now ∷ []) self.new) };
+    /// Takes the next candidate, of which the predefined names are given, and whether they are those of the one before.
+    fn visit(&mut self, base: &Base, again: bool) -> Result<(), AllocError>
+        ensures { (first : _) (bases : List Known) → (IsTrue again → EndsWith bases base.now) → has_taken first bases self.old → OnOk result (has_taken first (bases ++ base.now ∷ []) self.new) };
 }
 
-/// Goes over to an order of the stores, where a name changes with it.
-fn go_to_order(needs: &Needs, base: &mut Base, combination: &Combination, order: &[u8])
+/// Goes over to an order of the stores, where a name changes with it. Of a base that is that of the last candidate it says
+/// whether it still is.
+fn go_to_order(
+    needs: &Needs,
+    base: &mut Base,
+    combination: &Combination,
+    order: &[u8],
+    again: bool,
+) -> bool
+    ensures kept { IsTrue result → IsTrue again × (base.new ≡ base.old) }
     ensures ready { IsReady needs.now.names.items base.old combination.now → IsReady needs.now.names.items base.new combination.now }
     ensures reading { (sources : List ℕ) → IsReading base.old combination.now sources → IsReading base.new combination.now sources }
     ensures ordered { IsTrue needs.now.orders → IsOrdered base.new combination.now order.now }
 {
     if needs.orders {
         base.order(combination, order);
+        return false;
     }
+    again
 }
 
-/// Goes over to a way to read, where a name changes with it.
-fn go_to_sources(needs: &Needs, base: &mut Base, combination: &Combination, sources: &[u8])
+/// Goes over to a way to read, where a name changes with it. It answers as above.
+fn go_to_sources(
+    needs: &Needs,
+    base: &mut Base,
+    combination: &Combination,
+    sources: &[u8],
+    again: bool,
+) -> bool
+    ensures kept { IsTrue result → IsTrue again × (base.new ≡ base.old) }
     ensures ready { IsReady needs.now.names.items base.old combination.now → IsReady needs.now.names.items base.new combination.now }
     ensures reading { IsTrue needs.now.reads → IsReading base.new combination.now sources.now }
 {
     if needs.reads {
         base.read_from(combination, sources);
+        return false;
     }
+    again
 }
 
-/// Goes over to a combination, after another one where it is given.
-fn go_to_combination(entered: Option<&Combination>, base: &mut Base, combination: &Combination)
+/// Goes over to a combination, after another one where it is given. It answers as above.
+fn go_to_combination(
+    entered: Option<&Combination>,
+    base: &mut Base,
+    combination: &Combination,
+    again: bool,
+) -> bool
+    ensures kept { IsTrue result → IsTrue again × (base.new ≡ base.old) }
     ensures known { IsConsistent base.old → IsConsistent base.new }
     ensures held { (names : _) → AreHeld names base.old → AreHeld names base.new }
     ensures entered { IfSome entered.entry (λ earlier. IsEntered base.old earlier.now) → IsEntered base.new combination.now }
 {
     match entered {
-        Some(earlier) if is_same_shape(earlier, combination) => {}
-        _ => base.enter(combination),
+        Some(earlier) if is_same_shape(earlier, combination) => again,
+        _ => {
+            base.enter(combination);
+            false
+        }
     }
 }
 
-/// Visits the candidates of a combination that read in the present way.
+/// Visits the candidates of a combination that read in the present way. `again` says whether the base is that of the
+/// last candidate, before and after.
 fn visit_orders<V: Visit>(
     combination: &Combination,
     needs: &Needs,
     base: &mut Base,
+    again: bool,
     visitor: &mut V,
-) -> Result<(), AllocError>
+) -> Result<bool, AllocError>
     requires { IsReady needs.now.names.items base.old combination.now }
     ensures ready { IsReady needs.now.names.items base.new combination.now }
-    ensures worlds { (sources : List ℕ) → (IsTrue needs.now.reads → IsReading base.old combination.now sources) → (first : _) (bases : List Known) → V.has_taken first bases visitor.old → OnOk result ((more : List Known) × AreWorlds needs.now.names.items needs.now.reads needs.now.orders more (reading_so combination.now sources combination.now.orders.items) × V.has_taken first (bases ++ more) visitor.new) }
+    ensures worlds { (sources : List ℕ) → (IsTrue needs.now.reads → IsReading base.old combination.now sources) → (first : _) (bases : List Known) → (IsTrue again → EndsWith bases base.old) → V.has_taken first bases visitor.old → IfOk result (λ ends. (more : List Known) × AreWorlds needs.now.names.items needs.now.reads needs.now.orders more (reading_so combination.now sources combination.now.orders.items) × V.has_taken first (bases ++ more) visitor.new × (IsTrue ends → EndsWith (bases ++ more) base.new)) }
 {
+    let mut again = again;
     for order in &combination.orders {
-        go_to_order(needs, base, combination, order);
-        visitor.visit(base)?;
+        let same = go_to_order(needs, base, combination, order, again);
+        visitor.visit(base, same)?;
+        again = true;
     }
-    Ok(())
+    Ok(again)
 }
 
-/// Visits the candidates of a combination, which the base has entered.
+/// Visits the candidates of a combination, which the base has entered. `again` as above.
 fn visit_combination<V: Visit>(
     combination: &Combination,
     needs: &Needs,
     base: &mut Base,
+    again: bool,
     visitor: &mut V,
-) -> Result<(), AllocError>
+) -> Result<bool, AllocError>
     requires { IsReady needs.now.names.items base.old combination.now }
     ensures ready { IsReady needs.now.names.items base.new combination.now }
-    ensures worlds { (first : _) (bases : List Known) → V.has_taken first bases visitor.old → OnOk result ((more : List Known) × AreWorlds needs.now.names.items needs.now.reads needs.now.orders more (reading_in combination.now combination.now.sources.items) × V.has_taken first (bases ++ more) visitor.new) }
+    ensures worlds { (first : _) (bases : List Known) → (IsTrue again → EndsWith bases base.old) → V.has_taken first bases visitor.old → IfOk result (λ ends. (more : List Known) × AreWorlds needs.now.names.items needs.now.reads needs.now.orders more (reading_in combination.now combination.now.sources.items) × V.has_taken first (bases ++ more) visitor.new × (IsTrue ends → EndsWith (bases ++ more) base.new)) }
 {
+    let mut again = again;
     for sources in &combination.sources {
-        go_to_sources(needs, base, combination, sources);
-        visit_orders(combination, needs, base, visitor)?;
+        let same = go_to_sources(needs, base, combination, sources, again);
+        again = visit_orders(combination, needs, base, same, visitor)?;
     }
-    Ok(())
+    Ok(again)
 }
 
 /// Visits all candidates of a space, in order, with the predefined names that are needed.
@@ -105,10 +140,11 @@ pub(crate) fn visit_all<V: Visit>(
 {
     let mut base = Base::of_names(alloc, &needs.names)?;
     let mut entered = None;
+    let mut again = false;
     for combination in &space.combinations {
-        go_to_combination(entered, &mut base, combination);
+        let same = go_to_combination(entered, &mut base, combination, again);
         entered = Some(combination);
-        visit_combination(combination, needs, &mut base, visitor)?;
+        again = visit_combination(combination, needs, &mut base, same, visitor)?;
     }
     Ok(())
 }

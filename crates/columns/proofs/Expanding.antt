@@ -153,3 +153,30 @@ read_same d es ends vs old r at end h is same l a b read k low high =
     let inside : r < length es = omega (arith, ap length same) in
     let last : end ≡ get_or ends r 0 = get_or_read_under es r (length es) end 0 read inside refl ∙ ap (λ xs. get_or xs r 0) (sym same) in
     run_value d ends vs old r k runs view l (omega arith) (omega arith) ∙ sym (run_value d ends vs old r at runs view l a b)
+
+-- a run holds its start
+pub start_below : (at : ℕ) (es : List ℕ) (r : ℕ) → AreRising at es → r < length es → start_of at es r < get_or es r 0
+start_below at [] r h l = absurd (omega (arith, l))
+start_below at (x ∷ es) zero h l = h.0
+start_below at (x ∷ es) (suc r) h l = start_below x es r h.1 (omega (arith, l))
+
+-- the last value once more
+pub last_end_is : {A : Type 0} (es : List ℕ) (vs old : List A) (n end : ℕ) → AreRuns es vs → expand 0 es vs ≡ old → n ≡ length es → 0 < n → end ≡ get_or es (n - 1) 0 → end ≡ length old
+last_end_is es vs old n end h is l p read = omega (arith, read, last_is 0 es (n - 1) (omega (arith, l, p)), length-runs es vs h, ap length is)
+
+pub last_value : {A : Type 0} (d : A) (es : List ℕ) (vs old : List A) (n : ℕ) → AreRuns es vs → expand 0 es vs ≡ old → n ≡ length es → 0 < n → get_or old (length old - 1) d ≡ get_or vs (n - 1) d
+last_value d es vs old n h is l p =
+    let inside : n - 1 < length es = omega (arith, l, p) in
+    let last : get_or es (n - 1) 0 ≡ length old = omega (arith, last_is 0 es (n - 1) (omega (arith, l, p)), length-runs es vs h, ap length is) in
+    let low : start_of 0 es (n - 1) < get_or es (n - 1) 0 = start_below 0 es (n - 1) h.rising inside in
+    run_value d es vs old (n - 1) (length old - 1) h is inside (omega (arith, low, last)) (omega (arith, low, last))
+
+pub last_told : {A : Type 0} (d : A) (es : List ℕ) (vs old : List A) (n e : ℕ) → AreRuns es vs → expand 0 es vs ≡ old → n ≡ length es → 0 < n → e ≡ length old + 1 → expand 0 (set es (n - 1) e) vs ≡ old ++ get_or old (length old - 1) d ∷ []
+last_told d es vs old n e h is l p more =
+    let one : e - length old ≡ 1 = omega (arith, more) in
+    longer_told d es vs old n e (get_or old (length old - 1) d) h is l p (omega (arith, more)) (sym (last_value d es vs old n h is l p))
+    ∙ ap (λ (m : ℕ). old ++ replicate m (get_or old (length old - 1) d)) one
+
+-- the end of the last run, read with any default
+pub end_read : {A : Type 0} (es : List ℕ) (vs old : List A) (n end : ℕ) → AreRuns es vs → expand 0 es vs ≡ old → n ≡ length es → 0 < n → end ≡ get_or es (n - 1) end → end ≡ length old
+end_read es vs old n end h is l p read = last_end_is es vs old n end h is l p (get_or_read_under es (n - 1) (length es) end 0 read (omega (arith, l, p)) refl)

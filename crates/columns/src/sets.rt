@@ -82,6 +82,38 @@ impl SetRuns {
         }
     }
 
+    /// Gives the last value to the next candidate too; a column of no candidate stays as it is. Where memory is out the
+    /// column stays as it was.
+    pub fn push_last(&mut self) -> Result<(), AllocError>
+        ensures added { OnOk result (0 < length self.old → self.new ≡ self.old ++ set_at self.old (length self.old - 1) ∷ []) }
+        ensures kept { OnErr result (self.new ≡ self.old) }
+    {
+        let _values = &self.values;
+        let runs = self.ends.len();
+        if runs == 0 {
+            return Ok(());
+        }
+        match self.ends[runs - 1].checked_add(1) {
+            Some(end) => {
+                self.ends[runs - 1] = end;
+                Ok(())
+            }
+            None => Err(AllocError),
+        }
+    }
+
+    /// Up to where the candidates from one on have the same value.
+    pub fn same_until(&self, at: usize) -> usize
+        requires { at < length self.now }
+        ensures after { at < result }
+        ensures within { result ≤ length self.now }
+        ensures same { (k : ℕ) → at ≤ k → k < result → set_at self.now k ≡ set_at self.now at }
+    {
+        let _values = &self.values;
+        let run = run_at(&self.ends, 0, at);
+        self.ends[run]
+    }
+
     /// The value of a candidate, and up to where the candidates after it have the same.
     pub fn read(&self, cursor: &mut Cursor, at: usize) -> (EventSet, usize)
         requires { at < length self.now }

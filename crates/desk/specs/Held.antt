@@ -81,8 +81,14 @@ pub record IsDone {T V O : Type 0} (is_legal : List O → Type 0) (are_settled :
 
 abbrev pub Settles : {T V O : Type 0} → (is_legal : List O → Type 0) → (are_settled : List O → Type 0) → (new : Held T V O) → (me me' : List O) → Settling → Type 0
 Settles is_legal are_settled new me me' Done = IsDone is_legal are_settled new me me'
-Settles is_legal are_settled new me me' Waits = me' ≡ me
+Settles is_legal are_settled new me me' (Waits changes) = me' ≡ me
 Settles is_legal are_settled new me me' Refused = me' ≡ me
+
+-- what the viewer of a turn of settling is told: all that it knew and what goes on from there, where every cell is settled; or nothing
+abbrev pub TellsSettled : {O : Type 0} → (is_legal : List O → Type 0) → (are_settled : List O → Type 0) → (me me' : List O) → Settling → Type 0
+TellsSettled is_legal are_settled me me' Done = IsPrefix me me' × are_settled me' × is_legal me'
+TellsSettled is_legal are_settled me me' (Waits changes) = me' ≡ me
+TellsSettled is_legal are_settled me me' Refused = me' ≡ me
 
 -- the call was refused: the texts of the bench may have more room, and nothing else changed
 abbrev pub IsRefusedTurn : {T E V G O : Type 0} → Meaning T E V G → (old new : Held T V O) → Type 0

@@ -20,13 +20,13 @@ pub enum Posted {
     Later,
 }
 
-/// What becomes of a call that settles.
+/// What a turn of settling comes to.
 #[derive(Clone, Copy, Debug, PartialEq, Eq)]
 pub enum Settling {
     /// Each cell is settled and published, and the viewer was told.
     Done,
-    /// Some cell is open.
-    Waits,
+    /// Some cell is open, after so many changes.
+    Waits(u64),
     /// Memory was refused.
     Refused,
 }

@@ -3,7 +3,7 @@
 ghost use Rattle.std.specs.Prelude.{◌≡◌, ◌<◌, [], IfOk, OnErr, OnOk, fold};
 ghost use mathlib.Core.List.{IsPrefix};
 ghost use Rattle.desk.specs.Boards.{AreSettled};
-ghost use Rattle.desk.specs.Held.{Tells};
+ghost use Rattle.desk.specs.Held.{Tells, TellsSettled};
 
 use crate::answer::{Accepted, Settling, Taken};
 use crate::fault::DeskFault;
@@ -23,7 +23,10 @@ where
     Plate<J, X>: Absorb<Entry<J, X>, State = [X::Op; 0]>,
 {
     state: Mutex<DeskState<J, X, R>>,
-    moved: Condvar,
+    // Those who wait for a job. Who takes one wakes the next.
+    work: Condvar,
+    // Those who wait for a change.
+    change: Condvar,
 }
 
 impl<J: Naming + StoreName, X: BoardTexts, R: Wait + Drop> Desk<J, X, R> {
@@ -31,8 +34,15 @@ impl<J: Naming + StoreName, X: BoardTexts, R: Wait + Drop> Desk<J, X, R> {
     pub fn new(state: DeskState<J, X, R>) -> Desk<J, X, R> {
         Desk {
             state: Mutex::new(state),
-            moved: Condvar::new(),
+            work: Condvar::new(),
+            change: Condvar::new(),
         }
+    }
+
+    // Wakes one who waits for a job, and those who wait for a change.
+    fn tell_change(&self) {
+        self.work.notify_one();
+        self.change.notify_all();
     }
 
     /// Makes an edit, publishes it and tells this viewer.
@@ -46,42 +56,57 @@ impl<J: Naming + StoreName, X: BoardTexts, R: Wait + Drop> Desk<J, X, R> {
         ensures told { IfOk result (λ a. Tells X.is_legal X.is_edit X.is_settle edit me.old me.new a) }
     {
         let answer = self.state.lock(rt).edit(rt, me, edit);
-        self.moved.notify_all();
+        self.tell_change();
         answer
     }
 
     /// Gives out a job, if there is any work.
     pub fn claim<W: Wait>(&self, rt: &W) -> Result<Option<Job<J, X>>, DeskFault<X::Fault>> {
         let answer = self.state.lock(rt).claim(rt);
-        self.moved.notify_all();
+        self.tell_change();
         answer
+    }
+
+    /// Waits for a job. It sleeps while there is no work. Errors: K1, B1, want of memory.
+    pub fn next_job<W: Wait>(&self, rt: &W) -> Result<Job<J, X>, DeskFault<X::Fault>> {
+        for _ in rt.forever() {
+            let mut state = self.state.lock(rt);
+            if let Some(job) = state.claim(rt)? {
+                drop(state);
+                self.work.notify_one();
+                return Ok(job);
+            }
+            drop(self.work.wait(rt, state));
+        }
+        unreachable!()
     }
 
     /// Takes a return.
     pub fn finish<W: Wait>(&self, rt: &W, done: Done<J, X>) -> Result<Taken, DeskFault<X::Fault>> {
         let answer = self.state.lock(rt).finish(rt, done);
-        self.moved.notify_all();
+        self.tell_change();
         answer
     }
 
     /// Closes a claim, and says whether it was out.
     pub fn lose<W: Wait>(&self, rt: &W, claim: u64) -> Result<bool, DeskFault<X::Fault>> {
         let answer = self.state.lock(rt).lose(rt, claim);
-        self.moved.notify_all();
+        self.tell_change();
         answer
     }
 
     /// Forgets all that was computed, and closes every claim.
     pub fn renew<W: Wait>(&self, rt: &W) -> Result<(), DeskFault<X::Fault>> {
         let answer = self.state.lock(rt).renew(rt);
-        self.moved.notify_all();
+        self.tell_change();
         answer
     }
 
     /// From now on each call is refused.
     pub fn close<W: Wait>(&self, rt: &W) -> Result<(), DeskFault<X::Fault>> {
         let answer = self.state.lock(rt).close();
-        self.moved.notify_all();
+        self.work.notify_all();
+        self.change.notify_all();
         answer
     }
 
@@ -92,8 +117,32 @@ impl<J: Naming + StoreName, X: BoardTexts, R: Wait + Drop> Desk<J, X, R> {
         self.state.lock(rt).viewer()
     }
 
-    /// Waits until each cell is settled and published, and tells this viewer. Errors: K1, and want of memory after 16
-    /// refusals in a row.
+    /// Tells this viewer all that is published, if each cell of it is settled. Errors: K1, and K2 if the viewer has seen more
+    /// than this desk has.
+    pub fn settle_turn<W: Wait>(
+        &self,
+        rt: &W,
+        me: &mut Viewer<J, X>,
+    ) -> Result<Settling, DeskFault<X::Fault>>
+        ensures err { OnErr result (me.new ≡ me.old) }
+        ensures told { IfOk result (λ r. TellsSettled X.is_legal (λ ops. AreSettled (X.cells (fold X.after X.none ops))) me.old me.new r) }
+    {
+        self.state.lock(rt).settle(rt, me)
+    }
+
+    /// Waits until there are other changes than so many, or the desk is closed. It does not wait where that is so.
+    pub fn wait_past<W: Wait>(&self, rt: &W, changes: u64) {
+        for _ in rt.forever() {
+            let state = self.state.lock(rt);
+            if !state.is_unchanged(changes) {
+                return;
+            }
+            drop(self.change.wait(rt, state));
+        }
+    }
+
+    /// Waits until each cell is settled and published, and tells this viewer. Errors: K1, K2 as at a turn, and want of memory
+    /// after 16 refusals in a row.
     pub fn settle<W: Wait>(&self, rt: &W, me: &mut Viewer<J, X>) -> Result<(), DeskFault<X::Fault>>
         ensures err { OnErr result (me.new ≡ me.old) }
         ensures begins { OnOk result (IsPrefix me.old me.new) }
@@ -102,12 +151,11 @@ impl<J: Naming + StoreName, X: BoardTexts, R: Wait + Drop> Desk<J, X, R> {
     {
         let mut refusals = Refusals::new();
         for _ in rt.forever() {
-            let mut state = self.state.lock(rt);
-            match state.settle(rt, me)? {
+            match self.settle_turn(rt, me)? {
                 Settling::Done => return Ok(()),
-                Settling::Waits => {
+                Settling::Waits(changes) => {
                     let _many = refusals.note(false);
-                    drop(self.moved.wait(rt, state));
+                    self.wait_past(rt, changes);
                 }
                 Settling::Refused => {
                     if refusals.note(true) {
@@ -122,6 +170,10 @@ impl<J: Naming + StoreName, X: BoardTexts, R: Wait + Drop> Desk<J, X, R> {
 
 impl<J: Naming + StoreName, X: BoardTexts, R: Wait + Drop> Drop for Desk<J, X, R> {
     fn drop(self) {
-        let Desk { state: _, moved: _ } = self;
+        let Desk {
+            state: _,
+            work: _,
+            change: _,
+        } = self;
     }
 }

@@ -1,6 +1,6 @@
 //! What lies under the lock. Each change of it is a method here.
 
-ghost use Rattle.std.specs.Prelude.{◌≡◌, ◌≢◌, ◌↔◌, ◌+◌, ◌≤◌, [], ℕ, true, false, length, fold, IfOk, OnOk, OnErr, Ok, Err, IfSome, IfNone};
+ghost use Rattle.std.specs.Prelude.{◌≡◌, ◌≢◌, ◌↔◌, ◌+◌, ◌≤◌, ◌<◌, [], ℕ, true, false, length, fold, IsTrue, IfOk, OnOk, OnErr, Ok, Err, IfSome, IfNone};
 ghost use mathlib.Core.List.{IsPrefix};
 ghost use Rattle.memo_core.specs.Laws.{meaning};
 ghost use Rattle.memo_core.specs.Run.{Claim as Claimed, NoClaim, Returned, Lose as Lost, Renew as Renewed, Refused, Step};
@@ -16,6 +16,7 @@ use cells::bench::Bench;
 use cells::job::{Done, Job};
 use desk_rule::{Entry, Naming, Opening, Plate, Seats, Viewer};
 use left_right::Absorb;
+use memo_bench::graph::LAST;
 use memo_core::claims::ClaimFault;
 use std::alloc::Global;
 use std::marker::Model;
@@ -31,6 +32,10 @@ where
     ledger: Ledger<J, X>,
     seats: Seats<J, X>,
     closed: bool,
+    // Whether memory was refused to a settled cell or to what readers are to see: the next call tries again.
+    owes: bool,
+    // How many calls changed something, so that those who wait know that one did.
+    changes: u64,
     alloc: Global,
     // Its drop waits for the viewers.
     rt: Box<R>,
@@ -107,6 +112,8 @@ impl<J: Naming + StoreName, X: BoardTexts, R: Wait + Drop> DeskState<J, X, R> {
             ledger: Ledger { press },
             seats,
             closed: false,
+            owes: false,
+            changes: 0,
             alloc,
             rt,
         }
@@ -147,8 +154,10 @@ impl<J: Naming + StoreName, X: BoardTexts, R: Wait + Drop> DeskState<J, X, R> {
             return Err(DeskFault::NoSeat);
         }
         let number = make_edit(self.alloc, &mut self.bench, &mut self.ledger, edit)?;
-        let _posted = self.ledger.post(self.alloc, &self.bench);
+        self.changes = self.changes.wrapping_add(1);
+        self.owes = !self.ledger.post(self.alloc, &self.bench);
         if !self.ledger.publish(rt) {
+            self.owes = true;
             return Ok(Accepted::Later(number));
         }
         me.tell(self.ledger.front());
@@ -161,18 +170,42 @@ impl<J: Naming + StoreName, X: BoardTexts, R: Wait + Drop> DeskState<J, X, R> {
         ensures appends { Appends X.is_settle self.old.all self.old self.new }
         ensures posted { PublishesOr (λ bench ops. ArePosted X.net (cells_of X.verdict_of X.outcome_in X.from_scratch X.reaches) bench (X.cells (fold X.after X.none ops))) self.old self.new result }
     {
+        self.changes = self.changes.wrapping_add(1);
+        self.owes = true;
         if !self.ledger.post(self.alloc, &self.bench) {
             return Posted::Later;
         }
         if !self.ledger.publish(rt) {
             return Posted::Later;
         }
+        self.owes = false;
         Posted::Now
+    }
+
+    // Tries again what memory was refused to.
+    fn try_again<W: Wait>(&mut self, rt: &W)
+        ensures bench { self.new.bench ≡ self.old.bench }
+        ensures appends { Appends X.is_settle self.old.all self.old self.new }
+    {
+        if self.owes {
+            let _posted = self.catch_up(rt);
+        }
+    }
+
+    // Tries again what memory was refused to, and publishes. True where readers see all operations.
+    fn show_all<W: Wait>(&mut self, rt: &W) -> bool
+        ensures bench { self.new.bench ≡ self.old.bench }
+        ensures appends { Appends X.is_settle self.old.all self.old self.new }
+        ensures whole { IsTrue result → self.new.published ≡ self.new.all }
+    {
+        self.try_again(rt);
+        !self.owes && self.ledger.publish(rt)
     }
 
     /// Gives out a job, if there is any work. Errors: K1, B1, want of memory; nothing is appended then.
     pub fn claim<W: Wait>(&mut self, rt: &W) -> Result<Option<Job<J, X>>, DeskFault<X::Fault>>
         ensures closed { (result ≡ Err DeskFault.Closed) ↔ (self.old.closed ≡ true) }
+        ensures spent { result ≡ Err (DeskFault.Claim ClaimFault.Spent) → LAST ≤ self.old.bench.taken }
         ensures err { OnErr result (IsRefusedTurn (meaning X.net X.is_valid X.since X.makes X.keeps X.edited) self.old self.new) }
         ensures given { IfOk result (λ r. IfSome r (λ j. Step (meaning X.net X.is_valid X.since X.makes X.keeps X.edited) self.old.bench (Claimed j.claim j.node j.given j.keys j.values) self.new.bench)) }
         ensures none { IfOk result (λ r. IfNone r (Step (meaning X.net X.is_valid X.since X.makes X.keeps X.edited) self.old.bench NoClaim self.new.bench)) }
@@ -184,9 +217,9 @@ impl<J: Naming + StoreName, X: BoardTexts, R: Wait + Drop> DeskState<J, X, R> {
         let job = match self.bench.claim(self.alloc) {
             Ok(job) => job,
             Err(ClaimFault::OutOfMemory) => return Err(DeskFault::OutOfMemory),
-            Err(fault) => return Err(DeskFault::Claim(fault)),
+            Err(ClaimFault::Spent) => return Err(DeskFault::Claim(ClaimFault::Spent)),
         };
-        let _posted = self.catch_up(rt);
+        self.try_again(rt);
         Ok(job)
     }
 
@@ -197,6 +230,7 @@ impl<J: Naming + StoreName, X: BoardTexts, R: Wait + Drop> DeskState<J, X, R> {
         done: Done<J, X>,
     ) -> Result<Taken, DeskFault<X::Fault>>
         ensures closed { (result ≡ Err DeskFault.Closed) ↔ (self.old.closed ≡ true) }
+        ensures only { OnErr result (self.old.closed ≡ true) }
         ensures err { OnErr result (self.new ≡ self.old) }
         ensures step { IfOk result (λ r. Step (meaning X.net X.is_valid X.since X.makes X.keeps X.edited) self.old.bench (Returned done r.finish) self.new.bench) }
         ensures appends { OnOk result (Appends X.is_settle self.old.all self.old self.new) }
@@ -213,6 +247,7 @@ impl<J: Naming + StoreName, X: BoardTexts, R: Wait + Drop> DeskState<J, X, R> {
     /// Closes a claim, and says whether it was out. Errors: K1.
     pub fn lose<W: Wait>(&mut self, rt: &W, claim: u64) -> Result<bool, DeskFault<X::Fault>>
         ensures closed { (result ≡ Err DeskFault.Closed) ↔ (self.old.closed ≡ true) }
+        ensures only { OnErr result (self.old.closed ≡ true) }
         ensures err { OnErr result (self.new ≡ self.old) }
         ensures step { IfOk result (λ r. Step (meaning X.net X.is_valid X.since X.makes X.keeps X.edited) self.old.bench (Lost claim r) self.new.bench) }
         ensures appends { OnOk result (Appends X.is_settle self.old.all self.old self.new) }
@@ -221,13 +256,15 @@ impl<J: Naming + StoreName, X: BoardTexts, R: Wait + Drop> DeskState<J, X, R> {
             return Err(DeskFault::Closed);
         }
         let lost = self.bench.lose(claim);
-        let _posted = self.catch_up(rt);
+        self.changes = self.changes.wrapping_add(1);
+        self.try_again(rt);
         Ok(lost)
     }
 
     /// Forgets all that was computed, and closes every claim. Errors: K1.
     pub fn renew<W: Wait>(&mut self, rt: &W) -> Result<(), DeskFault<X::Fault>>
         ensures closed { (result ≡ Err DeskFault.Closed) ↔ (self.old.closed ≡ true) }
+        ensures only { OnErr result (self.old.closed ≡ true) }
         ensures err { OnErr result (self.new ≡ self.old) }
         ensures step { OnOk result (Step (meaning X.net X.is_valid X.since X.makes X.keeps X.edited) self.old.bench Renewed self.new.bench) }
         ensures appends { OnOk result (Appends X.is_settle self.old.all self.old self.new) }
@@ -236,7 +273,8 @@ impl<J: Naming + StoreName, X: BoardTexts, R: Wait + Drop> DeskState<J, X, R> {
             return Err(DeskFault::Closed);
         }
         self.bench.renew();
-        let _posted = self.catch_up(rt);
+        self.changes = self.changes.wrapping_add(1);
+        self.try_again(rt);
         Ok(())
     }
 
@@ -248,6 +286,7 @@ impl<J: Naming + StoreName, X: BoardTexts, R: Wait + Drop> DeskState<J, X, R> {
         me: &mut Viewer<J, X>,
     ) -> Result<Settling, DeskFault<X::Fault>>
         ensures closed { (result ≡ Err DeskFault.Closed) ↔ (self.old.closed ≡ true) }
+        ensures only { OnErr result (self.old.closed ≡ false → length self.old.all < length me.old) }
         ensures err { OnErr result ((self.new ≡ self.old) × (me.new ≡ me.old)) }
         ensures bench { self.new.bench ≡ self.old.bench }
         ensures appends { OnOk result (Appends X.is_settle self.old.all self.old self.new) }
@@ -259,11 +298,11 @@ impl<J: Naming + StoreName, X: BoardTexts, R: Wait + Drop> DeskState<J, X, R> {
         if !me.is_behind(self.ledger.front()) {
             return Err(DeskFault::NoSeat);
         }
-        if self.catch_up(rt) == Posted::Later {
+        if !self.show_all(rt) {
             return Ok(Settling::Refused);
         }
         if !self.ledger.is_settled() {
-            return Ok(Settling::Waits);
+            return Ok(Settling::Waits(self.changes));
         }
         me.tell(self.ledger.front());
         Ok(Settling::Done)
@@ -288,13 +327,20 @@ impl<J: Naming + StoreName, X: BoardTexts, R: Wait + Drop> DeskState<J, X, R> {
     /// From now on each call is refused. Errors: K1, if it was closed.
     pub fn close(&mut self) -> Result<(), DeskFault<X::Fault>>
         ensures closed { (result ≡ Err DeskFault.Closed) ↔ (self.old.closed ≡ true) }
+        ensures only { OnErr result (self.old.closed ≡ true) }
         ensures now { self.new ≡ held self.old.bench self.old.all self.old.published self.old.spare true }
     {
         if self.closed {
             return Err(DeskFault::Closed);
         }
+        self.changes = self.changes.wrapping_add(1);
         self.closed = true;
         Ok(())
+    }
+
+    /// Whether nothing changed since there were so many changes, and something still may.
+    pub(crate) fn is_unchanged(&self, changes: u64) -> bool {
+        self.changes == changes && !self.closed
     }
 }
 
@@ -305,6 +351,8 @@ impl<J: Naming + StoreName, X: BoardTexts, R: Wait + Drop> Drop for DeskState<J,
             ledger,
             seats: _,
             closed: _,
+            owes: _,
+            changes: _,
             alloc: _,
             rt,
         } = self;

@@ -1,14 +1,17 @@
 //! The checks of a model over the candidates of a test.
 
-ghost use Rattle.std.specs.Prelude.{◌≡◌, IfOk, IfSome, MatchOption, None, Some, length, slice_get};
+ghost use Rattle.std.specs.Prelude.{◌≡◌, IfOk, IfSome, MatchOption, None, Some, length, option_to_list, slice_get};
 ghost use Rattle.std.specs.List.{All};
 ghost use Rattle.check_witness.specs.Refusals.{IsRefusal};
-ghost use Rattle.reasons.specs.Checked.{AcceptBelow, IsChecked, IsFirstRefusal};
+ghost use Rattle.factor_walks.specs.Values.{AreFactorValues};
+ghost use Rattle.reasons.specs.Checked.{AcceptBelow, IsChecked, IsFirstRefusal, check_indexes, index_if, is_check, items_of};
 
 use binding_graph::{CheckCode, ResolvedItem, Role};
 use candidates::Space;
 use cat_eval::Column;
+use cat_values::CheckWord;
 use check_witness::{Witness, expression_column, refusal_of};
+use factor_walks::{FactorValues, factor_values};
 use memo_graph::inputs;
 use std::alloc::{AllocError, Global};
 
@@ -21,6 +24,8 @@ pub struct CheckValues<'a> {
     pub check: &'a CheckCode,
     /// The values of its expression in all candidates.
     pub values: Column,
+    /// Where `irreflexive` is asked, the factors of its expression, with their values.
+    pub factors: Vec<FactorValues>,
 }
 
 /// The first check that refuses a candidate.
@@ -32,6 +37,22 @@ pub struct FirstRefusal {
     pub witness: Witness,
 }
 
+// The factors of an expression of which `irreflexive` is asked.
+fn factors_of(
+    alloc: Global,
+    check: &CheckCode,
+    space: &Space,
+    inputs: &[&Column],
+) -> Result<Vec<FactorValues>, AllocError>
+    ensures { IfOk result (λ v. check.now.word ≡ CheckWord.Irreflexive → AreFactorValues check.now.code inputs.now space.now v.items) }
+{
+    match check.word {
+        CheckWord::Irreflexive => factor_values(alloc, &check.code, space, inputs),
+        CheckWord::Acyclic => Ok(Vec::new(alloc)),
+        CheckWord::Empty => Ok(Vec::new(alloc)),
+    }
+}
+
 // The check that an item is, with the values of its expression.
 fn checked<'a>(
     alloc: Global,
@@ -41,14 +62,18 @@ fn checked<'a>(
     item: &ResolvedItem,
     check: &'a CheckCode,
 ) -> Result<CheckValues<'a>, AllocError>
-    ensures { IfOk result (λ c. (items : _) → slice_get items index ≡ Some item.now → item.now.role ≡ Role.Check check.now → check.now.flag ≡ None → IsChecked space.now columns.now items c) }
+    ensures checked { IfOk result (λ c. (items : _) → slice_get items index ≡ Some item.now → item.now.role ≡ Role.Check check.now → check.now.flag ≡ None → IsChecked space.now columns.now items c) }
+    ensures item { IfOk result (λ c. c.item ≡ index) }
 {
-    let inputs = inputs(alloc, columns, item)?;
-    let values = expression_column(alloc, &check.code, space, &inputs)?;
+    let found = inputs(alloc, columns, item)?;
+    let inputs = found.as_slice();
+    let values = expression_column(alloc, &check.code, space, inputs)?;
+    let factors = factors_of(alloc, check, space, inputs)?;
     Ok(CheckValues {
         item: index,
         check,
         values,
+        factors,
     })
 }
 
@@ -60,7 +85,8 @@ fn check_of<'a>(
     index: usize,
     item: &'a ResolvedItem,
 ) -> Result<Option<CheckValues<'a>>, AllocError>
-    ensures { IfOk result (λ found. IfSome found (λ c. (items : _) → slice_get items index ≡ Some item.now → IsChecked space.now columns.now items c)) }
+    ensures checked { IfOk result (λ found. IfSome found (λ c. (items : _) → slice_get items index ≡ Some item.now → IsChecked space.now columns.now items c)) }
+    ensures all { IfOk result (λ found. items_of (option_to_list found) ≡ index_if (is_check item.now.role) index) }
 {
     match &item.role {
         Role::Check(check) => match &check.flag {
@@ -79,7 +105,8 @@ pub fn all_checks<'a>(
     columns: &[Vec<Column>],
     items: &'a [ResolvedItem],
 ) -> Result<Vec<CheckValues<'a>>, AllocError>
-    ensures { IfOk result (λ v. All (IsChecked space.now columns.now items.now) v.items) }
+    ensures each { IfOk result (λ v. All (IsChecked space.now columns.now items.now) v.items) }
+    ensures all { IfOk result (λ v. items_of v.items ≡ check_indexes 0 items.now) }
 {
     let mut checks = Vec::new(alloc);
     for index in 0..items.len() {

@@ -4,7 +4,6 @@ ghost use Rattle.std.specs.Prelude.{◌≡◌, IfOk};
 ghost use Rattle.std.specs.List.{All};
 ghost use Rattle.reasons.specs.Language.{IsOfLanguage};
 
-use crate::checks::CheckValues;
 use binding_graph::{Code, Input, Kind, ResolvedItem, Role, Source, Step};
 use candidates::Space;
 use cat_values::{PREDEFINED, Predefined};
@@ -67,18 +66,19 @@ fn inputs_at(items: &[ResolvedItem], index: usize) -> &[Input] {
     }
 }
 
-/// The innermost name of the check's expression that relates the two events, as a model writes it;
-/// nothing where none does. Errors: want of memory.
+/// The innermost name of an expression of the item at an index that relates the two events, as a model
+/// writes it; nothing where none does. Errors: want of memory.
 pub fn label(
     alloc: Global,
     items: &[ResolvedItem],
     values: &NameValues<'_>,
-    check: &CheckValues<'_>,
+    item: usize,
+    code: &Code,
     pair: EventPair,
 ) -> Result<Vec<u8>, AllocError> {
-    let inputs = inputs_at(items, check.item);
-    let names = operands(alloc, check.item, inputs, &check.check.code)?;
-    match innermost(alloc, items, values, &names, check.item, pair)? {
+    let inputs = inputs_at(items, item);
+    let names = operands(alloc, item, inputs, code)?;
+    match innermost(alloc, items, values, &names, item, pair)? {
         Some(name) => Vec::from_slice(alloc, name_bytes(items, name)),
         None => Ok(Vec::new(alloc)),
     }

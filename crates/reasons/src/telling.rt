@@ -2,11 +2,13 @@
 
 use crate::checks::{CheckValues, FirstRefusal};
 use crate::labels::label;
-use binding_graph::ResolvedItem;
+use binding_graph::{Code, ResolvedItem};
+use bit_relations::MAX_EVENTS;
 use candidates::Event;
 use cat_printing::print_item;
 use cat_values::Item;
 use check_witness::Witness;
+use factor_walks::{FactorValues, links_at, walk};
 use ppc_semantics::Instruction;
 use reason_text::{Reason, ToldEvent, ToldStep};
 use std::alloc::{AllocError, Global};
@@ -63,53 +65,95 @@ pub fn told_events(
     Ok(events)
 }
 
-fn step(
-    alloc: Global,
-    judged: Judged<'_>,
-    check: &CheckValues<'_>,
-    pair: EventPair,
-) -> Result<ToldStep, AllocError> {
-    Ok(ToldStep {
-        label: label(alloc, judged.items, &judged.values, check, pair)?,
-        to: pair.to,
-    })
+// Where a step of a reason begins, and of which expression it is a step.
+#[derive(Clone, Copy)]
+struct Leg<'a> {
+    from: usize,
+    code: &'a Code,
 }
 
-// From each event to the next, and from the last to the first.
-fn steps_round(
+// The steps of the legs, the last of which leads to an event.
+fn steps_of(
     alloc: Global,
     judged: Judged<'_>,
-    check: &CheckValues<'_>,
+    item: usize,
     candidate: usize,
-    events: &[usize],
+    legs: &[Leg<'_>],
+    end: usize,
 ) -> Result<Vec<ToldStep>, AllocError> {
     let mut steps = Vec::new(alloc);
-    for index in 0..events.len() {
-        let from = events[index];
-        let to = if index + 1 < events.len() {
-            events[index + 1]
+    for index in 0..legs.len() {
+        let from = legs[index].from;
+        let to = if index + 1 < legs.len() {
+            legs[index + 1].from
         } else {
-            events[0]
+            end
         };
         let pair = EventPair {
             candidate,
             from,
             to,
         };
-        steps.push(step(alloc, judged, check, pair)?)?;
+        let code = legs[index].code;
+        let label = label(alloc, judged.items, &judged.values, item, code, pair)?;
+        steps.push(ToldStep { label, to })?;
     }
     Ok(steps)
 }
 
-fn one_step(
+// A leg from each of the events.
+fn legs_from<'a>(
     alloc: Global,
-    judged: Judged<'_>,
-    check: &CheckValues<'_>,
-    pair: EventPair,
-) -> Result<Vec<ToldStep>, AllocError> {
-    let mut steps = Vec::new(alloc);
-    steps.push(step(alloc, judged, check, pair)?)?;
-    Ok(steps)
+    code: &'a Code,
+    events: &[usize],
+) -> Result<Vec<Leg<'a>>, AllocError> {
+    let mut legs = Vec::new(alloc);
+    for event in events {
+        let from = *event;
+        legs.push(Leg { from, code })?;
+    }
+    Ok(legs)
+}
+
+// The legs of a walk through factors, by the events where the steps of each begin.
+fn legs_through<'a>(
+    alloc: Global,
+    factors: &'a [FactorValues],
+    runs: &[Vec<usize>],
+) -> Result<Vec<Leg<'a>>, AllocError> {
+    let mut legs = Vec::new(alloc);
+    for index in 0..factors.len() {
+        if let Some(run) = runs.get(index) {
+            let code = &factors[index].code;
+            for event in run {
+                let from = *event;
+                legs.push(Leg { from, code })?;
+            }
+        }
+    }
+    Ok(legs)
+}
+
+// From an event through the factors of the check's expression back to it; in one step where no factor
+// takes any.
+fn legs_back<'a>(
+    alloc: Global,
+    check: &'a CheckValues<'_>,
+    told: Told<'_>,
+    event: usize,
+) -> Result<Vec<Leg<'a>>, AllocError> {
+    if told.events.len() > MAX_EVENTS {
+        return legs_from(alloc, &check.check.code, &[event]);
+    }
+    let links = links_at(alloc, &check.factors, told.candidate)?;
+    let found = walk(alloc, &links, told.events.len(), event, event)?;
+    if let Some(runs) = found {
+        let legs = legs_through(alloc, &check.factors, &runs)?;
+        if !legs.is_empty() {
+            return Ok(legs);
+        }
+    }
+    legs_from(alloc, &check.check.code, &[event])
 }
 
 // The check, as the model writes it.
@@ -124,52 +168,58 @@ fn check_text(
     }
 }
 
-// The steps that the witness shows.
-fn steps_of(
+// The legs that the witness shows.
+fn legs_of<'a>(
     alloc: Global,
-    judged: Judged<'_>,
-    check: &CheckValues<'_>,
-    candidate: usize,
+    check: &'a CheckValues<'_>,
+    told: Told<'_>,
     witness: &Witness,
-) -> Result<Vec<ToldStep>, AllocError> {
+) -> Result<Vec<Leg<'a>>, AllocError> {
     match witness {
-        Witness::Cycle(events) => steps_round(alloc, judged, check, candidate, events),
-        Witness::Reflexive(event) => {
-            let from = *event;
-            one_step(
-                alloc,
-                judged,
-                check,
-                EventPair {
-                    candidate,
-                    from,
-                    to: from,
-                },
-            )
-        }
-        Witness::Pair(from, to) => one_step(
-            alloc,
-            judged,
-            check,
-            EventPair {
-                candidate,
-                from: *from,
-                to: *to,
-            },
-        ),
+        Witness::Cycle(events) => legs_from(alloc, &check.check.code, events),
+        Witness::Reflexive(event) => legs_back(alloc, check, told, *event),
+        Witness::Pair(from, _) => legs_from(alloc, &check.check.code, &[*from]),
         Witness::Member(_) | Witness::Met => Ok(Vec::new(alloc)),
     }
 }
 
-// The numbers of the events that the witness shows.
-fn numbers_of(alloc: Global, witness: &Witness) -> Result<Vec<usize>, AllocError> {
+// Where the steps begin and where they end.
+fn ends_of(witness: &Witness) -> Option<(usize, usize)> {
     match witness {
-        Witness::Cycle(events) => Vec::from_slice(alloc, events),
-        Witness::Reflexive(event) => Vec::from_slice(alloc, &[*event]),
-        Witness::Pair(from, to) => Vec::from_slice(alloc, &[*from, *to]),
-        Witness::Member(event) => Vec::from_slice(alloc, &[*event]),
-        Witness::Met => Ok(Vec::new(alloc)),
+        Witness::Cycle(events) => match events.first() {
+            Some(event) => Some((*event, *event)),
+            None => None,
+        },
+        Witness::Reflexive(event) | Witness::Member(event) => Some((*event, *event)),
+        Witness::Pair(from, to) => Some((*from, *to)),
+        Witness::Met => None,
     }
+}
+
+// Adds an event, if it is not among them.
+fn add_new(numbers: &mut Vec<usize>, event: usize) -> Result<(), AllocError> {
+    if !numbers.contains(&event) {
+        numbers.push(event)?;
+    }
+    Ok(())
+}
+
+// The events where the steps begin and end, each once.
+fn numbers_of(
+    alloc: Global,
+    ends: Option<(usize, usize)>,
+    legs: &[Leg<'_>],
+) -> Result<Vec<usize>, AllocError> {
+    let mut numbers = Vec::new(alloc);
+    let Some((first, last)) = ends else {
+        return Ok(numbers);
+    };
+    add_new(&mut numbers, first)?;
+    for leg in legs {
+        add_new(&mut numbers, leg.from)?;
+    }
+    add_new(&mut numbers, last)?;
+    Ok(numbers)
 }
 
 /// Why the check refuses the candidate. Errors: want of memory.
@@ -180,11 +230,20 @@ pub fn reason(
     check: &CheckValues<'_>,
     refusal: &FirstRefusal,
 ) -> Result<Reason, AllocError> {
-    let numbers = numbers_of(alloc, &refusal.witness)?;
+    let legs = legs_of(alloc, check, told, &refusal.witness)?;
+    let ends = ends_of(&refusal.witness);
+    let numbers = numbers_of(alloc, ends, &legs)?;
+    let (first, steps) = match ends {
+        Some((first, last)) => (
+            Some(first),
+            steps_of(alloc, judged, check.item, told.candidate, &legs, last)?,
+        ),
+        None => (None, Vec::new(alloc)),
+    };
     Ok(Reason {
         check: check_text(alloc, judged, check)?,
         events: told_events(alloc, told, &numbers)?,
-        first: numbers.first().copied(),
-        steps: steps_of(alloc, judged, check, told.candidate, &refusal.witness)?,
+        first,
+        steps,
     })
 }

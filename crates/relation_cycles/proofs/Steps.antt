@@ -8,7 +8,7 @@ use Rattle.bit_relations.specs.Relation.{Relation, Has, IsRegular, IsRelation, r
 use Rattle.std.specs.List.{Contains}
 use Rattle.bit_relations.proofs.Laws.{grows}
 use Rattle.bit_relations.proofs.Paths.{Path-append}
-use Rattle.relation_cycles.specs.Cycles.{IsCycle, IsCycleFrom, IsShortestCycle, IsShortestThrough, IsReachableIn, AreLevels, IsWhole}
+use Rattle.relation_cycles.specs.Cycles.{IsPathFrom, IsShortestPath, IsCycle, IsCycleFrom, IsShortestCycle, IsShortestThrough, IsReachableIn, AreLevels, IsWhole}
 
 pub IsReachableIn-more : (R : ℕ → ℕ → Type 0) (k a b : ℕ) → IsReachableIn R k a b → IsReachableIn R (k + 1) a b
 IsReachableIn-more R k a b w = let lt : length w.through < k = w.short in record { through = w.through; short = omega arith; path = w.path }
@@ -47,13 +47,13 @@ pub record IsAhead (R S : ℕ → ℕ → Type 0) (a b n event : ℕ) : Type 0 w
   pub right : S middle b
   pub ahead : event ≤ middle
 
--- what stands in the list leads from the event to the present one, from which so many steps lead back
-pub record IsTraced (R : ℕ → ℕ → Type 0) (event steps : ℕ) (events : List ℕ) (at left : ℕ) : Type 0 where
-  pub back : IsReachableIn R left at event
+-- what stands in the list leads from the event to the present one, from which so many steps lead to the other
+pub record IsTraced (R : ℕ → ℕ → Type 0) (event to steps : ℕ) (events : List ℕ) (at left : ℕ) : Type 0 where
+  pub ahead : IsReachableIn R left at to
   pub short : length events + left ≤ steps + 1
   pub tail : List ℕ
   pub begins : events ≡ event ∷ tail
-  pub leads : (rest : List ℕ) → Path R at rest event → Path R event (tail ++ rest) event
+  pub leads : (rest : List ℕ) → Path R at rest to → Path R event (tail ++ rest) to
 
 -- a level and the step after it
 pub next_is : (r level product next : Relation) → IsRelation product r.count (Composed (Has r) (Has level)) → IsRelation next product.count (Union (Has product) (Has r)) → (k : ℕ) → IsRelation level r.count (IsReachableIn (Has r) k) → IsRelation next r.count (IsReachableIn (Has r) (k + 1))
@@ -135,7 +135,7 @@ module _ (r : Relation) (levels : List Relation) (all : AreLevels (Has r) r.coun
   pub none_at : ((j : ℕ) → j < k → (a : ℕ) → IsReachableIn (Has r) j a a → ⊥) → ((a : ℕ) → Has level a a → ⊥) → (j : ℕ) → j < k + 1 → (a : ℕ) → IsReachableIn (Has r) j a a → ⊥
   none_at before here = below_more (λ (j : ℕ). (a : ℕ) → IsReachableIn (Has r) j a a → ⊥) k before (λ a w. here a ((level_is.pairs a a).1 w))
 
-module _ (R : ℕ → ℕ → Type 0) (event steps : ℕ) (events : List ℕ) (at left : ℕ) (t : IsTraced R event steps events at left) where
+module _ (R : ℕ → ℕ → Type 0) (event to steps : ℕ) (events : List ℕ) (at left : ℕ) (t : IsTraced R event to steps events at left) where
   pub left_below : left ≤ steps
   left_below =
       let e : length events ≡ length (event ∷ t.tail) = ap length t.begins in
@@ -143,21 +143,21 @@ module _ (R : ℕ → ℕ → Type 0) (event steps : ℕ) (events : List ℕ) (a
       omega arith
 
   pub left_some : 0 < left
-  left_some = let short : length t.back.through < left = t.back.short in omega arith
+  left_some = let short : length t.ahead.through < left = t.ahead.short in omega arith
 
-  module _ (other : R at event → ⊥) where
-    pub steps_on : Composed R (IsReachableIn R (left - 1)) at event
+  module _ (other : R at to → ⊥) where
+    pub steps_on : Composed R (IsReachableIn R (left - 1)) at to
     steps_on =
         let some : 0 < left = left_some in
         let e : left ≡ (left - 1) + 1 = omega arith in
-        elim (IsReachableIn-split R (left - 1) at event (subst (λ (n : ℕ). IsReachableIn R n at event) e t.back)) [
+        elim (IsReachableIn-split R (left - 1) at to (subst (λ (n : ℕ). IsReachableIn R n at to) e t.ahead)) [
           | inl here ↦ absurd (other here)
           | inr on ↦ on
         ]
 
-  pub traced : (next : ℕ) → R at next → IsReachableIn R (left - 1) next event → IsTraced R event steps (events ++ next ∷ []) next (left - 1)
-  traced next r back = record {
-    back = back;
+  pub traced : (next : ℕ) → R at next → IsReachableIn R (left - 1) next to → IsTraced R event to steps (events ++ next ∷ []) next (left - 1)
+  traced next r ahead = record {
+    ahead = ahead;
     short =
         let e : length (events ++ next ∷ []) ≡ length events + 1 = length-append events (next ∷ []) in
         let some : 0 < left = left_some in
@@ -168,8 +168,8 @@ module _ (R : ℕ → ℕ → Type 0) (event steps : ℕ) (events : List ℕ) (a
     leads = λ rest p. rw append_assoc (t.leads (next ∷ rest) (r, p));
   }
 
-  pub closes : R at event → IsCycleFrom R event events
-  closes r = rw t.begins (refl, subst (λ (xs : List ℕ). Path R event xs event) (append-nil t.tail) (t.leads [] r))
+  pub closes : R at to → IsPathFrom R event to events
+  closes r = rw t.begins (refl, subst (λ (xs : List ℕ). Path R event xs to) (append-nil t.tail) (t.leads [] r))
 
 -- a list with an event has a front and a back
 record IsCut (xs : List ℕ) (a : ℕ) : Type 0 where
@@ -207,12 +207,22 @@ shortest_through R event steps events cycle short none = record { cycle = cycle;
           | inl gt ↦ absurd (none (length others) (omega arith) (record { through = parts.back ++ parts.front; short = omega arith; path = rotated R parts.front event parts.back (subst (λ (xs : List ℕ). IsCycle R xs) parts.parts other) }))
         ]
 
+pub shortest_path : (R : ℕ → ℕ → Type 0) (from to steps : ℕ) (events : List ℕ) → IsPathFrom R from to events → length events ≤ steps → ((k : ℕ) → k < steps → IsReachableIn R k from to → ⊥) → IsShortestPath R from to events
+shortest_path R from to steps events path short none = record { path = path; least = least }
+  where
+    least : (others : List ℕ) → IsPathFrom R from to others → length events ≤ length others
+    least [] other = absurd other
+    least (x ∷ xs) other = elim (cases_lt (length (x ∷ xs)) (length events)) [
+      | inr le ↦ le
+      | inl gt ↦ absurd (none (length (x ∷ xs)) (omega arith) (record { through = xs; short = omega arith; path = subst (λ (y : ℕ). Path R y xs to) other.0 other.1 }))
+    ]
+
 pub shortest : (R : ℕ → ℕ → Type 0) (event steps : ℕ) (events : List ℕ) → IsCycleFrom R event events → length events ≤ steps → ((k : ℕ) → k < steps → (a : ℕ) → IsReachableIn R k a a → ⊥) → IsShortestCycle R events
 shortest R event steps events cycle short none = record { cycle = is_cycle events cycle; least = least }
   where
     is_cycle : (xs : List ℕ) → IsCycleFrom R event xs → IsCycle R xs
     is_cycle [] c = c
-    is_cycle (x ∷ xs) c = c.1
+    is_cycle (x ∷ xs) c = subst (λ (y : ℕ). Path R x xs y) (sym c.0) c.1
 
     least : (others : List ℕ) → IsCycle R others → length events ≤ length others
     least [] other = absurd other

@@ -8,10 +8,19 @@ abbrev pub IsCycle : (ℕ → ℕ → Type 0) → List ℕ → Type 0
 IsCycle R [] = ⊥
 IsCycle R (x ∷ xs) = Path R x xs x
 
+-- the events where the steps of a path begin, the first event first
+abbrev pub IsPathFrom : (ℕ → ℕ → Type 0) → ℕ → ℕ → List ℕ → Type 0
+IsPathFrom R a b [] = ⊥
+IsPathFrom R a b (x ∷ xs) = (x ≡ a) × Path R x xs b
+
+-- a path such that none from that event to the other has fewer steps
+pub record IsShortestPath (R : ℕ → ℕ → Type 0) (a b : ℕ) (events : List ℕ) : Type 0 where
+  pub path : IsPathFrom R a b events
+  pub least : (others : List ℕ) → IsPathFrom R a b others → length events ≤ length others
+
 -- a cycle that begins at an event
 abbrev pub IsCycleFrom : (ℕ → ℕ → Type 0) → ℕ → List ℕ → Type 0
-IsCycleFrom R a [] = ⊥
-IsCycleFrom R a (x ∷ xs) = (x ≡ a) × Path R x xs x
+IsCycleFrom R a events = IsPathFrom R a a events
 
 -- a cycle such that none has fewer steps
 pub record IsShortestCycle (R : ℕ → ℕ → Type 0) (events : List ℕ) : Type 0 where

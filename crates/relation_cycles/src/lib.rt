@@ -1,4 +1,4 @@
-//! Why a relation fails a check: a shortest cycle, an event related to itself, a pair.
+//! Why a relation fails a check: a shortest cycle or path, an event related to itself, a pair.
 //!
 //! Paths are searched breadth first over rows of bits, from all events at once. Definitions: specs/Cycles.
 #![tactic(auto)]
@@ -6,7 +6,7 @@
 ghost use Rattle.std.specs.Prelude.{◌≡◌, ℕ, ◌<◌, ◌≤◌, ◌+◌, length, slice_index_or, IfOk, MatchOption};
 ghost use Rattle.bit_relations.specs.Pairs.{Composed, Plus, IsAcyclic, IsEmpty, IsIrreflexive};
 ghost use Rattle.bit_relations.specs.Relation.{Has, IsRegular, IsRelation, no_slot};
-ghost use Rattle.relation_cycles.specs.Cycles.{IsCycleFrom, IsShortestCycle, IsShortestThrough, IsReachableIn, AreLevels, IsWhole, IsFirstReflexive, IsLeastPair};
+ghost use Rattle.relation_cycles.specs.Cycles.{IsPathFrom, IsShortestPath, IsShortestCycle, IsShortestThrough, IsReachableIn, AreLevels, IsWhole, IsFirstReflexive, IsLeastPair};
 
 use bit_relations::Rel;
 use std::alloc::{AllocError, Global};
@@ -84,32 +84,55 @@ fn middle(left: &Rel, right: &Rel, from: usize, to: usize) -> usize
     event
 }
 
-/// A cycle from an event, of at most so many steps.
-fn cycle_within(
+/// The events where the steps of a path begin, of at most so many steps.
+fn path_within(
     alloc: Global,
     relation: &Rel,
     levels: &[Rel],
-    event: usize,
+    from: usize,
+    to: usize,
     steps: usize,
 ) -> Result<Vec<usize>, AllocError>
     requires regular { IsRegular relation.now }
     requires levels { AreLevels (Has relation.now) relation.now.count levels.now }
     requires steps { steps < length levels.now }
-    requires some { IsReachableIn (Has relation.now) steps event event }
-    requires inside { event < relation.now.count }
-    ensures cycle { IfOk result (λ v. IsCycleFrom (Has relation.now) event v.items) }
+    requires some { IsReachableIn (Has relation.now) steps from to }
+    requires inside { to < relation.now.count }
+    ensures path { IfOk result (λ v. IsPathFrom (Has relation.now) from to v.items) }
     ensures short { IfOk result (λ v. length v.items ≤ steps) }
 {
-    let mut cycle = Vec::new(alloc);
-    cycle.push(event)?;
-    let mut at = event;
+    let mut path = Vec::new(alloc);
+    path.push(from)?;
+    let mut at = from;
     let mut left = steps;
-    'tracing: while !relation.contains(at, event) {
+    'tracing: while !relation.contains(at, to) {
         left -= 1;
-        at = middle(relation, &levels[left], at, event);
-        cycle.push(at)?;
+        at = middle(relation, &levels[left], at, to);
+        path.push(at)?;
     }
-    Ok(cycle)
+    Ok(path)
+}
+
+/// A shortest path from one event to another, as the events where its steps begin.
+pub fn shortest_path(
+    alloc: Global,
+    relation: &Rel,
+    from: usize,
+    to: usize,
+) -> Result<Option<Vec<usize>>, AllocError>
+    requires from { from < relation.now.count }
+    requires to { to < relation.now.count }
+    ensures { IfOk result (λ found. MatchOption found (Plus (Has relation.now) from to → ⊥) (λ v. IsShortestPath (Has relation.now) from to v.items)) }
+{
+    let _regular = relation.count();
+    let levels = levels_of(alloc, relation)?;
+    for steps in 0..levels.len() {
+        if levels[steps].contains(from, to) {
+            let path = path_within(alloc, relation, &levels, from, to, steps)?;
+            return Ok(Some(path));
+        }
+    }
+    Ok(None)
 }
 
 /// A shortest cycle of those through an event, which it begins with.
@@ -125,7 +148,7 @@ pub fn cycle_through(
     let levels = levels_of(alloc, relation)?;
     for steps in 0..levels.len() {
         if levels[steps].contains(event, event) {
-            let cycle = cycle_within(alloc, relation, &levels, event, steps)?;
+            let cycle = path_within(alloc, relation, &levels, event, event, steps)?;
             return Ok(Some(cycle));
         }
     }
@@ -140,7 +163,7 @@ pub fn shortest_cycle(alloc: Global, relation: &Rel) -> Result<Option<Vec<usize>
     let levels = levels_of(alloc, relation)?;
     for steps in 0..levels.len() {
         if let Some(event) = first_reflexive(&levels[steps]) {
-            let cycle = cycle_within(alloc, relation, &levels, event, steps)?;
+            let cycle = path_within(alloc, relation, &levels, event, event, steps)?;
             return Ok(Some(cycle));
         }
     }

@@ -27,18 +27,18 @@ round_arises r way without old new h before es pairs shows x m =
     between y k = elim ((h.stores.members y).0 k) [
       | inl was ↦ before es pairs shows y was
       | inr t ↦
-          let listed : Contains (numbers is_store 0 es) y = subst (λ (z : ℕ). Contains (numbers is_store 0 es) z) (sym t.holds.1) (contains_at (numbers is_store 0 es) t.place t.item.event (mapped_at store_event r.stores.items (numbers is_store 0 es) t.place t.item shows.stores t.there)) in
-          stored listed (λ a need. before es pairs shows a (t.holds.2.1 a (((shows.needs t.place t.item t.there).members a).1 (subst (λ (z : ℕ). (accesses_in es pairs).Need a z) t.holds.1 need))))
+          let listed : Contains (numbers is_store 0 es) y = subst (λ (z : ℕ). Contains (numbers is_store 0 es) z) (sym t.holds.1) (contains_at (numbers is_store 0 es) t.index t.item.event (mapped_at store_event r.stores.items (numbers is_store 0 es) t.index t.item shows.stores t.there)) in
+          stored listed (λ a need. before es pairs shows a (t.holds.2.1 a (((shows.needs t.index t.item t.there).members a).1 (subst (λ (z : ℕ). (accesses_in es pairs).Need a z) t.holds.1 need))))
     ]
 
     loaded : Stepped load_event (CanArise way without h.between) h.between.count (length r.loads.items) r.loads.items x → Derived (accesses_in es pairs) way without x
     loaded t =
-        let at : slice_get (numbers is_load 0 es) t.place ≡ Some t.item.event = mapped_at load_event r.loads.items (numbers is_load 0 es) t.place t.item shows.loads t.there in
-        let within : t.place < length (numbers is_load 0 es) = slice_get_within (numbers is_load 0 es) t.place t.item.event at in
-        let is : x ≡ get_or (numbers is_load 0 es) t.place 0 = t.holds.1 ∙ sym (get_or_from_slice_get (numbers is_load 0 es) t.place t.item.event 0 at) in
+        let at : slice_get (numbers is_load 0 es) t.index ≡ Some t.item.event = mapped_at load_event r.loads.items (numbers is_load 0 es) t.index t.item shows.loads t.there in
+        let within : t.index < length (numbers is_load 0 es) = slice_get_within (numbers is_load 0 es) t.index t.item.event at in
+        let is : x ≡ get_or (numbers is_load 0 es) t.index 0 = t.holds.1 ∙ sym (get_or_from_slice_get (numbers is_load 0 es) t.index t.item.event 0 at) in
         elim t.holds.2.1 [
-          | inl said ↦ read t.place within t.holds.2.0 is said.0 (between (get_or way t.place 0) said.1)
-          | inr any ↦ chosen t.place any.1.1.0 within t.holds.2.0 is any.0 (((shows.sources t.place t.item t.there).members any.1.1.0).0 any.1.1.1) (between any.1.1.0 any.1.1.2)
+          | inl said ↦ read t.index within t.holds.2.0 is said.0 (between (get_or way t.index 0) said.1)
+          | inr any ↦ chosen t.index any.1.1.0 within t.holds.2.0 is any.0 (((shows.sources t.index t.item t.there).members any.1.1.0).0 any.1.1.1) (between any.1.1.0 any.1.1.2)
         ]
 
 -- where a round adds nothing, all is there that can arise
@@ -48,7 +48,7 @@ nothing_more es pairs r way without d shows count h x (stored st needs) =
     let b : Behind store_event r.stores.items n.0 x = behind_at store_event r.stores.items (numbers is_store 0 es) n.0 x shows.stores (element_at (numbers is_store 0 es) n.0 x n.1 ∙ ap (λ (y : ℕ). Some y) n.2) in
     let lt : x < d.count = subst (λ (k : ℕ). x < k) (sym (count ∙ shows.count)) ((proper es pairs).stores_within x st) in
     (h.loads.members x).1 (inl ((h.stores.members x).1 (inr (record {
-      place = n.0;
+      index = n.0;
       item = b.item;
       below = slice_get_within r.stores.items n.0 b.item b.there;
       there = b.there;
@@ -58,7 +58,7 @@ nothing_more es pairs r way without d shows count h x (read i lt other is within
     let b : Behind load_event r.loads.items i (get_or (numbers is_load 0 es) i 0) = behind_at load_event r.loads.items (numbers is_load 0 es) i (get_or (numbers is_load 0 es) i 0) shows.loads (element_at (numbers is_load 0 es) i 0 lt) in
     let below : x < h.between.count = subst (λ (k : ℕ). x < k) (sym (h.stores.count ∙ count ∙ shows.count)) (subst (λ (y : ℕ). y < length es) (sym is) ((proper es pairs).loads_within i lt)) in
     (h.loads.members x).1 (inr (record {
-      place = i;
+      index = i;
       item = b.item;
       below = slice_get_within r.loads.items i b.item b.there;
       there = b.there;
@@ -69,7 +69,7 @@ nothing_more es pairs r way without d shows count h x (chosen i s lt other is pa
     let below : x < h.between.count = subst (λ (k : ℕ). x < k) (sym (h.stores.count ∙ count ∙ shows.count)) (subst (λ (y : ℕ). y < length es) (sym is) ((proper es pairs).loads_within i lt)) in
     let sources : IsEvents b.item.sources r.count (Source (accesses_in es pairs) i) = shows.sources i b.item b.there in
     (h.loads.members x).1 (inr (record {
-      place = i;
+      index = i;
       item = b.item;
       below = slice_get_within r.loads.items i b.item b.there;
       there = b.there;

@@ -165,7 +165,7 @@ each_next others front m d long (x ∷ xs) inside = (
     there true b h = refl
     there false b h = h
 
--- one place more for each of the fronts
+-- one index more for each of the fronts
 each_round : (others : List ℕ) (m : ℕ) → AreDistinct others → (fs : List (List ℕ)) → EachLacks others (suc m) fs → EachLacks others m (flat_map (with_new others) fs)
 unfolding EachLacks lacking
 each_round others m d [] h = tt
@@ -182,7 +182,7 @@ round_length others m (f ∷ fs) h =
     let l : length (filter (λ s. not (has_store f s)) others) ≡ m = h.0 in
     omega (arith, a, b, c, s, l)
 
--- the orders of the first places
+-- the orders of the first positions
 rounds : ℕ → List ℕ → ℕ → List (List ℕ)
 rounds first others zero = (first ∷ []) ∷ []
 rounds first others (suc k) = flat_map (with_new others) (rounds first others k)
@@ -265,14 +265,14 @@ one_location_counted es n most count stores rows next before s r e apart =
     ∙ ap (λ (m : ℕ). min m most) (sym many)
     ∙ ap (λ (m : ℕ). min (length (all_orders es m)) most) k
 
-pub one_place_counted : (count places most rows next : ℕ) → rows ≡ min (rows_of count places) most → count - places ≤ most → next ≡ min (rows * (count - places)) most → next ≡ min (rows_of count (places + 1)) most
-one_place_counted count places most rows next before few e =
-    let k : suc places ≡ places + 1 = omega arith in
-    let f : count - places ≡ min (count - places) most = omega (arith, few) in
+pub one_position_counted : (count positions most rows next : ℕ) → rows ≡ min (rows_of count positions) most → count - positions ≤ most → next ≡ min (rows * (count - positions)) most → next ≡ min (rows_of count (positions + 1)) most
+one_position_counted count positions most rows next before few e =
+    let k : suc positions ≡ positions + 1 = omega arith in
+    let f : count - positions ≡ min (count - positions) most = omega (arith, few) in
     e
-    ∙ ap (λ (m : ℕ). min (m * (count - places)) most) before
-    ∙ ap (λ (m : ℕ). min (min (rows_of count places) most * m) most) f
-    ∙ product_up_to (rows_of count places) (count - places) most
+    ∙ ap (λ (m : ℕ). min (m * (count - positions)) most) before
+    ∙ ap (λ (m : ℕ). min (min (rows_of count positions) most * m) most) f
+    ∙ product_up_to (rows_of count positions) (count - positions) most
     ∙ ap (λ (m : ℕ). min (rows_of count m) most) k
 
 -- one event more among those that may be stores of the location
@@ -307,9 +307,9 @@ pub all_counted : (es : List Event) (location n end count : ℕ) → count ≡ l
 all_counted es location n end count is e le ge = is ∙ ap (λ (l : List ℕ). length l) (stores_are es {ys = numbers (is_thread_store location) 0 (take n es)} location n end refl e le ge)
 
 -- there is some order
-rows_positive : (count places : ℕ) → places ≤ count → 1 ≤ rows_of count places
+rows_positive : (count positions : ℕ) → positions ≤ count → 1 ≤ rows_of count positions
 rows_positive count zero le = omega arith
-rows_positive count (suc places) le = one-le-mul (rows_positive count places (omega (arith, le))) (omega (arith, le))
+rows_positive count (suc positions) le = one-le-mul (rows_positive count positions (omega (arith, le))) (omega (arith, le))
 
 pub some_order : (es : List Event) (n : ℕ) → AreApart es n → 1 ≤ length (all_orders es n)
 some_order es zero apart = omega arith

@@ -56,11 +56,11 @@ there_more derived xs i x at there before k y lt is = elim (cases_lt k i) [
     some_same h = cc
 
 -- what is next of one way more
-pub no_next : (r : Reading) (load : Load) (place : ℕ) (ways : List (List ℕ)) (vs : List (Vec ℕ Global)) → vs ≡ [] → AreNext r load place 0 ways (lists_of vs)
-no_next r load place ways vs e es pairs shows at fit = rw e none
+pub no_next : (r : Reading) (load : Load) (index : ℕ) (ways : List (List ℕ)) (vs : List (Vec ℕ Global)) → vs ≡ [] → AreNext r load index 0 ways (lists_of vs)
+no_next r load index ways vs e es pairs shows at fit = rw e none
 
-pub next_more : (r : Reading) (load : Load) (place i : ℕ) (ways : List (List ℕ)) (w : List ℕ) (mid new : List (List ℕ)) → i < length ways → w ≡ get_or ways i w → AreNext r load place i ways mid → GainsNext r load place w mid new → AreNext r load place (i + 1) ways new
-next_more r load place i ways w mid new lt is before gains es pairs shows at fit =
+pub next_more : (r : Reading) (load : Load) (index i : ℕ) (ways : List (List ℕ)) (w : List ℕ) (mid new : List (List ℕ)) → i < length ways → w ≡ get_or ways i w → AreNext r load index i ways mid → GainsNext r load index w mid new → AreNext r load index (i + 1) ways new
+next_more r load index i ways w mid new lt is before gains es pairs shows at fit =
     subst (λ (l : List (List ℕ)). IsFiltered P l new) (sym whole)
     (subst (λ (l : List (List ℕ)). IsFiltered P (flat_map N (take i ways) ++ N w) l) (sym gains.added)
     (IsFiltered-append P (flat_map N (take i ways)) mid (N w) gains.more (before es pairs shows at fit) (gains.next es pairs shows at here.0 here.1)))
@@ -69,10 +69,10 @@ next_more r load place i ways w mid new lt is before gains es pairs shows at fit
     P = IsPossible (accesses_in es pairs)
 
     N : List ℕ → List (List ℕ)
-    N = nexts (get_or (accesses_in es pairs).sources place [])
+    N = nexts (get_or (accesses_in es pairs).sources index [])
 
-    here : (length w ≡ place) × IsPossible (accesses_in es pairs) w
-    here = subst (λ (f : List ℕ). (length f ≡ place) × IsPossible (accesses_in es pairs) f) (sym is) (fit i w lt)
+    here : (length w ≡ index) × IsPossible (accesses_in es pairs) w
+    here = subst (λ (f : List ℕ). (length f ≡ index) × IsPossible (accesses_in es pairs) f) (sym is) (fit i w lt)
 
     whole : flat_map N (take (i + 1) ways) ≡ flat_map N (take i ways) ++ N w
     whole =

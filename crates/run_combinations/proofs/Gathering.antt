@@ -62,8 +62,8 @@ has_number test es n d b lt is = (
   (λ t. subst (λ (y : ℕ). Contains (numbers test 0 es) y) plain (number_there test 0 es n (get_or es n d) (slice_get-get_or es n d lt) (sym is ∙ (true_is b).0 t))),
   (λ c.
       let h : Numbered test 0 es n = contained test es n c in
-      let place : h.place ≡ n = omega (arith, h.is) in
-      let same : get_or es n d ≡ h.item = get_or_from_slice_get es n h.item d (ap (λ (k : ℕ). slice_get es k) (sym place) ∙ h.there) in
+      let index : h.index ≡ n = omega (arith, h.is) in
+      let same : get_or es n d ≡ h.item = get_or_from_slice_get es n h.item d (ap (λ (k : ℕ). slice_get es k) (sym index) ∙ h.there) in
       (true_is b).1 (is ∙ ap test same ∙ h.passes)),
 )
   where
@@ -73,7 +73,7 @@ has_number test es n d b lt is = (
 pub number_within : (test : Event → Bool) (es : List Event) (n : ℕ) → Contains (numbers test 0 es) n → n < length es
 number_within test es n c =
     let h : Numbered test 0 es n = contained test es n c in
-    let l : h.place < length es = slice_get_within es h.place h.item h.there in
+    let l : h.index < length es = slice_get_within es h.index h.item h.there in
     omega (arith, h.is, l)
 
 -- the sources of a load among the first events

@@ -19,7 +19,7 @@ use Rattle.run_combinations.specs.declared.layout.ThreadParts.{ThreadParts}
 use Rattle.run_combinations.specs.declared.part.Part.{Part}
 use Rattle.run_combinations.specs.declared.part.Sketch.{Sketch}
 
--- sketches of runs in their order, from this place on
+-- sketches of runs in their order, from this index on
 abbrev pub Facts : List Value → List Run → ℕ → List Sketch → Type 0
 Facts values runs least [] = Unit {0}
 Facts values runs least (s ∷ ss) = (least ≤ s.run) × IsSketch values runs s × Facts values runs (s.run + 1) ss

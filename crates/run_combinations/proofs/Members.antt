@@ -63,7 +63,7 @@ wider_grows s t c wider apart = elim (cases_lt s.word t.word) [
   | inr ge ↦ absurd (apart (same_parts s.count t.count s.word t.word c (omega (arith, ge, wider_is_more s t wider))))
 ]
 
--- one place more
+-- one index more
 pub one_step_more : {X : Type 0} (event : X → ℕ) (W : ℕ → X → Type 0) (B : ℕ → Type 0) (n i : ℕ) (xs : List X) (s : X) (b : Bool) (old new : Events) → slice_get xs i ≡ Some s → IsTrue b ↔ W i s → IsEvents old n (λ x. B x ⊎ Stepped event W n i xs x) → IsEvents new old.count (λ x. IsMember old x ⊎ ((x < old.count) × (x ≡ event s) × IsTrue b)) → IsEvents new n (λ x. B x ⊎ Stepped event W n (i + 1) xs x)
 one_step_more {X} event W B n i xs s b old new at test before step = record {
   count = step.count ∙ before.count;
@@ -72,16 +72,16 @@ one_step_more {X} event W B n i xs s b old new at test before step = record {
     (λ m. elim ((step.members x).0 m) [
       | inl was ↦ elim ((before.members x).0 was) [
         | inl base ↦ inl base
-        | inr t ↦ inr (record { place = t.place; item = t.item; below = omega (arith, t.below); there = t.there; holds = t.holds })
+        | inr t ↦ inr (record { index = t.index; item = t.item; below = omega (arith, t.below); there = t.there; holds = t.holds })
       ]
-      | inr now ↦ inr (record { place = i; item = s; below = omega arith; there = at; holds = (subst (λ (k : ℕ). x < k) before.count now.0, now.1, test.0 now.2) })
+      | inr now ↦ inr (record { index = i; item = s; below = omega arith; there = at; holds = (subst (λ (k : ℕ). x < k) before.count now.0, now.1, test.0 now.2) })
     ]),
     (λ m. (step.members x).1 (elim m [
       | inl base ↦ inl ((before.members x).1 (inl base))
-      | inr t ↦ elim (cases_lt t.place i) [
-        | inl lt ↦ inl ((before.members x).1 (inr (record { place = t.place; item = t.item; below = lt; there = t.there; holds = t.holds })))
+      | inr t ↦ elim (cases_lt t.index i) [
+        | inl lt ↦ inl ((before.members x).1 (inr (record { index = t.index; item = t.item; below = lt; there = t.there; holds = t.holds })))
         | inr ge ↦
-            let k : t.place ≡ i = omega (arith, ge, t.below) in
+            let k : t.index ≡ i = omega (arith, ge, t.below) in
             let e : t.item ≡ s = same_item (sym t.there ∙ ap (λ (j : ℕ). slice_get xs j) k ∙ at) in
             inr (subst (λ (j : ℕ). x < j) (sym before.count) t.holds.0, t.holds.1 ∙ ap event e, test.1 (subst (λ (y : X). W i y) e (subst (λ (j : ℕ). W j t.item) k t.holds.2)))
       ]

@@ -13,7 +13,7 @@ use Rattle.run_combinations.specs.declared.combination.Action.TheVariants.{Read,
 some_same : {X : Type 0} {u v : X} → Some u ≡ Some v → u ≡ v
 some_same h = cc
 
--- an element at a place
+-- an element at an index
 pub contains_at : (xs : List ℕ) (k x : ℕ) → slice_get xs k ≡ Some x → Contains xs x
 contains_at xs k x e = (k, slice_get_within xs k x e, get_or_from_slice_get xs k x x e)
 
@@ -40,21 +40,21 @@ element_at ys k d lt = elim (slice_get_cases ys k).1 [
 
 -- an event with its number
 pub record Numbered (test : Event → Bool) (at : ℕ) (es : List Event) (x : ℕ) : Type 0 where
-  pub place : ℕ
+  pub index : ℕ
   pub item : Event
-  pub there : slice_get es place ≡ Some item
-  pub is : x ≡ at + place
+  pub there : slice_get es index ≡ Some item
+  pub is : x ≡ at + index
   pub passes : test item ≡ true
 
 further : (test : Event → Bool) (at : ℕ) (e : Event) (es : List Event) (x : ℕ) → Numbered test (at + 1) es x → Numbered test at (e ∷ es) x
-further test at e es x n = record { place = suc n.place; item = n.item; there = n.there; is = let i : x ≡ (at + 1) + n.place = n.is in omega (arith, i); passes = n.passes }
+further test at e es x n = record { index = suc n.index; item = n.item; there = n.there; is = let i : x ≡ (at + 1) + n.index = n.is in omega (arith, i); passes = n.passes }
 
 pub numbered : (test : Event → Bool) (at : ℕ) (es : List Event) (k x : ℕ) → slice_get (numbers test at es) k ≡ Some x → Numbered test at es x
 numbered test at [] k x h = absurd cc
 numbered test at (e ∷ es) k x h = go (test e) refl (λ j t. numbered test (at + 1) es j x t) k h
   where
     go : (b : Bool) → test e ≡ b → ((j : ℕ) → slice_get (numbers test (at + 1) es) j ≡ Some x → Numbered test (at + 1) es x) → (j : ℕ) → slice_get (cond b (at ∷ numbers test (at + 1) es) (numbers test (at + 1) es)) j ≡ Some x → Numbered test at (e ∷ es) x
-    go true is rest zero t = record { place = 0; item = e; there = refl; is = let s : at ≡ x = some_same t in omega (arith, s); passes = is }
+    go true is rest zero t = record { index = 0; item = e; there = refl; is = let s : at ≡ x = some_same t in omega (arith, s); passes = is }
     go true is rest (suc j) t = further test at e es x (rest j t)
     go false is rest j t = further test at e es x (rest j t)
 
@@ -144,14 +144,14 @@ proper es pairs = record {
   never_both = λ i lt st.
       let l : Numbered is_load 0 es (get_or (numbers is_load 0 es) i 0) = numbered is_load 0 es i (get_or (numbers is_load 0 es) i 0) (element_at (numbers is_load 0 es) i 0 lt) in
       let s : Numbered is_store 0 es (get_or (numbers is_load 0 es) i 0) = contained is_store es (get_or (numbers is_load 0 es) i 0) st in
-      let same_place : l.place ≡ s.place = omega (arith, l.is, s.is) in
-      let same_event : l.item ≡ s.item = some_same (sym l.there ∙ ap (λ (k : ℕ). slice_get es k) same_place ∙ s.there) in
+      let same_index : l.index ≡ s.index = omega (arith, l.is, s.is) in
+      let same_event : l.item ≡ s.item = some_same (sym l.there ∙ ap (λ (k : ℕ). slice_get es k) same_index ∙ s.there) in
       not_both l.item.action l.passes (ap (λ (e : Event). writes e.action) same_event ∙ s.passes);
   sources = λ i s lt source.
       let at : slice_get (map (sources_of es) (filter is_load es)) i ≡ Some (get_or (map (sources_of es) (filter is_load es)) i []) = list_at (map (sources_of es) (filter is_load es)) i (omega (arith, lt, mapped_long, as_many is_load 0 es)) in
       let load : Behind (sources_of es) (filter is_load es) i (get_or (map (sources_of es) (filter is_load es)) i []) = behind_at (sources_of es) (filter is_load es) (map (sources_of es) (filter is_load es)) i (get_or (map (sources_of es) (filter is_load es)) i []) refl at in
       let n : Numbered (λ e. may_read load.item.action e.action) 0 es s = contained (λ e. may_read load.item.action e.action) es s (subst (λ (l : List ℕ). Contains l s) load.is source) in
-      subst (λ (y : ℕ). Contains (numbers is_store 0 es) y) (sym n.is) (number_there is_store 0 es n.place n.item n.there (read_is_store load.item.action n.item.action n.passes));
+      subst (λ (y : ℕ). Contains (numbers is_store 0 es) y) (sym n.is) (number_there is_store 0 es n.index n.item n.there (read_is_store load.item.action n.item.action n.passes));
   needed = λ a x need. (need.1.0, need.1.1, sym (get_or_from_slice_get (numbers is_load 0 es) need.1.0 a 0 (element_at (numbers is_load 0 es) need.1.0 a need.1.1 ∙ ap (λ (y : ℕ). Some y) need.1.2)));
   needing = λ a x need. need.2;
 }
@@ -162,7 +162,7 @@ proper es pairs = record {
     within : (test : Event → Bool) (x : ℕ) → Contains (numbers test 0 es) x → x < length es
     within test x c =
         let n : Numbered test 0 es x = contained test es x c in
-        let l : n.place < length es = slice_get_within es n.place n.item n.there in
+        let l : n.index < length es = slice_get_within es n.index n.item n.there in
         omega (arith, n.is, l)
 
     list_at : (ls : List (List ℕ)) (k : ℕ) → k < length ls → slice_get ls k ≡ Some (get_or ls k [])

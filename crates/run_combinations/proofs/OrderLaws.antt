@@ -57,7 +57,7 @@ new_ones : (t : List ℕ) → AreDistinct t → (ss : List ℕ) → IsFiltered A
 new_ones t d [] = none
 new_ones t d (s ∷ ss) = next_store t s ss (has_store t s) refl d (new_ones t d ss)
 
--- one place more
+-- one index more
 pub orders_more : (first : ℕ) (others : List ℕ) (i : ℕ) (fronts next : List (List ℕ)) → IsFiltered AreDistinct (tuples [] ((first ∷ []) ∷ replicate i others)) fronts → next ≡ flat_map (with_new others) fronts → IsFiltered AreDistinct (tuples [] ((first ∷ []) ∷ replicate (i + 1) others)) next
 orders_more first others i fronts next before e =
     let stages : IsFiltered AreDistinct (flat_map (λ t. map (λ x. t ++ x ∷ []) others) (tuples [] ((first ∷ []) ∷ replicate i others))) (flat_map (with_new others) fronts) =
@@ -70,6 +70,6 @@ orders_more first others i fronts next before e =
     let Choices : List (List ℕ) → Type 0 = λ cs. IsFiltered AreDistinct (tuples [] ((first ∷ []) ∷ cs)) next in
     subst Choices (replicate_more i others) (subst All (sym (tuples_more ((first ∷ []) ∷ replicate i others) others [])) (subst Next (sym e) stages))
 
--- the first place alone
+-- the first index alone
 pub orders_one : (first : ℕ) (v : Vec ℕ Global) (vs : List (Vec ℕ Global)) → vs ≡ v ∷ [] → v.items ≡ first ∷ [] → IsFiltered AreDistinct (tuples [] ((first ∷ []) ∷ [])) (lists_of vs)
 orders_one first v vs e f = rw (e, f) (kept {x = first ∷ []} (refl, tt) none)

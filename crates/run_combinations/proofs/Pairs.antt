@@ -29,15 +29,15 @@ beside x y = (x, y)
 
 get_or-pairs : {X Y : Type 0} (xs : List X) (ys : List Y) (p : ℕ) (x : X) (y : Y) (d : X × Y) → 0 < length ys → p / length ys < length xs → get_or (pairs xs ys) p d ≡ (get_or xs (p / length ys) x, get_or ys (p % length ys) y)
 get_or-pairs {X} {Y} xs ys p x y d some lt =
-    ap (λ (k : ℕ). get_or (pairs xs ys) k d) place
+    ap (λ (k : ℕ). get_or (pairs xs ys) k d) index
     ∙ get_or-flat_map (λ (u : X). map (beside {Y = Y} u) ys) xs (p / length ys) (p % length ys) x d lt inside
     ∙ get_or-map (beside {Y = Y} (get_or xs (p / length ys) x)) ys (p % length ys) y d (mod-lt p some)
   where
     inside : p % length ys < length (map (beside {Y = Y} (get_or xs (p / length ys) x)) ys)
     inside = let m : length (map (beside {Y = Y} (get_or xs (p / length ys) x)) ys) ≡ length ys = length-map ys (beside {Y = Y} (get_or xs (p / length ys) x)) in let l : p % length ys < length ys = mod-lt p some in omega arith
 
-    place : p ≡ length (flat_map (λ (u : X). map (beside {Y = Y} u) ys) (take (p / length ys) xs)) + p % length ys
-    place =
+    index : p ≡ length (flat_map (λ (u : X). map (beside {Y = Y} u) ys) (take (p / length ys) xs)) + p % length ys
+    index =
         let b : length (pairs (take (p / length ys) xs) ys) ≡ (p / length ys) * length ys = length-before xs ys (p / length ys) (omega (arith, lt)) in
         let q : length ys * (p / length ys) + p % length ys ≡ p = div-add-mod p (length ys) in
         let c : length ys * (p / length ys) ≡ (p / length ys) * length ys = mul_comm (length ys) (p / length ys) in
@@ -58,8 +58,8 @@ has_none c p none lt =
     let f : length c.sources.items * length c.orders.items ≡ length c.sources.items * 0 = ap (λ (n : ℕ). length c.sources.items * n) none in
     omega arith
 
-pub has_place : (c : Combination) (p : ℕ) → 0 < length c.orders.items → (p / length c.orders.items < length c.sources.items) ↔ (p < length (candidates_of c))
-has_place c p some = subst (λ (n : ℕ). (p / length c.orders.items < length c.sources.items) ↔ (p < n)) (sym (length-candidates c)) (div-lt_iff_lt-mul some)
+pub has_index : (c : Combination) (p : ℕ) → 0 < length c.orders.items → (p / length c.orders.items < length c.sources.items) ↔ (p < length (candidates_of c))
+has_index c p some = subst (λ (n : ℕ). (p / length c.orders.items < length c.sources.items) ↔ (p < n)) (sym (length-candidates c)) (div-lt_iff_lt-mul some)
 
 -- the candidate at an index
 pub candidate_at : (c : Combination) (p : ℕ) (d : List ℕ × List ℕ) (v w : Vec ℕ Global) → 0 < length c.orders.items → p / length c.orders.items < length c.sources.items → get_or (candidates_of c) p d ≡ ((get_or c.sources.items (p / length c.orders.items) v).items, (get_or c.orders.items (p % length c.orders.items) w).items)

@@ -28,28 +28,28 @@ read_more key es t l v old new w m k = record {
     | inl o ↦ let x : (location : ℕ) × (value : Value) × (key location value ≡ Some (a, b)) × HasLoad location value es = k.loads a b o in (x.0, x.1, x.2, load_front x.0 x.1 es (record { thread = t; action = Read l v } ∷ []) x.3)
     | inr e ↦ (l, v, e, load_behind l v es (record { thread = t; action = Read l v } ∷ []) (inl refl))
   ];
-  stores = λ place value a b h e. elim (store_split place value es (record { thread = t; action = Read l v } ∷ []) h) [ inl s ↦ k.stores place value a b s e | inr s ↦ elim s [ inl q ↦ absurd (never q) | inr n ↦ absurd n ] ];
+  stores = λ location value a b h e. elim (store_split location value es (record { thread = t; action = Read l v } ∷ []) h) [ inl s ↦ k.stores location value a b s e | inr s ↦ elim s [ inl q ↦ absurd (never q) | inr n ↦ absurd n ] ];
 }
   where
-    never : {place : ℕ} {value : Value} → Read l v ≡ Write place value → ⊥
+    never : {location : ℕ} {value : Value} → Read l v ≡ Write location value → ⊥
     never q = cc
 
 pub write_more : (key : ℕ → Value → Option (ℕ × ℕ)) (es : List Event) (t : Option ℕ) (l : ℕ) (v : Value) (r old new : KeySet) → HasMore old new (key l v) → AreKeys key es r old → AreKeys key (es ++ record { thread = t; action = Write l v } ∷ []) r new
 write_more key es t l v r old new m k = record {
   loads = λ a b h. let x : (location : ℕ) × (value : Value) × (key location value ≡ Some (a, b)) × HasLoad location value es = k.loads a b h in (x.0, x.1, x.2, load_front x.0 x.1 es (record { thread = t; action = Write l v } ∷ []) x.3);
-  stores = λ place value a b h e. elim (store_split place value es (record { thread = t; action = Write l v } ∷ []) h) [
-    | inl s ↦ (m a b).1 (inl (k.stores place value a b s e))
+  stores = λ location value a b h e. elim (store_split location value es (record { thread = t; action = Write l v } ∷ []) h) [
+    | inl s ↦ (m a b).1 (inl (k.stores location value a b s e))
     | inr s ↦ elim s [ inl q ↦ (m a b).1 (inr (there q e)) | inr n ↦ absurd n ]
   ];
 }
   where
-    there : {place : ℕ} {value : Value} {a b : ℕ} → Write l v ≡ Write place value → key place value ≡ Some (a, b) → key l v ≡ Some (a, b)
+    there : {location : ℕ} {value : Value} {a b : ℕ} → Write l v ≡ Write location value → key location value ≡ Some (a, b) → key l v ≡ Some (a, b)
     there q e = cc
 
 pub fence_more : (key : ℕ → Value → Option (ℕ × ℕ)) (es : List Event) (e : Event) (r w : KeySet) → ((l : ℕ) (v : Value) → e.action ≡ Write l v → ⊥) → AreKeys key es r w → AreKeys key (es ++ e ∷ []) r w
 fence_more key es e r w never k = record {
   loads = λ a b h. let x : (location : ℕ) × (value : Value) × (key location value ≡ Some (a, b)) × HasLoad location value es = k.loads a b h in (x.0, x.1, x.2, load_front x.0 x.1 es (e ∷ []) x.3);
-  stores = λ place value a b h q. elim (store_split place value es (e ∷ []) h) [ inl s ↦ k.stores place value a b s q | inr s ↦ elim s [ inl p ↦ absurd (never place value p) | inr n ↦ absurd n ] ];
+  stores = λ location value a b h q. elim (store_split location value es (e ∷ []) h) [ inl s ↦ k.stores location value a b s q | inr s ↦ elim s [ inl p ↦ absurd (never location value p) | inr n ↦ absurd n ] ];
 }
 
 -- one sketch more

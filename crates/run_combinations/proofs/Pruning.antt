@@ -52,11 +52,11 @@ value_is NoValue (Address n) e = absurd cc
 value_is NoValue NoValue e = refl
 
 pub is_store_of : (l : ℕ) (v : Value) (a : Action) → may_read (Read l v) a ≡ true → a ≡ Write l v
-is_store_of l v (Read place value) e = absurd cc
+is_store_of l v (Read location value) e = absurd cc
 is_store_of l v (Fence fence) e = absurd cc
-is_store_of l v (Write place written) e =
-    let b : (nat_eq place l ≡ true) × (same_value written v ≡ true) = both_true (nat_eq place l) (same_value written v) e in
-    ap (λ (k : ℕ). Write k written) (eq_true place l b.0) ∙ ap (λ (w : Value). Write l w) (value_is written v b.1)
+is_store_of l v (Write location written) e =
+    let b : (nat_eq location l ≡ true) × (same_value written v ≡ true) = both_true (nat_eq location l) (same_value written v) e in
+    ap (λ (k : ℕ). Write k written) (eq_true location l b.0) ∙ ap (λ (w : Value). Write l w) (value_is written v b.1)
 
 no_source : (l : ℕ) (v : Value) (a : Action) → a ≡ Read l v → (at : ℕ) (es : List Event) → (HasStore l v es → ⊥) → numbers (λ e. may_read a e.action) at es ≡ []
 no_source l v a is at [] never = refl
@@ -177,7 +177,7 @@ writes_more ts i t s u lt is h j =
 pub first_keys : (key : ℕ → Value → Option (ℕ × ℕ)) (l : Layout) (f : Prefix) → prefix_lists f ≡ start l.initial.items → ((a b : ℕ) → HasKey f.reads a b → ⊥) × (f.writes ≡ l.initial_writes) → IsKeyed key l → AreKeys key f.runs.events.items f.reads f.writes
 first_keys key l f e s k = record {
   loads = λ a b h. absurd (s.0 a b h);
-  stores = λ place v a b h is. subst (λ (w : KeySet). HasKey w a b) (sym s.1) (k.initial place v a b (subst (λ (es : List Event). HasStore place v es) (ap (λ (b : PrefixLists). b.combination.events) e) h) is);
+  stores = λ location v a b h is. subst (λ (w : KeySet). HasKey w a b) (sym s.1) (k.initial location v a b (subst (λ (es : List Event). HasStore location v es) (ap (λ (b : PrefixLists). b.combination.events) e) h) is);
 }
 
 pub longer_keys : (key : ℕ → Value → Option (ℕ × ℕ)) (f : Prefix) (p : Part) (g : Prefix) (i : ℕ) → prefix_lists g ≡ with_run i p (prefix_lists f) → HasJoined f p g → AreKeys key f.runs.events.items f.reads f.writes → AreKeys key p.events.items p.reads p.writes → AreKeys key g.runs.events.items g.reads g.writes

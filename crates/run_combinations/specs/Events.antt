@@ -46,8 +46,8 @@ writes (Write location value) = true
 writes (Fence fence) = false
 
 abbrev pub writes_to : ℕ → Action → Bool
-writes_to location (Read place value) = false
-writes_to location (Write place value) = nat_eq place location
+writes_to location (Read read_from value) = false
+writes_to location (Write written_to value) = nat_eq written_to location
 writes_to location (Fence fence) = false
 
 abbrev pub is_load : Event → Bool

@@ -16,15 +16,15 @@ use Rattle.run_combinations.specs.declared.search.Prefix.{Prefix}
 abbrev pub HasKey : KeySet → ℕ → ℕ → Type 0
 HasKey s word bit = RowsHave s.words word bit
 
--- the number of the pair of a location and a value, by the place of the value among these; none past 128 locations and
+-- the number of the pair of a location and a value, by the index of the value among these; none past 128 locations and
 -- 16 values
 abbrev pub number_at : ℕ → ℕ → Option ℕ
-number_at location place = if nat_lt location 128 && nat_lt place 16 then Some (location * 16 + place) else None
+number_at location index = if nat_lt location 128 && nat_lt index 16 then Some (location * 16 + index) else None
 
 abbrev pub key_in : List Value → ℕ → Value → Option ℕ
 key_in values location value = number_at location (position_or_len (λ v. same_value v value) values)
 
--- the bit that the pair has in a set, as a word and the place in it
+-- the bit that the pair has in a set, as a word and the index in it
 abbrev pub bit_at : Option ℕ → Option (ℕ × ℕ)
 bit_at None = None
 bit_at (Some key) = Some (key / 64, key % 64)

@@ -17,7 +17,7 @@ pub record AreAllRuns (p : Program) (values : List Value) (runs : List (Vec Run 
   pub count : length runs ≡ vec_len p.threads
   pub each : (t : ℕ) (v : Vec Run Global) → slice_get runs t ≡ Some v → ShowsRuns (thread_of p t) values v.items
 
--- parts of some runs of the thread, in their order, from this place on
+-- parts of some runs of the thread, in their order, from this index on
 abbrev pub ArePartsOf : ℕ → List Run → ℕ → List Part → Type 0
 ArePartsOf thread runs least [] = Unit {0}
 ArePartsOf thread runs least (p ∷ ps) = (least ≤ p.run) × ((r : Run) × (slice_get runs p.run ≡ Some r) × IsPartOf thread r p) × ArePartsOf thread runs (p.run + 1) ps
@@ -28,7 +28,7 @@ AreThreadsOf thread [] (t ∷ ts) = ⊥
 AreThreadsOf thread (v ∷ vs) [] = ⊥
 AreThreadsOf thread (v ∷ vs) (t ∷ ts) = ArePartsOf thread v.items 0 t.parts.items × AreThreadsOf (thread + 1) vs ts
 
--- a run of each thread, by its place
+-- a run of each thread, by its index
 abbrev pub AreChosen : List (Vec Run Global) → List ℕ → List Run → Type 0
 AreChosen [] [] [] = Unit {0}
 AreChosen (v ∷ vs) (k ∷ ks) (r ∷ rs) = (slice_get v.items k ≡ Some r) × AreChosen vs ks rs

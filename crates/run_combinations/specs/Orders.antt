@@ -39,7 +39,7 @@ all_orders events (suc n) = flat_map (joined_with (orders_of n (stores_of events
 -- in how many ways so many of a number of things can stand in a row
 abbrev pub rows_of : ℕ → ℕ → ℕ
 rows_of count zero = 1
-rows_of count (suc places) = rows_of count places * (count - places)
+rows_of count (suc positions) = rows_of count positions * (count - positions)
 
 -- the initial store of each of the first locations, which has the number of the location, is no store of a thread to it
 abbrev pub AreApart : List Event → ℕ → Type 0

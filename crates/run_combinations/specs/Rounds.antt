@@ -29,13 +29,13 @@ pub record Shows (es : List Event) (pairs : List (ℕ × ℕ)) (r : Reading) : T
   pub stores : map (λ s. s.event) r.stores.items ≡ numbers is_store 0 es
   pub needs : (k : ℕ) (s : Store) → slice_get r.stores.items k ≡ Some s → IsEvents s.needs r.count (λ a. (accesses_in es pairs).Need a s.event)
 
--- the fact holds of one of the first items and its place
+-- the fact holds of one of the first items and its index
 pub record AnyBelow {X : Type 0} (Q : ℕ → X → Type 0) (n : ℕ) (xs : List X) : Type 0 where
-  pub place : ℕ
+  pub index : ℕ
   pub item : X
-  pub below : place < n
-  pub there : slice_get xs place ≡ Some item
-  pub holds : Q place item
+  pub below : index < n
+  pub there : slice_get xs index ≡ Some item
+  pub holds : Q index item
 
 -- the event below a bound is that of one of the first items of which the fact holds
 abbrev pub Stepped : {X : Type 0} → (X → ℕ) → (ℕ → X → Type 0) → ℕ → ℕ → List X → ℕ → Type 0
@@ -49,7 +49,7 @@ IsInside s t = (s.count ≡ t.count) × ((a : ℕ) → IsMember s a → IsMember
 abbrev pub IsMeeting : Events → Events → Type 0
 IsMeeting s t = (s.count ≡ t.count) × ((a : ℕ) × IsMember s a × IsMember t a)
 
--- the load at a place reads one of these
+-- the load at an index reads one of these
 abbrev pub CanRead : List ℕ → Events → ℕ → Load → Type 0
 CanRead way derived i l = ((i < length way) × IsMember derived (slice_index way i)) ⊎ ((length way ≤ i) × IsMeeting l.sources derived)
 
@@ -89,23 +89,23 @@ TellsPossible r b = (es : List Event) (pairs : List (ℕ × ℕ)) → Shows es p
 
 -- the possible ways with one load more, of the first ways of a list
 abbrev pub AreNext : Reading → Load → ℕ → ℕ → List (List ℕ) → List (List ℕ) → Type 0
-AreNext r load place k ways next =
-    (es : List Event) (pairs : List (ℕ × ℕ)) → Shows es pairs r → slice_get r.loads.items place ≡ Some load
-    → All (λ f. (length f ≡ place) × IsPossible (accesses_in es pairs) f) ways
-    → IsFiltered (IsPossible (accesses_in es pairs)) (flat_map (nexts (slice_index_or (accesses_in es pairs).sources place [])) (take k ways)) next
+AreNext r load index k ways next =
+    (es : List Event) (pairs : List (ℕ × ℕ)) → Shows es pairs r → slice_get r.loads.items index ≡ Some load
+    → All (λ f. (length f ≡ index) × IsPossible (accesses_in es pairs) f) ways
+    → IsFiltered (IsPossible (accesses_in es pairs)) (flat_map (nexts (slice_index_or (accesses_in es pairs).sources index [])) (take k ways)) next
 
 -- the list has gained those of one way
-pub record GainsNext (r : Reading) (load : Load) (place : ℕ) (way : List ℕ) (old new : List (List ℕ)) : Type 0 where
+pub record GainsNext (r : Reading) (load : Load) (index : ℕ) (way : List ℕ) (old new : List (List ℕ)) : Type 0 where
   pub more : List (List ℕ)
   pub added : new ≡ old ++ more
   pub next :
-      (es : List Event) (pairs : List (ℕ × ℕ)) → Shows es pairs r → slice_get r.loads.items place ≡ Some load
-      → length way ≡ place → IsPossible (accesses_in es pairs) way
-      → IsFiltered (IsPossible (accesses_in es pairs)) (nexts (slice_index_or (accesses_in es pairs).sources place []) way) more
+      (es : List Event) (pairs : List (ℕ × ℕ)) → Shows es pairs r → slice_get r.loads.items index ≡ Some load
+      → length way ≡ index → IsPossible (accesses_in es pairs) way
+      → IsFiltered (IsPossible (accesses_in es pairs)) (nexts (slice_index_or (accesses_in es pairs).sources index []) way) more
 
 -- some of the first ones are over a limit
 abbrev pub AreOver : Reading → Load → ℕ → List (List ℕ) → ℕ → Type 0
-AreOver r load place ways limit = (k : ℕ) × (next : List (List ℕ)) × (limit < length next) × AreNext r load place k ways next
+AreOver r load index ways limit = (k : ℕ) × (next : List (List ℕ)) × (limit < length next) × AreNext r load index k ways next
 
 -- there are over so many ways
 abbrev pub HasOver : Reading → ℕ → Type 0

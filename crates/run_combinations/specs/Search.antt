@@ -31,7 +31,7 @@ runs_lists p = record {
   orders = [];
 }
 
--- the same with a run of the next thread, which has this place among its runs
+-- the same with a run of the next thread, which has this index among its runs
 abbrev pub combination_with_run : ℕ → Part → CombinationLists → CombinationLists
 combination_with_run run p s = record s {
   events = s.events ++ p.events.items;
@@ -100,7 +100,7 @@ abbrev pub Tells : Bool → Type 0 → Type 0 → Type 0
 Tells true P Q = P
 Tells false P Q = Q
 
--- each run of a thread with its place among them
+-- each run of a thread with its index among them
 abbrev pub with_indices : ℕ → List Part → List (ℕ × Part)
 with_indices at [] = []
 with_indices at (p ∷ ps) = (at, p) ∷ with_indices (at + 1) ps

@@ -17,7 +17,7 @@ pub record Accesses : Type 1 where
   pub Store : ℕ → Type 0
   pub Need : ℕ → ℕ → Type 0
 
--- the load at a place may read the store
+-- the load at an index may read the store
 abbrev pub Source : Accesses → ℕ → ℕ → Type 0
 Source g i s = Contains (slice_index_or g.sources i []) s
 
@@ -62,7 +62,7 @@ same_value _ _ = false
 
 -- a load may read the stores of its location and value
 abbrev pub may_read : Action → Action → Bool
-may_read (Read location value) (Write place written) = nat_eq place location && same_value written value
+may_read (Read location value) (Write written_to written) = nat_eq written_to location && same_value written value
 may_read _ _ = false
 
 abbrev pub sources_of : List Event → Event → List ℕ

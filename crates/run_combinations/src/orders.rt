@@ -16,9 +16,9 @@ fn is_store(event: &Event, location: usize) -> bool
 {
     match event.action {
         Action::Write {
-            location: place,
+            location: written_to,
             ..
-        } => event.thread.is_some() && place == location,
+        } => event.thread.is_some() && written_to == location,
         _ => false,
     }
 }
@@ -81,7 +81,7 @@ fn orders_at(alloc: Global, first: u8, stores: &[u8]) -> Result<Vec<Vec<u8>>, Al
 {
     let mut fronts = Vec::new(alloc);
     fronts.push(Vec::from_slice(alloc, &[first])?)?;
-    for _place in 0..stores.len() {
+    for _index in 0..stores.len() {
         fronts = with_each(alloc, &fronts, stores)?;
     }
     Ok(fronts)
@@ -137,8 +137,8 @@ fn rows_of(count: usize) -> usize
     ensures { result ≡ min (definitions.rows_of count count) (2 ^ 64 - 1) }
 {
     let mut rows = 1usize;
-    for places in 0..count {
-        rows = rows.saturating_mul(count - places);
+    for positions in 0..count {
+        rows = rows.saturating_mul(count - positions);
     }
     rows
 }

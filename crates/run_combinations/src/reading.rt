@@ -74,39 +74,39 @@ fn has_both(set: &EventSet, other: &EventSet, event: usize) -> bool
     has(set, event) && has(other, event)
 }
 
-/// Whether the load at this place is the one to leave out.
-fn is_left(without: Option<usize>, place: usize) -> bool
-    ensures { IsTrue result ↔ (without ≡ Some place) }
+/// Whether the load at this index is the one to leave out.
+fn is_left(without: Option<usize>, index: usize) -> bool
+    ensures { IsTrue result ↔ (without ≡ Some index) }
 {
     match without {
-        Some(left) => left == place,
+        Some(left) => left == index,
         None => false,
     }
 }
 
-/// Whether the load at this place reads an event of the set: the first ones what `way` says, the
+/// Whether the load at this index reads an event of the set: the first ones what `way` says, the
 /// others any store of their location and value.
-fn can_read(load: &Load, way: &[u8], place: usize, derived: &EventSet) -> bool
-    ensures { IsTrue result ↔ CanRead way.now derived.now place load.now }
+fn can_read(load: &Load, way: &[u8], index: usize, derived: &EventSet) -> bool
+    ensures { IsTrue result ↔ CanRead way.now derived.now index load.now }
 {
-    if place < way.len() {
-        has(derived, usize::from(way[place]))
+    if index < way.len() {
+        has(derived, usize::from(way[index]))
     } else {
         meets(&load.sources, derived)
     }
 }
 
-/// Whether the load at this place reads an event of the set, and is not the one to leave out.
+/// Whether the load at this index reads an event of the set, and is not the one to leave out.
 fn can_arise(
     load: &Load,
     way: &[u8],
     without: Option<usize>,
-    place: usize,
+    index: usize,
     derived: &EventSet,
 ) -> bool
-    ensures { IsTrue result ↔ CanArise way.now without derived.now place load.now }
+    ensures { IsTrue result ↔ CanArise way.now without derived.now index load.now }
 {
-    !is_left(without, place) && can_read(load, way, place, derived)
+    !is_left(without, index) && can_read(load, way, index, derived)
 }
 
 /// Whether the event is a load.
@@ -138,10 +138,10 @@ fn is_source(load: &Event, store: &Event) -> bool
         (
             Action::Read { location, value },
             Action::Write {
-                location: place,
+                location: written_to,
                 value: written,
             },
-        ) => place == location && is_same(written, value),
+        ) => written_to == location && is_same(written, value),
         _ => false,
     }
 }
@@ -264,8 +264,8 @@ impl Reading {
     {
         let mut next = *derived;
         let _count = derived.count();
-        for (place, load) in self.loads.iter().enumerate() {
-            let is_wanted = can_arise(load, way, without, place, derived);
+        for (index, load) in self.loads.iter().enumerate() {
+            let is_wanted = can_arise(load, way, without, index, derived);
             add_if(&mut next, is_wanted, load.event);
         }
         next
@@ -305,19 +305,19 @@ impl Reading {
         true
     }
 
-    /// Adds to `longer` the way with each store that the load at `place`, the first without one,
+    /// Adds to `longer` the way with each store that the load at `index`, the first without one,
     /// can read.
     fn extend(
         &self,
         alloc: Global,
         way: &[u8],
         load: &Load,
-        place: usize,
+        index: usize,
         longer: &mut Vec<Vec<u8>>,
     ) -> Result<(), AllocError>
-        ensures { OnOk result (GainsNext self.now load.now place way.now (lists_of longer.old.items) (lists_of longer.new.items)) }
+        ensures { OnOk result (GainsNext self.now load.now index way.now (lists_of longer.old.items) (lists_of longer.new.items)) }
     {
-        let derived = self.derived(way, Some(place));
+        let derived = self.derived(way, Some(index));
         for store in 0..self.count.min(MAX_EVENTS) {
             if has_both(&load.sources, &derived, store) {
                 longer.push(joined(alloc, way, &[store as u8])?)?;
@@ -326,21 +326,21 @@ impl Reading {
         Ok(())
     }
 
-    /// Each way with each store that the load at `place` can read; `None` where there are over
+    /// Each way with each store that the load at `index` can read; `None` where there are over
     /// `limit`.
     fn extended(
         &self,
         alloc: Global,
         ways: &[Vec<u8>],
         load: &Load,
-        place: usize,
+        index: usize,
         limit: usize,
     ) -> Result<Option<Vec<Vec<u8>>>, AllocError>
-        ensures { IfOk result (λ o. MatchOption o (AreOver self.now load.now place (lists_of ways.now) limit) (λ v. AreNext self.now load.now place (length ways.now) (lists_of ways.now) (lists_of v.items))) }
+        ensures { IfOk result (λ o. MatchOption o (AreOver self.now load.now index (lists_of ways.now) limit) (λ v. AreNext self.now load.now index (length ways.now) (lists_of ways.now) (lists_of v.items))) }
     {
         let mut longer = Vec::with_capacity(alloc, ways.len())?;
         for way in ways {
-            self.extend(alloc, way, load, place, &mut longer)?;
+            self.extend(alloc, way, load, index, &mut longer)?;
             if longer.len() > limit {
                 return Ok(None);
             }
@@ -358,8 +358,8 @@ impl Reading {
         if self.is_possible() {
             ways.push(Vec::new(alloc))?;
         }
-        for (place, load) in self.loads.iter().enumerate() {
-            match self.extended(alloc, &ways, load, place, limit)? {
+        for (index, load) in self.loads.iter().enumerate() {
+            match self.extended(alloc, &ways, load, index, limit)? {
                 Some(longer) => ways = longer,
                 None => return Ok(None),
             }

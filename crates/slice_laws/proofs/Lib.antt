@@ -1,2 +1,4 @@
 pub mod Tests
 pub mod Models
+pub mod Saying
+pub mod Deciding

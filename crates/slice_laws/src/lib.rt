@@ -16,8 +16,12 @@ pub fn equal_tests_give_the_same(test: &Test, other: &Test, model: &ModelText)
     let _model = model;
 }
 
-/// The slice of a cell decides what the cell gives, if it does so for evaluations of one test under two models without fault:
-/// under a model with a fault, and for a test that has no executions, it does, and tests of one content give the same.
-pub fn items_suffice()
-    ensures { ItemsDecide → SlicesDecide }
+/// Two models without fault that give a test one slice give it the same evaluations.
+pub fn items_decide()
+    ensures { ItemsDecide }
+{}
+
+/// The slice of a cell decides what evaluating the cell from nothing gives.
+pub fn slices_decide()
+    ensures { SlicesDecide }
 {}

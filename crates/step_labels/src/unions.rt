@@ -19,94 +19,104 @@ pub enum ModelName {
 }
 
 // Whether the next relation, as the steps are read from the last, is an operand of the union.
-fn is_operand(open: &[bool]) -> bool
-    ensures { result ≡ is_operand (reverse open.now) }
+fn is_operand(pending: &[bool]) -> bool
+    ensures { result ≡ is_operand (reverse pending.now) }
 {
-    match open.last() {
+    match pending.last() {
         Some(next) => *next,
         None => false,
     }
 }
 
-fn name_at(step: Step, open: &[bool]) -> Option<Source>
-    ensures { result ≡ name_at step (reverse open.now) }
+fn name_at(step: Step, pending: &[bool]) -> Option<Source>
+    ensures { result ≡ name_at step (reverse pending.now) }
 {
     match step {
-        Step::PushRelation(source) => { if is_operand(open) { Some(source) } else { None } }
+        Step::PushRelation(source) => {
+            if is_operand(pending) {
+                Some(source)
+            } else {
+                None
+            }
+        }
         _ => None,
     }
 }
 
-fn push_twice(open: &mut Vec<bool>) -> Result<(), AllocError>
-    ensures { OnOk result (reverse open.new.items ≡ next_twice (reverse open.old.items)) }
+fn push_twice(pending: &mut Vec<bool>) -> Result<(), AllocError>
+    ensures { OnOk result (reverse pending.new.items ≡ next_twice (reverse pending.old.items)) }
 {
-    if let Some(next) = open.pop() {
-        open.push(next)?;
-        open.push(next)?;
+    if let Some(next) = pending.pop() {
+        pending.push(next)?;
+        pending.push(next)?;
     }
     Ok(())
 }
 
-fn close_next(open: &mut Vec<bool>) -> Result<(), AllocError>
-    ensures { OnOk result (reverse open.new.items ≡ next_inside (reverse open.old.items)) }
+fn close_next(pending: &mut Vec<bool>) -> Result<(), AllocError>
+    ensures { OnOk result (reverse pending.new.items ≡ next_inside (reverse pending.old.items)) }
 {
-    if let Some(_) = open.pop() {
-        open.push(false)?;
+    if let Some(_) = pending.pop() {
+        pending.push(false)?;
     }
     Ok(())
 }
 
-fn drop_next(open: &mut Vec<bool>)
-    ensures { reverse open.new.items ≡ without_next (reverse open.old.items) }
+fn drop_next(pending: &mut Vec<bool>)
+    ensures { reverse pending.new.items ≡ without_next (reverse pending.old.items) }
 {
-    let _ = open.pop();
+    let _ = pending.pop();
 }
 
-fn close_both(open: &mut Vec<bool>) -> Result<(), AllocError>
-    ensures { OnOk result (reverse open.new.items ≡ next_twice (next_inside (reverse open.old.items))) }
+fn close_both(pending: &mut Vec<bool>) -> Result<(), AllocError>
+    ensures { OnOk result (reverse pending.new.items ≡ next_twice (next_inside (reverse pending.old.items))) }
 {
-    close_next(open)?;
-    push_twice(open)
+    close_next(pending)?;
+    push_twice(pending)
 }
 
 // What is still to come before a step.
-fn open_before(open: &mut Vec<bool>, step: Step) -> Result<(), AllocError>
-    ensures { OnOk result (reverse open.new.items ≡ open_after step (reverse open.old.items)) }
+fn open_before(pending: &mut Vec<bool>, step: Step) -> Result<(), AllocError>
+    ensures { OnOk result (reverse pending.new.items ≡ open_after step (reverse pending.old.items)) }
 {
     match step {
         Step::PushRelation(_) | Step::PushNoPairs | Step::Multiply | Step::Restrict => {
-            drop_next(open);
+            drop_next(pending);
             Ok(())
         }
-        Step::BlendRelations(Blend::Union) => push_twice(open),
-        Step::BlendRelations(_) | Step::Compose => close_both(open),
-        Step::Close(_) | Step::TurnRelation => close_next(open),
+        Step::BlendRelations(Blend::Union) => push_twice(pending),
+        Step::BlendRelations(_) | Step::Compose => close_both(pending),
+        Step::Close(_) | Step::TurnRelation => close_next(pending),
         _ => Ok(()),
     }
 }
 
 // Reads a step: the name that it adds, and what is still to come before it.
-fn read_step(open: &mut Vec<bool>, sources: &mut Vec<Source>, step: Step) -> Result<(), AllocError>
-    ensures open { OnOk result (reverse open.new.items ≡ open_after step (reverse open.old.items)) }
-    ensures sources { OnOk result (reverse sources.new.items ≡ cons_option (name_at step (reverse open.old.items)) (reverse sources.old.items)) }
+fn read_step(
+    pending: &mut Vec<bool>,
+    sources: &mut Vec<Source>,
+    step: Step,
+) -> Result<(), AllocError>
+    ensures pending { OnOk result (reverse pending.new.items ≡ open_after step (reverse pending.old.items)) }
+    ensures sources { OnOk result (reverse sources.new.items ≡ cons_option (name_at step (reverse pending.old.items)) (reverse sources.old.items)) }
 {
-    if let Some(source) = name_at(step, open) {
+    if let Some(source) = name_at(step, pending) {
         sources.push(source)?;
     }
-    open_before(open, step)
+    open_before(pending, step)
 }
 
 // The names that the expression is a union of.
 fn union_sources(alloc: Global, steps: &[Step]) -> Result<Vec<Source>, AllocError>
     ensures { IfOk result (λ v. IsUnionOf steps.now v.items) }
 {
-    let mut open = Vec::new(alloc);
-    open.push(true)?;
+    let mut pending = Vec::new(alloc);
+    pending.push(true)?;
     let mut sources = Vec::new(alloc);
     let mut left = steps.len();
     'back: while left > 0 {
         left -= 1;
-        read_step(&mut open, &mut sources, steps[left])?;
+        read_step(&mut pending, &mut sources, steps[left])?;
     }
     sources.reverse();
     Ok(sources)

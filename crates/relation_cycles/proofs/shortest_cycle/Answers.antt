@@ -3,7 +3,7 @@ use Rattle.relation_cycles.proofs.Steps.{shortest, none_at}
 use Rattle.relation_cycles.proofs.shortest_cycle.Goals as goal
 
 pub returns-in-Some : goal.returns-in-Some
-returns-in-Some c = shortest _ c.in-Some.event c.loop-steps.steps _ c.in_ok-cycle.ensures.cycle c.in_ok-cycle.ensures.short c.loop-steps.invariant
+returns-in-Some c = shortest _ c.in-Some.event c.loop-steps.steps _ c.in_ok-cycle.ensures.path c.in_ok-cycle.ensures.short c.loop-steps.invariant
 
 pub loop-steps-preserved : goal.loop-steps-preserved
 loop-steps-preserved c = none_at c.args.relation.now c.in_ok-levels.levels.items c.in_ok-levels.ensures.levels c.index.result.now c.loop-steps.steps (omega arith) c.index.ensures c.loop-steps.invariant c.in_default.ensures

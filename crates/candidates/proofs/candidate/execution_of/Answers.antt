@@ -1,6 +1,6 @@
 use Rattle.std.proofs.Common.{◌≡◌, ◌<◌, ◌/◌, ◌%◌, length, arith, rules, ◌∙◌}
 use Rattle.std.proofs.Math.Nat.{mod-lt}
-use Rattle.run_combinations.proofs.Pairs.{has_orders, has_place}
+use Rattle.run_combinations.proofs.Pairs.{has_orders, has_index}
 use Rattle.candidates.proofs.Spaces.{candidate_there}
 use Rattle.candidates.proofs.candidate.execution_of.Goals as goal
 
@@ -12,7 +12,7 @@ nonzero_div-index c =
 pub index-sources-requires : goal.index-sources-requires
 index-sources-requires c =
     let orders : c.len-orders.result ≡ length c.args.combination.now.orders.items = omega (arith, c.args.combination.now.orders.ok.0) in
-    let lt : c.args.index / c.len-orders.result < length c.args.combination.now.sources.items = rw orders ((has_place c.args.combination.now c.args.index (has_orders c.args.combination.now c.args.index c.requires)).1 c.requires) in
+    let lt : c.args.index / c.len-orders.result < length c.args.combination.now.sources.items = rw orders ((has_index c.args.combination.now c.args.index (has_orders c.args.combination.now c.args.index c.requires)).1 c.requires) in
     omega (arith, lt, c.args.combination.now.sources.ok.0)
 
 pub nonzero_rem-index : goal.nonzero_rem-index

@@ -1,4 +1,4 @@
-use Rattle.std.proofs.Common.{◌≡◌, ◌++◌, ◌∷◌, [], arith, take, append_assoc}
+use Rattle.std.proofs.Common.{◌≡◌, ◌++◌, ◌∷◌, [], arith, sym, take, append_assoc}
 use Rattle.std.proofs.lemmas.List.{take_all}
 use Rattle.candidates.specs.Space.{Candidate}
 use Rattle.cat_eval.specs.Worlds.{IsWorld}
@@ -10,26 +10,27 @@ loop-order-preserved g c =
     let combination = c.args.combination.now in
     let needs = c.args.needs.now in
     let before = c.loop-order.invariant in
-    let base = c.go_to_order.new.base in (
-      c.go_to_order.ensures.ready before.0,
-      (λ sources held. c.go_to_order.ensures.reading sources (before.1 sources held)),
-      (λ sources reading first bases given.
-          let (more, worlds, was) = before.2 sources reading first bases given in
+    let base = c.go_to_order-same.new.base in (
+      c.go_to_order-same.ensures.ready before.0,
+      (λ sources held. c.go_to_order-same.ensures.reading sources (before.1 sources held)),
+      (λ sources reading first bases ends given.
+          let (more, worlds, was, last) = before.2 sources reading first bases ends given in
           let world : IsWorld needs.names.items needs.reads needs.orders base (combination, (sources, c.order-item.result.items)) = record {
-            ready = c.go_to_order.ensures.ready before.0;
-            reading = λ reads. c.go_to_order.ensures.reading sources (before.1 sources (reading reads));
-            ordered = λ orders. rw c.deref.ensures.value at (c.go_to_order.ensures.ordered orders);
+            ready = c.go_to_order-same.ensures.ready before.0;
+            reading = λ reads. c.go_to_order-same.ensures.reading sources (before.1 sources (reading reads));
+            ordered = λ orders. rw c.deref.ensures.value at (c.go_to_order-same.ensures.ordered orders);
           } in (
             more ++ base ∷ [],
             rw (map_step {Y = Candidate} (λ order. (combination, (sources, order.items))) combination.orders.items c.loop-order.order-index c.order-item.result (rw c.deref-order-items.ensures.value at c.loop-order-test.true) (rw c.deref-order-items.ensures.value at c.order-item.is))
                 (worlds_more needs.names.items needs.reads needs.orders more (base ∷ []) _ _ worlds (world, tt)),
-            rw (append_assoc bases more (base ∷ [])) at (c.in_ok-visit.ensures first (bases ++ more) was),
+            rw (append_assoc bases more (base ∷ [])) at (c.in_ok-visit.ensures first (bases ++ more) (λ is. rw (c.go_to_order-same.ensures.kept is).1 (last (c.go_to_order-same.ensures.kept is).0)) was),
+            (λ _. (bases ++ more, sym (append_assoc bases more (base ∷ [])))),
           )),
     )
 
 pub returns-clause-worlds : goal.returns-clause-worlds
-returns-clause-worlds g c = λ sources reading first bases given.
+returns-clause-worlds g c = λ sources reading first bases ends given.
     let index = c.loop-order.order-index in
     let orders = c.args.combination.now.orders.items in
     let whole : take index orders ≡ orders = take_all index orders (omega (arith, c.loop-order-test.false, c.deref-order-items.ensures.len)) in
-    rw whole at (c.loop-order.invariant.2 sources reading first bases given)
+    rw whole at (c.loop-order.invariant.2 sources reading first bases ends given)

@@ -5,14 +5,14 @@ use Rattle.run_combinations.specs.Orders.{with_new}
 use Rattle.run_combinations.proofs.OrderLaws.{orders_more, orders_one}
 use Rattle.run_combinations.proofs.orders.orders_at.Goals as goal
 
-pub loop-place-init : goal.loop-place-init
-loop-place-init c =
+pub loop-index-init : goal.loop-index-init
+loop-index-init c =
     orders_one c.args.first c.in_ok-from_slice.field-0 _
     (c.in_ok-push.ensures.items ∙ ap (λ l. l ++ c.in_ok-from_slice.field-0 ∷ []) c.new-fronts.ensures.items)
     c.in_ok-from_slice.ensures.items
 
-pub loop-place-preserved : goal.loop-place-preserved
-loop-place-preserved c =
-    orders_more c.args.first c.args.stores.now c.loop-place._place (lists_of c.loop-place.fronts.items) (lists_of c.in_ok-fronts.fronts.items)
-    c.loop-place.invariant
+pub loop-index-preserved : goal.loop-index-preserved
+loop-index-preserved c =
+    orders_more c.args.first c.args.stores.now c.loop-index._index (lists_of c.loop-index.fronts.items) (lists_of c.in_ok-fronts.fronts.items)
+    c.loop-index.invariant
     (c.in_ok-fronts.ensures ∙ ap (λ l. flat_map (with_new c.args.stores.now) (lists_of l)) c.deref.ensures.value)

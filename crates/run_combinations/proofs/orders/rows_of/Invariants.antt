@@ -2,5 +2,5 @@ use Rattle.std.proofs.Common.{◌≡◌, ◌-◌, ◌^◌, min}
 use Rattle.run_combinations.specs.Orders.{rows_of}
 use Rattle.run_combinations.proofs.orders.rows_of.Given as goal
 
-abbrev pub invariant-loop-places : goal.invariant-loop-places
-invariant-loop-places l = l.rows ≡ min (rows_of l.count l.places) (2 ^ 64 - 1)
+abbrev pub invariant-loop-positions : goal.invariant-loop-positions
+invariant-loop-positions l = l.rows ≡ min (rows_of l.count l.positions) (2 ^ 64 - 1)

@@ -37,6 +37,7 @@ loop-position-preserved c =
             let (s, r, adds, meant) = before.6 none j (omega (arith, less, other)) inside col b in
             (s, r, rw (others j other col) adds, meant)
       ]),
+      fixed.4 ∙ before.7,
     )
 
 pub returns-clause-added : goal.returns-clause-added

@@ -14,3 +14,4 @@ invariant-loop-position l =
     × (l.initial.self.solver.own.items ≡ [] → (j : ℕ) → j < l.position → j < length l.initial.self.columns.items → (c : Column) (b : Body)
     → (s : Events) × (r : Relation) × Adds (slice_index_or l.initial.self.columns.items j c) (slice_index_or l.self.columns.items j c) s r
     × IsMeaningOver (slice_index_or l.initial.self.bodies.now j b).code.kind (slice_index_or l.initial.self.bodies.now j b).code.steps.items l.initial.self.inputs.now l.base l.candidate s r)
+    × (l.self.steady ≡ l.initial.self.steady)

@@ -1,9 +1,10 @@
-use Rattle.std.proofs.Common.{◌∙◌, ◌++◌, ◌∷◌, [], sym}
+use Rattle.std.proofs.Common.{◌∙◌, ◌++◌, ◌∷◌, [], length, refl, sym}
 use Rattle.cat_eval.proofs.Columns.{evaluated_more, solved_more, columns_moved, own_moved, own_long, own_none}
+use Rattle.cat_eval.proofs.Repeating.{columns_again, group_steady, number_is, steady_moved}
 use Rattle.cat_eval.proofs.group.GroupRunVisit.visit.Goals as goal
 
 pub returns-in_ok-solve : goal.returns-in_ok-solve
-returns-in_ok-solve c = λ first bases given.
+returns-in_ok-solve c = λ first bases ends given.
     let run = c.args.self.now in
     let new = c.solve.new.self in
     let fixed = c.solve.ensures.fixed in
@@ -16,10 +17,12 @@ returns-in_ok-solve c = λ first bases given.
       fixed.2 ∙ given.2,
       own_moved run.recursive first.recursive run.bodies first.bodies given.2 given.0 new.solver.own.items (own_long run.recursive run.bodies.now run.solver.own.items new.solver.own.items c.if-self.true fixed.3 own),
       columns_moved run.recursive first.recursive run.bodies first.bodies run.inputs first.inputs given.2 given.0 given.1 (bases ++ c.args.base.now ∷ []) new.columns.items now,
+      group_steady run.inputs first.inputs run.bodies first.bodies given.1 given.0 bases c.args.base.now c.candidate_count-candidate.result run.steady c.steady_after-self.result new.steady
+          (number_is run.recursive run.bodies.now run.inputs.now bases run.columns.items c.candidate_count-candidate.result columns (rw c.deref.ensures.value at c.candidate_count-candidate.ensures)) fixed.4 c.steady_after-self.ensures given.5,
     )
 
 pub returns-in_ok-evaluate_each : goal.returns-in_ok-evaluate_each
-returns-in_ok-evaluate_each c = λ first bases given.
+returns-in_ok-evaluate_each c = λ first bases ends given.
     let run = c.args.self.now in
     let new = c.evaluate_each.new.self in
     let fixed = c.evaluate_each.ensures.fixed in
@@ -32,4 +35,25 @@ returns-in_ok-evaluate_each c = λ first bases given.
       fixed.2 ∙ given.2,
       rw fixed.3 given.3,
       columns_moved run.recursive first.recursive run.bodies first.bodies run.inputs first.inputs given.2 given.0 given.1 (bases ++ c.args.base.now ∷ []) new.columns.items now,
+      group_steady run.inputs first.inputs run.bodies first.bodies given.1 given.0 bases c.args.base.now c.candidate_count-candidate.result run.steady c.steady_after-self.result new.steady
+          (number_is run.recursive run.bodies.now run.inputs.now bases run.columns.items c.candidate_count-candidate.result columns (rw c.deref.ensures.value at c.candidate_count-candidate.ensures)) fixed.4 c.steady_after-self.ensures given.5,
+    )
+
+pub returns-then-same : goal.returns-then-same
+returns-then-same c = λ first bases ends given.
+    let run = c.args.self.now in
+    let base = c.args.base.now in
+    let k = c.candidate_count-candidate.result in
+    let as_before = c.is_as_before-same.ensures c.if-same.true in
+    let count = rw c.deref.ensures.value at c.candidate_count-candidate.ensures in
+    let columns = columns_moved first.recursive run.recursive first.bodies run.bodies first.inputs run.inputs (sym given.2) (sym given.0) (sym given.1) bases run.columns.items given.4 in
+    let held = steady_moved first.inputs run.inputs first.bodies run.bodies (sym given.1) (sym given.0) (length bases) run.steady given.5 in
+    let now = columns_again run.recursive run.bodies.now run.inputs.now bases base run.columns.items c.repeat_all.new.columns.items k run.steady (ends as_before.0) columns count held as_before.1 c.repeat_all.ensures.long c.in_ok-repeat_all.ensures.repeated in (
+      given.0,
+      given.1,
+      given.2,
+      given.3,
+      columns_moved run.recursive first.recursive run.bodies first.bodies run.inputs first.inputs given.2 given.0 given.1 (bases ++ base ∷ []) c.repeat_all.new.columns.items now,
+      group_steady run.inputs first.inputs run.bodies first.bodies given.1 given.0 bases base k run.steady c.steady_after-self.result c.steady_after-self.result
+          (number_is run.recursive run.bodies.now run.inputs.now bases run.columns.items k columns count) refl c.steady_after-self.ensures given.5,
     )

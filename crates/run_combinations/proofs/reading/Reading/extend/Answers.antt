@@ -9,7 +9,7 @@ loop-store-init c = gains_none _ _ _ _ _
 
 pub loop-store-preserved : goal.loop-store-preserved
 loop-store-preserved c =
-    gains_more c.args.self.now c.args.load.now c.args.place c.args.way.now c.loop-store.store c.derived-derived.result (lists_of c.args.longer.now.items) (lists_of c.loop-store.longer.items) (lists_of c.if-has_both.longer.items) c.has_both.result c.derived-derived.ensures c.has_both.ensures
+    gains_more c.args.self.now c.args.load.now c.args.index c.args.way.now c.loop-store.store c.derived-derived.result (lists_of c.args.longer.now.items) (lists_of c.loop-store.longer.items) (lists_of c.if-has_both.longer.items) c.has_both.result c.derived-derived.ensures c.has_both.ensures
     (omega (arith, c.loop-store-test.true, c.min-store-end.ensures)) c.loop-store.invariant
     (elim c.if-has_both.branch [
       | then-has_both+in_ok-joined+in_ok-push w ↦ pushed c.loop-store.longer.items c.if-has_both.longer.items w.in_ok-joined.field-0 (c.args.way.now ++ c.loop-store.store ∷ []) c.has_both.result w.if-has_both.true (ap (λ v. v.items) w.longer-is ∙ w.in_ok-push.ensures.items) w.in_ok-joined.ensures
@@ -18,5 +18,5 @@ loop-store-preserved c =
 
 pub returns : goal.returns
 returns c =
-    gains_all c.args.self.now c.args.load.now c.args.place c.args.way.now c.loop-store.store (lists_of c.args.longer.now.items) (lists_of c.loop-store.longer.items)
+    gains_all c.args.self.now c.args.load.now c.args.index c.args.way.now c.loop-store.store (lists_of c.args.longer.now.items) (lists_of c.loop-store.longer.items)
     (λ few. omega (arith, few, c.loop-store-test.false, c.min-store-end.ensures)) c.loop-store.invariant

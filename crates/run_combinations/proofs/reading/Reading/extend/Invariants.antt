@@ -3,4 +3,4 @@ use Rattle.run_combinations.proofs.Extending.{GainsSome}
 use Rattle.run_combinations.proofs.reading.Reading.extend.Given as goal
 
 abbrev pub invariant-loop-store : goal.invariant-loop-store
-invariant-loop-store l = GainsSome l.self l.load l.place l.way l.store (lists_of l.initial.longer.items) (lists_of l.longer.items)
+invariant-loop-store l = GainsSome l.self l.load l.index l.way l.store (lists_of l.initial.longer.items) (lists_of l.longer.items)

@@ -7,35 +7,35 @@ use Rattle.run_combinations.proofs.Finding.{one_way, no_way, one_load_more, over
 use Rattle.run_combinations.proofs.reading.Reading.ways.Goals as goal
 use Rattle.run_combinations.proofs.reading.Reading.ways.Goals.{then-is_possible+in_ok-push, else-is_possible}
 
-pub loop-place-init : goal.loop-place-init
-loop-place-init c =
+pub loop-index-init : goal.loop-index-init
+loop-index-init c =
     elim c.if-is_possible.branch [
       | then-is_possible+in_ok-push w ↦ one_way c.args.self.now c.is_possible.result w.new.result c.if-is_possible.ways.items c.is_possible.ensures w.if-is_possible.true (ap (λ v. v.items) w.ways-is ∙ w.in_ok-push.ensures.items ∙ ap (λ l. l ++ w.new.result ∷ []) c.new-ways.ensures.items) w.new.ensures.items
       | else-is_possible w ↦ no_way c.args.self.now c.is_possible.result c.if-is_possible.ways.items c.is_possible.ensures w.if-is_possible.false (ap (λ v. v.items) w.ways-is ∙ c.new-ways.ensures.items)
     ]
 
-pub loop-place-preserved : goal.loop-place-preserved
-loop-place-preserved c =
-    let at : slice_get c.args.self.now.loads.items c.loop-place.place ≡ Some c.load-item.result =
-    ap (λ (l : List Load). slice_get l c.loop-place.place) (sym c.deref-load-items.ensures.value) ∙ slice_get_read c.deref-load-items.result.now (length c.deref-load-items.result.now) c.loop-place.place c.load-item.result refl (omega arith) c.load-item.is in
-    one_load_more c.args.self.now c.loop-place.place c.load-item.result (lists_of c.loop-place.ways.items) (lists_of c.in-Some.longer.items) at c.loop-place.invariant
-    (next_of_all c.args.self.now c.load-item.result c.loop-place.place c.deref.result.now c.loop-place.ways.items (lists_of c.in-Some.longer.items) c.deref.ensures.value (rw c.in-Some.is at c.in_ok-longer.ensures))
+pub loop-index-preserved : goal.loop-index-preserved
+loop-index-preserved c =
+    let at : slice_get c.args.self.now.loads.items c.loop-index.index ≡ Some c.load-item.result =
+    ap (λ (l : List Load). slice_get l c.loop-index.index) (sym c.deref-load-items.ensures.value) ∙ slice_get_read c.deref-load-items.result.now (length c.deref-load-items.result.now) c.loop-index.index c.load-item.result refl (omega arith) c.load-item.is in
+    one_load_more c.args.self.now c.loop-index.index c.load-item.result (lists_of c.loop-index.ways.items) (lists_of c.in-Some.longer.items) at c.loop-index.invariant
+    (next_of_all c.args.self.now c.load-item.result c.loop-index.index c.deref.result.now c.loop-index.ways.items (lists_of c.in-Some.longer.items) c.deref.ensures.value (rw c.in-Some.is at c.in_ok-longer.ensures))
 
 pub returns-in-None : goal.returns-in-None
 returns-in-None c =
-    let at : slice_get c.args.self.now.loads.items c.loop-place.place ≡ Some c.load-item.result =
-    ap (λ (l : List Load). slice_get l c.loop-place.place) (sym c.deref-load-items.ensures.value) ∙ slice_get_read c.deref-load-items.result.now (length c.deref-load-items.result.now) c.loop-place.place c.load-item.result refl (omega arith) c.load-item.is in
-    over_at c.args.self.now c.loop-place.place c.args.limit c.load-item.result (lists_of c.loop-place.ways.items) at c.loop-place.invariant
-    (over_of_all c.args.self.now c.load-item.result c.loop-place.place c.args.limit c.deref.result.now c.loop-place.ways.items c.deref.ensures.value (rw c.in-None.is at c.in_ok-longer.ensures))
+    let at : slice_get c.args.self.now.loads.items c.loop-index.index ≡ Some c.load-item.result =
+    ap (λ (l : List Load). slice_get l c.loop-index.index) (sym c.deref-load-items.ensures.value) ∙ slice_get_read c.deref-load-items.result.now (length c.deref-load-items.result.now) c.loop-index.index c.load-item.result refl (omega arith) c.load-item.is in
+    over_at c.args.self.now c.loop-index.index c.args.limit c.load-item.result (lists_of c.loop-index.ways.items) at c.loop-index.invariant
+    (over_of_all c.args.self.now c.load-item.result c.loop-index.index c.args.limit c.deref.result.now c.loop-index.ways.items c.deref.ensures.value (rw c.in-None.is at c.in_ok-longer.ensures))
 
 pub returns-then-len-limit : goal.returns-then-len-limit
 returns-then-len-limit c =
-    over_all c.args.self.now c.args.limit (lists_of c.loop-place.ways.items)
-    (all_loads c.args.self.now c.loop-place.place (lists_of c.loop-place.ways.items) (let e = ap (λ (l : List Load). length l) c.deref-load-items.ensures.value in omega (arith, e)) c.loop-place.invariant)
-    (omega (arith, c.if-len-limit.true, c.len.ensures, c.loop-place.ways.ok.0, length-map c.loop-place.ways.items (λ v. v.items)))
+    over_all c.args.self.now c.args.limit (lists_of c.loop-index.ways.items)
+    (all_loads c.args.self.now c.loop-index.index (lists_of c.loop-index.ways.items) (let e = ap (λ (l : List Load). length l) c.deref-load-items.ensures.value in omega (arith, e)) c.loop-index.invariant)
+    (omega (arith, c.if-len-limit.true, c.len.ensures, c.loop-index.ways.ok.0, length-map c.loop-index.ways.items (λ v. v.items)))
 
 pub returns : goal.returns
 returns c = (
-  all_loads c.args.self.now c.loop-place.place (lists_of c.loop-place.ways.items) (let e = ap (λ (l : List Load). length l) c.deref-load-items.ensures.value in omega (arith, e)) c.loop-place.invariant,
-  omega (arith, c.if-len-limit.false, c.len.ensures, c.loop-place.ways.ok.0),
+  all_loads c.args.self.now c.loop-index.index (lists_of c.loop-index.ways.items) (let e = ap (λ (l : List Load). length l) c.deref-load-items.ensures.value in omega (arith, e)) c.loop-index.invariant,
+  omega (arith, c.if-len-limit.false, c.len.ensures, c.loop-index.ways.ok.0),
 )

@@ -5,5 +5,5 @@ use Rattle.run_combinations.specs.Rounds.{Shows}
 use Rattle.run_combinations.specs.declared.combination.Event.{Event}
 use Rattle.run_combinations.proofs.reading.Reading.ways.Given as goal
 
-abbrev pub invariant-loop-place : goal.invariant-loop-place
-invariant-loop-place l = (es : List Event) (pairs : List (ℕ × ℕ)) → Shows es pairs l.self → IsFiltered (IsPossible (accesses_in es pairs)) (tuples [] (take l.place (accesses_in es pairs).sources)) (lists_of l.ways.items)
+abbrev pub invariant-loop-index : goal.invariant-loop-index
+invariant-loop-index l = (es : List Event) (pairs : List (ℕ × ℕ)) → Shows es pairs l.self → IsFiltered (IsPossible (accesses_in es pairs)) (tuples [] (take l.index (accesses_in es pairs).sources)) (lists_of l.ways.items)

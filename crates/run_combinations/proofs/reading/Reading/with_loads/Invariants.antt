@@ -3,5 +3,5 @@ use Rattle.bit_relations.specs.Relation.{IsMember, IsEvents}
 use Rattle.run_combinations.specs.Rounds.{Stepped, CanArise, load_event}
 use Rattle.run_combinations.proofs.reading.Reading.with_loads.Given as goal
 
-abbrev pub invariant-loop-place : goal.invariant-loop-place
-invariant-loop-place l = IsEvents l.next l.derived.count (λ x. IsMember l.derived x ⊎ Stepped load_event (CanArise l.way l.without l.derived) l.derived.count l.place l.self.loads.items x)
+abbrev pub invariant-loop-index : goal.invariant-loop-index
+invariant-loop-index l = IsEvents l.next l.derived.count (λ x. IsMember l.derived x ⊎ Stepped load_event (CanArise l.way l.without l.derived) l.derived.count l.index l.self.loads.items x)

@@ -1,0 +1,25 @@
+-- What becomes of the jobs of workers. Each count stops at the greatest number of 64 bits.
+use Rattle.std.specs.Prelude.{ℕ, ◌+◌, ◌-◌, ◌^◌, min}
+use Rattle.memo_core.specs.declared.claims.Finish.{Finish}
+use Rattle.memo_core.specs.declared.claims.Finish.TheVariants.{Unknown, Stale, Same, Stored}
+use Rattle.bench_workers.specs.declared.tally.Tally.{Tally}
+
+abbrev sum_of : ℕ → ℕ → ℕ
+sum_of a b = min (a + b) (2 ^ 64 - 1)
+
+-- the counts with one more return, by what it came to
+abbrev pub noted : Finish → Tally → Tally
+noted Unknown t = record { stored = t.stored; same = t.same; stale = t.stale; unknown = sum_of t.unknown 1; refused = t.refused }
+noted (Stale stamp) t = record { stored = t.stored; same = t.same; stale = sum_of t.stale 1; unknown = t.unknown; refused = t.refused }
+noted Same t = record { stored = t.stored; same = sum_of t.same 1; stale = t.stale; unknown = t.unknown; refused = t.refused }
+noted (Stored names) t = record { stored = sum_of t.stored 1; same = t.same; stale = t.stale; unknown = t.unknown; refused = t.refused }
+
+-- the counts of both
+abbrev pub added : Tally → Tally → Tally
+added a b = record {
+  stored = sum_of a.stored b.stored;
+  same = sum_of a.same b.same;
+  stale = sum_of a.stale b.stale;
+  unknown = sum_of a.unknown b.unknown;
+  refused = sum_of a.refused b.refused;
+}

@@ -1,0 +1,4 @@
+pub mod Factors
+pub mod Scanning
+pub mod Walks
+pub mod Values

@@ -1,0 +1,35 @@
+-- The values of the factors of an expression.
+use Rattle.std.specs.Prelude.{ℕ, ◌≡◌, ◌<◌, ◌↔◌, List, [], length, slice_index_or, map}
+use Rattle.std.specs.List.{All}
+use denote.Ref.{Bor}
+use Rattle.bit_relations.specs.Relation.{Has}
+use Rattle.binding_graph.specs.declared.resolved.Code.{Code}
+use Rattle.binding_graph.specs.Trees.{RelTree, rel_code}
+use Rattle.candidates.specs.declared.candidate.Space.{Space}
+use Rattle.cat_eval.specs.declared.column.Column.{Column}
+use Rattle.check_witness.specs.Pairs.{HasPair}
+use Rattle.check_witness.specs.Values.{AreValues}
+use Rattle.factor_walks.specs.declared.run.Link.{Link}
+use Rattle.factor_walks.specs.declared.value.FactorValues.{FactorValues}
+use Rattle.factor_walks.specs.Factors.{Part, factors_of, tree_part}
+
+abbrev pub value_part : FactorValues → Part
+value_part v = record { repeats = v.repeats; steps = v.code.steps.items }
+
+-- it has the values of its relation in the candidates of the space
+abbrev pub IsValued : List (Bor Column) → Space → FactorValues → Type 0
+IsValued inputs space factor = AreValues factor.code inputs space factor.values
+
+-- the factors of an expression, with their values in the candidates of a space
+pub record AreFactorValues (code : Code) (inputs : List (Bor Column)) (space : Space) (factors : List FactorValues) : Type 0 where
+  pub parts : (t : RelTree) → code.steps.items ≡ rel_code t [] → map value_part factors ≡ map tree_part (factors_of t)
+  pub values : All (IsValued inputs space) factors
+
+-- the link has the factor's pairs in the candidate of number k
+pub record IsLinkAt (k : ℕ) (factor : FactorValues) (link : Link) : Type 0 where
+  pub repeats : link.repeats ≡ factor.repeats
+  pub pairs : (a b : ℕ) → Has link.relation a b ↔ HasPair factor.values k a b
+
+pub record AreLinksAt (k : ℕ) (factors : List FactorValues) (links : List Link) : Type 0 where
+  pub as_many : length links ≡ length factors
+  pub each : (j : ℕ) → j < length factors → (f : FactorValues) (l : Link) → IsLinkAt k (slice_index_or factors j f) (slice_index_or links j l)

@@ -1,0 +1,11 @@
+//! Why a composition relates an event to itself: a walk through its factors. Read specs/Factors first (which they are), then
+//! specs/Walks.
+#![tactic(auto)]
+
+mod factor;
+mod run;
+mod value;
+
+pub use factor::{Factor, Repeats, factors};
+pub use run::{Link, walk};
+pub use value::{FactorValues, factor_values, links_at};

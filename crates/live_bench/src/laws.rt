@@ -1,0 +1,55 @@
+//! What holds of any list of events on the bench of tests and models.
+
+ghost use Rattle.std.specs.Prelude.{◌≡◌, ℕ, List};
+ghost use Rattle.verdict.specs.declared.answer.Outcome.{Outcome};
+ghost use Rattle.stamped_texts.specs.declared.texts.StampedTexts.{StampedTexts as StampedRecord};
+ghost use Rattle.stamped_texts.specs.Cells.{from_scratch};
+ghost use Rattle.memo_core.specs.Work.{ReturnsLowerInRuns, WorkIsBounded, WorkUnsettlesNone};
+ghost use Rattle.cells.specs.CellLaws.{SettledCellIsFromScratch, UnreachedCellStays, OnlyNeededIsGiven, NoneIsOutTwice, EditBoundsWork, QuietCellsAreSettled, ListsAreRuns, ListBoundsWork};
+ghost use Rattle.live_bench.specs.Live.{live_meaning, live_cells, live_refusing};
+
+use stamped_texts::StampedTexts;
+
+/// After any list of edits, claims, returns (late and repeated ones too), losses, renewals and refused calls, in any order, a
+/// cell that is settled carries what evaluating its present test under its present model from nothing gives.
+pub fn settled_cells_are_from_scratch()
+    ensures { SettledCellIsFromScratch live_meaning live_cells }
+{
+    cells::laws::headline::<StampedTexts>();
+}
+
+/// An edit that leaves the slice of a settled cell as it is leaves the cell settled with the same outcome.
+pub fn unreached_cells_stay()
+    ensures { UnreachedCellStays live_meaning live_cells }
+{
+    cells::laws::untouched::<StampedTexts>();
+}
+
+/// Only what some cell needs is given out, and nothing twice at once. An accepted return of a node with settled inputs lowers
+/// the number of unsettled used nodes. Claims, returns, losses and refused calls unsettle no node, and of the claims that a
+/// list of them gives no more returns are accepted than it settles used nodes: after an edit, no more than it opened. Where no
+/// claim is given and none is out, every cell is settled.
+pub fn work_is_exact()
+    ensures needed { OnlyNeededIsGiven live_meaning live_cells }
+    ensures apart { NoneIsOutTwice live_meaning }
+    ensures lowers { ReturnsLowerInRuns live_meaning }
+    ensures bounded { WorkIsBounded live_meaning }
+    ensures kept { WorkUnsettlesNone live_meaning }
+    ensures edited { EditBoundsWork live_meaning }
+    ensures quiet { QuietCellsAreSettled live_meaning live_cells }
+{
+    cells::laws::exact_work::<StampedTexts>();
+}
+
+/// What `run_events` does is such a run, so all of this holds of it.
+pub fn lists_are_runs()
+    ensures runs { ListsAreRuns live_meaning live_refusing }
+    ensures bounded { ListBoundsWork live_meaning live_refusing }
+{
+    cells::laws::listed::<StampedTexts>();
+}
+
+/// What evaluating a test under a model from nothing gives is one outcome: any two that satisfy its definition are equal.
+pub fn outcomes_are_one()
+    ensures { (t : StampedRecord) (test model : List ℕ) (o p : Outcome) → from_scratch t test model o → from_scratch t test model p → o ≡ p }
+{}

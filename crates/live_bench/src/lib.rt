@@ -1,0 +1,12 @@
+//! The bench of tests and models as a user of the library takes it: `LiveBench` with its edits, claims, returns and cells, and
+//! the laws of any list of events on it. Read `specs/Live` first, after `Cells` and `CellLaws` of `cells/specs` and `Cells` of
+//! `stamped_texts/specs`.
+#![tactic(auto)]
+
+pub mod laws;
+
+use cells::bench::Bench;
+use stamped_texts::StampedTexts;
+
+/// A bench of litmus tests under models, whose store has the name `K`.
+pub type LiveBench<K> = Bench<K, StampedTexts>;

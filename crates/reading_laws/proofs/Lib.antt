@@ -1,0 +1,10 @@
+pub mod Kept
+pub mod Sound
+pub mod Common
+pub mod Items
+pub mod Stepping
+pub mod Side
+pub mod Texts
+pub mod Walk
+pub mod Models
+pub mod Slices
