@@ -3,7 +3,7 @@
 use crate::outcomes::put_counts;
 use cat_syntax::read_model;
 use litmus_ppc::{Quantifier, read_test};
-use litmusbench::{Form, form_of};
+use litmusbench::{Drawn, Form, form_of};
 use memo_graph::eval_cell;
 use source_text::{put_bytes, put_decimal};
 use std::alloc::{AllocError, Global};
@@ -74,6 +74,32 @@ fn put_files(
     put_words(answer, tests)
 }
 
+fn put_script(answer: &mut Vec<u8>, script: Option<&str>) -> Result<(), AllocError> {
+    match script {
+        Some(path) => {
+            put_bytes(answer, b"of ")?;
+            put_bytes(answer, path.as_bytes())?;
+            put_bytes(answer, b" ")
+        }
+        None => Ok(()),
+    }
+}
+
+fn put_flag(answer: &mut Vec<u8>, is_given: bool, name: &[u8]) -> Result<(), AllocError> {
+    if is_given {
+        put_bytes(answer, name)?;
+    }
+    Ok(())
+}
+
+fn put_drawn(answer: &mut Vec<u8>, drawn: Drawn) -> Result<(), AllocError> {
+    match drawn {
+        Drawn::Shown => put_bytes(answer, b", shown, "),
+        Drawn::Forbidden => put_bytes(answer, b", forbidden, "),
+        Drawn::All => put_bytes(answer, b", all, "),
+    }
+}
+
 fn put_form_of(alloc: Global, answer: &mut Vec<u8>, words: &[&str]) -> Result<(), AllocError> {
     match form_of(alloc, words) {
         Ok(Form::Stream) => put_bytes(answer, b"stream"),
@@ -85,15 +111,36 @@ fn put_form_of(alloc: Global, answer: &mut Vec<u8>, words: &[&str]) -> Result<()
         }
         Ok(Form::Table { models, tests }) => put_files(answer, b"table", models, tests),
         Ok(Form::Diff { models, tests }) => put_files(answer, b"diff", models, tests),
-        Ok(Form::Session { workers }) => {
-            put_bytes(answer, b"session with ")?;
+        Ok(Form::Session { script, workers }) => {
+            put_bytes(answer, b"session ")?;
+            put_script(answer, script)?;
+            put_bytes(answer, b"with ")?;
             put_decimal(answer, workers)
         }
-        Ok(Form::Why { model, test }) => {
-            put_bytes(answer, b"why ")?;
-            put_bytes(answer, model.as_bytes())?;
-            put_bytes(answer, b" ")?;
-            put_bytes(answer, test.as_bytes())
+        Ok(
+            Form::Why {
+                model,
+                test,
+                is_forbidden,
+                is_deep,
+            },
+        ) => {
+            put_files(answer, b"why", &[model], &[test])?;
+            put_flag(answer, is_forbidden, b", forbidden")?;
+            put_flag(answer, is_deep, b", deep")
+        }
+        Ok(Form::Watch { model, tests }) => put_files(answer, b"watch", &[model], tests),
+        Ok(
+            Form::Draw {
+                model,
+                test,
+                drawn,
+                most,
+            },
+        ) => {
+            put_files(answer, b"draw", &[model], &[test])?;
+            put_drawn(answer, drawn)?;
+            put_decimal(answer, most)
         }
         Err(_) => put_bytes(answer, b"usage"),
     }

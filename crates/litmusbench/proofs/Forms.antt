@@ -5,7 +5,8 @@ use Rattle.std.proofs.lemmas.List.{take_all, take-map, drop-map, length-map}
 use Rattle.std.proofs.lemmas.List.Sums.{position_or_len_is}
 use Rattle.std.specs.List.{list_all}
 use denote.Ref.{Bor}
-use Rattle.litmusbench.specs.Forms.{Asked, Table, texts_of, is_word, is_path, are_paths, dashes, word_at, asked_if, table_of, by_command, asked_in}
+use Rattle.litmusbench.specs.Forms.{Asked, Table, texts_of, is_word, is_path, are_paths, dashes, word_at, asked_if, table_of, paths_of, options_of, has_option, why_with, why_of, draw_by, draw_of, by_command, asked_in}
+use Rattle.std.specs.Prelude.{if◌then◌else◌}
 use Rattle.std.proofs.lemmas.Bool.{and_from, and_right}
 
 count : (words : List (Bor (List ℕ))) → length (texts_of words) ≡ length words
@@ -79,3 +80,43 @@ is_command words r w long first given =
     let not_short : ltb (length (texts_of words)) 2 ≡ false = more_is_false (length (texts_of words)) 2 (omega arith) in
     given ∙ ap (λ (t : List ℕ). by_command t (texts_of (take (length words - 2) (drop 2 words)))) first ∙ ap (λ (l : List (List ℕ)). by_command (word_at (texts_of words) 1) l) (behind words 2)
     ∙ rw not_short refl
+
+-- ---- paths and options
+
+second : {X : Type 0} (b : Bool) (x y : X) → b ≡ false → y ≡ (if b then x else y)
+second b x y h = ap (λ (c : Bool). if c then x else y) (sym h)
+
+pub last_paths : (words : List (Bor (List ℕ))) → is_path (word_at (texts_of words) 0) ≡ false
+    → texts_of (take (length words - (length words - 2)) (drop (length words - 2) words)) ≡ paths_of (texts_of words)
+last_paths words fails =
+    behind words (length words - 2) ∙ ap (λ (n : ℕ). drop (n - 2) (texts_of words)) (sym (count words))
+    ∙ second (is_path (word_at (texts_of words) 0)) (take 2 (texts_of words)) (drop (length (texts_of words) - 2) (texts_of words)) fails
+
+pub first_options : (words : List (Bor (List ℕ))) → is_path (word_at (texts_of words) 0) ≡ false → texts_of (take (length words - 2) words) ≡ options_of (texts_of words)
+first_options words fails =
+    before_split words (length words - 2) ∙ ap (λ (n : ℕ). take (n - 2) (texts_of words)) (sym (count words))
+    ∙ second (is_path (word_at (texts_of words) 0)) (drop 2 (texts_of words)) (take (length (texts_of words) - 2) (texts_of words)) fails
+
+long : (words : List (Bor (List ℕ))) → 2 ≤ length words → ltb (length (texts_of words)) 2 ≡ false
+long words enough = let n = count words in more_is_false (length (texts_of words)) 2 (omega arith)
+
+given_options : (words paths options : List (Bor (List ℕ))) (r : Option Asked) (f d : Bool) → texts_of paths ≡ paths_of (texts_of words) → texts_of options ≡ options_of (texts_of words)
+    → f ≡ has_option (texts_of options) (codes "--forbidden") → d ≡ has_option (texts_of options) (codes "--deep") → r ≡ why_with (texts_of paths) (length options) f d
+    → r ≡ why_with (paths_of (texts_of words)) (length (options_of (texts_of words))) (has_option (options_of (texts_of words)) (codes "--forbidden")) (has_option (options_of (texts_of words)) (codes "--deep"))
+given_options words paths options r f d split_paths split_options forbidden deep given =
+    given ∙ ap (λ (n : ℕ). why_with (texts_of paths) n f d) (sym (count options)) ∙ ap (λ (b : Bool). why_with (texts_of paths) (length (texts_of options)) b d) forbidden
+    ∙ ap (λ (b : Bool). why_with (texts_of paths) (length (texts_of options)) (has_option (texts_of options) (codes "--forbidden")) b) deep
+    ∙ ap (λ (p : List (List ℕ)). why_with p (length (texts_of options)) (has_option (texts_of options) (codes "--forbidden")) (has_option (texts_of options) (codes "--deep"))) split_paths
+    ∙ ap (λ (o : List (List ℕ)). why_with (paths_of (texts_of words)) (length o) (has_option o (codes "--forbidden")) (has_option o (codes "--deep"))) split_options
+
+pub is_why : (words paths options : List (Bor (List ℕ))) (r : Option Asked) (f d : Bool) → 2 ≤ length words → texts_of paths ≡ paths_of (texts_of words) → texts_of options ≡ options_of (texts_of words)
+    → f ≡ has_option (texts_of options) (codes "--forbidden") → d ≡ has_option (texts_of options) (codes "--deep") → r ≡ why_with (texts_of paths) (length options) f d → r ≡ why_of (texts_of words)
+is_why words paths options r f d enough split_paths split_options forbidden deep given =
+    given_options words paths options r f d split_paths split_options forbidden deep given
+    ∙ second (ltb (length (texts_of words)) 2) None (why_with (paths_of (texts_of words)) (length (options_of (texts_of words))) (has_option (options_of (texts_of words)) (codes "--forbidden")) (has_option (options_of (texts_of words)) (codes "--deep"))) (long words enough)
+
+pub is_draw : (words paths options : List (Bor (List ℕ))) (r : Option Asked) → 2 ≤ length words → texts_of paths ≡ paths_of (texts_of words) → texts_of options ≡ options_of (texts_of words)
+    → r ≡ draw_by (texts_of paths) (texts_of options) → r ≡ draw_of (texts_of words)
+is_draw words paths options r enough split_paths split_options given =
+    given ∙ ap (λ (p : List (List ℕ)). draw_by p (texts_of options)) split_paths ∙ ap (λ (o : List (List ℕ)). draw_by (paths_of (texts_of words)) o) split_options
+    ∙ second (ltb (length (texts_of words)) 2) None (draw_by (paths_of (texts_of words)) (options_of (texts_of words))) (long words enough)

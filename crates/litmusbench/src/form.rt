@@ -1,7 +1,7 @@
 //! What the words of a command line ask for.
 
 ghost use Rattle.std.specs.Prelude.{◌≡◌, ◌≤◌, ◌+◌, Some, None, IfOk, OnErr, length, option_map};
-ghost use Rattle.litmusbench.specs.Forms.{texts_of, asked_by, is_word, is_path, are_paths, dashes, word_at, eval_of, table_of, diff_of, why_of, session_with, session_of, by_command, asked_in};
+ghost use Rattle.litmusbench.specs.Forms.{texts_of, asked_by, is_word, is_path, are_paths, dashes, word_at, eval_of, table_of, diff_of, why_of, session_with, session_in, session_of_three, session_of, paths_of, options_of, has_option, count_of, why_with, watch_of, drawn_of, draw_with, draw_of_two, draw_of_three, draw_by, draw_of, text_of, by_command, asked_in};
 
 use clap::error::ErrorKind;
 use clap::{Arg, ArgAction, Command, Error};
@@ -23,10 +23,27 @@ const SESSION_AFTER: &str =
     "Commands with a text, which ends in a line that is exactly `.`: test, model M, init T, \
     thread T K, cond T, locations T, item M N, insert M N. Without: remove M N, drop test T, drop model M, \
     items M, show T M, counts T M, table M .., diff M M.\n\nExample: printf 'model sc\\nacyclic \
-    po|rf|fr|co\\n.\\nitems sc\\n' | pipitsolder session";
+    po|rf|fr|co\\n.\\nitems sc\\n' | pipitsolder session\n\
+    Example: pipitsolder session script.txt --workers 4";
 
 /// The most workers of a session.
 const MOST_WORKERS: u64 = 32;
+
+/// The most pictures, and how many there are at most where no number is asked for.
+const MOST_PICTURES: u64 = 64;
+
+const USUAL_PICTURES: u64 = 16;
+
+/// Which executions are drawn.
+#[derive(Clone, Copy, Debug, PartialEq, Eq)]
+pub enum Drawn {
+    /// Those that the model keeps and that have what the test asks for.
+    Shown,
+    /// Those that the model forbids and that have what the test asks for.
+    Forbidden,
+    /// All that the model keeps.
+    All,
+}
 
 /// What the program is asked to do.
 #[derive(Clone, Copy, Debug, PartialEq, Eq)]
@@ -48,14 +65,30 @@ pub enum Form<'a> {
         models: &'a [&'a str],
         tests: &'a [&'a str],
     },
-    /// A script stands on standard input: its commands are answered one after another, with so many workers.
+    /// A script stands in a file, or on standard input: its commands are answered one after another, with so many workers.
     Session {
+        script: Option<&'a str>,
         workers: u64,
     },
-    /// Why the model of a file forbids what the test of another asks for.
+    /// Why the model of a file forbids what the test of another asks for, or why it forbids one
+    /// execution; and in depth.
     Why {
         model: &'a str,
         test: &'a str,
+        is_forbidden: bool,
+        is_deep: bool,
+    },
+    /// The tests of some files under the model of another, again whenever a file changes.
+    Watch {
+        model: &'a str,
+        tests: &'a [&'a str],
+    },
+    /// Pictures of executions of the test of a file under the model of another, so many at most.
+    Draw {
+        model: &'a str,
+        test: &'a str,
+        drawn: Drawn,
+        most: u64,
     },
 }
 
@@ -141,23 +174,120 @@ fn diff_form<'a>(words: &'a [&'a str]) -> Option<Form<'a>>
     None
 }
 
-fn session_with<'a>(workers: Option<u64>) -> Option<Form<'a>>
-    ensures { option_map asked_by result ≡ session_with workers }
+fn session_with<'a>(script: Option<&'a str>, workers: Option<u64>) -> Option<Form<'a>>
+    ensures { option_map asked_by result ≡ session_with (text_of script.entry) workers }
 {
     match workers {
-        Some(workers) if workers <= MOST_WORKERS => Some(Form::Session { workers }),
+        Some(workers) if workers <= MOST_WORKERS => Some(Form::Session { script, workers }),
         _ => None,
     }
 }
 
-fn session_form<'a>(words: &[&str]) -> Option<Form<'a>>
+fn session_in<'a>(script: &'a str, workers: Option<u64>) -> Option<Form<'a>>
+    ensures { option_map asked_by result ≡ session_in script.now workers }
+{
+    if is_path(script) {
+        return session_with(Some(script), workers);
+    }
+    None
+}
+
+fn session_of_three<'a>(words: &'a [&'a str]) -> Option<Form<'a>>
+    ensures { option_map asked_by result ≡ session_of_three (texts_of words.now) }
+{
+    let first = word_at(words, 0);
+    let second = word_at(words, 1);
+    let third = word_at(words, 2);
+    if first == "--workers" {
+        session_in(third, number_of(second.as_bytes()))
+    } else if second == "--workers" {
+        session_in(first, number_of(third.as_bytes()))
+    } else {
+        None
+    }
+}
+
+fn session_form<'a>(words: &'a [&'a str]) -> Option<Form<'a>>
     ensures { option_map asked_by result ≡ session_of (texts_of words.now) }
 {
-    if words.is_empty() {
-        return Some(Form::Session { workers: 0 });
+    if words.len() == 0 {
+        let script = None;
+        return Some(Form::Session { script, workers: 0 });
     }
-    if words.len() == 2 && word_at(words, 0) == "--workers" {
-        return session_with(number_of(word_at(words, 1).as_bytes()));
+    let first = word_at(words, 0);
+    if words.len() == 1 {
+        return session_in(first, Some(0));
+    }
+    if words.len() == 2 {
+        if first == "--workers" {
+            return session_with(None, number_of(word_at(words, 1).as_bytes()));
+        }
+        return None;
+    }
+    if words.len() == 3 {
+        return session_of_three(words);
+    }
+    None
+}
+
+// The first two words, or the last two where the first word is an option.
+fn paths_of<'w, 'a>(words: &'w [&'a str]) -> &'w [&'a str]
+    requires { 2 ≤ length words.now }
+    ensures { texts_of result.now ≡ paths_of (texts_of words.now) }
+{
+    if is_path(word_at(words, 0)) {
+        &words[..2]
+    } else {
+        &words[words.len() - 2..]
+    }
+}
+
+// The words behind these, or before them.
+fn options_of<'w, 'a>(words: &'w [&'a str]) -> &'w [&'a str]
+    requires { 2 ≤ length words.now }
+    ensures { texts_of result.now ≡ options_of (texts_of words.now) }
+{
+    if is_path(word_at(words, 0)) {
+        &words[2..]
+    } else {
+        &words[..words.len() - 2]
+    }
+}
+
+// Whether one of two options is this one.
+fn has_option(options: &[&str], option: &str) -> bool
+    ensures { result ≡ has_option (texts_of options.now) option.now }
+{
+    word_at(options, 0) == option || word_at(options, 1) == option
+}
+
+fn count_of(first: bool, second: bool) -> usize
+    ensures { result ≡ count_of first second }
+{
+    match (first, second) {
+        (true, true) => 2,
+        (false, false) => 0,
+        _ => 1,
+    }
+}
+
+fn why_with<'a>(
+    paths: &[&'a str],
+    count: usize,
+    is_forbidden: bool,
+    is_deep: bool,
+) -> Option<Form<'a>>
+    ensures { option_map asked_by result ≡ why_with (texts_of paths.now) count is_forbidden is_deep }
+{
+    if are_paths(paths) && count == count_of(is_forbidden, is_deep) {
+        let model = word_at(paths, 0);
+        let test = word_at(paths, 1);
+        return Some(Form::Why {
+            model,
+            test,
+            is_forbidden,
+            is_deep,
+        });
     }
     None
 }
@@ -165,12 +295,110 @@ fn session_form<'a>(words: &[&str]) -> Option<Form<'a>>
 fn why_form<'a>(words: &'a [&'a str]) -> Option<Form<'a>>
     ensures { option_map asked_by result ≡ why_of (texts_of words.now) }
 {
-    if words.len() == 2 && are_paths(words) {
-        let model = word_at(words, 0);
-        let test = word_at(words, 1);
-        return Some(Form::Why { model, test });
+    if words.len() < 2 {
+        return None;
+    }
+    let options = options_of(words);
+    let is_forbidden = has_option(options, "--forbidden");
+    let is_deep = has_option(options, "--deep");
+    why_with(paths_of(words), options.len(), is_forbidden, is_deep)
+}
+
+fn watch_form<'a>(words: &'a [&'a str]) -> Option<Form<'a>>
+    ensures { option_map asked_by result ≡ watch_of (texts_of words.now) }
+{
+    if words.len() > 1 && are_paths(words) {
+        return Some(Form::Watch {
+            model: word_at(words, 0),
+            tests: &words[1..],
+        });
     }
     None
+}
+
+fn drawn_of(word: &str) -> Option<Drawn>
+    ensures { result ≡ drawn_of word.now }
+{
+    if word == "--shown" {
+        Some(Drawn::Shown)
+    } else if word == "--forbidden" {
+        Some(Drawn::Forbidden)
+    } else if word == "--all" {
+        Some(Drawn::All)
+    } else {
+        None
+    }
+}
+
+fn draw_with<'a>(paths: &[&'a str], drawn: Option<Drawn>, most: Option<u64>) -> Option<Form<'a>>
+    ensures { option_map asked_by result ≡ draw_with (texts_of paths.now) drawn most }
+{
+    match (drawn, most) {
+        (Some(drawn), Some(most)) => {
+            if are_paths(paths) && 1 <= most && most <= MOST_PICTURES {
+                let model = word_at(paths, 0);
+                let test = word_at(paths, 1);
+                return Some(Form::Draw {
+                    model,
+                    test,
+                    drawn,
+                    most,
+                });
+            }
+            None
+        }
+        _ => None,
+    }
+}
+
+fn draw_of_two<'a>(paths: &[&'a str], options: &[&str]) -> Option<Form<'a>>
+    ensures { option_map asked_by result ≡ draw_of_two (texts_of paths.now) (texts_of options.now) }
+{
+    if word_at(options, 0) == "--most" {
+        let most = number_of(word_at(options, 1).as_bytes());
+        return draw_with(paths, Some(Drawn::Shown), most);
+    }
+    None
+}
+
+fn draw_of_three<'a>(paths: &[&'a str], options: &[&str]) -> Option<Form<'a>>
+    ensures { option_map asked_by result ≡ draw_of_three (texts_of paths.now) (texts_of options.now) }
+{
+    let first = word_at(options, 0);
+    let second = word_at(options, 1);
+    let third = word_at(options, 2);
+    if first == "--most" {
+        draw_with(paths, drawn_of(third), number_of(second.as_bytes()))
+    } else if second == "--most" {
+        draw_with(paths, drawn_of(first), number_of(third.as_bytes()))
+    } else {
+        None
+    }
+}
+
+fn draw_by<'a>(paths: &[&'a str], options: &[&str]) -> Option<Form<'a>>
+    ensures { option_map asked_by result ≡ draw_by (texts_of paths.now) (texts_of options.now) }
+{
+    if options.len() == 0 {
+        draw_with(paths, Some(Drawn::Shown), Some(USUAL_PICTURES))
+    } else if options.len() == 1 {
+        draw_with(paths, drawn_of(word_at(options, 0)), Some(USUAL_PICTURES))
+    } else if options.len() == 2 {
+        draw_of_two(paths, options)
+    } else if options.len() == 3 {
+        draw_of_three(paths, options)
+    } else {
+        None
+    }
+}
+
+fn draw_form<'a>(words: &'a [&'a str]) -> Option<Form<'a>>
+    ensures { option_map asked_by result ≡ draw_of (texts_of words.now) }
+{
+    if words.len() < 2 {
+        return None;
+    }
+    draw_by(paths_of(words), options_of(words))
 }
 
 fn command_form<'a>(command: &str, words: &'a [&'a str]) -> Option<Form<'a>>
@@ -186,6 +414,10 @@ fn command_form<'a>(command: &str, words: &'a [&'a str]) -> Option<Form<'a>>
         session_form(words)
     } else if command == "why" {
         why_form(words)
+    } else if command == "watch" {
+        watch_form(words)
+    } else if command == "draw" {
+        draw_form(words)
     } else {
         None
     }
@@ -251,11 +483,13 @@ fn session_command<'a>(alloc: Global) -> Result<Command<'a>, AllocError> {
         .long("workers")
         .help("How many workers, 0 to 32: for now any number does the same")
         .action(ArgAction::Set);
+    let script = Arg::new(alloc, "SCRIPT")
+        .help("The file of a script, in place of standard input")
+        .action(ArgAction::Set);
     Command::new(alloc, "session")
-        .about(
-            "Answers the commands of a script on standard input: edits of tests and models, and questions",
-        )
+        .about("Answers the commands of a script: edits of tests and models, and questions")
         .after_help(SESSION_AFTER)
+        .arg(script)?
         .arg(workers)
 }
 

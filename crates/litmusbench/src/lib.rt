@@ -16,7 +16,7 @@ mod texts;
 
 pub use fault::{EvalFault, SessionFault};
 pub use file::TextFile;
-pub use form::{Form, form_of};
+pub use form::{Drawn, Form, form_of};
 pub use reading::NamedModel;
 pub use report::{Report, difference_report, table_report, write_report};
 pub use script::session;

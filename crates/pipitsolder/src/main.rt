@@ -34,6 +34,12 @@ fn tell_words<R: Eprint>(rt: &R, error: &io::Error) -> RunEnd {
     RunEnd::Usage
 }
 
+// A form that has no call yet.
+fn tell_unbuilt<R: Eprint>(rt: &R) -> RunEnd {
+    let _ = rt.eprintln("error: this form is not built yet");
+    RunEnd::Usage
+}
+
 fn tell_done<R: Eprint>(rt: &R, answered: Result<bool, SessionFault>) -> RunEnd {
     match answered {
         Ok(is_refused) => RunEnd::Answered(is_refused),
@@ -52,6 +58,17 @@ fn run_session<R: AllocGlobal + Input + Print>(rt: &R) -> Result<bool, SessionFa
     let mut source = OfRead::new(rt.reader());
     let mut sink = OfWrite::new(io::writer(rt));
     session(rt, &mut source, &mut sink)
+}
+
+fn session_file<R: AllocGlobal + Files + Print>(rt: &R, path: &str) -> Result<bool, SessionFault> {
+    match File::open(rt, path) {
+        Ok(file) => {
+            let mut source = OfRead::new(file);
+            let mut sink = OfWrite::new(io::writer(rt));
+            session(rt, &mut source, &mut sink)
+        }
+        Err(_) => Err(SessionFault::Read),
+    }
 }
 
 fn text_of_file<R: AllocGlobal + Files>(rt: &R, path: &str) -> Result<Vec<u8>, SessionFault> {
@@ -146,8 +163,27 @@ fn answer<R: AllocGlobal + Eprint + Files + Input + Print, E: Print>(
             tell_done(rt, table_files(rt, errors, models, tests))
         }
         Ok(Form::Diff { models, tests }) => tell_done(rt, diff_files(rt, errors, models, tests)),
-        Ok(Form::Session { workers: _ }) => tell_done(rt, run_session(rt)),
-        Ok(Form::Why { model, test }) => tell_done(rt, why_files(rt, model, test)),
+        Ok(
+            Form::Session {
+                script: None,
+                workers: _,
+            },
+        ) => tell_done(rt, run_session(rt)),
+        Ok(
+            Form::Session {
+                script: Some(path),
+                workers: _,
+            },
+        ) => tell_done(rt, session_file(rt, path)),
+        Ok(
+            Form::Why {
+                model,
+                test,
+                is_forbidden: false,
+                is_deep: false,
+            },
+        ) => { tell_done(rt, why_files(rt, model, test)) }
+        Ok(Form::Why { .. } | Form::Watch { .. } | Form::Draw { .. }) => tell_unbuilt(rt),
         Err(error) => tell_usage(rt, &error),
     }
 }
