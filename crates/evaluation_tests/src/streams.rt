@@ -3,8 +3,8 @@
 ghost use Rattle.std.specs.Prelude.{None};
 
 use litmusbench::{
-    ByteSink, ByteSource, CallFailed, MemorySink, MemorySource, OfRead, SessionFault, eval_stream,
-    read_front, read_text, write_answer,
+    ByteSink, ByteSource, CallFailed, MemorySink, MemorySource, NoListener, OfRead, SessionFault,
+    eval_stream, read_front, read_text, write_answer,
 };
 use std::alloc::AllocError;
 use std::io;
@@ -85,7 +85,7 @@ fn show_sources<R: Print + AllocGlobal>(rt: &R, input: &[u8]) -> io::Result<()> 
     for call in 0..6 {
         let mut source = MemorySource::failing_at(input, Some(call));
         let mut sink = MemorySink::failing_at(Vec::new(alloc), None);
-        let word = word_of(eval_stream(rt, &mut source, &mut sink));
+        let word = word_of(eval_stream(rt, &mut source, &mut sink, &mut NoListener));
         let head = format!(in alloc; "source that fails at call {call}: {word}")?;
         show_written(rt, head.as_str(), sink.as_bytes())?;
     }
@@ -99,7 +99,7 @@ fn show_sinks<R: Print + AllocGlobal>(rt: &R, input: &[u8]) -> io::Result<()> {
         let mut sink = Sipping {
             inner: MemorySink::failing_at(Vec::new(alloc), Some(call)),
         };
-        let word = word_of(eval_stream(rt, &mut source, &mut sink));
+        let word = word_of(eval_stream(rt, &mut source, &mut sink, &mut NoListener));
         let head = format!(in alloc; "sink that fails at call {call}: {word}")?;
         show_written(rt, head.as_str(), sink.inner.as_bytes())?;
     }
@@ -149,7 +149,7 @@ fn show_lengths<R: Print + AllocGlobal>(rt: &R) -> io::Result<()> {
         put_padded(&mut input, TEST, test)?;
         let mut sink = MemorySink::failing_at(Vec::new(alloc), None);
         let mut source = MemorySource::failing_at(&input, None);
-        let word = word_of(eval_stream(rt, &mut source, &mut sink));
+        let word = word_of(eval_stream(rt, &mut source, &mut sink, &mut NoListener));
         let head = format!(in alloc; "model of {model} bytes, test of {test}: {word}")?;
         show_written(rt, head.as_str(), sink.as_bytes())?;
     }
@@ -161,7 +161,7 @@ fn show_ends<R: Print + AllocGlobal>(rt: &R) -> io::Result<()> {
     show_fronts(rt)?;
     show_lengths(rt)?;
     let mut sink = MemorySink::failing_at(Vec::new(alloc), None);
-    let word = word_of(eval_stream(rt, &mut Endless, &mut sink));
+    let word = word_of(eval_stream(rt, &mut Endless, &mut sink, &mut NoListener));
     let head = format!(in alloc; "source that does not end: {word}")?;
     show_written(rt, head.as_str(), sink.as_bytes())
 }
@@ -195,7 +195,7 @@ fn show_answers<R: Print + AllocGlobal>(rt: &R) -> io::Result<()> {
 pub fn show_answer<R: Print + AllocGlobal>(rt: &R, input: &[u8]) -> io::Result<()> {
     let mut source = MemorySource::failing_at(input, None);
     let mut sink = MemorySink::failing_at(Vec::new(rt.alloc()), None);
-    let word = word_of(eval_stream(rt, &mut source, &mut sink));
+    let word = word_of(eval_stream(rt, &mut source, &mut sink, &mut NoListener));
     match str::from_utf8(sink.as_bytes()) {
         Ok(text) => print!(rt; "{word}: {text}"),
         Err(_) => println!(rt; "{word}: no text"),

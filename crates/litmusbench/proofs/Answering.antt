@@ -1,5 +1,5 @@
 -- What is said of two texts.
-use Rattle.std.proofs.Common.{◌≡◌, ◌≢◌, ℕ, List, Bool, true, Option, Some, None, Result, Ok, Err, IfOk, IfSome, ap, ◌∙◌, subst, refl}
+use Rattle.std.proofs.Common.{◌≡◌, ◌≢◌, ℕ, List, Bool, true, Option, Some, None, Result, Ok, Err, IfOk, IfSome, ap, ◌∙◌, sym, subst, refl}
 use Rattle.std.specs.Io.KnownBytes.{Keeps}
 use Rattle.std.specs.declared.alloc.Global.{Global}
 use Rattle.std.specs.declared.alloc.AllocError.{AllocError}
@@ -28,6 +28,7 @@ use Rattle.litmusbench.specs.declared.fault.SessionFault.{SessionFault}
 use Rattle.litmusbench.specs.declared.fault.SessionFault.TheVariants as faults
 use Rattle.litmusbench.specs.declared.stream.Answer.{Answer}
 use Rattle.memo_graph.specs.FromScratch.{IsFromScratch}
+use Rattle.litmusbench.specs.Reasoned.{IsReasoned}
 use Rattle.litmusbench.specs.Answer.{IsLogOf, IsModel, IsModelRefused, IsTestRefused, IsAnswer, RefusesModel, RefusesTest, IsRefusal, IsWritten, IsStreamed}
 use Rattle.litmusbench.specs.Cut.{IsCut}
 use Rattle.session_edits.specs.Answer.{refused_line}
@@ -69,6 +70,11 @@ pub refuses_test : (r : Result Answer AllocError) (model test : List ℕ) (rule 
 refuses_test (Ok a) model test rule number offset is_model refused e h =
     RefusesTest h.1 rule offset is_model refused (h.0 ∙ ap (λ (n : ℕ). refused_line 76 n offset) e)
 refuses_test (Err f) model test rule number offset is_model refused e h = tt
+
+-- a line of a refused text is what `why` answers
+pub reasoned : (r : Result Answer AllocError) (model test line : List ℕ) → IfOk r (λ a. IsAnswer model test a.text.items a.is_refused) → IfOk r (λ a. (a.text.items ≡ line) × (a.is_refused ≡ true)) → IfOk r (λ a. IsReasoned model test a.text.items a.is_refused)
+reasoned (Ok a) model test line h e = subst (λ (b : Bool). IsReasoned model test a.text.items b) (sym e.1) (subst (λ (b : Bool). IsAnswer model test a.text.items b) e.1 h)
+reasoned (Err f) model test line h e = tt
 
 kept : (known : Option (List ℕ)) → Keeps known known
 kept None = tt

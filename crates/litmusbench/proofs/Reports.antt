@@ -1,6 +1,6 @@
 -- Files read in turn, and rows put one behind another.
-use Rattle.std.proofs.Common.{◌≡◌, ℕ, ◌+◌, ◌<◌, List, [], ◌∷◌, ◌++◌, length, get_or, take, map, Result, Ok, Err, OnOk, refl, sym, ap, ◌∙◌, subst}
-use Rattle.std.proofs.lemmas.List.{take_more, map-append}
+use Rattle.std.proofs.Common.{◌≡◌, ◌≢◌, ℕ, ◌+◌, ◌<◌, List, [], ◌∷◌, ◌++◌, length, get_or, take, map, Result, Ok, Err, OnOk, IfOk, refl, sym, ap, ◌∙◌, subst}
+use Rattle.std.proofs.lemmas.List.{take_more, map-append, nil_from_length}
 use Rattle.std.specs.List.{AllZip}
 use Rattle.cat_tokens.specs.declared.rule.CatRule.{CatRule}
 use Rattle.cat_tokens.specs.Tokens.{number_of as model_rule_number}
@@ -10,13 +10,17 @@ use Rattle.litmus_values.specs.declared.test.Test.{Test}
 use Rattle.litmusbench.specs.declared.file.TextFile.{TextFile}
 use Rattle.litmusbench.specs.declared.reading.NamedModel.{NamedModel}
 use Rattle.litmusbench.specs.Answer.{IsModelRefused, IsTestRefused}
-use Rattle.litmusbench.specs.Files.{fault_line}
-use Rattle.litmusbench.specs.Reports.{AddsModel, IsModelFault, IsTestFault, AreModels, NoModel, NextModel, AddsTest, AreTests, NoTest, NextTest}
+use Rattle.litmusbench.specs.Files.{AddsFault}
+use Rattle.litmusbench.specs.Reports.{AddsModel, IsModelFault, IsTestFault, AreModels, NoModel, NextModel, AddsTest, AreTests, NoTest, NextTest, IsTestTold, IsToldOf}
 use Rattle.binding_graph.proofs.Labels.{zip_push}
 
 pub on_ok : {T E P Q : Type 0} (r : Result T E) → (P → Q) → OnOk r P → OnOk r Q
 on_ok (Ok x) f h = f h
 on_ok (Err e) f h = tt
+
+pub if_ok : {T E : Type 0} (r : Result T E) (P Q : T → Type 0) → ((x : T) → P x → Q x) → IfOk r P → IfOk r Q
+if_ok (Ok x) P Q f h = f x h
+if_ok (Err e) P Q f h = tt
 
 pub no_models : (models : List NamedModel) (faults : List ℕ) → models ≡ [] → faults ≡ [] → AreModels [] models faults
 no_models models faults p q = subst (λ (l : List NamedModel). AreModels [] l faults) (sym p) (subst (λ (l : List ℕ). AreModels [] [] l) (sym q) NoModel)
@@ -25,14 +29,14 @@ pub no_tests : (first : List ℕ) (tests : List Test) → tests ≡ [] → AreTe
 no_tests first tests p = subst (λ (l : List Test). AreTests first [] l first) (sym p) NoTest
 
 pub model_fault_added : (file : TextFile) (models : List NamedModel) (faults lines : List ℕ) (rule : CatRule) (number offset position : ℕ) → IsModelRefused file.text.items rule offset → number ≡ model_rule_number rule → position ≡ offset
-    → lines ≡ faults ++ fault_line file.path.now file.text.items 67 number position → AddsModel file models faults models lines
+    → AddsFault faults lines file.path.now file.text.items 67 number position → AddsModel file models faults models lines
 model_fault_added file models faults lines rule number offset position refused e same put =
-    IsModelFault rule offset refused refl (put ∙ ap (λ (n : ℕ). faults ++ fault_line file.path.now file.text.items 67 n position) e ∙ ap (λ (n : ℕ). faults ++ fault_line file.path.now file.text.items 67 (model_rule_number rule) n) same)
+    IsModelFault rule offset refused refl (subst (λ (n : ℕ). AddsFault faults lines file.path.now file.text.items 67 n offset) e (subst (λ (n : ℕ). AddsFault faults lines file.path.now file.text.items 67 number n) same put))
 
 pub test_fault_added : (file : TextFile) (tests : List Test) (faults lines : List ℕ) (rule : LitmusRule) (number offset position : ℕ) → IsTestRefused file.text.items rule offset → number ≡ test_rule_number rule → position ≡ offset
-    → lines ≡ faults ++ fault_line file.path.now file.text.items 76 number position → AddsTest file tests faults tests lines
+    → AddsFault faults lines file.path.now file.text.items 76 number position → AddsTest file tests faults tests lines
 test_fault_added file tests faults lines rule number offset position refused e same put =
-    IsTestFault rule offset refused refl (put ∙ ap (λ (n : ℕ). faults ++ fault_line file.path.now file.text.items 76 n position) e ∙ ap (λ (n : ℕ). faults ++ fault_line file.path.now file.text.items 76 (test_rule_number rule) n) same)
+    IsTestFault rule offset refused refl (subst (λ (n : ℕ). AddsFault faults lines file.path.now file.text.items 76 n offset) e (subst (λ (n : ℕ). AddsFault faults lines file.path.now file.text.items 76 number n) same put))
 
 pub models_more : (files : List TextFile) (i : ℕ) (file : TextFile) (models more : List NamedModel) (faults lines : List ℕ) → i < length files → file ≡ get_or files i file
     → AreModels (take i files) models faults → AddsModel file models faults more lines → AreModels (take (i + 1) files) more lines
@@ -53,3 +57,30 @@ zip_more {A} {B} {C} R f xs i x old new y inside at_i pushed before r =
     let cut : take (i + 1) xs ≡ take i xs ++ x ∷ [] = take_more xs i x inside ∙ ap (λ (a : A). take i xs ++ a ∷ []) (sym at_i) in
     let ends : map f new ≡ map f old ++ f y ∷ [] = ap (λ (l : List C). map f l) pushed ∙ map-append f old (y ∷ []) in
     subst (λ (l : List A). AllZip R l (map f new)) (sym cut) (subst (λ (l : List B). AllZip R (take i xs ++ x ∷ []) l) (sym ends) (zip_push R (take i xs) (map f old) x (f y) before r))
+
+-- what is told of a model and a test
+pub test_told : (file : TextFile) (before after : List Test) (none lines : List ℕ) → before ≡ [] → none ≡ [] → AddsTest file before none after lines → IsTestTold file [] lines
+test_told file before after none lines p q h = (after, subst (λ (l : List ℕ). AddsTest file [] l after lines) q (subst (λ (l : List Test). AddsTest file l none after lines) p h))
+
+told_itself : (test : TextFile) (faults : List ℕ) → length faults ≢ 0 → IsTestTold test faults faults
+told_itself test [] h = absurd (h refl)
+told_itself test (b ∷ bs) h = refl
+
+from_nothing : (model : TextFile) (before after : List NamedModel) (none faults : List ℕ) → before ≡ [] → none ≡ [] → AddsModel model before none after faults → AddsModel model [] [] after faults
+from_nothing model before after none faults p q h = subst (λ (l : List ℕ). AddsModel model [] l after faults) q (subst (λ (l : List NamedModel). AddsModel model l none after faults) p h)
+
+pub told_of_test : (model test : TextFile) (before after : List NamedModel) (none faults lines : List ℕ) → before ≡ [] → none ≡ [] → length faults ≡ 0 → AddsModel model before none after faults → IsTestTold test [] lines → IsToldOf model test lines
+told_of_test model test before after none faults lines p q e h told = record {
+  models = after;
+  faults = [];
+  of_model = subst (λ (l : List ℕ). AddsModel model [] [] after l) (nil_from_length faults e) (from_nothing model before after none faults p q h);
+  of_test = told;
+}
+
+pub told_of_model : (model test : TextFile) (before after : List NamedModel) (none faults : List ℕ) → before ≡ [] → none ≡ [] → length faults ≢ 0 → AddsModel model before none after faults → IsToldOf model test faults
+told_of_model model test before after none faults p q e h = record {
+  models = after;
+  faults = faults;
+  of_model = from_nothing model before after none faults p q h;
+  of_test = told_itself test faults e;
+}

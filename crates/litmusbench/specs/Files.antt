@@ -1,13 +1,9 @@
--- Files: the name of a model, and the line that says where a text is refused.
-use Rattle.std.specs.Prelude.{ℕ, ◌+◌, ◌-◌, ◌==◌, List, ◌++◌, Bool, true, false, nat_eq, length, take, drop, reverse, codes, decimal}
+-- Files: the name of a model, and the lines that say where a text is refused.
+use Rattle.std.specs.Prelude.{◌≡◌, ℕ, ◌-◌, List, ◌++◌, Bool, true, false, nat_eq, length, take, drop, codes}
 use Rattle.std.specs.Cmp.Lexicographic.{pointwise}
-use Rattle.std.specs.List.{filter, position_or_len}
-use Rattle.source_text.specs.Layout.{is_line_end}
-use Rattle.session_edits.specs.Answer.{refused_line}
-
--- how many bytes stand behind the last byte of this value: all of them where there is none
-abbrev pub count_behind : ℕ → List ℕ → ℕ
-count_behind sign bytes = position_or_len (λ b. b == sign) (reverse bytes)
+use Rattle.fault_lines.specs.Lines.{fault_lines}
+use Rattle.fault_lines.specs.Positions.{count_behind}
+use Rattle.fault_lines.specs.Words.{rule_words}
 
 -- the part of a path behind its last slash
 abbrev pub file_name : List ℕ → List ℕ
@@ -25,17 +21,6 @@ without_suffix suffix text = cut_suffix (pointwise nat_eq (drop (length text - l
 abbrev pub model_name : List ℕ → List ℕ
 model_name path = without_suffix (codes ".cat") (file_name path)
 
--- the line and the column of a byte of a text, both from 1, columns in bytes
-abbrev pub line_number : List ℕ → ℕ → ℕ
-line_number text offset = length (filter is_line_end (take offset text)) + 1
-
-abbrev pub column_number : List ℕ → ℕ → ℕ
-column_number text offset = count_behind 10 (take offset text) + 1
-
--- a refused text: its path, the line and the column of the fault, and the line of the refusal
-unfoldable pub position_label : List ℕ → ℕ → ℕ → List ℕ
-position_label path line column = path ++ codes ":" ++ decimal line ++ codes ":" ++ decimal column ++ codes ": "
-
-abbrev pub fault_line : List ℕ → List ℕ → ℕ → ℕ → ℕ → List ℕ
-fault_line path text letter number offset =
-    position_label path (line_number text offset) (column_number text offset) ++ refused_line letter number offset
+-- behind these bytes stand the lines of a text that is refused
+abbrev pub AddsFault : (old new path text : List ℕ) (letter number offset : ℕ) → Type 0
+AddsFault old new path text letter number offset = new ≡ old ++ fault_lines path text letter number (rule_words letter number) offset

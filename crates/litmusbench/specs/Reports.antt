@@ -1,4 +1,4 @@
--- What is said of files of models and files of tests. A file whose text is refused is one line, and the others go on.
+-- What is said of files of models and files of tests. A file whose text is refused is told, and the others go on.
 use Rattle.std.specs.Prelude.{◌≡◌, ℕ, List, [], ◌∷◌, ◌++◌, map}
 use Rattle.std.specs.List.{AllZip}
 use Rattle.cat_grammar.specs.declared.form.Form.TheVariants.{Model}
@@ -19,28 +19,42 @@ use Rattle.litmusbench.specs.declared.file.TextFile.{TextFile}
 use Rattle.litmusbench.specs.declared.reading.NamedModel.{NamedModel}
 use Rattle.litmusbench.specs.Answer.{IsModelRefused, IsTestRefused}
 use Rattle.memo_graph.specs.FromScratch.{IsFromScratch}
-use Rattle.litmusbench.specs.Files.{model_name, fault_line}
+use Rattle.litmusbench.specs.Files.{model_name, AddsFault}
 
 -- ---- files that are read in turn
 
 -- behind these models and these lines, a file adds a model or a line
 pub data AddsModel (file : TextFile) (models : List NamedModel) (faults : List ℕ) (more : List NamedModel) (lines : List ℕ) : Type 0 where
   IsModelAdded : (m : NamedModel) → m.name ≡ model_name file.path.now → Reads Model file.text.items (clauses_of m.model.items.items) → more ≡ models ++ m ∷ [] → lines ≡ faults → AddsModel file models faults more lines
-  IsModelFault : (rule : CatRule) → (offset : ℕ) → IsModelRefused file.text.items rule offset → more ≡ models → lines ≡ faults ++ fault_line file.path.now file.text.items 67 (model_rule_number rule) offset → AddsModel file models faults more lines
+  IsModelFault : (rule : CatRule) → (offset : ℕ) → IsModelRefused file.text.items rule offset → more ≡ models → AddsFault faults lines file.path.now file.text.items 67 (model_rule_number rule) offset → AddsModel file models faults more lines
 
--- the models that the files hold, and the lines of those that are refused
+-- the models that the files hold, and what is told of those that are refused
 pub data AreModels : List TextFile → List NamedModel → List ℕ → Type 0 where
   NoModel : AreModels [] [] []
   NextModel : (files : List TextFile) (file : TextFile) (models more : List NamedModel) (faults lines : List ℕ) → AreModels files models faults → AddsModel file models faults more lines → AreModels (files ++ file ∷ []) more lines
 
 pub data AddsTest (file : TextFile) (tests : List Test) (faults : List ℕ) (more : List Test) (lines : List ℕ) : Type 0 where
   IsTestAdded : (t : Test) → ReadsTest file.text.items (content_of t) → more ≡ tests ++ t ∷ [] → lines ≡ faults → AddsTest file tests faults more lines
-  IsTestFault : (rule : LitmusRule) → (offset : ℕ) → IsTestRefused file.text.items rule offset → more ≡ tests → lines ≡ faults ++ fault_line file.path.now file.text.items 76 (test_rule_number rule) offset → AddsTest file tests faults more lines
+  IsTestFault : (rule : LitmusRule) → (offset : ℕ) → IsTestRefused file.text.items rule offset → more ≡ tests → AddsFault faults lines file.path.now file.text.items 76 (test_rule_number rule) offset → AddsTest file tests faults more lines
+
+-- the test is looked at where nothing is told of the model
+abbrev pub IsTestTold : TextFile → List ℕ → List ℕ → Type 0
+IsTestTold test [] lines = (tests : List Test) × AddsTest test [] [] tests lines
+IsTestTold test (b ∷ bs) lines = lines ≡ b ∷ bs
 
 -- the tests that the files hold, behind these lines
 pub data AreTests (before : List ℕ) : List TextFile → List Test → List ℕ → Type 0 where
   NoTest : AreTests before [] [] before
   NextTest : (files : List TextFile) (file : TextFile) (tests more : List Test) (faults lines : List ℕ) → AreTests before files tests faults → AddsTest file tests faults more lines → AreTests before (files ++ file ∷ []) more lines
+
+-- ---- a model and a test
+
+-- what is told of the first of a model and a test that is refused; nothing where none is
+pub record IsToldOf (model test : TextFile) (lines : List ℕ) : Type 0 where
+  pub models : List NamedModel
+  pub faults : List ℕ
+  pub of_model : AddsModel model [] [] models faults
+  pub of_test : IsTestTold test faults lines
 
 -- ---- the cells
 

@@ -308,10 +308,9 @@ fn watch_form<'a>(words: &'a [&'a str]) -> Option<Form<'a>>
     ensures { option_map asked_by result ≡ watch_of (texts_of words.now) }
 {
     if words.len() > 1 && are_paths(words) {
-        return Some(Form::Watch {
-            model: word_at(words, 0),
-            tests: &words[1..],
-        });
+        let model = word_at(words, 0);
+        let tests = &words[1..];
+        return Some(Form::Watch { model, tests });
     }
     None
 }

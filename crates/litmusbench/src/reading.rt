@@ -2,7 +2,7 @@
 
 ghost use Rattle.std.specs.Prelude.{◌≡◌, ◌++◌, ◌∷◌, [], IfOk, OnOk};
 ghost use Rattle.litmusbench.specs.Files.{model_name};
-ghost use Rattle.litmusbench.specs.Reports.{AddsModel, AreModels, AddsTest, AreTests};
+ghost use Rattle.litmusbench.specs.Reports.{AddsModel, AreModels, AddsTest, AreTests, IsTestTold, IsToldOf};
 
 use crate::file::{TextFile, model_name, put_fault};
 use cat_syntax::{CatFault, ModelText, read_model};
@@ -18,14 +18,14 @@ pub struct NamedModel {
     pub model: ModelText,
 }
 
-/// The models of some files, and the lines of the files that are refused.
+/// The models of some files, and what is told of the files that are refused.
 #[derive(Drop)]
 pub struct ReadModels {
     pub models: Vec<NamedModel>,
     pub faults: Vec<u8>,
 }
 
-/// The tests of some files, and the lines of the files that are refused.
+/// The tests of some files, and what is told of the files that are refused.
 #[derive(Drop)]
 pub struct ReadTests {
     pub tests: Vec<Test>,
@@ -98,7 +98,7 @@ fn read_test_file(
     }
 }
 
-/// The tests of the files, in order; the lines of those that are refused go behind these. Errors:
+/// The tests of the files, in order; what is told of those that are refused goes behind these lines. Errors:
 /// want of memory.
 pub fn read_tests(
     alloc: Global,
@@ -115,4 +115,34 @@ pub fn read_tests(
         read_test_file(alloc, file, &mut read)?;
     }
     Ok(read)
+}
+
+fn test_lines(alloc: Global, file: &TextFile<'_>) -> Result<Vec<u8>, AllocError>
+    ensures { IfOk result (λ v. IsTestTold file.now [] v.items) }
+{
+    let mut read = ReadTests {
+        tests: Vec::new(alloc),
+        faults: Vec::new(alloc),
+    };
+    read_test_file(alloc, file, &mut read)?;
+    Ok(read.faults)
+}
+
+/// What is told of the first of a model and a test that is refused; nothing where none is. Errors: want of memory.
+pub fn refusal_lines(
+    alloc: Global,
+    model: &TextFile<'_>,
+    test: &TextFile<'_>,
+) -> Result<Vec<u8>, AllocError>
+    ensures { IfOk result (λ v. IsToldOf model.now test.now v.items) }
+{
+    let mut read = ReadModels {
+        models: Vec::new(alloc),
+        faults: Vec::new(alloc),
+    };
+    read_model_file(alloc, model, &mut read)?;
+    if read.faults.is_empty() {
+        return test_lines(alloc, test);
+    }
+    Ok(read.faults)
 }

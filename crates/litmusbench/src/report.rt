@@ -1,12 +1,12 @@
 //! Tables and differences over files.
 
-ghost use Rattle.std.specs.Prelude.{◌≡◌, ◌^◌, ◌-◌, ◌<◌, ◌++◌, ◌==◌, not, IfOk, OnOk, length, map};
+ghost use Rattle.std.specs.Prelude.{◌≡◌, ◌^◌, ◌-◌, ◌<◌, ◌++◌, ◌==◌, ◌+◌, not, IfOk, OnOk, OnErr, length, map};
 ghost use Rattle.std.specs.List.{AllZip};
 ghost use Rattle.std.specs.Io.KnownBytes.{Appends};
 ghost use Rattle.compare_report.specs.Columns.{table_of};
 ghost use Rattle.session_answers.specs.Rows.{row_said};
 ghost use Rattle.litmusbench.specs.Reports.{IsRow, AreRead, names_of, IsTable, difference_under, IsDifference};
-ghost use Rattle.litmusbench.specs.Written.{WritesFront};
+ghost use Rattle.litmusbench.specs.Written.{WritesFront, IsStopped};
 
 use crate::fault::SessionFault;
 use crate::file::TextFile;
@@ -23,7 +23,7 @@ use std::alloc::{AllocError, Global};
 pub struct Report {
     /// The text that was asked for.
     pub text: Vec<u8>,
-    /// A line for each file that is refused.
+    /// What is told of the files that are refused.
     pub faults: Vec<u8>,
 }
 
@@ -150,7 +150,7 @@ pub fn difference_report(
     })
 }
 
-/// Writes the lines of the refused files to one sink, then the text to another. Whether a file was
+/// Writes what is told of the refused files to one sink, then the text to another. Whether a file was
 /// refused. Errors: `Write` where a call failed; then what was written is a front.
 pub fn write_report<W: ByteSink, E: ByteSink>(
     report: &Report,
@@ -159,13 +159,18 @@ pub fn write_report<W: ByteSink, E: ByteSink>(
 ) -> Result<bool, SessionFault>
     requires output { W.failed_calls output.old < 2 ^ 64 - 1 }
     requires errors { E.failed_calls errors.old < 2 ^ 64 - 1 }
-    // A file was refused just where there is a line for one.
+    // A file was refused just where one is told.
     ensures refused { IfOk result (λ r. r ≡ not (length report.now.faults.items == 0)) }
     // All is written, or a front where a write failed.
     ensures text { OnOk result (Appends (W.contents output.old) (W.contents output.new) report.now.text.items) }
     ensures faults { OnOk result (Appends (E.contents errors.old) (E.contents errors.new) report.now.faults.items) }
     ensures text_front { WritesFront (W.contents output.old) (W.contents output.new) report.now.text.items }
     ensures faults_front { WritesFront (E.contents errors.old) (E.contents errors.new) report.now.faults.items }
+    // `Write` comes after one failed call, which is the last, and there is no other error.
+    ensures failed { OnErr result (IsStopped (W.failed_calls output.old) (W.failed_calls output.new) (E.failed_calls errors.old) (E.failed_calls errors.new) (W.contents output.old) (W.contents output.new)) }
+    ensures output_works { OnOk result (W.failed_calls output.new ≡ W.failed_calls output.old) }
+    ensures errors_work { OnOk result (E.failed_calls errors.new ≡ E.failed_calls errors.old) }
+    ensures fault { OnErr result (result ≡ Err SessionFault.Write) }
 {
     if write_whole(errors, &report.faults).is_err() {
         return Err(SessionFault::Write);

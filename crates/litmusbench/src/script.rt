@@ -6,11 +6,12 @@ ghost use Rattle.bench_texts.specs.Held.{texts_of};
 ghost use Rattle.litmusbench.specs.Sessions.{IsSession, IsReplied, HasFailedOnce};
 
 use crate::fault::SessionFault;
+use crate::listening::AnswerListener;
 use crate::sink::{ByteSink, write_whole};
 use bench_texts::Texts;
 use session_answers::answer_command;
 use session_script::{ByteSource, Command, ReadFault, ScriptReader};
-use std::alloc::Global;
+use std::alloc::{AllocError, Global};
 
 fn read_command<S: ByteSource>(
     script: &mut ScriptReader,
@@ -31,12 +32,21 @@ fn read_command<S: ByteSource>(
     }
 }
 
-// Writes the answer to a command. Whether the command is refused.
-fn write_reply<W: ByteSink>(
+// The text of a command.
+fn text_of(alloc: Global, command: &Command) -> Result<Vec<u8>, AllocError> {
+    match command {
+        Command::Asked { request: _, text } => Vec::from_slice(alloc, text.as_bytes()),
+        Command::Refused(_) => Ok(Vec::new(alloc)),
+    }
+}
+
+// Writes the answer to a command, of which a listener then hears. Whether the command is refused.
+fn write_reply<W: ByteSink, L: AnswerListener>(
     alloc: Global,
     texts: &mut Texts,
     command: Command,
     sink: &mut W,
+    listener: &mut L,
 ) -> Result<bool, SessionFault>
     requires { W.failed_calls sink.old < 2 ^ 64 - 1 }
     ensures written { IsReplied (texts_of texts.old) (texts_of texts.new) command (W.contents sink.old) (W.contents sink.new) result }
@@ -44,25 +54,31 @@ fn write_reply<W: ByteSink>(
     ensures same { result ≢ Err SessionFault.Write → W.failed_calls sink.new ≡ W.failed_calls sink.old }
     ensures fault { result ≢ Err SessionFault.Read }
 {
+    let text = match text_of(alloc, &command) {
+        Ok(text) => text,
+        Err(_) => return Err(SessionFault::Memory),
+    };
     let answer = match answer_command(alloc, texts, command) {
         Ok(answer) => answer,
         Err(_) => return Err(SessionFault::Memory),
     };
-    match write_whole(sink, answer.text()) {
-        Ok(()) => Ok(answer.is_refused()),
-        Err(_) => Err(SessionFault::Write),
+    if write_whole(sink, answer.text()).is_err() {
+        return Err(SessionFault::Write);
     }
+    listener.hear(&text, answer.text());
+    Ok(answer.is_refused())
 }
 
 /// Answers the commands of a script one after another, each by one write as soon as its last line feed is read. Whether
 /// a command was refused. The tests and models of a session are its own, and each cell that it is asked for is
 /// evaluated from nothing. Errors: `Read` where a read failed or the script did not end within 16,777,216 reads,
 /// `Write`, or `Memory`; what was written by then is the output of the first commands, and of the next answer a front
-/// where a write failed.
-pub fn session<R: AllocGlobal, S: ByteSource, W: ByteSink>(
+/// where a write failed. A listener hears of each answer behind its write.
+pub fn session<R: AllocGlobal, S: ByteSource, W: ByteSink, L: AnswerListener>(
     rt: &R,
     source: &mut S,
     sink: &mut W,
+    listener: &mut L,
 ) -> Result<bool, SessionFault>
     requires source { S.failed_calls source.old < 2 ^ 64 - 1 }
     requires sink { W.failed_calls sink.old < 2 ^ 64 - 1 }
@@ -82,7 +98,7 @@ pub fn session<R: AllocGlobal, S: ByteSource, W: ByteSink>(
         match read {
             None => return Ok(is_refused),
             Some(command) => {
-                let refused = write_reply(rt.alloc(), &mut texts, command, sink)?;
+                let refused = write_reply(rt.alloc(), &mut texts, command, sink, listener)?;
                 is_refused |= refused;
             }
         }

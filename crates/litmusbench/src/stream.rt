@@ -2,10 +2,12 @@
 
 ghost use Rattle.std.specs.Prelude.{◌≡◌, ◌≢◌, ◌+◌, ◌-◌, ◌<◌, ◌^◌, true, IfOk, IfSome, take};
 ghost use Rattle.litmusbench.specs.Answer.{IsAnswer, IsReadFault, IsWritten, IsStreamed};
+ghost use Rattle.litmusbench.specs.Reasoned.{IsReasoned, IsReasonWritten};
 ghost use Rattle.session_edits.specs.Answer.{refused_line};
 
 use crate::cut::cut_at_dot;
 use crate::fault::{EvalFault, SessionFault};
+use crate::listening::AnswerListener;
 use crate::sink::{ByteSink, write_whole};
 use crate::texts::{eval, why_report};
 use session_edits::put_refusal;
@@ -72,7 +74,9 @@ pub fn write_answer<W: ByteSink>(
     }
 }
 
-fn why_answer(alloc: Global, model: &[u8], test: &[u8]) -> Result<Answer, AllocError> {
+fn why_answer(alloc: Global, model: &[u8], test: &[u8]) -> Result<Answer, AllocError>
+    ensures { IfOk result (λ a. IsReasoned model.now test.now a.text.items a.is_refused) }
+{
     match why_report(alloc, model, test) {
         Ok(text) => Ok(Answer {
             text,
@@ -93,6 +97,8 @@ pub fn write_why<W: ByteSink>(
     sink: &mut W,
 ) -> Result<bool, SessionFault>
     requires { W.failed_calls sink.old < 2 ^ 64 - 1 }
+    // The answer is written, or a front of it where a write failed, and else nothing.
+    ensures written { IsReasonWritten model.now test.now (W.contents sink.old) (W.contents sink.new) result }
     // `Write` comes after one failed call, and all else after none.
     ensures failed { result ≡ Err SessionFault.Write → W.failed_calls sink.new ≡ W.failed_calls sink.old + 1 }
     ensures same { result ≢ Err SessionFault.Write → W.failed_calls sink.new ≡ W.failed_calls sink.old }
@@ -103,9 +109,8 @@ pub fn write_why<W: ByteSink>(
         Ok(answer) => answer,
         Err(_) => return Err(SessionFault::Memory),
     };
-    let is_refused = answer.is_refused;
     match write_whole(sink, &answer.text) {
-        Ok(()) => Ok(is_refused),
+        Ok(()) => Ok(answer.is_refused),
         Err(_) => Err(SessionFault::Write),
     }
 }
@@ -150,14 +155,22 @@ pub fn read_text<S: ByteSource>(alloc: Global, source: &mut S) -> Result<Vec<u8>
     read_first(alloc, source, MOST_OF_TEXT)
 }
 
+fn is_refusal(answered: &Result<bool, SessionFault>) -> bool {
+    match answered {
+        Ok(is_refused) => *is_refused,
+        Err(_) => false,
+    }
+}
+
 /// Reads all input, which holds a model, a line that is exactly `.` and a test, and writes what
 /// `write_answer` does. With no such line the test's text is empty. Bytes that cannot change the
-/// answer are not kept. Errors: those of `read_text`, before the first write, and those of
-/// `write_answer`.
-pub fn eval_stream<R: AllocGlobal, S: ByteSource, W: ByteSink>(
+/// answer are not kept. A listener hears of the texts where one is refused. Errors: those of `read_text`, before the
+/// first write, and those of `write_answer`.
+pub fn eval_stream<R: AllocGlobal, S: ByteSource, W: ByteSink, L: AnswerListener>(
     rt: &R,
     source: &mut S,
     sink: &mut W,
+    listener: &mut L,
 ) -> Result<bool, SessionFault>
     requires source { S.failed_calls source.old < 2 ^ 64 - 1 }
     requires sink { W.failed_calls sink.old < 2 ^ 64 - 1 }
@@ -174,5 +187,9 @@ pub fn eval_stream<R: AllocGlobal, S: ByteSource, W: ByteSink>(
         Err(fault) => return Err(fault),
     };
     let (model, test) = cut_at_dot(&bytes);
-    write_answer(rt.alloc(), model, test, sink)
+    let answered = write_answer(rt.alloc(), model, test, sink);
+    if is_refusal(&answered) {
+        listener.hear_refused(model, test);
+    }
+    answered
 }

@@ -7,6 +7,7 @@ ghost use Rattle.cat_values.specs.Values.{clauses_of};
 ghost use Rattle.litmus_grammar.specs.Texts.{ReadsTest};
 ghost use Rattle.litmus_values.specs.Value.{content_of};
 ghost use Rattle.litmusbench.specs.Answer.{IsLogOf, IsLog, IsRefusal, IsOfModel, IsOfTest};
+ghost use Rattle.litmusbench.specs.Reasoned.{AreRead};
 
 use crate::fault::EvalFault;
 use cat_syntax::{CatFault, ModelText, read_model};
@@ -70,8 +71,10 @@ pub fn eval(alloc: Global, model: &[u8], test: &[u8]) -> Result<Vec<u8>, EvalFau
 /// Why the model forbids what the condition of the test asks for, or an execution that it keeps. The
 /// model is read first. Errors: those of `eval`.
 pub fn why_report(alloc: Global, model: &[u8], test: &[u8]) -> Result<Vec<u8>, EvalFault>
+    // A report is of two texts that mean something.
+    ensures read { IfOk result (λ _. AreRead model.now test.now) }
     // A refusal is that of the first text that means nothing.
-    ensures { IfErr result (IsRefusal model.now test.now) }
+    ensures refusal { IfErr result (IsRefusal model.now test.now) }
 {
     let known_model = match model_of(alloc, model) {
         Ok(known) => known,

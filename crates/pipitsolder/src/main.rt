@@ -4,11 +4,14 @@
 use clap::Error;
 use clap::error::ErrorKind;
 use litmusbench::{
-    Form, OfRead, OfWrite, Report, RunEnd, SessionFault, TextFile, difference_report, eval_stream,
-    exit_status, form_of, read_text, session, table_report, write_answer, write_report, write_why,
+    ByteSource, Form, OfRead, OfWrite, RefusalTeller, Report, RunEnd, SessionFault, TextFile,
+    difference_report, eval_stream, exit_status, form_of, read_text, refusal_lines, session,
+    table_report, write_answer, write_report, write_why,
 };
 use std::alloc::AllocError;
+use std::fmt::Display;
 use std::fs::File;
+use std::io::Write;
 use std::process::ExitCode;
 use std::rt::{Env, Files};
 use std::{env, io};
@@ -47,67 +50,137 @@ fn tell_done<R: Eprint>(rt: &R, answered: Result<bool, SessionFault>) -> RunEnd 
     }
 }
 
-fn stream<R: AllocGlobal + Input + Print>(rt: &R) -> Result<bool, SessionFault> {
+// Tells which of the two texts is refused and why. What cannot be told is left out.
+fn tell_refusal<R: AllocGlobal, E: Print>(
+    rt: &R,
+    errors: &E,
+    model: &TextFile<'_>,
+    test: &TextFile<'_>,
+) {
+    if let Ok(lines) = refusal_lines(rt.alloc(), model, test) {
+        let _ = io::writer(errors).write_all(&lines);
+    }
+}
+
+fn stream<R: AllocGlobal + Input + Print, E: Print>(
+    rt: &R,
+    errors: &E,
+) -> Result<bool, SessionFault> {
     let mut source = OfRead::new(rt.reader());
     let mut sink = OfWrite::new(io::writer(rt));
-    eval_stream(rt, &mut source, &mut sink)
+    let mut teller = RefusalTeller::new(rt.alloc(), io::writer(errors));
+    eval_stream(rt, &mut source, &mut sink, &mut teller)
 }
 
 // Any number of workers does the same for now: cells are evaluated one after another.
-fn run_session<R: AllocGlobal + Input + Print>(rt: &R) -> Result<bool, SessionFault> {
-    let mut source = OfRead::new(rt.reader());
+fn session_of<R: AllocGlobal + Print, E: Print, S: ByteSource>(
+    rt: &R,
+    errors: &E,
+    source: &mut S,
+) -> Result<bool, SessionFault>
+    requires { S.failed_calls source.old < 2 ^ 64 - 1 }
+{
     let mut sink = OfWrite::new(io::writer(rt));
-    session(rt, &mut source, &mut sink)
+    let mut teller = RefusalTeller::new(rt.alloc(), io::writer(errors));
+    session(rt, source, &mut sink, &mut teller)
 }
 
-fn session_file<R: AllocGlobal + Files + Print>(rt: &R, path: &str) -> Result<bool, SessionFault> {
+fn tell_file<R: Eprint, T: Display>(rt: &R, path: &str, reason: &T) {
+    let _ = rt.eprintln(format_args!("{path}: {reason}"));
+}
+
+fn open_file<R: Eprint + Files>(rt: &R, path: &str) -> Result<R::File, SessionFault> {
     match File::open(rt, path) {
-        Ok(file) => {
-            let mut source = OfRead::new(file);
-            let mut sink = OfWrite::new(io::writer(rt));
-            session(rt, &mut source, &mut sink)
+        Ok(file) => Ok(file),
+        Err(error) => {
+            tell_file(rt, path, &error);
+            Err(SessionFault::Read)
         }
-        Err(_) => Err(SessionFault::Read),
     }
 }
 
-fn text_of_file<R: AllocGlobal + Files>(rt: &R, path: &str) -> Result<Vec<u8>, SessionFault> {
-    match File::open(rt, path) {
-        Ok(file) => read_text(rt.alloc(), &mut OfRead::new(file)),
-        Err(_) => Err(SessionFault::Read),
+// What was read of a file, or what came of it: a read that failed is told.
+fn told<R: Eprint, T>(
+    rt: &R,
+    path: &str,
+    read: Result<T, SessionFault>,
+) -> Result<T, SessionFault> {
+    if let Err(SessionFault::Read) = &read {
+        tell_file(rt, path, &"the file cannot be read to its end");
+    }
+    read
+}
+
+fn run_session<R: AllocGlobal + Eprint + Files + Input + Print, E: Print>(
+    rt: &R,
+    errors: &E,
+    script: Option<&str>,
+) -> Result<bool, SessionFault> {
+    match script {
+        Some(path) => {
+            let mut source = OfRead::new(open_file(rt, path)?);
+            told(rt, path, session_of(rt, errors, &mut source))
+        }
+        None => session_of(rt, errors, &mut OfRead::new(rt.reader())),
     }
 }
 
-fn eval_files<R: AllocGlobal + Files + Print>(
+fn text_of_file<R: AllocGlobal + Eprint + Files>(
     rt: &R,
+    path: &str,
+) -> Result<Vec<u8>, SessionFault> {
+    let mut source = OfRead::new(open_file(rt, path)?);
+    told(rt, path, read_text(rt.alloc(), &mut source))
+}
+
+fn read_file<'a, R: AllocGlobal + Eprint + Files>(
+    rt: &R,
+    path: &'a str,
+) -> Result<TextFile<'a>, SessionFault> {
+    let text = text_of_file(rt, path)?;
+    Ok(TextFile { path, text })
+}
+
+fn eval_files<R: AllocGlobal + Eprint + Files + Print, E: Print>(
+    rt: &R,
+    errors: &E,
     model: &str,
     test: &str,
 ) -> Result<bool, SessionFault> {
-    let model = text_of_file(rt, model)?;
-    let test = text_of_file(rt, test)?;
+    let model = read_file(rt, model)?;
+    let test = read_file(rt, test)?;
     let mut sink = OfWrite::new(io::writer(rt));
-    write_answer(rt.alloc(), &model, &test, &mut sink)
+    let is_refused = write_answer(rt.alloc(), &model.text, &test.text, &mut sink)?;
+    if is_refused {
+        tell_refusal(rt, errors, &model, &test);
+    }
+    Ok(is_refused)
 }
 
-fn why_files<R: AllocGlobal + Files + Print>(
+fn why_files<R: AllocGlobal + Eprint + Files + Print, E: Print>(
     rt: &R,
+    errors: &E,
     model: &str,
     test: &str,
 ) -> Result<bool, SessionFault> {
-    let model = text_of_file(rt, model)?;
-    let test = text_of_file(rt, test)?;
+    let model = read_file(rt, model)?;
+    let test = read_file(rt, test)?;
     let mut sink = OfWrite::new(io::writer(rt));
-    write_why(rt.alloc(), &model, &test, &mut sink)
+    let is_refused = write_why(rt.alloc(), &model.text, &test.text, &mut sink)?;
+    if is_refused {
+        tell_refusal(rt, errors, &model, &test);
+    }
+    Ok(is_refused)
 }
 
-fn files_of<'a, R: AllocGlobal + Files>(
+fn files_of<'a, R: AllocGlobal + Eprint + Files>(
     rt: &R,
     paths: &[&'a str],
 ) -> Result<Vec<TextFile<'a>>, SessionFault> {
     let mut files = Vec::new(rt.alloc());
     for path in paths {
-        let text = text_of_file(rt, *path)?;
-        if files.push(TextFile { path: *path, text }).is_err() {
+        let file = read_file(rt, *path)?;
+        if files.push(file).is_err() {
             return Err(SessionFault::Memory);
         }
     }
@@ -129,7 +202,7 @@ fn write_both<R: Print, E: Print>(
     }
 }
 
-fn table_files<R: AllocGlobal + Files + Print, E: Print>(
+fn table_files<R: AllocGlobal + Eprint + Files + Print, E: Print>(
     rt: &R,
     errors: &E,
     models: &[&str],
@@ -140,7 +213,7 @@ fn table_files<R: AllocGlobal + Files + Print, E: Print>(
     write_both(rt, errors, table_report(rt.alloc(), &models, &tests))
 }
 
-fn diff_files<R: AllocGlobal + Files + Print, E: Print>(
+fn diff_files<R: AllocGlobal + Eprint + Files + Print, E: Print>(
     rt: &R,
     errors: &E,
     models: &[&str],
@@ -157,24 +230,15 @@ fn answer<R: AllocGlobal + Eprint + Files + Input + Print, E: Print>(
     words: &[&str],
 ) -> RunEnd {
     match form_of(rt.alloc(), words) {
-        Ok(Form::Stream) => tell_done(rt, stream(rt)),
-        Ok(Form::Eval { model, test }) => tell_done(rt, eval_files(rt, model, test)),
+        Ok(Form::Stream) => tell_done(rt, stream(rt, errors)),
+        Ok(Form::Eval { model, test }) => tell_done(rt, eval_files(rt, errors, model, test)),
         Ok(Form::Table { models, tests }) => {
             tell_done(rt, table_files(rt, errors, models, tests))
         }
         Ok(Form::Diff { models, tests }) => tell_done(rt, diff_files(rt, errors, models, tests)),
-        Ok(
-            Form::Session {
-                script: None,
-                workers: _,
-            },
-        ) => tell_done(rt, run_session(rt)),
-        Ok(
-            Form::Session {
-                script: Some(path),
-                workers: _,
-            },
-        ) => tell_done(rt, session_file(rt, path)),
+        Ok(Form::Session { script, workers: _ }) => {
+            tell_done(rt, run_session(rt, errors, script))
+        }
         Ok(
             Form::Why {
                 model,
@@ -182,7 +246,7 @@ fn answer<R: AllocGlobal + Eprint + Files + Input + Print, E: Print>(
                 is_forbidden: false,
                 is_deep: false,
             },
-        ) => { tell_done(rt, why_files(rt, model, test)) }
+        ) => { tell_done(rt, why_files(rt, errors, model, test)) }
         Ok(Form::Why { .. } | Form::Watch { .. } | Form::Draw { .. }) => tell_unbuilt(rt),
         Err(error) => tell_usage(rt, &error),
     }

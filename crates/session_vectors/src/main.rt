@@ -3,7 +3,7 @@
 //! are run again from sources and to sinks that fail at each call.
 #![tactic(auto)]
 
-use litmusbench::{MemorySink, MemorySource, SessionFault, session};
+use litmusbench::{MemorySink, MemorySource, NoListener, SessionFault, session};
 use std::rt::Files;
 use std::{fs, io};
 
@@ -44,7 +44,7 @@ fn run<R: AllocGlobal>(
 ) -> io::Result<Ending> {
     let mut source = MemorySource::failing_at(script, read);
     let mut sink = MemorySink::failing_at(Vec::new(rt.alloc()), write);
-    let end = session(rt, &mut source, &mut sink);
+    let end = session(rt, &mut source, &mut sink, &mut NoListener);
     let output = Vec::from_slice(rt.alloc(), sink.as_bytes())?;
     Ok(Ending { output, end })
 }

@@ -3,7 +3,7 @@
 //! many lines it has, and the last of them.
 #![tactic(auto)]
 
-use litmusbench::{MemorySink, MemorySource, SessionFault, eval_stream};
+use litmusbench::{MemorySink, MemorySource, NoListener, SessionFault, eval_stream};
 use std::alloc::AllocError;
 use std::rt::Files;
 use std::{fs, io};
@@ -18,7 +18,7 @@ struct Answer {
 fn answer_to<R: AllocGlobal>(rt: &R, input: &[u8]) -> Result<Answer, SessionFault> {
     let mut source = MemorySource::failing_at(input, None);
     let mut sink = MemorySink::failing_at(Vec::new(rt.alloc()), None);
-    let is_refused = eval_stream(rt, &mut source, &mut sink)?;
+    let is_refused = eval_stream(rt, &mut source, &mut sink, &mut NoListener)?;
     match Vec::from_slice(rt.alloc(), sink.as_bytes()) {
         Ok(text) => Ok(Answer { text, is_refused }),
         Err(_) => Err(SessionFault::Memory),

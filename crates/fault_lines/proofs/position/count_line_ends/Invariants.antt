@@ -1,7 +1,7 @@
 use Rattle.std.proofs.Common.{◌≡◌, ◌≤◌, take, length}
 use Rattle.std.specs.List.{filter}
 use Rattle.source_text.specs.Layout.{is_line_end}
-use Rattle.litmusbench.proofs.file.count_line_ends.Given as goal
+use Rattle.fault_lines.proofs.position.count_line_ends.Given as goal
 
 abbrev pub invariant-loop-byte : goal.invariant-loop-byte
 invariant-loop-byte l = (l.count ≡ length (filter is_line_end (take l.byte-index l.bytes))) × (l.count ≤ l.byte-index)
