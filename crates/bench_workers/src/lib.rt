@@ -1,10 +1,13 @@
-//! A worker at a desk: it takes a job, runs it with no lock held, and returns it. Read `specs/Tallies` first.
+//! Threads that work at a desk: each takes a job, runs it with no lock held, and returns it. `with_workers` runs a body beside
+//! them and joins them all.
 #![tactic(auto)]
 
 mod gate;
 mod tally;
 mod worker;
+mod workers;
 
 pub use gate::{Gate, NoGate};
 pub use tally::Tally;
 pub use worker::work;
+pub use workers::{MOST_WORKERS, Worked, WorkersFault, with_workers};
