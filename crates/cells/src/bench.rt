@@ -90,6 +90,7 @@ impl<K: StoreName, T: CellTexts> Bench<K, T> {
         ensures held { IfOk result (λ r. IfNone r (W.held witness.old witness.new)) }
         ensures fault { IfErr result (λ fault. T.refuses self.old.texts edit (leb LAST self.old.taken) fault) }
         ensures unseen { OnErr result (witness.new ≡ witness.old) }
+        ensures last { OnNone result (T.last self.new.texts ≡ T.last self.old.texts) }
         ensures refused { OnNone result (Step (meaning T.net T.is_valid T.since T.makes T.keeps T.edited) self.old Refused self.new) }
     {
         self.graph.edit_told(alloc, edit, witness)
@@ -98,6 +99,7 @@ impl<K: StoreName, T: CellTexts> Bench<K, T> {
     /// Gives out a job, if there is any work: a node that some cell needs, whose inputs are settled, which is not up to date
     /// and not out with the present inputs. It makes the room for all that its return keeps.
     pub fn claim(&mut self, alloc: Global) -> Result<Option<Job<K, T>>, ClaimFault>
+        ensures texts { self.new.texts ≡ self.old.texts }
         ensures given { IfOk result (λ r. IfSome r (λ j. Step (meaning T.net T.is_valid T.since T.makes T.keeps T.edited) self.old (Claimed j.claim j.node j.given j.keys j.values) self.new)) }
         ensures none { IfOk result (λ r. IfNone r (Step (meaning T.net T.is_valid T.since T.makes T.keeps T.edited) self.old NoClaim self.new)) }
         ensures spent { LAST ≤ self.old.taken → result ≡ Err ClaimFault.Spent }

@@ -1,2 +1,4 @@
 pub mod Outcomes
 pub mod Appending
+pub mod Growing
+pub mod Refusing

@@ -9,6 +9,8 @@ use Rattle.desk.specs.declared.answer.Accepted.TheVariants.{Now, Later}
 use Rattle.desk.specs.declared.answer.Posted.{Posted}
 use Rattle.desk.specs.declared.answer.Posted.TheVariants as posts
 use Rattle.desk.specs.declared.answer.Settling.{Settling}
+use Rattle.desk.specs.declared.fault.DeskFault.{DeskFault}
+use Rattle.desk.specs.declared.fault.DeskFault.TheVariants as faults
 use Rattle.desk.specs.declared.answer.Settling.TheVariants.{Done, Waits, Refused}
 
 pub record Held (T V O : Type 0) : Type 0 where
@@ -93,3 +95,12 @@ TellsSettled is_legal are_settled me me' Refused = me' ≡ me
 -- the call was refused: the texts of the bench may have more room, and nothing else changed
 abbrev pub IsRefusedTurn : {T E V G O : Type 0} → Meaning T E V G → (old new : Held T V O) → Type 0
 IsRefusedTurn means old new = Step means old.bench core.Refused new.bench × (new ≡ held new.bench old.all old.published old.spare old.closed)
+
+-- Why an edit is refused: by the bench for that fault, or by the desk for a viewer that has seen more. That the desk is closed and
+-- that memory is wanted are said apart.
+abbrev pub IsRefusedBy : {F : Type 0} → (refuses : F → Type 0) → (is_ahead : Type 0) → DeskFault F → Type 0
+IsRefusedBy refuses is_ahead (faults.Edit fault) = refuses fault
+IsRefusedBy refuses is_ahead (faults.Claim fault) = ⊥
+IsRefusedBy refuses is_ahead faults.OutOfMemory = Unit {0}
+IsRefusedBy refuses is_ahead faults.Closed = Unit {0}
+IsRefusedBy refuses is_ahead faults.NoSeat = is_ahead

@@ -47,10 +47,13 @@ impl<J: Naming, X: BoardTexts> Ledger<J, X> {
     }
 
     /// Shows readers all operations. False where memory is refused.
+    #[tactic(auto, using(crate::proofs::Growing::grown_by))]
     pub(crate) fn publish<W: Wait>(&mut self, rt: &W) -> bool
         ensures all { self.new.all ≡ self.old.all }
         ensures published { MatchBool result (self.new.published ≡ self.old.all) (self.new.published ≡ self.old.published) }
+        ensures grows { IsPrefix self.old.published self.new.published }
     {
+        let _begins = self.press.front();
         self.press.publish(rt)
     }
 

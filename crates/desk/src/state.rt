@@ -1,12 +1,12 @@
 //! What lies under the lock. Each change of it is a method here.
 
-ghost use Rattle.std.specs.Prelude.{◌≡◌, ◌≢◌, ◌↔◌, ◌+◌, ◌≤◌, ◌<◌, [], ℕ, true, false, length, fold, IsTrue, IfOk, OnOk, OnErr, Ok, Err, IfSome, IfNone};
+ghost use Rattle.std.specs.Prelude.{◌≡◌, ◌≢◌, ◌↔◌, ◌+◌, ◌≤◌, ◌<◌, [], ℕ, true, false, length, fold, IsTrue, IfOk, OnOk, OnErr, Ok, Err, IfErr, IfSome, IfNone, leb};
 ghost use mathlib.Core.List.{IsPrefix};
 ghost use Rattle.memo_core.specs.Laws.{meaning};
 ghost use Rattle.memo_core.specs.Run.{Claim as Claimed, NoClaim, Returned, Lose as Lost, Renew as Renewed, Refused, Step};
 ghost use Rattle.cells.specs.Cells.{cells as cells_of};
 ghost use Rattle.desk.specs.Boards.{ArePosted, AreSettled};
-ghost use Rattle.desk.specs.Held.{IsMade};
+ghost use Rattle.desk.specs.Held.{IsMade, IsRefusedBy};
 
 use crate::answer::{Accepted, Posted, Settling, Taken};
 use crate::fault::DeskFault;
@@ -55,17 +55,6 @@ where
     ghost invariant = { λ s. X.is_valid s.bench.texts × X.are_after s.bench.texts s.ledger.all × (X.last_number s.ledger.all ≤ s.bench.taken) };
 }
 
-// Why an edit is refused.
-fn refused<X: BoardTexts>(fault: X::Fault) -> DeskFault<X::Fault>
-    ensures { result ≢ DeskFault.Closed }
-{
-    if X::wants_memory(&fault) {
-        DeskFault::OutOfMemory
-    } else {
-        DeskFault::Edit(fault)
-    }
-}
-
 // Makes an edit on the bench, and appends its operation before it is put in place.
 fn make_edit<J: Naming + StoreName, X: BoardTexts>(
     alloc: Global,
@@ -77,6 +66,7 @@ fn make_edit<J: Naming + StoreName, X: BoardTexts>(
     requires after { X.are_after bench.old.texts ledger.old.all }
     requires last { X.last_number ledger.old.all ≤ bench.old.taken }
     ensures open { result ≢ Err DeskFault.Closed }
+    ensures fault { IfErr result (λ fault. IsRefusedBy (X.refuses bench.old.texts edit (leb LAST bench.old.taken)) ⊥ fault) }
     ensures valid { X.is_valid bench.new.texts }
     ensures after { X.are_after bench.new.texts ledger.new.all }
     ensures last { X.last_number ledger.new.all ≤ bench.new.taken }
@@ -87,7 +77,13 @@ fn make_edit<J: Naming + StoreName, X: BoardTexts>(
     match bench.edit_told(alloc, edit, ledger) {
         Ok(Some(number)) => Ok(number),
         Ok(None) => Err(DeskFault::OutOfMemory),
-        Err(fault) => Err(refused::<X>(fault)),
+        Err(fault) => {
+            if X::wants_memory(&fault) {
+                Err(DeskFault::OutOfMemory)
+            } else {
+                Err(DeskFault::Edit(fault))
+            }
+        }
     }
 }
 
@@ -135,6 +131,7 @@ impl<J: Naming + StoreName, X: BoardTexts, R: Wait + Drop> DeskState<J, X, R> {
 
     /// Makes an edit, publishes it and tells this viewer. Errors: K1 if the desk is closed, K2 if the viewer has seen more than
     /// this desk has, the bench's refusals, want of memory; the viewer's list and the operations stay what they are.
+    #[tactic(auto, using(crate::proofs::Refusing::refused_more))]
     pub fn edit<W: Wait>(
         &mut self,
         rt: &W,
@@ -142,6 +139,7 @@ impl<J: Naming + StoreName, X: BoardTexts, R: Wait + Drop> DeskState<J, X, R> {
         edit: X::Edit,
     ) -> Result<Accepted, DeskFault<X::Fault>>
         ensures closed { (result ≡ Err DeskFault.Closed) ↔ (self.old.closed ≡ true) }
+        ensures fault { IfErr result (λ fault. IsRefusedBy (X.refuses self.old.bench.texts edit (leb LAST self.old.bench.taken)) (length self.old.all < length me.old) fault) }
         ensures err { OnErr result (IsRefusedTurn (meaning X.net X.is_valid X.since X.makes X.keeps X.edited) self.old self.new × (me.new ≡ me.old)) }
         ensures turn { IfOk result (λ a. IsEditTurn (meaning X.net X.is_valid X.since X.makes X.keeps X.edited) X.is_edit X.is_settle edit self.old self.new (number_of a)) }
         ensures published { IfOk result (λ a. Publishes self.old self.new me.old me.new a) }
@@ -165,9 +163,11 @@ impl<J: Naming + StoreName, X: BoardTexts, R: Wait + Drop> DeskState<J, X, R> {
     }
 
     // Appends the cells that are settled, and publishes.
+    #[tactic(auto, using(crate::proofs::Growing::prefix_same, crate::proofs::Growing::grown_from))]
     fn catch_up<W: Wait>(&mut self, rt: &W) -> Posted
         ensures bench { self.new.bench ≡ self.old.bench }
         ensures appends { Appends X.is_settle self.old.all self.old self.new }
+        ensures grows { IsPrefix self.old.published self.new.published }
         ensures posted { PublishesOr (λ bench ops. ArePosted X.net (cells_of X.verdict_of X.outcome_in X.from_scratch X.reaches) bench (X.cells (fold X.after X.none ops))) self.old self.new result }
     {
         self.changes = self.changes.wrapping_add(1);
@@ -183,9 +183,11 @@ impl<J: Naming + StoreName, X: BoardTexts, R: Wait + Drop> DeskState<J, X, R> {
     }
 
     // Tries again what memory was refused to.
+    #[tactic(auto, using(crate::proofs::Growing::prefix_same))]
     fn try_again<W: Wait>(&mut self, rt: &W)
         ensures bench { self.new.bench ≡ self.old.bench }
         ensures appends { Appends X.is_settle self.old.all self.old self.new }
+        ensures grows { IsPrefix self.old.published self.new.published }
     {
         if self.owes {
             let _posted = self.catch_up(rt);
@@ -193,9 +195,11 @@ impl<J: Naming + StoreName, X: BoardTexts, R: Wait + Drop> DeskState<J, X, R> {
     }
 
     // Tries again what memory was refused to, and publishes. True where readers see all operations.
+    #[tactic(auto, using(crate::proofs::Growing::prefix_same, crate::proofs::Growing::grown_then))]
     fn show_all<W: Wait>(&mut self, rt: &W) -> bool
         ensures bench { self.new.bench ≡ self.old.bench }
         ensures appends { Appends X.is_settle self.old.all self.old self.new }
+        ensures grows { IsPrefix self.old.published self.new.published }
         ensures whole { IsTrue result → self.new.published ≡ self.new.all }
     {
         self.try_again(rt);
@@ -203,6 +207,7 @@ impl<J: Naming + StoreName, X: BoardTexts, R: Wait + Drop> DeskState<J, X, R> {
     }
 
     /// Gives out a job, if there is any work. Errors: K1, B1, want of memory; nothing is appended then.
+    #[tactic(auto, using(crate::proofs::Growing::prefix_same, crate::proofs::Growing::grown_from))]
     pub fn claim<W: Wait>(&mut self, rt: &W) -> Result<Option<Job<J, X>>, DeskFault<X::Fault>>
         ensures closed { (result ≡ Err DeskFault.Closed) ↔ (self.old.closed ≡ true) }
         ensures spent { result ≡ Err (DeskFault.Claim ClaimFault.Spent) → LAST ≤ self.old.bench.taken }
@@ -210,6 +215,7 @@ impl<J: Naming + StoreName, X: BoardTexts, R: Wait + Drop> DeskState<J, X, R> {
         ensures given { IfOk result (λ r. IfSome r (λ j. Step (meaning X.net X.is_valid X.since X.makes X.keeps X.edited) self.old.bench (Claimed j.claim j.node j.given j.keys j.values) self.new.bench)) }
         ensures none { IfOk result (λ r. IfNone r (Step (meaning X.net X.is_valid X.since X.makes X.keeps X.edited) self.old.bench NoClaim self.new.bench)) }
         ensures appends { OnOk result (Appends X.is_settle self.old.all self.old self.new) }
+        ensures grows { OnOk result (IsPrefix self.old.published self.new.published) }
     {
         if self.closed {
             return Err(DeskFault::Closed);
@@ -224,6 +230,7 @@ impl<J: Naming + StoreName, X: BoardTexts, R: Wait + Drop> DeskState<J, X, R> {
     }
 
     /// Takes a return, and publishes the cells that are settled. Errors: K1.
+    #[tactic(auto, using(crate::proofs::Growing::prefix_same, crate::proofs::Growing::grown_from))]
     pub fn finish<W: Wait>(
         &mut self,
         rt: &W,
@@ -234,6 +241,7 @@ impl<J: Naming + StoreName, X: BoardTexts, R: Wait + Drop> DeskState<J, X, R> {
         ensures err { OnErr result (self.new ≡ self.old) }
         ensures step { IfOk result (λ r. Step (meaning X.net X.is_valid X.since X.makes X.keeps X.edited) self.old.bench (Returned done r.finish) self.new.bench) }
         ensures appends { OnOk result (Appends X.is_settle self.old.all self.old self.new) }
+        ensures grows { OnOk result (IsPrefix self.old.published self.new.published) }
         ensures posted { IfOk result (λ r. PublishesOr (λ bench ops. ArePosted X.net (cells_of X.verdict_of X.outcome_in X.from_scratch X.reaches) bench (X.cells (fold X.after X.none ops))) self.old self.new r.posted) }
     {
         if self.closed {
@@ -245,12 +253,14 @@ impl<J: Naming + StoreName, X: BoardTexts, R: Wait + Drop> DeskState<J, X, R> {
     }
 
     /// Closes a claim, and says whether it was out. Errors: K1.
+    #[tactic(auto, using(crate::proofs::Growing::prefix_same, crate::proofs::Growing::grown_from))]
     pub fn lose<W: Wait>(&mut self, rt: &W, claim: u64) -> Result<bool, DeskFault<X::Fault>>
         ensures closed { (result ≡ Err DeskFault.Closed) ↔ (self.old.closed ≡ true) }
         ensures only { OnErr result (self.old.closed ≡ true) }
         ensures err { OnErr result (self.new ≡ self.old) }
         ensures step { IfOk result (λ r. Step (meaning X.net X.is_valid X.since X.makes X.keeps X.edited) self.old.bench (Lost claim r) self.new.bench) }
         ensures appends { OnOk result (Appends X.is_settle self.old.all self.old self.new) }
+        ensures grows { OnOk result (IsPrefix self.old.published self.new.published) }
     {
         if self.closed {
             return Err(DeskFault::Closed);
@@ -262,12 +272,14 @@ impl<J: Naming + StoreName, X: BoardTexts, R: Wait + Drop> DeskState<J, X, R> {
     }
 
     /// Forgets all that was computed, and closes every claim. Errors: K1.
+    #[tactic(auto, using(crate::proofs::Growing::prefix_same, crate::proofs::Growing::grown_from))]
     pub fn renew<W: Wait>(&mut self, rt: &W) -> Result<(), DeskFault<X::Fault>>
         ensures closed { (result ≡ Err DeskFault.Closed) ↔ (self.old.closed ≡ true) }
         ensures only { OnErr result (self.old.closed ≡ true) }
         ensures err { OnErr result (self.new ≡ self.old) }
         ensures step { OnOk result (Step (meaning X.net X.is_valid X.since X.makes X.keeps X.edited) self.old.bench Renewed self.new.bench) }
         ensures appends { OnOk result (Appends X.is_settle self.old.all self.old self.new) }
+        ensures grows { OnOk result (IsPrefix self.old.published self.new.published) }
     {
         if self.closed {
             return Err(DeskFault::Closed);
@@ -280,6 +292,7 @@ impl<J: Naming + StoreName, X: BoardTexts, R: Wait + Drop> DeskState<J, X, R> {
 
     /// Publishes, and tells the viewer once each cell is settled. Errors: K1, and K2 if the viewer has seen more than this desk
     /// has.
+    #[tactic(auto, using(crate::proofs::Growing::prefix_same, crate::proofs::Growing::grown_from))]
     pub fn settle<W: Wait>(
         &mut self,
         rt: &W,
@@ -290,6 +303,7 @@ impl<J: Naming + StoreName, X: BoardTexts, R: Wait + Drop> DeskState<J, X, R> {
         ensures err { OnErr result ((self.new ≡ self.old) × (me.new ≡ me.old)) }
         ensures bench { self.new.bench ≡ self.old.bench }
         ensures appends { OnOk result (Appends X.is_settle self.old.all self.old self.new) }
+        ensures grows { OnOk result (IsPrefix self.old.published self.new.published) }
         ensures settles { IfOk result (λ r. Settles X.is_legal (λ ops. AreSettled (X.cells (fold X.after X.none ops))) self.new me.old me.new r) }
     {
         if self.closed {

@@ -80,8 +80,8 @@ pub trait BoardTexts: CellTexts + Operations {
         requires { index < length (cells board.now) }
         ensures { IfOk result (λ op. settles board.now index outcome.now op) };
 
-    /// Texts that say the same are after the same operations.
-    ghost after_same: { (t u : Self) (ops : List Self.Op) → Self.is_valid t → Self.net u ≡ Self.net t → Self.since t u → are_after t ops → are_after u ops };
+    /// Texts are after the same operations as those that they came of without an edit.
+    ghost after_same: { (t u : Self) (ops : List Self.Op) → Self.is_valid t → Self.last u ≡ Self.last t → Self.since t u → are_after t ops → are_after u ops };
 
     /// No operation has a number above 0.
     ghost number_none: { last_number [] ≡ 0 };

@@ -1,0 +1,21 @@
+-- What readers see only grows.
+use Rattle.std.proofs.Common.{◌≡◌, Bool, true, false, List, sym, subst}
+use Rattle.std.specs.Prelude.{MatchBool}
+use mathlib.Core.List.{IsPrefix}
+use Rattle.desk_rule.proofs.Fronts.{prefix_self, prefix_trans}
+
+pub prefix_same : {A : Type 0} (xs ys : List A) → ys ≡ xs → IsPrefix xs ys
+prefix_same xs ys e = subst (λ (l : List _). IsPrefix xs l) (sym e) (prefix_self xs)
+
+-- all is shown, or what was shown before
+pub grown_by : {A : Type 0} (b : Bool) (old all new : List A) → IsPrefix old all → MatchBool b (new ≡ all) (new ≡ old) → IsPrefix old new
+grown_by true old all new begins e = subst (λ (l : List _). IsPrefix old l) (sym e) begins
+grown_by false old all new begins e = prefix_same old new e
+
+-- it grew, from what is the same as before
+pub grown_from : {A : Type 0} (old mid new : List A) → mid ≡ old → IsPrefix mid new → IsPrefix old new
+grown_from old mid new e p = subst (λ (l : List _). IsPrefix l new) e p
+
+-- it grew, and then grew again
+pub grown_then : {A : Type 0} (old mid new : List A) → IsPrefix old mid → IsPrefix mid new → IsPrefix old new
+grown_then old mid new p q = prefix_trans old mid new p q
