@@ -14,9 +14,9 @@ use Rattle.reason_text.specs.declared.event.ToldEvent.{ToldEvent}
 abbrev pub lettered : ℕ → List ℕ
 lettered n = (97 + n % 26) ∷ (if nat_lt n 26 then [] else decimal (n / 26))
 
--- the name of an event: the initial stores, which are the first, are `i0` and so on, and the others have letters
+-- the name of an event: the initial stores, which are the first, are `I0` and so on, and the others have small letters
 unfoldable pub event_name : ℕ → ℕ → List ℕ
-event_name initial n = if nat_lt n initial then codes "i" ++ decimal n else lettered (n - initial)
+event_name initial n = if nat_lt n initial then codes "I" ++ decimal n else lettered (n - initial)
 
 -- what an access is of, and its value where values are told
 unfoldable pub value_told : Bool → List (List ℕ) → Value → List ℕ

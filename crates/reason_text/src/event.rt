@@ -47,14 +47,14 @@ fn put_lettered(text: &mut Vec<u8>, n: usize) -> Result<(), AllocError>
     }
 }
 
-/// Appends the name of an event: the initial stores, which are the first, are `i0` and so on, the
-/// others have letters. Errors: want of memory.
+/// Appends the name of an event: the initial stores, which are the first, are `I0` and so on, the
+/// others have small letters. Errors: want of memory.
 #[tactic(auto, unfolding(crate::specs::Events::event_name))]
 pub fn put_name(text: &mut Vec<u8>, initial_count: usize, n: usize) -> Result<(), AllocError>
     ensures { OnOk result (text.new.items ≡ text.old.items ++ event_name initial_count n) }
 {
     if n < initial_count {
-        put_bytes(text, b"i")?;
+        put_bytes(text, b"I")?;
         put_decimal(text, n as u64)
     } else {
         put_lettered(text, n - initial_count)

@@ -1,7 +1,9 @@
 //! Why a check refuses an execution, as text. Read specs/Events first (the line of an event), then specs/Reasons.
+//! `laws` says that no two events have one name.
 #![tactic(auto)]
 
 mod event;
+pub mod laws;
 mod reason;
 
 pub use event::{Telling, ToldEvent, put_event, put_events, put_name};

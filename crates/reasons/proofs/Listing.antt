@@ -1,6 +1,11 @@
--- The checks among items, one item more.
-use Rattle.std.proofs.Common.{ℕ, ◌≡◌, ◌<◌, ◌≤◌, ◌+◌, ◌∙◌, List, [], ◌∷◌, ◌++◌, length, get_or, take, map, refl, ap, sym, append_assoc, arith}
+-- The checks among items, and the relation names among names: one more.
+use Rattle.std.proofs.Common.{ℕ, ◌≡◌, ◌<◌, ◌≤◌, ◌+◌, ◌∙◌, List, [], ◌∷◌, ◌++◌, length, get_or, take, map, refl, ap, sym, append_assoc, arith, cond, true, false}
 use Rattle.std.proofs.lemmas.List.{append-nil, map-append, take_more, length-take-le}
+use Rattle.std.proofs.lemmas.List.Elements.{filter_more}
+use Rattle.cat_values.specs.PredefinedNames.{is_set}
+use Rattle.cat_values.specs.declared.predefined.Predefined.{Predefined}
+use Rattle.step_labels.specs.declared.label.PredefinedValue.{PredefinedValue}
+use Rattle.reasons.specs.Language.{is_relation_name, names_in, relation_names}
 use Rattle.binding_graph.specs.declared.resolved.ResolvedItem.{ResolvedItem}
 use Rattle.reasons.specs.declared.checks.CheckValues.{CheckValues}
 use Rattle.reasons.specs.Checked.{check_indexes, index_if, is_check, items_of}
@@ -17,3 +22,20 @@ listed items i x checks more lt is here before =
     let next : take (i + 1) items ≡ take i items ++ x ∷ [] = take_more items i x lt ∙ ap (λ (y : ResolvedItem). take i items ++ y ∷ []) (sym is) in
     map-append (λ c. c.item) checks more ∙ ap (λ (l : List ℕ). l ++ items_of more) before ∙ ap (λ (l : List ℕ). check_indexes 0 (take i items) ++ l) here
     ∙ sym (indexes_more 0 (take i items) x i (omega arith)) ∙ ap (check_indexes 0) (sym next)
+
+-- the relation names among names, one more
+pub relation_names_more : (names : List Predefined) (i : ℕ) (d : Predefined) → i < length names → relation_names (take (i + 1) names) ≡ relation_names (take i names) ++ cond (is_relation_name (get_or names i d)) (get_or names i d ∷ []) []
+relation_names_more names i d lt = filter_more is_relation_name names i d lt
+
+-- with what a name adds to the values
+pub named : (names : List Predefined) (i : ℕ) (d : Predefined) (values more : List PredefinedValue) → i < length names → names_in more ≡ cond (is_relation_name (get_or names i d)) (get_or names i d ∷ []) []
+    → names_in values ≡ relation_names (take i names) → names_in (values ++ more) ≡ relation_names (take (i + 1) names)
+named names i d values more lt here before =
+    map-append (λ v. v.name) values more ∙ ap (λ (l : List Predefined). l ++ names_in more) before ∙ ap (λ (l : List Predefined). relation_names (take i names) ++ l) here ∙ sym (relation_names_more names i d lt)
+
+-- a name that stands for a relation is added, and no other
+pub adds : (x : Predefined) (v : PredefinedValue) → is_set x ≡ false → v.name ≡ x → names_in (v ∷ []) ≡ cond (is_relation_name x) (x ∷ []) []
+adds x v relation is = rw (relation, is) refl
+
+pub adds_none : (x : Predefined) → is_set x ≡ true → names_in [] ≡ cond (is_relation_name x) (x ∷ []) []
+adds_none x one = rw one refl

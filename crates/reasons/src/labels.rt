@@ -2,7 +2,8 @@
 
 ghost use Rattle.std.specs.Prelude.{◌≡◌, IfOk};
 ghost use Rattle.std.specs.List.{All};
-ghost use Rattle.reasons.specs.Language.{IsOfLanguage};
+ghost use Rattle.cat_values.specs.declared.predefined.TheConstants.{PREDEFINED};
+ghost use Rattle.reasons.specs.Language.{IsOfLanguage, names_in, relation_names};
 
 use binding_graph::{Code, Input, Kind, ResolvedItem, Role, Source, Step};
 use candidates::Space;
@@ -16,7 +17,8 @@ fn predefined_value(
     space: &Space,
     name: Predefined,
 ) -> Result<PredefinedValue, AllocError>
-    ensures { IfOk result (IsOfLanguage space.now) }
+    ensures value { IfOk result (IsOfLanguage space.now) }
+    ensures name { IfOk result (λ v. v.name ≡ name) }
 {
     let mut steps = Vec::new(alloc);
     steps.push(Step::PushRelation(Source::Predefined(name)))?;
@@ -28,17 +30,32 @@ fn predefined_value(
     Ok(PredefinedValue { name, column })
 }
 
-/// The values of the names of the language that stand for relations. Errors: want of memory.
-pub fn predefined_values(alloc: Global, space: &Space) -> Result<Vec<PredefinedValue>, AllocError>
-    ensures { IfOk result (λ v. All (IsOfLanguage space.now) v.items) }
+// The values of those of the names that stand for relations.
+fn relation_values(
+    alloc: Global,
+    space: &Space,
+    names: &[Predefined],
+) -> Result<Vec<PredefinedValue>, AllocError>
+    ensures each { IfOk result (λ v. All (IsOfLanguage space.now) v.items) }
+    ensures all { IfOk result (λ v. names_in v.items ≡ relation_names names.now) }
 {
     let mut values = Vec::new(alloc);
-    for name in &PREDEFINED {
+    for index in 0..names.len() {
+        let name = &names[index];
         if !name.is_set() {
             values.push(predefined_value(alloc, space, *name)?)?;
         }
     }
     Ok(values)
+}
+
+/// The values of the names of the language that stand for relations, in the order of `PREDEFINED`.
+/// Errors: want of memory.
+pub fn predefined_values(alloc: Global, space: &Space) -> Result<Vec<PredefinedValue>, AllocError>
+    ensures each { IfOk result (λ v. All (IsOfLanguage space.now) v.items) }
+    ensures all { IfOk result (λ v. names_in v.items ≡ relation_names PREDEFINED) }
+{
+    relation_values(alloc, space, &PREDEFINED)
 }
 
 // How a model writes a name.

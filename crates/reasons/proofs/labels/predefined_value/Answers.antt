@@ -9,8 +9,11 @@ pub returns : goal.returns
 returns c =
     let name : Step = steps.PushRelation (sources.Predefined c.args.name) in
     record {
-      code = record { kind = kinds.OfRelation; steps = c.push.new.self };
-      kind = refl;
-      steps = c.in_ok-push.ensures.items ∙ ap (λ (xs : List Step). xs ++ name ∷ []) c.new-steps.ensures.items;
-      values = c.in_ok-column.ensures;
+      value = record {
+        code = record { kind = kinds.OfRelation; steps = c.push.new.self };
+        kind = refl;
+        steps = c.in_ok-push.ensures.items ∙ ap (λ (xs : List Step). xs ++ name ∷ []) c.new-steps.ensures.items;
+        values = c.in_ok-column.ensures;
+      };
+      name = refl;
     }
