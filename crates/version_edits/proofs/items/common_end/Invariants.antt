@@ -1,0 +1,10 @@
+use Rattle.std.proofs.Common.{◌≡◌, ◌≤◌, ◌-◌, length, drop, min}
+use Rattle.cat_values.specs.Values.{clauses_of}
+use Rattle.version_edits.specs.Changes.{IsCommonEnd}
+use Rattle.version_edits.proofs.items.common_end.Given as goal
+
+abbrev pub invariant-loop-count : goal.invariant-loop-count
+invariant-loop-count l = IsCommonEnd (clauses_of l.old) (clauses_of l.new) l.count
+
+abbrev pub decreases-loop-count : goal.decreases-loop-count
+decreases-loop-count l = l.most - l.count
