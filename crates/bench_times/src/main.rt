@@ -1,0 +1,52 @@
+//! Prints how many jobs settle cells of a bench, and how many an edit takes. With the word `times` it prints how long that
+//! takes beside many nodes.
+#![tactic(auto)]
+
+ghost use Rattle.std.specs.Prelude.{◌≡◌};
+
+mod player;
+mod tables;
+
+use node_values::NodeValue;
+use std::marker::Brand;
+use std::rt::{Clock, Env, Files};
+use std::sync::{Arc, Wait};
+use std::{env, fs, io};
+use tables::Size;
+use value_store::{Opened, Store, StoreName};
+
+/// Settles a bench of its own of this size, edits it, and prints what that takes.
+fn show<R: Clock + Print + Wait + AllocGlobal, K: StoreName>(
+    rt: &R,
+    opened: Opened<NodeValue>,
+    size: Size,
+    model: &[u8],
+    test: &[u8],
+    is_timed: bool,
+) -> io::Result<()>
+    requires { opened.values ≡ K.shelves }
+{
+    let store = Arc::new(rt.alloc(), opened.named::<K>())?;
+    tables::show(rt, store, size, model, test, is_timed)
+}
+
+fn run<R: Files + Env + Clock + Print + Wait + AllocGlobal>(rt: &R) -> io::Result<()> {
+    let model = fs::read(rt, "power.cat")?;
+    let test = fs::read(rt, "MP+lwsync+addr.litmus")?;
+    let words = env::args(rt)?.count();
+    let is_timed = words > 1;
+    let sizes = if is_timed {
+        tables::TIMED
+    } else {
+        tables::COUNTED
+    };
+    for size in sizes {
+        let opened = Store::new(rt.alloc())?;
+        show::<R, Brand>(rt, opened, *size, &model, &test, is_timed)?;
+    }
+    Ok(())
+}
+
+fn main(rt: HostRuntime) -> io::Result<()> {
+    run(&rt)
+}

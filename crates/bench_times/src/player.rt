@@ -1,0 +1,126 @@
+//! Edits a bench of tests and models, and plays its jobs.
+
+use bench_texts::Edit;
+use cells::bench::Bench;
+use source_text::put_decimal;
+use stamped_texts::StampedTexts;
+use std::alloc::{AllocError, Global};
+use std::io;
+use std::rt::Clock;
+use std::sync::Wait;
+use std::time::Instant;
+use value_store::StoreName;
+
+/// More jobs than a bench of this program ever has.
+const MOST_JOBS: u64 = 1_000_000;
+
+/// How many jobs were run, and how long the claims, the runs and the returns took in nanoseconds.
+#[derive(Clone, Copy)]
+pub struct Played {
+    pub jobs: u64,
+    pub claiming: u128,
+    pub running: u128,
+    pub finishing: u128,
+}
+
+impl Played {
+    /// The nanoseconds of all of it.
+    pub fn whole(&self) -> u128 {
+        self.claiming
+            .saturating_add(self.running)
+            .saturating_add(self.finishing)
+    }
+}
+
+/// Sets an item of the model to `dp` with its operands exchanged, which is equal in each candidate.
+pub fn edit_of_dp(alloc: Global, model: &[u8], item: u64) -> Result<Edit, AllocError> {
+    Ok(Edit::SetItem {
+        model: Vec::from_slice(alloc, model)?,
+        item,
+        text: Vec::from_slice(alloc, b"let dp = data | addr")?,
+    })
+}
+
+/// The text of the test under the name `T` with a number.
+pub fn renamed(alloc: Global, test: &[u8], number: u64) -> Result<Vec<u8>, AllocError> {
+    let mut text = Vec::from_slice(alloc, b"PPC T")?;
+    put_decimal(&mut text, number)?;
+    let mut is_rest = false;
+    for byte in test {
+        if *byte == b'\n' {
+            is_rest = true;
+        }
+        if is_rest {
+            text.push(*byte)?;
+        }
+    }
+    Ok(text)
+}
+
+/// The name of the model of that number.
+fn model_name(alloc: Global, number: u64) -> Result<Vec<u8>, AllocError> {
+    let mut name = Vec::from_slice(alloc, b"m")?;
+    put_decimal(&mut name, number)?;
+    Ok(name)
+}
+
+/// Puts as many tests and as many models on the bench. Answers whether each edit was accepted.
+pub fn fill<K: StoreName>(
+    alloc: Global,
+    bench: &mut Bench<K, StampedTexts>,
+    model: &[u8],
+    models: u64,
+    test: &[u8],
+    tests: u64,
+) -> Result<bool, AllocError> {
+    let mut is_accepted = true;
+    for number in 0..tests {
+        let text = renamed(alloc, test, number)?;
+        is_accepted &= bench.edit(alloc, Edit::PutTest { text }).is_ok();
+    }
+    for number in 0..models {
+        let name = model_name(alloc, number)?;
+        let text = Vec::from_slice(alloc, model)?;
+        is_accepted &= bench
+            .edit(alloc, Edit::PutModel { model: name, text })
+            .is_ok();
+    }
+    Ok(is_accepted)
+}
+
+/// Claims, runs and returns jobs until there is none.
+pub fn play<R: Clock + Wait, K: StoreName>(
+    rt: &R,
+    alloc: Global,
+    bench: &mut Bench<K, StampedTexts>,
+) -> io::Result<Played> {
+    let mut played = Played {
+        jobs: 0,
+        claiming: 0,
+        running: 0,
+        finishing: 0,
+    };
+    for jobs in 0..MOST_JOBS {
+        played.jobs = jobs;
+        let before = Instant::now(rt)?;
+        let claimed = bench.claim(alloc);
+        let claiming = before.elapsed(rt)?.as_nanos();
+        let Ok(Some(job)) = claimed else {
+            return Ok(played);
+        };
+        let start = Instant::now(rt)?;
+        let result = job.run(rt, alloc);
+        let running = start.elapsed(rt)?.as_nanos();
+        let Ok(done) = result else {
+            return Ok(played);
+        };
+        let end = Instant::now(rt)?;
+        let finish = bench.finish(done);
+        let finishing = end.elapsed(rt)?.as_nanos();
+        drop(finish);
+        played.claiming = played.claiming.saturating_add(claiming);
+        played.running = played.running.saturating_add(running);
+        played.finishing = played.finishing.saturating_add(finishing);
+    }
+    Ok(played)
+}
