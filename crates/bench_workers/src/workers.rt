@@ -55,7 +55,7 @@ fn close<J: Naming + StoreName, X: BoardTexts, R: Wait + Drop, W: Wait>(
     let _again = desk.close(rt).is_err();
 }
 
-/// Runs a body beside so many workers, closes the desk and joins them all. Errors: the start of a worker was refused; then
+/// Runs a body beside so many workers, at most `MOST_WORKERS`, closes the desk and joins them all. Errors: the start of a worker was refused; then
 /// the body does not run, the desk is closed, and the workers that were started are joined.
 pub fn with_workers<J, X, R, G, W, T, F>(
     rt: &W,
@@ -93,7 +93,7 @@ where
             requires { F.pre body }
             ensures { IfSome result (λ answer. F.post body answer) }
         {
-            for _ in 0..count {
+            for _ in 0..count.min(MOST_WORKERS) {
                 let started = scope.spawn(move || work_beside(rt, alloc, desk, gate, sum));
                 if started.is_err() {
                     close(rt, desk);
