@@ -1,0 +1,204 @@
+//! A later version of a file: the edits that make it of what the bench holds.
+
+use crate::lines::model_name;
+use crate::watched::Watched;
+use bench_texts::{Edit, EditFault};
+use cat_syntax::{CatFault, ModelText, read_model};
+use litmus_ppc::{LitmusFault, Name, Test, read_test};
+use std::alloc::{AllocError, Global};
+use std::mem::replace;
+use value_store::StoreName;
+use version_edits::{ItemChange, TestPart, changed_parts, item_changes, item_edit, part_edit};
+
+impl<'a, K: StoreName> Watched<'a, K> {
+    // Makes an edit of the bench and of the texts beside it. Why it is refused, if it is.
+    fn make(&mut self, alloc: Global, edit: Edit) -> Result<Option<EditFault>, AllocError> {
+        let prepared = match self.texts.prepare(alloc, &edit, false) {
+            Ok(prepared) => prepared,
+            Err(EditFault::OutOfMemory(error)) => return Err(error),
+            Err(fault) => return Ok(Some(fault)),
+        };
+        match self.bench.edit(alloc, edit) {
+            Ok(_) => {
+                self.texts.commit(prepared);
+                Ok(None)
+            }
+            Err(EditFault::OutOfMemory(error)) => Err(error),
+            Err(fault) => Ok(Some(fault)),
+        }
+    }
+
+    // The changes that make this of the model, or none where there is no model.
+    fn item_changes(
+        &self,
+        alloc: Global,
+        new: &ModelText,
+    ) -> Result<Option<Vec<ItemChange>>, AllocError> {
+        match self.texts.models().first() {
+            Some(model) => Ok(Some(item_changes(alloc, &model.text().items, &new.items)?)),
+            None => Ok(None),
+        }
+    }
+
+    // The edit that makes a change of the model, where there is a model.
+    fn item_edit(
+        &self,
+        alloc: Global,
+        new: &ModelText,
+        change: ItemChange,
+    ) -> Result<Option<Edit>, AllocError> {
+        match self.texts.models().first() {
+            Some(model) => Ok(Some(item_edit(alloc, model, &new.items, change)?)),
+            None => Ok(None),
+        }
+    }
+
+    // Makes a change of the model. Whether it is accepted.
+    fn change_item(
+        &mut self,
+        alloc: Global,
+        new: &ModelText,
+        change: ItemChange,
+    ) -> Result<bool, AllocError> {
+        match self.item_edit(alloc, new, change)? {
+            Some(edit) => {
+                let fault = self.make(alloc, edit)?;
+                Ok(fault.is_none())
+            }
+            None => Ok(false),
+        }
+    }
+
+    // Makes the model this one, item by item. Whether it is so then.
+    fn change_items(&mut self, alloc: Global, new: &ModelText) -> Result<bool, AllocError> {
+        let changes = match self.item_changes(alloc, new)? {
+            Some(changes) => changes,
+            None => return Ok(false),
+        };
+        for change in &changes {
+            let accepted = self.change_item(alloc, new, *change)?;
+            if !accepted {
+                return Ok(false);
+            }
+        }
+        Ok(true)
+    }
+
+    /// Takes a version of the model's file. Why it is refused, if it is. Errors: out of memory.
+    pub fn take_model(
+        &mut self,
+        alloc: Global,
+        text: Vec<u8>,
+    ) -> Result<Option<EditFault>, AllocError> {
+        let new = match read_model(alloc, &text) {
+            Ok(new) => new,
+            Err(CatFault::OutOfMemory(error)) => return Err(error),
+            Err(fault) => return Ok(Some(EditFault::Model(fault))),
+        };
+        let is_made = self.change_items(alloc, &new)?;
+        if is_made {
+            return Ok(None);
+        }
+        let model = Vec::from_slice(alloc, model_name())?;
+        self.make(alloc, Edit::PutModel { model, text })
+    }
+
+    // The parts that differ from the test of this name, or none where that has another shape.
+    fn parts(&self, alloc: Global, new: &Test) -> Result<Option<Vec<TestPart>>, AllocError> {
+        let index = self.texts.test_index(new.name.as_bytes());
+        match self.texts.tests().get(index) {
+            Some(old) => changed_parts(alloc, old, new),
+            None => Ok(None),
+        }
+    }
+
+    // Puts a part of a test. Whether it is accepted.
+    fn put_part(&mut self, alloc: Global, new: &Test, part: TestPart) -> Result<bool, AllocError> {
+        let edit = part_edit(alloc, new, part)?;
+        let fault = self.make(alloc, edit)?;
+        Ok(fault.is_none())
+    }
+
+    // Makes the test of this name this one, part by part. Whether it is so then.
+    fn change_parts(&mut self, alloc: Global, new: &Test) -> Result<bool, AllocError> {
+        let parts = match self.parts(alloc, new)? {
+            Some(parts) => parts,
+            None => return Ok(false),
+        };
+        for part in &parts {
+            let accepted = self.put_part(alloc, new, *part)?;
+            if !accepted {
+                return Ok(false);
+            }
+        }
+        Ok(true)
+    }
+
+    // Makes the test of this name this one, by parts or as a whole. Why it is refused, if it is.
+    fn put_test(
+        &mut self,
+        alloc: Global,
+        new: &Test,
+        text: Vec<u8>,
+    ) -> Result<Option<EditFault>, AllocError> {
+        let is_made = self.change_parts(alloc, new)?;
+        if is_made {
+            return Ok(None);
+        }
+        self.make(alloc, Edit::PutTest { text })
+    }
+
+    // Whether some file holds the test of this name.
+    fn is_held(&self, name: &Name) -> bool {
+        for test in &self.tests {
+            if let Some(held) = &test.name {
+                if held.is_same(name) {
+                    return true;
+                }
+            }
+        }
+        false
+    }
+
+    // Drops the test of this name, which no file holds now.
+    fn drop_unheld(&mut self, alloc: Global, name: &Name) -> Result<(), AllocError> {
+        if self.is_held(name) {
+            return Ok(());
+        }
+        let test = Vec::from_slice(alloc, name.as_bytes())?;
+        let fault = self.make(alloc, Edit::DropTest { test })?;
+        drop(fault);
+        Ok(())
+    }
+
+    // The file of that index holds the test of this name from now on.
+    fn rename(&mut self, alloc: Global, index: usize, name: Name) -> Result<(), AllocError> {
+        let old = match self.tests.get_mut(index) {
+            Some(test) => replace(&mut test.name, Some(name)),
+            None => None,
+        };
+        match old {
+            Some(old) => self.drop_unheld(alloc, &old),
+            None => Ok(()),
+        }
+    }
+
+    /// Takes a version of the file of that index. Why it is refused, if it is. Errors: out of memory.
+    pub fn take_test(
+        &mut self,
+        alloc: Global,
+        index: usize,
+        text: Vec<u8>,
+    ) -> Result<Option<EditFault>, AllocError> {
+        let new = match read_test(alloc, &text) {
+            Ok(new) => new,
+            Err(LitmusFault::OutOfMemory(error)) => return Err(error),
+            Err(fault) => return Ok(Some(EditFault::Test(fault))),
+        };
+        let fault = self.put_test(alloc, &new, text)?;
+        if fault.is_none() {
+            self.rename(alloc, index, new.name)?;
+        }
+        Ok(fault)
+    }
+}
