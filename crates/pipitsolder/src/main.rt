@@ -4,7 +4,7 @@
 use clap::Error;
 use clap::error::ErrorKind;
 use litmusbench::{
-    ByteSource, Form, OfRead, OfWrite, RefusalTeller, Report, RunEnd, SessionFault, TextFile,
+    Form, OfRead, OfWrite, RefusalTeller, Report, RunEnd, SessionFault, TextFile,
     difference_report, eval_stream, exit_status, form_of, read_text, refusal_lines, session,
     table_report, write_answer, write_report, write_why,
 };
@@ -73,16 +73,14 @@ fn stream<R: AllocGlobal + Input + Print, E: Print>(
 }
 
 // Any number of workers does the same for now: cells are evaluated one after another.
-fn session_of<R: AllocGlobal + Print, E: Print, S: ByteSource>(
+fn session_input<R: AllocGlobal + Input + Print, E: Print>(
     rt: &R,
     errors: &E,
-    source: &mut S,
-) -> Result<bool, SessionFault>
-    requires { S.failed_calls source.old < 2 ^ 64 - 1 }
-{
+) -> Result<bool, SessionFault> {
+    let mut source = OfRead::new(rt.reader());
     let mut sink = OfWrite::new(io::writer(rt));
     let mut teller = RefusalTeller::new(rt.alloc(), io::writer(errors));
-    session(rt, source, &mut sink, &mut teller)
+    session(rt, &mut source, &mut sink, &mut teller)
 }
 
 fn tell_file<R: Eprint, T: Display>(rt: &R, path: &str, reason: &T) {
@@ -111,18 +109,15 @@ fn told<R: Eprint, T>(
     read
 }
 
-fn run_session<R: AllocGlobal + Eprint + Files + Input + Print, E: Print>(
+fn session_file<R: AllocGlobal + Eprint + Files + Print, E: Print>(
     rt: &R,
     errors: &E,
-    script: Option<&str>,
+    path: &str,
 ) -> Result<bool, SessionFault> {
-    match script {
-        Some(path) => {
-            let mut source = OfRead::new(open_file(rt, path)?);
-            told(rt, path, session_of(rt, errors, &mut source))
-        }
-        None => session_of(rt, errors, &mut OfRead::new(rt.reader())),
-    }
+    let mut source = OfRead::new(open_file(rt, path)?);
+    let mut sink = OfWrite::new(io::writer(rt));
+    let mut teller = RefusalTeller::new(rt.alloc(), io::writer(errors));
+    told(rt, path, session(rt, &mut source, &mut sink, &mut teller))
 }
 
 fn text_of_file<R: AllocGlobal + Eprint + Files>(
@@ -236,17 +231,18 @@ fn answer<R: AllocGlobal + Eprint + Files + Input + Print, E: Print>(
             tell_done(rt, table_files(rt, errors, models, tests))
         }
         Ok(Form::Diff { models, tests }) => tell_done(rt, diff_files(rt, errors, models, tests)),
-        Ok(Form::Session { script, workers: _ }) => {
-            tell_done(rt, run_session(rt, errors, script))
-        }
         Ok(
-            Form::Why {
-                model,
-                test,
-                is_forbidden: false,
-                is_deep: false,
+            Form::Session {
+                script: None,
+                workers: _,
             },
-        ) => { tell_done(rt, why_files(rt, errors, model, test)) }
+        ) => tell_done(rt, session_input(rt, errors)),
+        Ok(
+            Form::Session {
+                script: Some(path),
+                workers: _,
+            },
+        ) => tell_done(rt, session_file(rt, errors, path)),
         Ok(Form::Why { .. } | Form::Watch { .. } | Form::Draw { .. }) => tell_unbuilt(rt),
         Err(error) => tell_usage(rt, &error),
     }
