@@ -501,6 +501,17 @@ fn why_command<'a>(alloc: Global) -> Result<Command<'a>, AllocError> {
         .arg(test)
 }
 
+fn watch_command<'a>(alloc: Global) -> Result<Command<'a>, AllocError> {
+    let model = path(alloc, "MODEL", "The file of a model");
+    let tests = path(alloc, "TEST", "Files of tests").num_args(1..);
+    Command::new(alloc, "watch")
+        .about(
+            "Some tests under a model, and what changes with each later version of a file that standard input names",
+        )
+        .arg(model)?
+        .arg(tests)
+}
+
 fn program<'a>(alloc: Global) -> Result<Command<'a>, AllocError> {
     Command::new(alloc, "pipitsolder")
         .about(ABOUT)
@@ -510,7 +521,8 @@ fn program<'a>(alloc: Global) -> Result<Command<'a>, AllocError> {
         .subcommand(table_command(alloc)?)?
         .subcommand(diff_command(alloc)?)?
         .subcommand(session_command(alloc)?)?
-        .subcommand(why_command(alloc)?)
+        .subcommand(why_command(alloc)?)?
+        .subcommand(watch_command(alloc)?)
 }
 
 // What clap says of words that have no form. It takes a few such words, as `eval -- A B`.

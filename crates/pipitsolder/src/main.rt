@@ -8,12 +8,14 @@ use litmusbench::{
     difference_report, eval_stream, exit_status, form_of, read_text, refusal_lines, session,
     table_report, write_answer, write_report, write_why,
 };
+use live_watch::watch_files;
 use std::alloc::AllocError;
 use std::fmt::Display;
 use std::fs::File;
 use std::io::Write;
 use std::process::ExitCode;
 use std::rt::{Env, Files};
+use std::sync::Wait;
 use std::{env, io};
 
 fn tell_fault<R: Eprint>(rt: &R, fault: SessionFault) -> RunEnd {
@@ -219,7 +221,7 @@ fn diff_files<R: AllocGlobal + Eprint + Files + Print, E: Print>(
     write_both(rt, errors, difference_report(rt.alloc(), &models, &tests))
 }
 
-fn answer<R: AllocGlobal + Eprint + Files + Input + Print, E: Print>(
+fn answer<R: AllocGlobal + Eprint + Files + Input + Print + Wait, E: Print>(
     rt: &R,
     errors: &E,
     words: &[&str],
@@ -243,12 +245,21 @@ fn answer<R: AllocGlobal + Eprint + Files + Input + Print, E: Print>(
                 workers: _,
             },
         ) => tell_done(rt, session_file(rt, errors, path)),
-        Ok(Form::Why { .. } | Form::Watch { .. } | Form::Draw { .. }) => tell_unbuilt(rt),
+        Ok(
+            Form::Why {
+                model,
+                test,
+                is_forbidden: false,
+                is_deep: false,
+            },
+        ) => tell_done(rt, why_files(rt, errors, model, test)),
+        Ok(Form::Watch { model, tests }) => tell_done(rt, watch_files(rt, model, tests)),
+        Ok(Form::Why { .. } | Form::Draw { .. }) => tell_unbuilt(rt),
         Err(error) => tell_usage(rt, &error),
     }
 }
 
-fn run<R: AllocGlobal + Env + Eprint + Files + Input + Print, E: Print>(
+fn run<R: AllocGlobal + Env + Eprint + Files + Input + Print + Wait, E: Print>(
     rt: &R,
     errors: &E,
 ) -> RunEnd {
