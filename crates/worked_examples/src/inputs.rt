@@ -1,7 +1,6 @@
-//! Runs each input of the list `vectors.txt` through the call that the program makes of its standard
+//! Runs each input of the list `inputs.txt` through the call that the program makes of its standard
 //! input, and prints a line for each: its name, whether the answer is the one that is wanted, how
 //! many lines it has, and the last of them.
-#![tactic(auto)]
 
 use litmusbench::{MemorySink, MemorySource, NoListener, SessionFault, eval_stream};
 use std::alloc::AllocError;
@@ -31,8 +30,8 @@ fn is_wanted(answer: &Answer, wanted: &[u8]) -> bool {
 }
 
 fn show<R: Files + Print + AllocGlobal>(rt: &R, name: &str) -> io::Result<()> {
-    let input_path = format!(in rt.alloc(); "{name}.in")?;
-    let wanted_path = format!(in rt.alloc(); "{name}.out")?;
+    let input_path = format!(in rt.alloc(); "inputs/{name}.in")?;
+    let wanted_path = format!(in rt.alloc(); "inputs/{name}.out")?;
     let input = fs::read(rt, input_path.as_str())?;
     let wanted = fs::read(rt, wanted_path.as_str())?;
     let answer = match answer_to(rt, &input) {
@@ -53,10 +52,11 @@ fn show<R: Files + Print + AllocGlobal>(rt: &R, name: &str) -> io::Result<()> {
     println!(rt; "{name}: {word}, {count} lines: {last}")
 }
 
-fn main(rt: HostRuntime) -> io::Result<()> {
-    let names = fs::read_to_string(&rt, "vectors.txt")?;
+/// Answers each input.
+pub fn show_all<R: Files + Print + AllocGlobal>(rt: &R) -> io::Result<()> {
+    let names = fs::read_to_string(rt, "inputs/inputs.txt")?;
     for name in names.lines() {
-        show(&rt, name)?;
+        show(rt, name)?;
     }
     Ok(())
 }

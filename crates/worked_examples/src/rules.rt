@@ -1,5 +1,4 @@
 //! Prints the words of each rule, as the tables of docs/FORMATS.md have them.
-#![tactic(auto)]
 
 use fault_lines::rule_words;
 use std::io;
@@ -22,9 +21,10 @@ fn print_rules<R: Print>(rt: &R, letter: u8, count: u8) -> io::Result<()> {
     Ok(())
 }
 
-fn main(rt: HostRuntime) -> io::Result<()> {
+/// Prints the words of every rule.
+pub fn show_all<R: Print>(rt: &R) -> io::Result<()> {
     for (letter, count) in LETTERS {
-        print_rules(&rt, letter, count)?;
+        print_rules(rt, letter, count)?;
     }
     Ok(())
 }
