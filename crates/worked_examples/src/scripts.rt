@@ -1,7 +1,6 @@
 //! Runs each script of the list `scripts.txt` through the call that the program makes of its standard input, and prints
 //! a line for each: its name, whether the output is the one that is wanted, and how many lines it has. The first three
 //! are run again from sources and to sinks that fail at each call.
-#![tactic(auto)]
 
 use litmusbench::{MemorySink, MemorySource, NoListener, SessionFault, session};
 use std::rt::Files;
@@ -23,8 +22,8 @@ struct Ending {
 }
 
 fn case_of<R: Files + AllocGlobal>(rt: &R, name: &str) -> io::Result<Case> {
-    let script_path = format!(in rt.alloc(); "{name}.script")?;
-    let wanted_path = format!(in rt.alloc(); "{name}.out")?;
+    let script_path = format!(in rt.alloc(); "scripts/{name}.script")?;
+    let wanted_path = format!(in rt.alloc(); "scripts/{name}.out")?;
     let name = format!(in rt.alloc(); "{name}")?;
     let script = fs::read(rt, script_path.as_str())?;
     let wanted = fs::read(rt, wanted_path.as_str())?;
@@ -119,16 +118,17 @@ fn show_failures<R: Print + AllocGlobal>(rt: &R, case: &Case) -> io::Result<()> 
     Ok(())
 }
 
-fn main(rt: HostRuntime) -> io::Result<()> {
-    let names = fs::read_to_string(&rt, "scripts.txt")?;
+/// Answers each script, and the first three from sources and to sinks that fail.
+pub fn show_all<R: Files + Print + AllocGlobal>(rt: &R) -> io::Result<()> {
+    let names = fs::read_to_string(rt, "scripts/scripts.txt")?;
     for name in names.lines() {
-        let case = case_of(&rt, name)?;
-        let whole = run(&rt, &case.script, None, None)?;
-        show(&rt, &case, &whole)?;
+        let case = case_of(rt, name)?;
+        let whole = run(rt, &case.script, None, None)?;
+        show(rt, &case, &whole)?;
     }
     for name in names.lines().take(3) {
-        let case = case_of(&rt, name)?;
-        show_failures(&rt, &case)?;
+        let case = case_of(rt, name)?;
+        show_failures(rt, &case)?;
     }
     Ok(())
 }
