@@ -1,6 +1,6 @@
 //! What names stand for.
 
-ghost use Rattle.std.specs.Prelude.{◌≡◌, [], reverse, map, bytes_eq, IfOk};
+ghost use Rattle.std.specs.Prelude.{◌≡◌, [], reverse, map, bytes_eq, false, IfOk, IsTrue};
 ghost use Rattle.binding_kinds.specs.Value.{entry_of};
 ghost use Rattle.binding_kinds.specs.Kinds.{found, kind_found};
 ghost use Rattle.binding_kinds.specs.Outermost.{kind_of_predefined, naming_of};
@@ -72,12 +72,25 @@ pub struct Scope {
     pub functions: Vec<Function>,
 }
 
-/// Whether a name is spelled so: most are told apart by their lengths.
+/// Whether two texts begin with different bytes.
+#[tactic(auto, using(crate::proofs::Scopes::heads_apart))]
+fn begin_apart(left: &[u8], right: &[u8]) -> bool
+    ensures { IsTrue result → bytes_eq left.now right.now ≡ false }
+{
+    if left.is_empty() || right.is_empty() {
+        return false;
+    }
+    left[0] != right[0]
+}
+
+/// Whether a name is spelled so: most are told apart by their lengths or by their first bytes.
 fn is_spelled(name: &Name, bytes: &[u8]) -> bool
     ensures { result ≡ bytes_eq name.now bytes.now }
 {
     let own = name.as_bytes();
-    if own.len() == bytes.len() {
+    if begin_apart(own, bytes) {
+        false
+    } else if own.len() == bytes.len() {
         own == bytes
     } else {
         false
@@ -85,21 +98,23 @@ fn is_spelled(name: &Name, bytes: &[u8]) -> bool
 }
 
 /// The last entry of that name.
-#[tactic(auto, using(crate::proofs::Scopes::rev_more))]
+#[tactic(auto, using(crate::proofs::Scopes::rev_less))]
 pub fn find(entries: &[Entry], name: &Name) -> Option<Found>
     ensures { result ≡ found (reverse (map entry_of entries.now)) name.now }
 {
-    let mut last = None;
-    for (slot, entry) in entries.iter().enumerate() {
+    let mut end = entries.len();
+    'names: while 0 < end {
+        end -= 1;
+        let entry = &entries[end];
         if is_spelled(&entry.name, name.as_bytes()) {
-            last = Some(Found {
-                slot,
+            return Some(Found {
+                slot: end,
                 kind: entry.kind,
                 binder: entry.binder,
             });
         }
     }
-    last
+    None
 }
 
 /// The kind of a name that was looked for.
