@@ -1,14 +1,14 @@
 -- Lines and commands, read one after another.
-use Rattle.std.proofs.Common.{◌≡◌, ℕ, zero, suc, ◌+◌, ◌-◌, ◌<◌, ◌≤◌, List, [], ◌∷◌, ◌++◌, length, take, drop, Bool, true, false, Option, Some, None, Result, Ok, Err, IfOk, refl, sym, ap, ◌∙◌, subst, arith, append_assoc}
+use Rattle.std.proofs.Common.{◌≡◌, ℕ, zero, suc, ◌+◌, ◌-◌, ◌<◌, ◌≤◌, List, [], ◌∷◌, ◌++◌, length, take, drop, Bool, true, false, Option, Some, None, Result, Ok, Err, IfOk, IfSome, refl, sym, ap, ◌∙◌, subst, arith, append_assoc}
 use Rattle.std.specs.Prelude.{option_map}
 use Rattle.std.specs.declared.alloc.Global.{Global}
 use Rattle.std.specs.declared.vec.Vec.{Vec}
 use Rattle.std.specs.Io.KnownBytes.{prepend_known, Consumes, IsAtEnd}
 use Rattle.std.specs.List.{position_or_len}
-use Rattle.std.proofs.lemmas.List.{take_all, length-drop, drop-drop, append-nil}
+use Rattle.std.proofs.lemmas.List.{take_all, length-drop, length-append, drop-drop, append-nil}
 use Rattle.source_text.specs.Layout.{is_line_end}
 use Rattle.session_script.specs.Lines.{lines_of, IsUnbroken, without_return}
-use Rattle.session_script.specs.Reading.{IsPart, IsLine, HasText, IsSaid, IsNext}
+use Rattle.session_script.specs.Reading.{IsPart, IsPaid, IsLine, HasText, IsSaid, IsNext}
 use Rattle.session_script.specs.Commands.{commands_from, commands_of, Between, Within, is_dot, skips, is_skipped, kept_text, said_by, stage_behind}
 use Rattle.session_script.specs.Requests.{has_text, request_of}
 use Rattle.session_script.specs.Words.{words_of}
@@ -50,9 +50,6 @@ part_goes_on items its more before line start n within same at all_of front put 
     let size : length part ≡ length items - start = ap (λ (l : List ℕ). length l) whole ∙ length-drop start items in
     let all_taken : take n part ≡ part = take_all n part all_of in
     (more, subst IsUnbroken (sym front) (unbroken_line part n at), put, sym whole ∙ sym all_taken ∙ sym front, nothing items (start + n) (omega arith))
-
-pub work_falls : (a b c d : ℕ) → a < b → b ≤ c → c ≤ d → a ≤ d
-work_falls a b c d p q r = omega arith
 
 -- ---- whole lines
 
@@ -245,3 +242,43 @@ script_ended (Some first) None next h read = absurd h
 script_ended (Some first) (Some now) None h read = absurd read
 script_ended (Some first) (Some now) (Some next) h read =
     (h ∙ ap (λ (ls : List (List ℕ)). commands_from Between ls) read.0, ap (λ (ls : List (List ℕ)). commands_from Between ls) read.1)
+
+-- ---- turns
+
+pub paid_none : (turns : ℕ) (left : Option (List ℕ)) → IsPaid turns turns left left
+paid_none turns None = tt
+paid_none turns (Some bytes) = omega arith
+
+pub paid_on : (turns mid now : ℕ) (first between last : Option (List ℕ)) → IsPaid turns mid first between → IsPaid mid now between last → IsPaid turns now first last
+paid_on turns mid now None between last h k = tt
+paid_on turns mid now (Some first) None last h k = absurd h
+paid_on turns mid now (Some first) (Some between) None h k = absurd k
+paid_on turns mid now (Some first) (Some between) (Some last) h k = omega arith
+
+pub paid_after : (turns before mid now : ℕ) (first between last : Option (List ℕ)) → IsPaid turns before first between → mid ≡ before → IsPaid mid now between last → IsPaid turns now first last
+paid_after turns before mid now first between last h e k = paid_on turns before now first between last h (subst (λ (n : ℕ). IsPaid n now between last) e k)
+
+pub paid_to_end : (turns mid : ℕ) (first between : Option (List ℕ)) → IsPaid turns mid first between → IfSome between (λ all. mid ≤ length all) → IfSome first (λ all. turns ≤ length all)
+paid_to_end turns mid None between h k = tt
+paid_to_end turns mid (Some first) None h k = absurd h
+paid_to_end turns mid (Some first) (Some between) h k = omega arith
+
+-- no turn is left
+pub no_turn : (turns : ℕ) (left : Option (List ℕ)) → turns ≡ 0 → IfSome left (λ all. turns ≤ length all)
+no_turn turns None e = tt
+no_turn turns (Some all) e = omega arith
+
+-- a read that gave some bytes took one turn
+pub paid_by : (turns now : ℕ) (old new : Option (List ℕ)) (given : List ℕ) → Consumes old new given → now + 1 ≡ turns → 0 < length given → IsPaid turns now old new
+paid_by turns now None new given h e some = tt
+paid_by turns now (Some old) None given h e some = absurd h
+paid_by turns now (Some old) (Some new) given h e some =
+    let sizes : length old ≡ length given + length new = ap (λ (l : List ℕ). length l) h ∙ length-append given new in
+    omega arith
+
+pub paid_nothing : (turns now : ℕ) (old new : Option (List ℕ)) (given : List ℕ) → Consumes old new given → now ≡ turns → IsPaid turns now old new
+paid_nothing turns now None new given h e = tt
+paid_nothing turns now (Some old) None given h e = absurd h
+paid_nothing turns now (Some old) (Some new) given h e =
+    let sizes : length old ≡ length given + length new = ap (λ (l : List ℕ). length l) h ∙ length-append given new in
+    omega arith

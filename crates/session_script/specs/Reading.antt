@@ -1,5 +1,5 @@
--- What reading a script leaves to read. `ScriptReader::next` cites IsNext.
-use Rattle.std.specs.Prelude.{◌≡◌, ℕ, ◌+◌, ◌*◌, List, [], ◌∷◌, ◌++◌, Bool, true, false, Option, Some, None, length, drop}
+-- What reading a script leaves to read. `ScriptReader::next` cites IsNext and IsPaid.
+use Rattle.std.specs.Prelude.{◌≡◌, ℕ, ◌+◌, ◌*◌, ◌≤◌, List, [], ◌∷◌, ◌++◌, Bool, true, false, Option, Some, None, length, drop}
 use Rattle.std.specs.Io.KnownBytes.{prepend_known}
 use Rattle.session_script.specs.declared.command.Command.{Command}
 use Rattle.session_script.specs.declared.command.Command.TheVariants.{Asked, Refused}
@@ -18,9 +18,19 @@ waiting_in r = drop r.start r.waiting.items
 abbrev pub left_to : ScriptReader → Option (List ℕ) → Option (List ℕ)
 left_to r source = prepend_known (waiting_in r) source
 
+-- so many reads that give bytes may still come
+abbrev pub turns_of : ScriptReader → ℕ
+turns_of r = r.turns
+
+-- each turn that was taken between the two gave a byte of the source at least
+abbrev pub IsPaid : (turns now : ℕ) → (old new : Option (List ℕ)) → Type 0
+IsPaid turns now None new = Unit {0}
+IsPaid turns now (Some old) None = ⊥
+IsPaid turns now (Some old) (Some new) = turns + length new ≤ now + length old
+
 -- no more lines than this are left
 abbrev pub work_of : ScriptReader → ℕ
-work_of r = r.turns * 4097 + length (waiting_in r)
+work_of r = turns_of r * 4097 + length (waiting_in r)
 
 -- what waited went to the line, up to the line's end, if it has one there
 abbrev pub IsPart : Bool → List ℕ → List ℕ → List ℕ → List ℕ → Type 0

@@ -1,10 +1,10 @@
 //! The commands of a script, one after another.
 
-ghost use Rattle.std.specs.Prelude.{◌≡◌, ◌≢◌, ◌+◌, ◌-◌, ◌<◌, ◌≤◌, ◌^◌, ◌++◌, ◌∷◌, [], true, false, length, take, IfOk, OnOk, option_map};
+ghost use Rattle.std.specs.Prelude.{◌≡◌, ◌≢◌, ◌+◌, ◌-◌, ◌<◌, ◌≤◌, ◌^◌, ◌++◌, ◌∷◌, [], true, false, length, take, IfOk, IfSome, OnOk, option_map};
 ghost use Rattle.std.specs.Io.KnownBytes.{Consumes, IsAtEnd};
 ghost use Rattle.session_script.specs.Commands.{is_dot, skips};
 ghost use Rattle.session_script.specs.Lines.{without_return};
-ghost use Rattle.session_script.specs.Reading.{waiting_in, left_to, work_of, IsPart, IsLine, IsText, HasText, IsSaid, IsNext};
+ghost use Rattle.session_script.specs.Reading.{waiting_in, left_to, turns_of, work_of, IsPart, IsPaid, IsLine, IsText, HasText, IsSaid, IsNext};
 
 use crate::command::{Command, ScriptRule};
 use crate::parse::request_of;
@@ -69,7 +69,8 @@ fn put_line(text: &mut Vec<u8>, line: &[u8], most: usize) -> Result<(), AllocErr
 impl ScriptReader {
     /// Nothing is read yet.
     pub fn new(alloc: Global) -> ScriptReader
-        ensures { waiting_in result ≡ [] }
+        ensures waiting { waiting_in result ≡ [] }
+        ensures turns { turns_of result ≡ 16777216 }
     {
         ScriptReader {
             alloc,
@@ -82,6 +83,8 @@ impl ScriptReader {
     // Moves what waits of a line to it. Whether the line ends there.
     fn take_part(&mut self, line: &mut Vec<u8>) -> Result<bool, AllocError>
         ensures part { IfOk result (λ ended. IsPart ended (waiting_in self.old) (waiting_in self.new) line.old.items line.new.items) }
+        ensures whole { IfOk result (λ ended. work_of self.new + length line.new.items ≤ work_of self.old + length line.old.items) }
+        ensures turns { IfOk result (λ ended. turns_of self.new ≡ turns_of self.old) }
         ensures work { IfOk result (λ ended. work_of self.new ≤ work_of self.old) }
         ensures less { result ≡ Ok true → work_of self.new < work_of self.old }
     {
@@ -111,12 +114,23 @@ impl ScriptReader {
         Ok(())
     }
 
-    // Reads once, where nothing waits. Whether something waits then.
+    // Nothing waits, and no turn is taken.
+    fn keep_nothing(&mut self)
+        ensures waiting { waiting_in self.new ≡ [] }
+        ensures turns { turns_of self.new ≡ turns_of self.old }
+    {
+        self.start = self.waiting.len();
+    }
+
+    // Reads once, where nothing waits. Whether something waits then; a read that gives nothing takes no turn.
     fn fill<S: ByteSource>(&mut self, source: &mut S) -> Result<bool, ReadFault>
         requires { S.failed_calls source.old < 2 ^ 64 - 1 }
         ensures given { IfOk result (λ some. Consumes (S.remaining source.old) (S.remaining source.new) (waiting_in self.new)) }
         ensures end { result ≡ Ok false → IsAtEnd (left_to self.new (S.remaining source.new)) }
-        ensures work { IfOk result (λ some. work_of self.new < work_of self.old) }
+        ensures work { IfOk result (λ some. work_of self.new ≤ work_of self.old) }
+        ensures less { result ≡ Ok true → work_of self.new < work_of self.old }
+        ensures paid { IfOk result (λ some. IsPaid (turns_of self.old) (turns_of self.new) (S.remaining source.old) (S.remaining source.new)) }
+        ensures endless { result ≡ Err ReadFault.Endless → turns_of self.old ≡ 0 }
         ensures read { result ≡ Err ReadFault.Read → S.failed_calls source.new ≡ S.failed_calls source.old + 1 }
         ensures same { result ≢ Err ReadFault.Read → S.failed_calls source.new ≡ S.failed_calls source.old }
     {
@@ -125,9 +139,13 @@ impl ScriptReader {
         }
         let mut buffer = [0u8; 4096];
         match source.read_some(&mut buffer) {
+            Ok(0) => {
+                self.keep_nothing();
+                Ok(false)
+            }
             Ok(count) => {
                 self.keep(&buffer[..count])?;
-                if count == 0 { Ok(false) } else { Ok(true) }
+                Ok(true)
             }
             Err(_) => Err(ReadFault::Read),
         }
@@ -137,7 +155,10 @@ impl ScriptReader {
     fn read_line<S: ByteSource>(&mut self, source: &mut S) -> Result<Option<Vec<u8>>, ReadFault>
         requires { S.failed_calls source.old < 2 ^ 64 - 1 }
         ensures line { IfOk result (λ line. IsLine (left_to self.old (S.remaining source.old)) (left_to self.new (S.remaining source.new)) (option_map (λ l. l.items) line)) }
-        ensures work { IfOk result (λ line. work_of self.new < work_of self.old) }
+        ensures work { IfOk result (λ line. work_of self.new ≤ work_of self.old) }
+        ensures less { IfOk result (λ line. IfSome line (λ some. work_of self.new < work_of self.old)) }
+        ensures paid { IfOk result (λ line. IsPaid (turns_of self.old) (turns_of self.new) (S.remaining source.old) (S.remaining source.new)) }
+        ensures endless { result ≡ Err ReadFault.Endless → IfSome (S.remaining source.old) (λ all. turns_of self.old ≤ length all) }
         ensures read { result ≡ Err ReadFault.Read → S.failed_calls source.new ≡ S.failed_calls source.old + 1 }
         ensures same { result ≢ Err ReadFault.Read → S.failed_calls source.new ≡ S.failed_calls source.old }
     {
@@ -162,7 +183,10 @@ impl ScriptReader {
     fn text<S: ByteSource>(&mut self, source: &mut S) -> Result<Option<ScriptText>, ReadFault>
         requires { S.failed_calls source.old < 2 ^ 64 - 1 }
         ensures text { IfOk result (IsText (left_to self.old (S.remaining source.old)) (left_to self.new (S.remaining source.new))) }
-        ensures work { IfOk result (λ text. work_of self.new < work_of self.old) }
+        ensures work { IfOk result (λ text. work_of self.new ≤ work_of self.old) }
+        ensures less { IfOk result (λ text. IfSome text (λ some. work_of self.new < work_of self.old)) }
+        ensures paid { IfOk result (λ text. IsPaid (turns_of self.old) (turns_of self.new) (S.remaining source.old) (S.remaining source.new)) }
+        ensures endless { result ≡ Err ReadFault.Endless → IfSome (S.remaining source.old) (λ all. turns_of self.old ≤ length all) }
         ensures read { result ≡ Err ReadFault.Read → S.failed_calls source.new ≡ S.failed_calls source.old + 1 }
         ensures same { result ≢ Err ReadFault.Read → S.failed_calls source.new ≡ S.failed_calls source.old }
     {
@@ -191,6 +215,8 @@ impl ScriptReader {
         requires { S.failed_calls source.old < 2 ^ 64 - 1 }
         ensures text { IfOk result (HasText (left_to self.old (S.remaining source.old)) (left_to self.new (S.remaining source.new)) request) }
         ensures work { IfOk result (λ c. work_of self.new ≤ work_of self.old) }
+        ensures paid { IfOk result (λ c. IsPaid (turns_of self.old) (turns_of self.new) (S.remaining source.old) (S.remaining source.new)) }
+        ensures endless { result ≡ Err ReadFault.Endless → IfSome (S.remaining source.old) (λ all. turns_of self.old ≤ length all) }
         ensures read { result ≡ Err ReadFault.Read → S.failed_calls source.new ≡ S.failed_calls source.old + 1 }
         ensures same { result ≢ Err ReadFault.Read → S.failed_calls source.new ≡ S.failed_calls source.old }
     {
@@ -210,6 +236,8 @@ impl ScriptReader {
         requires { S.failed_calls source.old < 2 ^ 64 - 1 }
         ensures said { IfOk result (λ c. IsSaid (left_to self.old (S.remaining source.old)) (left_to self.new (S.remaining source.new)) words.now c) }
         ensures work { IfOk result (λ c. work_of self.new ≤ work_of self.old) }
+        ensures paid { IfOk result (λ c. IsPaid (turns_of self.old) (turns_of self.new) (S.remaining source.old) (S.remaining source.new)) }
+        ensures endless { result ≡ Err ReadFault.Endless → IfSome (S.remaining source.old) (λ all. turns_of self.old ≤ length all) }
         ensures read { result ≡ Err ReadFault.Read → S.failed_calls source.new ≡ S.failed_calls source.old + 1 }
         ensures same { result ≢ Err ReadFault.Read → S.failed_calls source.new ≡ S.failed_calls source.old }
     {
@@ -229,14 +257,17 @@ impl ScriptReader {
 
     /// The next command, or none at the end of the script. No more is read than holds the last line feed of the
     /// command. Behind a last line that lacks its line feed the source is read once more. A line that a failed read
-    /// cuts off is not taken. Errors: a call that failed, 16,777,216 calls over the whole script before its end, or
-    /// want of memory; after them nothing is promised of further calls.
+    /// cuts off is not taken. Errors: a call that failed, a source that has not ended after 16,777,216 calls over the
+    /// whole script that gave bytes, or want of memory; after them nothing is promised of further calls.
     pub fn next<S: ByteSource>(&mut self, source: &mut S) -> Result<Option<Command>, ReadFault>
         requires { S.failed_calls source.old < 2 ^ 64 - 1 }
         // The command is the first of those that were left, and the others are left still.
         ensures next { IfOk result (λ c. IsNext (left_to self.old (S.remaining source.old)) (left_to self.new (S.remaining source.new)) c) }
-        // Each call takes some of the work that is left, so that asking until there is no command ends.
-        ensures work { IfOk result (λ c. work_of self.new < work_of self.old) }
+        // Each command takes some of the work that is left, so that asking until there is no command ends.
+        ensures work { IfOk result (λ c. IfSome c (λ some. work_of self.new < work_of self.old)) }
+        // Each turn that is taken gave a byte at least, and `Endless` comes where no turn is left.
+        ensures paid { IfOk result (λ c. IsPaid (turns_of self.old) (turns_of self.new) (S.remaining source.old) (S.remaining source.new)) }
+        ensures endless { result ≡ Err ReadFault.Endless → IfSome (S.remaining source.old) (λ all. turns_of self.old ≤ length all) }
         // `Read` comes after one failed call, and all else after none.
         ensures read { result ≡ Err ReadFault.Read → S.failed_calls source.new ≡ S.failed_calls source.old + 1 }
         ensures same { result ≢ Err ReadFault.Read → S.failed_calls source.new ≡ S.failed_calls source.old }

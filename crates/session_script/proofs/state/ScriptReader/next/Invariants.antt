@@ -1,5 +1,5 @@
 use Rattle.std.proofs.Common.{◌≡◌, ◌≤◌}
-use Rattle.session_script.specs.Reading.{left_to, work_of}
+use Rattle.session_script.specs.Reading.{left_to, turns_of, work_of, IsPaid}
 use Rattle.session_script.proofs.Steps.{AreSame}
 use Rattle.session_script.proofs.state.ScriptReader.next.Given as goal
 
@@ -7,6 +7,7 @@ use Rattle.session_script.proofs.state.ScriptReader.next.Given as goal
 abbrev pub invariant-lines : goal.invariant-lines
 invariant-lines g l = record {
   work : work_of l.self ≤ work_of l.initial.self;
+  paid : IsPaid (turns_of l.initial.self) (turns_of l.self) (g.S.ByteSource.remaining l.initial.source) (g.S.ByteSource.remaining l.source);
   same : g.S.ByteSource.failed_calls l.source ≡ g.S.ByteSource.failed_calls l.initial.source;
   commands : AreSame (left_to l.initial.self (g.S.ByteSource.remaining l.initial.source)) (left_to l.self (g.S.ByteSource.remaining l.source));
 }

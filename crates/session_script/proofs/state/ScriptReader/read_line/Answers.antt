@@ -1,7 +1,7 @@
 use Rattle.std.proofs.Common.{rules, arith}
 use Rattle.std.proofs.lemmas.Grind.{common_steps}
-use Rattle.session_script.specs.Reading.{waiting_in, left_to, work_of}
-use Rattle.session_script.proofs.Steps.{line_ended_if, part_is_open, line_goes_on, line_is_unbroken, line_is_last, work_falls}
+use Rattle.session_script.specs.Reading.{waiting_in, left_to, turns_of, work_of, IsPaid}
+use Rattle.session_script.proofs.Steps.{line_ended_if, part_is_open, line_goes_on, line_is_unbroken, line_is_last, paid_after}
 use Rattle.session_script.proofs.state.ScriptReader.read_line.Goals as goal
 
 pub returns-then-ends-clause-line : goal.returns-then-ends-clause-line
@@ -15,7 +15,8 @@ parts-preserved g c =
       same = search rules;
       unbroken = line_is_unbroken (waiting_in c.parts.self) (waiting_in c.take_part.new.self) c.parts.line.items c.take_part.new.line.items c.parts.invariant.unbroken open_part;
       read = line_goes_on (left_to c.args.self.now (g.S.ByteSource.remaining c.args.source.now)) (g.S.ByteSource.remaining c.parts.source) (g.S.ByteSource.remaining c.fill.new.source) (waiting_in c.parts.self) (waiting_in c.take_part.new.self) c.parts.line.items c.take_part.new.line.items (waiting_in c.fill.new.self) c.parts.invariant.read open_part c.in_ok-more.ensures.given;
-      work = work_falls (work_of c.fill.new.self) (work_of c.take_part.new.self) (work_of c.parts.self) _ c.in_ok-more.ensures.work c.in_ok-ends.ensures.work c.parts.invariant.work;
+      work = omega (arith, c.in_ok-more.ensures.work, c.in_ok-ends.ensures.whole, c.parts.invariant.work);
+      paid = paid_after (turns_of c.args.self.now) (turns_of c.parts.self) (turns_of c.take_part.new.self) (turns_of c.fill.new.self) (g.S.ByteSource.remaining c.args.source.now) (g.S.ByteSource.remaining c.parts.source) (g.S.ByteSource.remaining c.fill.new.source) c.parts.invariant.paid c.in_ok-ends.ensures.turns c.in_ok-more.ensures.paid;
     }
 
 pub returns-then-not-more-clause-line : goal.returns-then-not-more-clause-line

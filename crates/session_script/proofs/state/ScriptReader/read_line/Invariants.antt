@@ -1,7 +1,7 @@
-use Rattle.std.proofs.Common.{◌≡◌, ◌≤◌}
+use Rattle.std.proofs.Common.{◌≡◌, ◌≤◌, ◌+◌, length}
 use Rattle.std.specs.Io.KnownBytes.{Consumes}
 use Rattle.session_script.specs.Lines.{IsUnbroken}
-use Rattle.session_script.specs.Reading.{left_to, work_of}
+use Rattle.session_script.specs.Reading.{left_to, turns_of, work_of, IsPaid}
 use Rattle.session_script.proofs.state.ScriptReader.read_line.Given as goal
 
 -- what is read so far is the front of a line
@@ -10,7 +10,8 @@ invariant-parts g l = record {
   same : g.S.ByteSource.failed_calls l.source ≡ g.S.ByteSource.failed_calls l.initial.source;
   unbroken : IsUnbroken l.line.items;
   read : Consumes (left_to l.initial.self (g.S.ByteSource.remaining l.initial.source)) (left_to l.self (g.S.ByteSource.remaining l.source)) l.line.items;
-  work : work_of l.self ≤ work_of l.initial.self;
+  work : work_of l.self + length l.line.items ≤ work_of l.initial.self;
+  paid : IsPaid (turns_of l.initial.self) (turns_of l.self) (g.S.ByteSource.remaining l.initial.source) (g.S.ByteSource.remaining l.source);
 }
 
 abbrev pub decreases-parts : goal.decreases-parts

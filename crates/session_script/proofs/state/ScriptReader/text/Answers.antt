@@ -1,13 +1,14 @@
 use Rattle.std.proofs.Common.{rules, arith, refl, sym, ap, ◌≡◌, ◌∙◌, ◌++◌, ◌∷◌, [], ℕ, List, true, false, take}
 use Rattle.session_script.specs.Commands.{is_dot}
-use Rattle.session_script.specs.Reading.{left_to}
+use Rattle.session_script.specs.Reading.{left_to, turns_of}
 use Rattle.session_script.proofs.Fronts.{front_is_short}
-use Rattle.session_script.proofs.Steps.{text_begins, text_goes_on, text_given, text_is_cut_off, read_nothing, read_one}
+use Rattle.session_script.proofs.Steps.{paid_none, paid_on, text_begins, text_goes_on, text_given, text_is_cut_off, read_nothing, read_one}
 use Rattle.session_script.proofs.state.ScriptReader.text.Goals as goal
 
 pub lines-init : goal.lines-init
 lines-init g c = record {
   work = omega arith;
+  paid = paid_none (turns_of c.args.self.now) (g.S.ByteSource.remaining c.args.source.now);
   same = refl;
   short = rw c.new-text.ensures.items (omega arith);
   kept = λ r. text_begins (left_to c.args.self.now (g.S.ByteSource.remaining c.args.source.now)) r c.new-text.result.items c.new-text.ensures.items;
@@ -37,6 +38,7 @@ lines-preserved g c =
     let put : c.put_line.new.text.items ≡ take 65537 (c.lines.text.items ++ c.in-Some.line.items ++ 10 ∷ []) = c.in_ok-put_line-in-Some.ensures ∙ ap (λ (l : List ℕ). take 65537 (c.lines.text.items ++ l ++ 10 ∷ [])) c.deref-in-Some.ensures.value in
     record {
       work = omega (arith, c.in_ok-read.ensures.work);
+      paid = paid_on (turns_of c.args.self.now) (turns_of c.lines.self) (turns_of c.read_line.new.self) (g.S.ByteSource.remaining c.args.source.now) (g.S.ByteSource.remaining c.lines.source) (g.S.ByteSource.remaining c.read_line.new.source) c.lines.invariant.paid c.in_ok-read.ensures.paid;
       same = search rules;
       short = front_is_short c.put_line.new.text.items 65537 (c.lines.text.items ++ c.in-Some.line.items ++ 10 ∷ []) put;
       kept = λ r. text_goes_on first now next r c.lines.text.items c.put_line.new.text.items c.in-Some.line.items (c.lines.invariant.kept r) (read_one now next c.in_ok-read.read c.in-Some.line c.in-Some.is c.in_ok-read.ensures.line) ends put;

@@ -1,5 +1,5 @@
 use Rattle.std.proofs.Common.{◌≡◌, ◌≤◌, length}
-use Rattle.session_script.specs.Reading.{left_to, work_of}
+use Rattle.session_script.specs.Reading.{left_to, turns_of, work_of, IsPaid}
 use Rattle.session_script.specs.declared.request.Request.{Request}
 use Rattle.session_script.proofs.Steps.{InText}
 use Rattle.session_script.proofs.state.ScriptReader.text.Given as goal
@@ -8,6 +8,7 @@ use Rattle.session_script.proofs.state.ScriptReader.text.Given as goal
 abbrev pub invariant-lines : goal.invariant-lines
 invariant-lines g l = record {
   work : work_of l.self ≤ work_of l.initial.self;
+  paid : IsPaid (turns_of l.initial.self) (turns_of l.self) (g.S.ByteSource.remaining l.initial.source) (g.S.ByteSource.remaining l.source);
   same : g.S.ByteSource.failed_calls l.source ≡ g.S.ByteSource.failed_calls l.initial.source;
   short : length l.text.items ≤ 65537;
   kept : (r : Request) → InText (left_to l.initial.self (g.S.ByteSource.remaining l.initial.source)) (left_to l.self (g.S.ByteSource.remaining l.source)) r l.text.items;
