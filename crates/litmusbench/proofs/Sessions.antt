@@ -1,15 +1,16 @@
 -- A script that is answered command by command.
-use Rattle.std.proofs.Common.{◌≡◌, ◌≢◌, ℕ, ◌+◌, List, [], ◌∷◌, ◌++◌, take, Bool, false, ◌||◌, ◌⊎◌, Option, Some, None, Result, Ok, Err, IfSome, refl, sym, ap, ◌∙◌, subst, append_assoc}
+use Rattle.std.proofs.Common.{◌≡◌, ◌≢◌, ℕ, ◌+◌, ◌≤◌, List, [], ◌∷◌, ◌++◌, length, take, Bool, false, ◌||◌, ◌⊎◌, inl, inr, Option, Some, None, Result, Ok, Err, IfSome, refl, sym, ap, ◌∙◌, subst, append_assoc, arith}
 use Rattle.std.proofs.lemmas.List.{append-nil}
 use Rattle.std.specs.Io.KnownBytes.{prepend_known, Keeps, Appends}
 use Rattle.session_script.specs.declared.command.Command.{Command}
 use Rattle.session_script.specs.Commands.{commands_of}
-use Rattle.session_script.specs.Reading.{IsNext}
+use Rattle.session_script.specs.Reading.{IsNext, IsPaid}
 use Rattle.bench_texts.specs.BenchTexts.{BenchTexts}
 use Rattle.session_answers.specs.Sessions.{IsOutput, Nothing, OneMore, no_texts}
 use Rattle.litmusbench.specs.declared.fault.SessionFault.{SessionFault}
 use Rattle.litmusbench.specs.declared.fault.SessionFault.TheVariants as faults
-use Rattle.litmusbench.specs.Sessions.{IsBegun, IsWhole, IsFront, IsCutOff, IsSession, IsReplied, HasFailedOnce}
+use Rattle.litmusbench.specs.Sessions.{IsBegun, IsWhole, IsFront, IsCutOff, IsSession, IsReplied, IsTurnFault}
+use Rattle.litmusbench.specs.Answer.{IsReadFault}
 use Rattle.litmusbench.proofs.Joined.{appends_joined}
 
 -- of the bytes that were left at first these commands are read, and those bytes are left now
@@ -145,6 +146,24 @@ goes_on left now next old mid new texts after before refused both command h read
   written = appends_joined old mid new h.text said.text h.written whole;
 }
 
--- no read failed before
-pub failed_once : (first now new : ℕ) → now ≡ first → HasFailedOnce now new → HasFailedOnce first new
-failed_once first now new e h = subst (λ (n : ℕ). HasFailedOnce n new) e h
+-- ---- turns
+
+pub starts_paid : (turns : ℕ) (left : Option (List ℕ)) → turns ≡ 16777216 → IsPaid 16777216 turns left left
+starts_paid turns None e = tt
+starts_paid turns (Some bytes) e = omega arith
+
+pub paid_on : (turns mid now : ℕ) (first between last : Option (List ℕ)) → IsPaid turns mid first between → IsPaid mid now between last → IsPaid turns now first last
+paid_on turns mid now None between last h k = tt
+paid_on turns mid now (Some first) None last h k = absurd h
+paid_on turns mid now (Some first) (Some between) None h k = absurd k
+paid_on turns mid now (Some first) (Some between) (Some last) h k = omega arith
+
+paid_to_end : (turns mid : ℕ) (first between : Option (List ℕ)) → IsPaid turns mid first between → IfSome between (λ all. mid ≤ length all) → IfSome first (λ all. turns ≤ length all)
+paid_to_end turns mid None between h k = tt
+paid_to_end turns mid (Some first) None h k = absurd h
+paid_to_end turns mid (Some first) (Some between) h k = omega arith
+
+-- no read failed before, and each turn that was taken gave a byte
+pub read_refused : (mid first now new : ℕ) (left between : Option (List ℕ)) → IsPaid 16777216 mid left between → now ≡ first → IsTurnFault mid now new between → IsReadFault first new left
+read_refused mid first now new left between paid e (inl failed) = inl (failed ∙ ap (λ (n : ℕ). n + 1) e)
+read_refused mid first now new left between paid e (inr (same, long)) = inr (same ∙ e, paid_to_end 16777216 mid left between paid long)

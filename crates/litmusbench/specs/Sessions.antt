@@ -63,6 +63,6 @@ IsReplied t after command old new (Err faults.Write) = (said : Said) × IsAnswer
 IsReplied t after command old new (Err faults.Memory) = Keeps old new
 IsReplied t after command old new (Err faults.Read) = ⊥
 
--- a read is refused after one failed call, or after none where the script has too many
-abbrev pub HasFailedOnce : ℕ → ℕ → Type 0
-HasFailedOnce old new = (new ≡ old + 1) ⊎ (new ≡ old)
+-- A read is refused: one call failed, or, where none did, no turn is left, and what is left of the source has that many bytes at least.
+abbrev pub IsTurnFault : (turns old new : ℕ) → Option (List ℕ) → Type 0
+IsTurnFault turns old new left = (new ≡ old + 1) ⊎ ((new ≡ old) × IfSome left (λ all. turns ≤ length all))

@@ -1,14 +1,15 @@
-use Rattle.std.proofs.Common.{rules, ◌≡◌, ◌+◌, ◌∙◌, ℕ, ap, refl, subst, Option, Some, None}
+use Rattle.std.proofs.Common.{rules, ◌≡◌, ◌+◌, ◌<◌, ◌∙◌, ℕ, ap, refl, subst, Option, Some, None, IfSome}
 use Rattle.std.proofs.lemmas.Result.{err_from_is_err_and}
-use Rattle.session_script.specs.Reading.{waiting_in, left_to, IsNext}
+use Rattle.session_script.specs.Reading.{waiting_in, left_to, turns_of, work_of, IsNext}
 use Rattle.session_script.specs.declared.command.Command.{Command}
 use Rattle.bench_texts.specs.Held.{texts_of}
-use Rattle.litmusbench.proofs.Sessions.{begins, ended, read_fails, reply_fails, goes_on, failed_once}
+use Rattle.litmusbench.proofs.Sessions.{begins, ended, read_fails, reply_fails, goes_on, read_refused, starts_paid, paid_on}
 use Rattle.litmusbench.proofs.script.session.Goals as goal
 
 pub commands-init : goal.commands-init
 commands-init g c = record {
-  under_way = begins (g.S.ByteSource.remaining c.args.source.now) (g.W.ByteSink.contents c.args.sink.now) (waiting_in c.new-script.result) (texts_of c.new-texts.result) c.new-script.ensures c.new-texts.ensures.texts;
+  under_way = begins (g.S.ByteSource.remaining c.args.source.now) (g.W.ByteSink.contents c.args.sink.now) (waiting_in c.new-script.result) (texts_of c.new-texts.result) c.new-script.ensures.waiting c.new-texts.ensures.texts;
+  paid = starts_paid (turns_of c.new-script.result) (g.S.ByteSource.remaining c.args.source.now) c.new-script.ensures.turns;
   reads = refl;
   writes = refl;
 }
@@ -25,7 +26,7 @@ returns-in_err-read-clause-written g c =
 pub returns-in_err-read-clause-read : goal.returns-in_err-read-clause-read
 returns-in_err-read-clause-read g c = λ e.
     let p = err_from_is_err_and c.from_residual.result c.from_residual.ensures.1 in
-    failed_once _ _ _ c.commands.invariant.reads (c.in_err-read.ensures.read (cc (p.1, p.2)))
+    read_refused (turns_of c.commands.script) _ _ _ (g.S.ByteSource.remaining c.args.source.now) (g.S.ByteSource.remaining c.commands.source) c.commands.invariant.paid c.commands.invariant.reads (c.in_err-read.ensures.read (cc (p.1, p.2)))
 
 pub returns-in_err-read-clause-no_read : goal.returns-in_err-read-clause-no_read
 returns-in_err-read-clause-no_read g c = λ ne.
@@ -90,7 +91,7 @@ returns-in_err-refused-in-Some-clause-no_write g c = λ ne.
     c.in_err-refused-in-Some.ensures.same (λ e. ne (cc (p.1, p.2))) ∙ c.commands.invariant.writes
 
 pub commands-smaller : goal.commands-smaller
-commands-smaller g c = c.in_ok-read.ensures.work
+commands-smaller g c = subst (λ (o : Option Command). IfSome o (λ some. work_of c.read_command.new.script < work_of c.commands.script)) c.in-Some.is c.in_ok-read.ensures.work
 
 pub commands-preserved : goal.commands-preserved
 commands-preserved g c =
@@ -100,6 +101,7 @@ commands-preserved g c =
       under_way =
           goes_on (g.S.ByteSource.remaining c.args.source.now) now next (g.W.ByteSink.contents c.args.sink.now) (g.W.ByteSink.contents c.commands.sink) (g.W.ByteSink.contents c.write_reply.new.sink) (texts_of c.commands.texts) (texts_of c.write_reply.new.texts) c.commands.is_refused c.in_ok-refused-in-Some.refused _ c.in-Some.command c.commands.invariant.under_way
           (subst (λ (o : Option Command). IsNext now next o) c.in-Some.is c.in_ok-read.ensures.next) c.in_ok-refused-in-Some.ensures.written refl;
+      paid = paid_on 16777216 (turns_of c.commands.script) (turns_of c.read_command.new.script) (g.S.ByteSource.remaining c.args.source.now) (g.S.ByteSource.remaining c.commands.source) (g.S.ByteSource.remaining c.read_command.new.source) c.commands.invariant.paid c.in_ok-read.ensures.paid;
       reads = c.in_ok-read.ensures.same (λ e. cc) ∙ c.commands.invariant.reads;
       writes = c.in_ok-refused-in-Some.ensures.same (λ e. cc) ∙ c.commands.invariant.writes;
     }
