@@ -1,6 +1,6 @@
 //! The board, and what operations make of it.
 
-ghost use Rattle.std.specs.Prelude.{◌≡◌, IfOk, MatchResult, option_map, length};
+ghost use Rattle.std.specs.Prelude.{◌≡◌, IfOk, MatchResult, option_map, length, slice_get};
 ghost use Rattle.std.specs.Arc.{arc_value};
 ghost use Rattle.compare_report.specs.Cells.{cell_of};
 
@@ -68,6 +68,40 @@ impl Board {
         match self.rows.get(at.test) {
             Some(row) => row.show(at.model),
             None => Shown::NoCell,
+        }
+    }
+
+    /// How many tests it has.
+    pub fn test_count(&self) -> usize
+        ensures { result ≡ length self.now.rows }
+    {
+        self.rows.len()
+    }
+
+    /// How many models it has.
+    pub fn model_count(&self) -> usize
+        ensures { result ≡ length self.now.columns }
+    {
+        self.columns.len()
+    }
+
+    /// The name of the test at an index.
+    pub fn test_name(&self, index: usize) -> Option<&[u8]>
+        ensures { option_map (λ n. n.now) result ≡ option_map (λ r. r.name) (slice_get self.now.rows index) }
+    {
+        match self.rows.get(index) {
+            Some(row) => Some(row.name()),
+            None => None,
+        }
+    }
+
+    /// The name of the model at an index.
+    pub fn model_name(&self, index: usize) -> Option<&[u8]>
+        ensures { option_map (λ n. n.now) result ≡ option_map (λ c. c.name) (slice_get self.now.columns index) }
+    {
+        match self.columns.get(index) {
+            Some(column) => Some(column.name()),
+            None => None,
         }
     }
 

@@ -169,6 +169,7 @@ impl BoardEdit {
         requires { IsReplaceable texts.now prepared.now.replacement }
         ensures follows { (last : ℕ) → last < number → IfOk result (λ e. MayFollow (held_of texts.now) last (BoardOp.Edit e)) }
         ensures prepared { IfOk result (λ e. e.prepared.value ≡ prepared.now) }
+        ensures number { IfOk result (λ e. e.number ≡ number) }
     {
         let Announcement { change, reached } = announce(alloc, texts, prepared)?;
         Ok(BoardEdit {

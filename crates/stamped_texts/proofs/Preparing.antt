@@ -94,4 +94,8 @@ module _ (t u : StampedTexts) (same : IsSame t u) where
   net_is = states.net_is (state_of t) (state_of u) same.state
 
   pub since_is : (r : StampedTexts) → IsSince r t → IsSince r u
-  since_is r since = record { sound = sound_is since.sound; since = states.since_is (state_of t) (state_of u) same.state (state_of r) since.since }
+  since_is r since = record {
+    sound = sound_is since.sound;
+    since = states.since_is (state_of t) (state_of u) same.state (state_of r) since.since;
+    held = λ e. (let h = since.held (sym same.state.last ∙ e) in (same.state.tests ∙ h.0, same.models ∙ h.1));
+  }

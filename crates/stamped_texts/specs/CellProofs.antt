@@ -217,10 +217,10 @@ module _ (t : StampedTexts) (s : IsSound t) where
   kept : IsKept (state_of t) here
   kept = parts_are_kept t.parts t.texts.tests.items t.texts.models.items s.parts_are s.read items_apart
 
-  tests_apart : AreApart (map (λ c. c.name) t.texts.tests.items)
+  pub tests_apart : AreApart (map (λ c. c.name) t.texts.tests.items)
   tests_apart = subst (λ (l : List (List ℕ)). AreApart l) (test_names t.texts.tests.items) (s.orderly).tests
 
-  models_apart : AreApart (map (λ m. m.name) t.texts.models.items)
+  pub models_apart : AreApart (map (λ m. m.name) t.texts.models.items)
   models_apart = subst (λ (l : List (List ℕ)). AreApart l) (model_names t.texts.models.items) (s.orderly).models
 
   pub orderly_parts : AreOrderlyParts t.parts t.texts.tests.items t.texts.models.items

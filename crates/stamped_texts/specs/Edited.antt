@@ -41,9 +41,10 @@ pub record IsSame (t u : StampedTexts) : Type 0 where
   pub read : AreRead t.texts → AreRead u.texts
   pub state : IsSameState (state_of t) (state_of u)
 
--- the edit is accepted, and its parts are made of what it puts
+-- the edit is accepted, there is room for what it puts, and its parts are made of that
 pub record IsPrepared (t : StampedTexts) (e : code.Edit) (p : PreparedEdit) (u : StampedTexts) : Type 0 where
   pub applies : Applies (texts_of t.texts) false (edit_of e) (texts_with p.texts.replacement (texts_of t.texts))
+  pub fits : IsReplaceable u.texts p.texts.replacement
   pub made : parts.IsMade t.parts t.texts.tests.items t.texts.models.items p.texts.replacement p.parts
   pub same : IsSame t u
 

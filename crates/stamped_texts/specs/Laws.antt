@@ -1,5 +1,5 @@
 -- What texts with stamps owe to the memo core.
-use Rattle.std.proofs.Common.{◌≡◌, ℕ}
+use Rattle.std.proofs.Common.{◌≡◌, ℕ, refl, arith}
 use Rattle.std.specs.List.{AllByRecursion as Each}
 use Rattle.memo_core.specs.declared.keys.Node.{Node}
 use Rattle.memo_core.specs.Graph.{Net}
@@ -27,7 +27,7 @@ pub texts_are_sound : (t : StampedTexts) → IsSound t → core.IsSound makes (n
 texts_are_sound t sound = keeping.states_are_sound (state_of t) (valid_of t sound)
 
 pub since_itself : (t : StampedTexts) → IsSound t → IsSince t t
-since_itself t sound = record { sound = sound; since = keeping.since_itself (state_of t) (valid_of t sound) }
+since_itself t sound = record { sound = sound; since = keeping.since_itself (state_of t) (valid_of t sound); held = λ e. (refl, refl) }
 
 pub given_stays : GivenStays IsSound IsSince net_of
 given_stays t u n g sound since same parts gives = keeping.given_is_kept (state_of t) (state_of u) n g since.since same parts gives
@@ -47,10 +47,13 @@ ranks_fall t sound = nodes.ranks_fall t.parts.table (λ n g. is_given (given (st
 -- ---- edits
 
 pub since_edited : (t u w : StampedTexts) (e : Edit) (number : ℕ) → IsSince t u → IsEdited u e number w → IsSince t w
-since_edited t u w e number since after = record {
-  sound = after.sound since.sound;
-  since = keeping.since_stamped (state_of t) (state_of u) (state_of w) number since.since (after.stamped since.sound);
-}
+since_edited t u w e number since after =
+    let stamped = after.stamped since.sound in
+    record {
+      sound = after.sound since.sound;
+      since = keeping.since_stamped (state_of t) (state_of u) (state_of w) number since.since stamped;
+      held = λ same. absurd (omega (arith, same, stamped.last, stamped.above, since.since.later));
+    }
 
 pub valid_edited : (t u : StampedTexts) (e : Edit) (number : ℕ) → IsSound t → IsEdited t e number u → IsSound u
 valid_edited t u e number sound after = after.sound sound

@@ -1,5 +1,5 @@
 -- Read this first: what the texts of the bench say with their stamps, and what holds of them at all times (`IsSound`).
-use Rattle.std.specs.Prelude.{ℕ, List, Option, Some, None, slice_get}
+use Rattle.std.specs.Prelude.{◌≡◌, ℕ, List, Option, Some, None, slice_get}
 use Rattle.memo_core.specs.declared.keys.Kind.TheVariants as kinds
 use Rattle.memo_core.specs.declared.keys.Node.{Node}
 use Rattle.memo_core.specs.Graph.{Net}
@@ -26,10 +26,11 @@ pub record IsSound (t : StampedTexts) : Type 0 where
   pub orderly : IsOrderly (texts_of t.texts)
   pub kinds : AreKindsOf t.parts t.texts.models.items
 
--- the later texts came of the earlier ones
+-- the later texts came of the earlier ones; without an edit between them the tests and the models are the same
 pub record IsSince (t u : StampedTexts) : Type 0 where
   pub sound : IsSound u
   pub since : states.IsSince (state_of t) (state_of u)
+  pub held : u.parts.last ≡ t.parts.last → (u.texts.tests.items ≡ t.texts.tests.items) × (u.texts.models.items ≡ t.texts.models.items)
 
 abbrev pub net_of : StampedTexts → Net GivenContent
 net_of t = states.net_in (state_of t)

@@ -1,6 +1,6 @@
 //! Tests and models with the stamps of their parts.
 
-ghost use Rattle.std.specs.Prelude.{◌≡◌, ℕ, ◌≤◌, false, IfOk, IfErr, OnOk};
+ghost use Rattle.std.specs.Prelude.{◌≡◌, ℕ, ◌≤◌, false, [], IfOk, IfErr, OnOk};
 ghost use Rattle.bench_texts.specs.Edits.{edit_of, Refuses};
 ghost use Rattle.bench_texts.specs.Held.{texts_of};
 ghost use Rattle.stamped_texts.specs.Texts.{IsSound, net_of};
@@ -29,12 +29,22 @@ pub struct PreparedEdit {
     used: usize,
 }
 
+impl PreparedEdit {
+    /// What it puts in the place of what.
+    pub fn texts(&self) -> &Prepared
+        ensures { result.now ≡ self.now.texts }
+    {
+        &self.texts
+    }
+}
+
 impl StampedTexts {
     /// No tests and no models, before the first edit.
     pub fn new(alloc: Global) -> StampedTexts
         ensures sound { IsSound result }
         ensures parts { (part of : ℕ) → (net_of result).part part of ≡ 0 }
         ensures last { result.parts.last ≡ 0 }
+        ensures texts { texts_of result.texts ≡ record { tests = []; models = []; next = 1 } }
     {
         StampedTexts {
             texts: BenchTexts::new(alloc),

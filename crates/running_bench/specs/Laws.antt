@@ -1,0 +1,290 @@
+-- What texts of tests and models owe to a desk.
+use Rattle.std.proofs.Common.{◌≡◌, true, false, Bool, ◌||◌, ℕ, zero, suc, ◌*◌, ◌+◌, ◌<◌, ◌≤◌, ◌^◌, List, [], ◌∷◌, ◌++◌, Option, Some, None, length, map, refl, sym, ap, subst, ◌∙◌, arith}
+use Rattle.std.specs.Prelude.{fold, slice_get, if◌then◌else◌, nat_lt}
+use Rattle.std.specs.Arc.{arc_value}
+use Rattle.std.proofs.Math.Nat.{mul-le-mul_left}
+use Rattle.std.proofs.lemmas.Bool.{ltb-false}
+use Rattle.std.proofs.lemmas.Option.{none-some}
+use Rattle.std.proofs.lemmas.List.{length-map}
+use Rattle.litmus_values.specs.declared.test.Test.{Test}
+use Rattle.litmus_values.specs.Value.{Content, content_of}
+use Rattle.verdict.specs.declared.answer.Outcome.{Outcome}
+use Rattle.memo_core.specs.declared.keys.Node.{Node}
+use Rattle.memo_graph.specs.FromScratch.{IsFromScratch}
+use Rattle.bench_texts.specs.declared.edit.Edit.{Edit}
+use Rattle.bench_texts.specs.declared.fault.EditFault.TheVariants as faults
+use Rattle.bench_texts.specs.declared.model.NamedModel.{NamedModel}
+use Rattle.bench_texts.specs.declared.prepared.Prepared.{Prepared}
+use Rattle.bench_texts.specs.BenchTexts.{BenchTexts, PlainModel, test_index, model_index}
+use Rattle.bench_texts.specs.Edits.{edit_of, Applies}
+use Rattle.bench_texts.specs.Held.{texts_of}
+use Rattle.bench_texts.specs.Held as plain
+use Rattle.bench_texts.specs.Limits.{is_full, is_spent, models_outputs}
+use Rattle.bench_texts.specs.Replacements.{texts_with}
+use Rattle.bench_texts.proofs.Lists.{length-changed_at}
+use Rattle.desk.specs.Boards.{BoardCell, with_outcome}
+use Rattle.board.specs.declared.operation.BoardOp.{BoardOp}
+use Rattle.board.specs.declared.operation.BoardOp.TheVariants as ops
+use Rattle.board.specs.Contents.{RowContent, ColumnContent, BoardContent}
+use Rattle.board.specs.Legal.{Held, held_of, held_with, held_after, nothing_held, texts_after, number_after, last_number, MayFollow, IsLegal}
+use Rattle.board.specs.Operations.{with_cell, settled, after_operation, no_board, board_after}
+use Rattle.board.specs.Right.{HasNamesOf}
+use Rattle.board.proofs.Names.{names_from, one_more_is_legal}
+use Rattle.board.proofs.Changed.{map-kept}
+use Rattle.stamped_texts.specs.declared.texts.StampedTexts.{StampedTexts}
+use Rattle.stamped_texts.specs.declared.texts.PreparedEdit.{PreparedEdit}
+use Rattle.stamped_texts.specs.Texts.{IsSound, IsSince, verdict_of}
+use Rattle.stamped_texts.specs.Edited.{IsPrepared, IsCommitted}
+use Rattle.stamped_texts.specs.Cells.{from_scratch, scratch_by, test_of, model_of}
+use Rattle.stamped_texts.specs.CellProofs.{cell_in, is_named, stands_there, tests_apart, models_apart}
+use Rattle.running_bench.specs.Cells.{cell_with, all_cells, board_cells}
+use Rattle.running_bench.specs.Texts.{MayComeNext, AreAfter, Announced, IsEditOf, IsSettle, Settles}
+use Rattle.running_bench.specs.Listing.{are_all, all_get, all_put, cell_of_row, row_cell, outcome_at}
+
+-- ---- one operation more
+
+push : {A B : Type 0} (f : B → A → B) (z : B) (xs : List A) (x : A) → fold f z (xs ++ x ∷ []) ≡ f (fold f z xs) x
+push f z [] x = refl
+push f z (y ∷ ys) x = push f (f z y) ys x
+
+pub goes_on_legally : (all : List BoardOp) (op : BoardOp) → IsLegal all → MayComeNext all op → IsLegal (all ++ op ∷ [])
+goes_on_legally all op legal may = one_more_is_legal all op nothing_held 0 legal may
+
+texts_push : (all : List BoardOp) (op : BoardOp) → texts_after (all ++ op ∷ []) ≡ held_after (texts_after all) op
+texts_push all op = push held_after nothing_held all op
+
+names_push : (all : List BoardOp) (op : BoardOp) (last : ℕ) → HasNamesOf all → MayFollow (texts_after all) last op → HasNamesOf (all ++ op ∷ [])
+names_push all op last names may =
+    let more = names_from (op ∷ []) (board_after all) (texts_after all) last (may, tt) (record { tests = names.tests; models = names.models }) in
+    record {
+      tests = ap (λ (b : BoardContent). map (λ r. r.name) b.rows) (push after_operation no_board all op) ∙ (more.tests ∙ ap (λ (h : Held). map (λ t. t.name) h.tests) (sym (texts_push all op)));
+      models = ap (λ (b : BoardContent). map (λ c. c.name) b.columns) (push after_operation no_board all op) ∙ (more.models ∙ ap (λ (h : Held). map (λ m. m.name) h.models) (sym (texts_push all op)));
+    }
+
+-- ---- texts that are the same
+
+abbrev held : List Test → List NamedModel → Held
+held ts ms = record { tests = ts; models = ms }
+
+held_same : (ts us : List Test) (ms ns : List NamedModel) → us ≡ ts → ns ≡ ms → held us ns ≡ held ts ms
+held_same ts us ms ns e f = ap (λ (cs : List Test). held cs ns) e ∙ ap (held ts) f
+
+after_by : (t u : StampedTexts) (all more : List BoardOp) → held_of u.texts ≡ texts_after more → HasNamesOf more → length u.texts.tests.items ≤ 512 → length u.texts.models.items ≤ 16 → AreAfter u more
+after_by t u all more e names few_tests few_models = record {
+  held = e;
+  names = names;
+  few_tests = subst (λ (h : Held). length h.tests ≤ 512) e few_tests;
+  few_models = subst (λ (h : Held). length h.models ≤ 16) e few_models;
+}
+
+pub same_after : (t u : StampedTexts) (all : List BoardOp) → IsSound t → u.parts.last ≡ t.parts.last → IsSince t u → AreAfter t all → AreAfter u all
+same_after t u all sound last since a =
+    let h = since.held last in
+    record {
+      held = held_same t.texts.tests.items u.texts.tests.items t.texts.models.items u.texts.models.items h.0 h.1 ∙ a.held;
+      names = a.names;
+      few_tests = a.few_tests;
+      few_models = a.few_models;
+    }
+
+prepared_held : (t u : StampedTexts) (e : Edit) (p : PreparedEdit) → IsPrepared t e p u → held_of u.texts ≡ held_of t.texts
+prepared_held t u e p h = held_same t.texts.tests.items u.texts.tests.items t.texts.models.items u.texts.models.items ((h.same).state).tests (h.same).models
+
+-- ---- edits
+
+pub edits_follow : (t u : StampedTexts) (e : Edit) (p : PreparedEdit) (number : ℕ) (op : BoardOp) (all : List BoardOp) → IsSound t → AreAfter t all → last_number all < number → IsPrepared t e p u → Announced u p number op → MayComeNext all op
+edits_follow t u e p number (ops.Edit b) all sound a lt h n =
+    subst (λ (g : Held). MayFollow g (last_number all) (ops.Edit b)) (prepared_held t u e p h ∙ a.held) (n.2 (last_number all) lt)
+edits_follow t u e p number (ops.Settle at outcome) all sound a lt h n = absurd n
+
+not_full : (full spent is : Bool) → (if full then Some faults.Full else (if spent || is then Some faults.Spent else None)) ≡ None → full ≡ false
+not_full true spent is e = cc
+not_full false spent is e = refl
+
+neither : (x y z : Bool) → (x || y || z) ≡ false → (x ≡ false) × (y ≡ false)
+neither true y z e = cc
+neither false true z e = cc
+neither false false z e = (refl, refl)
+
+few_by : (t : BenchTexts) → is_full t ≡ false → (length t.tests ≤ 512) × (length t.models ≤ 16)
+few_by t e =
+    let n = neither (nat_lt 512 (length t.tests)) (nat_lt 16 (length t.models)) (nat_lt 524288 (length t.tests * (1 + models_outputs t.models))) e in
+    (ltb-false 512 (length t.tests) n.0, ltb-false 16 (length t.models) n.1)
+
+committed_few : (t u w : StampedTexts) (e : Edit) (p : PreparedEdit) (number : ℕ) → IsPrepared t e p u → IsCommitted u p number w → (length w.texts.tests.items ≤ 512) × (length w.texts.models.items ≤ 16)
+committed_few t u w e p number h c =
+    let made : texts_of w.texts ≡ texts_with p.texts.replacement (texts_of t.texts) = c.texts ∙ ap (texts_with p.texts.replacement) (h.same).texts in
+    let full = not_full (is_full (texts_with p.texts.replacement (texts_of t.texts))) false (is_spent (texts_of t.texts)) (h.applies).within in
+    let few = few_by (texts_of w.texts) (ap is_full made ∙ full) in
+    (subst (λ (n : ℕ). n ≤ 512) (length-map w.texts.tests.items content_of) few.0, subst (λ (n : ℕ). n ≤ 16) (length-map w.texts.models.items plain.model_of) few.1)
+
+committed_held : (t u w : StampedTexts) (e : Edit) (p : PreparedEdit) (number : ℕ) → IsPrepared t e p u → IsCommitted u p number w → held_of w.texts ≡ held_with p.texts.replacement (held_of t.texts)
+committed_held t u w e p number h c =
+    let g : held_of w.texts ≡ held_with p.texts.replacement (held_of u.texts) = held_same _ w.texts.tests.items _ w.texts.models.items c.tests c.models in
+    g ∙ ap (held_with p.texts.replacement) (prepared_held t u e p h)
+
+pub edits_after : (t u w : StampedTexts) (e : Edit) (p : PreparedEdit) (number : ℕ) (op : BoardOp) (all : List BoardOp) → IsSound t → AreAfter t all → IsPrepared t e p u → Announced u p number op → IsCommitted u p number w → AreAfter w (all ++ op ∷ [])
+edits_after t u w e p number (ops.Edit b) all sound a h n c =
+    let few = committed_few t u w e p number h c in
+    let may : MayFollow (texts_after all) u.parts.last (ops.Edit b) = subst (λ (g : Held). MayFollow g u.parts.last (ops.Edit b)) (prepared_held t u e p h ∙ a.held) (n.2 u.parts.last c.later) in
+    let made : held_of w.texts ≡ held_with b.prepared.value.replacement (texts_after all) =
+    committed_held t u w e p number h c ∙ (ap (held_with p.texts.replacement) a.held ∙ ap (λ (q : Prepared). held_with q.replacement (texts_after all)) (sym n.1)) in
+    after_by t w all (all ++ ops.Edit b ∷ []) (made ∙ sym (texts_push all (ops.Edit b))) (names_push all (ops.Edit b) u.parts.last a.names may) few.0 few.1
+edits_after t u w e p number (ops.Settle at outcome) all sound a h n c = absurd n
+
+pub edits_named : (t u : StampedTexts) (e : Edit) (p : PreparedEdit) (number : ℕ) (op : BoardOp) → IsPrepared t e p u → Announced u p number op → IsEditOf op e number
+edits_named t u e p number (ops.Edit b) h n =
+    (n.0, (texts_of t.texts, subst (λ (q : Prepared). Applies (texts_of t.texts) false (edit_of e) (texts_with q.replacement (texts_of t.texts))) (sym n.1) h.applies))
+edits_named t u e p number (ops.Settle at outcome) h n = absurd n
+
+pub edits_numbered : (u : StampedTexts) (p : PreparedEdit) (number : ℕ) (op : BoardOp) (all : List BoardOp) → Announced u p number op → last_number (all ++ op ∷ []) ≡ number
+edits_numbered u p number (ops.Edit b) all n = push number_after 0 all (ops.Edit b) ∙ n.0
+edits_numbered u p number (ops.Settle at outcome) all n = absurd n
+
+-- ---- cells that are settled
+
+pub settles_named : (b : BoardContent) (index : ℕ) (o : Outcome) (op : BoardOp) → Settles b index o op → IsSettle op
+settles_named b index o (ops.Edit edit) s = absurd s
+settles_named b index o (ops.Settle at outcome) s = tt
+
+settle_names : (all : List BoardOp) (op : BoardOp) → IsSettle op → HasNamesOf all → HasNamesOf (all ++ op ∷ [])
+settle_names all (ops.Edit edit) s names = absurd s
+settle_names all (ops.Settle at outcome) s names = record {
+  tests = ap (λ (b : BoardContent). map (λ r. r.name) b.rows) (push after_operation no_board all (ops.Settle at outcome))
+      ∙ (map-kept (λ r. r.name) (with_cell at.model (Some (arc_value outcome))) (λ r. refl) (board_after all).rows at.test
+      ∙ (names.tests ∙ ap (λ (h : Held). map (λ t. t.name) h.tests) (sym (texts_push all (ops.Settle at outcome)))));
+  models = ap (λ (b : BoardContent). map (λ c. c.name) b.columns) (push after_operation no_board all (ops.Settle at outcome))
+      ∙ (names.models ∙ ap (λ (h : Held). map (λ m. m.name) h.models) (sym (texts_push all (ops.Settle at outcome))));
+}
+
+settle_texts : (all : List BoardOp) (op : BoardOp) → IsSettle op → texts_after (all ++ op ∷ []) ≡ texts_after all
+settle_texts all (ops.Edit edit) s = absurd s
+settle_texts all (ops.Settle at outcome) s = texts_push all (ops.Settle at outcome)
+
+pub settles_after : (t : StampedTexts) (all : List BoardOp) (op : BoardOp) → AreAfter t all → IsSettle op → AreAfter t (all ++ op ∷ [])
+settles_after t all op a s =
+    let e = settle_texts all op s in
+    record {
+      held = a.held ∙ sym e;
+      names = settle_names all op s a.names;
+      few_tests = subst (λ (h : Held). length h.tests ≤ 512) (sym e) a.few_tests;
+      few_models = subst (λ (h : Held). length h.models ≤ 16) (sym e) a.few_models;
+    }
+
+pub settles_numbered : (all : List BoardOp) (op : BoardOp) → IsSettle op → last_number (all ++ op ∷ []) ≡ last_number all
+settles_numbered all (ops.Edit edit) s = absurd s
+settles_numbered all (ops.Settle at outcome) s = push number_after 0 all (ops.Settle at outcome)
+
+pub settles_show : (b : BoardContent) (index : ℕ) (o : Outcome) (op : BoardOp) → Settles b index o op → board_cells (after_operation b op) ≡ with_outcome index o (board_cells b)
+settles_show b index o (ops.Edit edit) s = absurd s
+settles_show b index o (ops.Settle at outcome) s =
+    let few : length (settled at (arc_value outcome) b).rows * length b.columns < 2 ^ 64 =
+    subst (λ (n : ℕ). n * length b.columns < 2 ^ 64) (sym (length-changed_at (with_cell at.model (Some (arc_value outcome))) b.rows at.test)) s.3 in
+    are_all (settled at (arc_value outcome) b) few
+    ∙ (all_put b.columns b.rows at.test at.model (arc_value outcome) s.2.0 s.1.1 s.2.1
+    ∙ (ap (λ (k : ℕ). with_outcome k (arc_value outcome) (all_cells b.columns b.rows)) (sym s.1.0)
+    ∙ (ap (λ (q : Outcome). with_outcome index q (all_cells b.columns b.rows)) s.0
+    ∙ ap (with_outcome index o) (sym (are_all b s.3)))))
+
+-- ---- names
+
+record IsCellHere (columns : List ColumnContent) (row : Option RowContent) (column : Option ColumnContent) (c : BoardCell Outcome) : Type 0 where
+  pub of_test : RowContent
+  pub of_model : ColumnContent
+  pub row_is : row ≡ Some of_test
+  pub column_is : column ≡ Some of_model
+  pub test_is : of_test.name ≡ c.test
+  pub model_is : of_model.name ≡ c.model
+
+same_cell : {a b : BoardCell Outcome} → Some a ≡ Some b → a ≡ b
+same_cell e = cc
+
+cell_here : (columns : List ColumnContent) (row : Option RowContent) (j : ℕ) (c : BoardCell Outcome) → cell_of_row columns row j ≡ Some c → IsCellHere columns row (slice_get columns j) c
+cell_here columns None j c h = absurd (none-some c h)
+cell_here columns (Some r) j c h = by_column (slice_get columns j) h
+  where
+    by_column : (m : Option ColumnContent) → row_cell r.name m (outcome_at r.cells j) ≡ Some c → IsCellHere columns (Some r) m c
+    by_column None e = absurd (none-some c e)
+    by_column (Some m) e =
+        let same : cell_with r.name m.name (outcome_at r.cells j) ≡ c = same_cell e in
+        record {
+          of_test = r;
+          of_model = m;
+          row_is = refl;
+          column_is = refl;
+          test_is = ap (λ (k : BoardCell Outcome). k.test) same;
+          model_is = ap (λ (k : BoardCell Outcome). k.model) same;
+        }
+
+named_there : {A B C : Type 0} (f : A → C) (g : B → C) (xs : List A) (ys : List B) (i : ℕ) (x : A) → map f xs ≡ map g ys → slice_get xs i ≡ Some x → (y : B) × (slice_get ys i ≡ Some y) × (g y ≡ f x)
+named_there f g [] ys i x e h = absurd (none-some x h)
+named_there f g (a ∷ xs) [] i x e h = cc
+named_there f g (a ∷ xs) (y ∷ ys) zero x e h =
+    let first : f a ≡ g y = (cc) in
+    let same : a ≡ x = (cc) in
+    (y, refl, sym first ∙ ap f same)
+named_there f g (a ∷ xs) (y ∷ ys) (suc i) x e h = let rest : map f xs ≡ map g ys = (cc) in named_there f g xs ys i x rest h
+
+right_by : (t : StampedTexts) (i j : ℕ) (test : Test) (model : NamedModel) (a : Option Test) (b : Option NamedModel) (o : Outcome) → a ≡ Some test → b ≡ Some model → scratch_by a b o → IsFromScratch test model.text o
+right_by t i j test model a b o e f right = subst (λ (m : Option NamedModel). scratch_by (Some test) m o) f (subst (λ (c : Option Test). scratch_by c b o) e right)
+
+pub settles_follow : (t : StampedTexts) (all : List BoardOp) (index : ℕ) (c : BoardCell Outcome) (o : Outcome) (op : BoardOp) → IsSound t → AreAfter t all → slice_get (board_cells (board_after all)) index ≡ Some c → from_scratch t c.test c.model o → Settles (board_after all) index o op → MayComeNext all op
+settles_follow t all index c o (ops.Edit edit) sound a h right s = absurd s
+settles_follow t all index c o (ops.Settle at outcome) sound a h right s =
+    let b = board_after all in
+    let there : slice_get (all_cells b.columns b.rows) (at.test * length b.columns + at.model) ≡ Some c =
+    ap (λ (cs : List (BoardCell Outcome)). slice_get cs (at.test * length b.columns + at.model)) (sym (are_all b s.3)) ∙ (ap (slice_get (board_cells b)) (sym s.1.0) ∙ h) in
+    let cell = cell_here b.columns (slice_get b.rows at.test) at.model c (sym (all_get b.columns b.rows at.test at.model s.1.1) ∙ there) in
+    let test = named_there (λ r. r.name) (λ x. x.name) b.rows (texts_after all).tests at.test cell.of_test (a.names).tests cell.row_is in
+    let model = named_there (λ m. m.name) (λ x. x.name) b.columns (texts_after all).models at.model cell.of_model (a.names).models cell.column_is in
+    let test_there : slice_get t.texts.tests.items at.test ≡ Some test.0 = ap (λ (g : Held). slice_get g.tests at.test) a.held ∙ test.1 in
+    let model_there : slice_get t.texts.models.items at.model ≡ Some model.0 = ap (λ (g : Held). slice_get g.models at.model) a.held ∙ model.1 in
+    let test_at : test_index c.test (texts_of t.texts).tests ≡ at.test = stands_there (λ (k : Content). k.name) content_of c.test t.texts.tests.items at.test test.0 (tests_apart t sound) test_there (test.2 ∙ cell.test_is) in
+    let model_at : model_index c.model (texts_of t.texts).models ≡ at.model = stands_there (λ (k : PlainModel). k.name) plain.model_of c.model t.texts.models.items at.model model.0 (models_apart t sound) model_there (model.2 ∙ cell.model_is) in
+    record {
+      test = test.0;
+      model = model.0;
+      test_there = test.1;
+      model_there = model.1;
+      right = subst (IsFromScratch test.0 model.0.text) (sym s.0)
+          (right_by t at.test at.model test.0 model.0 (test_of t c.test) (model_of t c.model) o (ap (slice_get t.texts.tests.items) test_at ∙ test_there) (ap (slice_get t.texts.models.items) model_at ∙ model_there) right);
+    }
+
+-- ---- each cell of the texts is a cell of the board
+
+below : {A : Type 0} (xs : List A) (i : ℕ) (x : A) → slice_get xs i ≡ Some x → i < length xs
+below [] i x h = absurd (none-some x h)
+below (y ∷ xs) zero x h = omega arith
+below (y ∷ xs) (suc i) x h = let l = below xs i x h in omega (arith, l)
+
+as_many : {A B C : Type 0} (f : A → C) (g : B → C) (xs : List A) (ys : List B) → map f xs ≡ map g ys → length xs ≡ length ys
+as_many f g xs ys e = sym (length-map xs f) ∙ (ap length e ∙ length-map ys g)
+
+product_few : (n m : ℕ) → n ≤ 512 → m ≤ 16 → n * m < 2 ^ 64
+product_few n m few_n few_m = let p = mul-le-mul_left n few_m in omega (arith, p, few_n)
+
+cell_there : (columns : List ColumnContent) (row : RowContent) (column : ColumnContent) (j : ℕ) → slice_get columns j ≡ Some column → cell_of_row columns (Some row) j ≡ Some (cell_with row.name column.name (outcome_at row.cells j))
+cell_there columns row column j h = ap (λ (m : Option ColumnContent). row_cell row.name m (outcome_at row.cells j)) h
+
+pub cells_are_known : (t : StampedTexts) (all : List BoardOp) (test model : List ℕ) (n : Node) → IsSound t → AreAfter t all → verdict_of t test model ≡ Some n → (index : ℕ) × (c : BoardCell Outcome) × (slice_get (board_cells (board_after all)) index ≡ Some c) × (c.test ≡ test) × (c.model ≡ model)
+cells_are_known t all test model n sound a h =
+    let b = board_after all in
+    let i = test_index test (texts_of t.texts).tests in
+    let j = model_index model (texts_of t.texts).models in
+    let cell = cell_in t test model n sound h in
+    let row = named_there (λ x. x.name) (λ r. r.name) (texts_after all).tests b.rows i cell.of_test (sym (a.names).tests) (ap (λ (g : Held). slice_get g.tests i) (sym a.held) ∙ cell.test_is) in
+    let column = named_there (λ x. x.name) (λ m. m.name) (texts_after all).models b.columns j cell.of_model (sym (a.names).models) (ap (λ (g : Held). slice_get g.models j) (sym a.held) ∙ cell.model_is) in
+    let few : length b.rows * length b.columns < 2 ^ 64 =
+    product_few (length b.rows) (length b.columns)
+    (subst (λ (k : ℕ). k ≤ 512) (sym (as_many (λ r. r.name) (λ x. x.name) b.rows (texts_after all).tests (a.names).tests)) a.few_tests)
+    (subst (λ (k : ℕ). k ≤ 16) (sym (as_many (λ m. m.name) (λ x. x.name) b.columns (texts_after all).models (a.names).models)) a.few_models) in
+    let there : slice_get (board_cells b) (i * length b.columns + j) ≡ Some (cell_with row.0.name column.0.name (outcome_at row.0.cells j)) =
+    ap (λ (cs : List (BoardCell Outcome)). slice_get cs (i * length b.columns + j)) (are_all b few)
+    ∙ (all_get b.columns b.rows i j (below b.columns j column.0 column.1)
+    ∙ (ap (λ (r : Option RowContent). cell_of_row b.columns r j) row.1 ∙ cell_there b.columns row.0 column.0 j column.1)) in (
+      i * length b.columns + j,
+      cell_with row.0.name column.0.name (outcome_at row.0.cells j),
+      there,
+      row.2 ∙ is_named (λ (k : Content). k.name) content_of test t.texts.tests.items cell.of_test cell.test_is,
+      column.2 ∙ is_named (λ (k : PlainModel). k.name) plain.model_of model t.texts.models.items cell.of_model cell.model_is,
+    )

@@ -1,0 +1,4 @@
+pub mod Cells
+pub mod Texts
+pub mod Listing
+pub mod Laws
