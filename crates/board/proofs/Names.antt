@@ -51,7 +51,7 @@ put_names : {A B : Type 0} (f : A → List ℕ) (g : A → A) (y : A) (named : B
 put_names f g y named z is xs zs at le same names =
     put_by f g y is xs at (nat_lt at (length xs)) refl le ∙ (ap (λ n. put_at at n (map f xs)) same ∙ (ap (λ ns. put_at at (named z) ns) names ∙ sym (map-placed named z zs at)))
 
-as_many : {A B C : Type 0} (f : A → C) (g : B → C) (xs : List A) (ys : List B) → map f xs ≡ map g ys → length xs ≡ length ys
+pub as_many : {A B C : Type 0} (f : A → C) (g : B → C) (xs : List A) (ys : List B) → map f xs ≡ map g ys → length xs ≡ length ys
 as_many f g [] [] e = refl
 as_many f g [] (y ∷ ys) e = cc
 as_many f g (x ∷ xs) [] e = cc

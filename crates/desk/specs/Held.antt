@@ -35,16 +35,16 @@ pub record Appends {T V O : Type 0} (is_settle : O → Type 0) (before : List O)
   pub spare : new.spare ≡ old.spare
   pub closed : new.closed ≡ old.closed
 
--- one edit was made under the next number, and its operation appended
-pub record IsMade {T E V G O : Type 0} (means : Meaning T E V G) (is_edit : O → E → ℕ → Type 0) (e : E) (old new : Bench T V) (before after : List O) (number : ℕ) : Type 0 where
+-- one edit was made under the next number, and its operation, which is that of the edit after these, appended
+pub record IsMade {T E V G O : Type 0} (means : Meaning T E V G) (is_edit : List O → O → E → ℕ → Type 0) (e : E) (old new : Bench T V) (before after : List O) (number : ℕ) : Type 0 where
   pub step : Step means old (core.Edit e) new
   pub number_is : number ≡ old.taken + 1
   pub op : O
-  pub is : is_edit op e number
+  pub is : is_edit before op e number
   pub list : after ≡ before ++ op ∷ []
 
 -- so it is, and settled cells were appended after it
-pub record IsEditTurn {T E V G O : Type 0} (means : Meaning T E V G) (is_edit : O → E → ℕ → Type 0) (is_settle : O → Type 0) (e : E) (old new : Held T V O) (number : ℕ) : Type 0 where
+pub record IsEditTurn {T E V G O : Type 0} (means : Meaning T E V G) (is_edit : List O → O → E → ℕ → Type 0) (is_settle : O → Type 0) (e : E) (old new : Held T V O) (number : ℕ) : Type 0 where
   pub list : List O
   pub made : IsMade means is_edit e old.bench new.bench old.all list number
   pub appends : Appends is_settle list old new
@@ -55,16 +55,16 @@ Publishes old new me me' (Now number) = (new.published ≡ new.all) × (me' ≡ 
 Publishes old new me me' (Later number) = (new.published ≡ old.published) × (me' ≡ me)
 
 -- the viewer's list goes on from its old one, has the edit at its number, and ends with what was appended after it
-pub record HasEdit {E O : Type 0} (is_legal : List O → Type 0) (is_edit : O → E → ℕ → Type 0) (is_settle : O → Type 0) (e : E) (number : ℕ) (me me' : List O) : Type 0 where
+pub record HasEdit {E O : Type 0} (is_legal : List O → Type 0) (is_edit : List O → O → E → ℕ → Type 0) (is_settle : O → Type 0) (e : E) (number : ℕ) (me me' : List O) : Type 0 where
   pub between : List O
   pub op : O
-  pub is : is_edit op e number
+  pub is : is_edit (me ++ between) op e number
   pub settles : List O
   pub are_settles : Each is_settle settles
   pub list : me' ≡ ((me ++ between) ++ op ∷ []) ++ settles
   pub legal : is_legal me'
 
-abbrev pub Tells : {E O : Type 0} → (List O → Type 0) → (O → E → ℕ → Type 0) → (O → Type 0) → E → (me me' : List O) → Accepted → Type 0
+abbrev pub Tells : {E O : Type 0} → (List O → Type 0) → (List O → O → E → ℕ → Type 0) → (O → Type 0) → E → (me me' : List O) → Accepted → Type 0
 Tells is_legal is_edit is_settle e me me' (Now number) = HasEdit is_legal is_edit is_settle e number me me'
 Tells is_legal is_edit is_settle e me me' (Later number) = me' ≡ me
 

@@ -28,8 +28,8 @@ pub trait BoardTexts: CellTexts + Operations {
     /// Whether an operation is that of a prepared edit on these texts, under its number.
     ghost announces: { Self → Self.Prepared → ℕ → Self.Op → Type 0 };
 
-    /// Whether an operation is that of an edit, under its number.
-    ghost is_edit: { Self.Op → Self.Edit → ℕ → Type 0 };
+    /// Whether an operation is that of an edit, after these operations, under its number.
+    ghost is_edit: { List Self.Op → Self.Op → Self.Edit → ℕ → Type 0 };
 
     /// Whether an operation settles a cell.
     ghost is_settle: { Self.Op → Type 0 };
@@ -93,7 +93,7 @@ pub trait BoardTexts: CellTexts + Operations {
     ghost edit_after: { (t u w : Self) (e : Self.Edit) (p : Self.Prepared) (number : ℕ) (op : Self.Op) (ops : List Self.Op) → Self.is_valid t → are_after t ops → Self.prepares t e p u → announces u p number op → Self.commits u p number w → are_after w (ops ++ op ∷ []) };
 
     /// It is the operation of that edit, whose number is then the last.
-    ghost edit_named: { (t u : Self) (e : Self.Edit) (p : Self.Prepared) (number : ℕ) (op : Self.Op) → Self.prepares t e p u → announces u p number op → is_edit op e number };
+    ghost edit_named: { (t u : Self) (e : Self.Edit) (p : Self.Prepared) (number : ℕ) (op : Self.Op) (ops : List Self.Op) → Self.is_valid t → are_after t ops → Self.prepares t e p u → announces u p number op → is_edit ops op e number };
 
     ghost edit_number: { (u : Self) (p : Self.Prepared) (number : ℕ) (op : Self.Op) (ops : List Self.Op) → announces u p number op → last_number (ops ++ op ∷ []) ≡ number };
 

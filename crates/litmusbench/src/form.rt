@@ -501,6 +501,22 @@ fn why_command<'a>(alloc: Global) -> Result<Command<'a>, AllocError> {
         .arg(test)
 }
 
+fn draw_command<'a>(alloc: Global) -> Result<Command<'a>, AllocError> {
+    let model = path(alloc, "MODEL", "The file of a model");
+    let test = path(alloc, "TEST", "The file of a test");
+    let most = Arg::new(alloc, "N")
+        .long("most")
+        .help("At most so many drawings, 1 to 64: otherwise 16")
+        .action(ArgAction::Set);
+    Command::new(alloc, "draw")
+        .about(
+            "Drawings of executions for dot: those kept that have what the test asks for (--shown), those forbidden (--forbidden), or all kept (--all)",
+        )
+        .arg(model)?
+        .arg(test)?
+        .arg(most)
+}
+
 fn watch_command<'a>(alloc: Global) -> Result<Command<'a>, AllocError> {
     let model = path(alloc, "MODEL", "The file of a model");
     let tests = path(alloc, "TEST", "Files of tests").num_args(1..);
@@ -522,6 +538,7 @@ fn program<'a>(alloc: Global) -> Result<Command<'a>, AllocError> {
         .subcommand(diff_command(alloc)?)?
         .subcommand(session_command(alloc)?)?
         .subcommand(why_command(alloc)?)?
+        .subcommand(draw_command(alloc)?)?
         .subcommand(watch_command(alloc)?)
 }
 

@@ -25,5 +25,5 @@ pub use script::session;
 pub use session_script::{ByteSource, CallFailed, MemorySource, OfRead, ReadFault, read_front};
 pub use sink::{ByteSink, MemorySink, OfWrite, write_whole};
 pub use status::{RunEnd, exit_status};
-pub use stream::{eval_stream, read_text, write_answer, write_why};
-pub use texts::{eval, why_report};
+pub use stream::{eval_stream, read_text, write_answer, write_drawings, write_why};
+pub use texts::{draw_report, eval, why_report};

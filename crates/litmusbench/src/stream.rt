@@ -7,9 +7,10 @@ ghost use Rattle.session_edits.specs.Answer.{refused_line};
 
 use crate::cut::cut_at_dot;
 use crate::fault::{EvalFault, SessionFault};
+use crate::form::Drawn;
 use crate::listening::AnswerListener;
 use crate::sink::{ByteSink, write_whole};
-use crate::texts::{eval, why_report};
+use crate::texts::{draw_report, eval, why_report};
 use session_edits::put_refusal;
 use session_script::{ByteSource, ReadFault, read_front};
 use std::alloc::{AllocError, Global};
@@ -106,6 +107,55 @@ pub fn write_why<W: ByteSink>(
     ensures fault { result ≢ Err SessionFault.Read }
 {
     let answer = match why_answer(alloc, model, test) {
+        Ok(answer) => answer,
+        Err(_) => return Err(SessionFault::Memory),
+    };
+    match write_whole(sink, &answer.text) {
+        Ok(()) => Ok(answer.is_refused),
+        Err(_) => Err(SessionFault::Write),
+    }
+}
+
+fn draw_answer(
+    alloc: Global,
+    model: &[u8],
+    test: &[u8],
+    drawn: Drawn,
+    most: u64,
+) -> Result<Answer, AllocError>
+    ensures { IfOk result (λ a. IsReasoned model.now test.now a.text.items a.is_refused) }
+{
+    match draw_report(alloc, model, test, drawn, most) {
+        Ok(text) => Ok(Answer {
+            text,
+            is_refused: false,
+        }),
+        Err(EvalFault::Model { rule, offset }) => refusal(alloc, b'C', rule.number(), offset),
+        Err(EvalFault::Test { rule, offset }) => refusal(alloc, b'L', rule.number(), offset),
+        Err(EvalFault::Memory(e)) => Err(e),
+    }
+}
+
+/// Writes what `draw_report` says of the texts, or a line `refused`, number and offset. Whether a text
+/// was refused. Errors: those of `write_answer`.
+pub fn write_drawings<W: ByteSink>(
+    alloc: Global,
+    model: &[u8],
+    test: &[u8],
+    drawn: Drawn,
+    most: u64,
+    sink: &mut W,
+) -> Result<bool, SessionFault>
+    requires { W.failed_calls sink.old < 2 ^ 64 - 1 }
+    // The answer is written, or a front of it where a write failed, and else nothing.
+    ensures written { IsReasonWritten model.now test.now (W.contents sink.old) (W.contents sink.new) result }
+    // `Write` comes after one failed call, and all else after none.
+    ensures failed { result ≡ Err SessionFault.Write → W.failed_calls sink.new ≡ W.failed_calls sink.old + 1 }
+    ensures same { result ≢ Err SessionFault.Write → W.failed_calls sink.new ≡ W.failed_calls sink.old }
+    // Nothing is read.
+    ensures fault { result ≢ Err SessionFault.Read }
+{
+    let answer = match draw_answer(alloc, model, test, drawn, most) {
         Ok(answer) => answer,
         Err(_) => return Err(SessionFault::Memory),
     };

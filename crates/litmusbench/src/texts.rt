@@ -10,11 +10,12 @@ ghost use Rattle.litmusbench.specs.Answer.{IsLogOf, IsLog, IsRefusal, IsOfModel,
 ghost use Rattle.litmusbench.specs.Reasoned.{AreRead};
 
 use crate::fault::EvalFault;
+use crate::form::Drawn;
 use cat_syntax::{CatFault, ModelText, read_model};
 use compare_report::outcome_log;
 use litmus_ppc::{LitmusFault, Test, read_test};
 use memo_graph::eval_cell;
-use reasons::why;
+use reasons::{Wanted, draw, why};
 use std::alloc::{AllocError, Global};
 
 fn model_of(alloc: Global, text: &[u8]) -> Result<ModelText, EvalFault>
@@ -85,6 +86,42 @@ pub fn why_report(alloc: Global, model: &[u8], test: &[u8]) -> Result<Vec<u8>, E
         Err(fault) => return Err(fault),
     };
     match why(alloc, &known_test, &known_model) {
+        Ok(text) => Ok(text),
+        Err(e) => Err(EvalFault::Memory(e)),
+    }
+}
+
+fn wanted(drawn: Drawn) -> Wanted {
+    match drawn {
+        Drawn::Shown => Wanted::Shown,
+        Drawn::Forbidden => Wanted::Forbidden,
+        Drawn::All => Wanted::All,
+    }
+}
+
+/// Drawings of executions of the test under the model, at most so many, for `dot`. The model is read
+/// first. Errors: those of `eval`.
+pub fn draw_report(
+    alloc: Global,
+    model: &[u8],
+    test: &[u8],
+    drawn: Drawn,
+    most: u64,
+) -> Result<Vec<u8>, EvalFault>
+    // A report is of two texts that mean something.
+    ensures read { IfOk result (λ _. AreRead model.now test.now) }
+    // A refusal is that of the first text that means nothing.
+    ensures refusal { IfErr result (IsRefusal model.now test.now) }
+{
+    let known_model = match model_of(alloc, model) {
+        Ok(known) => known,
+        Err(fault) => return Err(fault),
+    };
+    let known_test = match test_of(alloc, test) {
+        Ok(known) => known,
+        Err(fault) => return Err(fault),
+    };
+    match draw(alloc, &known_test, &known_model, wanted(drawn), most) {
         Ok(text) => Ok(text),
         Err(e) => Err(EvalFault::Memory(e)),
     }

@@ -4,9 +4,9 @@
 use clap::Error;
 use clap::error::ErrorKind;
 use litmusbench::{
-    Form, OfRead, OfWrite, RefusalTeller, Report, RunEnd, SessionFault, TextFile,
+    Drawn, Form, OfRead, OfWrite, RefusalTeller, Report, RunEnd, SessionFault, TextFile,
     difference_report, eval_stream, exit_status, form_of, read_text, refusal_lines, session,
-    table_report, write_answer, write_report, write_why,
+    table_report, write_answer, write_drawings, write_report, write_why,
 };
 use live_watch::watch_files;
 use std::alloc::AllocError;
@@ -170,6 +170,24 @@ fn why_files<R: AllocGlobal + Eprint + Files + Print, E: Print>(
     Ok(is_refused)
 }
 
+fn draw_files<R: AllocGlobal + Eprint + Files + Print, E: Print>(
+    rt: &R,
+    errors: &E,
+    model: &str,
+    test: &str,
+    drawn: Drawn,
+    most: u64,
+) -> Result<bool, SessionFault> {
+    let model = read_file(rt, model)?;
+    let test = read_file(rt, test)?;
+    let mut sink = OfWrite::new(io::writer(rt));
+    let is_refused = write_drawings(rt.alloc(), &model.text, &test.text, drawn, most, &mut sink)?;
+    if is_refused {
+        tell_refusal(rt, errors, &model, &test);
+    }
+    Ok(is_refused)
+}
+
 fn files_of<'a, R: AllocGlobal + Eprint + Files>(
     rt: &R,
     paths: &[&'a str],
@@ -254,7 +272,15 @@ fn answer<R: AllocGlobal + Eprint + Files + Input + Print + Wait, E: Print>(
             },
         ) => tell_done(rt, why_files(rt, errors, model, test)),
         Ok(Form::Watch { model, tests }) => tell_done(rt, watch_files(rt, model, tests)),
-        Ok(Form::Why { .. } | Form::Draw { .. }) => tell_unbuilt(rt),
+        Ok(
+            Form::Draw {
+                model,
+                test,
+                drawn,
+                most,
+            },
+        ) => tell_done(rt, draw_files(rt, errors, model, test, drawn, most)),
+        Ok(Form::Why { .. }) => tell_unbuilt(rt),
         Err(error) => tell_usage(rt, &error),
     }
 }

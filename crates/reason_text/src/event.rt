@@ -133,8 +133,13 @@ fn put_fence(text: &mut Vec<u8>, name: &[u8]) -> Result<(), AllocError>
     put_bytes(text, b"]")
 }
 
+/// Appends what an event does. Errors: want of memory.
 #[tactic(auto, unfolding(crate::specs::Events::action_text))]
-fn put_action(text: &mut Vec<u8>, telling: Telling<'_>, action: Action) -> Result<(), AllocError>
+pub fn put_action(
+    text: &mut Vec<u8>,
+    telling: Telling<'_>,
+    action: Action,
+) -> Result<(), AllocError>
     ensures { OnOk result (text.new.items ≡ text.old.items ++ action_text telling.entry.shows telling.entry.locations.now action) }
 {
     match action {
@@ -188,8 +193,9 @@ fn put_indexed(
     put_decimal(text, u64::from(index))
 }
 
+/// Appends the instruction of an event. Errors: want of memory.
 #[tactic(auto, unfolding(crate::specs::Events::instruction_text))]
-fn put_instruction(text: &mut Vec<u8>, instruction: Instruction) -> Result<(), AllocError>
+pub fn put_instruction(text: &mut Vec<u8>, instruction: Instruction) -> Result<(), AllocError>
     ensures { OnOk result (text.new.items ≡ text.old.items ++ instruction_text instruction) }
 {
     match instruction {

@@ -6,5 +6,5 @@ mod event;
 pub mod laws;
 mod reason;
 
-pub use event::{Telling, ToldEvent, put_event, put_events, put_name};
+pub use event::{Telling, ToldEvent, put_action, put_event, put_events, put_instruction, put_name};
 pub use reason::{Reason, ToldStep, put_reason};

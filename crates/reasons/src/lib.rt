@@ -3,10 +3,12 @@
 
 mod answer;
 mod checks;
+mod drawing;
 mod instructions;
 mod labels;
 mod telling;
 
 pub use answer::why;
 pub use checks::{CheckValues, FirstRefusal, all_checks, first_refusal};
+pub use drawing::{Wanted, draw};
 pub use labels::{label, predefined_values};

@@ -32,6 +32,6 @@ returns-in-Ok-Some-clause-made g c =
       step = rw c.in-Ok-Some.field-0-is at (rw c.in-Ok-Some.is at c.edit_told.ensures.edited);
       number_is = rw c.in-Ok-Some.field-0-is at (rw c.in-Ok-Some.is at c.edit_told.ensures.number);
       op = a.op;
-      is = g.met.X.BoardTexts.edit_named c.args.bench.now.texts told.ready c.args.edit told.prepared c.in-Ok-Some.number a.op told.prepares_it a.announced;
+      is = g.met.X.BoardTexts.edit_named c.args.bench.now.texts told.ready c.args.edit told.prepared c.in-Ok-Some.number a.op c.args.ledger.now.all c.requires.valid c.requires.after told.prepares_it a.announced;
       list = a.all;
     }
