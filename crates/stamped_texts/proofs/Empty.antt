@@ -19,7 +19,7 @@ use Rattle.stamped_parts.specs.Contents as contents
 use Rattle.edited_parts.specs.Owed.{AreApart, AreNumbered, ArePartsOf, item_numbers}
 use Rattle.edited_parts.specs.Readings.{readings_of}
 use Rattle.orderly_texts.specs.Orderly.{IsOrderly}
-use Rattle.edit_laws.specs.Left.{AreKindsOf}
+use Rattle.bench_laws.specs.Left.{AreKindsOf}
 use Rattle.stamped_texts.specs.declared.texts.StampedTexts.{StampedTexts}
 use Rattle.stamped_texts.specs.Texts.{IsSound, net_of}
 

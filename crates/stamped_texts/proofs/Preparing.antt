@@ -23,7 +23,7 @@ use Rattle.edited_items.specs.Laws.{IsOfItsKind}
 use Rattle.edited_parts.specs.Edited.{AreTestsSame, AreModelsSame}
 use Rattle.edited_parts.specs.Owed.{AreNumbered, ArePartsOf, item_numbers}
 use Rattle.edited_parts.specs.Readings.{readings_of, all_facts}
-use Rattle.edit_laws.specs.Left.{AreKindsOf}
+use Rattle.bench_laws.specs.Left.{AreKindsOf}
 use Rattle.orderly_texts.specs.Orderly.{IsOrderly}
 use Rattle.stamped_texts.specs.declared.texts.StampedTexts.{StampedTexts}
 use Rattle.stamped_texts.specs.Texts.{state_of, net_of, IsSound, IsSince}

@@ -35,13 +35,13 @@ use Rattle.bench_texts.specs.Held as held
 use Rattle.bench_texts.specs.Readings.{IsReading}
 use Rattle.edited_parts.specs.Owed as owed
 use Rattle.edited_parts.specs.Readings.{reading_by, reading_of, readings_of}
-use Rattle.built_laws.specs.Kept.{id_in, IsKept, IsTestAt, verdict_node}
-use Rattle.built_laws.proofs.Nodes.{verdict_used}
-use Rattle.built_laws.proofs.Scratch.{sound_scratch, faulty_scratch}
-use Rattle.built_laws.proofs.Standing.{needed}
+use Rattle.bench_laws.specs.Kept.{id_in, IsKept, IsTestAt, verdict_node}
+use Rattle.bench_laws.proofs.Nodes.{verdict_used}
+use Rattle.bench_laws.proofs.Scratch.{sound_scratch, faulty_scratch}
+use Rattle.bench_laws.proofs.Standing.{needed}
 use Rattle.orderly_texts.specs.Orderly.{AreApart}
-use Rattle.edit_laws.specs.Left.{AreOrderlyParts}
-use Rattle.edit_laws.proofs.Kept.{id_of, parts_are_kept}
+use Rattle.bench_laws.specs.Left.{AreOrderlyParts}
+use Rattle.bench_laws.proofs.Kept.{id_of, parts_are_kept}
 use Rattle.stamped_texts.specs.declared.texts.StampedTexts.{StampedTexts}
 use Rattle.stamped_texts.specs.Texts.{state_of, net_of, verdict_by, verdict_of, IsSound}
 use Rattle.stamped_texts.specs.Edited.{IsEdited}

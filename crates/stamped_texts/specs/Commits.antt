@@ -24,8 +24,8 @@ use Rattle.edited_parts.specs.Edited.{AreTestsSame, AreModelsSame, PutsTest, Dro
 use Rattle.edited_parts.specs.Laws.{IsEdit, EditsKeepParts, EditsGoOn}
 use Rattle.edited_parts.specs.Owed.{ArePartsOf, item_numbers}
 use Rattle.edited_parts.specs.Owed as owed
-use Rattle.edit_laws.specs.Left.{AreKindsOf}
-use Rattle.edit_laws.proofs.ItemKinds.{kinds_after}
+use Rattle.bench_laws.specs.Left.{AreKindsOf}
+use Rattle.bench_laws.proofs.ItemKinds.{kinds_after}
 use Rattle.stamped_texts.specs.declared.texts.StampedTexts.{StampedTexts}
 use Rattle.stamped_texts.specs.declared.texts.PreparedEdit.{PreparedEdit}
 use Rattle.orderly_texts.specs.Orderly.{AreApart, numbers_of, all_numbers, IsOrderly}

@@ -26,14 +26,14 @@ use Rattle.stamped_parts.specs.declared.parts.Parts.{Parts}
 use Rattle.edited_parts.specs.declared.edited.EditedParts.{EditedParts}
 use Rattle.edited_parts.specs.Laws.{IsEdit}
 use Rattle.edited_parts.specs.Readings.{reading_of, readings_of}
-use Rattle.built_laws.specs.Kept.{verdict_node}
+use Rattle.bench_laws.specs.Kept.{verdict_node}
 use Rattle.cells.specs.Cells.{UnreachedIsUntouched}
-use Rattle.cell_slices.proofs.Cells.{same_cells}
-use Rattle.reach_laws.proofs.Stable.{IsCertain, nat_stable, untouched_stable}
-use Rattle.reach_laws.proofs.Untouched.{left_untouched}
-use Rattle.edit_laws.specs.Left.{AreOrderlyParts, CellRows, IsCellOf, IsSameFor, IsSameCell, IsLeft}
-use Rattle.edit_laws.proofs.Kept.{id_of}
-use Rattle.edit_laws.proofs.LeftCells.{cell_left}
+use Rattle.bench_laws.proofs.SliceCells.{same_cells}
+use Rattle.bench_laws.proofs.Stable.{IsCertain, nat_stable, untouched_stable}
+use Rattle.bench_laws.proofs.Untouched.{left_untouched}
+use Rattle.bench_laws.specs.Left.{AreOrderlyParts, CellRows, IsCellOf, IsSameFor, IsSameCell, IsLeft}
+use Rattle.bench_laws.proofs.Kept.{id_of}
+use Rattle.bench_laws.proofs.LeftCells.{cell_left}
 use Rattle.stamped_texts.specs.declared.texts.StampedTexts.{StampedTexts}
 use Rattle.stamped_texts.specs.Texts.{net_of, verdict_by, verdict_of, IsSound}
 use Rattle.stamped_texts.specs.Edited.{IsEdited, IsPartsEdit}

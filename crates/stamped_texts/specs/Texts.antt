@@ -12,7 +12,7 @@ use Rattle.stamped_parts.specs.States as states
 use Rattle.bench_texts.specs.BenchTexts.{test_index, model_index}
 use Rattle.bench_texts.specs.Held.{texts_of, AreRead}
 use Rattle.edited_parts.specs.Owed.{ArePartsOf}
-use Rattle.edit_laws.specs.Left.{AreKindsOf}
+use Rattle.bench_laws.specs.Left.{AreKindsOf}
 use Rattle.orderly_texts.specs.Orderly.{IsOrderly}
 use Rattle.stamped_texts.specs.declared.texts.StampedTexts.{StampedTexts}
 

@@ -1,0 +1,17 @@
+pub mod Nodes
+pub mod Origin
+pub mod Scratch
+pub mod Standing
+pub mod Tests
+pub mod Items
+pub mod Stable
+pub mod Untouched
+pub mod Lists
+pub mod TestEntries
+pub mod ItemKinds
+pub mod Kept
+pub mod Faults
+pub mod ModelNumbers
+pub mod TestsLeft
+pub mod LeftCells
+pub mod SliceCells

@@ -1,0 +1,4 @@
+pub mod Kept
+pub mod Cells
+pub mod Left
+pub mod Slices

@@ -1,5 +1,0 @@
-pub mod Nodes
-pub mod Origin
-pub mod Scratch
-pub mod Standing
-pub mod Tests
