@@ -132,10 +132,11 @@ edits_after t u w e p number (ops.Edit b) all sound a h n c =
     after_by t w all (all ++ ops.Edit b ∷ []) (made ∙ sym (texts_push all (ops.Edit b))) (names_push all (ops.Edit b) u.parts.last a.names may) few.0 few.1
 edits_after t u w e p number (ops.Settle at outcome) all sound a h n c = absurd n
 
-pub edits_named : (t u : StampedTexts) (e : Edit) (p : PreparedEdit) (number : ℕ) (op : BoardOp) → IsPrepared t e p u → Announced u p number op → IsEditOf op e number
-edits_named t u e p number (ops.Edit b) h n =
+pub edits_named : (t u : StampedTexts) (e : Edit) (p : PreparedEdit) (number : ℕ) (op : BoardOp) (all : List BoardOp)
+    → IsSound t → AreAfter t all → IsPrepared t e p u → Announced u p number op → IsEditOf op e number
+edits_named t u e p number (ops.Edit b) all sound a h n =
     (n.0, (texts_of t.texts, subst (λ (q : Prepared). Applies (texts_of t.texts) false (edit_of e) (texts_with q.replacement (texts_of t.texts))) (sym n.1) h.applies))
-edits_named t u e p number (ops.Settle at outcome) h n = absurd n
+edits_named t u e p number (ops.Settle at outcome) all sound a h n = absurd n
 
 pub edits_numbered : (u : StampedTexts) (p : PreparedEdit) (number : ℕ) (op : BoardOp) (all : List BoardOp) → Announced u p number op → last_number (all ++ op ∷ []) ≡ number
 edits_numbered u p number (ops.Edit b) all n = push number_after 0 all (ops.Edit b) ∙ n.0

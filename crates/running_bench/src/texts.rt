@@ -326,7 +326,7 @@ impl BoardTexts for RunningTexts {
 
     ghost announces = { Announced };
 
-    ghost is_edit = { IsEditOf };
+    ghost is_edit = { λ _ op e number. IsEditOf op e number };
 
     ghost is_settle = { IsSettle };
 
