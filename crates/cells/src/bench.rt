@@ -63,6 +63,13 @@ impl<K: StoreName, T: CellTexts> Bench<K, T> {
         }
     }
 
+    /// The tests and models.
+    pub fn texts(&self) -> &T
+        ensures { result.now ≡ self.now.texts }
+    {
+        &self.graph.texts
+    }
+
     /// Makes an edit, and gives its number. A refusal, by a rule or for want of memory, leaves all as it was.
     pub fn edit(&mut self, alloc: Global, edit: T::Edit) -> Result<u64, T::Fault>
         ensures number { IfOk result (λ number. number ≡ self.old.taken + 1) }

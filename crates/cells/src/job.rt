@@ -5,6 +5,7 @@ ghost use Rattle.cells.specs.Views.{task_answered};
 
 use crate::texts::CellTexts;
 use memo_bench::job;
+use memo_core::keys::Node;
 use std::alloc::{AllocError, Global};
 use std::marker::Model;
 use std::sync::Wait;
@@ -71,6 +72,13 @@ impl<K: StoreName, T: CellTexts> Job<K, T> {
 }
 
 impl<K: StoreName, T: CellTexts> Done<K, T> {
+    /// The node whose values it carries.
+    pub fn node(&self) -> Node
+        ensures { result ≡ self.now.node }
+    {
+        self.done.node
+    }
+
     /// The number of the claim that it answers.
     pub fn claim_number(&self) -> u64
         ensures { result ≡ self.now.claim }

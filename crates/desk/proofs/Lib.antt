@@ -2,3 +2,4 @@ pub mod Outcomes
 pub mod Appending
 pub mod Growing
 pub mod Refusing
+pub mod Returning

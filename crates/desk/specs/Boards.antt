@@ -1,8 +1,9 @@
 -- The cells of a board. Read this file first, then Held and Turns.
-use Rattle.std.specs.Prelude.{◌≡◌, ℕ, suc, zero, List, [], ◌∷◌, Option, Some, None, IsSome, slice_get, length}
+use Rattle.std.specs.Prelude.{◌≡◌, ℕ, suc, zero, ◌<◌, ◌≤◌, ◌⊎◌, List, [], ◌∷◌, Option, Some, None, IsSome, slice_get, length}
 use Rattle.memo_core.specs.Graph.{Net}
 use Rattle.memo_core.specs.Run.{Bench}
-use Rattle.cells.specs.Cells.{Cells, IsSettledCell}
+use Rattle.memo_core.specs.declared.keys.Node.{Node}
+use Rattle.cells.specs.Cells.{Cells, IsSettledCell, StandsOn}
 
 -- a cell of a board: the names of its test and of its model, and its outcome where it is settled
 pub record BoardCell (O : Type 0) : Type 0 where
@@ -38,3 +39,38 @@ AreSettled {O} cells = (index : ℕ) (cell : BoardCell O) → slice_get cells in
 -- each cell that is settled on the bench is settled among these
 abbrev pub ArePosted : {T E V G O : Type 0} → (T → Net G) → Cells T E V O → Bench T V → List (BoardCell O) → Type 0
 ArePosted {T} {E} {V} {G} {O} net of bench cells = (test model : List ℕ) (o : O) → IsSettledCell net of bench test model o → IsSettledOn cells test model
+
+-- a cell of these names is among these, at an index of the range
+pub record IsListedWithin {O : Type 0} (cells : List (BoardCell O)) (first end : ℕ) (test model : List ℕ) : Type 0 where
+  pub index : ℕ
+  pub from_first : first ≤ index
+  pub before_end : index < end
+  pub cell : BoardCell O
+  pub there : slice_get cells index ≡ Some cell
+  pub test_is : cell.test ≡ test
+  pub model_is : cell.model ≡ model
+
+-- the cells whose verdicts stand on the node are among these, at indexes of the range
+abbrev pub HoldsAbove : {G O : Type 0} → Net G → (List ℕ → List ℕ → Option Node) → Node → List (BoardCell O) → (first end : ℕ) → Type 0
+HoldsAbove net verdict_of node cells first end =
+    (test model : List ℕ) (verdict : Node) → verdict_of test model ≡ Some verdict → StandsOn net verdict node → IsListedWithin cells first end test model
+
+-- each cell whose verdict stands on the node, and that is settled on the bench, is settled among these
+abbrev pub ArePostedAbove : {T E V G O : Type 0} → (T → Net G) → Cells T E V O → Bench T V → Node → List (BoardCell O) → Type 0
+ArePostedAbove {T} {E} {V} {G} {O} net of bench node cells =
+    (test model : List ℕ) (o : O) (s : IsSettledCell net of bench test model o) → StandsOn (net bench.texts) s.verdict node → IsSettledOn cells test model
+
+-- each cell that is settled on the bench is settled among these, or its verdict stands on the node
+abbrev pub ArePostedBut : {T E V G O : Type 0} → (T → Net G) → Cells T E V O → Bench T V → Node → List (BoardCell O) → Type 0
+ArePostedBut {T} {E} {V} {G} {O} net of bench node cells =
+    (test model : List ℕ) (o : O) (s : IsSettledCell net of bench test model o) → IsSettledOn cells test model ⊎ StandsOn (net bench.texts) s.verdict node
+
+-- the later cell is of the same test and model, and settled where the earlier one was
+pub record IsKept {O : Type 0} (c d : BoardCell O) : Type 0 where
+  pub test : d.test ≡ c.test
+  pub model : d.model ≡ c.model
+  pub outcome : IsSome c.outcome → IsSome d.outcome
+
+-- each cell stands at its index, and what was settled is so
+abbrev pub AreKept : {O : Type 0} → (old new : List (BoardCell O)) → Type 0
+AreKept {O} old new = (index : ℕ) (c : BoardCell O) → slice_get old index ≡ Some c → (d : BoardCell O) × (slice_get new index ≡ Some d) × IsKept c d

@@ -1,5 +1,8 @@
 //! Why the desk refuses a call.
 
+ghost use Rattle.std.specs.Prelude.{◌≡◌};
+ghost use Rattle.desk.specs.Faults.{number_of};
+
 use memo_core::claims::ClaimFault;
 use thiserror::Error;
 
@@ -21,4 +24,20 @@ pub enum DeskFault<F> {
     /// K2: no viewer is left to give.
     #[error("no viewer is left")]
     NoSeat,
+}
+
+impl<F> DeskFault<F> {
+    /// The number that a refusal by the desk is printed with, behind a `K`: 1 where it is closed, 2 where no viewer is left. A
+    /// refused edit and a refused claim have numbers of their own, and want of memory has none.
+    pub fn number(&self) -> Option<u8>
+        ensures { result ≡ number_of self.now }
+    {
+        match self {
+            DeskFault::Edit(_) => None,
+            DeskFault::Claim(_) => None,
+            DeskFault::OutOfMemory => None,
+            DeskFault::Closed => Some(1),
+            DeskFault::NoSeat => Some(2),
+        }
+    }
 }

@@ -15,4 +15,4 @@ pub use desk::Desk;
 pub use fault::DeskFault;
 pub use refusals::{MOST_REFUSALS, Refusals};
 pub use state::DeskState;
-pub use texts::{BoardTexts, CellNames};
+pub use texts::{BoardTexts, CellNames, CellRange};

@@ -1,14 +1,15 @@
 //! Appends the cells that are settled on the bench and open on the board.
 
-ghost use Rattle.std.specs.Prelude.{◌≡◌, ◌<◌, ℕ, length, IsTrue, IfOk, IfSome, IfNone, fold};
+ghost use Rattle.std.specs.Prelude.{◌≡◌, ◌<◌, ◌≤◌, ℕ, length, IsTrue, IfOk, IfSome, IfNone, fold};
 ghost use Rattle.cells.specs.Cells.{cells as cells_of};
-ghost use Rattle.desk.specs.Boards.{ArePosted, AreSettled};
+ghost use Rattle.desk.specs.Boards.{AreKept, ArePosted, ArePostedAbove, AreSettled, HoldsAbove};
 ghost use Rattle.desk.specs.Posts.{IsPosted, SettlesRight, Posts};
 
-use crate::texts::BoardTexts;
+use crate::texts::{BoardTexts, CellRange};
 use cells::bench::Bench;
 use cells::shown::Shown;
 use desk_rule::{Naming, Press};
+use memo_core::keys::Node;
 use std::alloc::{AllocError, Global};
 use value_store::StoreName;
 
@@ -47,6 +48,7 @@ fn post<J: Naming, K: StoreName, X: BoardTexts>(
     ensures posted { IsTrue result → IsPosted X.net (cells_of X.verdict_of X.outcome_in X.from_scratch X.reaches) bench.now (X.cells (fold X.after X.none press.new.all)) index }
     ensures kept { (k : ℕ) → IsPosted X.net (cells_of X.verdict_of X.outcome_in X.from_scratch X.reaches) bench.now (X.cells (fold X.after X.none press.old.all)) k
         → IsPosted X.net (cells_of X.verdict_of X.outcome_in X.from_scratch X.reaches) bench.now (X.cells (fold X.after X.none press.new.all)) k }
+    ensures stays { AreKept (X.cells (fold X.after X.none press.old.all)) (X.cells (fold X.after X.none press.new.all)) }
 {
     let made = match press.board() {
         Some(board) => settle_of(alloc, bench, board, index),
@@ -69,6 +71,28 @@ fn cell_count<J: Naming, X: BoardTexts>(press: &Press<J, X>) -> Option<usize>
     }
 }
 
+// Appends such cells at a range of indexes, as far as it can. True where none is left there.
+fn post_range<J: Naming, K: StoreName, X: BoardTexts>(
+    alloc: Global,
+    bench: &Bench<K, X>,
+    press: &mut Press<J, X>,
+    range: CellRange,
+) -> bool
+    requires valid { X.is_valid bench.now.texts }
+    requires after { X.are_after bench.now.texts press.old.all }
+    requires end { range.end ≤ length (X.cells (fold X.after X.none press.old.all)) }
+    ensures posts { Posts X.is_settle X.are_after X.last_number (λ ops. length (X.cells (fold X.after X.none ops))) bench.now.texts press.old press.new }
+    ensures posted { IsTrue result → (k : ℕ) → range.first ≤ k → k < range.end → IsPosted X.net (cells_of X.verdict_of X.outcome_in X.from_scratch X.reaches) bench.now (X.cells (fold X.after X.none press.new.all)) k }
+    ensures stays { AreKept (X.cells (fold X.after X.none press.old.all)) (X.cells (fold X.after X.none press.new.all)) }
+{
+    for index in range.first..range.end {
+        if !post(alloc, bench, press, index) {
+            return false;
+        }
+    }
+    true
+}
+
 /// Appends all such cells, as far as it can. True where none is left.
 pub(crate) fn post_settled<J: Naming, K: StoreName, X: BoardTexts>(
     alloc: Global,
@@ -81,15 +105,47 @@ pub(crate) fn post_settled<J: Naming, K: StoreName, X: BoardTexts>(
     ensures posted { IsTrue result → ArePosted X.net (cells_of X.verdict_of X.outcome_in X.from_scratch X.reaches) bench.now (X.cells (fold X.after X.none press.new.all)) }
 {
     press.catch_up();
-    let Some(count) = cell_count(press) else {
+    let Some(end) = cell_count(press) else {
         return false;
     };
-    for index in 0..count {
-        if !post(alloc, bench, press, index) {
-            return false;
-        }
+    post_range(alloc, bench, press, CellRange { first: 0, end })
+}
+
+// Where the cells stand whose verdicts stand on a node. None where memory for the board was refused.
+fn range_above<J: Naming, K: StoreName, X: BoardTexts>(
+    bench: &Bench<K, X>,
+    press: &Press<J, X>,
+    node: Node,
+) -> Option<CellRange>
+    requires valid { X.is_valid bench.now.texts }
+    requires after { X.are_after bench.now.texts press.now.all }
+    ensures end { IfSome result (λ r. r.end ≤ length (X.cells (fold X.after X.none press.now.all))) }
+    ensures holds { IfSome result (λ r. HoldsAbove (X.net bench.now.texts) (X.verdict_of bench.now.texts) node (X.cells (fold X.after X.none press.now.all)) r.first r.end) }
+{
+    match press.board() {
+        Some(board) => Some(bench.texts().cells_above(board, node)),
+        None => None,
     }
-    true
+}
+
+/// Appends those whose verdicts stand on a node, as far as it can. True where none of them is left.
+pub(crate) fn post_above<J: Naming, K: StoreName, X: BoardTexts>(
+    alloc: Global,
+    bench: &Bench<K, X>,
+    press: &mut Press<J, X>,
+    node: Node,
+) -> bool
+    requires valid { X.is_valid bench.now.texts }
+    requires after { X.are_after bench.now.texts press.old.all }
+    ensures posts { Posts X.is_settle X.are_after X.last_number (λ ops. length (X.cells (fold X.after X.none ops))) bench.now.texts press.old press.new }
+    ensures posted { IsTrue result → ArePostedAbove X.net (cells_of X.verdict_of X.outcome_in X.from_scratch X.reaches) bench.now node (X.cells (fold X.after X.none press.new.all)) }
+    ensures stays { AreKept (X.cells (fold X.after X.none press.old.all)) (X.cells (fold X.after X.none press.new.all)) }
+{
+    press.catch_up();
+    let Some(range) = range_above(bench, press, node) else {
+        return false;
+    };
+    post_range(alloc, bench, press, range)
 }
 
 /// Whether each cell of the board after all operations is settled.

@@ -5,7 +5,7 @@ ghost use mathlib.Core.List.{IsPrefix};
 ghost use Rattle.memo_core.specs.Laws.{meaning};
 ghost use Rattle.memo_core.specs.Run.{Claim as Claimed, NoClaim, Returned, Lose as Lost, Renew as Renewed, Refused, Step};
 ghost use Rattle.cells.specs.Cells.{cells as cells_of};
-ghost use Rattle.desk.specs.Boards.{ArePosted, AreSettled};
+ghost use Rattle.desk.specs.Boards.{ArePosted, ArePostedBut, AreSettled};
 ghost use Rattle.desk.specs.Held.{IsMade, IsRefusedBy};
 
 use crate::answer::{Accepted, Posted, Settling, Taken};
@@ -18,6 +18,7 @@ use desk_rule::{Entry, Naming, Opening, Plate, Seats, Viewer};
 use left_right::Absorb;
 use memo_bench::graph::LAST;
 use memo_core::claims::ClaimFault;
+use memo_core::keys::Node;
 use std::alloc::Global;
 use std::marker::Model;
 use std::sync::Wait;
@@ -32,7 +33,7 @@ where
     ledger: Ledger<J, X>,
     seats: Seats<J, X>,
     closed: bool,
-    // Whether memory was refused to a settled cell or to what readers are to see: the next call tries again.
+    // Whether a settled cell may be open on the board, or readers may not see all: the next call tries again.
     owes: bool,
     // How many calls changed something, so that those who wait know that one did.
     changes: u64,
@@ -45,14 +46,17 @@ impl<J: Naming + StoreName, X: BoardTexts, R: Wait + Drop> Model for DeskState<J
 where
     Plate<J, X>: Absorb<Entry<J, X>, State = [X::Op; 0]>,
 {
-    ghost use Rattle.std.specs.Prelude.{◌≡◌, ◌≤◌};
+    ghost use Rattle.std.specs.Prelude.{◌≡◌, ◌≤◌, false, fold};
+    ghost use Rattle.cells.specs.Cells.{cells as cells_of};
+    ghost use Rattle.desk.specs.Boards.{ArePosted};
     ghost use Rattle.desk.specs.Held.{Held, held};
 
     ghost Value = { Held X X.Value X.Op };
 
     ghost view = { λ s. held s.bench s.ledger.all s.ledger.published s.seats s.closed };
 
-    ghost invariant = { λ s. X.is_valid s.bench.texts × X.are_after s.bench.texts s.ledger.all × (X.last_number s.ledger.all ≤ s.bench.taken) };
+    ghost invariant = { λ s. X.is_valid s.bench.texts × X.are_after s.bench.texts s.ledger.all × (X.last_number s.ledger.all ≤ s.bench.taken)
+        × (s.owes ≡ false → ArePosted X.net (cells_of X.verdict_of X.outcome_in X.from_scratch X.reaches) s.bench (X.cells (fold X.after X.none s.ledger.all))) };
 }
 
 // Makes an edit on the bench, and appends its operation before it is put in place.
@@ -108,7 +112,7 @@ impl<J: Naming + StoreName, X: BoardTexts, R: Wait + Drop> DeskState<J, X, R> {
             ledger: Ledger { press },
             seats,
             closed: false,
-            owes: false,
+            owes: true,
             changes: 0,
             alloc,
             rt,
@@ -151,6 +155,7 @@ impl<J: Naming + StoreName, X: BoardTexts, R: Wait + Drop> DeskState<J, X, R> {
         if !me.is_behind(self.ledger.front()) {
             return Err(DeskFault::NoSeat);
         }
+        self.owes = true;
         let number = make_edit(self.alloc, &mut self.bench, &mut self.ledger, edit)?;
         self.changes = self.changes.wrapping_add(1);
         self.owes = !self.ledger.post(self.alloc, &self.bench);
@@ -182,7 +187,28 @@ impl<J: Naming + StoreName, X: BoardTexts, R: Wait + Drop> DeskState<J, X, R> {
         Posted::Now
     }
 
-    // Tries again what memory was refused to.
+    // Appends the cells that are settled, where all are posted but those whose verdicts stand on a node, and publishes.
+    #[tactic(auto, using(crate::proofs::Growing::prefix_same, crate::proofs::Growing::grown_from))]
+    fn catch_up_above<W: Wait>(&mut self, rt: &W, node: Node) -> Posted
+        requires rest { ArePostedBut X.net (cells_of X.verdict_of X.outcome_in X.from_scratch X.reaches) self.old.bench node (X.cells (fold X.after X.none self.old.all)) }
+        ensures bench { self.new.bench ≡ self.old.bench }
+        ensures appends { Appends X.is_settle self.old.all self.old self.new }
+        ensures grows { IsPrefix self.old.published self.new.published }
+        ensures posted { PublishesOr (λ bench ops. ArePosted X.net (cells_of X.verdict_of X.outcome_in X.from_scratch X.reaches) bench (X.cells (fold X.after X.none ops))) self.old self.new result }
+    {
+        self.changes = self.changes.wrapping_add(1);
+        self.owes = true;
+        if !self.ledger.post_above(self.alloc, &self.bench, node) {
+            return Posted::Later;
+        }
+        if !self.ledger.publish(rt) {
+            return Posted::Later;
+        }
+        self.owes = false;
+        Posted::Now
+    }
+
+    // Tries again what may be left.
     #[tactic(auto, using(crate::proofs::Growing::prefix_same))]
     fn try_again<W: Wait>(&mut self, rt: &W)
         ensures bench { self.new.bench ≡ self.old.bench }
@@ -194,7 +220,7 @@ impl<J: Naming + StoreName, X: BoardTexts, R: Wait + Drop> DeskState<J, X, R> {
         }
     }
 
-    // Tries again what memory was refused to, and publishes. True where readers see all operations.
+    // Tries again what may be left, and publishes. True where readers see all operations.
     #[tactic(auto, using(crate::proofs::Growing::prefix_same, crate::proofs::Growing::grown_then))]
     fn show_all<W: Wait>(&mut self, rt: &W) -> bool
         ensures bench { self.new.bench ≡ self.old.bench }
@@ -220,11 +246,14 @@ impl<J: Naming + StoreName, X: BoardTexts, R: Wait + Drop> DeskState<J, X, R> {
         if self.closed {
             return Err(DeskFault::Closed);
         }
+        let owed = self.owes;
+        self.owes = true;
         let job = match self.bench.claim(self.alloc) {
             Ok(job) => job,
             Err(ClaimFault::OutOfMemory) => return Err(DeskFault::OutOfMemory),
             Err(ClaimFault::Spent) => return Err(DeskFault::Claim(ClaimFault::Spent)),
         };
+        self.owes = owed;
         self.try_again(rt);
         Ok(job)
     }
@@ -247,8 +276,15 @@ impl<J: Naming + StoreName, X: BoardTexts, R: Wait + Drop> DeskState<J, X, R> {
         if self.closed {
             return Err(DeskFault::Closed);
         }
+        let owed = self.owes;
+        self.owes = true;
+        let node = done.node();
         let finish = self.bench.finish(done);
-        let posted = self.catch_up(rt);
+        let posted = if owed {
+            self.catch_up(rt)
+        } else {
+            self.catch_up_above(rt, node)
+        };
         Ok(Taken { finish, posted })
     }
 
@@ -265,6 +301,7 @@ impl<J: Naming + StoreName, X: BoardTexts, R: Wait + Drop> DeskState<J, X, R> {
         if self.closed {
             return Err(DeskFault::Closed);
         }
+        self.owes = true;
         let lost = self.bench.lose(claim);
         self.changes = self.changes.wrapping_add(1);
         self.try_again(rt);
@@ -284,6 +321,7 @@ impl<J: Naming + StoreName, X: BoardTexts, R: Wait + Drop> DeskState<J, X, R> {
         if self.closed {
             return Err(DeskFault::Closed);
         }
+        self.owes = true;
         self.bench.renew();
         self.changes = self.changes.wrapping_add(1);
         self.try_again(rt);

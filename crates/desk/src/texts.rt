@@ -1,11 +1,12 @@
 //! What the desk asks of texts, beside what the bench asks: how edits and outcomes become operations on boards.
 
-ghost use Rattle.std.specs.Prelude.{◌≡◌, ◌<◌, ℕ, List, [], ◌∷◌, ◌++◌, Some, IfOk, IfSome, IfNone, IsSome, length, slice_get, fold};
-ghost use Rattle.memo_core.specs.declared.keys.Node.{Node};
-ghost use Rattle.desk.specs.Boards.{BoardCell, open_of, with_outcome};
+ghost use Rattle.std.specs.Prelude.{◌≡◌, ◌<◌, ◌≤◌, ℕ, List, [], ◌∷◌, ◌++◌, Some, IfOk, IfSome, IfNone, IsSome, length, slice_get, fold};
+ghost use Rattle.memo_core.specs.declared.keys.Node.{Node as NodeRecord};
+ghost use Rattle.desk.specs.Boards.{BoardCell, HoldsAbove, open_of, with_outcome};
 
 use cells::texts::CellTexts;
 use desk_rule::Operations;
+use memo_core::keys::Node;
 use std::alloc::{AllocError, Global};
 
 /// The names of a cell.
@@ -15,6 +16,13 @@ pub struct CellNames<'a> {
     pub test: &'a [u8],
     /// The name of its model.
     pub model: &'a [u8],
+}
+
+/// Indexes of cells: from the first on, below the end.
+#[derive(Clone, Copy)]
+pub struct CellRange {
+    pub first: usize,
+    pub end: usize,
 }
 
 /// Texts of tests and models whose edits and outcomes are operations on a board.
@@ -70,6 +78,13 @@ pub trait BoardTexts: CellTexts + Operations {
         ensures open { IfSome result (λ c. slice_get (cells board.now) index ≡ Some (open_of c.test.now c.model.now)) }
         ensures settled { IfNone result ((c : BoardCell Self.Outcome) → slice_get (cells board.now) index ≡ Some c → IsSome c.outcome) };
 
+    /// Where on the board of these texts the cells stand whose verdicts stand on a node.
+    fn cells_above(&self, board: &Self::Board, node: Node) -> CellRange
+        requires valid { Self.is_valid self.now }
+        requires after { (ops : List Self.Op) × are_after self.now ops × (board.now ≡ fold Self.after Self.none ops) }
+        ensures end { result.end ≤ length (cells board.now) }
+        ensures holds { HoldsAbove (Self.net self.now) (Self.verdict_of self.now) node (cells board.now) result.first result.end };
+
     /// The operation that settles the cell at an index with an outcome. Errors: want of memory.
     fn settle(
         alloc: Global,
@@ -111,5 +126,5 @@ pub trait BoardTexts: CellTexts + Operations {
     ghost settle_shows: { (b : Self.Board) (index : ℕ) (o : Self.Outcome) (op : Self.Op) → settles b index o op → cells (Self.after b op) ≡ with_outcome index o (cells b) };
 
     /// Each cell of the texts is a cell of the board.
-    ghost cells_known: { (t : Self) (ops : List Self.Op) (test model : List ℕ) (n : Node) → Self.is_valid t → are_after t ops → Self.verdict_of t test model ≡ Some n → (index : ℕ) × (c : BoardCell Self.Outcome) × (slice_get (cells (fold Self.after Self.none ops)) index ≡ Some c) × (c.test ≡ test) × (c.model ≡ model) };
+    ghost cells_known: { (t : Self) (ops : List Self.Op) (test model : List ℕ) (n : NodeRecord) → Self.is_valid t → are_after t ops → Self.verdict_of t test model ≡ Some n → (index : ℕ) × (c : BoardCell Self.Outcome) × (slice_get (cells (fold Self.after Self.none ops)) index ≡ Some c) × (c.test ≡ test) × (c.model ≡ model) };
 }

@@ -1,5 +1,5 @@
 -- Read this first: the cells of a board, as the desk counts them: test by test, in the order of the models.
-use Rattle.std.specs.Prelude.{◌≡◌, ℕ, ◌*◌, ◌+◌, ◌<◌, ◌^◌, List, [], ◌∷◌, ◌++◌, Option, Some, None, length}
+use Rattle.std.specs.Prelude.{◌≡◌, ℕ, ◌*◌, ◌+◌, ◌<◌, ◌≤◌, ◌^◌, List, [], ◌∷◌, ◌++◌, Option, Some, None, length}
 use Rattle.std.specs.Prelude.{nat_lt, if◌then◌else◌, slice_get}
 use Rattle.verdict.specs.declared.answer.Outcome.{Outcome}
 use Rattle.desk.specs.Boards.{BoardCell}
@@ -44,6 +44,11 @@ pub record IsCellAt (b : BoardContent) (index : ℕ) (at : CellIndex) : Type 0 w
   pub is_index : IsIndexOf b index at
   pub there : HasCell b at
   pub countable : IsCountable b
+
+-- the indexes are no more than these cells, and those of the row's cells are among them
+pub record IsRowRange (count models row first end : ℕ) : Type 0 where
+  pub within : end ≤ count
+  pub all : (j : ℕ) → j < models → row * models + j < count → (first ≤ row * models + j) × (row * models + j < end)
 
 -- ---- their names
 

@@ -363,7 +363,7 @@ settles_follow t all index c o (ops.Settle at outcome) sound a h right s =
 
 -- ---- each cell of the texts is a cell of the board
 
-is_below : {A : Type 0} (xs : List A) (i : ℕ) (x : A) → slice_get xs i ≡ Some x → i < length xs
+pub is_below : {A : Type 0} (xs : List A) (i : ℕ) (x : A) → slice_get xs i ≡ Some x → i < length xs
 is_below [] i x h = absurd (none-some x h)
 is_below (y ∷ xs) zero x h = omega arith
 is_below (y ∷ xs) (suc i) x h = let l = is_below xs i x h in omega (arith, l)
@@ -395,14 +395,19 @@ cell_listed b i j row column countable row_is column_is =
     ∙ (all_get b.columns b.rows i j (is_below b.columns j column column_is)
     ∙ (ap (λ (r : Option RowContent). cell_of_row b.columns r j) row_is ∙ cell_there b.columns row column j column_is))
 
--- a cell of these names is listed
-abbrev pub IsListed : BoardContent → List ℕ → List ℕ → Type 0
-IsListed b test model =
-    (index : ℕ) × (c : BoardCell Outcome) × (slice_get (board_cells b) index ≡ Some c) × (c.test ≡ test) × (c.model ≡ model)
+-- a cell of these names is listed at that index
+abbrev pub IsListedAt : BoardContent → ℕ → List ℕ → List ℕ → Type 0
+IsListedAt b index test model =
+    (c : BoardCell Outcome) × (slice_get (board_cells b) index ≡ Some c) × (c.test ≡ test) × (c.model ≡ model)
 
-pub cells_are_known : (t : StampedTexts) (all : List BoardOp) (test model : List ℕ) (n : Node)
-    → IsSound t → AreAfter t all → verdict_of t test model ≡ Some n → IsListed (board_after all) test model
-cells_are_known t all test model n sound a h =
+-- in the row of that test
+abbrev pub IsListedInRow : BoardContent → ℕ → List ℕ → List ℕ → Type 0
+IsListedInRow b row test model =
+    (j : ℕ) × (j < length b.columns) × IsListedAt b (row * length b.columns + j) test model
+
+pub cells_are_in_rows : (t : StampedTexts) (all : List BoardOp) (test model : List ℕ) (n : Node)
+    → IsSound t → AreAfter t all → verdict_of t test model ≡ Some n → IsListedInRow (board_after all) (test_index test (texts_of t.texts).tests) test model
+cells_are_in_rows t all test model n sound a h =
     let b = board_after all in
     let texts = texts_after all in
     let i = test_index test (texts_of t.texts).tests in
@@ -412,9 +417,20 @@ cells_are_known t all test model n sound a h =
     let model_there = ap (λ (g : Held). slice_get g.models j) (sym a.held) ∙ cell.model_is in
     let row = named_there (λ x. x.name) (λ r. r.name) texts.tests b.rows i cell.of_test (sym (a.names).tests) test_there in
     let column = named_there (λ x. x.name) (λ m. m.name) texts.models b.columns j cell.of_model (sym (a.names).models) model_there in (
-      i * length b.columns + j,
+      j,
+      is_below b.columns j column.0 column.1,
       cell_with row.0.name column.0.name (outcome_at row.0.cells j),
       cell_listed b i j row.0 column.0 (is_countable t all a) row.1 column.1,
       row.2 ∙ is_named (λ (k : Content). k.name) content_of test t.texts.tests.items cell.of_test cell.test_is,
       column.2 ∙ is_named (λ (k : PlainModel). k.name) plain.model_of model t.texts.models.items cell.of_model cell.model_is,
     )
+
+-- a cell of these names is listed
+abbrev pub IsListed : BoardContent → List ℕ → List ℕ → Type 0
+IsListed b test model = (index : ℕ) × IsListedAt b index test model
+
+pub cells_are_known : (t : StampedTexts) (all : List BoardOp) (test model : List ℕ) (n : Node)
+    → IsSound t → AreAfter t all → verdict_of t test model ≡ Some n → IsListed (board_after all) test model
+cells_are_known t all test model n sound a h =
+    let k = cells_are_in_rows t all test model n sound a h in
+    (test_index test (texts_of t.texts).tests * length (board_after all).columns + k.0, k.2)

@@ -1,14 +1,14 @@
 //! Tests and models as texts of a desk.
 
 ghost use Rattle.std.specs.Prelude.{◌<◌, length, IfSome, IfNone, IsTrue};
-ghost use Rattle.running_bench.specs.Cells.{HasCell, IsIndexOf, IsNamedAt, HasNoNames};
+ghost use Rattle.running_bench.specs.Cells.{HasCell, IsIndexOf, IsNamedAt, HasNoNames, IsRowRange};
 
 use crate::copies::copied;
 use bench_texts::{Edit, EditFault};
 use board::{Board, BoardEdit, BoardOp, CellIndex};
 use cells::texts::CellTexts;
 use compare_report::Shown;
-use desk::{BoardTexts, CellNames};
+use desk::{BoardTexts, CellNames, CellRange};
 use desk_rule::Operations;
 use memo_core::keys::{Key, Node, Output};
 use memo_core::texts::Texts;
@@ -313,6 +313,21 @@ fn is_there(board: &Board, at: CellIndex) -> bool
     }
 }
 
+// The indexes of the cells of a row, of so many cells.
+fn row_range(count: usize, models: usize, row: usize) -> CellRange
+    ensures { IsRowRange count models row result.first result.end }
+{
+    let first = match row.checked_mul(models) {
+        Some(first) => first,
+        None => count,
+    };
+    let end = match first.checked_add(models) {
+        Some(end) => end.min(count),
+        None => count,
+    };
+    CellRange { first, end }
+}
+
 impl BoardTexts for RunningTexts {
     ghost use Rattle.running_bench.specs.Cells.{board_cells};
     ghost use Rattle.std.proofs.Common.{refl};
@@ -372,6 +387,11 @@ impl BoardTexts for RunningTexts {
             Shown::Open => names_at(board, at),
             Shown::NoCell => names_at(board, at),
         }
+    }
+
+    fn cells_above(&self, board: &Board, node: Node) -> CellRange {
+        let count = <RunningTexts as BoardTexts>::cell_count(board);
+        row_range(count, board.model_count(), self.texts.test_row(node.test))
     }
 
     fn settle(

@@ -1,6 +1,7 @@
 //! Tests and models with the stamps of their parts.
 
-ghost use Rattle.std.specs.Prelude.{◌≡◌, ℕ, ◌≤◌, false, [], IfOk, IfErr, OnOk};
+ghost use Rattle.std.specs.Prelude.{◌≡◌, ◌==◌, ℕ, ◌≤◌, false, [], IfOk, IfErr, OnOk};
+ghost use Rattle.std.specs.List.{position_or_len};
 ghost use Rattle.bench_texts.specs.Edits.{edit_of, Refuses};
 ghost use Rattle.bench_texts.specs.Held.{texts_of};
 ghost use Rattle.stamped_texts.specs.Texts.{IsSound, net_of};
@@ -64,6 +65,13 @@ impl StampedTexts {
         ensures { result ≡ self.now.parts.last }
     {
         self.parts.last
+    }
+
+    /// The index of the first test of that number, or how many tests there are.
+    pub fn test_row(&self, id: u64) -> usize
+        ensures { result ≡ position_or_len (λ r. r.id == id) self.now.parts.table.tests.items }
+    {
+        self.parts.test_index(id)
     }
 
     // What an edit needs, made beside the texts and their parts, which stay the same. Errors: the first reason to refuse the

@@ -5,6 +5,7 @@ use Rattle.desk.specs.Boards.{with_outcome}
 use Rattle.desk.specs.Posts.{IsPosted, SettlesRight, Posts}
 use Rattle.desk.proofs.Outcomes.{get_below}
 use Rattle.desk.proofs.Appending.{posts_one, posted_here, posted_kept, count_one}
+use Rattle.desk.proofs.Returning.{keeps_one}
 use Rattle.desk.proofs.posting.post.Goals as goal
 
 pub append-requires : goal.append-requires
@@ -65,3 +66,15 @@ returns-in-Ok-None-clause-posted g c ok =
     let x = g.X.BoardTexts in
     let means = cells_of g.X.CellTexts.verdict_of g.X.CellTexts.outcome_in g.X.CellTexts.from_scratch g.X.CellTexts.reaches in
     subst (λ d. IsPosted g.X.Texts.net means c.args.bench.now (x.cells d) c.args.index) c.in-Some.ensures (rw c.in-Ok-None.field-0-is at (rw c.in-Ok-None.is at c.settle_of-made.ensures.none))
+
+pub returns-in-Ok-Some-clause-stays : goal.returns-in-Ok-Some-clause-stays
+returns-in-Ok-Some-clause-stays g c =
+    let x = g.X.BoardTexts in
+    let o = g.X.Operations in
+    let ops = c.args.press.now.all in
+    let b = fold o.after o.none ops in
+    let op = c.in-Ok-Some.op in
+    let scratch = g.X.CellTexts.from_scratch c.args.bench.now.texts in
+    let m = subst (λ d. SettlesRight x.settles scratch d (x.cells d) c.args.index op) c.in-Some.ensures (rw c.in-Ok-Some.field-0-is at (rw c.in-Ok-Some.is at c.settle_of-made.ensures.made)) in
+    let shows = g.met.X.BoardTexts.settle_shows b c.args.index m.outcome op m.op_is in
+    keeps_one x.cells o.after o.none c.append.result ops c.append.new.self.all op c.args.index m.outcome c.append.ensures.all shows
