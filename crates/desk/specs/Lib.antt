@@ -3,3 +3,4 @@ pub mod Told
 pub mod Posts
 pub mod Held
 pub mod Rows
+pub mod Numbers

@@ -1,5 +1,8 @@
 //! Why the desk refuses a call.
 
+ghost use Rattle.std.specs.Prelude.{◌≡◌};
+ghost use Rattle.desk.specs.Numbers.{number_of};
+
 use memo_core::claims::ClaimFault;
 use thiserror::Error;
 
@@ -21,4 +24,20 @@ pub enum DeskFault<F> {
     /// K2: no viewer is left to give.
     #[error("no viewer is left")]
     NoSeat,
+}
+
+impl<F> DeskFault<F> {
+    /// The number of a refusal by the desk: 1 for K1 and 2 for K2. A refusal by the bench has a number of its own, and want of
+    /// memory has none.
+    pub fn number(&self) -> Option<u8>
+        ensures { result ≡ number_of self.now }
+    {
+        match self {
+            DeskFault::Closed => Some(1),
+            DeskFault::NoSeat => Some(2),
+            DeskFault::Edit(_) => None,
+            DeskFault::Claim(_) => None,
+            DeskFault::OutOfMemory => None,
+        }
+    }
 }
