@@ -76,6 +76,7 @@ impl<K: StoreName, T: CellTexts> Bench<K, T> {
         ensures edited { OnOk result (Step (meaning T.net T.is_valid T.since T.makes T.keeps T.edited) self.old (Edited edit) self.new) }
         ensures unspent { OnOk result (self.old.taken < LAST) }
         ensures fault { IfErr result (λ fault. T.refuses self.old.texts edit (leb LAST self.old.taken) fault) }
+        ensures last { OnErr result (T.last self.new.texts ≡ T.last self.old.texts) }
         ensures refused { OnErr result (Step (meaning T.net T.is_valid T.since T.makes T.keeps T.edited) self.old Refused self.new) }
     {
         self.graph.edit(alloc, edit)

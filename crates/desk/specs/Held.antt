@@ -2,6 +2,7 @@
 use Rattle.std.specs.Prelude.{◌≡◌, ℕ, ◌+◌, Bool, true, false, List, [], ◌∷◌, ◌++◌}
 use Rattle.std.specs.List.{AllByRecursion as Each}
 use mathlib.Core.List.{IsPrefix}
+use Rattle.memo_core.specs.declared.claims.ClaimFault.TheVariants.{Spent}
 use Rattle.memo_core.specs.Run as core
 use Rattle.memo_core.specs.Run.{Bench, Meaning, Step}
 use Rattle.desk.specs.declared.answer.Accepted.{Accepted}
@@ -83,7 +84,7 @@ pub record IsDone {T V O : Type 0} (is_legal : List O → Type 0) (are_settled :
 
 abbrev pub Settles : {T V O : Type 0} → (is_legal : List O → Type 0) → (are_settled : List O → Type 0) → (new : Held T V O) → (me me' : List O) → Settling → Type 0
 Settles is_legal are_settled new me me' Done = IsDone is_legal are_settled new me me'
-Settles is_legal are_settled new me me' (Waits changes) = me' ≡ me
+Settles is_legal are_settled new me me' (Waits changes) = (me' ≡ me) × (new.published ≡ new.all)
 Settles is_legal are_settled new me me' Refused = me' ≡ me
 
 -- what the viewer of a turn of settling is told: all that it knew and what goes on from there, where every cell is settled; or nothing
@@ -104,3 +105,12 @@ IsRefusedBy refuses is_ahead (faults.Claim fault) = ⊥
 IsRefusedBy refuses is_ahead faults.OutOfMemory = Unit {0}
 IsRefusedBy refuses is_ahead faults.Closed = Unit {0}
 IsRefusedBy refuses is_ahead faults.NoSeat = is_ahead
+
+-- Why a claim is refused: for spent numbers, and only where they are spent. That the desk is closed and that memory is wanted
+-- are said apart.
+abbrev pub IsClaimRefusedBy : {F : Type 0} → (is_spent : Type 0) → DeskFault F → Type 0
+IsClaimRefusedBy is_spent (faults.Claim fault) = (fault ≡ Spent) × is_spent
+IsClaimRefusedBy is_spent (faults.Edit fault) = ⊥
+IsClaimRefusedBy is_spent faults.NoSeat = ⊥
+IsClaimRefusedBy is_spent faults.OutOfMemory = Unit {0}
+IsClaimRefusedBy is_spent faults.Closed = Unit {0}

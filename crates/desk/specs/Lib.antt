@@ -3,4 +3,4 @@ pub mod Told
 pub mod Posts
 pub mod Held
 pub mod Rows
-pub mod Faults
+pub mod Numbers

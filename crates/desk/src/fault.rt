@@ -1,7 +1,7 @@
 //! Why the desk refuses a call.
 
 ghost use Rattle.std.specs.Prelude.{◌≡◌};
-ghost use Rattle.desk.specs.Faults.{number_of};
+ghost use Rattle.desk.specs.Numbers.{number_of};
 
 use memo_core::claims::ClaimFault;
 use thiserror::Error;
@@ -27,17 +27,17 @@ pub enum DeskFault<F> {
 }
 
 impl<F> DeskFault<F> {
-    /// The number that a refusal by the desk is printed with, behind a `K`: 1 where it is closed, 2 where no viewer is left. A
-    /// refused edit and a refused claim have numbers of their own, and want of memory has none.
+    /// The number of a refusal by the desk: 1 for K1 and 2 for K2. A refusal by the bench has a number of its own, and want of
+    /// memory has none.
     pub fn number(&self) -> Option<u8>
         ensures { result ≡ number_of self.now }
     {
         match self {
+            DeskFault::Closed => Some(1),
+            DeskFault::NoSeat => Some(2),
             DeskFault::Edit(_) => None,
             DeskFault::Claim(_) => None,
             DeskFault::OutOfMemory => None,
-            DeskFault::Closed => Some(1),
-            DeskFault::NoSeat => Some(2),
         }
     }
 }

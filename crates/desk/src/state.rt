@@ -6,7 +6,7 @@ ghost use Rattle.memo_core.specs.Laws.{meaning};
 ghost use Rattle.memo_core.specs.Run.{Claim as Claimed, NoClaim, Returned, Lose as Lost, Renew as Renewed, Refused, Step};
 ghost use Rattle.cells.specs.Cells.{cells as cells_of};
 ghost use Rattle.desk.specs.Boards.{ArePosted, ArePostedBut, AreSettled};
-ghost use Rattle.desk.specs.Held.{IsMade, IsRefusedBy};
+ghost use Rattle.desk.specs.Held.{IsMade, IsRefusedBy, IsClaimRefusedBy};
 
 use crate::answer::{Accepted, Posted, Settling, Taken};
 use crate::fault::DeskFault;
@@ -236,7 +236,8 @@ impl<J: Naming + StoreName, X: BoardTexts, R: Wait + Drop> DeskState<J, X, R> {
     #[tactic(auto, using(crate::proofs::Growing::prefix_same, crate::proofs::Growing::grown_from))]
     pub fn claim<W: Wait>(&mut self, rt: &W) -> Result<Option<Job<J, X>>, DeskFault<X::Fault>>
         ensures closed { (result ≡ Err DeskFault.Closed) ↔ (self.old.closed ≡ true) }
-        ensures spent { result ≡ Err (DeskFault.Claim ClaimFault.Spent) → LAST ≤ self.old.bench.taken }
+        ensures fault { IfErr result (IsClaimRefusedBy (LAST ≤ self.old.bench.taken)) }
+        ensures spent { self.old.closed ≡ false → LAST ≤ self.old.bench.taken → result ≡ Err (DeskFault.Claim ClaimFault.Spent) }
         ensures err { OnErr result (IsRefusedTurn (meaning X.net X.is_valid X.since X.makes X.keeps X.edited) self.old self.new) }
         ensures given { IfOk result (λ r. IfSome r (λ j. Step (meaning X.net X.is_valid X.since X.makes X.keeps X.edited) self.old.bench (Claimed j.claim j.node j.given j.keys j.values) self.new.bench)) }
         ensures none { IfOk result (λ r. IfNone r (Step (meaning X.net X.is_valid X.since X.makes X.keeps X.edited) self.old.bench NoClaim self.new.bench)) }
