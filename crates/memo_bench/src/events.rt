@@ -142,7 +142,13 @@ impl<K: StoreName, T: Texts> Graph<K, T> {
         }
         let memos = &self.memos;
         let claims = &self.claims;
-        let node = match find_node(&self.texts, memos, claims, &mut self.waiting, &mut self.next) {
+        let node = match find_node(
+            &self.texts,
+            memos,
+            claims,
+            &mut self.waiting,
+            &mut self.next,
+        ) {
             None => return Ok(None),
             Some(node) => node,
         };
