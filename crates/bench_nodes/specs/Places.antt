@@ -1,5 +1,5 @@
 -- What a table looks up in place of a search, as the laws of its type say. Read it after Slots.
-use Rattle.std.specs.Prelude.{ℕ, ◌&&◌, not, nat_lt, Bool, true, false, List, [], ◌∷◌, Option, Some, None, Vec, if◌then◌else◌}
+use Rattle.std.specs.Prelude.{ℕ, ◌&&◌, not, nat_lt, Bool, true, false, List, [], ◌∷◌, Option, Some, None, Vec, map, if◌then◌else◌}
 use Rattle.std.specs.declared.alloc.Global.{Global}
 use Rattle.memo_core.specs.declared.keys.Kind.{Kind}
 use Rattle.memo_core.specs.declared.keys.Node.{Node}
@@ -46,7 +46,11 @@ names_in v = v.items
 abbrev pub named : ℕ → SlotName → Node
 named test name = record { kind = name.kind; test = test; of = name.of }
 
--- where they are listed
+-- the users of each slot, where they are listed
 abbrev pub lists_if : Bool → List Slot → List (List SlotName)
 lists_if true ss = user_lists ss ss
 lists_if false ss = []
+
+abbrev pub lists_in : Bool → List (Vec SlotName Global) → List (List SlotName)
+lists_in true vs = map names_in vs
+lists_in false vs = []

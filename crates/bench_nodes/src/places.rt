@@ -2,7 +2,7 @@
 
 ghost use Rattle.std.specs.Prelude.{◌≡◌, ◌||◌, not, true, false, [], IfOk, IfSome, Some, map, slice_get, option_map};
 ghost use Rattle.bench_nodes.specs.Slots.{is_slot};
-ghost use Rattle.bench_nodes.specs.Places.{are_apart, user_names, user_lists, lists_if, names_in};
+ghost use Rattle.bench_nodes.specs.Places.{are_apart, user_names, user_lists, lists_if, lists_in, names_in};
 
 use crate::find::{has_slot_among, is_slot};
 use crate::table::Slot;
@@ -135,7 +135,7 @@ impl SlotPlaces {
     /// The places of slots. Errors: want of memory.
     pub fn of(alloc: Global, slots: &[Slot]) -> Result<SlotPlaces, AllocError>
         ensures apart { IfOk result (λ p. (not p.are_listed || are_apart slots.now) ≡ true) }
-        ensures listed { IfOk result (λ p. map names_in p.users.items ≡ lists_if p.are_listed slots.now) }
+        ensures listed { IfOk result (λ p. lists_in p.are_listed p.users.items ≡ lists_if p.are_listed slots.now) }
     {
         if slots.len() > MOST_LISTED || !are_apart(slots) {
             return Ok(SlotPlaces::new(alloc));

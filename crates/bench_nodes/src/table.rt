@@ -1,7 +1,7 @@
 //! The table of the stamps and of the nodes that each test has.
 
-ghost use Rattle.std.specs.Prelude.{◌≡◌, ◌≤◌, ◌||◌, not, true, [], map, vec_len};
-ghost use Rattle.bench_nodes.specs.Places.{are_rising, are_apart, lists_if, names_in};
+ghost use Rattle.std.specs.Prelude.{◌≡◌, ◌≤◌, ◌||◌, not, true, [], vec_len};
+ghost use Rattle.bench_nodes.specs.Places.{are_rising, are_apart, lists_if, lists_in};
 
 use crate::places::SlotPlaces;
 use memo_core::keys::Kind;
@@ -106,7 +106,7 @@ pub struct NodeTable {
     ghost few_slots: { vec_len slots ≤ 65536 },
     ghost rising: { (not is_rising || are_rising tests.items) ≡ true },
     ghost apart: { (not places.are_listed || are_apart slots.items) ≡ true },
-    ghost listed: { map names_in places.users.items ≡ lists_if places.are_listed slots.items },
+    ghost listed: { lists_in places.are_listed places.users.items ≡ lists_if places.are_listed slots.items },
 }
 
 impl NodeTable {
