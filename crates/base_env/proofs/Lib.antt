@@ -10,3 +10,4 @@ pub mod Covering
 pub mod Every
 pub mod Facts
 pub mod Rising
+pub mod Tails

@@ -3,3 +3,4 @@ pub mod Environment
 pub mod Events
 pub mod Known
 pub mod Names
+pub mod Orders

@@ -75,7 +75,7 @@ fn is_rising(events: &[Event], order: &[u8]) -> bool
 
 /// Adds the pairs of the store at an index of the order and each store of its location behind it.
 /// Where locations rise along the order, those of one location stand together.
-fn put_later(coherence: &mut Rel, events: &[Event], order: &[u8], index: usize, rising: bool)
+pub fn put_later(coherence: &mut Rel, events: &[Event], order: &[u8], index: usize, rising: bool)
     requires inside { index < length order.now }
     requires rising { IsTrue rising → AreRising events.now order.now (length order.now) }
     ensures { IsRelation coherence.new coherence.old.count (Union (Has coherence.old) (Below coherence.old.count (CoherenceFrom events.now order.now index))) }

@@ -7,6 +7,7 @@ mod changing;
 mod env;
 mod fixed;
 mod names;
+mod reordering;
 mod sets;
 
 pub use env::{BaseEnv, base};

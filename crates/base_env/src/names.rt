@@ -10,6 +10,7 @@ ghost use Rattle.base_env.specs.Candidate.{AreSets, AreShared, IsEntered, IsRead
 
 use crate::changing::{write_order, write_reads};
 use crate::fixed::write_fixed;
+use crate::reordering::write_next_order;
 use crate::sets::set_of;
 use bit_relations::{EventSet, Rel};
 use candidates::Combination;
@@ -218,6 +219,34 @@ impl Base {
         })
     }
 
+    /// No predefined names, before the first `hold`.
+    pub fn empty(alloc: Global) -> Base
+        ensures { IsConsistent result }
+    {
+        Base {
+            count: 0,
+            sets: Vec::new(alloc),
+            shared: Vec::new(alloc),
+            reads_from: Rel::empty(0),
+            read_by: Rel::empty(0),
+            coherence: Rel::empty(0),
+            from_reads: Rel::empty(0),
+        }
+    }
+
+    /// Goes over to some of the predefined names, before the next `enter`. Only these may be asked for: sets and
+    /// relations of other names may be empty. Errors: want of memory.
+    pub fn hold(&mut self, alloc: Global, names: &[Predefined]) -> Result<(), AllocError>
+        ensures known { IsConsistent self.new }
+        ensures sets { OnOk result (set_names self.new.sets ≡ filter is_set names.now) }
+        ensures relations { OnOk result ((name : _) → Contains names.now name → is_set name ≡ false → Gives self.new name) }
+    {
+        let _count = self.count();
+        self.sets = sets_of(alloc, names)?;
+        self.shared = shared_of(alloc, names)?;
+        Ok(())
+    }
+
     /// Goes over to the candidates of a combination, before their first `read_from` and `order`.
     pub fn enter(&mut self, combination: &Combination)
         ensures known { IsConsistent self.new }
@@ -274,6 +303,27 @@ impl Base {
         ensures reads_from { self.new.reads_from ≡ self.old.reads_from }
     {
         write_order(&mut self.coherence, self.count, &combination.events, order);
+        self.from_reads.set_composed(&self.read_by, &self.coherence);
+    }
+
+    /// Goes over to the candidates of the combination with this order of the stores, from those with a previous one: only
+    /// what differs is written.
+    pub fn order_after(&mut self, combination: &Combination, previous: &[u8], order: &[u8])
+        ensures known { IsConsistent self.new }
+        ensures ordered { IsOrdered self.old combination.now previous.now → IsOrdered self.new combination.now order.now }
+        ensures count { self.new.count ≡ self.old.count }
+        ensures sets { self.new.sets ≡ self.old.sets }
+        ensures shared { self.new.shared ≡ self.old.shared }
+        ensures reads_from { self.new.reads_from ≡ self.old.reads_from }
+    {
+        let events = &combination.events;
+        write_next_order(
+            &mut self.coherence,
+            &mut self.from_reads,
+            events,
+            previous,
+            order,
+        );
         self.from_reads.set_composed(&self.read_by, &self.coherence);
     }
 

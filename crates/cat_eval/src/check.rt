@@ -11,7 +11,7 @@ use crate::machine::Machine;
 use crate::names::Names;
 use crate::needs::Needs;
 use crate::steady::{is_as_before, steady_after};
-use crate::walk::{Visit, visit_all};
+use crate::walk::{Evaluator, Visit};
 use base_env::Base;
 use binding_graph::{CheckCode, ResolvedItem, Role};
 use candidates::Space;
@@ -22,7 +22,6 @@ use std::alloc::{AllocError, Global};
 struct CheckRun<'a> {
     check: &'a CheckCode,
     inputs: &'a [&'a Column],
-    machine: Machine,
     answers: Vec<bool>,
     /// Up to where the candidates have the inputs of the last one.
     steady: usize,
@@ -45,7 +44,7 @@ fn push_last(answers: &mut Vec<bool>) -> Result<(), AllocError>
 impl Visit for CheckRun<'_> {
     ghost has_taken = { λ first bases run. (run.check ≡ first.check) × (run.inputs ≡ first.inputs) × AreAnswersOver first.check.now first.inputs.now bases run.answers.items × IsSteady first.inputs.now (length run.answers.items) run.steady };
 
-    fn visit(&mut self, base: &Base, again: bool) -> Result<(), AllocError> {
+    fn visit(&mut self, machine: &mut Machine, base: &Base, again: bool) -> Result<(), AllocError> {
         let candidate = self.answers.len();
         let same = is_as_before(again, candidate, self.steady);
         self.steady = steady_after(self.inputs, self.steady, candidate);
@@ -59,10 +58,8 @@ impl Visit for CheckRun<'_> {
             own: &[],
             candidate,
         };
-        self.machine.run(&self.check.code.steps, &names)?;
-        let met = self
-            .machine
-            .is_as_asked(self.check.code.kind, self.check.word, base.count());
+        machine.run(&self.check.code.steps, &names)?;
+        let met = machine.is_as_asked(self.check.code.kind, self.check.word, base.count());
         self.answers.push(met != self.check.negated)?;
         Ok(())
     }
@@ -78,18 +75,33 @@ pub fn eval_check(
 ) -> Result<Vec<bool>, AllocError>
     ensures { IfOk result (λ v. AnswersOf item.now.role inputs.now space.now v.items) }
 {
-    match &item.role {
-        Role::Check(check) => {
-            let mut run = CheckRun {
-                check,
-                inputs,
-                machine: Machine::new(alloc),
-                answers: Vec::new(alloc),
-                steady: 0,
-            };
-            visit_all(alloc, space, &Needs::of(alloc, item)?, &mut run)?;
-            Ok(run.answers)
+    let mut evaluator = Evaluator::new(alloc);
+    evaluator.check(alloc, item, space, inputs)
+}
+
+impl Evaluator {
+    /// As `eval_check`.
+    pub fn check(
+        &mut self,
+        alloc: Global,
+        item: &ResolvedItem,
+        space: &Space,
+        inputs: &[&Column],
+    ) -> Result<Vec<bool>, AllocError>
+        ensures { IfOk result (λ v. AnswersOf item.now.role inputs.now space.now v.items) }
+    {
+        match &item.role {
+            Role::Check(check) => {
+                let mut run = CheckRun {
+                    check,
+                    inputs,
+                    answers: Vec::new(alloc),
+                    steady: 0,
+                };
+                self.visit_all(alloc, space, &Needs::of(alloc, item)?, &mut run)?;
+                Ok(run.answers)
+            }
+            Role::Group { .. } | Role::Silent => Ok(Vec::new(alloc)),
         }
-        Role::Group { .. } | Role::Silent => Ok(Vec::new(alloc)),
     }
 }

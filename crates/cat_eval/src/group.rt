@@ -14,10 +14,11 @@ ghost use Rattle.cat_eval.specs.Steady.{IsSteady, Repeats};
 ghost use Rattle.cat_eval.specs.Values.{Adds, IsFor, column_len};
 
 use crate::column::Column;
+use crate::machine::Machine;
 use crate::needs::Needs;
 use crate::solver::Solver;
 use crate::steady::{is_as_before, steady_after};
-use crate::walk::{Visit, visit_all};
+use crate::walk::{Evaluator, Visit};
 use base_env::Base;
 use binding_graph::{Body, Kind, ResolvedItem, Role};
 use bit_relations::{EventSet, Rel};
@@ -104,6 +105,7 @@ impl GroupRun<'_> {
     /// Evaluates one body.
     fn evaluate_one(
         &mut self,
+        machine: &mut Machine,
         base: &Base,
         candidate: usize,
         position: usize,
@@ -117,33 +119,43 @@ impl GroupRun<'_> {
         let bodies = self.bodies;
         let inputs = self.inputs;
         self.solver
-            .evaluate(&bodies[position], base, inputs, candidate)?;
-        let set = self.solver.set(base.count());
-        put(&mut self.columns, position, &set, self.solver.relation())?;
+            .evaluate(machine, &bodies[position], base, inputs, candidate)?;
+        let set = machine.set(base.count());
+        put(&mut self.columns, position, &set, machine.relation())?;
         Ok(())
     }
 
     /// Evaluates each body once.
-    fn evaluate_each(&mut self, base: &Base, candidate: usize) -> Result<(), AllocError>
+    fn evaluate_each(
+        &mut self,
+        machine: &mut Machine,
+        base: &Base,
+        candidate: usize,
+    ) -> Result<(), AllocError>
         ensures fixed { (self.new.bodies ≡ self.old.bodies) × (self.new.inputs ≡ self.old.inputs) × (self.new.recursive ≡ self.old.recursive) × (self.new.solver.own ≡ self.old.solver.own) × (self.new.steady ≡ self.old.steady) }
         ensures long { length self.new.columns.items ≡ length self.old.columns.items }
         ensures added { OnOk result (self.old.solver.own.items ≡ [] → (j : ℕ) → j < length self.old.bodies.now → j < length self.old.columns.items → (c : Column) (b : Body) → (s : Events) × (r : Relation) × Adds (slice_index_or self.old.columns.items j c) (slice_index_or self.new.columns.items j c) s r × IsMeaningOver (slice_index_or self.old.bodies.now j b).code.kind (slice_index_or self.old.bodies.now j b).code.steps.items self.old.inputs.now base.now candidate s r) }
     {
         for position in 0..self.bodies.len() {
-            self.evaluate_one(base, candidate, position)?;
+            self.evaluate_one(machine, base, candidate, position)?;
         }
         Ok(())
     }
 
     /// Makes the names the least values that satisfy the equations.
-    fn solve(&mut self, base: &Base, candidate: usize) -> Result<(), AllocError>
+    fn solve(
+        &mut self,
+        machine: &mut Machine,
+        base: &Base,
+        candidate: usize,
+    ) -> Result<(), AllocError>
         ensures fixed { (self.new.bodies ≡ self.old.bodies) × (self.new.inputs ≡ self.old.inputs) × (self.new.recursive ≡ self.old.recursive) × (length self.new.solver.own.items ≡ length self.old.solver.own.items) × (self.new.steady ≡ self.old.steady) }
         ensures long { length self.new.columns.items ≡ length self.old.columns.items }
         ensures added { OnOk result ((j : ℕ) → j < length self.old.solver.own.items → j < length self.old.columns.items → (c : Column) → (s : Events) × Adds (slice_index_or self.old.columns.items j c) (slice_index_or self.new.columns.items j c) s (slice_index_or self.new.solver.own.items j no_slot)) }
         ensures least { OnOk result (length self.old.solver.own.items ≡ length self.old.bodies.now → (trees : List RelTree) → AreCodes trees self.old.bodies.now → AreMonotone trees → IsLeast base.now.count (EventsIn base.now self.old.inputs.now candidate) (PairsOutside base.now self.old.inputs.now candidate) trees self.new.solver.own.items) }
     {
         self.solver
-            .solve(self.bodies, base, self.inputs, candidate)?;
+            .solve(machine, self.bodies, base, self.inputs, candidate)?;
         put_all(&mut self.columns, self.solver.values(), base.count())?;
         Ok(())
     }
@@ -152,7 +164,7 @@ impl GroupRun<'_> {
 impl Visit for GroupRun<'_> {
     ghost has_taken = { λ first bases run. (run.bodies ≡ first.bodies) × (run.inputs ≡ first.inputs) × (run.recursive ≡ first.recursive) × HasOwn first.recursive first.bodies.now run.solver.own.items × AreColumnsOver first.recursive first.bodies.now first.inputs.now bases run.columns.items × (0 < length first.bodies.now → IsSteady first.inputs.now (length bases) run.steady) };
 
-    fn visit(&mut self, base: &Base, again: bool) -> Result<(), AllocError> {
+    fn visit(&mut self, machine: &mut Machine, base: &Base, again: bool) -> Result<(), AllocError> {
         let candidate = candidate_count(&self.columns);
         let same = is_as_before(again, candidate, self.steady);
         self.steady = steady_after(self.inputs, self.steady, candidate);
@@ -161,9 +173,9 @@ impl Visit for GroupRun<'_> {
             return Ok(());
         }
         if self.recursive {
-            self.solve(base, candidate)?;
+            self.solve(machine, base, candidate)?;
         } else {
-            self.evaluate_each(base, candidate)?;
+            self.evaluate_each(machine, base, candidate)?;
         }
         Ok(())
     }
@@ -215,19 +227,36 @@ pub fn eval_group(
     ensures values { IfOk result (λ v. ColumnsOf item.now.role inputs.now space.now v.items) }
     ensures long { IfOk result (λ v. length v.items ≡ name_count item.now.role) }
 {
-    match &item.role {
-        Role::Group { recursive, bodies } => {
-            let mut run = GroupRun {
-                bodies,
-                inputs,
-                recursive: *recursive,
-                solver: solver_of(alloc, *recursive, bodies)?,
-                columns: columns_of(alloc, bodies)?,
-                steady: 0,
-            };
-            visit_all(alloc, space, &Needs::of(alloc, item)?, &mut run)?;
-            Ok(run.columns)
+    let mut evaluator = Evaluator::new(alloc);
+    evaluator.group(alloc, item, space, inputs)
+}
+
+impl Evaluator {
+    /// As `eval_group`.
+    pub fn group(
+        &mut self,
+        alloc: Global,
+        item: &ResolvedItem,
+        space: &Space,
+        inputs: &[&Column],
+    ) -> Result<Vec<Column>, AllocError>
+        ensures values { IfOk result (λ v. ColumnsOf item.now.role inputs.now space.now v.items) }
+        ensures long { IfOk result (λ v. length v.items ≡ name_count item.now.role) }
+    {
+        match &item.role {
+            Role::Group { recursive, bodies } => {
+                let mut run = GroupRun {
+                    bodies,
+                    inputs,
+                    recursive: *recursive,
+                    solver: solver_of(alloc, *recursive, bodies)?,
+                    columns: columns_of(alloc, bodies)?,
+                    steady: 0,
+                };
+                self.visit_all(alloc, space, &Needs::of(alloc, item)?, &mut run)?;
+                Ok(run.columns)
+            }
+            Role::Check(_) | Role::Silent => Ok(Vec::new(alloc)),
         }
-        Role::Check(_) | Role::Silent => Ok(Vec::new(alloc)),
     }
 }

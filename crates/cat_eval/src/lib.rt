@@ -20,3 +20,4 @@ mod walk;
 pub use check::eval_check;
 pub use column::Column;
 pub use group::eval_group;
+pub use walk::Evaluator;

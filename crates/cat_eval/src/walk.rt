@@ -9,11 +9,19 @@ ghost use Rattle.cat_eval.specs.Candidates.{reading_so, reading_in};
 ghost use Rattle.cat_eval.specs.Steady.{EndsWith};
 ghost use Rattle.cat_eval.specs.Worlds.{AreHeld, IsReady, AreWorlds};
 
+use crate::machine::Machine;
 use crate::needs::Needs;
 use crate::shape::is_same_shape;
 use base_env::Base;
 use candidates::{Combination, Space};
 use std::alloc::{AllocError, Global};
+
+/// Where items are evaluated, one after another: each uses the memory of the ones before.
+#[derive(Drop)]
+pub struct Evaluator {
+    base: Base,
+    machine: Machine,
+}
 
 /// What is done with each candidate.
 pub(crate) trait Visit {
@@ -22,8 +30,23 @@ pub(crate) trait Visit {
     ghost has_taken: { Self → List Known → Self → Type 0 };
 
     /// Takes the next candidate, of which the predefined names are given, and whether they are those of the one before.
-    fn visit(&mut self, base: &Base, again: bool) -> Result<(), AllocError>
+    fn visit(&mut self, machine: &mut Machine, base: &Base, again: bool) -> Result<(), AllocError>
         ensures { (first : _) (bases : List Known) → (IsTrue again → EndsWith bases base.now) → has_taken first bases self.old → OnOk result (has_taken first (bases ++ base.now ∷ []) self.new) };
+}
+
+/// Goes over to an order of the stores, from a previous one where it is given.
+fn put_order(base: &mut Base, combination: &Combination, previous: Option<&[u8]>, order: &[u8])
+    ensures count { base.new.count ≡ base.old.count }
+    ensures known { IsConsistent base.new }
+    ensures sets { base.new.sets ≡ base.old.sets }
+    ensures shared { base.new.shared ≡ base.old.shared }
+    ensures reads_from { base.new.reads_from ≡ base.old.reads_from }
+    ensures ordered { IfSome previous.entry (λ earlier. IsOrdered base.old combination.now earlier.now) → IsOrdered base.new combination.now order.now }
+{
+    match previous {
+        Some(earlier) => base.order_after(combination, earlier, order),
+        None => base.order(combination, order),
+    }
 }
 
 /// Goes over to an order of the stores, where a name changes with it. Of a base that is that of the last candidate it says
@@ -32,16 +55,17 @@ fn go_to_order(
     needs: &Needs,
     base: &mut Base,
     combination: &Combination,
+    previous: Option<&[u8]>,
     order: &[u8],
     again: bool,
 ) -> bool
     ensures kept { IsTrue result → IsTrue again × (base.new ≡ base.old) }
     ensures ready { IsReady needs.now.names.items base.old combination.now → IsReady needs.now.names.items base.new combination.now }
     ensures reading { (sources : List ℕ) → IsReading base.old combination.now sources → IsReading base.new combination.now sources }
-    ensures ordered { IsTrue needs.now.orders → IsOrdered base.new combination.now order.now }
+    ensures ordered { IsTrue needs.now.orders → IfSome previous.entry (λ earlier. IsOrdered base.old combination.now earlier.now) → IsOrdered base.new combination.now order.now }
 {
     if needs.orders {
-        base.order(combination, order);
+        put_order(base, combination, previous, order);
         return false;
     }
     again
@@ -93,6 +117,7 @@ fn visit_orders<V: Visit>(
     combination: &Combination,
     needs: &Needs,
     base: &mut Base,
+    machine: &mut Machine,
     again: bool,
     visitor: &mut V,
 ) -> Result<bool, AllocError>
@@ -101,9 +126,11 @@ fn visit_orders<V: Visit>(
     ensures worlds { (sources : List ℕ) → (IsTrue needs.now.reads → IsReading base.old combination.now sources) → (first : _) (bases : List Known) → (IsTrue again → EndsWith bases base.old) → V.has_taken first bases visitor.old → IfOk result (λ ends. (more : List Known) × AreWorlds needs.now.names.items needs.now.reads needs.now.orders more (reading_so combination.now sources combination.now.orders.items) × V.has_taken first (bases ++ more) visitor.new × (IsTrue ends → EndsWith (bases ++ more) base.new)) }
 {
     let mut again = again;
+    let mut previous: Option<&[u8]> = None;
     for order in &combination.orders {
-        let same = go_to_order(needs, base, combination, order, again);
-        visitor.visit(base, same)?;
+        let same = go_to_order(needs, base, combination, previous, order, again);
+        previous = Some(order);
+        visitor.visit(machine, base, same)?;
         again = true;
     }
     Ok(again)
@@ -114,6 +141,7 @@ fn visit_combination<V: Visit>(
     combination: &Combination,
     needs: &Needs,
     base: &mut Base,
+    machine: &mut Machine,
     again: bool,
     visitor: &mut V,
 ) -> Result<bool, AllocError>
@@ -124,27 +152,53 @@ fn visit_combination<V: Visit>(
     let mut again = again;
     for sources in &combination.sources {
         let same = go_to_sources(needs, base, combination, sources, again);
-        again = visit_orders(combination, needs, base, same, visitor)?;
+        again = visit_orders(combination, needs, base, machine, same, visitor)?;
     }
     Ok(again)
 }
 
-/// Visits all candidates of a space, in order, with the predefined names that are needed.
-pub(crate) fn visit_all<V: Visit>(
-    alloc: Global,
+impl Evaluator {
+    /// An evaluator that has evaluated nothing.
+    pub fn new(alloc: Global) -> Evaluator {
+        Evaluator {
+            base: Base::empty(alloc),
+            machine: Machine::new(alloc),
+        }
+    }
+
+    /// Visits all candidates of a space, in order, with the predefined names that are needed.
+    pub(crate) fn visit_all<V: Visit>(
+        &mut self,
+        alloc: Global,
+        space: &Space,
+        needs: &Needs,
+        visitor: &mut V,
+    ) -> Result<(), AllocError>
+        ensures { V.has_taken visitor.old [] visitor.old → OnOk result ((bases : List Known) × AreWorlds needs.now.names.items needs.now.reads needs.now.orders bases (candidates_in space.now.combinations.items) × V.has_taken visitor.old bases visitor.new) }
+    {
+        self.base.hold(alloc, &needs.names)?;
+        visit_space(space, needs, &mut self.base, &mut self.machine, visitor)
+    }
+}
+
+/// Visits all candidates of a space, in order, with predefined names that are held.
+fn visit_space<V: Visit>(
     space: &Space,
     needs: &Needs,
+    base: &mut Base,
+    machine: &mut Machine,
     visitor: &mut V,
 ) -> Result<(), AllocError>
+    requires known { IsConsistent base.old }
+    requires held { AreHeld needs.now.names.items base.old }
     ensures { V.has_taken visitor.old [] visitor.old → OnOk result ((bases : List Known) × AreWorlds needs.now.names.items needs.now.reads needs.now.orders bases (candidates_in space.now.combinations.items) × V.has_taken visitor.old bases visitor.new) }
 {
-    let mut base = Base::of_names(alloc, &needs.names)?;
     let mut entered = None;
     let mut again = false;
     for combination in &space.combinations {
-        let same = go_to_combination(entered, &mut base, combination, again);
+        let same = go_to_combination(entered, base, combination, again);
         entered = Some(combination);
-        again = visit_combination(combination, needs, &mut base, same, visitor)?;
+        again = visit_combination(combination, needs, base, machine, same, visitor)?;
     }
     Ok(())
 }

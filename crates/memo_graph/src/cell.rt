@@ -15,7 +15,7 @@ ghost use Rattle.memo_graph.specs.Cell.{IsSaid, IsCell, IsEvaluationBy, IsEvalua
 
 use binding_graph::{CheckCode, Input, ResolveFault, Resolved, ResolvedItem, Role, resolve, used};
 use candidates::{Space, SpaceFault, space};
-use cat_eval::{Column, eval_check, eval_group};
+use cat_eval::{Column, Evaluator};
 use cat_values::ModelText;
 use litmus_printing::print_condition;
 use litmus_values::Test;
@@ -91,6 +91,7 @@ pub fn inputs<'c>(
 // The values of a group's names.
 fn group_columns(
     alloc: Global,
+    evaluator: &mut Evaluator,
     space: &Space,
     item: &ResolvedItem,
     columns: &[Vec<Column>],
@@ -98,12 +99,13 @@ fn group_columns(
     ensures { IfOk result (λ v. (inputs : List (Bor Column)) × AreFound columns.now item.now.inputs.items inputs × ColumnsOf item.now.role inputs space.now v.items) }
 {
     let inputs = inputs(alloc, columns, item)?;
-    eval_group(alloc, item, space, &inputs)
+    evaluator.group(alloc, item, space, &inputs)
 }
 
 // Whether the check holds, for each candidate.
 fn check_answers(
     alloc: Global,
+    evaluator: &mut Evaluator,
     space: &Space,
     item: &ResolvedItem,
     columns: &[Vec<Column>],
@@ -111,7 +113,7 @@ fn check_answers(
     ensures { IfOk result (λ v. (inputs : List (Bor Column)) × AreFound columns.now item.now.inputs.items inputs × AnswersOf item.now.role inputs space.now v.items) }
 {
     let inputs = inputs(alloc, columns, item)?;
-    eval_check(alloc, item, space, &inputs)
+    evaluator.check(alloc, item, space, &inputs)
 }
 
 // The answers of one check more.
@@ -136,6 +138,7 @@ fn push_flag<'a>(
 
 fn answer_check<'a>(
     alloc: Global,
+    evaluator: &mut Evaluator,
     space: &Space,
     at: usize,
     item: &ResolvedItem,
@@ -144,7 +147,7 @@ fn answer_check<'a>(
 ) -> Result<(), AllocError>
     ensures { item.now.role ≡ Role.Check check.now → OnOk result (IsAnswered space.now at item.now answers.old answers.new) }
 {
-    let holds = check_answers(alloc, space, item, &answers.columns)?;
+    let holds = check_answers(alloc, evaluator, space, item, &answers.columns)?;
     match &check.flag {
         Some(name) => push_flag(&mut answers.flags, name, holds),
         None => push_check(&mut answers.checks, holds),
@@ -163,6 +166,7 @@ fn put_columns(columns: &mut Vec<Vec<Column>>, at: usize, found: Vec<Column>)
 
 fn answer_item<'a>(
     alloc: Global,
+    evaluator: &mut Evaluator,
     space: &Space,
     at: usize,
     item: &'a ResolvedItem,
@@ -172,11 +176,11 @@ fn answer_item<'a>(
 {
     match &item.role {
         Role::Group { .. } => {
-            let found = group_columns(alloc, space, item, &answers.columns)?;
+            let found = group_columns(alloc, evaluator, space, item, &answers.columns)?;
             put_columns(&mut answers.columns, at, found);
             Ok(())
         }
-        Role::Check(check) => answer_check(alloc, space, at, item, check, answers),
+        Role::Check(check) => answer_check(alloc, evaluator, space, at, item, check, answers),
         Role::Silent => Ok(()),
     }
 }
@@ -190,10 +194,18 @@ pub fn answers<'a>(
     ensures said { let items = resolved.now.items.items in AreSound items → IfOk result (λ a. AreSaid space.now (reverse items) (checks_of a) (flags_of a)) }
     ensures columns { let items = resolved.now.items.items in AreSound items → IfOk result (HasAllColumns space.now items) }
 {
+    let mut evaluator = Evaluator::new(alloc);
     let mut answers = no_answers(alloc, resolved.items.len())?;
     let indexes = used(alloc, resolved)?;
     for at in &indexes {
-        answer_item(alloc, space, *at, &resolved.items[*at], &mut answers)?;
+        answer_item(
+            alloc,
+            &mut evaluator,
+            space,
+            *at,
+            &resolved.items[*at],
+            &mut answers,
+        )?;
     }
     Ok(answers)
 }

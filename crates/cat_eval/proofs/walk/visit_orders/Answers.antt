@@ -18,7 +18,7 @@ loop-order-preserved g c =
           let world : IsWorld needs.names.items needs.reads needs.orders base (combination, (sources, c.order-item.result.items)) = record {
             ready = c.go_to_order-same.ensures.ready before.0;
             reading = λ reads. c.go_to_order-same.ensures.reading sources (before.1 sources (reading reads));
-            ordered = λ orders. rw c.deref.ensures.value at (c.go_to_order-same.ensures.ordered orders);
+            ordered = λ orders. rw c.deref.ensures.value at (c.go_to_order-same.ensures.ordered orders (before.3 orders));
           } in (
             more ++ base ∷ [],
             rw (map_step {Y = Candidate} (λ order. (combination, (sources, order.items))) combination.orders.items c.loop-order.order-index c.order-item.result (rw c.deref-order-items.ensures.value at c.loop-order-test.true) (rw c.deref-order-items.ensures.value at c.order-item.is))
@@ -26,6 +26,7 @@ loop-order-preserved g c =
             rw (append_assoc bases more (base ∷ [])) at (c.in_ok-visit.ensures first (bases ++ more) (λ is. rw (c.go_to_order-same.ensures.kept is).1 (last (c.go_to_order-same.ensures.kept is).0)) was),
             (λ _. (bases ++ more, sym (append_assoc bases more (base ∷ [])))),
           )),
+      (λ orders. rw c.deref-in-loop-order.ensures.value (rw c.deref.ensures.value at (c.go_to_order-same.ensures.ordered orders (before.3 orders)))),
     )
 
 pub returns-clause-worlds : goal.returns-clause-worlds

@@ -12,6 +12,6 @@ returns-clause-added c = λ none lt col b.
       c.relation.result.now,
       c.in_ok-put.ensures.added lt col,
       rw (← read)
-          (meant_is run.inputs.now c.args.base.now c.args.candidate body.code.steps.items c.set-set.result c.relation.result.now (reverse c.evaluate.new.self.machine.sets.items) c.evaluate.new.self.machine.relations
+          (meant_is run.inputs.now c.args.base.now c.args.candidate body.code.steps.items c.set-set.result c.relation.result.now (reverse c.evaluate.new.machine.sets.items) c.evaluate.new.machine.relations
           c.in_ok-evaluate.ensures.set (rw none at c.in_ok-evaluate.ensures.relation) c.set-set.ensures c.relation.ensures body.code.kind),
     )

@@ -17,28 +17,26 @@ loop-position-preserved c =
     let before = l.invariant in
     elim c.if-has_name.branch [
       | then-has_name+then-position-len+in_ok-evaluate+then-keep w ↦
-          let same = w.in_ok-evaluate.ensures.own in
-          let less : rooms w.keep.new.self.own.items < rooms l.self.own.items = rw same at (w.keep.ensures.grown w.if-keep.true) in
+          let less : rooms w.keep.new.self.own.items < rooms l.self.own.items = w.keep.ensures.grown w.if-keep.true in
           rw (w.self-is, w.grew-is) (
             (λ _. omega (arith, less, before.1)),
             omega (arith, less, before.1),
             w.with_name-grew.type_inv,
             (λ trees codes fit first.
-                turn_grows base.count events pairs trees c.args.bodies.now l.self.own.items c.args.names l.position l.grew w.index-bodies-position.result w.evaluate.new.self.machine.relations
+                turn_grows base.count events pairs trees c.args.bodies.now l.self.own.items c.args.names l.position l.grew w.index-bodies-position.result w.evaluate.new.machine.relations
                 codes fit (before.3 trees codes fit first) c.loop-position-test.true w.index-bodies-position.is w.in_ok-evaluate.ensures.relation
-                w.keep.new.self.own.items w.with_name-grew.result (rw same at w.keep.ensures.value) w.with_name-grew.ensures),
+                w.keep.new.self.own.items w.with_name-grew.result w.keep.ensures.value w.with_name-grew.ensures),
           )
       | then-has_name+then-position-len+in_ok-evaluate+else-keep w ↦
-          let same = w.in_ok-evaluate.ensures.own in
-          let kept : w.keep.new.self.own.items ≡ l.self.own.items = rw same at (w.keep.ensures.kept w.if-keep.false) in
+          let kept : w.keep.new.self.own.items ≡ l.self.own.items = w.keep.ensures.kept w.if-keep.false in
           rw (w.self-is, w.grew-is) (
             (λ some. rw kept (before.0 some)),
             rw kept before.1,
             before.2,
             (λ trees codes fit first.
-                turn_stays base.count events pairs trees c.args.bodies.now l.self.own.items c.args.names l.position l.grew w.index-bodies-position.result w.evaluate.new.self.machine.relations
+                turn_stays base.count events pairs trees c.args.bodies.now l.self.own.items c.args.names l.position l.grew w.index-bodies-position.result w.evaluate.new.machine.relations
                 codes fit (before.3 trees codes fit first) c.loop-position-test.true w.index-bodies-position.is w.in_ok-evaluate.ensures.relation
-                w.keep.new.self.own.items kept (rw same at w.keep.ensures.value)),
+                w.keep.new.self.own.items kept w.keep.ensures.value),
           )
       | else-has_name w ↦
           rw (w.self-is, w.grew-is) (

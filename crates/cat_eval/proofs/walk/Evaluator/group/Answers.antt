@@ -6,7 +6,7 @@ use Rattle.cat_eval.specs.Needed.{AreListed, bodies_read, bodies_order, bodies_n
 use Rattle.cat_eval.proofs.Columns.{columns_none, columns_named}
 use Rattle.cat_eval.proofs.Entering.{worlds_listed}
 use Rattle.cat_eval.proofs.Exact.{columns_exact}
-use Rattle.cat_eval.proofs.group.eval_group.Goals as goal
+use Rattle.cat_eval.proofs.walk.Evaluator.group.Goals as goal
 
 pub returns-in_ok-visit_all-in-Group-clause-values : goal.returns-in_ok-visit_all-in-Group-clause-values
 returns-in_ok-visit_all-in-Group-clause-values c =

@@ -5,7 +5,7 @@ use Rattle.base_env.specs.Candidate.{IsEntered}
 use Rattle.cat_eval.specs.Candidates.{of_combinations}
 use Rattle.cat_eval.specs.Steady.{EndsWith}
 use Rattle.cat_eval.specs.Worlds.{AreHeld, AreWorlds}
-use Rattle.cat_eval.proofs.walk.visit_all.Given as goal
+use Rattle.cat_eval.proofs.walk.visit_space.Given as goal
 
 abbrev pub invariant-loop-combination : goal.invariant-loop-combination
 invariant-loop-combination g l =

@@ -2,18 +2,16 @@ use Rattle.std.proofs.Common.{◌≡◌, ◌++◌, [], arith, take}
 use Rattle.std.proofs.lemmas.List.{take_all}
 use Rattle.std.proofs.lemmas.Bool.{false≢true}
 use Rattle.cat_eval.specs.Candidates.{reading_in}
-use Rattle.cat_eval.proofs.Entering.{held_of, worlds_more, flat_step, listed}
-use Rattle.cat_eval.proofs.walk.visit_all.Goals as goal
+use Rattle.cat_eval.proofs.Entering.{worlds_more, flat_step, listed}
+use Rattle.cat_eval.proofs.walk.visit_space.Goals as goal
 
 pub loop-combination-init : goal.loop-combination-init
-loop-combination-init g c =
-    let made = c.in_ok-base.ensures in
-    let names = c.args.needs.now.names.items in (
-      made.known,
-      held_of c.in_ok-base.base names (rw c.deref.ensures.value at made.sets) (rw c.deref.ensures.value at made.relations),
-      tt,
-      (λ given. ([], tt, given, (λ no. absurd (false≢true no)))),
-    )
+loop-combination-init g c = (
+  c.requires.known,
+  c.requires.held,
+  tt,
+  (λ given. ([], tt, given, (λ no. absurd (false≢true no)))),
+)
 
 pub loop-combination-preserved : goal.loop-combination-preserved
 loop-combination-preserved g c =
