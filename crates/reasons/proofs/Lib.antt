@@ -1,5 +1,5 @@
-pub mod Refusing
-pub mod Listing
 pub mod Stepping
 pub mod Gathering
 pub mod Sound
+pub mod Refusing
+pub mod Listing

@@ -19,4 +19,4 @@ loop-leg-preserved c =
     ∙ map-append leg_of (take i legs) (leg ∷ []) in
     let more = zip_push R (map leg_of (take i legs)) c.loop-leg.steps.items (leg_of leg) c.in_ok-step.field-0 c.loop-leg.invariant c.in_ok-step.ensures in
     subst (λ (xs : List StepLeg). AllZip R xs c.push.new.self.items) (sym {A = List StepLeg} next)
-    (subst (λ (ys : List ToldStep). AllZip R (map leg_of (take i legs) ++ leg_of leg ∷ []) ys) (sym c.in_ok-push.ensures.items) more)
+    (subst (λ (ys : List ToldStep). AllZip R (map leg_of (take i legs) ++ leg_of leg ∷ []) ys) (sym {A = List ToldStep} c.in_ok-push.ensures.items) more)
