@@ -1,4 +1,4 @@
--- What `why` answers to a model's text and a test's text.
+-- What `draw` answers to a model's text and a test's text.
 use Rattle.std.specs.Prelude.{ℕ, List, Bool, true, false, Option, Result, Ok, Err}
 use Rattle.std.specs.Io.KnownBytes.{Keeps, Appends}
 use Rattle.litmus_values.specs.declared.test.Test.{Test}
@@ -20,8 +20,8 @@ pub record AreRead (model test : List ℕ) : Type 0 where
   pub known : Test
   pub test_read : ReadsTest test (content_of known)
 
--- Whether a text is refused, and where one is, that the answer is the line of the first. Which reasons are told of a test is said
--- by no definition.
+-- Whether a text is refused, and where one is, that the answer is the line of the first. Which executions are drawn is said by no
+-- definition.
 abbrev pub IsReasoned : List ℕ → List ℕ → List ℕ → Bool → Type 0
 IsReasoned model test text false = AreRead model test
 IsReasoned model test text true = IsAnswer model test text true

@@ -496,7 +496,9 @@ fn why_command<'a>(alloc: Global) -> Result<Command<'a>, AllocError> {
     let model = path(alloc, "MODEL", "The file of a model");
     let test = path(alloc, "TEST", "The file of a test");
     Command::new(alloc, "why")
-        .about("Why a model forbids what a test asks for, or an execution that it keeps")
+        .about(
+            "Why a model forbids what a test asks for, or an execution that it keeps; with --forbidden both, with --deep each name with the name inside it",
+        )
         .arg(model)?
         .arg(test)
 }

@@ -20,6 +20,7 @@ pub use file::TextFile;
 pub use form::{Drawn, Form, form_of};
 pub use listening::{AnswerListener, NoListener, RefusalTeller};
 pub use reading::{NamedModel, refusal_lines};
+pub use reasons::Asked;
 pub use report::{Report, difference_report, table_report, write_report};
 pub use script::session;
 pub use session_script::{ByteSource, CallFailed, MemorySource, OfRead, ReadFault, read_front};

@@ -3,6 +3,7 @@
 ghost use Rattle.std.specs.Prelude.{◌≡◌, ◌≢◌, ◌+◌, ◌-◌, ◌<◌, ◌^◌, true, IfOk, IfSome, take};
 ghost use Rattle.litmusbench.specs.Answer.{IsAnswer, IsReadFault, IsWritten, IsStreamed};
 ghost use Rattle.litmusbench.specs.Reasoned.{IsReasoned, IsReasonWritten};
+ghost use Rattle.litmusbench.specs.Whys.{IsWhyAnswer, IsWhyWritten};
 ghost use Rattle.session_edits.specs.Answer.{refused_line};
 
 use crate::cut::cut_at_dot;
@@ -11,6 +12,7 @@ use crate::form::Drawn;
 use crate::listening::AnswerListener;
 use crate::sink::{ByteSink, write_whole};
 use crate::texts::{draw_report, eval, why_report};
+use reasons::Asked;
 use session_edits::put_refusal;
 use session_script::{ByteSource, ReadFault, read_front};
 use std::alloc::{AllocError, Global};
@@ -75,10 +77,10 @@ pub fn write_answer<W: ByteSink>(
     }
 }
 
-fn why_answer(alloc: Global, model: &[u8], test: &[u8]) -> Result<Answer, AllocError>
-    ensures { IfOk result (λ a. IsReasoned model.now test.now a.text.items a.is_refused) }
+fn why_answer(alloc: Global, asked: Asked, model: &[u8], test: &[u8]) -> Result<Answer, AllocError>
+    ensures { IfOk result (λ a. IsWhyAnswer asked model.now test.now a.text.items a.is_refused) }
 {
-    match why_report(alloc, model, test) {
+    match why_report(alloc, asked, model, test) {
         Ok(text) => Ok(Answer {
             text,
             is_refused: false,
@@ -93,20 +95,21 @@ fn why_answer(alloc: Global, model: &[u8], test: &[u8]) -> Result<Answer, AllocE
 /// was refused. Errors: those of `write_answer`.
 pub fn write_why<W: ByteSink>(
     alloc: Global,
+    asked: Asked,
     model: &[u8],
     test: &[u8],
     sink: &mut W,
 ) -> Result<bool, SessionFault>
     requires { W.failed_calls sink.old < 2 ^ 64 - 1 }
     // The answer is written, or a front of it where a write failed, and else nothing.
-    ensures written { IsReasonWritten model.now test.now (W.contents sink.old) (W.contents sink.new) result }
+    ensures written { IsWhyWritten asked model.now test.now (W.contents sink.old) (W.contents sink.new) result }
     // `Write` comes after one failed call, and all else after none.
     ensures failed { result ≡ Err SessionFault.Write → W.failed_calls sink.new ≡ W.failed_calls sink.old + 1 }
     ensures same { result ≢ Err SessionFault.Write → W.failed_calls sink.new ≡ W.failed_calls sink.old }
     // Nothing is read.
     ensures fault { result ≢ Err SessionFault.Read }
 {
-    let answer = match why_answer(alloc, model, test) {
+    let answer = match why_answer(alloc, asked, model, test) {
         Ok(answer) => answer,
         Err(_) => return Err(SessionFault::Memory),
     };

@@ -8,6 +8,7 @@ ghost use Rattle.litmus_grammar.specs.Texts.{ReadsTest};
 ghost use Rattle.litmus_values.specs.Value.{content_of};
 ghost use Rattle.litmusbench.specs.Answer.{IsLogOf, IsLog, IsRefusal, IsOfModel, IsOfTest};
 ghost use Rattle.litmusbench.specs.Reasoned.{AreRead};
+ghost use Rattle.litmusbench.specs.Whys.{IsWhyOf};
 
 use crate::fault::EvalFault;
 use crate::form::Drawn;
@@ -15,7 +16,7 @@ use cat_syntax::{CatFault, ModelText, read_model};
 use compare_report::outcome_log;
 use litmus_ppc::{LitmusFault, Test, read_test};
 use memo_graph::eval_cell;
-use reasons::{Wanted, draw, why};
+use reasons::{Asked, Wanted, draw, why};
 use std::alloc::{AllocError, Global};
 
 fn model_of(alloc: Global, text: &[u8]) -> Result<ModelText, EvalFault>
@@ -71,9 +72,14 @@ pub fn eval(alloc: Global, model: &[u8], test: &[u8]) -> Result<Vec<u8>, EvalFau
 
 /// Why the model forbids what the condition of the test asks for, or an execution that it keeps. The
 /// model is read first. Errors: those of `eval`.
-pub fn why_report(alloc: Global, model: &[u8], test: &[u8]) -> Result<Vec<u8>, EvalFault>
-    // A report is of two texts that mean something.
-    ensures read { IfOk result (λ _. AreRead model.now test.now) }
+pub fn why_report(
+    alloc: Global,
+    asked: Asked,
+    model: &[u8],
+    test: &[u8],
+) -> Result<Vec<u8>, EvalFault>
+    // A report is what is said of the test and the model that the texts mean.
+    ensures report { IfOk result (λ text. IsWhyOf asked model.now test.now text.items) }
     // A refusal is that of the first text that means nothing.
     ensures refusal { IfErr result (IsRefusal model.now test.now) }
 {
@@ -85,7 +91,7 @@ pub fn why_report(alloc: Global, model: &[u8], test: &[u8]) -> Result<Vec<u8>, E
         Ok(known) => known,
         Err(fault) => return Err(fault),
     };
-    match why(alloc, &known_test, &known_model) {
+    match why(alloc, asked, &known_test, &known_model) {
         Ok(text) => Ok(text),
         Err(e) => Err(EvalFault::Memory(e)),
     }

@@ -4,7 +4,7 @@
 use clap::Error;
 use clap::error::ErrorKind;
 use litmusbench::{
-    Drawn, Form, OfRead, OfWrite, RefusalTeller, Report, RunEnd, SessionFault, TextFile,
+    Asked, Drawn, Form, OfRead, OfWrite, RefusalTeller, Report, RunEnd, SessionFault, TextFile,
     difference_report, eval_stream, exit_status, form_of, read_text, refusal_lines, session,
     table_report, write_answer, write_drawings, write_report, write_why,
 };
@@ -36,12 +36,6 @@ fn tell_words<R: Eprint>(rt: &R, error: &io::Error) -> RunEnd {
         return tell_fault(rt, SessionFault::Memory);
     }
     let _ = rt.eprintln("error: a word is not UTF-8");
-    RunEnd::Usage
-}
-
-// A form that has no call yet.
-fn tell_unbuilt<R: Eprint>(rt: &R) -> RunEnd {
-    let _ = rt.eprintln("error: this form is not built yet");
     RunEnd::Usage
 }
 
@@ -157,13 +151,14 @@ fn eval_files<R: AllocGlobal + Eprint + Files + Print, E: Print>(
 fn why_files<R: AllocGlobal + Eprint + Files + Print, E: Print>(
     rt: &R,
     errors: &E,
+    asked: Asked,
     model: &str,
     test: &str,
 ) -> Result<bool, SessionFault> {
     let model = read_file(rt, model)?;
     let test = read_file(rt, test)?;
     let mut sink = OfWrite::new(io::writer(rt));
-    let is_refused = write_why(rt.alloc(), &model.text, &test.text, &mut sink)?;
+    let is_refused = write_why(rt.alloc(), asked, &model.text, &test.text, &mut sink)?;
     if is_refused {
         tell_refusal(rt, errors, &model, &test);
     }
@@ -267,10 +262,16 @@ fn answer<R: AllocGlobal + Eprint + Files + Input + Print + Wait, E: Print>(
             Form::Why {
                 model,
                 test,
-                is_forbidden: false,
-                is_deep: false,
+                is_forbidden,
+                is_deep,
             },
-        ) => tell_done(rt, why_files(rt, errors, model, test)),
+        ) => {
+            let asked = Asked {
+                is_forbidden,
+                is_deep,
+            };
+            tell_done(rt, why_files(rt, errors, asked, model, test))
+        }
         Ok(Form::Watch { model, tests }) => tell_done(rt, watch_files(rt, model, tests)),
         Ok(
             Form::Draw {
@@ -280,7 +281,6 @@ fn answer<R: AllocGlobal + Eprint + Files + Input + Print + Wait, E: Print>(
                 most,
             },
         ) => tell_done(rt, draw_files(rt, errors, model, test, drawn, most)),
-        Ok(Form::Why { .. }) => tell_unbuilt(rt),
         Err(error) => tell_usage(rt, &error),
     }
 }

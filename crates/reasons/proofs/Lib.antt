@@ -1,2 +1,5 @@
+pub mod Stepping
+pub mod Gathering
+pub mod Sound
 pub mod Refusing
 pub mod Listing

@@ -1,210 +1,222 @@
 //! Which executions satisfy what a test asks for, and why a model forbids them.
 
-use crate::checks::{all_checks, first_refusal};
+ghost use Rattle.std.specs.Prelude.{◌≡◌, ◌++◌, ◌-◌, ◌^◌, ◌<◌, ◌≤◌, IfOk, OnOk};
+ghost use Rattle.candidates.specs.Space.{candidate_count, IsShown};
+ghost use Rattle.memo_graph.specs.Answers.{AreSound};
+ghost use Rattle.reasons.specs.Checked.{IsFirstRefusal};
+ghost use Rattle.reasons.specs.Outcomes.{IsRefusedFor};
+ghost use Rattle.reasons.specs.Told.{events_from, numbers_from};
+ghost use Rattle.reasons.specs.Views.{AreFoundOf, AreWithKept, AreWithReason, IsAdded, IsOutcome, IsOutcomeIf, case_of, judgement_of, scene_of};
+ghost use Rattle.reasons.specs.Whys.{GoesOn, IsExplained, IsSaid, IsSaidOver, IsWhy, head_text, refusal_text};
+
+use crate::checks::{FirstRefusal, all_checks, first_refusal};
 use crate::instructions::{all_runs, instructions_of};
 use crate::labels::predefined_values;
-use crate::telling::{Judged, Told, reason, told_events};
-use binding_graph::{ModelFault, ResolveFault, Resolved, resolve};
-use candidates::{EvalRefusal, Execution, Space, SpaceFault, space};
+use crate::telling::{Judged, Told, reason_told, told_events};
+use binding_graph::{ResolveFault, Resolved, resolve};
+use candidates::{Execution, Space, SpaceFault, space};
 use cat_values::ModelText;
 use litmus_printing::print_condition;
 use litmus_values::Test;
 use memo_graph::answers;
 use ppc_semantics::Run;
-use reason_text::{Reason, Telling, put_events, put_reason};
+use reason_text::{Findings, Reason, ToldEvent, put_findings};
 use satisfaction::is_satisfied;
 use source_text::{put_bytes, put_decimal};
 use std::alloc::{AllocError, Global};
 use step_labels::NameValues;
 
-/// Executions that are forbidden alike: their reasons differ in values alone.
+/// What is asked of `why`.
+#[derive(Clone, Copy, Debug, PartialEq, Eq)]
+pub struct Asked {
+    /// Whether the reasons are told also where an execution is kept.
+    pub is_forbidden: bool,
+    /// Whether what carries a step is told one level deeper.
+    pub is_deep: bool,
+}
+
+// What comes of a candidate.
 #[derive(Drop)]
-struct Alike {
-    /// The reason without values.
-    key: Vec<u8>,
-    /// That of the first of them.
-    text: Vec<u8>,
-    count: u64,
+enum Outcome {
+    // It does not satisfy the proposition.
+    Other,
+    // It is kept, and has these events.
+    Kept(Vec<ToldEvent>),
+    // It is forbidden.
+    Forbidden(Reason),
 }
 
-/// What is said of the executions that satisfy a proposition.
-#[derive(Drop)]
-struct Findings {
-    kept: u64,
-    /// The events of the first execution that is kept.
-    shown: Vec<u8>,
-    forbidden: u64,
-    reasons: Vec<Alike>,
-}
-
-fn add_reason(reasons: &mut Vec<Alike>, key: Vec<u8>, text: Vec<u8>) -> Result<(), AllocError> {
-    for index in 0..reasons.len() {
-        if reasons[index].key.as_slice() == key.as_slice() {
-            let found = &mut reasons[index];
-            found.count = found.count.saturating_add(1);
-            return Ok(());
-        }
-    }
-    reasons.push(Alike {
-        key,
-        text,
-        count: 1,
-    })?;
-    Ok(())
-}
-
-fn text_of_reason(
-    alloc: Global,
-    telling: Telling<'_>,
-    reason: &Reason,
-) -> Result<Vec<u8>, AllocError> {
-    let mut text = Vec::new(alloc);
-    put_reason(&mut text, telling, reason)?;
-    Ok(text)
-}
-
-fn telling(space: &Space, shows: bool) -> Telling<'_> {
-    Telling {
-        shows,
-        locations: &space.locations,
-        initial_count: space.locations.len(),
-    }
-}
-
-// The numbers of all events that are no initial stores.
-fn program_events(
-    alloc: Global,
-    space: &Space,
-    execution: &Execution,
-) -> Result<Vec<usize>, AllocError> {
+fn numbers_from(alloc: Global, first: usize, end: usize) -> Result<Vec<usize>, AllocError>
+    ensures { IfOk result (λ v. v.items ≡ numbers_from first (end - first)) }
+{
     let mut numbers = Vec::new(alloc);
-    for number in space.locations.len()..execution.events.len() {
+    for number in first..end {
         numbers.push(number)?;
     }
     Ok(numbers)
 }
 
-fn add_kept(
+// The events of a candidate but for the initial stores, which are the first.
+fn program_events(
     alloc: Global,
-    space: &Space,
-    execution: &Execution,
+    initial_count: usize,
     told: Told<'_>,
-    findings: &mut Findings,
-) -> Result<(), AllocError> {
-    if findings.kept == 0 {
-        let numbers = program_events(alloc, space, execution)?;
-        let events = told_events(alloc, told, &numbers)?;
-        put_events(&mut findings.shown, telling(space, true), &events)?;
-    }
-    findings.kept = findings.kept.saturating_add(1);
-    Ok(())
+) -> Result<Vec<ToldEvent>, AllocError>
+    ensures { IfOk result (λ v. v.items ≡ events_from initial_count (scene_of told.entry)) }
+{
+    let numbers = numbers_from(alloc, initial_count, told.events.len())?;
+    told_events(alloc, told, &numbers)
 }
 
-fn add_forbidden(
+// Why a candidate is forbidden.
+fn forbidden(
     alloc: Global,
-    space: &Space,
-    reason: &Reason,
-    findings: &mut Findings,
-) -> Result<(), AllocError> {
-    let key = text_of_reason(alloc, telling(space, false), reason)?;
-    let text = text_of_reason(alloc, telling(space, true), reason)?;
-    findings.forbidden = findings.forbidden.saturating_add(1);
-    add_reason(&mut findings.reasons, key, text)
-}
-
-// One execution that satisfies the proposition.
-fn add_execution(
-    alloc: Global,
-    space: &Space,
     judged: Judged<'_>,
-    execution: &Execution,
+    is_deep: bool,
     told: Told<'_>,
-    findings: &mut Findings,
-) -> Result<(), AllocError> {
-    let Some(refusal) = first_refusal(alloc, judged.checks, told.candidate)? else {
-        return add_kept(alloc, space, execution, told, findings);
-    };
-    if refusal.index < judged.checks.len() {
-        let check = &judged.checks[refusal.index];
-        let reason = reason(alloc, judged, told, check, &refusal)?;
-        add_forbidden(alloc, space, &reason, findings)?;
-    }
-    Ok(())
+    refusal: &FirstRefusal,
+) -> Result<Reason, AllocError>
+    requires { IsFirstRefusal judged.checks.now told.candidate refusal.now }
+    ensures { IfOk result (IsRefusedFor (judgement_of judged.entry is_deep) judged.entry.checks.now (scene_of told.entry) refusal.now) }
+{
+    let check = &judged.checks[refusal.index];
+    reason_told(alloc, judged, is_deep, told, check, &refusal.witness)
 }
 
-fn add_candidate(
+// What comes of a candidate that satisfies the proposition.
+fn judged_outcome(
     alloc: Global,
-    space: &Space,
-    judged: Judged<'_>,
     test: &Test,
+    space: &Space,
+    judged: Judged<'_>,
+    is_deep: bool,
+    told: Told<'_>,
+) -> Result<Outcome, AllocError>
+    ensures { IfOk result (IsOutcomeIf (case_of test.now space.now judged.entry is_deep) (scene_of told.entry)) }
+{
+    match first_refusal(alloc, judged.checks, told.candidate)? {
+        None => Ok(Outcome::Kept(program_events(alloc, space.locations.len(), told)?)),
+        Some(refusal) => Ok(Outcome::Forbidden(forbidden(alloc, judged, is_deep, told, &refusal)?)),
+    }
+}
+
+// What comes of a candidate, given as an execution.
+fn execution_outcome(
+    alloc: Global,
+    test: &Test,
+    space: &Space,
+    judged: Judged<'_>,
+    is_deep: bool,
     runs: &[Vec<Run>],
     candidate: usize,
-    findings: &mut Findings,
-) -> Result<(), AllocError> {
-    let Some(execution) = space.execution(alloc, candidate)? else {
-        return Ok(());
-    };
-    if !is_satisfied(&space.locations, &test.condition.proposition, &execution) {
-        return Ok(());
+    execution: &Execution,
+) -> Result<Outcome, AllocError>
+    requires { IsShown space.now candidate execution.now }
+    ensures { IfOk result (IsOutcome (case_of test.now space.now judged.entry is_deep) candidate) }
+{
+    if !is_satisfied(&space.locations, &test.condition.proposition, execution) {
+        return Ok(Outcome::Other);
     }
-    let instructions = instructions_of(alloc, runs, &execution)?;
+    let instructions = instructions_of(alloc, runs, execution)?;
     let told = Told {
         candidate,
         events: &execution.events,
         instructions: &instructions,
     };
-    add_execution(alloc, space, judged, &execution, told, findings)
+    judged_outcome(alloc, test, space, judged, is_deep, told)
+}
+
+fn outcome_of(
+    alloc: Global,
+    test: &Test,
+    space: &Space,
+    judged: Judged<'_>,
+    is_deep: bool,
+    runs: &[Vec<Run>],
+    candidate: usize,
+) -> Result<Outcome, AllocError>
+    requires { candidate < candidate_count space.now }
+    ensures { IfOk result (IsOutcome (case_of test.now space.now judged.entry is_deep) candidate) }
+{
+    match space.execution(alloc, candidate)? {
+        None => Ok(Outcome::Other),
+        Some(execution) => execution_outcome(
+            alloc, test, space, judged, is_deep, runs, candidate, &execution,
+        ),
+    }
+}
+
+// The findings with one execution more that is kept.
+fn add_kept(findings: &mut Findings, events: Vec<ToldEvent>)
+    requires { findings.old.kept < 2 ^ 64 - 1 }
+    ensures { AreWithKept events.items findings.old findings.new }
+{
+    if findings.kept == 0 {
+        findings.shown = events;
+    }
+    findings.kept += 1;
+}
+
+// The findings with one reason more.
+fn add_forbidden(findings: &mut Findings, reason: Reason) -> Result<(), AllocError>
+    ensures { OnOk result (AreWithReason reason findings.old findings.new) }
+{
+    findings.reasons.push(reason)?;
+    Ok(())
+}
+
+// The findings with one outcome more.
+fn add_outcome(findings: &mut Findings, outcome: Outcome) -> Result<(), AllocError>
+    requires { findings.old.kept < 2 ^ 64 - 1 }
+    ensures { OnOk result (IsAdded outcome findings.old findings.new) }
+{
+    match outcome {
+        Outcome::Other => Ok(()),
+        Outcome::Kept(events) => {
+            add_kept(findings, events);
+            Ok(())
+        }
+        Outcome::Forbidden(reason) => add_forbidden(findings, reason),
+    }
 }
 
 fn findings_of(
     alloc: Global,
+    test: &Test,
     space: &Space,
     judged: Judged<'_>,
-    test: &Test,
-) -> Result<Findings, AllocError> {
+    is_deep: bool,
+) -> Result<Findings, AllocError>
+    requires { candidate_count space.now ≤ 16384 }
+    ensures { IfOk result (AreFoundOf (case_of test.now space.now judged.entry is_deep) (candidate_count space.now)) }
+{
     let runs = all_runs(alloc, test)?;
     let mut findings = Findings {
         kept: 0,
         shown: Vec::new(alloc),
-        forbidden: 0,
         reasons: Vec::new(alloc),
     };
     for candidate in 0..space.len() {
-        add_candidate(alloc, space, judged, test, &runs, candidate, &mut findings)?;
+        let outcome = outcome_of(alloc, test, space, judged, is_deep, &runs, candidate)?;
+        add_outcome(&mut findings, outcome)?;
     }
     Ok(findings)
 }
 
-fn put_count(text: &mut Vec<u8>, word: &[u8], count: u64) -> Result<(), AllocError> {
-    put_bytes(text, word)?;
-    put_decimal(text, count)?;
-    put_bytes(text, b"\n")
-}
-
-fn put_alike(text: &mut Vec<u8>, reason: &Alike) -> Result<(), AllocError> {
-    put_decimal(text, reason.count)?;
-    put_bytes(text, b" by ")?;
-    put_bytes(text, &reason.text)
-}
-
-fn put_findings(text: &mut Vec<u8>, findings: &Findings) -> Result<(), AllocError> {
-    put_count(text, b"Kept ", findings.kept)?;
-    put_bytes(text, &findings.shown)?;
-    put_count(text, b"Forbidden ", findings.forbidden)?;
-    for reason in &findings.reasons {
-        put_alike(text, reason)?;
-    }
-    Ok(())
-}
-
+// Appends what is found of the candidates of a space.
 fn put_explained(
     alloc: Global,
     text: &mut Vec<u8>,
+    asked: Asked,
     test: &Test,
     model: &ModelText,
     resolved: &Resolved,
     space: &Space,
-) -> Result<(), AllocError> {
+) -> Result<(), AllocError>
+    requires sound { AreSound resolved.now.items.items }
+    requires few { candidate_count space.now ≤ 16384 }
+    ensures { OnOk result (GoesOn text.old.items text.new.items (IsExplained asked test.now model.now resolved.now.items.items space.now)) }
+{
     let found = answers(alloc, space, resolved)?;
     let checks = all_checks(alloc, space, &found.columns, &resolved.items)?;
     let predefined = predefined_values(alloc, space)?;
@@ -217,11 +229,14 @@ fn put_explained(
         },
         checks: &checks,
     };
-    let findings = findings_of(alloc, space, judged, test)?;
-    put_findings(text, &findings)
+    let findings = findings_of(alloc, test, space, judged, asked.is_deep)?;
+    put_findings(alloc, text, asked.is_forbidden, &space.locations, &findings)
 }
 
-fn put_head(alloc: Global, text: &mut Vec<u8>, test: &Test) -> Result<(), AllocError> {
+// The test and its condition.
+fn put_head(alloc: Global, text: &mut Vec<u8>, test: &Test) -> Result<(), AllocError>
+    ensures { OnOk result (text.new.items ≡ text.old.items ++ head_text test.now) }
+{
     let condition = print_condition(alloc, &test.condition)?;
     put_bytes(text, b"Test ")?;
     put_bytes(text, test.name.as_bytes())?;
@@ -230,37 +245,63 @@ fn put_head(alloc: Global, text: &mut Vec<u8>, test: &Test) -> Result<(), AllocE
     put_bytes(text, b"\n")
 }
 
-fn put_model_fault(text: &mut Vec<u8>, fault: ModelFault) -> Result<(), AllocError> {
-    put_count(text, b"Refused M", u64::from(fault.number()))
+fn put_refused(text: &mut Vec<u8>, letter: &[u8], number: u8) -> Result<(), AllocError>
+    ensures { OnOk result (text.new.items ≡ text.old.items ++ refusal_text letter.now number) }
+{
+    put_bytes(text, b"Refused ")?;
+    put_bytes(text, letter)?;
+    put_decimal(text, u64::from(number))?;
+    put_bytes(text, b"\n")
 }
 
-fn put_refusal(text: &mut Vec<u8>, refusal: EvalRefusal) -> Result<(), AllocError> {
-    put_count(text, b"Refused E", u64::from(refusal.number()))
-}
-
+// Appends what is found of a test under a model without a fault.
 fn put_over_candidates(
     alloc: Global,
     text: &mut Vec<u8>,
+    asked: Asked,
     test: &Test,
     model: &ModelText,
     resolved: &Resolved,
-) -> Result<(), AllocError> {
+) -> Result<(), AllocError>
+    requires { AreSound resolved.now.items.items }
+    ensures { OnOk result (GoesOn text.old.items text.new.items (IsSaidOver asked test.now model.now resolved.now.items.items)) }
+{
     match space(alloc, test) {
-        Ok(space) => put_explained(alloc, text, test, model, resolved, &space),
-        Err(SpaceFault::Refused(refusal)) => put_refusal(text, refusal),
+        Ok(space) => put_explained(alloc, text, asked, test, model, resolved, &space),
+        Err(SpaceFault::Refused(refusal)) => put_refused(text, b"E", refusal.number()),
         Err(SpaceFault::OutOfMemory(e)) => Err(e),
+    }
+}
+
+// Appends what is found of a test under a model.
+fn put_body(
+    alloc: Global,
+    text: &mut Vec<u8>,
+    asked: Asked,
+    test: &Test,
+    model: &ModelText,
+) -> Result<(), AllocError>
+    ensures { OnOk result (GoesOn text.old.items text.new.items (IsSaid asked test.now model.now)) }
+{
+    match resolve(alloc, model) {
+        Ok(resolved) => put_over_candidates(alloc, text, asked, test, model, &resolved),
+        Err(ResolveFault::Refused(fault)) => put_refused(text, b"M", fault.number()),
+        Err(ResolveFault::OutOfMemory(e)) => Err(e),
     }
 }
 
 /// Why a model forbids what the condition of a test asks for, and an execution that it keeps. Errors:
 /// want of memory.
-pub fn why(alloc: Global, test: &Test, model: &ModelText) -> Result<Vec<u8>, AllocError> {
+pub fn why(
+    alloc: Global,
+    asked: Asked,
+    test: &Test,
+    model: &ModelText,
+) -> Result<Vec<u8>, AllocError>
+    ensures { IfOk result (λ v. IsWhy asked test.now model.now v.items) }
+{
     let mut text = Vec::new(alloc);
     put_head(alloc, &mut text, test)?;
-    match resolve(alloc, model) {
-        Ok(resolved) => put_over_candidates(alloc, &mut text, test, model, &resolved)?,
-        Err(ResolveFault::Refused(fault)) => put_model_fault(&mut text, fault)?,
-        Err(ResolveFault::OutOfMemory(e)) => return Err(e),
-    }
+    put_body(alloc, &mut text, asked, test, model)?;
     Ok(text)
 }

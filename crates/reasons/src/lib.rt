@@ -8,7 +8,7 @@ mod instructions;
 mod labels;
 mod telling;
 
-pub use answer::why;
+pub use answer::{Asked, why};
 pub use checks::{CheckValues, FirstRefusal, all_checks, first_refusal};
 pub use drawing::{Wanted, draw};
-pub use labels::{label, predefined_values};
+pub use labels::predefined_values;

@@ -1,3 +1,4 @@
 pub mod Operands
 pub mod Scanning
 pub mod Labels
+pub mod Inside

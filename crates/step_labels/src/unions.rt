@@ -156,7 +156,8 @@ fn earlier_name(item: usize, inputs: &[Input], source: Source) -> Option<ModelNa
     }
 }
 
-fn earlier_names(
+/// The names that stand there, of those of the language and of earlier items. Errors: want of memory.
+pub fn earlier_names(
     alloc: Global,
     item: usize,
     inputs: &[Input],

@@ -1,5 +1,5 @@
-//! Says of known tests why the model of Power forbids them, or shows an execution that it keeps; and draws executions
-//! of four.
+//! Says of known tests why the model of Power forbids them, or shows an execution that it keeps, or both; and draws
+//! executions of four.
 #![tactic(auto)]
 
 mod texts;
@@ -7,21 +7,39 @@ mod texts;
 use cat_syntax::read_model;
 use litmus_ppc::read_test;
 use memo_graph::fixtures::POWER;
-use reasons::{Wanted, draw, why};
+use reasons::{Asked, Wanted, draw, why};
 use std::alloc::{AllocError, Global};
 use std::io;
 
 /// The most drawings of a test.
 const MOST: u64 = 2;
 
-fn text_of(alloc: Global, model: &[u8], test: &[u8]) -> Result<String, AllocError> {
+/// Reasons are told where no execution is kept.
+const PLAIN: Asked = Asked {
+    is_forbidden: false,
+    is_deep: false,
+};
+
+/// Reasons are told also where an execution is kept.
+const FORBIDDEN: Asked = Asked {
+    is_forbidden: true,
+    is_deep: false,
+};
+
+/// What carries a step is told one level deeper.
+const DEEP: Asked = Asked {
+    is_forbidden: false,
+    is_deep: true,
+};
+
+fn text_of(alloc: Global, asked: Asked, model: &[u8], test: &[u8]) -> Result<String, AllocError> {
     let Ok(model) = read_model(alloc, model) else {
         return String::from_str(alloc, "no model\n");
     };
     let Ok(test) = read_test(alloc, test) else {
         return String::from_str(alloc, "no test\n");
     };
-    match String::from_utf8(why(alloc, &test, &model)?) {
+    match String::from_utf8(why(alloc, asked, &test, &model)?) {
         Ok(text) => Ok(text),
         Err(_) => String::from_str(alloc, "no text\n"),
     }
@@ -49,17 +67,21 @@ fn show_drawing<R: Print + AllocGlobal>(rt: &R, test: &[u8], wanted: Wanted) -> 
     rt.print(drawing_of(rt.alloc(), POWER, test, wanted)?)
 }
 
-fn show<R: Print + AllocGlobal>(rt: &R, test: &[u8]) -> io::Result<()> {
-    rt.print(text_of(rt.alloc(), POWER, test)?)
+fn show<R: Print + AllocGlobal>(rt: &R, asked: Asked, test: &[u8]) -> io::Result<()> {
+    rt.print(text_of(rt.alloc(), asked, POWER, test)?)
 }
 
 fn main(rt: HostRuntime) -> io::Result<()> {
-    show(&rt, texts::MP_LWSYNC_ADDR)?;
-    show(&rt, texts::IRIW_SYNCS)?;
-    show(&rt, texts::LB_DATAS)?;
-    show(&rt, texts::TWO_TWO_W_LWSYNCS)?;
-    show(&rt, texts::COWR)?;
-    show(&rt, texts::MP)?;
+    show(&rt, PLAIN, texts::MP_LWSYNC_ADDR)?;
+    show(&rt, PLAIN, texts::IRIW_SYNCS)?;
+    show(&rt, PLAIN, texts::LB_DATAS)?;
+    show(&rt, PLAIN, texts::TWO_TWO_W_LWSYNCS)?;
+    show(&rt, PLAIN, texts::COWR)?;
+    show(&rt, PLAIN, texts::MP)?;
+    show(&rt, PLAIN, texts::MP_EITHER)?;
+    show(&rt, FORBIDDEN, texts::MP_EITHER)?;
+    show(&rt, DEEP, texts::MP_LWSYNC_ADDR)?;
+    show(&rt, DEEP, texts::LB_DATAS)?;
     show_drawing(&rt, texts::MP, Wanted::Shown)?;
     show_drawing(&rt, texts::MP_LWSYNC_ADDR, Wanted::Forbidden)?;
     show_drawing(&rt, texts::LB_DATAS, Wanted::Forbidden)?;

@@ -16,6 +16,22 @@ PPC MP+lwsync+addr\n\
 exists (1:r1=1 /\\ 1:r4=0)\n\
 ";
 
+/// `MP+lwsync+addr`, of which also an execution is asked for in which the first load reads 0.
+pub const MP_EITHER: &[u8] = b"\
+PPC MP+lwsync+addr+either\n\
+{\n\
+0:r2=x; 0:r4=y;\n\
+1:r2=y; 1:r5=x;\n\
+}\n\
+ P0           | P1            ;\n\
+ li r1,1      | lwz r1,0(r2)  ;\n\
+ stw r1,0(r2) | xor r3,r1,r1  ;\n\
+ lwsync       | lwzx r4,r3,r5 ;\n\
+ li r3,1      |               ;\n\
+ stw r3,0(r4) |               ;\n\
+exists (1:r4=0)\n\
+";
+
 /// `IRIW+syncs`
 pub const IRIW_SYNCS: &[u8] = b"\
 PPC IRIW+syncs\n\

@@ -1,4 +1,4 @@
-use Rattle.std.proofs.Common.{ℕ, ◌+◌, ◌≡◌, ◌≤◌, subst, sym, arith, ap, ◌∙◌, List, [], ◌∷◌, ◌++◌, length, take, refl}
+use Rattle.std.proofs.Common.{ℕ, ◌+◌, ◌≡◌, subst, sym, arith, ap, ◌∙◌, List, [], ◌∷◌, ◌++◌, length, take, refl}
 use Rattle.std.specs.List.{All}
 use Rattle.std.proofs.lemmas.List.{append-nil, take_all}
 use Rattle.std.proofs.lemmas.List.Elements.{All-push}

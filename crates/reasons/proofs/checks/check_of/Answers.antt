@@ -1,5 +1,4 @@
-use Rattle.std.proofs.Common.{ap, ◌∙◌, sym, refl}
-use Rattle.reasons.specs.Checked.{index_if, is_check, is_unnamed}
+use Rattle.std.proofs.Common.{refl}
 use Rattle.reasons.proofs.checks.check_of.Goals as goal
 
 pub returns-in_ok-checked-in-None-clause-checked : goal.returns-in_ok-checked-in-None-clause-checked
