@@ -1,6 +1,6 @@
 //! One test under one model, from bytes to a log.
 
-ghost use Rattle.std.specs.Prelude.{IfOk, IfErr};
+ghost use Rattle.std.specs.Prelude.{◌≡◌, IfOk, IfErr};
 ghost use Rattle.cat_grammar.specs.declared.form.Form.{Form};
 ghost use Rattle.cat_syntax.specs.Reads.{Reads};
 ghost use Rattle.cat_values.specs.Values.{clauses_of};

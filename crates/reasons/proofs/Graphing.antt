@@ -1,7 +1,7 @@
 -- The graph of an execution, and the drawings one after another.
-use Rattle.std.proofs.Common.{ℕ, ◌≡◌, ◌<◌, ◌≤◌, ◌+◌, ◌↔◌, ◌∙◌, List, [], ◌∷◌, ◌++◌, Vec, Bool, true, false, length, map, get_or, refl, sym, ap, subst, arith}
-use Rattle.std.specs.Prelude.{not, Option, Some, None, option_map, reverse, slice_get, vec_len}
-use Rattle.std.specs.List.{All, AllZip, flat_map}
+use Rattle.std.proofs.Common.{ℕ, ◌≡◌, ◌<◌, ◌≤◌, ◌+◌, ◌↔◌, ◌∙◌, List, [], ◌∷◌, ◌++◌, Bool, true, false, length, get_or, sym, ap, subst, arith}
+use Rattle.std.specs.Prelude.{not, Option, Some, option_map}
+use Rattle.std.specs.List.{All}
 use Rattle.std.specs.Option.{is_none, is_some}
 use Rattle.std.proofs.lemmas.Grind.{flat_map-append}
 use Rattle.std.proofs.lemmas.List.{append-nil, length-append, length-map}
@@ -13,7 +13,6 @@ use Rattle.candidates.specs.declared.candidate.Space.{Space}
 use Rattle.candidates.specs.declared.execution.Execution.{Execution}
 use Rattle.candidates.specs.Listed.{ListsExecutions, Shows}
 use Rattle.candidates.specs.Space.{Candidate, IsShown, Shown, candidate_count, candidates_in, shown_by, shown_in, shown_of}
-use Rattle.cat_values.specs.declared.model.Item.{Item}
 use Rattle.cat_values.specs.declared.model.ModelText.{ModelText}
 use Rattle.cat_values.specs.declared.predefined.TheConstants.{PREDEFINED}
 use Rattle.execution_graph.specs.declared.drawing.Cluster.{Cluster}
@@ -35,7 +34,7 @@ use Rattle.reasons.specs.declared.checks.FirstRefusal.{FirstRefusal}
 use Rattle.reasons.specs.declared.drawing.Wanted.{Wanted}
 use Rattle.reasons.specs.Checked.{IsChecked}
 use Rattle.reasons.specs.Drawable.{AddsDrawing}
-use Rattle.reasons.specs.Drawings.{AreBoxes, AreClusters, AreDrawings, IsAt, IsBoxed, IsCluster, OneDrawn, OneLeft, OneTooMany, NoDrawing, drawings_text, is_asked, is_wanted}
+use Rattle.reasons.specs.Drawings.{AreBoxes, AreClusters, AreDrawings, IsAt, IsBoxed, OneDrawn, OneLeft, OneTooMany, Subject, drawings_text, has_asked, is_wanted}
 
 -- ---- one execution
 
@@ -60,14 +59,17 @@ events_shown space k e one shown is = ap (λ (s : Shown). s.events) (shown_at sp
 pub sources_shown : (space : Space) (k : ℕ) (e : Execution) (one : Candidate) → IsShown space k e → IsAt space k one → e.sources.items ≡ one.1.0
 sources_shown space k e one shown is = ap (λ (s : Shown). s.sources) (shown_at space k e one shown is)
 
--- whether the candidate is asked for
-pub asked_is : (wanted : Wanted) (test : Test) (space : Space) (k : ℕ) (e : Execution) (one : Candidate) (found : Option FirstRefusal) (locations : List (List ℕ)) (satisfied kept answer : Bool) → IsShown space k e → IsAt space k one → locations ≡ space.locations.items
-    → satisfied ≡ is_satisfied locations (formula_of test.condition.proposition) (shown_by e) → kept ≡ is_none found → answer ≡ is_wanted wanted satisfied kept → is_asked wanted test space one found ≡ answer
-asked_is wanted test space k e one found locations satisfied kept answer shown is same said none all =
-    let p = formula_of test.condition.proposition in
-    let here : satisfied ≡ is_satisfied space.locations.items p (shown_of space.registers.items one) =
-    said ∙ ap (λ (l : List (List ℕ)). is_satisfied l p (shown_by e)) same ∙ ap (λ (s : Shown). is_satisfied space.locations.items p s) (shown_at space k e one shown is) in
-    sym (all ∙ ap (λ (b : Bool). is_wanted wanted b kept) here ∙ ap (λ (b : Bool). is_wanted wanted (is_satisfied space.locations.items p (shown_of space.registers.items one)) b) none)
+-- whether the candidate has what the test asks for
+pub asked_is : (s : Subject) (k : ℕ) (e : Execution) (one : Candidate) (locations : List (List ℕ)) (satisfied : Bool) → IsShown s.space k e → IsAt s.space k one → locations ≡ s.space.locations.items
+    → satisfied ≡ is_satisfied locations (formula_of s.test.condition.proposition) (shown_by e) → satisfied ≡ has_asked s one
+asked_is s k e one locations satisfied shown is same said =
+    let p = formula_of s.test.condition.proposition in
+    said ∙ ap (λ (l : List (List ℕ)). is_satisfied l p (shown_by e)) same ∙ ap (λ (x : Shown). is_satisfied s.space.locations.items p x) (shown_at s.space k e one shown is)
+
+-- and whether it is wanted
+pub wanted_is : (wanted : Wanted) (s : Subject) (one : Candidate) (found : Option FirstRefusal) (satisfied kept answer : Bool) → satisfied ≡ has_asked s one → kept ≡ is_none found → answer ≡ is_wanted wanted satisfied kept → is_wanted wanted (has_asked s one) (is_none found) ≡ answer
+wanted_is wanted s one found satisfied kept answer here none all =
+    sym (all ∙ ap (λ (b : Bool). is_wanted wanted b kept) here ∙ ap (λ (b : Bool). is_wanted wanted (has_asked s one) b) none)
 
 pub none_is : (b : Bool) (found : Option FirstRefusal) → is_some found ≡ not b → b ≡ is_none found
 none_is true found e = sym (ap not e)
@@ -113,29 +115,25 @@ text_more space ds d =
     flat_map-append draw ds (d ∷ []) ∙ ap (λ (t : List ℕ). drawings_text space ds ++ t) (append-nil (draw d))
 
 -- so many drawings, and their text
-abbrev pub AreDrawnBefore : Wanted → ℕ → Test → Space → List Item → List CheckValues → ℕ → ℕ → List ℕ → Type 0
-AreDrawnBefore wanted most test space items checks k count text =
-    (ds : List Drawing) × AreDrawings wanted most test space items checks k ds × (count ≡ length ds) × (text ≡ drawings_text space ds)
+abbrev pub AreDrawnBefore : Wanted → ℕ → Subject → ℕ → ℕ → List ℕ → Type 0
+AreDrawnBefore wanted most s k count text = (ds : List Drawing) × AreDrawings wanted most s k ds × (count ≡ length ds) × (text ≡ drawings_text s.space ds)
 
-pub none_drawn : (wanted : Wanted) (most : ℕ) (test : Test) (space : Space) (items : List Item) (checks : List CheckValues) → AreDrawnBefore wanted most test space items checks 0 0 []
-none_drawn wanted most test space items checks = ([], NoDrawing, refl, refl)
-
-pub more_drawn : (wanted : Wanted) (most : ℕ) (test : Test) (space : Space) (items : List Item) (checks : List CheckValues) (k count : ℕ) (old new : List ℕ) → count < most → AddsDrawing wanted test space items checks k old new true → AreDrawnBefore wanted most test space items checks k count old → AreDrawnBefore wanted most test space items checks (k + 1) (count + 1) new
-more_drawn wanted most test space items checks k count old new lt adds before =
+pub more_drawn : (wanted : Wanted) (most : ℕ) (s : Subject) (k count : ℕ) (old new : List ℕ) → count < most → AddsDrawing wanted s k old new true → AreDrawnBefore wanted most s k count old → AreDrawnBefore wanted most s (k + 1) (count + 1) new
+more_drawn wanted most s k count old new lt adds before =
     let (ds, are, number, text) = before in
     let (one, found, d, wants, graph, more) = adds in
     let lower : length ds < most = omega (arith, lt, number) in
     let long : length (ds ++ d ∷ []) ≡ count + 1 = length-append ds (d ∷ []) ∙ ap (λ (n : ℕ). n + 1) (sym number) in
-    (ds ++ d ∷ [], OneDrawn k ds one found d are lower wants graph, sym long, more ∙ ap (λ (t : List ℕ). t ++ drawing_text space.locations.items (length space.locations.items) d) text ∙ sym (text_more space ds d))
+    (ds ++ d ∷ [], OneDrawn k ds one found d are lower wants graph, sym long, more ∙ ap (λ (t : List ℕ). t ++ drawing_text s.space.locations.items (length s.space.locations.items) d) text ∙ sym (text_more s.space ds d))
 
-pub not_drawn : (wanted : Wanted) (most : ℕ) (test : Test) (space : Space) (items : List Item) (checks : List CheckValues) (k count : ℕ) (old new : List ℕ) → AddsDrawing wanted test space items checks k old new false → AreDrawnBefore wanted most test space items checks k count old → AreDrawnBefore wanted most test space items checks (k + 1) count new
-not_drawn wanted most test space items checks k count old new adds before =
+pub not_drawn : (wanted : Wanted) (most : ℕ) (s : Subject) (k count : ℕ) (old new : List ℕ) → AddsDrawing wanted s k old new false → AreDrawnBefore wanted most s k count old → AreDrawnBefore wanted most s (k + 1) count new
+not_drawn wanted most s k count old new adds before =
     let (ds, are, number, text) = before in
     let (one, found, wants, same) = adds in
     (ds, OneLeft k ds one found are wants, number, same ∙ text)
 
-pub too_many : (wanted : Wanted) (most : ℕ) (test : Test) (space : Space) (items : List Item) (checks : List CheckValues) (k count : ℕ) (text : List ℕ) → most ≤ count → AreDrawnBefore wanted most test space items checks k count text → AreDrawnBefore wanted most test space items checks (k + 1) count text
-too_many wanted most test space items checks k count text full before =
+pub too_many : (wanted : Wanted) (most : ℕ) (s : Subject) (k count : ℕ) (text : List ℕ) → most ≤ count → AreDrawnBefore wanted most s k count text → AreDrawnBefore wanted most s (k + 1) count text
+too_many wanted most s k count text full before =
     let (ds, are, number, same) = before in
     (ds, OneTooMany k ds are (omega (arith, full, number)), number, same)
 

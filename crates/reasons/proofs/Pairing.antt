@@ -1,12 +1,10 @@
 -- The lines of a drawing: the pairs of relations, and those that are drawn.
-use Rattle.std.proofs.Common.{ℕ, zero, suc, ◌≡◌, ◌<◌, ◌+◌, ◌↔◌, ◌∙◌, List, [], ◌∷◌, ◌++◌, get_or, length, take, refl, sym, ap, subst, arith}
+use Rattle.std.proofs.Common.{ℕ, zero, suc, ◌≡◌, ◌<◌, ◌+◌, ◌↔◌, ◌∙◌, List, [], ◌∷◌, ◌++◌, get_or, length, take, sym, ap, subst, arith}
 use Rattle.std.proofs.lemmas.List.{take_more}
 use Rattle.binding_graph.proofs.Labels.{zip_push}
-use Rattle.std.specs.Prelude.{Some, slice_get}
-use Rattle.std.specs.List.{AllZip, Contains}
-use Rattle.bit_relations.specs.Pairs.{Composed, IsIrreflexive, Restricted}
-use Rattle.bit_relations.specs.Relation.{Events, Has, IsRelation, Relation}
-use Rattle.binding_kinds.specs.declared.kinds.Kind.{Kind}
+use Rattle.std.specs.List.{AllZip}
+use Rattle.bit_relations.specs.Pairs.{Restricted}
+use Rattle.bit_relations.specs.Relation.{Events, IsRelation, Relation}
 use Rattle.binding_kinds.specs.declared.kinds.Kind.TheVariants as kinds
 use Rattle.binding_graph.specs.declared.resolved.Source.TheVariants as sources
 use Rattle.binding_graph.specs.Trees.{RelName}
@@ -18,7 +16,7 @@ use Rattle.cat_eval.specs.Values.{IsFor, IsMeant}
 use Rattle.cat_values.specs.declared.predefined.Predefined.{Predefined}
 use Rattle.execution_graph.specs.declared.drawing.Edges.{Edges}
 use Rattle.execution_graph.specs.declared.drawing.Ink.{Ink}
-use Rattle.execution_graph.specs.Drawn.{AreEdges, Drawn, DrawnAmong, IsOrder, IsTransitive}
+use Rattle.execution_graph.specs.Drawn.{AreEdges, Drawn, DrawnAmong, IsOrder}
 use Rattle.step_labels.specs.declared.label.PredefinedValue.{PredefinedValue}
 use Rattle.reasons.specs.declared.lines.DrawnRelation.{DrawnRelation}
 use Rattle.reasons.specs.Drawable.{AreValuesOf}

@@ -1,6 +1,8 @@
 -- Which executions of a test are drawn under a model, and how: `draw` cites `IsDrawn`. Read first specs/Checked, and Drawn and
 -- Texts of execution_graph.
-use Rattle.std.specs.Prelude.{ℕ, ◌≡◌, ◌<◌, ◌≤◌, ◌+◌, ◌↔◌, ◌&&◌, ◌++◌, Bool, true, false, not, List, [], ◌∷◌, map, length, Option, Some, None, MatchOption, Vec, vec_len, slice_get, codes, decimal}
+use Rattle.std.specs.Prelude.{ℕ, ◌≡◌, ◌<◌, ◌≤◌, ◌+◌, ◌↔◌, Option, Some, None, MatchOption, vec_len}
+use Rattle.std.specs.Prelude.{Bool, true, false, ◌&&◌, not}
+use Rattle.std.specs.Prelude.{List, [], ◌∷◌, ◌++◌, map, length, slice_get, codes, decimal}
 use Rattle.std.specs.Option.{is_none}
 use Rattle.std.specs.List.{All, AllPairs, AllZip, Contains, flat_map}
 use Rattle.binding_graph.specs.declared.resolved.ResolvedItem.{ResolvedItem}
@@ -42,6 +44,16 @@ use Rattle.reasons.specs.declared.drawing.Wanted.{Wanted}
 use Rattle.reasons.specs.declared.drawing.Wanted.TheVariants as wanteds
 use Rattle.reasons.specs.Checked.{AcceptBelow, IsChecked, IsFirstRefusal, check_indexes, items_of}
 
+-- a test, its space, the items of a model as they stand in its text, and its checks
+pub record Subject : Type 0 where
+  pub test : Test
+  pub space : Space
+  pub items : List Item
+  pub checks : List CheckValues
+
+abbrev pub subject : Test → Space → ModelText → List CheckValues → Subject
+subject test space model checks = record { test = test; space = space; items = model.items.items; checks = checks }
+
 -- ---- the boxes of a graph: events
 
 abbrev pub HasThread : List Event → Option ℕ → ℕ → Type 0
@@ -63,10 +75,13 @@ pub record AreBoxes (events : List Event) (P : ℕ → Type 0) (boxes : List Tol
   pub each : All (IsBox events) boxes
   pub exact : (n : ℕ) → Contains (numbers_of boxes) n ↔ P n
 
+abbrev pub AreBoxesOf : List Event → (ℕ → Type 0) → Option ℕ → List ToldEvent → Type 0
+AreBoxesOf events IsDrawn thread boxes = AreBoxes events (IsBoxed events IsDrawn thread) boxes
+
 -- the drawn events of a thread, in program order
 pub record IsCluster (events : List Event) (IsDrawn : ℕ → Type 0) (thread : ℕ) (c : Cluster) : Type 0 where
   pub number : c.thread ≡ thread
-  pub boxes : AreBoxes events (IsBoxed events IsDrawn (Some thread)) c.events.items
+  pub boxes : AreBoxesOf events IsDrawn (Some thread) c.events.items
 
 -- one for each of so many threads
 pub record AreClusters (events : List Event) (IsDrawn : ℕ → Type 0) (threads : ℕ) (clusters : List Cluster) : Type 0 where
@@ -80,8 +95,10 @@ abbrev pub relations : List (Predefined × Ink)
 relations =
     (names.ProgramOrder, inks.Order)
     ∷ (names.ReadsFrom, inks.ReadsFrom) ∷ (names.Coherence, inks.Coherence) ∷ (names.FromReads, inks.FromReads)
-    ∷ (names.AddressDependency, inks.Dependency) ∷ (names.DataDependency, inks.Dependency) ∷ (names.ControlDependency, inks.Dependency)
-    ∷ (names.SyncOrder, inks.Fence) ∷ (names.LwsyncOrder, inks.Fence) ∷ (names.EieioOrder, inks.Fence) ∷ (names.IsyncOrder, inks.Fence)
+    ∷ (names.AddressDependency, inks.Dependency) ∷ (names.DataDependency, inks.Dependency)
+    ∷ (names.ControlDependency, inks.Dependency)
+    ∷ (names.SyncOrder, inks.Fence) ∷ (names.LwsyncOrder, inks.Fence)
+    ∷ (names.EieioOrder, inks.Fence) ∷ (names.IsyncOrder, inks.Fence)
     ∷ []
 
 -- the candidate of that number
@@ -107,12 +124,14 @@ IsJudged checks k found = MatchOption found (AcceptBelow checks k (length checks
 -- the check that refuses, as the model writes it
 abbrev pub IsCheckText : List CheckValues → List Item → FirstRefusal → List ℕ → Type 0
 IsCheckText checks items first text =
-    (c : CheckValues) × (slice_get checks first.index ≡ Some c) × (item : Item) × (slice_get items c.item ≡ Some item) × (text ≡ printed_item (clause_of item))
+    (c : CheckValues) × (slice_get checks first.index ≡ Some c)
+    × (item : Item) × (slice_get items c.item ≡ Some item) × (text ≡ printed_item (clause_of item))
 
 -- what comes of the candidate
 abbrev pub IsFate : List CheckValues → List Item → Option FirstRefusal → List ℕ → Type 0
 IsFate checks items None fate = fate ≡ codes ": kept"
-IsFate checks items (Some first) fate = (check : List ℕ) × IsCheckText checks items first check × (fate ≡ codes ": forbidden by " ++ check)
+IsFate checks items (Some first) fate =
+    (check : List ℕ) × IsCheckText checks items first check × (fate ≡ codes ": forbidden by " ++ check)
 
 -- the name of the test and the number of the candidate before it
 unfoldable pub title_text : List ℕ → ℕ → List ℕ → List ℕ
@@ -129,12 +148,12 @@ abbrev pub IsDrawnIn : Candidate → ℕ → Type 0
 IsDrawnIn one = IsDrawnEvent one.0.events.items one.1.0
 
 -- the candidate of number k, with its events and its pairs, and the steps of the reason
-pub record IsGraph (test : Test) (items : List Item) (checks : List CheckValues) (k : ℕ) (one : Candidate) (found : Option FirstRefusal) (d : Drawing) : Type 0 where
+pub record IsGraph (s : Subject) (k : ℕ) (one : Candidate) (found : Option FirstRefusal) (d : Drawing) : Type 0 where
   pub fate : List ℕ
-  pub told : IsFate checks items found fate
-  pub title : d.title.items ≡ title_text test.name k fate
-  pub initial : AreBoxes one.0.events.items (IsBoxed one.0.events.items (IsDrawnIn one) None) d.initial.items
-  pub clusters : AreClusters one.0.events.items (IsDrawnIn one) (vec_len test.threads) d.clusters.items
+  pub told : IsFate s.checks s.items found fate
+  pub title : d.title.items ≡ title_text s.test.name k fate
+  pub initial : AreBoxesOf one.0.events.items (IsDrawnIn one) None d.initial.items
+  pub clusters : AreClusters one.0.events.items (IsDrawnIn one) (vec_len s.test.threads) d.clusters.items
   pub edges : AllZip (AreLines one (IsDrawnIn one)) relations d.edges.items
   pub steps : AreSteps found d.first d.steps.items
 
@@ -146,22 +165,26 @@ is_wanted wanteds.Shown satisfied kept = satisfied && kept
 is_wanted wanteds.Forbidden satisfied kept = satisfied && not kept
 is_wanted wanteds.All satisfied kept = true
 
-abbrev pub is_asked : Wanted → Test → Space → Candidate → Option FirstRefusal → Bool
-is_asked wanted test space one found =
-    is_wanted wanted (is_satisfied space.locations.items (formula_of test.condition.proposition) (shown_of space.registers.items one)) (is_none found)
+abbrev pub has_asked : Subject → Candidate → Bool
+has_asked s one =
+    is_satisfied s.space.locations.items (formula_of s.test.condition.proposition) (shown_of s.space.registers.items one)
 
 -- the candidate of number k, what comes of it, and whether it is asked for
-pub record IsFound (wanted : Wanted) (test : Test) (space : Space) (checks : List CheckValues) (k : ℕ) (one : Candidate) (found : Option FirstRefusal) (answer : Bool) : Type 0 where
-  pub is : IsAt space k one
-  pub judged : IsJudged checks k found
-  pub asked : is_asked wanted test space one found ≡ answer
+pub record IsFound (wanted : Wanted) (s : Subject) (k : ℕ) (one : Candidate) (found : Option FirstRefusal) (answer : Bool) : Type 0 where
+  pub is : IsAt s.space k one
+  pub judged : IsJudged s.checks k found
+  pub asked : is_wanted wanted (has_asked s one) (is_none found) ≡ answer
 
 -- of the candidates before a number, the drawings of those that are asked for, until there are so many
-pub data AreDrawings (wanted : Wanted) (most : ℕ) (test : Test) (space : Space) (items : List Item) (checks : List CheckValues) : ℕ → List Drawing → Type 0 where
-  NoDrawing : AreDrawings wanted most test space items checks 0 []
-  OneDrawn : (k : ℕ) (ds : List Drawing) (one : Candidate) (found : Option FirstRefusal) (d : Drawing) → AreDrawings wanted most test space items checks k ds → length ds < most → IsFound wanted test space checks k one found true → IsGraph test items checks k one found d → AreDrawings wanted most test space items checks (k + 1) (ds ++ d ∷ [])
-  OneLeft : (k : ℕ) (ds : List Drawing) (one : Candidate) (found : Option FirstRefusal) → AreDrawings wanted most test space items checks k ds → IsFound wanted test space checks k one found false → AreDrawings wanted most test space items checks (k + 1) ds
-  OneTooMany : (k : ℕ) (ds : List Drawing) → AreDrawings wanted most test space items checks k ds → most ≤ length ds → AreDrawings wanted most test space items checks (k + 1) ds
+pub data AreDrawings (wanted : Wanted) (most : ℕ) (s : Subject) : ℕ → List Drawing → Type 0 where
+  NoDrawing : AreDrawings wanted most s 0 []
+  OneDrawn : (k : ℕ) (ds : List Drawing) (one : Candidate) (found : Option FirstRefusal) (d : Drawing)
+      → AreDrawings wanted most s k ds → length ds < most → IsFound wanted s k one found true → IsGraph s k one found d
+      → AreDrawings wanted most s (k + 1) (ds ++ d ∷ [])
+  OneLeft : (k : ℕ) (ds : List Drawing) (one : Candidate) (found : Option FirstRefusal)
+      → AreDrawings wanted most s k ds → IsFound wanted s k one found false → AreDrawings wanted most s (k + 1) ds
+  OneTooMany : (k : ℕ) (ds : List Drawing)
+      → AreDrawings wanted most s k ds → most ≤ length ds → AreDrawings wanted most s (k + 1) ds
 
 -- ---- the whole
 
@@ -170,18 +193,25 @@ abbrev pub drawings_text : Space → List Drawing → List ℕ
 drawings_text space ds = flat_map (drawing_text space.locations.items (length space.locations.items)) ds
 
 -- the text of the drawings of the candidates before a number
-abbrev pub AreDrawingsOf : Wanted → ℕ → Test → Space → List Item → List CheckValues → ℕ → List ℕ → Type 0
-AreDrawingsOf wanted most test space items checks n text =
-    (ds : List Drawing) × AreDrawings wanted most test space items checks n ds × (text ≡ drawings_text space ds)
+abbrev pub AreDrawingsOf : Wanted → ℕ → Subject → ℕ → List ℕ → Type 0
+AreDrawingsOf wanted most s n text = (ds : List Drawing) × AreDrawings wanted most s n ds × (text ≡ drawings_text s.space ds)
 
--- of all candidates of the space, by the checks of these items, which the model has in its text
-pub record AreDrawn (wanted : Wanted) (most : ℕ) (test : Test) (model : ModelText) (resolved : List ResolvedItem) (space : Space) (text : List ℕ) : Type 0 where
+-- these are the checks of the resolved items, with the values of their expressions in the candidates of the space
+pub record AreChecks (resolved : List ResolvedItem) (s : Subject) : Type 0 where
   pub answers : ItemAnswers
-  pub valued : HasAllColumns space resolved answers
+  pub valued : HasAllColumns s.space resolved answers
+  pub each : All (IsChecked s.space answers.columns.items resolved) s.checks
+  pub all : items_of s.checks ≡ check_indexes 0 resolved
+
+-- the drawings of a test over its space, of all candidates, by the checks of a model without fault
+pub record AreDrawn (wanted : Wanted) (most : ℕ) (test : Test) (model : ModelText) (text : List ℕ) : Type 0 where
+  pub resolved : List ResolvedItem
+  pub resolves : AreItemsOf model resolved
+  pub space : Space
+  pub lists : ListsExecutions test space
   pub checks : List CheckValues
-  pub each : All (IsChecked space answers.columns.items resolved) checks
-  pub all : items_of checks ≡ check_indexes 0 resolved
-  pub drawn : AreDrawingsOf wanted most test space model.items.items checks (candidate_count space) text
+  pub checked : AreChecks resolved (subject test space model checks)
+  pub drawn : AreDrawingsOf wanted most (subject test space model checks) (candidate_count space) text
 
 -- a comment of `dot`
 unfoldable pub refused_comment : List ℕ → ℕ → List ℕ
@@ -189,6 +219,8 @@ refused_comment letter number = codes "// Refused " ++ letter ++ decimal number 
 
 -- what is drawn of a test under a model: of a model with a fault, and of a test that is refused, a comment tells its number
 pub data IsDrawn (wanted : Wanted) (most : ℕ) (test : Test) (model : ModelText) (text : List ℕ) : Type 0 where
-  HasFault : (fault : ModelFault) → IsFaultOf model fault → text ≡ refused_comment (codes "M") (model_faults.number fault) → IsDrawn wanted most test model text
-  HasNoSpace : IsFaultless model → (refusal : EvalRefusal) → IsRefusal test refusal → text ≡ refused_comment (codes "E") (refusals.number refusal) → IsDrawn wanted most test model text
-  HasGraphs : IsFaultless model → (resolved : List ResolvedItem) → AreItemsOf model resolved → (space : Space) → ListsExecutions test space → AreDrawn wanted most test model resolved space text → IsDrawn wanted most test model text
+  HasFault : (fault : ModelFault) → IsFaultOf model fault
+      → text ≡ refused_comment (codes "M") (model_faults.number fault) → IsDrawn wanted most test model text
+  HasNoSpace : IsFaultless model → (refusal : EvalRefusal) → IsRefusal test refusal
+      → text ≡ refused_comment (codes "E") (refusals.number refusal) → IsDrawn wanted most test model text
+  HasGraphs : IsFaultless model → AreDrawn wanted most test model text → IsDrawn wanted most test model text

@@ -2,7 +2,7 @@
 
 ghost use Rattle.std.specs.Prelude.{◌≡◌, ◌<◌, ◌↔◌, IfOk, IsTrue, Some, length, slice_get};
 ghost use Rattle.bit_relations.specs.Relation.{IsMember};
-ghost use Rattle.reasons.specs.Drawings.{AreBoxes, AreClusters, HasThread, IsBoxed, IsCluster};
+ghost use Rattle.reasons.specs.Drawings.{AreBoxesOf, AreClusters, HasThread, IsBoxed, IsCluster};
 
 use crate::telling::Told;
 use bit_relations::EventSet;
@@ -75,7 +75,7 @@ pub fn boxes(
     thread: Option<usize>,
 ) -> Result<Vec<ToldEvent>, AllocError>
     requires { drawn.now.count ≡ length told.events.now }
-    ensures { IfOk result (λ v. let events = told.entry.events.now in AreBoxes events (IsBoxed events (IsMember drawn.now) thread) v.items) }
+    ensures { let events = told.entry.events.now in IfOk result (λ v. AreBoxesOf events (IsMember drawn.now) thread v.items) }
 {
     let mut boxes = Vec::new(alloc);
     for number in 0..told.events.len() {

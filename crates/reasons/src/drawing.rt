@@ -3,10 +3,11 @@
 ghost use Rattle.std.specs.Prelude.{◌≡◌, ◌<◌, ◌^◌, IfOk, length};
 ghost use Rattle.std.specs.List.{All};
 ghost use Rattle.candidates.specs.Listed.{ListsExecutions};
-ghost use Rattle.candidates.specs.Space.{Candidate, IsShown, candidate_count};
+ghost use Rattle.candidates.specs.Space.{IsShown, candidate_count};
 ghost use Rattle.memo_graph.specs.FromScratch.{AreItemsOf, IsFaultless};
-ghost use Rattle.reasons.specs.Drawable.{AddsDrawing, AreReady};
-ghost use Rattle.reasons.specs.Drawings.{AreDrawingsOf, AreDrawn, AreSteps, IsAt, IsCheckText, IsDrawn, IsFate, IsGraph, IsJudged, refused_comment, title_text};
+ghost use Rattle.reasons.specs.Drawable.{AddsDrawing, AreReady, IsGraphAt, subject_of};
+ghost use Rattle.reasons.specs.Drawings.{AreDrawingsOf, AreDrawn, AreSteps, IsCheckText, IsDrawn, IsFate};
+ghost use Rattle.reasons.specs.Drawings.{IsJudged, refused_comment, title_text};
 ghost use Rattle.reasons.specs.Drawings as drawings;
 
 use crate::boxes::{boxes, clusters};
@@ -145,10 +146,10 @@ fn drawing_of(
     execution: &Execution,
     found: &Option<FirstRefusal>,
 ) -> Result<Drawing, AllocError>
-    requires ready { AreReady scene.space.now scene.judged.text.now scene.judged.checks.now scene.relations.now }
+    requires ready { AreReady (subject_of scene) scene.relations.now }
     requires shown { IsShown scene.space.now candidate execution.now }
     requires judged { IsJudged scene.judged.checks.now candidate found.now }
-    ensures { IfOk result (λ d. (one : Candidate) → IsAt scene.entry.space.now candidate one → IsGraph scene.entry.test.now scene.entry.judged.text.now scene.entry.judged.checks.now candidate one found.now d) }
+    ensures { IfOk result (IsGraphAt (subject_of scene.entry) candidate found.now) }
 {
     let instructions = instructions_of(alloc, scene.runs, execution)?;
     let told = Told {
@@ -177,9 +178,9 @@ fn put_candidate(
     wanted: Wanted,
     candidate: usize,
 ) -> Result<bool, AllocError>
-    requires ready { AreReady scene.space.now scene.judged.text.now scene.judged.checks.now scene.relations.now }
+    requires ready { AreReady (subject_of scene) scene.relations.now }
     requires within { candidate < candidate_count scene.space.now }
-    ensures { IfOk result (AddsDrawing wanted scene.entry.test.now scene.entry.space.now scene.entry.judged.text.now scene.entry.judged.checks.now candidate text.old.items text.new.items) }
+    ensures { IfOk result (AddsDrawing wanted (subject_of scene.entry) candidate text.old.items text.new.items) }
 {
     let Some(execution) = scene.space.execution(alloc, candidate)? else {
         return Ok(false);
@@ -207,9 +208,9 @@ fn candidates_text(
     wanted: Wanted,
     most: u64,
 ) -> Result<Vec<u8>, AllocError>
-    requires ready { AreReady scene.space.now scene.judged.text.now scene.judged.checks.now scene.relations.now }
+    requires ready { AreReady (subject_of scene) scene.relations.now }
     requires few { candidate_count scene.space.now < 2 ^ 64 }
-    ensures { IfOk result (λ v. AreDrawingsOf wanted most scene.entry.test.now scene.entry.space.now scene.entry.judged.text.now scene.entry.judged.checks.now (candidate_count scene.entry.space.now) v.items) }
+    ensures { IfOk result (λ v. AreDrawingsOf wanted most (subject_of scene.entry) (candidate_count scene.entry.space.now) v.items) }
 {
     let mut text = Vec::new(alloc);
     let mut count = 0;
@@ -234,7 +235,7 @@ fn space_text<'x>(
     requires faultless { IsFaultless model.now }
     requires items { AreItemsOf model.now resolved.now.items.items }
     requires executions { ListsExecutions test.now space.now }
-    ensures { IfOk result (λ v. AreDrawn wanted most test.now model.now resolved.now.items.items space.now v.items) }
+    ensures { IfOk result (λ v. AreDrawn wanted most test.now model.now v.items) }
 {
     let found = answers(alloc, space, resolved)?;
     let checks = all_checks(alloc, space, &found.columns, &resolved.items)?;

@@ -8,8 +8,8 @@ ghost use Rattle.candidates.specs.Space.{Candidate};
 ghost use Rattle.cat_eval.specs.Columns.{HasValue};
 ghost use Rattle.cat_eval.specs.Executions.{events_of};
 ghost use Rattle.cat_eval.specs.Values.{IsFor};
-ghost use Rattle.reasons.specs.Drawable.{AreValuesOf, HasCount};
-ghost use Rattle.reasons.specs.Drawings.{AreLines, IsAt, PairsOf};
+ghost use Rattle.reasons.specs.Drawable.{AreAllLinesAt, AreLinesAt, AreValuesOf, HasCount};
+ghost use Rattle.reasons.specs.Drawings.{IsAt, PairsOf};
 ghost use Rattle.reasons.specs.Drawings as drawings;
 ghost use Rattle.reasons.specs.Language.{IsOfLanguage};
 
@@ -114,7 +114,7 @@ fn lines_of(
 ) -> Result<Edges, AllocError>
     requires value { IsOfLanguage space.now relation.now.value }
     requires count { HasCount space.now candidate drawn.now.count }
-    ensures { IfOk result (λ e. (one : Candidate) → IsAt space.now candidate one → AreLines one (IsMember drawn.now) (relation.now.value.name, relation.now.ink) e) }
+    ensures { IfOk result (AreLinesAt space.now candidate (IsMember drawn.now) (relation.now.value.name, relation.now.ink)) }
 {
     let pairs = relation_of(space, &relation.value, candidate);
     let pairs = edges(alloc, &pairs, drawn)?;
@@ -136,7 +136,7 @@ pub fn all_lines(
 ) -> Result<Vec<Edges>, AllocError>
     requires values { AllZip (AreValuesOf space.now) drawings.relations relations.now }
     requires count { HasCount space.now candidate drawn.now.count }
-    ensures { IfOk result (λ v. (one : Candidate) → IsAt space.now candidate one → AllZip (AreLines one (IsMember drawn.now)) drawings.relations v.items) }
+    ensures { IfOk result (λ v. AreAllLinesAt space.now candidate (IsMember drawn.now) v.items) }
 {
     let mut lines = Vec::new(alloc);
     for index in 0..relations.len() {

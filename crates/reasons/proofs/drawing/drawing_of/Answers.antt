@@ -1,4 +1,4 @@
-use Rattle.std.proofs.Common.{◌≡◌, ◌∙◌, ◌↔◌, ℕ, List, ap, sym, subst, length}
+use Rattle.std.proofs.Common.{◌≡◌, ◌∙◌, List, ap, length}
 use Rattle.std.specs.Prelude.{None}
 use Rattle.bit_relations.specs.Relation.{IsEvents, IsMember}
 use Rattle.execution_graph.specs.Drawn.{IsDrawnEvent}

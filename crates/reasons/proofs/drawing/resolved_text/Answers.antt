@@ -7,7 +7,7 @@ use Rattle.reasons.proofs.drawing.resolved_text.Goals as goal
 
 pub returns-in-Ok : goal.returns-in-Ok
 returns-in-Ok c =
-    IfOk-weaker c.space_text.result _ _ (λ v h. HasGraphs c.requires.faultless c.args.resolved.now.items.items c.requires.items c.in-Ok.space c.in-Ok.ensures.executions h) c.space_text.ensures
+    IfOk-weaker c.space_text.result _ _ (λ v h. HasGraphs c.requires.faultless h) c.space_text.ensures
 
 pub returns-in-Err-Refused : goal.returns-in-Err-Refused
 returns-in-Err-Refused c =

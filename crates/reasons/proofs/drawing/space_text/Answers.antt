@@ -17,10 +17,16 @@ candidates_text-requires-clause-few c = omega (arith, few_candidates c.args.test
 pub returns : goal.returns
 returns c =
     IfOk-weaker c.candidates_text.result _ _ (λ v h. record {
-      answers = c.in_ok-found.found;
-      valued = c.in_ok-found.ensures.columns (resolved_sound c.args.model.now c.args.resolved.now.items.items c.requires.faultless c.requires.items);
+      resolved = c.args.resolved.now.items.items;
+      resolves = c.requires.items;
+      space = c.args.space.now;
+      lists = c.requires.executions;
       checks = c.in_ok-checks.checks.items;
-      each = rw (c.deref.ensures.value, c.deref-2.ensures.value) at c.in_ok-checks.ensures.each;
-      all = rw c.deref-2.ensures.value at c.in_ok-checks.ensures.all;
+      checked = record {
+        answers = c.in_ok-found.found;
+        valued = c.in_ok-found.ensures.columns (resolved_sound c.args.model.now c.args.resolved.now.items.items c.requires.faultless c.requires.items);
+        each = rw (c.deref.ensures.value, c.deref-2.ensures.value) at c.in_ok-checks.ensures.each;
+        all = rw c.deref-2.ensures.value at c.in_ok-checks.ensures.all;
+      };
       drawn = rw (c.deref-3.ensures.value, c.deref-7.ensures.value) at h;
     }) c.candidates_text.ensures
