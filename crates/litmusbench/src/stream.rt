@@ -2,6 +2,7 @@
 
 ghost use Rattle.std.specs.Prelude.{◌≡◌, ◌≢◌, ◌+◌, ◌-◌, ◌<◌, ◌^◌, true, IfOk, IfSome, take};
 ghost use Rattle.litmusbench.specs.Answer.{IsAnswer, IsReadFault, IsWritten, IsStreamed};
+ghost use Rattle.litmusbench.specs.Pictures.{IsPictureAnswer, IsPictureWritten};
 ghost use Rattle.litmusbench.specs.Reasoned.{IsReasoned, IsReasonWritten};
 ghost use Rattle.litmusbench.specs.Whys.{IsWhyAnswer, IsWhyWritten};
 ghost use Rattle.session_edits.specs.Answer.{refused_line};
@@ -126,7 +127,7 @@ fn draw_answer(
     drawn: Drawn,
     most: u64,
 ) -> Result<Answer, AllocError>
-    ensures { IfOk result (λ a. IsReasoned model.now test.now a.text.items a.is_refused) }
+    ensures { IfOk result (λ a. IsPictureAnswer drawn most model.now test.now a.text.items a.is_refused) }
 {
     match draw_report(alloc, model, test, drawn, most) {
         Ok(text) => Ok(Answer {
@@ -151,7 +152,7 @@ pub fn write_drawings<W: ByteSink>(
 ) -> Result<bool, SessionFault>
     requires { W.failed_calls sink.old < 2 ^ 64 - 1 }
     // The answer is written, or a front of it where a write failed, and else nothing.
-    ensures written { IsReasonWritten model.now test.now (W.contents sink.old) (W.contents sink.new) result }
+    ensures written { IsPictureWritten drawn most model.now test.now (W.contents sink.old) (W.contents sink.new) result }
     // `Write` comes after one failed call, and all else after none.
     ensures failed { result ≡ Err SessionFault.Write → W.failed_calls sink.new ≡ W.failed_calls sink.old + 1 }
     ensures same { result ≢ Err SessionFault.Write → W.failed_calls sink.new ≡ W.failed_calls sink.old }

@@ -1,11 +1,13 @@
 //! One test under one model, from bytes to a log.
 
-ghost use Rattle.std.specs.Prelude.{IfOk, IfErr};
+ghost use Rattle.std.specs.Prelude.{◌≡◌, IfOk, IfErr};
 ghost use Rattle.cat_grammar.specs.declared.form.Form.{Form};
 ghost use Rattle.cat_syntax.specs.Reads.{Reads};
 ghost use Rattle.cat_values.specs.Values.{clauses_of};
 ghost use Rattle.litmus_grammar.specs.Texts.{ReadsTest};
 ghost use Rattle.litmus_values.specs.Value.{content_of};
+ghost use Rattle.litmusbench.specs.Pictures as pictures;
+ghost use Rattle.litmusbench.specs.Pictures.{IsPictureOf};
 ghost use Rattle.litmusbench.specs.Answer.{IsLogOf, IsLog, IsRefusal, IsOfModel, IsOfTest};
 ghost use Rattle.litmusbench.specs.Reasoned.{AreRead};
 ghost use Rattle.litmusbench.specs.Whys.{IsWhyOf};
@@ -97,7 +99,9 @@ pub fn why_report(
     }
 }
 
-fn wanted(drawn: Drawn) -> Wanted {
+fn wanted(drawn: Drawn) -> Wanted
+    ensures { result ≡ pictures.wanted drawn }
+{
     match drawn {
         Drawn::Shown => Wanted::Shown,
         Drawn::Forbidden => Wanted::Forbidden,
@@ -114,8 +118,8 @@ pub fn draw_report(
     drawn: Drawn,
     most: u64,
 ) -> Result<Vec<u8>, EvalFault>
-    // A report is of two texts that mean something.
-    ensures read { IfOk result (λ _. AreRead model.now test.now) }
+    // A report is what is drawn of the test and the model that the texts mean.
+    ensures report { IfOk result (λ text. IsPictureOf drawn most model.now test.now text.items) }
     // A refusal is that of the first text that means nothing.
     ensures refusal { IfErr result (IsRefusal model.now test.now) }
 {

@@ -6,3 +6,5 @@ pub mod Whys
 pub mod Views
 pub mod Checked
 pub mod Language
+pub mod Drawings
+pub mod Drawable

@@ -19,7 +19,8 @@ use step_labels::{
     EventPair, ModelName, PredefinedValue, body_at, innermost, names_inside, operands,
 };
 
-fn predefined_value(
+/// The values of a name of the language that stands for a relation. Errors: want of memory.
+pub fn predefined_value(
     alloc: Global,
     space: &Space,
     name: Predefined,

@@ -1,0 +1,47 @@
+-- What `draw` answers to a model's text and a test's text. Read `IsDrawn` of reasons first.
+use Rattle.std.specs.Prelude.{ℕ, List, Bool, true, false, Option, Result, Ok, Err}
+use Rattle.std.specs.Io.KnownBytes.{Keeps, Appends}
+use Rattle.litmus_values.specs.declared.test.Test.{Test}
+use Rattle.litmus_values.specs.Value.{content_of}
+use Rattle.litmus_grammar.specs.Texts.{ReadsTest}
+use Rattle.cat_values.specs.declared.model.ModelText.{ModelText}
+use Rattle.cat_values.specs.Values.{clauses_of}
+use Rattle.cat_grammar.specs.declared.form.Form.TheVariants.{Model}
+use Rattle.cat_syntax.specs.Reads.{Reads}
+use Rattle.reasons.specs.declared.drawing.Wanted.{Wanted}
+use Rattle.reasons.specs.declared.drawing.Wanted.TheVariants as wanteds
+use Rattle.reasons.specs.Drawings.{IsDrawn}
+use Rattle.litmusbench.specs.declared.fault.SessionFault.{SessionFault}
+use Rattle.litmusbench.specs.declared.fault.SessionFault.TheVariants as session_faults
+use Rattle.litmusbench.specs.declared.form.Drawn.{Drawn}
+use Rattle.litmusbench.specs.declared.form.Drawn.TheVariants as drawns
+use Rattle.litmusbench.specs.Answer.{IsAnswer}
+use Rattle.litmusbench.specs.Written.{WritesFront}
+
+-- the executions that a word of the command line asks for
+abbrev pub wanted : Drawn → Wanted
+wanted drawns.Shown = wanteds.Shown
+wanted drawns.Forbidden = wanteds.Forbidden
+wanted drawns.All = wanteds.All
+
+-- what is drawn of the test and the model that the two texts mean
+pub record IsPictureOf (drawn : Drawn) (most : ℕ) (model test text : List ℕ) : Type 0 where
+  pub items : ModelText
+  pub model_read : Reads Model model (clauses_of items.items.items)
+  pub known : Test
+  pub test_read : ReadsTest test (content_of known)
+  pub pictured : IsDrawn (wanted drawn) most known items text
+
+-- that, or the line of the first text that is refused
+abbrev pub IsPictureAnswer : Drawn → ℕ → List ℕ → List ℕ → List ℕ → Bool → Type 0
+IsPictureAnswer drawn most model test text false = IsPictureOf drawn most model test text
+IsPictureAnswer drawn most model test text true = IsAnswer model test text true
+
+-- the bytes of a sink, before and after: the answer, or a front of it where a write failed, and else nothing
+abbrev pub IsPictureWritten : Drawn → ℕ → List ℕ → List ℕ → Option (List ℕ) → Option (List ℕ) → Result Bool SessionFault → Type 0
+IsPictureWritten drawn most model test old new (Ok refused) =
+    (text : List ℕ) × IsPictureAnswer drawn most model test text refused × Appends old new text
+IsPictureWritten drawn most model test old new (Err session_faults.Write) =
+    (text : List ℕ) × (refused : Bool) × IsPictureAnswer drawn most model test text refused × WritesFront old new text
+IsPictureWritten drawn most model test old new (Err session_faults.Read) = Keeps old new
+IsPictureWritten drawn most model test old new (Err session_faults.Memory) = Keeps old new
