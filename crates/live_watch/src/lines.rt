@@ -1,17 +1,22 @@
 //! What is written of the tests.
 
-ghost use Rattle.std.specs.Prelude.{◌≡◌, ℕ, drop, IfOk};
+ghost use Rattle.std.specs.Prelude.{◌≡◌, ℕ, drop, IfOk, OnOk};
 ghost use Rattle.compare_report.specs.Cells.{cell_of};
-ghost use Rattle.live_watch.specs.Lines.{model_name, test_table, IsRight, IsTestLine, IsTestTable};
+ghost use Rattle.board.specs.Contents.{shown};
+ghost use Rattle.board.specs.Legal.{IsLegal, texts_after};
+ghost use Rattle.board.specs.Operations.{board_after};
+ghost use Rattle.live_watch.specs.Lines.{model_name, test_table, IsRight, IsTestLine, IsTestTable, IsLineNow, AreLineWritten};
 
 use crate::watched::{Watched, WatchedTest};
-use cells::bench::Bench;
-use cells::shown::Shown;
+use board::laws::{legal_is_right, names_are_those};
 use compare_report::{Shown as Cell, TestRow, table_text};
+use core::mem::replace_with;
+use desk_rule::{Naming, View, Viewer};
 use litmus_ppc::Name;
+use running_bench::RunningTexts;
 use source_text::{line_length, put_bytes, put_decimal};
-use stamped_texts::StampedTexts;
 use std::alloc::{AllocError, Global};
+use std::sync::Wait;
 use value_store::StoreName;
 
 /// The name of the model on the bench.
@@ -22,14 +27,15 @@ pub fn model_name() -> &'static [u8]
 }
 
 // What is shown of a test.
-fn shown_cell<'x, K: StoreName>(bench: &'x Bench<K, StampedTexts>, name: &[u8]) -> Cell<'x>
-    ensures { IsRight bench.now.texts name.now (cell_of result) }
+#[tactic(auto, using(crate::proofs::Shown::right_cell))]
+fn shown_cell<'x, J: Naming>(view: &'x View<J, RunningTexts>, name: &[u8]) -> Cell<'x>
+    requires { IsLegal view.now }
+    ensures shown { cell_of result ≡ shown (board_after view.now) name.now model_name }
+    ensures right { IsRight (texts_after view.now) name.now (cell_of result) }
 {
-    match bench.shown(name, model_name()) {
-        Shown::Settled(outcome) => Cell::Settled(outcome),
-        Shown::Open => Cell::Open,
-        Shown::NoCell => Cell::NoCell,
-    }
+    legal_is_right();
+    names_are_those();
+    view.board().show(name, model_name())
 }
 
 // The table of one test under the model.
@@ -46,14 +52,15 @@ fn cell_table<'x>(alloc: Global, name: &'x [u8], cell: Cell<'x>) -> Result<Vec<u
     table_text(alloc, &models, &rows)
 }
 
-fn table_of_test<'x, K: StoreName>(
+fn table_of_test<'x, J: Naming>(
     alloc: Global,
-    bench: &'x Bench<K, StampedTexts>,
+    view: &'x View<J, RunningTexts>,
     name: &'x [u8],
 ) -> Result<Vec<u8>, AllocError>
-    ensures { IfOk result (λ v. IsTestTable bench.now.texts name.now v.items) }
+    requires { IsLegal view.now }
+    ensures { IfOk result (λ v. IsTestTable view.now name.now v.items) }
 {
-    let cell = shown_cell(bench, name);
+    let cell = shown_cell(view, name);
     cell_table(alloc, name, cell)
 }
 
@@ -70,29 +77,81 @@ fn behind_line(text: &[u8]) -> &[u8]
 }
 
 /// The line of a test, as in a table of it alone. Errors: out of memory.
-pub fn test_line<K: StoreName>(
+pub fn test_line<J: Naming>(
     alloc: Global,
-    bench: &Bench<K, StampedTexts>,
+    view: &View<J, RunningTexts>,
     name: &[u8],
 ) -> Result<Vec<u8>, AllocError>
-    ensures { IfOk result (λ v. IsTestLine bench.now.texts name.now v.items) }
+    requires { IsLegal view.now }
+    ensures { IfOk result (λ v. IsTestLine view.now name.now v.items) }
 {
-    let table = table_of_test(alloc, bench, name)?;
+    let table = table_of_test(alloc, view, name)?;
     Vec::from_slice(alloc, behind_line(&table))
 }
 
-// Appends the line of a test where it differs from the last that was written of it.
-fn put_changed<K: StoreName>(
+// The line of the test of a file now: that which was written last, where no version was accepted yet.
+fn line_now<J: Naming>(
     alloc: Global,
-    bench: &Bench<K, StampedTexts>,
+    view: &View<J, RunningTexts>,
+    test: &WatchedTest<'_>,
+) -> Result<Vec<u8>, AllocError>
+    requires { IsLegal view.now }
+    ensures { IfOk result (λ v. IsLineNow view.now test.now.name test.now.line.items v.items) }
+{
+    match &test.name {
+        Some(name) => test_line(alloc, view, name.as_bytes()),
+        None => Vec::from_slice(alloc, &test.line),
+    }
+}
+
+// The lines of these files now.
+fn lines_now<J: Naming>(
+    alloc: Global,
+    view: &View<J, RunningTexts>,
+    tests: &[WatchedTest<'_>],
+) -> Result<Vec<Vec<u8>>, AllocError>
+    requires { IsLegal view.now }
+{
+    let mut lines = Vec::new(alloc);
+    for test in tests {
+        lines.push(line_now(alloc, view, test)?)?;
+    }
+    Ok(lines)
+}
+
+// What is to be read of the board.
+#[derive(Clone, Copy)]
+struct Asked<'p, 'a> {
+    alloc: Global,
+    tests: &'p [WatchedTest<'a>],
+}
+
+// Reads the board that was published last. The viewer comes back.
+fn read_board<'p, 'a, J: Naming>(
+    viewer: Viewer<J, RunningTexts>,
+    asked: Asked<'p, 'a>,
+) -> (Viewer<J, RunningTexts>, Result<Vec<Vec<u8>>, AllocError>) {
+    match viewer.read() {
+        Ok(view) => {
+            let lines = lines_now(asked.alloc, &view, asked.tests);
+            (view.leave(), lines)
+        }
+        Err(viewer) => (viewer, Err(AllocError)),
+    }
+}
+
+// Appends the line of a test where it differs from the last that was written of it.
+fn put_changed(
+    alloc: Global,
     test: &mut WatchedTest<'_>,
+    line: &[u8],
     text: &mut Vec<u8>,
-) -> Result<(), AllocError> {
-    let line = match &test.name {
-        Some(name) => test_line(alloc, bench, name.as_bytes())?,
-        None => return Ok(()),
-    };
-    if line.as_slice() != test.line.as_slice() {
+) -> Result<(), AllocError>
+    ensures line { OnOk result (AreLineWritten test.old.line.items line.now test.new.line.items text.old.items text.new.items) }
+    ensures name { test.new.name ≡ test.old.name }
+{
+    if line != test.line.as_slice() {
+        let line = Vec::from_slice(alloc, line)?;
         put_bytes(text, &line)?;
         test.line = line;
     }
@@ -106,11 +165,20 @@ pub fn put_jobs(text: &mut Vec<u8>, jobs: u64) -> Result<(), AllocError> {
     put_bytes(text, b"\n")
 }
 
-impl<'a, K: StoreName> Watched<'a, K> {
+impl<'a, 'd, J: Naming + StoreName, R: Wait + Drop> Watched<'a, 'd, J, R> {
+    // The lines of all files now, from the board that was published last.
+    fn lines(&mut self, alloc: Global) -> Result<Vec<Vec<u8>>, AllocError> {
+        let tests = &self.tests;
+        replace_with(&mut self.viewer, Asked { alloc, tests }, read_board)
+    }
+
     /// Appends the lines that differ from the last that were written. Errors: out of memory.
     pub fn put_lines(&mut self, alloc: Global, text: &mut Vec<u8>) -> Result<(), AllocError> {
-        for test in &mut self.tests {
-            put_changed(alloc, &self.bench, test, text)?;
+        let lines = self.lines(alloc)?;
+        for index in 0..lines.len() {
+            if let Some(test) = self.tests.get_mut(index) {
+                put_changed(alloc, test, &lines[index], text)?;
+            }
         }
         Ok(())
     }
