@@ -1,9 +1,12 @@
 -- Read this first: the cells of a board, as the desk counts them: test by test, in the order of the models.
-use Rattle.std.specs.Prelude.{◌≡◌, ℕ, ◌*◌, ◌+◌, ◌<◌, ◌^◌, List, [], ◌∷◌, ◌++◌, Option, Some, None, length, nat_lt, if◌then◌else◌, slice_get}
+use Rattle.std.specs.Prelude.{◌≡◌, ℕ, ◌*◌, ◌+◌, ◌<◌, ◌^◌, List, [], ◌∷◌, ◌++◌, Option, Some, None, length}
+use Rattle.std.specs.Prelude.{nat_lt, if◌then◌else◌, slice_get}
 use Rattle.verdict.specs.declared.answer.Outcome.{Outcome}
 use Rattle.desk.specs.Boards.{BoardCell}
 use Rattle.board.specs.declared.operation.CellIndex.{CellIndex}
 use Rattle.board.specs.Contents.{RowContent, ColumnContent, BoardContent, cell_at}
+
+-- ---- the cells
 
 abbrev pub cell_with : List ℕ → List ℕ → Option Outcome → BoardCell Outcome
 cell_with test model outcome = record { test = test; model = model; outcome = outcome }
@@ -18,9 +21,15 @@ abbrev pub all_cells : List ColumnContent → List RowContent → List (BoardCel
 all_cells columns [] = []
 all_cells columns (r ∷ rs) = row_cells r.name columns r.cells ++ all_cells columns rs
 
--- all of them; a board of more than a number of 64 bits counts lists none
+-- a number of 64 bits counts the cells
+abbrev pub IsCountable : BoardContent → Type 0
+IsCountable b = length b.rows * length b.columns < 2 ^ 64
+
+-- all cells, and none of a board that is not countable
 abbrev pub board_cells : BoardContent → List (BoardCell Outcome)
 board_cells b = if nat_lt (length b.rows * length b.columns) (2 ^ 64) then all_cells b.columns b.rows else []
+
+-- ---- their indexes
 
 -- there is a cell at these indexes
 abbrev pub HasCell : BoardContent → CellIndex → Type 0
@@ -30,7 +39,15 @@ HasCell b at = (x : Option Outcome) × (cell_at b.rows at.test at.model ≡ Some
 abbrev pub IsIndexOf : BoardContent → ℕ → CellIndex → Type 0
 IsIndexOf b index at = (index ≡ at.test * length b.columns + at.model) × (at.model < length b.columns)
 
--- they are those of a test and of a model of these names
+-- they are those of the cell that the desk counts so, and it is there
+pub record IsCellAt (b : BoardContent) (index : ℕ) (at : CellIndex) : Type 0 where
+  pub is_index : IsIndexOf b index at
+  pub there : HasCell b at
+  pub countable : IsCountable b
+
+-- ---- their names
+
+-- these indexes are those of a test and of a model of these names
 pub record IsNamedAt (b : BoardContent) (at : CellIndex) (test model : List ℕ) : Type 0 where
   pub row : RowContent
   pub column : ColumnContent
@@ -38,3 +55,8 @@ pub record IsNamedAt (b : BoardContent) (at : CellIndex) (test model : List ℕ)
   pub column_there : slice_get b.columns at.model ≡ Some column
   pub row_named : row.name ≡ test
   pub column_named : column.name ≡ model
+
+-- there is no test or no model at these indexes
+abbrev pub HasNoNames : BoardContent → CellIndex → Type 0
+HasNoNames b at =
+    (row : RowContent) (column : ColumnContent) → slice_get b.rows at.test ≡ Some row → slice_get b.columns at.model ≡ Some column → ⊥

@@ -1,6 +1,6 @@
 //! What a desk is made of.
 
-ghost use Rattle.std.specs.Prelude.{◌≡◌, [], IfOk};
+ghost use Rattle.std.specs.Prelude.{◌≡◌, [], IfOk, min};
 ghost use Rattle.stamped_texts.specs.Texts.{IsSound};
 ghost use Rattle.running_bench.specs.Texts.{AreAfter};
 
@@ -13,7 +13,7 @@ use left_right::Absorb;
 use node_values::NodeValue;
 use std::alloc::{AllocError, Global};
 use std::sync::{Arc, Wait};
-use value_store::{Opened as OpenedStore, Store, StoreName};
+use value_store::{MAX_VALUES, Opened as OpenedStore, Store, StoreName};
 
 /// A desk of litmus tests and models.
 pub type RunningDesk<J, R> = Desk<J, RunningTexts, R>;
@@ -25,8 +25,10 @@ pub struct DeskSeed {
 }
 
 impl DeskSeed {
-    /// A new history and a new store. Errors: want of memory.
-    pub fn new(alloc: Global) -> Result<DeskSeed, AllocError> {
+    /// A new history and a new store of `MAX_VALUES` values at most. Errors: want of memory.
+    pub fn new(alloc: Global) -> Result<DeskSeed, AllocError>
+        ensures limit { IfOk result (λ seed. seed.values.limit ≡ MAX_VALUES) }
+    {
         let values = Store::new(alloc)?;
         Ok(DeskSeed {
             book: Opened::new(),
@@ -34,8 +36,10 @@ impl DeskSeed {
         })
     }
 
-    /// A new history and a new store of so many values at most. Errors: want of memory.
-    pub fn with_limit(alloc: Global, limit: usize) -> Result<DeskSeed, AllocError> {
+    /// A new history and a new store of at most `limit` values, and never more than `MAX_VALUES`. Errors: want of memory.
+    pub fn with_limit(alloc: Global, limit: usize) -> Result<DeskSeed, AllocError>
+        ensures limit { IfOk result (λ seed. seed.values.limit ≡ min limit MAX_VALUES) }
+    {
         let values = Store::with_limit(alloc, limit)?;
         Ok(DeskSeed {
             book: Opened::new(),

@@ -1,8 +1,7 @@
 //! Tests and models as texts of a desk.
 
-ghost use Rattle.std.specs.Prelude.{◌≡◌, ◌<◌, length, slice_get, option_map, Some, IfSome, IfNone, IsTrue};
-ghost use Rattle.board.specs.Contents.{RowContent, ColumnContent};
-ghost use Rattle.running_bench.specs.Cells.{HasCell, IsIndexOf, IsNamedAt};
+ghost use Rattle.std.specs.Prelude.{◌<◌, length, IfSome, IfNone, IsTrue};
+ghost use Rattle.running_bench.specs.Cells.{HasCell, IsIndexOf, IsNamedAt, HasNoNames};
 
 use crate::copies::copied;
 use bench_texts::{Edit, EditFault};
@@ -58,7 +57,8 @@ impl Texts for RunningTexts {
     ghost use Rattle.stamped_texts.specs.Texts.{IsSound, IsSince, IsThere, net_of};
     ghost use Rattle.stamped_texts.specs.Edited.{IsEdited, IsPrepared, IsReady, IsCommitted};
     ghost use Rattle.stamped_texts.specs.Commits.{commits_edit};
-    ghost use Rattle.stamped_texts.specs.Laws.{texts_are_sound, since_itself, since_edited, given_stays, valid_edited, used_there, used_closed, users_listed, ranks_fall, goes_on};
+    ghost use Rattle.stamped_texts.specs.Laws.{texts_are_sound, since_itself, since_edited, given_stays, valid_edited, goes_on};
+    ghost use Rattle.stamped_texts.specs.Laws.{used_there, used_closed, users_listed, ranks_fall};
 
     ghost is_valid = { IsSound };
 
@@ -294,7 +294,7 @@ fn cell_index(board: &Board, index: usize) -> CellIndex
 // The names of the test and of the model at these indexes.
 fn names_at(board: &Board, at: CellIndex) -> Option<CellNames<'_>>
     ensures named { IfSome result (λ c. IsNamedAt board.now at c.test.now c.model.now) }
-    ensures none { IfNone result ((row : RowContent) (column : ColumnContent) → slice_get board.now.rows at.test ≡ Some row → slice_get board.now.columns at.model ≡ Some column → ⊥) }
+    ensures none { IfNone result (HasNoNames board.now at) }
 {
     Some(CellNames {
         test: board.test_name(at.test)?,
@@ -317,8 +317,11 @@ impl BoardTexts for RunningTexts {
     ghost use Rattle.running_bench.specs.Cells.{board_cells};
     ghost use Rattle.std.proofs.Common.{refl};
     ghost use Rattle.board.specs.Legal.{last_number};
-    ghost use Rattle.running_bench.specs.Texts.{AreAfter, Announced, IsEditOf, IsSettle, Settles};
-    ghost use Rattle.running_bench.specs.Laws.{same_after, edits_follow, edits_after, edits_named, edits_numbered, settles_follow, settles_named, settles_after, settles_numbered, settles_show, cells_are_known};
+    ghost use Rattle.std.specs.Prelude.{◌↔◌};
+    ghost use Rattle.running_bench.specs.Texts.{AreAfter, Announced, IsWantOfMemory, IsEditAfter, IsSettle, Settles};
+    ghost use Rattle.running_bench.specs.Laws.{same_after, edits_follow, edits_after, edits_named, edits_numbered};
+    ghost use Rattle.running_bench.specs.Laws.{settles_follow, settles_named, settles_after, settles_numbered, settles_show};
+    ghost use Rattle.running_bench.specs.Laws.{cells_are_known};
 
     ghost are_after = { AreAfter };
 
@@ -326,7 +329,7 @@ impl BoardTexts for RunningTexts {
 
     ghost announces = { Announced };
 
-    ghost is_edit = { λ _ op e number. IsEditOf op e number };
+    ghost is_edit = { IsEditAfter };
 
     ghost is_settle = { IsSettle };
 
@@ -349,7 +352,9 @@ impl BoardTexts for RunningTexts {
         Ok(BoardOp::Edit(BoardEdit::new(alloc, number, self.texts.texts(), prepared.texts())?))
     }
 
-    fn wants_memory(fault: &EditFault) -> bool {
+    fn wants_memory(fault: &EditFault) -> bool
+        ensures { IsTrue result ↔ IsWantOfMemory fault.now }
+    {
         matches!(fault, EditFault::OutOfMemory(_))
     }
 

@@ -97,5 +97,7 @@ module _ (t u : StampedTexts) (same : IsSame t u) where
   since_is r since = record {
     sound = sound_is since.sound;
     since = states.since_is (state_of t) (state_of u) same.state (state_of r) since.since;
-    held = λ e. (let h = since.held (sym same.state.last ∙ e) in (same.state.tests ∙ h.0, same.models ∙ h.1));
+    same = λ e. (
+        let h = since.same (sym same.state.last ∙ e) in
+        record { texts = same.texts ∙ h.texts; tests = same.state.tests ∙ h.tests; models = same.models ∙ h.models });
   }

@@ -27,7 +27,11 @@ pub texts_are_sound : (t : StampedTexts) → IsSound t → core.IsSound makes (n
 texts_are_sound t sound = keeping.states_are_sound (state_of t) (valid_of t sound)
 
 pub since_itself : (t : StampedTexts) → IsSound t → IsSince t t
-since_itself t sound = record { sound = sound; since = keeping.since_itself (state_of t) (valid_of t sound); held = λ e. (refl, refl) }
+since_itself t sound = record {
+  sound = sound;
+  since = keeping.since_itself (state_of t) (valid_of t sound);
+  same = λ e. record { texts = refl; tests = refl; models = refl };
+}
 
 pub given_stays : GivenStays IsSound IsSince net_of
 given_stays t u n g sound since same parts gives = keeping.given_is_kept (state_of t) (state_of u) n g since.since same parts gives
@@ -52,7 +56,7 @@ since_edited t u w e number since after =
     record {
       sound = after.sound since.sound;
       since = keeping.since_stamped (state_of t) (state_of u) (state_of w) number since.since stamped;
-      held = λ same. absurd (omega (arith, same, stamped.last, stamped.above, since.since.later));
+      same = λ e. absurd (omega (arith, e, stamped.last, stamped.above, since.since.later));
     }
 
 pub valid_edited : (t u : StampedTexts) (e : Edit) (number : ℕ) → IsSound t → IsEdited t e number u → IsSound u

@@ -26,11 +26,17 @@ pub record IsSound (t : StampedTexts) : Type 0 where
   pub orderly : IsOrderly (texts_of t.texts)
   pub kinds : AreKindsOf t.parts t.texts.models.items
 
--- the later texts came of the earlier ones; without an edit between them the tests and the models are the same
+-- the later texts say what the earlier ones say, and hold the same tests and models
+pub record HasTextsOf (t u : StampedTexts) : Type 0 where
+  pub texts : texts_of u.texts ≡ texts_of t.texts
+  pub tests : u.texts.tests.items ≡ t.texts.tests.items
+  pub models : u.texts.models.items ≡ t.texts.models.items
+
+-- the later texts came of the earlier ones; without an edit between them they say the same
 pub record IsSince (t u : StampedTexts) : Type 0 where
   pub sound : IsSound u
   pub since : states.IsSince (state_of t) (state_of u)
-  pub held : u.parts.last ≡ t.parts.last → (u.texts.tests.items ≡ t.texts.tests.items) × (u.texts.models.items ≡ t.texts.models.items)
+  pub same : u.parts.last ≡ t.parts.last → HasTextsOf t u
 
 abbrev pub net_of : StampedTexts → Net GivenContent
 net_of t = states.net_in (state_of t)
