@@ -1,8 +1,13 @@
 //! The loop: lines that name files, and what is answered to them.
 
-ghost use Rattle.std.specs.Prelude.{◌≡◌, ◌≢◌, ◌+◌, ◌-◌, ◌<◌, ◌^◌, OnOk, OnErr, Err};
+ghost use Rattle.std.specs.Prelude.{◌≡◌, ◌≢◌, ◌+◌, ◌-◌, ◌<◌, ◌^◌, ◌++◌, List, ℕ, codes, [], true, false};
+ghost use Rattle.std.specs.Prelude.{IfOk, OnOk, OnErr, Ok, Err};
+ghost use Rattle.bench_texts.specs.declared.fault.EditFault.{EditFault};
+ghost use Rattle.session_edits.specs.Faults.{fault_line};
+ghost use Rattle.std.specs.Io.KnownBytes.{Appends};
+ghost use Rattle.live_watch.specs.Lines.{lists_of, AreShown, AreWritten, IsAnswer, IsAnswered};
 
-use crate::lines::put_jobs;
+use crate::lines::put_answer;
 use crate::settling::Hands;
 use crate::versions::{Version, Versions};
 use crate::watched::Watched;
@@ -27,6 +32,7 @@ enum Watching {
 
 // Want of memory is the fault `Memory`.
 fn memory<T>(made: Result<T, AllocError>) -> Result<T, SessionFault>
+    ensures value { IfOk result (λ value. made ≡ Ok value) }
     ensures fault { OnErr result (result ≡ Err SessionFault.Memory) }
 {
     match made {
@@ -46,7 +52,9 @@ fn put_refused(
     text: &mut Vec<u8>,
     path: &[u8],
     fault: EditFault,
-) -> Result<(), AllocError> {
+) -> Result<(), AllocError>
+    ensures { OnOk result (text.new.items ≡ text.old.items ++ path.now ++ codes ": " ++ fault_line fault) }
+{
     let answer = refused_edit(alloc, fault)?;
     put_bytes(text, path)?;
     put_bytes(text, b": ")?;
@@ -54,17 +62,21 @@ fn put_refused(
 }
 
 // The line of a name, with what is said of it.
-fn put_said(text: &mut Vec<u8>, name: &[u8], said: &[u8]) -> Result<(), AllocError> {
+fn put_said(text: &mut Vec<u8>, name: &[u8], said: &[u8]) -> Result<(), AllocError>
+    ensures { OnOk result (text.new.items ≡ text.old.items ++ name.now ++ said.now) }
+{
     put_bytes(text, name)?;
     put_bytes(text, said)
 }
 
-/// A run of the program: the desk with its files, the path of the model, who runs the jobs, and whether a text was refused.
+/// A run of the program: the desk with its files, the path of the model, who runs the jobs, the lines that were last written of
+/// the files of tests, in their order, and whether a text was refused.
 #[derive(Drop)]
 pub struct Run<'a, 'd, J: Naming + StoreName, R: Wait + Drop> {
     pub watched: Watched<'a, 'd, J, R>,
     pub model: &'a str,
     pub hands: Hands<'d, J, R>,
+    pub lines: Vec<Vec<u8>>,
     pub is_refused: bool,
 }
 
@@ -87,7 +99,9 @@ impl<'a, 'd, J: Naming + StoreName, R: Wait + Drop> Run<'a, 'd, J, R> {
         alloc: Global,
         file: Watching,
         version: Vec<u8>,
-    ) -> Result<Option<EditFault>, AllocError> {
+    ) -> Result<Option<EditFault>, AllocError>
+        ensures { self.new.lines ≡ self.old.lines }
+    {
         match file {
             Watching::Model => self.watched.take_model(rt, alloc, version),
             Watching::Test(index) => self.watched.take_test(rt, alloc, index, version),
@@ -104,7 +118,11 @@ impl<'a, 'd, J: Naming + StoreName, R: Wait + Drop> Run<'a, 'd, J, R> {
         path: &[u8],
         version: Vec<u8>,
         text: &mut Vec<u8>,
-    ) -> Result<bool, AllocError> {
+    ) -> Result<bool, AllocError>
+        ensures accepted { result ≡ Ok true → text.new.items ≡ text.old.items }
+        ensures refused { result ≡ Ok false → (fault : EditFault) × (text.new.items ≡ text.old.items ++ path.now ++ codes ": " ++ fault_line fault) }
+        ensures lines { self.new.lines ≡ self.old.lines }
+    {
         match self.take(rt, alloc, file, version)? {
             Some(fault) => {
                 self.is_refused = true;
@@ -123,10 +141,13 @@ impl<'a, 'd, J: Naming + StoreName, R: Wait + Drop> Run<'a, 'd, J, R> {
         text: &mut Vec<u8>,
     ) -> Result<(), SessionFault>
         ensures fault { OnErr result (result ≡ Err SessionFault.Memory) }
+        ensures shown { OnOk result (AreShown self.new.watched.viewer self.new.watched.tests.items (lists_of self.new.lines.items)) }
+        ensures written { OnOk result (AreWritten (lists_of self.old.lines.items) (lists_of self.new.lines.items) text.old.items text.new.items) }
     {
-        let jobs = self.watched.settle(rt, alloc, &self.hands)?;
-        memory(self.watched.put_lines(alloc, text))?;
-        memory(put_jobs(text, jobs))
+        let (jobs, lines) = self.watched.settled_lines(rt, alloc, &self.hands)?;
+        memory(put_answer(text, &self.lines, &lines, jobs))?;
+        self.lines = lines;
+        Ok(())
     }
 
     // Takes the first version of a file.
@@ -140,6 +161,7 @@ impl<'a, 'd, J: Naming + StoreName, R: Wait + Drop> Run<'a, 'd, J, R> {
         text: &mut Vec<u8>,
     ) -> Result<(), SessionFault>
         ensures fault { result ≢ Err SessionFault.Write }
+        ensures lines { self.new.lines ≡ self.old.lines }
     {
         match versions.version(alloc, path) {
             Version::Text(version) => {
@@ -160,6 +182,8 @@ impl<'a, 'd, J: Naming + StoreName, R: Wait + Drop> Run<'a, 'd, J, R> {
         tests: &[&str],
     ) -> Result<Vec<u8>, SessionFault>
         ensures fault { result ≢ Err SessionFault.Write }
+        ensures shown { OnOk result (AreShown self.new.watched.viewer self.new.watched.tests.items (lists_of self.new.lines.items)) }
+        ensures written { IfOk result (λ text. (told : List ℕ) × AreWritten (lists_of self.old.lines.items) (lists_of self.new.lines.items) told text.items) }
     {
         let mut text = Vec::new(alloc);
         self.begin_file(rt, alloc, versions, Watching::Model, self.model, &mut text)?;
@@ -177,6 +201,27 @@ impl<'a, 'd, J: Naming + StoreName, R: Wait + Drop> Run<'a, 'd, J, R> {
         Ok(text)
     }
 
+    // What is written of a later text of a file.
+    fn answer_text<W: Wait>(
+        &mut self,
+        rt: &W,
+        alloc: Global,
+        file: Watching,
+        path: &[u8],
+        version: Vec<u8>,
+    ) -> Result<Vec<u8>, SessionFault>
+        ensures fault { OnErr result (result ≡ Err SessionFault.Memory) }
+        ensures answer { IfOk result (λ text. IsAnswer path.now self.new.watched.viewer self.new.watched.tests.items (lists_of self.old.lines.items) (lists_of self.new.lines.items) text.items) }
+    {
+        let mut text = Vec::new(alloc);
+        let is_accepted = memory(self.accept(rt, alloc, file, path, version, &mut text))?;
+        if is_accepted {
+            self.put_settled(rt, alloc, &mut text)?;
+            return Ok(text);
+        }
+        Ok(text)
+    }
+
     // What is written of a later version of a file.
     fn answer_version<W: Wait>(
         &mut self,
@@ -187,18 +232,29 @@ impl<'a, 'd, J: Naming + StoreName, R: Wait + Drop> Run<'a, 'd, J, R> {
         version: Version,
     ) -> Result<Vec<u8>, SessionFault>
         ensures fault { OnErr result (result ≡ Err SessionFault.Memory) }
+        ensures answer { IfOk result (λ text. IsAnswer path.now self.new.watched.viewer self.new.watched.tests.items (lists_of self.old.lines.items) (lists_of self.new.lines.items) text.items) }
     {
-        let mut text = Vec::new(alloc);
         match version {
-            Version::Text(version) => {
-                if memory(self.accept(rt, alloc, file, path, version, &mut text))? {
-                    self.put_settled(rt, alloc, &mut text)?;
-                }
+            Version::Text(version) => self.answer_text(rt, alloc, file, path, version),
+            Version::Unread => {
+                let mut text = Vec::new(alloc);
+                memory(put_said(&mut text, path, b": not read\n"))?;
+                Ok(text)
             }
-            Version::Unread => memory(put_said(&mut text, path, b": not read\n"))?,
-            Version::OutOfMemory => return Err(SessionFault::Memory),
+            Version::OutOfMemory => Err(SessionFault::Memory),
         }
-        Ok(text)
+    }
+
+    // The path of what a name stands for, if it is watched.
+    fn path_of(&self, file: Watching) -> Option<&'a str> {
+        match file {
+            Watching::Model => Some(self.model),
+            Watching::Test(index) => match self.watched.tests.get(index) {
+                Some(test) => Some(test.path),
+                None => None,
+            },
+            Watching::Nothing => None,
+        }
     }
 
     // What is written of a line.
@@ -210,22 +266,20 @@ impl<'a, 'd, J: Naming + StoreName, R: Wait + Drop> Run<'a, 'd, J, R> {
         line: &[u8],
     ) -> Result<Vec<u8>, SessionFault>
         ensures fault { OnErr result (result ≡ Err SessionFault.Memory) }
+        ensures answer { IfOk result (λ text. IsAnswer line.now self.new.watched.viewer self.new.watched.tests.items (lists_of self.old.lines.items) (lists_of self.new.lines.items) text.items) }
     {
-        let mut text = Vec::new(alloc);
         let file = self.named(line);
-        let path = match file {
-            Watching::Model => self.model,
-            Watching::Test(index) => match self.watched.tests.get(index) {
-                Some(test) => test.path,
-                None => return Ok(text),
-            },
-            Watching::Nothing => {
-                memory(put_said(&mut text, line, b": not watched\n"))?;
-                return Ok(text);
+        match self.path_of(file) {
+            Some(path) => {
+                let version = versions.version(alloc, path);
+                self.answer_version(rt, alloc, file, line, version)
             }
-        };
-        let version = versions.version(alloc, path);
-        self.answer_version(rt, alloc, file, line, version)
+            None => {
+                let mut text = Vec::new(alloc);
+                memory(put_said(&mut text, line, b": not watched\n"))?;
+                Ok(text)
+            }
+        }
     }
 
     // Answers a line by one write.
@@ -242,6 +296,8 @@ impl<'a, 'd, J: Naming + StoreName, R: Wait + Drop> Run<'a, 'd, J, R> {
         ensures wrote { result ≡ Err SessionFault.Write → K.failed_calls sink.new ≡ K.failed_calls sink.old + 1 }
         ensures unfailed { result ≢ Err SessionFault.Write → K.failed_calls sink.new ≡ K.failed_calls sink.old }
         ensures unread { result ≢ Err SessionFault.Read }
+        // one write, of what is answered to the line
+        ensures answered { line.now ≢ [] → OnOk result (IsAnswered K.contents line.now self.new.watched.viewer self.new.watched.tests.items (lists_of self.old.lines.items) (lists_of self.new.lines.items) sink.old sink.new) }
     {
         if line.is_empty() {
             return Ok(());

@@ -1,19 +1,19 @@
 //! What is written of the tests.
 
-ghost use Rattle.std.specs.Prelude.{◌≡◌, ℕ, drop, IfOk, OnOk};
+ghost use Rattle.std.specs.Prelude.{◌≡◌, ◌++◌, [], get_or, IfOk, OnOk, IfSome};
+ghost use Rattle.std.specs.List.{AllByRecursion as Each};
 ghost use Rattle.compare_report.specs.Cells.{cell_of};
-ghost use Rattle.board.specs.Contents.{shown};
-ghost use Rattle.board.specs.Legal.{IsLegal, texts_after};
-ghost use Rattle.board.specs.Operations.{board_after};
-ghost use Rattle.live_watch.specs.Lines.{model_name, test_table, IsRight, IsTestLine, IsTestTable, IsLineNow, AreLineWritten};
+ghost use Rattle.board.specs.Legal.{IsLegal};
+ghost use Rattle.live_watch.specs.Lines.{model_name, test_table, behind_line, IsTestLine, lists_of, line_now, lines_now};
+ghost use Rattle.live_watch.specs.Lines.{IsClosedNow, AreShown, changed_line, changed_lines, jobs_line, AreWritten};
 
 use crate::watched::{Watched, WatchedTest};
-use board::laws::{legal_is_right, names_are_those};
 use compare_report::{Shown as Cell, TestRow, table_text};
 use core::mem::replace_with;
 use desk_rule::{Naming, View, Viewer};
 use litmus_ppc::Name;
 use running_bench::RunningTexts;
+use running_views::{newest_view, result_in};
 use source_text::{line_length, put_bytes, put_decimal};
 use std::alloc::{AllocError, Global};
 use std::sync::Wait;
@@ -24,18 +24,6 @@ pub fn model_name() -> &'static [u8]
     ensures { result.now ≡ model_name }
 {
     b"model"
-}
-
-// What is shown of a test.
-#[tactic(auto, using(crate::proofs::Shown::right_cell))]
-fn shown_cell<'x, J: Naming>(view: &'x View<J, RunningTexts>, name: &[u8]) -> Cell<'x>
-    requires { IsLegal view.now }
-    ensures shown { cell_of result ≡ shown (board_after view.now) name.now model_name }
-    ensures right { IsRight (texts_after view.now) name.now (cell_of result) }
-{
-    legal_is_right();
-    names_are_those();
-    view.board().show(name, model_name())
 }
 
 // The table of one test under the model.
@@ -52,21 +40,9 @@ fn cell_table<'x>(alloc: Global, name: &'x [u8], cell: Cell<'x>) -> Result<Vec<u
     table_text(alloc, &models, &rows)
 }
 
-fn table_of_test<'x, J: Naming>(
-    alloc: Global,
-    view: &'x View<J, RunningTexts>,
-    name: &'x [u8],
-) -> Result<Vec<u8>, AllocError>
-    requires { IsLegal view.now }
-    ensures { IfOk result (λ v. IsTestTable view.now name.now v.items) }
-{
-    let cell = shown_cell(view, name);
-    cell_table(alloc, name, cell)
-}
-
 // What stands behind the first line.
 fn behind_line(text: &[u8]) -> &[u8]
-    ensures { (count : ℕ) × (result.now ≡ drop count text.now) }
+    ensures { result.now ≡ behind_line text.now }
 {
     let length = line_length(text);
     if length < text.len() {
@@ -76,47 +52,58 @@ fn behind_line(text: &[u8]) -> &[u8]
     }
 }
 
-/// The line of a test, as in a table of it alone. Errors: out of memory.
+/// The line of a test, as in a table of it alone, or none where its cell is open. Errors: out of memory.
 pub fn test_line<J: Naming>(
     alloc: Global,
     view: &View<J, RunningTexts>,
     name: &[u8],
-) -> Result<Vec<u8>, AllocError>
+) -> Result<Option<Vec<u8>>, AllocError>
     requires { IsLegal view.now }
-    ensures { IfOk result (λ v. IsTestLine view.now name.now v.items) }
+    ensures { IfOk result (λ o. IfSome o (λ v. IsTestLine view.now name.now v.items)) }
 {
-    let table = table_of_test(alloc, view, name)?;
-    Vec::from_slice(alloc, behind_line(&table))
+    match result_in(view, name, model_name()) {
+        Cell::Open => Ok(None),
+        cell => {
+            let table = cell_table(alloc, name, cell)?;
+            Ok(Some(Vec::from_slice(alloc, behind_line(&table))?))
+        }
+    }
 }
 
-// The line of the test of a file now: that which was written last, where no version was accepted yet.
+// The line of the test that a file holds, which is empty where no version was accepted, or none where its cell is open.
 fn line_now<J: Naming>(
     alloc: Global,
     view: &View<J, RunningTexts>,
     test: &WatchedTest<'_>,
-) -> Result<Vec<u8>, AllocError>
+) -> Result<Option<Vec<u8>>, AllocError>
     requires { IsLegal view.now }
-    ensures { IfOk result (λ v. IsLineNow view.now test.now.name test.now.line.items v.items) }
+    ensures line { IfOk result (λ o. IfSome o (λ v. v.items ≡ line_now view.now test.now)) }
+    ensures closed { IfOk result (λ o. IfSome o (λ v. IsClosedNow view.now test.now)) }
 {
     match &test.name {
         Some(name) => test_line(alloc, view, name.as_bytes()),
-        None => Vec::from_slice(alloc, &test.line),
+        None => Ok(Some(Vec::new(alloc))),
     }
 }
 
-// The lines of these files now.
+// The line of each of these files, or none where a cell is open.
 fn lines_now<J: Naming>(
     alloc: Global,
     view: &View<J, RunningTexts>,
     tests: &[WatchedTest<'_>],
-) -> Result<Vec<Vec<u8>>, AllocError>
+) -> Result<Option<Vec<Vec<u8>>>, AllocError>
     requires { IsLegal view.now }
+    ensures lines { IfOk result (λ o. IfSome o (λ v. lists_of v.items ≡ lines_now view.now tests.now)) }
+    ensures closed { IfOk result (λ o. IfSome o (λ v. Each (IsClosedNow view.now) tests.now)) }
 {
-    let mut lines = Vec::new(alloc);
+    let mut lines = Vec::with_capacity(alloc, tests.len())?;
     for test in tests {
-        lines.push(line_now(alloc, view, test)?)?;
+        match line_now(alloc, view, test)? {
+            Some(line) => lines.push(line)?,
+            None => return Ok(None),
+        }
     }
-    Ok(lines)
+    Ok(Some(lines))
 }
 
 // What is to be read of the board.
@@ -126,12 +113,18 @@ struct Asked<'p, 'a> {
     tests: &'p [WatchedTest<'a>],
 }
 
-// Reads the board that was published last. The viewer comes back.
+// Reads the board that was published last: the lines, or none where a cell is open. The viewer comes back, and has seen the
+// operations of that board.
 fn read_board<'p, 'a, J: Naming>(
     viewer: Viewer<J, RunningTexts>,
     asked: Asked<'p, 'a>,
-) -> (Viewer<J, RunningTexts>, Result<Vec<Vec<u8>>, AllocError>) {
-    match viewer.read() {
+) -> (
+    Viewer<J, RunningTexts>,
+    Result<Option<Vec<Vec<u8>>>, AllocError>,
+)
+    ensures { IfOk result.1 (λ o. IfSome o (λ v. AreShown result.0 asked.entry.tests.now (lists_of v.items))) }
+{
+    match newest_view(viewer) {
         Ok(view) => {
             let lines = lines_now(asked.alloc, &view, asked.tests);
             (view.leave(), lines)
@@ -140,46 +133,68 @@ fn read_board<'p, 'a, J: Naming>(
     }
 }
 
-// Appends the line of a test where it differs from the last that was written of it.
-fn put_changed(
-    alloc: Global,
-    test: &mut WatchedTest<'_>,
-    line: &[u8],
-    text: &mut Vec<u8>,
-) -> Result<(), AllocError>
-    ensures line { OnOk result (AreLineWritten test.old.line.items line.now test.new.line.items text.old.items text.new.items) }
-    ensures name { test.new.name ≡ test.old.name }
+// Appends a line where it differs from the last that was written of its file.
+fn put_changed_line(text: &mut Vec<u8>, last: &[u8], now: &[u8]) -> Result<(), AllocError>
+    ensures { OnOk result (text.new.items ≡ text.old.items ++ changed_line last.now now.now) }
 {
-    if line != test.line.as_slice() {
-        let line = Vec::from_slice(alloc, line)?;
-        put_bytes(text, &line)?;
-        test.line = line;
+    if now == last {
+        return Ok(());
+    }
+    put_bytes(text, now)
+}
+
+// The last line that was written of the file of that index.
+fn last_line(lasts: &[Vec<u8>], index: usize) -> &[u8]
+    ensures { result.now ≡ get_or (lists_of lasts.now) index [] }
+{
+    match lasts.get(index) {
+        Some(last) => last.as_slice(),
+        None => &[],
+    }
+}
+
+// Appends those of the lines that differ from the last that were written.
+fn put_changed_lines(
+    text: &mut Vec<u8>,
+    lasts: &[Vec<u8>],
+    nows: &[Vec<u8>],
+) -> Result<(), AllocError>
+    ensures { OnOk result (text.new.items ≡ text.old.items ++ changed_lines (lists_of lasts.now) (lists_of nows.now)) }
+{
+    for index in 0..nows.len() {
+        put_changed_line(text, last_line(lasts, index), &nows[index])?;
     }
     Ok(())
 }
 
-/// Appends the number of jobs. Errors: out of memory.
-pub fn put_jobs(text: &mut Vec<u8>, jobs: u64) -> Result<(), AllocError> {
+// Appends the number of jobs.
+fn put_jobs(text: &mut Vec<u8>, jobs: u64) -> Result<(), AllocError>
+    ensures { OnOk result (text.new.items ≡ text.old.items ++ jobs_line jobs) }
+{
     put_bytes(text, b"jobs ")?;
     put_decimal(text, jobs)?;
     put_bytes(text, b"\n")
 }
 
-impl<'a, 'd, J: Naming + StoreName, R: Wait + Drop> Watched<'a, 'd, J, R> {
-    // The lines of all files now, from the board that was published last.
-    fn lines(&mut self, alloc: Global) -> Result<Vec<Vec<u8>>, AllocError> {
-        let tests = &self.tests;
-        replace_with(&mut self.viewer, Asked { alloc, tests }, read_board)
-    }
+/// Appends those of the lines that differ from the last that were written, and the number of jobs. Errors: out of memory.
+pub fn put_answer(
+    text: &mut Vec<u8>,
+    lasts: &[Vec<u8>],
+    nows: &[Vec<u8>],
+    jobs: u64,
+) -> Result<(), AllocError>
+    ensures { OnOk result (AreWritten (lists_of lasts.now) (lists_of nows.now) text.old.items text.new.items) }
+{
+    put_changed_lines(text, lasts, nows)?;
+    put_jobs(text, jobs)
+}
 
-    /// Appends the lines that differ from the last that were written. Errors: out of memory.
-    pub fn put_lines(&mut self, alloc: Global, text: &mut Vec<u8>) -> Result<(), AllocError> {
-        let lines = self.lines(alloc)?;
-        for index in 0..lines.len() {
-            if let Some(test) = self.tests.get_mut(index) {
-                put_changed(alloc, test, &lines[index], text)?;
-            }
-        }
-        Ok(())
+impl<'a, 'd, J: Naming + StoreName, R: Wait + Drop> Watched<'a, 'd, J, R> {
+    /// The lines of all files, from the board that was published last, or none where a cell is open. Errors: out of memory.
+    pub fn lines_now(&mut self, alloc: Global) -> Result<Option<Vec<Vec<u8>>>, AllocError>
+        ensures { IfOk result (λ o. IfSome o (λ v. AreShown self.new.viewer self.new.tests.items (lists_of v.items))) }
+    {
+        let tests = self.tests.as_slice();
+        replace_with(&mut self.viewer, Asked { alloc, tests }, read_board)
     }
 }

@@ -1,12 +1,13 @@
 //! The jobs of the desk: the author runs them one after another, or the workers do.
 
-ghost use Rattle.std.specs.Prelude.{OnOk, OnErr, ◌≡◌, Err};
+ghost use Rattle.std.specs.Prelude.{OnOk, OnErr, IfOk, ◌≡◌, Err};
 ghost use Rattle.board.specs.Legal.{IsLegal};
 ghost use Rattle.board.specs.Operations.{board_after};
 ghost use Rattle.desk.specs.Boards.{AreSettled};
 ghost use Rattle.running_bench.specs.Cells.{board_cells};
+ghost use Rattle.live_watch.specs.Lines.{lists_of, AreShown};
 
-use crate::turnstile::Turnstile;
+use crate::turnstile::RunningTurnstile;
 use crate::watched::Watched;
 use cells::job::Job;
 use desk_rule::Naming;
@@ -22,7 +23,7 @@ pub enum Hands<'d, J: Naming + StoreName, R: Wait + Drop> {
     /// The author, between two edits.
     Own,
     /// Workers, as this lets them.
-    Workers(&'d Turnstile<'d, J, R>),
+    Workers(&'d RunningTurnstile<'d, J, R>),
 }
 
 impl<'a, 'd, J: Naming + StoreName, R: Wait + Drop> Watched<'a, 'd, J, R> {
@@ -83,9 +84,9 @@ impl<'a, 'd, J: Naming + StoreName, R: Wait + Drop> Watched<'a, 'd, J, R> {
         }
     }
 
-    /// Has the jobs run until each cell is settled and published, and says how many there were. Errors: `Memory`, also where
-    /// the store is full or a worker gave up.
-    pub fn settle<W: Wait>(
+    // Has the jobs run until each cell is settled and published, and says how many there were. Errors: `Memory`, also where
+    // the store is full or a worker gave up.
+    fn settle<W: Wait>(
         &mut self,
         rt: &W,
         alloc: Global,
@@ -107,5 +108,28 @@ impl<'a, 'd, J: Naming + StoreName, R: Wait + Drop> Watched<'a, 'd, J, R> {
                 Ok(turnstile.close(rt))
             }
         }
+    }
+
+    /// Has the jobs run until each cell is settled, and says how many there were, and what the line of each file is. Errors:
+    /// `Memory`, also where the store is full or a worker gave up.
+    pub fn settled_lines<W: Wait>(
+        &mut self,
+        rt: &W,
+        alloc: Global,
+        hands: &Hands<'d, J, R>,
+    ) -> Result<(u64, Vec<Vec<u8>>), SessionFault>
+        ensures lines { IfOk result (λ r. AreShown self.new.viewer self.new.tests.items (lists_of r.1.items)) }
+        ensures fault { OnErr result (result ≡ Err SessionFault.Memory) }
+    {
+        let mut jobs: u64 = 0;
+        for _ in rt.forever() {
+            jobs = jobs.saturating_add(self.settle(rt, alloc, hands)?);
+            match self.lines_now(alloc) {
+                Ok(Some(lines)) => return Ok((jobs, lines)),
+                Ok(None) => {}
+                Err(_) => return Err(SessionFault::Memory),
+            }
+        }
+        unreachable!()
     }
 }

@@ -5,11 +5,10 @@ ghost use Rattle.live_watch.specs.Ends.{AreCallsOf};
 
 use crate::answers::Run;
 use crate::settling::Hands;
-use crate::turnstile::Turnstile;
+use crate::turnstile::{RunningTurnstile, Turnstile, beside_workers};
 use crate::versions::Versions;
 use crate::watched::{Watched, watched_tests};
 use bench_texts::Texts;
-use bench_workers::with_workers;
 use desk_rule::Naming;
 use litmusbench::{ByteSink, ByteSource, SessionFault};
 use running_bench::{DeskSeed, RunningDesk};
@@ -61,13 +60,14 @@ fn run_at<'a, 'd, J: Naming + StoreName, R: AllocGlobal + Wait + Drop>(
         watched,
         model: paths.model,
         hands,
+        lines: Vec::new(alloc),
         is_refused: false,
     })
 }
 
 // Who runs the jobs where there are so many workers.
 fn hands_of<'d, J: Naming + StoreName, R: Wait + Drop>(
-    turnstile: &'d Turnstile<'d, J, R>,
+    turnstile: &'d RunningTurnstile<'d, J, R>,
     workers: u32,
 ) -> Hands<'d, J, R> {
     if workers == 0 {
@@ -118,7 +118,7 @@ where
 // The same beside workers, which it lets end.
 fn attend_workers<'a, 'd, J, R, V, S, K>(
     rt: &R,
-    turnstile: &'d Turnstile<'d, J, R>,
+    turnstile: &'d RunningTurnstile<'d, J, R>,
     workers: u32,
     paths: Paths<'a>,
     versions: &mut V,
@@ -162,10 +162,9 @@ where
 {
     let turnstile = Turnstile::new(desk);
     let gate = &turnstile;
-    let worked = with_workers(
+    let worked = beside_workers(
         rt,
         rt.alloc(),
-        desk,
         gate,
         workers,
         || -> Result<Ended<S, K>, AllocError>

@@ -1,10 +1,16 @@
 //! When workers may begin their jobs.
 
-use bench_workers::Gate;
-use desk_rule::Naming;
-use running_bench::RunningDesk;
+ghost use Rattle.std.specs.Prelude.{IfOk};
+
+use bench_workers::{Gate, Worked, WorkersFault, with_workers};
+use desk::{BoardTexts, Desk};
+use desk_rule::{Entry, Naming, Plate};
+use left_right::Absorb;
+use running_bench::RunningTexts;
+use std::alloc::Global;
 use std::mem::drop;
 use std::sync::{Condvar, Mutex, Wait};
+use std::thread::Threads;
 use value_store::StoreName;
 
 // What workers and the author share.
@@ -21,15 +27,21 @@ struct Turns {
 /// not counted: its node is given out again where it still has work. So the jobs that are counted are those of the texts after
 /// that edit, whenever the workers came for them.
 #[derive(Drop)]
-pub struct Turnstile<'d, J: Naming + StoreName, R: Wait + Drop> {
-    desk: &'d RunningDesk<J, R>,
+pub struct Turnstile<'d, J: Naming + StoreName, X: BoardTexts, R: Wait + Drop>
+where
+    Plate<J, X>: Absorb<Entry<J, X>, State = [X::Op; 0]>,
+{
+    desk: &'d Desk<J, X, R>,
     turns: Mutex<Turns>,
     change: Condvar,
 }
 
-impl<'d, J: Naming + StoreName, R: Wait + Drop> Turnstile<'d, J, R> {
+/// That of a desk of tests and models.
+pub type RunningTurnstile<'d, J, R> = Turnstile<'d, J, RunningTexts, R>;
+
+impl<'d, J: Naming + StoreName, X: BoardTexts, R: Wait + Drop> Turnstile<'d, J, X, R> {
     /// It is closed.
-    pub fn new(desk: &'d RunningDesk<J, R>) -> Self {
+    pub fn new(desk: &'d Desk<J, X, R>) -> Self {
         Turnstile {
             desk,
             turns: Mutex::new(Turns {
@@ -42,7 +54,7 @@ impl<'d, J: Naming + StoreName, R: Wait + Drop> Turnstile<'d, J, R> {
     }
 
     /// The desk of the jobs.
-    pub fn desk(&self) -> &'d RunningDesk<J, R> {
+    pub fn desk(&self) -> &'d Desk<J, X, R> {
         self.desk
     }
 
@@ -82,7 +94,7 @@ impl<'d, J: Naming + StoreName, R: Wait + Drop> Turnstile<'d, J, R> {
     }
 }
 
-impl<'d, J: Naming + StoreName, R: Wait + Drop> Gate for Turnstile<'d, J, R> {
+impl<'d, J: Naming + StoreName, X: BoardTexts, R: Wait + Drop> Gate for Turnstile<'d, J, X, R> {
     fn begin<W: Wait>(&self, rt: &W, claim: u64) {
         if self.is_late(rt, claim) {
             let _closed = self.desk.lose(rt, claim).is_err();
@@ -90,4 +102,33 @@ impl<'d, J: Naming + StoreName, R: Wait + Drop> Gate for Turnstile<'d, J, R> {
     }
 
     fn end<W: Wait>(&self, _rt: &W, _claim: u64) {}
+}
+
+/// Runs a body beside so many workers whose jobs the turnstile lets begin, as `with_workers` does.
+pub fn beside_workers<'d, J, X, R, W, T, F>(
+    rt: &W,
+    alloc: Global,
+    turnstile: &Turnstile<'d, J, X, R>,
+    count: u32,
+    body: F,
+) -> Result<Worked<T>, WorkersFault>
+where
+    J: Naming + StoreName + Send + Sync,
+    X: BoardTexts + Send + Sync,
+    X::Value: Send + Sync,
+    X::Given: Send + Sync,
+    X::Edit: Send + Sync,
+    X::Prepared: Send + Sync,
+    X::Fault: Send + Sync,
+    X::Outcome: Send + Sync,
+    X::Op: Send + Sync,
+    X::Board: Send + Sync,
+    R: Wait + Drop + Send + Sync,
+    W: Threads + Wait + Sync,
+    F: FnOnce() -> T + Drop,
+    T: Drop,
+    requires { F.pre body }
+    ensures { IfOk result (λ w. F.post body w.answer) }
+{
+    with_workers(rt, alloc, turnstile.desk(), turnstile, count, body)
 }

@@ -15,8 +15,6 @@ pub struct WatchedTest<'a> {
     pub path: &'a str,
     /// The name of the test that it holds, where a version of it was accepted.
     pub name: Option<Name>,
-    /// The line that was last written of the test.
-    pub line: Vec<u8>,
 }
 
 /// A desk and a viewer of its board, the texts that it was given, and the files of the tests.
@@ -40,7 +38,6 @@ pub fn watched_tests<'a>(
         tests.push(WatchedTest {
             path: *path,
             name: None,
-            line: Vec::new(alloc),
         })?;
     }
     Ok(tests)
