@@ -6,7 +6,7 @@ use Rattle.std.specs.List.{position_or_len, AllByRecursion as Each}
 use Rattle.std.specs.Io.KnownBytes.{Appends}
 use Rattle.source_text.specs.Layout.{is_line_end}
 use Rattle.compare_report.specs.Cells.{Cell, Open}
-use Rattle.compare_report.specs.Columns.{Row, table_of}
+use Rattle.compare_report.specs.Columns.{table_of}
 use Rattle.bench_texts.specs.declared.fault.EditFault.{EditFault}
 use Rattle.session_edits.specs.Faults.{fault_line}
 use Rattle.board.specs.declared.operation.BoardOp.{BoardOp}

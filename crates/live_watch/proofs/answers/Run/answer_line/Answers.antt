@@ -1,5 +1,5 @@
 use Rattle.std.proofs.Common.{inr, refl}
-use Rattle.live_watch.specs.Lines.{IsTold, IsUnwatched}
+use Rattle.live_watch.specs.Lines.{IsUnwatched}
 use Rattle.live_watch.proofs.answers.Run.answer_line.Goals as goal
 
 pub returns-in_ok-memory-in-None-clause-answer : goal.returns-in_ok-memory-in-None-clause-answer
