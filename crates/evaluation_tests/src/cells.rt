@@ -129,7 +129,17 @@ fn put_form_of(alloc: Global, answer: &mut Vec<u8>, words: &[&str]) -> Result<()
             put_flag(answer, is_forbidden, b", forbidden")?;
             put_flag(answer, is_deep, b", deep")
         }
-        Ok(Form::Watch { model, tests }) => put_files(answer, b"watch", &[model], tests),
+        Ok(
+            Form::Watch {
+                model,
+                tests,
+                workers,
+            },
+        ) => {
+            put_files(answer, b"watch", &[model], tests)?;
+            put_bytes(answer, b" with ")?;
+            put_decimal(answer, workers)
+        }
         Ok(
             Form::Draw {
                 model,

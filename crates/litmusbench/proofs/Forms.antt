@@ -5,8 +5,9 @@ use Rattle.std.proofs.lemmas.List.{take_all, take-map, drop-map, length-map}
 use Rattle.std.proofs.lemmas.List.Sums.{position_or_len_is}
 use Rattle.std.specs.List.{list_all}
 use denote.Ref.{Bor}
-use Rattle.litmusbench.specs.Forms.{Asked, Table, texts_of, is_word, is_path, are_paths, dashes, word_at, asked_if, table_of, paths_of, options_of, has_option, why_with, why_of, draw_by, draw_of, by_command, asked_in}
+use Rattle.litmusbench.specs.Forms.{Asked, Table, texts_of, is_word, is_path, are_paths, dashes, word_at, asked_if, table_of, paths_of, options_of, has_option, why_with, why_of, watch_with, watch_of, is_workers, draw_by, draw_of, by_command, asked_in}
 use Rattle.std.specs.Prelude.{if◌then◌else◌}
+use Rattle.session_script.specs.Words.{number_of}
 use Rattle.std.proofs.lemmas.Bool.{and_from, and_right}
 
 count : (words : List (Bor (List ℕ))) → length (texts_of words) ≡ length words
@@ -86,6 +87,9 @@ is_command words r w long first given =
 second : {X : Type 0} (b : Bool) (x y : X) → b ≡ false → y ≡ (if b then x else y)
 second b x y h = ap (λ (c : Bool). if c then x else y) (sym h)
 
+first : {X : Type 0} (b : Bool) (x y : X) → b ≡ true → x ≡ (if b then x else y)
+first b x y h = ap (λ (c : Bool). if c then x else y) (sym h)
+
 pub last_paths : (words : List (Bor (List ℕ))) → is_path (word_at (texts_of words) 0) ≡ false
     → texts_of (take (length words - (length words - 2)) (drop (length words - 2) words)) ≡ paths_of (texts_of words)
 last_paths words fails =
@@ -120,3 +124,13 @@ pub is_draw : (words paths options : List (Bor (List ℕ))) (r : Option Asked) �
 is_draw words paths options r enough split_paths split_options given =
     given ∙ ap (λ (p : List (List ℕ)). draw_by p (texts_of options)) split_paths ∙ ap (λ (o : List (List ℕ)). draw_by (paths_of (texts_of words)) o) split_options
     ∙ second (ltb (length (texts_of words)) 2) None (draw_by (paths_of (texts_of words)) (options_of (texts_of words))) (long words enough)
+
+-- ---- watching
+
+pub is_watch : (words : List (Bor (List ℕ))) (r : Option Asked) (n : Option ℕ) → 2 ≤ length words → is_workers (word_at (texts_of words) 0) ≡ true → n ≡ number_of (word_at (texts_of words) 1)
+    → r ≡ watch_with (texts_of (take (length words - 2) (drop 2 words))) n → r ≡ watch_of (texts_of words)
+is_watch words r n enough workers given made =
+    let many : (if ltb (length (texts_of words)) 2 then None else watch_with (drop 2 (texts_of words)) (number_of (word_at (texts_of words) 1))) ≡ watch_with (drop 2 (texts_of words)) (number_of (word_at (texts_of words) 1)) =
+    sym (second (ltb (length (texts_of words)) 2) None (watch_with (drop 2 (texts_of words)) (number_of (word_at (texts_of words) 1))) (long words enough)) in
+    made ∙ ap (λ (l : List (List ℕ)). watch_with l n) (behind words 2) ∙ ap (λ (m : Option ℕ). watch_with (drop 2 (texts_of words)) m) given ∙ sym many
+    ∙ first (is_workers (word_at (texts_of words) 0)) (if ltb (length (texts_of words)) 2 then None else watch_with (drop 2 (texts_of words)) (number_of (word_at (texts_of words) 1))) (watch_with (texts_of words) (Some 0)) workers

@@ -12,8 +12,8 @@ use Rattle.litmusbench.specs.declared.form.Drawn.TheVariants as drawns
 
 -- a model and a test on standard input; a model and a test in files; a table of tests under models; where two models tell tests
 -- apart; a session of a file's script, or of standard input's, with so many workers; why a model forbids what a test asks for, by
--- a forbidden execution and in depth where these are asked for; the tests of files under a model as the files change; pictures of
--- these executions, so many at most
+-- a forbidden execution and in depth where these are asked for; the tests of files under a model as the files change, with so many
+-- workers; pictures of these executions, so many at most
 pub data Asked : Type 0 where
   Stream : Asked
   Eval : List ℕ → List ℕ → Asked
@@ -21,7 +21,7 @@ pub data Asked : Type 0 where
   Diff : List (List ℕ) → List (List ℕ) → Asked
   Session : Option (List ℕ) → ℕ → Asked
   Why : List ℕ → List ℕ → Bool → Bool → Asked
-  Watch : List ℕ → List (List ℕ) → Asked
+  Watch : List ℕ → List (List ℕ) → ℕ → Asked
   Draw : List ℕ → List ℕ → Drawn → ℕ → Asked
 
 abbrev pub texts_of : List (Bor (List ℕ)) → List (List ℕ)
@@ -37,7 +37,7 @@ asked_by (forms.Table models tests) = Table (texts_of models.now) (texts_of test
 asked_by (forms.Diff models tests) = Diff (texts_of models.now) (texts_of tests.now)
 asked_by (forms.Session script workers) = Session (text_of script) workers
 asked_by (forms.Why model test is_forbidden is_deep) = Why model.now test.now is_forbidden is_deep
-asked_by (forms.Watch model tests) = Watch model.now (texts_of tests.now)
+asked_by (forms.Watch model tests workers) = Watch model.now (texts_of tests.now) workers
 asked_by (forms.Draw model test drawn most) = Draw model.now test.now drawn most
 
 abbrev pub is_word : List ℕ → List ℕ → Bool
@@ -125,9 +125,16 @@ why_of words =
     if nat_lt (length words) 2 then None
     else why_with (paths_of words) (length (options_of words)) (has_option (options_of words) (codes "--forbidden")) (has_option (options_of words) (codes "--deep"))
 
--- MODEL TEST ..
+-- MODEL TEST .., with so many workers
+abbrev pub watch_with : List (List ℕ) → Option ℕ → Option Asked
+watch_with words None = None
+watch_with words (Some n) = asked_if (nat_lt 1 (length words) && are_paths words && nat_le n 32) (Watch (word_at words 0) (drop 1 words) n)
+
+-- MODEL TEST .., or --workers N before them
 abbrev pub watch_of : List (List ℕ) → Option Asked
-watch_of words = asked_if (nat_lt 1 (length words) && are_paths words) (Watch (word_at words 0) (drop 1 words))
+watch_of words =
+    if is_workers (word_at words 0) then (if nat_lt (length words) 2 then None else watch_with (drop 2 words) (number_of (word_at words 1)))
+    else watch_with words (Some 0)
 
 -- --shown, --forbidden or --all
 abbrev pub drawn_of : List ℕ → Option Drawn

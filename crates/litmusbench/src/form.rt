@@ -1,7 +1,7 @@
 //! What the words of a command line ask for.
 
 ghost use Rattle.std.specs.Prelude.{◌≡◌, ◌≤◌, ◌+◌, Some, None, IfOk, OnErr, length, option_map};
-ghost use Rattle.litmusbench.specs.Forms.{texts_of, asked_by, is_word, is_path, are_paths, dashes, word_at, eval_of, table_of, diff_of, why_of, session_with, session_in, session_of_three, session_of, paths_of, options_of, has_option, count_of, why_with, watch_of, drawn_of, draw_with, draw_of_two, draw_of_three, draw_by, draw_of, text_of, by_command, asked_in};
+ghost use Rattle.litmusbench.specs.Forms.{texts_of, asked_by, is_word, is_path, are_paths, dashes, word_at, eval_of, table_of, diff_of, why_of, session_with, session_in, session_of_three, session_of, paths_of, options_of, has_option, count_of, why_with, watch_with, watch_of, drawn_of, draw_with, draw_of_two, draw_of_three, draw_by, draw_of, text_of, by_command, asked_in};
 
 use clap::error::ErrorKind;
 use clap::{Arg, ArgAction, Command, Error};
@@ -26,7 +26,7 @@ const SESSION_AFTER: &str =
     po|rf|fr|co\\n.\\nitems sc\\n' | pipitsolder session\n\
     Example: pipitsolder session script.txt --workers 4";
 
-/// The most workers of a session.
+/// The most workers.
 const MOST_WORKERS: u64 = 32;
 
 /// The most pictures, and how many there are at most where no number is asked for.
@@ -78,10 +78,11 @@ pub enum Form<'a> {
         is_forbidden: bool,
         is_deep: bool,
     },
-    /// The tests of some files under the model of another, again whenever a file changes.
+    /// The tests of some files under the model of another, again whenever a file changes, with so many workers.
     Watch {
         model: &'a str,
         tests: &'a [&'a str],
+        workers: u64,
     },
     /// Pictures of executions of the test of a file under the model of another, so many at most.
     Draw {
@@ -304,15 +305,33 @@ fn why_form<'a>(words: &'a [&'a str]) -> Option<Form<'a>>
     why_with(paths_of(words), options.len(), is_forbidden, is_deep)
 }
 
+fn watch_with<'a>(words: &'a [&'a str], workers: Option<u64>) -> Option<Form<'a>>
+    ensures { option_map asked_by result ≡ watch_with (texts_of words.now) workers }
+{
+    match workers {
+        Some(workers) if words.len() > 1 && are_paths(words) && MOST_WORKERS >= workers => {
+            let model = word_at(words, 0);
+            let tests = &words[1..];
+            Some(Form::Watch {
+                model,
+                tests,
+                workers,
+            })
+        }
+        _ => None,
+    }
+}
+
 fn watch_form<'a>(words: &'a [&'a str]) -> Option<Form<'a>>
     ensures { option_map asked_by result ≡ watch_of (texts_of words.now) }
 {
-    if words.len() > 1 && are_paths(words) {
-        let model = word_at(words, 0);
-        let tests = &words[1..];
-        return Some(Form::Watch { model, tests });
+    if word_at(words, 0) != "--workers" {
+        return watch_with(words, Some(0));
     }
-    None
+    if words.len() < 2 {
+        return None;
+    }
+    watch_with(&words[2..], number_of(word_at(words, 1).as_bytes()))
 }
 
 fn drawn_of(word: &str) -> Option<Drawn>
@@ -522,12 +541,17 @@ fn draw_command<'a>(alloc: Global) -> Result<Command<'a>, AllocError> {
 fn watch_command<'a>(alloc: Global) -> Result<Command<'a>, AllocError> {
     let model = path(alloc, "MODEL", "The file of a model");
     let tests = path(alloc, "TEST", "Files of tests").num_args(1..);
+    let workers = Arg::new(alloc, "N")
+        .long("workers")
+        .help("How many threads run the jobs, 0 to 32, before the files: 0 is the program itself")
+        .action(ArgAction::Set);
     Command::new(alloc, "watch")
         .about(
             "Some tests under a model, and what changes with each later version of a file that standard input names",
         )
         .arg(model)?
-        .arg(tests)
+        .arg(tests)?
+        .arg(workers)
 }
 
 fn program<'a>(alloc: Global) -> Result<Command<'a>, AllocError> {

@@ -1,19 +1,24 @@
 //! The loop: lines that name files, and what is answered to them.
 
-ghost use Rattle.std.specs.Prelude.{◌≡◌, ◌-◌, ◌<◌, ◌^◌, OnOk};
+ghost use Rattle.std.specs.Prelude.{◌≡◌, ◌≢◌, ◌+◌, ◌-◌, ◌<◌, ◌^◌, ◌++◌, List, ℕ, codes, [], true, false};
+ghost use Rattle.std.specs.Prelude.{IfOk, OnOk, OnErr, Ok, Err};
+ghost use Rattle.bench_texts.specs.declared.fault.EditFault.{EditFault};
+ghost use Rattle.session_edits.specs.Faults.{fault_line};
+ghost use Rattle.std.specs.Io.KnownBytes.{Appends};
+ghost use Rattle.live_watch.specs.Lines.{lists_of, AreShown, AreWritten, IsAnswer, IsAnswered};
 
-use crate::lines::put_jobs;
+use crate::lines::put_answer;
+use crate::settling::Hands;
 use crate::versions::{Version, Versions};
 use crate::watched::Watched;
 use bench_texts::EditFault;
+use desk_rule::Naming;
 use litmusbench::{ByteSink, ByteSource, SessionFault, write_whole};
-use node_values::NodeValue;
 use session_edits::refused_edit;
 use source_text::put_bytes;
 use std::alloc::{AllocError, Global};
-use std::marker::Brand;
-use std::sync::{Arc, Wait};
-use value_store::{Opened, Store, StoreName};
+use std::sync::Wait;
+use value_store::StoreName;
 
 const MAX_TURNS: u32 = 16_777_216;
 
@@ -26,7 +31,10 @@ enum Watching {
 }
 
 // Want of memory is the fault `Memory`.
-fn memory<T>(made: Result<T, AllocError>) -> Result<T, SessionFault> {
+fn memory<T>(made: Result<T, AllocError>) -> Result<T, SessionFault>
+    ensures value { IfOk result (λ value. made ≡ Ok value) }
+    ensures fault { OnErr result (result ≡ Err SessionFault.Memory) }
+{
     match made {
         Ok(value) => Ok(value),
         Err(_) => Err(SessionFault::Memory),
@@ -44,7 +52,9 @@ fn put_refused(
     text: &mut Vec<u8>,
     path: &[u8],
     fault: EditFault,
-) -> Result<(), AllocError> {
+) -> Result<(), AllocError>
+    ensures { OnOk result (text.new.items ≡ text.old.items ++ path.now ++ codes ": " ++ fault_line fault) }
+{
     let answer = refused_edit(alloc, fault)?;
     put_bytes(text, path)?;
     put_bytes(text, b": ")?;
@@ -52,20 +62,25 @@ fn put_refused(
 }
 
 // The line of a name, with what is said of it.
-fn put_said(text: &mut Vec<u8>, name: &[u8], said: &[u8]) -> Result<(), AllocError> {
+fn put_said(text: &mut Vec<u8>, name: &[u8], said: &[u8]) -> Result<(), AllocError>
+    ensures { OnOk result (text.new.items ≡ text.old.items ++ name.now ++ said.now) }
+{
     put_bytes(text, name)?;
     put_bytes(text, said)
 }
 
-// A run of the program: the bench, the path of the model, and whether a text was refused.
+/// A run of the program: the desk with its files, the path of the model, who runs the jobs, the lines that were last written of
+/// the files of tests, in their order, and whether a text was refused.
 #[derive(Drop)]
-struct Run<'a, K: StoreName> {
-    watched: Watched<'a, K>,
-    model: &'a str,
-    is_refused: bool,
+pub struct Run<'a, 'd, J: Naming + StoreName, R: Wait + Drop> {
+    pub watched: Watched<'a, 'd, J, R>,
+    pub model: &'a str,
+    pub hands: Hands<'d, J, R>,
+    pub lines: Vec<Vec<u8>>,
+    pub is_refused: bool,
 }
 
-impl<'a, K: StoreName> Run<'a, K> {
+impl<'a, 'd, J: Naming + StoreName, R: Wait + Drop> Run<'a, 'd, J, R> {
     fn named(&self, line: &[u8]) -> Watching {
         if self.model.as_bytes() == line {
             return Watching::Model;
@@ -78,29 +93,37 @@ impl<'a, K: StoreName> Run<'a, K> {
         Watching::Nothing
     }
 
-    fn take(
+    fn take<W: Wait>(
         &mut self,
+        rt: &W,
         alloc: Global,
         file: Watching,
         version: Vec<u8>,
-    ) -> Result<Option<EditFault>, AllocError> {
+    ) -> Result<Option<EditFault>, AllocError>
+        ensures { self.new.lines ≡ self.old.lines }
+    {
         match file {
-            Watching::Model => self.watched.take_model(alloc, version),
-            Watching::Test(index) => self.watched.take_test(alloc, index, version),
+            Watching::Model => self.watched.take_model(rt, alloc, version),
+            Watching::Test(index) => self.watched.take_test(rt, alloc, index, version),
             Watching::Nothing => Ok(None),
         }
     }
 
     // Takes a version, and appends a line where it is refused. Whether it is accepted.
-    fn accept(
+    fn accept<W: Wait>(
         &mut self,
+        rt: &W,
         alloc: Global,
         file: Watching,
         path: &[u8],
         version: Vec<u8>,
         text: &mut Vec<u8>,
-    ) -> Result<bool, AllocError> {
-        match self.take(alloc, file, version)? {
+    ) -> Result<bool, AllocError>
+        ensures accepted { result ≡ Ok true → text.new.items ≡ text.old.items }
+        ensures refused { result ≡ Ok false → (fault : EditFault) × (text.new.items ≡ text.old.items ++ path.now ++ codes ": " ++ fault_line fault) }
+        ensures lines { self.new.lines ≡ self.old.lines }
+    {
+        match self.take(rt, alloc, file, version)? {
             Some(fault) => {
                 self.is_refused = true;
                 put_refused(alloc, text, path, fault)?;
@@ -110,30 +133,39 @@ impl<'a, K: StoreName> Run<'a, K> {
         }
     }
 
-    // Settles the bench, and appends the lines that changed and the number of jobs.
-    fn put_settled<R: Wait>(
+    // Settles the desk, and appends the lines that changed and the number of jobs.
+    fn put_settled<W: Wait>(
         &mut self,
-        rt: &R,
+        rt: &W,
         alloc: Global,
         text: &mut Vec<u8>,
-    ) -> Result<(), SessionFault> {
-        let jobs = self.watched.settle(rt, alloc)?;
-        memory(self.watched.put_lines(alloc, text))?;
-        memory(put_jobs(text, jobs))
+    ) -> Result<(), SessionFault>
+        ensures fault { OnErr result (result ≡ Err SessionFault.Memory) }
+        ensures shown { OnOk result (AreShown self.new.watched.viewer self.new.watched.tests.items (lists_of self.new.lines.items)) }
+        ensures written { OnOk result (AreWritten (lists_of self.old.lines.items) (lists_of self.new.lines.items) text.old.items text.new.items) }
+    {
+        let (jobs, lines) = self.watched.settled_lines(rt, alloc, &self.hands)?;
+        memory(put_answer(text, &self.lines, &lines, jobs))?;
+        self.lines = lines;
+        Ok(())
     }
 
     // Takes the first version of a file.
-    fn begin_file<V: Versions>(
+    fn begin_file<W: Wait, V: Versions>(
         &mut self,
+        rt: &W,
         alloc: Global,
         versions: &mut V,
         file: Watching,
         path: &str,
         text: &mut Vec<u8>,
-    ) -> Result<(), SessionFault> {
+    ) -> Result<(), SessionFault>
+        ensures fault { result ≢ Err SessionFault.Write }
+        ensures lines { self.new.lines ≡ self.old.lines }
+    {
         match versions.version(alloc, path) {
             Version::Text(version) => {
-                memory(self.accept(alloc, file, path.as_bytes(), version, text))?;
+                memory(self.accept(rt, alloc, file, path.as_bytes(), version, text))?;
                 Ok(())
             }
             Version::Unread => Err(SessionFault::Read),
@@ -142,17 +174,22 @@ impl<'a, K: StoreName> Run<'a, K> {
     }
 
     // What is written at the start.
-    fn begin<R: Wait, V: Versions>(
+    fn begin<W: Wait, V: Versions>(
         &mut self,
-        rt: &R,
+        rt: &W,
         alloc: Global,
         versions: &mut V,
         tests: &[&str],
-    ) -> Result<Vec<u8>, SessionFault> {
+    ) -> Result<Vec<u8>, SessionFault>
+        ensures fault { result ≢ Err SessionFault.Write }
+        ensures shown { OnOk result (AreShown self.new.watched.viewer self.new.watched.tests.items (lists_of self.new.lines.items)) }
+        ensures written { IfOk result (λ text. (told : List ℕ) × AreWritten (lists_of self.old.lines.items) (lists_of self.new.lines.items) told text.items) }
+    {
         let mut text = Vec::new(alloc);
-        self.begin_file(alloc, versions, Watching::Model, self.model, &mut text)?;
+        self.begin_file(rt, alloc, versions, Watching::Model, self.model, &mut text)?;
         for index in 0..tests.len() {
             self.begin_file(
+                rt,
                 alloc,
                 versions,
                 Watching::Test(index),
@@ -164,64 +201,103 @@ impl<'a, K: StoreName> Run<'a, K> {
         Ok(text)
     }
 
-    // What is written of a later version of a file.
-    fn answer_version<R: Wait>(
+    // What is written of a later text of a file.
+    fn answer_text<W: Wait>(
         &mut self,
-        rt: &R,
+        rt: &W,
         alloc: Global,
         file: Watching,
         path: &[u8],
-        version: Version,
-    ) -> Result<Vec<u8>, SessionFault> {
+        version: Vec<u8>,
+    ) -> Result<Vec<u8>, SessionFault>
+        ensures fault { OnErr result (result ≡ Err SessionFault.Memory) }
+        ensures answer { IfOk result (λ text. IsAnswer path.now self.new.watched.viewer self.new.watched.tests.items (lists_of self.old.lines.items) (lists_of self.new.lines.items) text.items) }
+    {
         let mut text = Vec::new(alloc);
-        match version {
-            Version::Text(version) => {
-                if memory(self.accept(alloc, file, path, version, &mut text))? {
-                    self.put_settled(rt, alloc, &mut text)?;
-                }
-            }
-            Version::Unread => memory(put_said(&mut text, path, b": not read\n"))?,
-            Version::OutOfMemory => return Err(SessionFault::Memory),
+        let is_accepted = memory(self.accept(rt, alloc, file, path, version, &mut text))?;
+        if is_accepted {
+            self.put_settled(rt, alloc, &mut text)?;
+            return Ok(text);
         }
         Ok(text)
     }
 
-    // What is written of a line.
-    fn answer_line<R: Wait, V: Versions>(
+    // What is written of a later version of a file.
+    fn answer_version<W: Wait>(
         &mut self,
-        rt: &R,
+        rt: &W,
+        alloc: Global,
+        file: Watching,
+        path: &[u8],
+        version: Version,
+    ) -> Result<Vec<u8>, SessionFault>
+        ensures fault { OnErr result (result ≡ Err SessionFault.Memory) }
+        ensures answer { IfOk result (λ text. IsAnswer path.now self.new.watched.viewer self.new.watched.tests.items (lists_of self.old.lines.items) (lists_of self.new.lines.items) text.items) }
+    {
+        match version {
+            Version::Text(version) => self.answer_text(rt, alloc, file, path, version),
+            Version::Unread => {
+                let mut text = Vec::new(alloc);
+                memory(put_said(&mut text, path, b": not read\n"))?;
+                Ok(text)
+            }
+            Version::OutOfMemory => Err(SessionFault::Memory),
+        }
+    }
+
+    // The path of what a name stands for, if it is watched.
+    fn path_of(&self, file: Watching) -> Option<&'a str> {
+        match file {
+            Watching::Model => Some(self.model),
+            Watching::Test(index) => match self.watched.tests.get(index) {
+                Some(test) => Some(test.path),
+                None => None,
+            },
+            Watching::Nothing => None,
+        }
+    }
+
+    // What is written of a line.
+    fn answer_line<W: Wait, V: Versions>(
+        &mut self,
+        rt: &W,
         alloc: Global,
         versions: &mut V,
         line: &[u8],
-    ) -> Result<Vec<u8>, SessionFault> {
-        let mut text = Vec::new(alloc);
+    ) -> Result<Vec<u8>, SessionFault>
+        ensures fault { OnErr result (result ≡ Err SessionFault.Memory) }
+        ensures answer { IfOk result (λ text. IsAnswer line.now self.new.watched.viewer self.new.watched.tests.items (lists_of self.old.lines.items) (lists_of self.new.lines.items) text.items) }
+    {
         let file = self.named(line);
-        let path = match file {
-            Watching::Model => self.model,
-            Watching::Test(index) => match self.watched.tests.get(index) {
-                Some(test) => test.path,
-                None => return Ok(text),
-            },
-            Watching::Nothing => {
-                memory(put_said(&mut text, line, b": not watched\n"))?;
-                return Ok(text);
+        match self.path_of(file) {
+            Some(path) => {
+                let version = versions.version(alloc, path);
+                self.answer_version(rt, alloc, file, line, version)
             }
-        };
-        let version = versions.version(alloc, path);
-        self.answer_version(rt, alloc, file, line, version)
+            None => {
+                let mut text = Vec::new(alloc);
+                memory(put_said(&mut text, line, b": not watched\n"))?;
+                Ok(text)
+            }
+        }
     }
 
     // Answers a line by one write.
-    fn write_answer<R: Wait, V: Versions, W: ByteSink>(
+    fn write_answer<W: Wait, V: Versions, K: ByteSink>(
         &mut self,
-        rt: &R,
+        rt: &W,
         alloc: Global,
         versions: &mut V,
         line: &[u8],
-        sink: &mut W,
+        sink: &mut K,
     ) -> Result<(), SessionFault>
-        requires { W.failed_calls sink.old < 2 ^ 64 - 1 }
-        ensures writes { OnOk result (W.failed_calls sink.new ≡ W.failed_calls sink.old) }
+        requires { K.failed_calls sink.old < 2 ^ 64 - 1 }
+        ensures writes { OnOk result (K.failed_calls sink.new ≡ K.failed_calls sink.old) }
+        ensures wrote { result ≡ Err SessionFault.Write → K.failed_calls sink.new ≡ K.failed_calls sink.old + 1 }
+        ensures unfailed { result ≢ Err SessionFault.Write → K.failed_calls sink.new ≡ K.failed_calls sink.old }
+        ensures unread { result ≢ Err SessionFault.Read }
+        // one write, of what is answered to the line
+        ensures answered { line.now ≢ [] → OnOk result (IsAnswered K.contents line.now self.new.watched.viewer self.new.watched.tests.items (lists_of self.old.lines.items) (lists_of self.new.lines.items) sink.old sink.new) }
     {
         if line.is_empty() {
             return Ok(());
@@ -234,17 +310,20 @@ impl<'a, K: StoreName> Run<'a, K> {
     }
 
     // Answers the lines that end in these bytes, and keeps what is behind the last line feed.
-    fn take_bytes<R: Wait, V: Versions, W: ByteSink>(
+    fn take_bytes<W: Wait, V: Versions, K: ByteSink>(
         &mut self,
-        rt: &R,
+        rt: &W,
         alloc: Global,
         versions: &mut V,
         line: &mut Vec<u8>,
         bytes: &[u8],
-        sink: &mut W,
+        sink: &mut K,
     ) -> Result<(), SessionFault>
-        requires { W.failed_calls sink.old < 2 ^ 64 - 1 }
-        ensures writes { OnOk result (W.failed_calls sink.new ≡ W.failed_calls sink.old) }
+        requires { K.failed_calls sink.old < 2 ^ 64 - 1 }
+        ensures writes { OnOk result (K.failed_calls sink.new ≡ K.failed_calls sink.old) }
+        ensures wrote { result ≡ Err SessionFault.Write → K.failed_calls sink.new ≡ K.failed_calls sink.old + 1 }
+        ensures unfailed { result ≢ Err SessionFault.Write → K.failed_calls sink.new ≡ K.failed_calls sink.old }
+        ensures unread { result ≢ Err SessionFault.Read }
     {
         for byte in bytes {
             if *byte == b'\n' {
@@ -258,18 +337,21 @@ impl<'a, K: StoreName> Run<'a, K> {
     }
 
     // Answers the lines of a source until it ends.
-    fn answer_lines<R: Wait, V: Versions, S: ByteSource, W: ByteSink>(
+    fn answer_lines<W: Wait, V: Versions, S: ByteSource, K: ByteSink>(
         &mut self,
-        rt: &R,
+        rt: &W,
         alloc: Global,
         versions: &mut V,
         source: &mut S,
-        sink: &mut W,
+        sink: &mut K,
     ) -> Result<(), SessionFault>
         requires source { S.failed_calls source.old < 2 ^ 64 - 1 }
-        requires sink { W.failed_calls sink.old < 2 ^ 64 - 1 }
+        requires sink { K.failed_calls sink.old < 2 ^ 64 - 1 }
         ensures reads { OnOk result (S.failed_calls source.new ≡ S.failed_calls source.old) }
-        ensures writes { OnOk result (W.failed_calls sink.new ≡ W.failed_calls sink.old) }
+        ensures writes { OnOk result (K.failed_calls sink.new ≡ K.failed_calls sink.old) }
+        ensures wrote { result ≡ Err SessionFault.Write → K.failed_calls sink.new ≡ K.failed_calls sink.old + 1 }
+        ensures unfailed { result ≢ Err SessionFault.Write → K.failed_calls sink.new ≡ K.failed_calls sink.old }
+        ensures unread { result ≢ Err SessionFault.Read → S.failed_calls source.new ≡ S.failed_calls source.old }
     {
         let mut line = Vec::new(alloc);
         let mut buffer = [0u8; 4096];
@@ -282,71 +364,31 @@ impl<'a, K: StoreName> Run<'a, K> {
         }
         Err(SessionFault::Read)
     }
-}
 
-// The files that are watched.
-#[derive(Clone, Copy)]
-struct Paths<'a> {
-    model: &'a str,
-    tests: &'a [&'a str],
-}
-
-fn watch_over<'a, R: AllocGlobal + Wait, K: StoreName, V: Versions, S: ByteSource, W: ByteSink>(
-    rt: &R,
-    opened: Opened<NodeValue>,
-    paths: Paths<'a>,
-    versions: &mut V,
-    source: &mut S,
-    sink: &mut W,
-) -> Result<bool, SessionFault>
-    requires named { opened.values ≡ K.shelves }
-    requires source { S.failed_calls source.old < 2 ^ 64 - 1 }
-    requires sink { W.failed_calls sink.old < 2 ^ 64 - 1 }
-    ensures reads { OnOk result (S.failed_calls source.new ≡ S.failed_calls source.old) }
-    ensures writes { OnOk result (W.failed_calls sink.new ≡ W.failed_calls sink.old) }
-{
-    let alloc = rt.alloc();
-    let store = match Arc::new(alloc, opened.named::<K>()) {
-        Ok(store) => store,
-        Err(_) => return Err(SessionFault::Memory),
-    };
-    let watched = memory(Watched::<K>::new(alloc, store, paths.tests))?;
-    let mut run = Run {
-        watched,
-        model: paths.model,
-        is_refused: false,
-    };
-    let text = run.begin(rt, alloc, versions, paths.tests)?;
-    if write_whole(sink, &text).is_err() {
-        return Err(SessionFault::Write);
-    }
-    run.answer_lines(rt, alloc, versions, source, sink)?;
-    Ok(run.is_refused)
-}
-
-/// Puts the model and the tests of some files on a bench, settles it, and writes a line for each test and the number of jobs.
-/// Then for each line of the source, which names one of the files, reads the file again, edits what differs, settles the bench
-/// and writes the lines that changed and the number of jobs. Whether a text was refused. Errors: `Read` where a file cannot be
-/// read at the start, a read failed, or the source did not end within 16,777,216 reads; `Write`, or `Memory`.
-pub fn watch<'a, R: AllocGlobal + Wait, V: Versions, S: ByteSource, W: ByteSink>(
-    rt: &R,
-    model: &'a str,
-    tests: &'a [&'a str],
-    versions: &mut V,
-    source: &mut S,
-    sink: &mut W,
-) -> Result<bool, SessionFault>
-    requires source { S.failed_calls source.old < 2 ^ 64 - 1 }
-    requires sink { W.failed_calls sink.old < 2 ^ 64 - 1 }
-    // Where it answers, no read and no write failed.
-    ensures reads { OnOk result (S.failed_calls source.new ≡ S.failed_calls source.old) }
-    ensures writes { OnOk result (W.failed_calls sink.new ≡ W.failed_calls sink.old) }
-{
-    match Store::new(rt.alloc()) {
-        Ok(opened) => {
-            let paths = Paths { model, tests };
-            watch_over::<R, Brand, V, S, W>(rt, opened, paths, versions, source, sink)
+    /// Takes the first versions and writes what came of them, and then answers the lines of a source until it ends. Whether a
+    /// text was refused.
+    pub fn answer_all<W: Wait, V: Versions, S: ByteSource, K: ByteSink>(
+        &mut self,
+        rt: &W,
+        alloc: Global,
+        versions: &mut V,
+        tests: &[&str],
+        source: &mut S,
+        sink: &mut K,
+    ) -> Result<bool, SessionFault>
+        requires source { S.failed_calls source.old < 2 ^ 64 - 1 }
+        requires sink { K.failed_calls sink.old < 2 ^ 64 - 1 }
+        ensures reads { OnOk result (S.failed_calls source.new ≡ S.failed_calls source.old) }
+        ensures writes { OnOk result (K.failed_calls sink.new ≡ K.failed_calls sink.old) }
+        ensures wrote { result ≡ Err SessionFault.Write → K.failed_calls sink.new ≡ K.failed_calls sink.old + 1 }
+        ensures unfailed { result ≢ Err SessionFault.Write → K.failed_calls sink.new ≡ K.failed_calls sink.old }
+        ensures unread { result ≢ Err SessionFault.Read → S.failed_calls source.new ≡ S.failed_calls source.old }
+    {
+        let text = self.begin(rt, alloc, versions, tests)?;
+        if write_whole(sink, &text).is_err() {
+            return Err(SessionFault::Write);
         }
-        Err(_) => Err(SessionFault::Memory),
+        self.answer_lines(rt, alloc, versions, source, sink)?;
+        Ok(self.is_refused)
     }
 }

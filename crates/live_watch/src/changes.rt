@@ -4,27 +4,45 @@ use crate::lines::model_name;
 use crate::watched::Watched;
 use bench_texts::{Edit, EditFault};
 use cat_syntax::{CatFault, ModelText, read_model};
+use desk::{Accepted, DeskFault};
+use desk_rule::Naming;
 use litmus_ppc::{LitmusFault, Name, Test, read_test};
 use std::alloc::{AllocError, Global};
 use std::mem::replace;
+use std::sync::Wait;
 use value_store::StoreName;
 use version_edits::{ItemChange, TestPart, changed_parts, item_changes, item_edit, part_edit};
 
-impl<'a, K: StoreName> Watched<'a, K> {
-    // Makes an edit of the bench and of the texts beside it. Why it is refused, if it is.
-    fn make(&mut self, alloc: Global, edit: Edit) -> Result<Option<EditFault>, AllocError> {
+// The number of an edit that was accepted.
+fn number_of(accepted: Accepted) -> u64 {
+    match accepted {
+        Accepted::Now(number) => number,
+        Accepted::Later(number) => number,
+    }
+}
+
+impl<'a, 'd, J: Naming + StoreName, R: Wait + Drop> Watched<'a, 'd, J, R> {
+    // Makes an edit of the texts, and at the desk. Why it is refused, if it is. Errors: out of memory, also where a worker gave
+    // up.
+    fn make<W: Wait>(
+        &mut self,
+        rt: &W,
+        alloc: Global,
+        edit: Edit,
+    ) -> Result<Option<EditFault>, AllocError> {
         let prepared = match self.texts.prepare(alloc, &edit, false) {
             Ok(prepared) => prepared,
             Err(EditFault::OutOfMemory(error)) => return Err(error),
             Err(fault) => return Ok(Some(fault)),
         };
-        match self.bench.edit(alloc, edit) {
-            Ok(_) => {
+        match self.desk.edit(rt, &mut self.viewer, edit) {
+            Ok(accepted) => {
                 self.texts.commit(prepared);
+                self.last = number_of(accepted);
                 Ok(None)
             }
-            Err(EditFault::OutOfMemory(error)) => Err(error),
-            Err(fault) => Ok(Some(fault)),
+            Err(DeskFault::Edit(fault)) => Ok(Some(fault)),
+            Err(_) => Err(AllocError),
         }
     }
 
@@ -54,15 +72,16 @@ impl<'a, K: StoreName> Watched<'a, K> {
     }
 
     // Makes a change of the model. Whether it is accepted.
-    fn change_item(
+    fn change_item<W: Wait>(
         &mut self,
+        rt: &W,
         alloc: Global,
         new: &ModelText,
         change: ItemChange,
     ) -> Result<bool, AllocError> {
         match self.item_edit(alloc, new, change)? {
             Some(edit) => {
-                let fault = self.make(alloc, edit)?;
+                let fault = self.make(rt, alloc, edit)?;
                 Ok(fault.is_none())
             }
             None => Ok(false),
@@ -70,13 +89,18 @@ impl<'a, K: StoreName> Watched<'a, K> {
     }
 
     // Makes the model this one, item by item. Whether it is so then.
-    fn change_items(&mut self, alloc: Global, new: &ModelText) -> Result<bool, AllocError> {
+    fn change_items<W: Wait>(
+        &mut self,
+        rt: &W,
+        alloc: Global,
+        new: &ModelText,
+    ) -> Result<bool, AllocError> {
         let changes = match self.item_changes(alloc, new)? {
             Some(changes) => changes,
             None => return Ok(false),
         };
         for change in &changes {
-            let accepted = self.change_item(alloc, new, *change)?;
+            let accepted = self.change_item(rt, alloc, new, *change)?;
             if !accepted {
                 return Ok(false);
             }
@@ -85,8 +109,9 @@ impl<'a, K: StoreName> Watched<'a, K> {
     }
 
     /// Takes a version of the model's file. Why it is refused, if it is. Errors: out of memory.
-    pub fn take_model(
+    pub fn take_model<W: Wait>(
         &mut self,
+        rt: &W,
         alloc: Global,
         text: Vec<u8>,
     ) -> Result<Option<EditFault>, AllocError> {
@@ -95,12 +120,12 @@ impl<'a, K: StoreName> Watched<'a, K> {
             Err(CatFault::OutOfMemory(error)) => return Err(error),
             Err(fault) => return Ok(Some(EditFault::Model(fault))),
         };
-        let is_made = self.change_items(alloc, &new)?;
+        let is_made = self.change_items(rt, alloc, &new)?;
         if is_made {
             return Ok(None);
         }
         let model = Vec::from_slice(alloc, model_name())?;
-        self.make(alloc, Edit::PutModel { model, text })
+        self.make(rt, alloc, Edit::PutModel { model, text })
     }
 
     // The parts that differ from the test of this name, or none where that has another shape.
@@ -113,20 +138,31 @@ impl<'a, K: StoreName> Watched<'a, K> {
     }
 
     // Puts a part of a test. Whether it is accepted.
-    fn put_part(&mut self, alloc: Global, new: &Test, part: TestPart) -> Result<bool, AllocError> {
+    fn put_part<W: Wait>(
+        &mut self,
+        rt: &W,
+        alloc: Global,
+        new: &Test,
+        part: TestPart,
+    ) -> Result<bool, AllocError> {
         let edit = part_edit(alloc, new, part)?;
-        let fault = self.make(alloc, edit)?;
+        let fault = self.make(rt, alloc, edit)?;
         Ok(fault.is_none())
     }
 
     // Makes the test of this name this one, part by part. Whether it is so then.
-    fn change_parts(&mut self, alloc: Global, new: &Test) -> Result<bool, AllocError> {
+    fn change_parts<W: Wait>(
+        &mut self,
+        rt: &W,
+        alloc: Global,
+        new: &Test,
+    ) -> Result<bool, AllocError> {
         let parts = match self.parts(alloc, new)? {
             Some(parts) => parts,
             None => return Ok(false),
         };
         for part in &parts {
-            let accepted = self.put_part(alloc, new, *part)?;
+            let accepted = self.put_part(rt, alloc, new, *part)?;
             if !accepted {
                 return Ok(false);
             }
@@ -135,17 +171,18 @@ impl<'a, K: StoreName> Watched<'a, K> {
     }
 
     // Makes the test of this name this one, by parts or as a whole. Why it is refused, if it is.
-    fn put_test(
+    fn put_test<W: Wait>(
         &mut self,
+        rt: &W,
         alloc: Global,
         new: &Test,
         text: Vec<u8>,
     ) -> Result<Option<EditFault>, AllocError> {
-        let is_made = self.change_parts(alloc, new)?;
+        let is_made = self.change_parts(rt, alloc, new)?;
         if is_made {
             return Ok(None);
         }
-        self.make(alloc, Edit::PutTest { text })
+        self.make(rt, alloc, Edit::PutTest { text })
     }
 
     // Whether some file holds the test of this name.
@@ -161,31 +198,43 @@ impl<'a, K: StoreName> Watched<'a, K> {
     }
 
     // Drops the test of this name, which no file holds now.
-    fn drop_unheld(&mut self, alloc: Global, name: &Name) -> Result<(), AllocError> {
+    fn drop_unheld<W: Wait>(
+        &mut self,
+        rt: &W,
+        alloc: Global,
+        name: &Name,
+    ) -> Result<(), AllocError> {
         if self.is_held(name) {
             return Ok(());
         }
         let test = Vec::from_slice(alloc, name.as_bytes())?;
-        let fault = self.make(alloc, Edit::DropTest { test })?;
+        let fault = self.make(rt, alloc, Edit::DropTest { test })?;
         drop(fault);
         Ok(())
     }
 
     // The file of that index holds the test of this name from now on.
-    fn rename(&mut self, alloc: Global, index: usize, name: Name) -> Result<(), AllocError> {
+    fn rename<W: Wait>(
+        &mut self,
+        rt: &W,
+        alloc: Global,
+        index: usize,
+        name: Name,
+    ) -> Result<(), AllocError> {
         let old = match self.tests.get_mut(index) {
             Some(test) => replace(&mut test.name, Some(name)),
             None => None,
         };
         match old {
-            Some(old) => self.drop_unheld(alloc, &old),
+            Some(old) => self.drop_unheld(rt, alloc, &old),
             None => Ok(()),
         }
     }
 
     /// Takes a version of the file of that index. Why it is refused, if it is. Errors: out of memory.
-    pub fn take_test(
+    pub fn take_test<W: Wait>(
         &mut self,
+        rt: &W,
         alloc: Global,
         index: usize,
         text: Vec<u8>,
@@ -195,9 +244,9 @@ impl<'a, K: StoreName> Watched<'a, K> {
             Err(LitmusFault::OutOfMemory(error)) => return Err(error),
             Err(fault) => return Ok(Some(EditFault::Test(fault))),
         };
-        let fault = self.put_test(alloc, &new, text)?;
+        let fault = self.put_test(rt, alloc, &new, text)?;
         if fault.is_none() {
-            self.rename(alloc, index, new.name)?;
+            self.rename(rt, alloc, index, new.name)?;
         }
         Ok(fault)
     }

@@ -1,21 +1,30 @@
 //! The form of the program: files of the system, standard input and standard output.
 
-use crate::answers::watch;
+use crate::start::watch;
 use crate::versions::FileVersions;
 use litmusbench::{OfRead, OfWrite, SessionFault};
 use std::io;
 use std::rt::Files;
 use std::sync::Wait;
+use std::thread::Threads;
 
-/// Watches the files of a model and of tests: standard input names those that have a later version, and what `watch` writes
-/// goes to standard output. Whether a text was refused. Errors: those of `watch`.
-pub fn watch_files<'a, R: AllocGlobal + Files + Input + Print + Wait>(
+/// Watches the files of a model and of tests, with so many workers: standard input names those that have a later version, and
+/// what `watch` writes goes to standard output. Whether a text was refused. Errors: those of `watch`.
+pub fn watch_files<'a, R>(
     rt: &R,
     model: &'a str,
     tests: &'a [&'a str],
-) -> Result<bool, SessionFault> {
+    workers: u64,
+) -> Result<bool, SessionFault>
+where
+    R: AllocGlobal + Files + Input + Print + Threads + Wait + Copy + Drop + Send + Sync,
+{
+    let workers = u32::try_from(workers).unwrap_or(u32::MAX);
     let mut versions = FileVersions::new(rt);
-    let mut source = OfRead::new(rt.reader());
-    let mut sink = OfWrite::new(io::writer(rt));
-    watch(rt, model, tests, &mut versions, &mut source, &mut sink)
+    let source = OfRead::new(rt.reader());
+    let sink = OfWrite::new(io::writer(rt));
+    match watch(rt, model, tests, workers, &mut versions, source, sink) {
+        Ok(ended) => ended.answer,
+        Err(_) => Err(SessionFault::Memory),
+    }
 }

@@ -1,4 +1,4 @@
-//! Watching: a bench of one model and some tests, whose files are read again on demand. Only the items and the parts that
+//! Watching: a desk of one model and some tests, whose files are read again on demand. Only the items and the parts that
 //! differ are edited, and only what the edits reach is computed again. Read specs/Lines first: `IsTestLine` says what the line
 //! of a test is.
 #![tactic(auto)]
@@ -8,9 +8,11 @@ mod changes;
 mod files;
 mod lines;
 mod settling;
+mod start;
+mod turnstile;
 mod versions;
 mod watched;
 
-pub use answers::watch;
 pub use files::watch_files;
+pub use start::{Ended, watch};
 pub use versions::{FileVersions, Version, Versions};

@@ -1,17 +1,22 @@
 //! What is written of the tests.
 
-ghost use Rattle.std.specs.Prelude.{◌≡◌, ℕ, drop, IfOk};
+ghost use Rattle.std.specs.Prelude.{◌≡◌, ◌++◌, [], get_or, IfOk, OnOk, IfSome};
+ghost use Rattle.std.specs.List.{AllByRecursion as Each};
 ghost use Rattle.compare_report.specs.Cells.{cell_of};
-ghost use Rattle.live_watch.specs.Lines.{model_name, test_table, IsRight, IsTestLine, IsTestTable};
+ghost use Rattle.board.specs.Legal.{IsLegal};
+ghost use Rattle.live_watch.specs.Lines.{model_name, test_table, behind_line, IsTestLine, lists_of, line_now, lines_now};
+ghost use Rattle.live_watch.specs.Lines.{IsClosedNow, AreShown, changed_line, changed_lines, jobs_line, AreWritten};
 
 use crate::watched::{Watched, WatchedTest};
-use cells::bench::Bench;
-use cells::shown::Shown;
 use compare_report::{Shown as Cell, TestRow, table_text};
+use core::mem::replace_with;
+use desk_rule::{Naming, View, Viewer};
 use litmus_ppc::Name;
+use running_bench::RunningTexts;
+use running_views::{newest_view, result_in};
 use source_text::{line_length, put_bytes, put_decimal};
-use stamped_texts::StampedTexts;
 use std::alloc::{AllocError, Global};
+use std::sync::Wait;
 use value_store::StoreName;
 
 /// The name of the model on the bench.
@@ -19,17 +24,6 @@ pub fn model_name() -> &'static [u8]
     ensures { result.now ≡ model_name }
 {
     b"model"
-}
-
-// What is shown of a test.
-fn shown_cell<'x, K: StoreName>(bench: &'x Bench<K, StampedTexts>, name: &[u8]) -> Cell<'x>
-    ensures { IsRight bench.now.texts name.now (cell_of result) }
-{
-    match bench.shown(name, model_name()) {
-        Shown::Settled(outcome) => Cell::Settled(outcome),
-        Shown::Open => Cell::Open,
-        Shown::NoCell => Cell::NoCell,
-    }
 }
 
 // The table of one test under the model.
@@ -46,20 +40,9 @@ fn cell_table<'x>(alloc: Global, name: &'x [u8], cell: Cell<'x>) -> Result<Vec<u
     table_text(alloc, &models, &rows)
 }
 
-fn table_of_test<'x, K: StoreName>(
-    alloc: Global,
-    bench: &'x Bench<K, StampedTexts>,
-    name: &'x [u8],
-) -> Result<Vec<u8>, AllocError>
-    ensures { IfOk result (λ v. IsTestTable bench.now.texts name.now v.items) }
-{
-    let cell = shown_cell(bench, name);
-    cell_table(alloc, name, cell)
-}
-
 // What stands behind the first line.
 fn behind_line(text: &[u8]) -> &[u8]
-    ensures { (count : ℕ) × (result.now ≡ drop count text.now) }
+    ensures { result.now ≡ behind_line text.now }
 {
     let length = line_length(text);
     if length < text.len() {
@@ -69,49 +52,149 @@ fn behind_line(text: &[u8]) -> &[u8]
     }
 }
 
-/// The line of a test, as in a table of it alone. Errors: out of memory.
-pub fn test_line<K: StoreName>(
+/// The line of a test, as in a table of it alone, or none where its cell is open. Errors: out of memory.
+pub fn test_line<J: Naming>(
     alloc: Global,
-    bench: &Bench<K, StampedTexts>,
+    view: &View<J, RunningTexts>,
     name: &[u8],
-) -> Result<Vec<u8>, AllocError>
-    ensures { IfOk result (λ v. IsTestLine bench.now.texts name.now v.items) }
+) -> Result<Option<Vec<u8>>, AllocError>
+    requires { IsLegal view.now }
+    ensures { IfOk result (λ o. IfSome o (λ v. IsTestLine view.now name.now v.items)) }
 {
-    let table = table_of_test(alloc, bench, name)?;
-    Vec::from_slice(alloc, behind_line(&table))
+    match result_in(view, name, model_name()) {
+        Cell::Open => Ok(None),
+        cell => {
+            let table = cell_table(alloc, name, cell)?;
+            Ok(Some(Vec::from_slice(alloc, behind_line(&table))?))
+        }
+    }
 }
 
-// Appends the line of a test where it differs from the last that was written of it.
-fn put_changed<K: StoreName>(
+// The line of the test that a file holds, which is empty where no version was accepted, or none where its cell is open.
+fn line_now<J: Naming>(
     alloc: Global,
-    bench: &Bench<K, StampedTexts>,
-    test: &mut WatchedTest<'_>,
+    view: &View<J, RunningTexts>,
+    test: &WatchedTest<'_>,
+) -> Result<Option<Vec<u8>>, AllocError>
+    requires { IsLegal view.now }
+    ensures line { IfOk result (λ o. IfSome o (λ v. v.items ≡ line_now view.now test.now)) }
+    ensures closed { IfOk result (λ o. IfSome o (λ v. IsClosedNow view.now test.now)) }
+{
+    match &test.name {
+        Some(name) => test_line(alloc, view, name.as_bytes()),
+        None => Ok(Some(Vec::new(alloc))),
+    }
+}
+
+// The line of each of these files, or none where a cell is open.
+fn lines_now<J: Naming>(
+    alloc: Global,
+    view: &View<J, RunningTexts>,
+    tests: &[WatchedTest<'_>],
+) -> Result<Option<Vec<Vec<u8>>>, AllocError>
+    requires { IsLegal view.now }
+    ensures lines { IfOk result (λ o. IfSome o (λ v. lists_of v.items ≡ lines_now view.now tests.now)) }
+    ensures closed { IfOk result (λ o. IfSome o (λ v. Each (IsClosedNow view.now) tests.now)) }
+{
+    let mut lines = Vec::with_capacity(alloc, tests.len())?;
+    for test in tests {
+        match line_now(alloc, view, test)? {
+            Some(line) => lines.push(line)?,
+            None => return Ok(None),
+        }
+    }
+    Ok(Some(lines))
+}
+
+// What is to be read of the board.
+#[derive(Clone, Copy)]
+struct Asked<'p, 'a> {
+    alloc: Global,
+    tests: &'p [WatchedTest<'a>],
+}
+
+// Reads the board that was published last: the lines, or none where a cell is open. The viewer comes back, and has seen the
+// operations of that board.
+fn read_board<'p, 'a, J: Naming>(
+    viewer: Viewer<J, RunningTexts>,
+    asked: Asked<'p, 'a>,
+) -> (
+    Viewer<J, RunningTexts>,
+    Result<Option<Vec<Vec<u8>>>, AllocError>,
+)
+    ensures { IfOk result.1 (λ o. IfSome o (λ v. AreShown result.0 asked.entry.tests.now (lists_of v.items))) }
+{
+    match newest_view(viewer) {
+        Ok(view) => {
+            let lines = lines_now(asked.alloc, &view, asked.tests);
+            (view.leave(), lines)
+        }
+        Err(viewer) => (viewer, Err(AllocError)),
+    }
+}
+
+// Appends a line where it differs from the last that was written of its file.
+fn put_changed_line(text: &mut Vec<u8>, last: &[u8], now: &[u8]) -> Result<(), AllocError>
+    ensures { OnOk result (text.new.items ≡ text.old.items ++ changed_line last.now now.now) }
+{
+    if now == last {
+        return Ok(());
+    }
+    put_bytes(text, now)
+}
+
+// The last line that was written of the file of that index.
+fn last_line(lasts: &[Vec<u8>], index: usize) -> &[u8]
+    ensures { result.now ≡ get_or (lists_of lasts.now) index [] }
+{
+    match lasts.get(index) {
+        Some(last) => last.as_slice(),
+        None => &[],
+    }
+}
+
+// Appends those of the lines that differ from the last that were written.
+fn put_changed_lines(
     text: &mut Vec<u8>,
-) -> Result<(), AllocError> {
-    let line = match &test.name {
-        Some(name) => test_line(alloc, bench, name.as_bytes())?,
-        None => return Ok(()),
-    };
-    if line.as_slice() != test.line.as_slice() {
-        put_bytes(text, &line)?;
-        test.line = line;
+    lasts: &[Vec<u8>],
+    nows: &[Vec<u8>],
+) -> Result<(), AllocError>
+    ensures { OnOk result (text.new.items ≡ text.old.items ++ changed_lines (lists_of lasts.now) (lists_of nows.now)) }
+{
+    for index in 0..nows.len() {
+        put_changed_line(text, last_line(lasts, index), &nows[index])?;
     }
     Ok(())
 }
 
-/// Appends the number of jobs. Errors: out of memory.
-pub fn put_jobs(text: &mut Vec<u8>, jobs: u64) -> Result<(), AllocError> {
+// Appends the number of jobs.
+fn put_jobs(text: &mut Vec<u8>, jobs: u64) -> Result<(), AllocError>
+    ensures { OnOk result (text.new.items ≡ text.old.items ++ jobs_line jobs) }
+{
     put_bytes(text, b"jobs ")?;
     put_decimal(text, jobs)?;
     put_bytes(text, b"\n")
 }
 
-impl<'a, K: StoreName> Watched<'a, K> {
-    /// Appends the lines that differ from the last that were written. Errors: out of memory.
-    pub fn put_lines(&mut self, alloc: Global, text: &mut Vec<u8>) -> Result<(), AllocError> {
-        for test in &mut self.tests {
-            put_changed(alloc, &self.bench, test, text)?;
-        }
-        Ok(())
+/// Appends those of the lines that differ from the last that were written, and the number of jobs. Errors: out of memory.
+pub fn put_answer(
+    text: &mut Vec<u8>,
+    lasts: &[Vec<u8>],
+    nows: &[Vec<u8>],
+    jobs: u64,
+) -> Result<(), AllocError>
+    ensures { OnOk result (AreWritten (lists_of lasts.now) (lists_of nows.now) text.old.items text.new.items) }
+{
+    put_changed_lines(text, lasts, nows)?;
+    put_jobs(text, jobs)
+}
+
+impl<'a, 'd, J: Naming + StoreName, R: Wait + Drop> Watched<'a, 'd, J, R> {
+    /// The lines of all files, from the board that was published last, or none where a cell is open. Errors: out of memory.
+    pub fn lines_now(&mut self, alloc: Global) -> Result<Option<Vec<Vec<u8>>>, AllocError>
+        ensures { IfOk result (λ o. IfSome o (λ v. AreShown self.new.viewer self.new.tests.items (lists_of v.items))) }
+    {
+        let tests = self.tests.as_slice();
+        replace_with(&mut self.viewer, Asked { alloc, tests }, read_board)
     }
 }

@@ -16,6 +16,7 @@ use std::io::Write;
 use std::process::ExitCode;
 use std::rt::{Env, Files};
 use std::sync::Wait;
+use std::thread::Threads;
 use std::{env, io};
 
 fn tell_fault<R: Eprint>(rt: &R, fault: SessionFault) -> RunEnd {
@@ -234,11 +235,10 @@ fn diff_files<R: AllocGlobal + Eprint + Files + Print, E: Print>(
     write_both(rt, errors, difference_report(rt.alloc(), &models, &tests))
 }
 
-fn answer<R: AllocGlobal + Eprint + Files + Input + Print + Wait, E: Print>(
-    rt: &R,
-    errors: &E,
-    words: &[&str],
-) -> RunEnd {
+fn answer<R, E: Print>(rt: &R, errors: &E, words: &[&str]) -> RunEnd
+where
+    R: AllocGlobal + Eprint + Files + Input + Print + Threads + Wait + Copy + Drop + Send + Sync,
+{
     match form_of(rt.alloc(), words) {
         Ok(Form::Stream) => tell_done(rt, stream(rt, errors)),
         Ok(Form::Eval { model, test }) => tell_done(rt, eval_files(rt, errors, model, test)),
@@ -272,7 +272,13 @@ fn answer<R: AllocGlobal + Eprint + Files + Input + Print + Wait, E: Print>(
             };
             tell_done(rt, why_files(rt, errors, asked, model, test))
         }
-        Ok(Form::Watch { model, tests }) => tell_done(rt, watch_files(rt, model, tests)),
+        Ok(
+            Form::Watch {
+                model,
+                tests,
+                workers,
+            },
+        ) => tell_done(rt, watch_files(rt, model, tests, workers)),
         Ok(
             Form::Draw {
                 model,
@@ -285,10 +291,21 @@ fn answer<R: AllocGlobal + Eprint + Files + Input + Print + Wait, E: Print>(
     }
 }
 
-fn run<R: AllocGlobal + Env + Eprint + Files + Input + Print + Wait, E: Print>(
-    rt: &R,
-    errors: &E,
-) -> RunEnd {
+fn run<R, E: Print>(rt: &R, errors: &E) -> RunEnd
+where
+    R: AllocGlobal
+        + Env
+        + Eprint
+        + Files
+        + Input
+        + Print
+        + Threads
+        + Wait
+        + Copy
+        + Drop
+        + Send
+        + Sync,
+{
     let words: Vec<String> = match env::args(rt) {
         Ok(words) => match words.collect(rt.alloc()) {
             Ok(words) => words,

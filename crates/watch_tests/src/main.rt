@@ -1,15 +1,20 @@
 //! Watches a model and three tests whose versions stand in the table `versions.txt`: a line for each, with the path and the
-//! file that holds the version. Standard input names the paths that have a later version, as it does for the program.
+//! file that holds the version. Standard input names the paths that have a later version, as it does for the program. What is
+//! written is compared with what it is with 1, 2, 4 and 32 workers; then a read and a write fail.
 #![tactic(auto)]
 
-use litmusbench::{OfRead, OfWrite};
+use litmusbench::{MemorySink, MemorySource, OfRead, read_text};
 use live_watch::{Version, Versions, watch};
 use std::alloc::{AllocError, Global};
+use std::io::Write;
 use std::rt::Files;
 use std::sync::Wait;
+use std::thread::Threads;
 use std::{fs, io};
 
 const MODEL: &str = "power.cat";
+
+const WORKERS: [u32; 4] = [1, 2, 4, 32];
 
 const TESTS: [&str; 3] = ["MP+lwsync+addr.litmus", "MP.litmus", "LB+datas.litmus"];
 
@@ -75,15 +80,60 @@ fn read_table<R: Files + AllocGlobal>(rt: &R) -> io::Result<Table> {
     Ok(Table { rows })
 }
 
-fn run<R: AllocGlobal + Files + Input + Print + Wait>(rt: &R) -> io::Result<()> {
+// What watching writes with so many workers, and how it ends.
+fn watched<R>(rt: &R, lines: &[u8], workers: u32) -> io::Result<Vec<u8>>
+where
+    R: AllocGlobal + Files + Threads + Wait + Copy + Drop + Send + Sync,
+{
+    let alloc = rt.alloc();
     let mut versions = read_table(rt)?;
-    let mut source = OfRead::new(rt.reader());
-    let mut sink = OfWrite::new(io::writer(rt));
-    let end = watch(rt, MODEL, &TESTS, &mut versions, &mut source, &mut sink);
-    match end {
-        Ok(is_refused) => println!(rt; "some text was refused: {is_refused}"),
-        Err(fault) => println!(rt; "fault: {fault}"),
+    let source = MemorySource::failing_at(lines, None);
+    let sink = MemorySink::failing_at(Vec::new(alloc), None);
+    let ended = watch(rt, MODEL, &TESTS, workers, &mut versions, source, sink)?;
+    let mut said = Vec::from_slice(alloc, ended.sink.as_bytes())?;
+    match ended.answer {
+        Ok(is_refused) => write!(said, "some text was refused: {is_refused}\n")?,
+        Err(fault) => write!(said, "fault: {fault}\n")?,
     }
+    Ok(said)
+}
+
+// How watching ends where a read or a write fails, and how much it has written.
+fn tell_failing<R>(rt: &R, reads: Option<u64>, writes: Option<u64>) -> io::Result<()>
+where
+    R: AllocGlobal + Files + Print + Threads + Wait + Copy + Drop + Send + Sync,
+{
+    let mut versions = read_table(rt)?;
+    let source = MemorySource::failing_at(b"power.cat\n", reads);
+    let sink = MemorySink::failing_at(Vec::new(rt.alloc()), writes);
+    let ended = watch(rt, MODEL, &TESTS, 2, &mut versions, source, sink)?;
+    let length = ended.sink.as_bytes().len();
+    match ended.answer {
+        Ok(_refused) => println!(rt; "no fault, {length} bytes"),
+        Err(fault) => println!(rt; "fault: {fault}, {length} bytes"),
+    }
+}
+
+fn run<R>(rt: &R) -> io::Result<()>
+where
+    R: AllocGlobal + Files + Input + Print + Threads + Wait + Copy + Drop + Send + Sync,
+{
+    let lines = match read_text(rt.alloc(), &mut OfRead::new(rt.reader())) {
+        Ok(lines) => lines,
+        Err(fault) => return println!(rt; "fault: {fault}"),
+    };
+    let alone = watched(rt, &lines, 0)?;
+    io::writer(rt).write_all(&alone)?;
+    for workers in WORKERS {
+        let beside = watched(rt, &lines, workers)?;
+        let is_same = beside.as_slice() == alone.as_slice();
+        println!(rt; "the same with {workers} workers: {is_same}")?;
+    }
+    tell_failing(rt, Some(0), None)?;
+    tell_failing(rt, Some(1), None)?;
+    tell_failing(rt, None, Some(0))?;
+    tell_failing(rt, None, Some(1))?;
+    tell_failing(rt, None, None)
 }
 
 fn main(rt: HostRuntime) -> io::Result<()> {

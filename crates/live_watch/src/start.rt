@@ -1,0 +1,241 @@
+//! The desk of a run, with its workers.
+
+ghost use Rattle.std.specs.Prelude.{◌≡◌, ◌-◌, ◌<◌, ◌^◌, IfOk};
+ghost use Rattle.live_watch.specs.Ends.{AreCallsOf};
+
+use crate::answers::Run;
+use crate::settling::Hands;
+use crate::turnstile::{RunningTurnstile, Turnstile, beside_workers};
+use crate::versions::Versions;
+use crate::watched::{Watched, watched_tests};
+use bench_texts::Texts;
+use desk_rule::Naming;
+use litmusbench::{ByteSink, ByteSource, SessionFault};
+use running_bench::{DeskSeed, RunningDesk};
+use std::alloc::AllocError;
+use std::marker::Brand;
+use std::sync::Wait;
+use std::thread::Threads;
+use value_store::StoreName;
+
+/// How watching ended.
+#[derive(Drop)]
+pub struct Ended<S, K> {
+    /// Whether a text was refused, or the fault that ended it.
+    pub answer: Result<bool, SessionFault>,
+    /// The source as it was left.
+    pub source: S,
+    /// The sink as it was left.
+    pub sink: K,
+}
+
+// The files that are watched.
+#[derive(Clone, Copy)]
+struct Paths<'a> {
+    model: &'a str,
+    tests: &'a [&'a str],
+}
+
+// An empty run over a desk.
+fn run_at<'a, 'd, J: Naming + StoreName, R: AllocGlobal + Wait + Drop>(
+    rt: &R,
+    desk: &'d RunningDesk<J, R>,
+    hands: Hands<'d, J, R>,
+    paths: Paths<'a>,
+) -> Result<Run<'a, 'd, J, R>, AllocError> {
+    let alloc = rt.alloc();
+    let viewer = match desk.viewer(rt) {
+        Ok(viewer) => viewer,
+        Err(_) => return Err(AllocError),
+    };
+    let tests = watched_tests(alloc, paths.tests)?;
+    let watched = Watched {
+        desk,
+        viewer,
+        texts: Texts::new(alloc),
+        last: 0,
+        tests,
+    };
+    Ok(Run {
+        watched,
+        model: paths.model,
+        hands,
+        lines: Vec::new(alloc),
+        is_refused: false,
+    })
+}
+
+// Who runs the jobs where there are so many workers.
+fn hands_of<'d, J: Naming + StoreName, R: Wait + Drop>(
+    turnstile: &'d RunningTurnstile<'d, J, R>,
+    workers: u32,
+) -> Hands<'d, J, R> {
+    if workers == 0 {
+        Hands::Own
+    } else {
+        Hands::Workers(turnstile)
+    }
+}
+
+// Watches over a desk, until the source ends.
+fn attend<'a, 'd, J, R, V, S, K>(
+    rt: &R,
+    desk: &'d RunningDesk<J, R>,
+    hands: Hands<'d, J, R>,
+    paths: Paths<'a>,
+    versions: &mut V,
+    source: S,
+    sink: K,
+) -> Result<Ended<S, K>, AllocError>
+where
+    J: Naming + StoreName,
+    R: AllocGlobal + Wait + Drop,
+    V: Versions,
+    S: ByteSource + Drop,
+    K: ByteSink + Drop,
+    requires source { S.failed_calls source < 2 ^ 64 - 1 }
+    requires sink { K.failed_calls sink < 2 ^ 64 - 1 }
+    ensures { IfOk result (λ ended. AreCallsOf ended.answer (S.failed_calls source) (S.failed_calls ended.source) (K.failed_calls sink) (K.failed_calls ended.sink)) }
+{
+    let mut run = run_at(rt, desk, hands, paths)?;
+    let mut source = source;
+    let mut sink = sink;
+    let answer = run.answer_all(
+        rt,
+        rt.alloc(),
+        versions,
+        paths.tests,
+        &mut source,
+        &mut sink,
+    );
+    Ok(Ended {
+        answer,
+        source,
+        sink,
+    })
+}
+
+// The same beside workers, which it lets end.
+fn attend_workers<'a, 'd, J, R, V, S, K>(
+    rt: &R,
+    turnstile: &'d RunningTurnstile<'d, J, R>,
+    workers: u32,
+    paths: Paths<'a>,
+    versions: &mut V,
+    source: S,
+    sink: K,
+) -> Result<Ended<S, K>, AllocError>
+where
+    J: Naming + StoreName,
+    R: AllocGlobal + Wait + Drop,
+    V: Versions,
+    S: ByteSource + Drop,
+    K: ByteSink + Drop,
+    requires source { S.failed_calls source < 2 ^ 64 - 1 }
+    requires sink { K.failed_calls sink < 2 ^ 64 - 1 }
+    ensures { IfOk result (λ ended. AreCallsOf ended.answer (S.failed_calls source) (S.failed_calls ended.source) (K.failed_calls sink) (K.failed_calls ended.sink)) }
+{
+    let hands = hands_of(turnstile, workers);
+    let ended = attend(rt, turnstile.desk(), hands, paths, versions, source, sink);
+    turnstile.open(rt, u64::MAX);
+    ended
+}
+
+fn watch_at<'a, J, R, V, S, K>(
+    rt: &R,
+    desk: &RunningDesk<J, R>,
+    workers: u32,
+    paths: Paths<'a>,
+    versions: &mut V,
+    source: S,
+    sink: K,
+) -> Result<Ended<S, K>, AllocError>
+where
+    J: Naming + StoreName + Send + Sync,
+    R: AllocGlobal + Threads + Wait + Drop + Send + Sync,
+    V: Versions,
+    S: ByteSource + Drop,
+    K: ByteSink + Drop,
+    requires source { S.failed_calls source < 2 ^ 64 - 1 }
+    requires sink { K.failed_calls sink < 2 ^ 64 - 1 }
+    ensures { IfOk result (λ ended. AreCallsOf ended.answer (S.failed_calls source) (S.failed_calls ended.source) (K.failed_calls sink) (K.failed_calls ended.sink)) }
+{
+    let turnstile = Turnstile::new(desk);
+    let gate = &turnstile;
+    let worked = beside_workers(
+        rt,
+        rt.alloc(),
+        gate,
+        workers,
+        || -> Result<Ended<S, K>, AllocError>
+            requires source { S.failed_calls source < 2 ^ 64 - 1 }
+            requires sink { K.failed_calls sink < 2 ^ 64 - 1 }
+            ensures { IfOk result (λ ended. AreCallsOf ended.answer (S.failed_calls source) (S.failed_calls ended.source) (K.failed_calls sink) (K.failed_calls ended.sink)) }
+        { attend_workers(rt, gate, workers, paths, versions, source, sink) },
+    );
+    match worked {
+        Ok(worked) => worked.answer,
+        Err(_) => Err(AllocError),
+    }
+}
+
+fn watch_from<'a, J, R, V, S, K>(
+    rt: &R,
+    seed: DeskSeed,
+    workers: u32,
+    paths: Paths<'a>,
+    versions: &mut V,
+    source: S,
+    sink: K,
+) -> Result<Ended<S, K>, AllocError>
+where
+    J: Naming + StoreName + Send + Sync,
+    R: AllocGlobal + Threads + Wait + Copy + Drop + Send + Sync,
+    V: Versions,
+    S: ByteSource + Drop,
+    K: ByteSink + Drop,
+    requires book { seed.book.seen.book ≡ J.book }
+    requires values { seed.values.values ≡ J.shelves }
+    requires source { S.failed_calls source < 2 ^ 64 - 1 }
+    requires sink { K.failed_calls sink < 2 ^ 64 - 1 }
+    ensures { IfOk result (λ ended. AreCallsOf ended.answer (S.failed_calls source) (S.failed_calls ended.source) (K.failed_calls sink) (K.failed_calls ended.sink)) }
+{
+    match seed.desk::<J, R, R>(rt, rt.alloc(), *rt) {
+        Ok(desk) => watch_at(rt, &desk, workers, paths, versions, source, sink),
+        Err(_) => Err(AllocError),
+    }
+}
+
+/// Puts the model and the tests of some files on a desk, settles it, and writes a line for each test and the number of jobs.
+/// Then for each line of the source, which names one of the files, reads the file again, edits what differs, settles the desk
+/// and writes the lines that changed and the number of jobs. So many workers run the jobs, or the calling thread where there
+/// are none. It ends with the fault `Read` where a file cannot be read at the start, a read failed, or the source did not end
+/// within 16,777,216 reads, with `Write`, or with `Memory`, also where a worker gave up. Errors: a growth or the start of a
+/// worker was refused, before anything was read or written.
+pub fn watch<'a, R, V, S, K>(
+    rt: &R,
+    model: &'a str,
+    tests: &'a [&'a str],
+    workers: u32,
+    versions: &mut V,
+    source: S,
+    sink: K,
+) -> Result<Ended<S, K>, AllocError>
+where
+    R: AllocGlobal + Threads + Wait + Copy + Drop + Send + Sync,
+    V: Versions,
+    S: ByteSource + Drop,
+    K: ByteSink + Drop,
+    requires source { S.failed_calls source < 2 ^ 64 - 1 }
+    requires sink { K.failed_calls sink < 2 ^ 64 - 1 }
+    // Where it answers, no read and no write failed; and so it is for each fault of its own.
+    ensures { IfOk result (λ ended. AreCallsOf ended.answer (S.failed_calls source) (S.failed_calls ended.source) (K.failed_calls sink) (K.failed_calls ended.sink)) }
+{
+    match DeskSeed::new(rt.alloc()) {
+        Ok(seed) => {
+            let paths = Paths { model, tests };
+            watch_from::<Brand, R, V, S, K>(rt, seed, workers, paths, versions, source, sink)
+        }
+        Err(_) => Err(AllocError),
+    }
+}
