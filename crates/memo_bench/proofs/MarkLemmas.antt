@@ -181,7 +181,7 @@ put_pending {V} net ks next m p is flags unsettled = record {
         rw (put_other m n (as_memos ks) g, same_present net (as_memos ks) m unsettled deep.0 (net.inputs n) deep.1) at match
 
 -- what has an index is there, and what is there has one
-has_at : (ns : List Node) (i : ℕ) (n : Node) → slice_get ns i ≡ Some n → Has ns n
+pub has_at : (ns : List Node) (i : ℕ) (n : Node) → slice_get ns i ≡ Some n → Has ns n
 has_at [] i n h = cc
 has_at (m ∷ ns) zero n h = inl (some_one m n h)
   where
@@ -195,6 +195,13 @@ at_has (m ∷ ns) n h = elim h [
   | inl e ↦ (0, omega arith, ap (λ (n : Node). let o : Option Node = Some n in o) e)
   | inr r ↦ (let t = at_has ns n r in (suc t.0, omega (arith, t.1), t.2))
 ]
+
+-- the used node of an index that has work
+pub work_at : {V G : Type 0} (net : Net G) (ks : List (Slot V)) (cs : List (ℕ × Claim)) (i : ℕ) → IsWorkAt net ks cs i → (n : Node) → slice_get net.used i ≡ Some n → can_work net ks cs n ≡ true
+work_at net ks cs i w n at = subst (λ (n : Node). can_work net ks cs n ≡ true) (some_node w.node n (sym w.found ∙ at)) w.work
+  where
+    some_node : (m n : Node) → Some m ≡ Some n → m ≡ n
+    some_node m n h = cc
 
 -- work by marks is work
 module _ {V G : Type 0} (net : Net G) (ks : List (Slot V)) (without_claim : (n : Node) → Has net.used n → Each (Has net.used) (input_nodes (net.inputs n))) (p : IsMarkedTo net ks []) (cs : List (ℕ × Claim)) (taken : ℕ) where
@@ -212,7 +219,7 @@ module _ {V G : Type 0} (net : Net G) (ks : List (Slot V)) (without_claim : (n :
   work_parts false true true h = cc
   work_parts false true false h = (refl, refl, refl)
 
-  is_work_of : (n : Node) → Has net.used n → can_work net ks cs n ≡ true → IsWork (of_all net (as_memos ks) cs taken) n
+  pub is_work_of : (n : Node) → Has net.used n → can_work net ks cs n ≡ true → IsWork (of_all net (as_memos ks) cs taken) n
   is_work_of n has h =
       let q = work_parts (is_match net (as_memos ks) n) (all_nodes (mark_of ks) (net.inputs n)) (is_out n (present_inputs net (as_memos ks) (net.inputs n)) cs) h in
       record {
@@ -227,12 +234,6 @@ module _ {V G : Type 0} (net : Net G) (ks : List (Slot V)) (without_claim : (n :
       let u : is_match net (as_memos ks) n ≡ false = elim (either (is_match net (as_memos ks) n)) [ inl t ↦ absurd (w.unmatched ((match_is net (as_memos ks) n).0 t)) | inr f ↦ f ] in
       let e : all_nodes (mark_of ks) (net.inputs n) ≡ true = all_from (mark_of ks) (λ m. mark_of ks m ≡ true) (λ m t. t) (net.inputs n) (to_marked (input_nodes (net.inputs n)) (without_claim n w.used) w.inputs_settled) in
       rw (u, e, not_out_is n (present_inputs net (as_memos ks) (net.inputs n)) cs w.not_out) refl
-
-  pub marked_work : (i : ℕ) → IsWorkAt net ks cs i → (n : Node) → slice_get net.used i ≡ Some n → IsWork (of_all net (as_memos ks) cs taken) n
-  marked_work i w n at = is_work_of n (has_at net.used i n at) (subst (λ (n : Node). can_work net ks cs n ≡ true) (some_node w.node n (sym w.found ∙ at)) w.work)
-    where
-      some_node : (m n : Node) → Some m ≡ Some n → m ≡ n
-      some_node m n h = cc
 
   pub marked_none : IsIdle net ks cs 0 (length net.used) → (n : Node) → IsWork (of_all net (as_memos ks) cs taken) n → ⊥
   marked_none idle n w =

@@ -8,10 +8,10 @@ ghost use Rattle.memo_bench.specs.Told.{IsTold, OnNone};
 
 use crate::graph::{Graph, LAST};
 use crate::job::Job;
-use crate::marks::{are_used_marked, is_marked, settle_all};
+use crate::marks::{are_used_marked, is_marked, note_lost, settle_all};
 use crate::stores::drop_gone;
 use crate::witness::{Nobody, Witness};
-use crate::work::{current_inputs, earlier_tokens, find_work, hold_all, present_keys};
+use crate::work::{current_inputs, earlier_tokens, find_node, hold_all, present_keys};
 use indexmap::IndexMap;
 use memo_core::claims::{Claim, ClaimFault};
 use memo_core::keys::{Node, Output};
@@ -41,6 +41,7 @@ impl<K: StoreName, T: Texts> Graph<K, T> {
             memos: IndexMap::new(alloc),
             claims: BTreeMap::new(alloc),
             taken: 0,
+            waiting: Vec::new(alloc),
             next: 0,
             store,
         }
@@ -112,7 +113,9 @@ impl<K: StoreName, T: Texts> Graph<K, T> {
         }
         self.texts.commit(prepared, number);
         drop_gone(&self.texts, &mut self.memos);
-        settle_all(&self.texts, &mut self.memos);
+        self.waiting.clear();
+        let _ = self.waiting.reserve(self.texts.used_count());
+        settle_all(&self.texts, &mut self.memos, &mut self.waiting);
         self.taken = number;
         Ok(Some(number))
     }
@@ -138,11 +141,11 @@ impl<K: StoreName, T: Texts> Graph<K, T> {
             return Err(ClaimFault::Spent);
         }
         let memos = &self.memos;
-        let at = match find_work(&self.texts, memos, &self.claims, self.next) {
+        let claims = &self.claims;
+        let node = match find_node(&self.texts, memos, claims, &mut self.waiting, &mut self.next) {
             None => return Ok(None),
-            Some(at) => at,
+            Some(node) => node,
         };
-        let node = self.texts.used_at(at);
         let keys = present_keys(alloc, &self.texts, node)?;
         let inputs = current_inputs(alloc, &self.texts, memos, node)?;
         let values = match hold_all(alloc, &self.texts, memos, node)? {
@@ -158,7 +161,6 @@ impl<K: StoreName, T: Texts> Graph<K, T> {
         let open = self.claims.len();
         prove!(open < 0x8000_0000_0000_0000);
         self.taken = number;
-        self.next = at;
         Ok(Some(Job {
             claim: number,
             node,
@@ -184,6 +186,7 @@ impl<K: StoreName, T: Texts> Graph<K, T> {
         ensures step { Loses (state_of self.old) claim result (state_of self.new) }
     {
         let closed = self.claims.remove(&claim);
+        note_lost(&mut self.waiting, &closed);
         closed.is_some()
     }
 
@@ -198,6 +201,7 @@ impl<K: StoreName, T: Texts> Graph<K, T> {
         ensures texts { self.new.texts ≡ self.old.texts }
         ensures step { Renews (state_of self.old) (state_of self.new) }
     {
+        self.waiting.clear();
         self.claims.clear();
         self.memos.clear();
     }

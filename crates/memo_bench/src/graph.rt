@@ -4,6 +4,7 @@ ghost use Rattle.std.specs.Prelude.{◌+◌, ◌<◌, ◌≤◌, ◌^◌, length
 ghost use Rattle.indexmap.specs.IndexMap.{spare};
 
 use memo_core::claims::OpenClaims;
+use memo_core::keys::Node;
 use memo_core::table::Memos;
 use memo_core::texts::Texts;
 use std::alloc::Global;
@@ -22,7 +23,9 @@ pub struct Graph<K: StoreName, T: Texts> {
     pub claims: OpenClaims,
     /// How many numbers are taken.
     pub taken: u64,
-    /// Where among the used nodes the search for work goes on.
+    /// Nodes that may have work, of which a claim looks at the last first. A node that has work need not be among them.
+    pub(crate) waiting: Vec<Node>,
+    /// Where among the used nodes the search for work goes on, once none of these has any.
     pub(crate) next: usize,
     pub(crate) store: Arc<Store<K, T::Value>, Global>,
     ghost room: { length claims.entries ≤ spare memos },

@@ -7,6 +7,7 @@ ghost use Rattle.memo_core.specs.Views.{as_memos};
 ghost use Rattle.memo_core.specs.Tests.{all_nodes};
 ghost use Rattle.memo_core.specs.Marks.{mark_of, with_mark_at, unmarked_count, is_ready, IsMarkedTo, AreMarked, HasUnmarked};
 
+use memo_core::claims::Claim;
 use memo_core::keys::{Key, Node};
 use memo_core::table::{Memos, find, matches};
 use memo_core::texts::Texts;
@@ -44,10 +45,28 @@ pub fn inputs_marked<K: StoreName, T: Texts>(
     true
 }
 
-/// Whether a node is to be marked now.
+/// Notes a node that may have work, where there is room. It takes no memory.
+fn note(waiting: &mut Vec<Node>, node: Node) {
+    if waiting.len() < waiting.capacity() {
+        match waiting.push(node) {
+            Ok(()) => {}
+            Err(_) => unreachable!(),
+        }
+    }
+}
+
+/// Notes the node of a claim that was closed without a return, if one was.
+pub fn note_lost(waiting: &mut Vec<Node>, closed: &Option<Claim>) {
+    if let Some(claim) = closed {
+        note(waiting, claim.node);
+    }
+}
+
+/// Whether a node is to be marked now. One that has to be computed first, and can be, is noted.
 fn can_mark<K: StoreName, T: Texts>(
     texts: &T,
     memos: &Memos<Token<K, T::Value>>,
+    waiting: &mut Vec<Node>,
     node: Node,
 ) -> bool
     ensures { result ≡ is_ready (T.net texts.now) memos.now.entries node }
@@ -56,6 +75,9 @@ fn can_mark<K: StoreName, T: Texts>(
         return false;
     }
     if !matches(texts, memos, node) {
+        if inputs_marked(texts, memos, node) {
+            note(waiting, node);
+        }
         return false;
     }
     inputs_marked(texts, memos, node)
@@ -71,25 +93,34 @@ fn mark<K: StoreName, V: Drop>(memos: &mut Memos<Token<K, V>>, node: Node)
     }
 }
 
-/// Marks a node where it is to be marked, and then what stands on it. It takes no memory.
-pub fn settle<K: StoreName, T: Texts>(texts: &T, memos: &mut Memos<Token<K, T::Value>>, node: Node)
+/// Marks a node where it is to be marked, and then what stands on it; notes what has to be computed next. It takes no memory.
+pub fn settle<K: StoreName, T: Texts>(
+    texts: &T,
+    memos: &mut Memos<Token<K, T::Value>>,
+    waiting: &mut Vec<Node>,
+    node: Node,
+)
     ensures memos { as_memos memos.new.entries ≡ as_memos memos.old.entries }
     ensures fewer { unmarked_count memos.new.entries ≤ unmarked_count memos.old.entries }
     ensures marks { T.is_valid texts.now → (rest : List NodeRecord) → IsMarkedTo (T.net texts.now) memos.old.entries (node ∷ rest) → IsMarkedTo (T.net texts.now) memos.new.entries rest }
     ensures room { spare memos.new ≡ spare memos.old }
 {
-    if !can_mark(texts, memos, node) {
+    if !can_mark(texts, memos, waiting, node) {
         return;
     }
     mark(memos, node);
     let count = texts.user_count(node);
     for i in 0..count {
-        settle(texts, memos, texts.user_at(node, i));
+        settle(texts, memos, waiting, texts.user_at(node, i));
     }
 }
 
-/// Marks what is settled, where nothing is marked yet. It takes no memory.
-pub fn settle_all<K: StoreName, T: Texts>(texts: &T, memos: &mut Memos<Token<K, T::Value>>)
+/// Marks what is settled, where nothing is marked yet, and notes what has to be computed next. It takes no memory.
+pub fn settle_all<K: StoreName, T: Texts>(
+    texts: &T,
+    memos: &mut Memos<Token<K, T::Value>>,
+    waiting: &mut Vec<Node>,
+)
     requires { (n : NodeRecord) → mark_of memos.old.entries n ≡ false }
     ensures memos { as_memos memos.new.entries ≡ as_memos memos.old.entries }
     ensures marks { T.is_valid texts.now → IsMarkedTo (T.net texts.now) memos.new.entries [] }
@@ -97,7 +128,7 @@ pub fn settle_all<K: StoreName, T: Texts>(texts: &T, memos: &mut Memos<Token<K, 
 {
     let count = texts.used_count();
     for i in 0..count {
-        settle(texts, memos, texts.used_at(i));
+        settle(texts, memos, waiting, texts.used_at(i));
     }
 }
 

@@ -94,7 +94,7 @@ impl<K: StoreName, T: Texts> Graph<K, T> {
             settled: false,
         };
         store_memo(&mut self.memos, node, kept);
-        settle(&self.texts, &mut self.memos, node);
+        settle(&self.texts, &mut self.memos, &mut self.waiting, node);
         if names.is_empty() {
             Finish::Same
         } else {

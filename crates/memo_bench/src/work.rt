@@ -1,10 +1,11 @@
 //! Which node has work, what its job holds, and how it runs.
 
-ghost use Rattle.std.specs.Prelude.{◌≡◌, ◌≤◌, [], length, IfOk, IfSome, IfNone, option_map};
+ghost use Rattle.std.specs.Prelude.{◌≡◌, ◌≤◌, [], true, length, IfOk, IfSome, IfNone, option_map};
 ghost use Rattle.memo_core.specs.Graph.{at, named_values, memo_of, present_inputs};
 ghost use Rattle.memo_core.specs.Views.{as_memos, shown_outputs, shown_values, KeepsToken};
 ghost use Rattle.std.specs.List.{AllByRecursion as Each};
-ghost use Rattle.memo_core.specs.Tests.{is_out, values_at, outputs_of};
+ghost use Rattle.memo_core.specs.Tests.{has_node, is_out, values_at, outputs_of};
+ghost use Rattle.memo_core.specs.Step.{Has};
 ghost use Rattle.memo_core.specs.Marks.{can_work, IsMarkedTo, IsWorkAt, IsIdle};
 
 use crate::marks::{inputs_marked, is_marked};
@@ -82,7 +83,7 @@ fn work_between<K: StoreName, T: Texts>(
 }
 
 /// The index of a used node that has work. The search begins at an index and goes round.
-pub fn find_work<K: StoreName, T: Texts>(
+fn find_work<K: StoreName, T: Texts>(
     texts: &T,
     memos: &Memos<Token<K, T::Value>>,
     claims: &OpenClaims,
@@ -97,6 +98,53 @@ pub fn find_work<K: StoreName, T: Texts>(
     match work_between(texts, memos, claims, start, count) {
         Some(at) => Some(at),
         None => work_between(texts, memos, claims, 0, start),
+    }
+}
+
+/// The last of the nodes that may have work which has some. Those behind it are taken away.
+fn find_waiting<K: StoreName, T: Texts>(
+    texts: &T,
+    memos: &Memos<Token<K, T::Value>>,
+    claims: &OpenClaims,
+    waiting: &mut Vec<Node>,
+) -> Option<Node>
+    requires { IsMarkedTo (T.net texts.now) memos.now.entries [] }
+    ensures used { IfSome result (λ n. has_node n (T.net texts.now).used ≡ true) }
+    ensures work { IfSome result (λ n. can_work (T.net texts.now) memos.now.entries claims.now.entries n ≡ true) }
+{
+    while let Some(node) = waiting.last() {
+        let node = *node;
+        if texts.is_used(node) && has_work(texts, memos, claims, node) {
+            return Some(node);
+        }
+        let _ = waiting.pop();
+    }
+    None
+}
+
+/// A node that has work, if any has: the last of those that may have some, else the first of the used ones from an index on,
+/// where the next search goes on. A search that nothing follows finds the same node again.
+pub fn find_node<K: StoreName, T: Texts>(
+    texts: &T,
+    memos: &Memos<Token<K, T::Value>>,
+    claims: &OpenClaims,
+    waiting: &mut Vec<Node>,
+    next: &mut usize,
+) -> Option<Node>
+    requires { IsMarkedTo (T.net texts.now) memos.now.entries [] }
+    ensures used { IfSome result (λ n. Has (T.net texts.now).used n) }
+    ensures work { IfSome result (λ n. can_work (T.net texts.now) memos.now.entries claims.now.entries n ≡ true) }
+    ensures none { IfNone result (IsIdle (T.net texts.now) memos.now.entries claims.now.entries 0 (length (T.net texts.now).used)) }
+{
+    if let Some(node) = find_waiting(texts, memos, claims, waiting) {
+        return Some(node);
+    }
+    match find_work(texts, memos, claims, *next) {
+        Some(at) => {
+            *next = at;
+            Some(texts.used_at(at))
+        }
+        None => None,
     }
 }
 

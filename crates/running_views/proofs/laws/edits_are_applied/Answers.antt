@@ -1,0 +1,8 @@
+use Rattle.running_views.proofs.Contents.{contents_are_those, edit_is_applied}
+use Rattle.running_views.proofs.laws.edits_are_applied.Goals as goal
+
+pub returns-clause-applied : goal.returns-clause-applied
+returns-clause-applied c = edit_is_applied
+
+pub returns-clause-contents : goal.returns-clause-contents
+returns-clause-contents c = contents_are_those

@@ -1,0 +1,4 @@
+pub mod Names
+pub mod Widths
+pub mod Rights
+pub mod Counts

@@ -1,0 +1,15 @@
+use Rattle.std.proofs.Common.{◌≡◌, ℕ, ◌+◌, ◌≤◌, ap, ◌∙◌, arith, subst}
+use Rattle.std.specs.Prelude.{min}
+use Rattle.board.specs.Operations.{no_board}
+use Rattle.board.specs.Legal.{nothing_held}
+use Rattle.view_laws.proofs.Counts.{counted, numbered, apart_from}
+use Rattle.view_laws.proofs.laws.edits_are_counted.Goals as goal
+
+pub returns-clause-counted : goal.returns-clause-counted
+returns-clause-counted c = counted
+
+pub returns-clause-numbered : goal.returns-clause-numbered
+returns-clause-numbered c = numbered
+
+pub returns-clause-apart : goal.returns-clause-apart
+returns-clause-apart c = λ ops legal. apart_from ops nothing_held 0 legal
