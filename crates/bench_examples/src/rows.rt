@@ -30,17 +30,22 @@ use value_store::{Opened, Store, StoreName};
 enum Fresh {
     /// A bench whose store has so many values at most, if a limit is given.
     Bench(Option<usize>),
-    /// A desk.
-    Desk,
+    /// A desk whose store has so many values at most, if a limit is given.
+    Desk(Option<usize>),
+}
+
+/// The limit behind the words that begin a list, if it is given.
+fn limit_of(words: &str) -> Option<usize> {
+    words.trim().parse::<usize>().ok()
 }
 
 /// What a line begins, if it begins a list.
 fn fresh_of(line: &str) -> Option<Fresh> {
-    if line == "fresh desk" {
-        return Some(Fresh::Desk);
+    if let Some(words) = line.strip_prefix("fresh desk") {
+        return Some(Fresh::Desk(limit_of(words)));
     }
-    let limit = line.strip_prefix("fresh bench")?;
-    Some(Fresh::Bench(limit.trim().parse::<usize>().ok()))
+    let words = line.strip_prefix("fresh bench")?;
+    Some(Fresh::Bench(limit_of(words)))
 }
 
 /// Plays the lines of one bench over a store.
@@ -94,7 +99,10 @@ fn play_lines<R: Print + Wait + Threads + Copy + Send + Sync + Drop>(
         Fresh::Bench(Some(limit)) => {
             play_bench::<R, Brand>(rt, alloc, Store::with_limit(alloc, limit)?, lines)
         }
-        Fresh::Desk => play_desk::<R, Brand>(rt, alloc, DeskSeed::new(alloc)?, lines),
+        Fresh::Desk(None) => play_desk::<R, Brand>(rt, alloc, DeskSeed::new(alloc)?, lines),
+        Fresh::Desk(Some(limit)) => {
+            play_desk::<R, Brand>(rt, alloc, DeskSeed::with_limit(alloc, limit)?, lines)
+        }
     }
 }
 

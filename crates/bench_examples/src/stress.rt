@@ -28,7 +28,7 @@ const WORKERS: u32 = 4;
 const VIEWERS: u64 = 8;
 
 /// Starts the viewers, each in a thread of its own, and plays the author. A viewer that does not start is a fault.
-fn play<R, J>(
+fn play_beside<R, J>(
     rt: &R,
     desk: &RunningDesk<J, R>,
     viewer: Viewer<J, RunningTexts>,
@@ -60,6 +60,23 @@ where
     });
 }
 
+/// Plays the author beside the viewers, and tells how many faults were found.
+fn play<R, J>(
+    rt: &R,
+    desk: &RunningDesk<J, R>,
+    viewer: Viewer<J, RunningTexts>,
+    plan: Plan,
+    steps: Vec<Step>,
+) -> u64
+where
+    R: AllocGlobal + Clock + Wait + Threads + Copy + Send + Sync + Drop,
+    J: Naming + StoreName + Send + Sync,
+{
+    let shared = Shared::new(plan);
+    play_beside(rt, desk, viewer, steps, &shared);
+    shared.faults()
+}
+
 /// Plays the plan at a desk, and prints how many faults were found.
 fn play_plan<R, J>(rt: &R, seed: DeskSeed, plan: Plan, steps: Vec<Step>) -> io::Result<()>
 where
@@ -75,18 +92,17 @@ where
     let Ok(viewer) = desk.viewer(rt) else {
         return println!(rt; "no viewer");
     };
-    let shared = Shared::new(plan);
     let worked = with_workers(
         rt,
         alloc,
         &desk,
         &NoGate,
         WORKERS,
-        || play(rt, &desk, viewer, steps, &shared),
+        || play(rt, &desk, viewer, plan, steps),
     );
-    let faults = shared.faults();
     match worked {
-        Ok(_worked) => {
+        Ok(worked) => {
+            let faults = worked.answer;
             println!(rt; "{EDITS} edits, {WORKERS} workers, {VIEWERS} viewers: {faults} faults")
         }
         Err(_) => println!(rt; "no workers"),

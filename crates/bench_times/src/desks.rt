@@ -63,7 +63,7 @@ fn make_edits<J: Naming + StoreName, R: Wait + Drop, W: Wait>(
     is_well
 }
 
-/// Claims, runs and returns jobs until there is none.
+/// Claims, runs and returns jobs until there is none. A job that is refused memory closes the desk.
 fn play<J: Naming + StoreName, R: Wait + Drop, W: Wait>(
     rt: &W,
     alloc: Global,
@@ -74,6 +74,7 @@ fn play<J: Naming + StoreName, R: Wait + Drop, W: Wait>(
             return;
         };
         let Ok(done) = job.run(rt, alloc) else {
+            drop(desk.close(rt));
             return;
         };
         drop(desk.finish(rt, done));
@@ -123,12 +124,12 @@ fn read<J: Naming + StoreName, W: Clock>(
     let mut viewer = viewer;
     let mut count = 0_u64;
     let start = Instant::now(rt)?;
-    for done in 0..most {
+    for _ in 0..most {
         if ended.load(Ordering::SeqCst) > 0 {
             break;
         }
         viewer = read_once(viewer);
-        count = done;
+        count = count.saturating_add(1);
     }
     let nanos = start.elapsed(rt)?.as_nanos();
     drop(viewer);

@@ -5,10 +5,11 @@ use crate::rows::count::Count;
 use crate::rows::question::{Question, edit_of, question_of};
 use crate::rows::replies::{
     put_accepted, put_board, put_claimed, put_desk_fault, put_finish, put_lost, put_run_fault,
-    put_taken, told,
+    put_taken, put_tally, told,
 };
 use crate::rows::threads;
 use bench_texts::EditFault;
+use bench_workers::NoGate;
 use cells::job::Job;
 use desk::DeskFault;
 use desk_rule::{Naming, Viewer};
@@ -173,6 +174,12 @@ impl<J: Naming + StoreName + Send + Sync, R: Wait + Drop + Send + Sync> DeskPlay
         count.put(answer)
     }
 
+    /// Works until the desk is closed, and tells what became of the jobs.
+    fn work<W: Wait>(&self, rt: &W, alloc: Global, answer: &mut Vec<u8>) -> Result<(), AllocError> {
+        let tally = bench_workers::work(rt, alloc, &self.desk, &NoGate);
+        put_tally(answer, &tally)
+    }
+
     /// Returns what the job of a claim made, by a thread of its own.
     fn offer<W: Wait + Threads + Sync>(
         &mut self,
@@ -241,6 +248,7 @@ impl<J: Naming + StoreName + Send + Sync, R: Wait + Drop + Send + Sync> DeskPlay
             "show" => self.show(alloc, answer, question),
             "claim" => self.claim(rt, answer),
             "jobs" => self.play_jobs(rt, alloc, answer),
+            "work" => self.work(rt, alloc, answer),
             "return" => self.offer(rt, alloc, answer, question.number),
             "twice" => self.offer_twice(rt, alloc, answer, question.number),
             "lose" => self.lose(rt, answer, question.number),

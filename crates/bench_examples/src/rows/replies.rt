@@ -1,6 +1,7 @@
 //! What is answered, as words.
 
 use bench_texts::EditFault;
+use bench_workers::Tally;
 use board::Board;
 use cat_syntax::CatFault;
 use cells::events::Reply;
@@ -182,6 +183,20 @@ pub fn put_taken(
         }
         Err(fault) => put_desk_fault(answer, fault),
     }
+}
+
+/// Says what became of the jobs of a worker.
+pub fn put_tally(answer: &mut Vec<u8>, tally: &Tally) -> Result<(), AllocError> {
+    put_bytes(answer, b"stored ")?;
+    put_decimal(answer, tally.stored)?;
+    put_bytes(answer, b", same ")?;
+    put_decimal(answer, tally.same)?;
+    put_bytes(answer, b", stale ")?;
+    put_decimal(answer, tally.stale)?;
+    put_bytes(answer, b", unknown ")?;
+    put_decimal(answer, tally.unknown)?;
+    put_bytes(answer, b", refused ")?;
+    put_decimal(answer, tally.refused)
 }
 
 /// An answer with a line feed behind it. Of a quiet question it tells that it was asked.

@@ -5,7 +5,7 @@ use cells::job::{Done, Job};
 use desk_rule::Naming;
 use memo_core::claims::Finish;
 use running_bench::{RunningDesk, RunningTexts};
-use std::alloc::{AllocError, Global};
+use std::alloc::Global;
 use std::sync::Wait;
 use value_store::StoreName;
 
@@ -27,13 +27,30 @@ pub struct Kept<J: Naming + StoreName> {
     faults: u64,
 }
 
-/// Runs a job. None where memory is refused.
-fn run<J: Naming + StoreName, W: Wait>(
+/// Closes the claim of a job that was refused memory, so that nobody waits for it.
+fn give_back<J: Naming + StoreName, R: Wait + Drop, W: Wait>(
+    rt: &W,
+    desk: &RunningDesk<J, R>,
+    claim: u64,
+) -> bool {
+    let _was_out = desk.lose(rt, claim).is_ok();
+    false
+}
+
+/// Runs a job. None where memory is refused; then its claim is closed.
+fn run<J: Naming + StoreName, R: Wait + Drop, W: Wait>(
     rt: &W,
     alloc: Global,
+    desk: &RunningDesk<J, R>,
     job: Job<J, RunningTexts>,
 ) -> Option<Done<J, RunningTexts>> {
-    job.run(rt, alloc).ok()
+    match job.run(rt, alloc) {
+        Ok(done) => Some(done),
+        Err((job, _fault)) => {
+            let _given = give_back(rt, desk, job.claim_number());
+            None
+        }
+    }
 }
 
 /// Whether a return is answered as it must be: as that of a claim that was not out if it was closed, and otherwise as another.
@@ -57,7 +74,7 @@ fn lose<J: Naming + StoreName, R: Wait + Drop, W: Wait>(
     job: Job<J, RunningTexts>,
 ) -> bool {
     let was_out = matches!(desk.lose(rt, job.claim_number()), Ok(true));
-    match run(rt, alloc, job) {
+    match run(rt, alloc, desk, job) {
         Some(done) => is_answered(rt, desk, done, true) && was_out,
         None => false,
     }
@@ -70,11 +87,11 @@ fn return_twice<J: Naming + StoreName, R: Wait + Drop, W: Wait>(
     desk: &RunningDesk<J, R>,
     job: Job<J, RunningTexts>,
 ) -> bool {
-    let Some(done) = run(rt, alloc, job) else {
+    let Some(done) = run(rt, alloc, desk, job) else {
         return false;
     };
     let Ok(copy) = done.copy(alloc) else {
-        return false;
+        return give_back(rt, desk, done.claim_number());
     };
     let is_first_well = is_answered(rt, desk, done, false);
     is_answered(rt, desk, copy, true) && is_first_well
@@ -112,7 +129,7 @@ impl<J: Naming + StoreName> Kept<J> {
             return;
         }
         let Late { job, is_closed } = self.jobs.remove(0);
-        let is_well = match run(rt, alloc, job) {
+        let is_well = match run(rt, alloc, desk, job) {
             Some(done) => is_answered(rt, desk, done, is_closed),
             None => false,
         };
@@ -131,22 +148,26 @@ impl<J: Naming + StoreName> Kept<J> {
         }
     }
 
-    /// Keeps a job, and returns the oldest where there are too many.
+    /// Keeps a job, and returns the oldest where there are too many. False where memory is refused; then its claim is closed.
     fn keep<R: Wait + Drop, W: Wait>(
         &mut self,
         rt: &W,
         alloc: Global,
         desk: &RunningDesk<J, R>,
         job: Job<J, RunningTexts>,
-    ) -> Result<(), AllocError> {
+    ) -> bool {
         if self.jobs.len() >= MOST_KEPT {
             self.return_oldest(rt, alloc, desk);
         }
-        self.jobs.push(Late {
+        let claim = job.claim_number();
+        let late = Late {
             job,
             is_closed: false,
-        })?;
-        Ok(())
+        };
+        if self.jobs.push(late).is_err() {
+            return give_back(rt, desk, claim);
+        }
+        true
     }
 
     /// Closes every claim.
@@ -175,7 +196,7 @@ impl<J: Naming + StoreName> Kept<J> {
         let is_well = match self.draw.below(4) {
             0 => lose(rt, alloc, desk, job),
             1 => return_twice(rt, alloc, desk, job),
-            _ => self.keep(rt, alloc, desk, job).is_ok(),
+            _ => self.keep(rt, alloc, desk, job),
         };
         self.note(is_well);
     }
