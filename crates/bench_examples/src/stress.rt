@@ -43,13 +43,8 @@ where
     thread::scope(thread::scope_env(), rt, |scope| {
         for number in 0..VIEWERS {
             let asks = number % 2 == 1;
-            let started = match desk.viewer(rt) {
-                Ok(viewer) => scope
-                    .spawn(move || watch(rt, alloc, desk, viewer, asks, shared))
-                    .is_ok(),
-                Err(_) => false,
-            };
-            if !started {
+            let started = scope.spawn(move || watch(rt, alloc, desk, asks, shared));
+            if started.is_err() {
                 shared.add(1);
             }
         }

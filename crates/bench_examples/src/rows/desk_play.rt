@@ -189,7 +189,7 @@ impl<J: Naming + StoreName + Send + Sync, R: Wait + Drop + Send + Sync> DeskPlay
         claim: u64,
     ) -> Result<(), AllocError> {
         match made(rt, alloc, &mut self.jobs, claim)? {
-            Some(Ok(done)) => put_taken(answer, &threads::finish(rt, &self.desk, done)),
+            Some(Ok(done)) => put_taken(answer, &threads::finish(rt, alloc, &self.desk, &done)),
             Some(Err(fault)) => put_run_fault(answer, &fault),
             None => put_finish(answer, &Finish::Unknown),
         }
@@ -203,12 +203,10 @@ impl<J: Naming + StoreName + Send + Sync, R: Wait + Drop + Send + Sync> DeskPlay
         answer: &mut Vec<u8>,
         claim: u64,
     ) -> Result<(), AllocError> {
-        let first = made(rt, alloc, &mut self.jobs, claim)?;
-        let second = made(rt, alloc, &mut self.jobs, claim)?;
-        let (Some(Ok(first)), Some(Ok(second))) = (first, second) else {
+        let Some(Ok(done)) = made(rt, alloc, &mut self.jobs, claim)? else {
             return put_bytes(answer, b"no returns");
         };
-        let (first, second) = threads::finish_both(rt, &self.desk, first, second);
+        let (first, second) = threads::finish_twice(rt, alloc, &self.desk, &done);
         let is_turned = matches!(&first, Ok(taken) if matches!(&taken.finish, Finish::Unknown));
         let (taken, other) = if is_turned {
             (second, first)

@@ -5,10 +5,24 @@ use cells::job::Done;
 use desk::{DeskFault, Taken};
 use desk_rule::Naming;
 use running_bench::{RunningDesk, RunningTexts};
+use std::alloc::Global;
 use std::sync::Wait;
 use std::thread;
 use std::thread::Threads;
 use value_store::StoreName;
+
+/// Returns a copy of what a job made.
+fn offer<J: Naming + StoreName, R: Wait + Drop, W: Wait>(
+    rt: &W,
+    alloc: Global,
+    desk: &RunningDesk<J, R>,
+    done: &Done<J, RunningTexts>,
+) -> Result<Taken, DeskFault<EditFault>> {
+    match done.copy(alloc) {
+        Ok(copy) => desk.finish(rt, copy),
+        Err(_) => Err(DeskFault::OutOfMemory),
+    }
+}
 
 /// Returns what a job made.
 pub fn finish<
@@ -17,27 +31,32 @@ pub fn finish<
     W: Wait + Threads + Sync,
 >(
     rt: &W,
+    alloc: Global,
     desk: &RunningDesk<J, R>,
-    done: Done<J, RunningTexts>,
+    done: &Done<J, RunningTexts>,
 ) -> Result<Taken, DeskFault<EditFault>> {
-    thread::join(rt, || desk.finish(rt, done), || ()).0
+    thread::join(rt, move || offer(rt, alloc, desk, done), || ()).0
 }
 
-/// Returns two at once.
-pub fn finish_both<
+/// Returns what a job made twice at once.
+pub fn finish_twice<
     J: Naming + StoreName + Send + Sync,
     R: Wait + Drop + Send + Sync,
     W: Wait + Threads + Sync,
 >(
     rt: &W,
+    alloc: Global,
     desk: &RunningDesk<J, R>,
-    first: Done<J, RunningTexts>,
-    second: Done<J, RunningTexts>,
+    done: &Done<J, RunningTexts>,
 ) -> (
     Result<Taken, DeskFault<EditFault>>,
     Result<Taken, DeskFault<EditFault>>,
 ) {
-    thread::join(rt, || desk.finish(rt, first), || desk.finish(rt, second))
+    thread::join(
+        rt,
+        move || offer(rt, alloc, desk, done),
+        move || offer(rt, alloc, desk, done),
+    )
 }
 
 /// Closes a claim.

@@ -72,22 +72,17 @@ pub fn look<J: Naming + StoreName>(
     }
 }
 
-/// Looks at boards until the author has ended, and then once more: that board has all edits, and no cell is open. Every other
+/// Looks at boards until the author has ended, and then once more: that board has all edits, and no cell is open. No viewer is a fault. Every other
 /// viewer also asks the desk now and then whether all is settled, which tells it what is published.
-pub fn watch<J, R, W>(
-    rt: &W,
-    alloc: Global,
-    desk: &RunningDesk<J, R>,
-    viewer: Viewer<J, RunningTexts>,
-    asks: bool,
-    shared: &Shared,
-)
+pub fn watch<J, R, W>(rt: &W, alloc: Global, desk: &RunningDesk<J, R>, asks: bool, shared: &Shared)
 where
     J: Naming + StoreName,
     R: Wait + Drop,
     W: Wait + Clock,
 {
-    let mut viewer = viewer;
+    let Ok(mut viewer) = desk.viewer(rt) else {
+        return shared.add(1);
+    };
     let mut sight = Sight::new(alloc);
     for turn in 0..u64::MAX {
         let is_last = shared.is_ended();
