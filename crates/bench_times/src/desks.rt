@@ -114,14 +114,16 @@ fn read_once<J: Naming + StoreName>(viewer: Viewer<J, RunningTexts>) -> Viewer<J
     }
 }
 
-/// Reads boards until it has read so many, or the end is told.
-fn read<J: Naming + StoreName, W: Clock>(
+/// Reads boards until it has read so many, or the end is told. None where there is no viewer.
+fn read<J: Naming + StoreName, R: Wait + Drop, W: Wait + Clock>(
     rt: &W,
-    viewer: Viewer<J, RunningTexts>,
+    desk: &RunningDesk<J, R>,
     most: u64,
     ended: &AtomicU64,
-) -> io::Result<Reads> {
-    let mut viewer = viewer;
+) -> io::Result<Option<Reads>> {
+    let Ok(mut viewer) = desk.viewer(rt) else {
+        return Ok(None);
+    };
     let mut count = 0_u64;
     let start = Instant::now(rt)?;
     for _ in 0..most {
@@ -133,7 +135,7 @@ fn read<J: Naming + StoreName, W: Clock>(
     }
     let nanos = start.elapsed(rt)?.as_nanos();
     drop(viewer);
-    Ok(Reads { count, nanos })
+    Ok(Some(Reads { count, nanos }))
 }
 
 /// The nanoseconds of one of so many.
@@ -148,7 +150,10 @@ fn print_times<R: Print>(rt: &R, workers: u32, times: Times) -> io::Result<()> {
     println!(rt; "{workers} workers: edits {edited} us, settled after {settled} us, well {is_well}")
 }
 
-fn print_reads<R: Print>(rt: &R, name: &str, reads: Reads) -> io::Result<()> {
+fn print_reads<R: Print>(rt: &R, name: &str, reads: Option<Reads>) -> io::Result<()> {
+    let Some(reads) = reads else {
+        return println!(rt; "  {name}: no viewer");
+    };
     let count = reads.count;
     let nanos = each(reads.nanos, count);
     println!(rt; "  {name}: {count} boards read, {nanos} ns each")
@@ -159,9 +164,8 @@ fn settle_and_read<J, R>(
     rt: &R,
     desk: &RunningDesk<J, R>,
     author: Viewer<J, RunningTexts>,
-    reader: Viewer<J, RunningTexts>,
     edits: Vec<Edit>,
-) -> (io::Result<Times>, io::Result<Reads>)
+) -> (Option<Reads>, io::Result<Times>)
 where
     R: AllocGlobal + Clock + Wait + Threads + Send + Sync + Drop,
     J: Naming + StoreName + Send + Sync,
@@ -171,12 +175,12 @@ where
     let end = &ended;
     thread::join(
         rt,
+        move || read(rt, desk, u64::MAX, end).unwrap_or(None),
         || {
             let times = settle(rt, alloc, desk, author, edits, true);
             end.store(1, Ordering::SeqCst);
             times
         },
-        || read(rt, reader, u64::MAX, end),
     )
 }
 
@@ -221,8 +225,7 @@ where
     let Ok(desk) = seed.desk::<J, R, R>(rt, alloc, *rt) else {
         return println!(rt; "no desk");
     };
-    let (Ok(author), Ok(reader), Ok(idle)) = (desk.viewer(rt), desk.viewer(rt), desk.viewer(rt))
-    else {
+    let Ok(author) = desk.viewer(rt) else {
         return println!(rt; "no viewer");
     };
     let worked = with_workers(
@@ -231,16 +234,16 @@ where
         &desk,
         &NoGate,
         2,
-        || settle_and_read(rt, &desk, author, reader, edits),
+        || settle_and_read(rt, &desk, author, edits),
     );
     let Ok(worked) = worked else {
         return println!(rt; "no workers");
     };
-    let (times, reads) = worked.answer;
+    let (reads, times) = worked.answer;
     print_times(rt, 2, times?)?;
-    print_reads(rt, "beside them", reads?)?;
+    print_reads(rt, "beside them", reads)?;
     let never = AtomicU64::new(0);
-    print_reads(rt, "afterwards", read(rt, idle, READS, &never)?)
+    print_reads(rt, "afterwards", read(rt, &desk, READS, &never)?)
 }
 
 /// Settles desks by none, one, two and four workers, and then one whose boards are read, and prints the times.
