@@ -1,9 +1,10 @@
 //! Prints how many jobs settle cells of a bench, and how many an edit takes. With the word `times` it prints how long that
-//! takes beside many nodes.
+//! takes beside many nodes, and with the word `workers` how long desks take by their number of workers.
 #![tactic(auto)]
 
 ghost use Rattle.std.specs.Prelude.{◌≡◌};
 
+mod desks;
 mod player;
 mod tables;
 
@@ -11,6 +12,7 @@ use node_values::NodeValue;
 use std::marker::Brand;
 use std::rt::{Clock, Env, Files};
 use std::sync::{Arc, Wait};
+use std::thread::Threads;
 use std::{env, fs, io};
 use tables::Size;
 use value_store::{Opened, Store, StoreName};
@@ -30,11 +32,19 @@ fn show<R: Clock + Print + Wait + AllocGlobal, K: StoreName>(
     tables::show(rt, store, size, model, test, is_timed)
 }
 
-fn run<R: Files + Env + Clock + Print + Wait + AllocGlobal>(rt: &R) -> io::Result<()> {
+fn run<R>(rt: &R) -> io::Result<()>
+where
+    R: Files + Env + Clock + Print + AllocGlobal + Wait + Threads + Copy + Send + Sync + Drop,
+{
     let model = fs::read(rt, "power.cat")?;
     let test = fs::read(rt, "MP+lwsync+addr.litmus")?;
-    let words = env::args(rt)?.count();
-    let is_timed = words > 1;
+    let mut is_timed = false;
+    for word in env::args(rt)? {
+        if word.as_str() == "workers" {
+            return desks::show(rt, &model, &test);
+        }
+        is_timed |= word.as_str() == "times";
+    }
     let sizes = if is_timed {
         tables::TIMED
     } else {

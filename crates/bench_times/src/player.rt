@@ -64,28 +64,39 @@ fn model_name(alloc: Global, number: u64) -> Result<Vec<u8>, AllocError> {
     Ok(name)
 }
 
-/// Puts as many tests and as many models on the bench. Answers whether each edit was accepted.
-pub fn fill<K: StoreName>(
+/// The edits that put as many tests and then as many models.
+pub fn edits_of(
     alloc: Global,
-    bench: &mut Bench<K, StampedTexts>,
     model: &[u8],
     models: u64,
     test: &[u8],
     tests: u64,
-) -> Result<bool, AllocError> {
-    let mut is_accepted = true;
+) -> Result<Vec<Edit>, AllocError> {
+    let mut edits = Vec::new(alloc);
     for number in 0..tests {
         let text = renamed(alloc, test, number)?;
-        is_accepted &= bench.edit(alloc, Edit::PutTest { text }).is_ok();
+        edits.push(Edit::PutTest { text })?;
     }
     for number in 0..models {
-        let name = model_name(alloc, number)?;
-        let text = Vec::from_slice(alloc, model)?;
-        is_accepted &= bench
-            .edit(alloc, Edit::PutModel { model: name, text })
-            .is_ok();
+        edits.push(Edit::PutModel {
+            model: model_name(alloc, number)?,
+            text: Vec::from_slice(alloc, model)?,
+        })?;
     }
-    Ok(is_accepted)
+    Ok(edits)
+}
+
+/// Makes edits on the bench. Answers whether each was accepted.
+pub fn fill<K: StoreName>(
+    alloc: Global,
+    bench: &mut Bench<K, StampedTexts>,
+    edits: Vec<Edit>,
+) -> bool {
+    let mut is_accepted = true;
+    for edit in edits {
+        is_accepted &= bench.edit(alloc, edit).is_ok();
+    }
+    is_accepted
 }
 
 /// Claims, runs and returns jobs until there is none.

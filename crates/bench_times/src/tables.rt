@@ -1,6 +1,6 @@
 //! What is measured: benches of some sizes, settled, and settled again after an edit.
 
-use crate::player::{Played, edit_of_dp, fill, play};
+use crate::player::{Played, edit_of_dp, edits_of, fill, play};
 use cells::bench::Bench;
 use node_values::NodeValue;
 use stamped_texts::StampedTexts;
@@ -78,7 +78,8 @@ pub fn show<R: Clock + Print + Wait + AllocGlobal, K: StoreName>(
 ) -> io::Result<()> {
     let alloc = rt.alloc();
     let mut bench: Bench<K, StampedTexts> = Bench::new(alloc, store);
-    let is_filled = fill(alloc, &mut bench, model, size.models, test, size.tests)?;
+    let edits = edits_of(alloc, model, size.models, test, size.tests)?;
+    let is_filled = fill(alloc, &mut bench, edits);
     let first = play(rt, alloc, &mut bench)?;
     let is_edited = bench.edit(alloc, edit_of_dp(alloc, b"m0", 1)?).is_ok();
     let second = play(rt, alloc, &mut bench)?;

@@ -1,0 +1,42 @@
+//! A walk over a bench by events that are drawn from a fixed seed: edits, claims, returns that come late and again, losses and
+//! renewals. After each event every settled cell is compared with the evaluation of the present texts from nothing.
+
+ghost use Rattle.std.specs.Prelude.{◌≡◌};
+
+pub mod draw;
+pub mod mirror;
+mod steps;
+
+use cells::bench::Bench;
+use node_values::NodeValue;
+use stamped_texts::StampedTexts;
+use std::alloc::Global;
+use std::io;
+use std::marker::Brand;
+use std::sync::{Arc, Wait};
+use steps::Walk;
+use value_store::{Opened, Store, StoreName};
+
+const EVENTS: u32 = 10_000;
+
+fn walk_over<R: Print + Wait, K: StoreName>(
+    rt: &R,
+    alloc: Global,
+    opened: Opened<NodeValue>,
+) -> io::Result<()>
+    requires { opened.values ≡ K.shelves }
+{
+    let store = Arc::new(alloc, opened.named::<K>())?;
+    let mut walk = Walk::<K>::new(alloc, Bench::<K, StampedTexts>::new(alloc, store))?;
+    for _ in 0..EVENTS {
+        walk.step(rt, alloc)?;
+    }
+    let differing = walk.differing();
+    println!(rt; "{EVENTS} events, {differing} cells that differ")
+}
+
+/// Walks, and prints how many cells differed.
+pub fn show<R: Print + AllocGlobal + Wait>(rt: &R) -> io::Result<()> {
+    let alloc = rt.alloc();
+    walk_over::<R, Brand>(rt, alloc, Store::new(alloc)?)
+}
