@@ -79,7 +79,7 @@ row_position (x ∷ rs) zero r apart e = let same : x ≡ r = cc in elim (eqb_te
 ]
 row_position (x ∷ rs) (suc i) r apart e = elim (eqb_tells x.id r.id) [
   | inl t ↦ absurd (apart.0 (subst (Has (map (λ (y : TestRow). y.id) rs)) (sym t.1) (has_row rs i r e)))
-  | inr f ↦ rw f.0 (ap suc (row_position rs i r apart.1 e))
+  | inr f ↦ rw f.0 (let rest = row_position rs i r apart.1 e in omega (arith, rest))
 ]
 
 -- ---- the cells of the row
@@ -98,14 +98,14 @@ module _ (t : StampedTexts) (all : List BoardOp) (node : Node) (row first end : 
       let same : row ≡ i = row_is ∙ (ap (λ (k : ℕ). position_or_len (λ (x : TestRow). x.id == k) t.parts.table.tests.items) of_test ∙ here) in
       let k = cells_are_in_rows t all test model verdict sound after v in
       let index = i * length b.columns + k.0 in
-      let there = is_below (board_cells b) index k.2 k.3 in
+      let there = is_below (board_cells b) index k.2.0 k.2.1 in
       let inside = range.all k.0 k.1 (rw same there) in
       record {
         index = index;
         from_first = rw same at inside.0;
         before_end = rw same at inside.1;
-        cell = k.2;
-        there = k.3;
-        test_is = k.4;
-        model_is = k.5;
+        cell = k.2.0;
+        there = k.2.1;
+        test_is = k.2.2;
+        model_is = k.2.3;
       }

@@ -419,18 +419,21 @@ cells_are_in_rows t all test model n sound a h =
     let column = named_there (λ x. x.name) (λ m. m.name) texts.models b.columns j cell.of_model (sym (a.names).models) model_there in (
       j,
       is_below b.columns j column.0 column.1,
-      cell_with row.0.name column.0.name (outcome_at row.0.cells j),
-      cell_listed b i j row.0 column.0 (is_countable t all a) row.1 column.1,
-      row.2 ∙ is_named (λ (k : Content). k.name) content_of test t.texts.tests.items cell.of_test cell.test_is,
-      column.2 ∙ is_named (λ (k : PlainModel). k.name) plain.model_of model t.texts.models.items cell.of_model cell.model_is,
+      (
+        cell_with row.0.name column.0.name (outcome_at row.0.cells j),
+        cell_listed b i j row.0 column.0 (is_countable t all a) row.1 column.1,
+        row.2 ∙ is_named (λ (k : Content). k.name) content_of test t.texts.tests.items cell.of_test cell.test_is,
+        column.2 ∙ is_named (λ (k : PlainModel). k.name) plain.model_of model t.texts.models.items cell.of_model cell.model_is,
+      ),
     )
 
 -- a cell of these names is listed
 abbrev pub IsListed : BoardContent → List ℕ → List ℕ → Type 0
-IsListed b test model = (index : ℕ) × IsListedAt b index test model
+IsListed b test model =
+    (index : ℕ) × (c : BoardCell Outcome) × (slice_get (board_cells b) index ≡ Some c) × (c.test ≡ test) × (c.model ≡ model)
 
 pub cells_are_known : (t : StampedTexts) (all : List BoardOp) (test model : List ℕ) (n : Node)
     → IsSound t → AreAfter t all → verdict_of t test model ≡ Some n → IsListed (board_after all) test model
 cells_are_known t all test model n sound a h =
     let k = cells_are_in_rows t all test model n sound a h in
-    (test_index test (texts_of t.texts).tests * length (board_after all).columns + k.0, k.2)
+    (test_index test (texts_of t.texts).tests * length (board_after all).columns + k.0, k.2.0, k.2.1, k.2.2, k.2.3)

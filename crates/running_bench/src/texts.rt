@@ -391,7 +391,9 @@ impl BoardTexts for RunningTexts {
 
     fn cells_above(&self, board: &Board, node: Node) -> CellRange {
         let count = <RunningTexts as BoardTexts>::cell_count(board);
-        row_range(count, board.model_count(), self.texts.test_row(node.test))
+        let models = board.model_count();
+        let row = self.texts.test_row(node.test);
+        row_range(count, models, row)
     }
 
     fn settle(
