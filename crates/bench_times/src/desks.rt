@@ -114,16 +114,14 @@ fn read_once<J: Naming + StoreName>(viewer: Viewer<J, RunningTexts>) -> Viewer<J
     }
 }
 
-/// Reads boards until it has read so many, or the end is told. None where there is no viewer.
-fn read<J: Naming + StoreName, R: Wait + Drop, W: Wait + Clock>(
+/// Reads boards until it has read so many, or the end is told.
+fn read<J: Naming + StoreName, W: Clock>(
     rt: &W,
-    desk: &RunningDesk<J, R>,
+    viewer: Viewer<J, RunningTexts>,
     most: u64,
     ended: &AtomicU64,
-) -> io::Result<Option<Reads>> {
-    let Ok(mut viewer) = desk.viewer(rt) else {
-        return Ok(None);
-    };
+) -> io::Result<Reads> {
+    let mut viewer = viewer;
     let mut count = 0_u64;
     let start = Instant::now(rt)?;
     for _ in 0..most {
@@ -135,7 +133,17 @@ fn read<J: Naming + StoreName, R: Wait + Drop, W: Wait + Clock>(
     }
     let nanos = start.elapsed(rt)?.as_nanos();
     drop(viewer);
-    Ok(Some(Reads { count, nanos }))
+    Ok(Reads { count, nanos })
+}
+
+/// Reads boards by a viewer of its own until the end is told. None where there is no viewer, or no time.
+fn read_beside<J: Naming + StoreName, R: Wait + Drop, W: Wait + Clock>(
+    rt: &W,
+    desk: &RunningDesk<J, R>,
+    ended: &AtomicU64,
+) -> Option<Reads> {
+    let viewer = desk.viewer(rt).ok()?;
+    read(rt, viewer, u64::MAX, ended).ok()
 }
 
 /// The nanoseconds of one of so many.
@@ -175,7 +183,7 @@ where
     let end = &ended;
     thread::join(
         rt,
-        move || read(rt, desk, u64::MAX, end).unwrap_or(None),
+        move || read_beside(rt, desk, end),
         || {
             let times = settle(rt, alloc, desk, author, edits, true);
             end.store(1, Ordering::SeqCst);
@@ -225,7 +233,7 @@ where
     let Ok(desk) = seed.desk::<J, R, R>(rt, alloc, *rt) else {
         return println!(rt; "no desk");
     };
-    let Ok(author) = desk.viewer(rt) else {
+    let (Ok(author), Ok(idle)) = (desk.viewer(rt), desk.viewer(rt)) else {
         return println!(rt; "no viewer");
     };
     let worked = with_workers(
@@ -243,7 +251,8 @@ where
     print_times(rt, 2, times?)?;
     print_reads(rt, "beside them", reads)?;
     let never = AtomicU64::new(0);
-    print_reads(rt, "afterwards", read(rt, &desk, READS, &never)?)
+    let reads = read(rt, idle, READS, &never)?;
+    print_reads(rt, "afterwards", Some(reads))
 }
 
 /// Settles desks by none, one, two and four workers, and then one whose boards are read, and prints the times.
