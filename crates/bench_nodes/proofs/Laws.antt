@@ -1,5 +1,5 @@
 -- Where each slot stands behind those that it uses, the nodes of a table keep the laws of `Texts` on nodes.
-use Rattle.std.proofs.Common.{◌≡◌, ◌⊎◌, inl, inr, ℕ, ◌+◌, ◌<◌, Bool, true, false, ◌==◌, ◌&&◌, ◌||◌, List, [], ◌∷◌, ◌++◌, Option, Some, None, refl, ap, sym, ◌∙◌, eq-eqb, arith}
+use Rattle.std.proofs.Common.{◌≡◌, ◌⊎◌, inl, inr, ℕ, ◌+◌, ◌<◌, Bool, true, false, ◌==◌, ◌&&◌, ◌||◌, List, [], ◌∷◌, ◌++◌, Option, Some, None, refl, ap, sym, ◌∙◌, subst, eq-eqb, arith}
 use Rattle.std.specs.Bool.{⊤}
 use Rattle.std.specs.List.{AllByRecursion as Each}
 use Rattle.memo_core.specs.declared.keys.Kind.{Kind}
@@ -8,6 +8,8 @@ use Rattle.memo_core.specs.declared.keys.Key.{Key}
 use Rattle.memo_core.specs.declared.keys.Key.TheVariants.{Part}
 use Rattle.memo_core.specs.declared.keys.Node.{Node}
 use Rattle.memo_core.specs.Graph.{input_nodes}
+use Rattle.memo_core.specs.Names.{kind_number, same_node}
+use Rattle.memo_core.specs.Tests.{has_node}
 use Rattle.memo_core.specs.Laws.{IsUsedClosed, AreUsers, Falls}
 use Rattle.memo_core.specs.Step.{Has}
 use Rattle.memo_core.proofs.JudgeLemmas.{has_yes, has_is}
@@ -16,9 +18,9 @@ use Rattle.bench_nodes.specs.declared.table.Slot.{Slot}
 use Rattle.bench_nodes.specs.declared.table.SlotKey.{SlotKey}
 use Rattle.bench_nodes.specs.declared.table.SlotKey.TheVariants as slots
 use Rattle.bench_nodes.specs.declared.table.TestRow.{TestRow}
-use Rattle.bench_nodes.specs.Nodes.{used, keys_at, is_slot, slot_keys, thread_parts, space_keys, row_of, row_parts, inputs_of, users, has_test, has_slot, slot_index, rank_of, rank, net_of}
+use Rattle.bench_nodes.specs.Nodes.{node_of, is_output_of, uses, users_at, used, keys_at, is_slot, slot_keys, thread_parts, space_keys, row_of, row_parts, inputs_of, users, has_test, has_slot, slot_index, rank_of, rank, net_of}
 use Rattle.bench_nodes.specs.Order.{IsBehind, AreOrderedAfter, IsOrdered}
-use Rattle.bench_nodes.proofs.Lists.{has_node_at, has_used}
+use Rattle.bench_nodes.proofs.Lists.{has_used}
 use Rattle.std.proofs.lemmas.Bool.{cases_Bool}
 
 -- ---- both or one of two
@@ -185,13 +187,64 @@ node_test test (slots.Value kind of name ∷ ks) n h = elim h [
   | inr l ↦ node_test test ks n l
 ]
 
-input_test : (t : NodeTable) (kind : Kind) (test of : ℕ) (n : Node) → Has (input_nodes (inputs_of t kind test of)) n → n.test ≡ test
-input_test t Space test of n h = absurd (rw (no_nodes_in_space t.tests.items test) at h)
-input_test t Group test of n h = node_test test (slot_keys t.slots.items Group of) n h
-input_test t Check test of n h = node_test test (slot_keys t.slots.items Check of) n h
-input_test t Verdict test of n h = node_test test (slot_keys t.slots.items Verdict of) n h
+-- ---- users
 
--- the users of a node are among the nodes of its test
+uses_among : (test : ℕ) (ks : List SlotKey) (n : Node) → Has (input_nodes (keys_at test ks)) n → uses n.kind n.of ks ≡ true
+uses_among test [] n h = absurd h
+uses_among test (slots.Test part ∷ ks) n h = uses_among test ks n h
+uses_among test (slots.Item number ∷ ks) n h = uses_among test ks n h
+uses_among test (slots.Fault id ∷ ks) n h = uses_among test ks n h
+uses_among test (slots.Value kind of name ∷ ks) n h = elim h [
+  | inl e ↦ subst (λ (m : Node). (is_output_of m.kind m.of (slots.Value kind of name) || uses m.kind m.of ks) ≡ true) e (either_of (is_output_of kind of (slots.Value kind of name)) (uses kind of ks) (both_of (kind_number kind == kind_number kind) (of == of) (eq-eqb (kind_number kind) (kind_number kind) refl) (eq-eqb of of refl)))
+  | inr l ↦ rw (uses_among test ks n l) (or_true (is_output_of n.kind n.of (slots.Value kind of name)))
+]
+  where
+    either_of : (a b : Bool) → a ≡ true → a || b ≡ true
+    either_of true b h = refl
+    either_of false b h = cc
+
+    or_true : (a : Bool) → a || true ≡ true
+    or_true true = refl
+    or_true false = refl
+
+all_of : (a b c : Bool) → a && c ≡ true → b ≡ true → a && b && c ≡ true
+all_of true b c h i = rw i h
+all_of false b c h i = h
+
+-- the slot of a kind and number is among the users of what it uses
+user_among : (ss : List Slot) (kind : Kind) (of : ℕ) (used_kind : Kind) (used_of test : ℕ) → has_slot ss kind of ≡ true → uses used_kind used_of (slot_keys ss kind of) ≡ true → has_node (record { kind = kind; test = test; of = of }) (users_at ss used_kind used_of test) ≡ true
+user_among [] kind of used_kind used_of test h u = cc
+user_among (s ∷ ss) kind of used_kind used_of test h u = elim (cases_Bool (is_slot kind of s)) [
+  | inl e ↦ (
+      let v : uses used_kind used_of s.inputs.items ≡ true = rw e at u in
+      let here : same_node (record { kind = kind; test = test; of = of }) (node_of test s) ≡ true = all_of (kind_number kind == kind_number s.kind) (test == test) (of == s.of) e (eq-eqb test test refl) in
+      rw v (rw here refl)
+      )
+  | inr f ↦ (
+      let rest = user_among ss kind of used_kind used_of test (rw f at h) (rw f at u) in
+      elim (cases_Bool (uses used_kind used_of s.inputs.items)) [
+        | inl v ↦ rw v (rw rest (or_true (same_node (record { kind = kind; test = test; of = of }) (node_of test s))))
+        | inr w ↦ rw w rest
+      ]
+      )
+]
+  where
+    or_true : (a : Bool) → a || true ≡ true
+    or_true true = refl
+    or_true false = refl
+
+user_listed : (t : NodeTable) (n : Node) (kind : Kind) (test of : ℕ) → has_slot t.slots.items kind of ≡ true → Has (input_nodes (keys_at test (slot_keys t.slots.items kind of))) n → Has (users t n) (record { kind = kind; test = test; of = of })
+user_listed t n kind test of h i =
+    has_yes (record { kind = kind; test = test; of = of }) (users t n)
+    (subst (λ (x : ℕ). has_node (record { kind = kind; test = test; of = of }) (users_at t.slots.items n.kind n.of x) ≡ true) (sym (node_test test (slot_keys t.slots.items kind of) n i))
+    (user_among t.slots.items kind of n.kind n.of test h (uses_among test (slot_keys t.slots.items kind of) n i)))
+
+user_there : (t : NodeTable) (n : Node) (kind : Kind) (test of : ℕ) → has_slot t.slots.items kind of ≡ true → Has (input_nodes (inputs_of t kind test of)) n → Has (users t n) (record { kind = kind; test = test; of = of })
+user_there t n Space test of h i = absurd (rw (no_nodes_in_space t.tests.items test) at i)
+user_there t n Group test of h i = user_listed t n Group test of h i
+user_there t n Check test of h i = user_listed t n Check test of h i
+user_there t n Verdict test of h i = user_listed t n Verdict test of h i
+
+-- the users of a node hold each used node that stands on it
 pub users_are_among : {G : Type 0} (t : NodeTable) (gives : Node → G → Bool) → AreUsers (net_of t gives) (users t)
-users_are_among t gives n u h i =
-    has_yes u (users t n) (has_node_at t.slots.items n.test u ∙ both_of (u.test == n.test) (has_slot t.slots.items u.kind u.of) (eq-eqb u.test n.test (sym (input_test t u.kind u.test u.of n i))) (used_slot t u h))
+users_are_among t gives n u h i = user_there t n u.kind u.test u.of (used_slot t u h) i

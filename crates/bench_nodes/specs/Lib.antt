@@ -1,2 +1,4 @@
 pub mod Nodes
 pub mod Order
+pub mod Places
+pub mod Slots

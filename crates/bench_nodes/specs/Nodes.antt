@@ -1,12 +1,11 @@
 -- Read this first: what a table says of stamps, used nodes, and the inputs of a node.
-use Rattle.std.specs.Prelude.{ℕ, ◌+◌, ◌-◌, ◌==◌, ◌&&◌, ◌||◌, Bool, false, List, [], ◌∷◌, ◌++◌, get_or, Option, Some, None, if◌then◌else◌}
+use Rattle.std.specs.Prelude.{ℕ, ◌+◌, ◌-◌, ◌==◌, ◌||◌, Bool, false, List, [], ◌∷◌, ◌++◌, get_or, Option, Some, None, if◌then◌else◌}
 use Rattle.memo_core.specs.declared.keys.Kind.{Kind}
 use Rattle.memo_core.specs.declared.keys.Kind.TheVariants.{Space, Group, Check, Verdict}
 use Rattle.memo_core.specs.declared.keys.Key.{Key}
 use Rattle.memo_core.specs.declared.keys.Key.TheVariants.{Part, Output}
 use Rattle.memo_core.specs.declared.keys.Node.{Node}
 use Rattle.memo_core.specs.Graph.{Net}
-use Rattle.memo_core.specs.Names.{kind_number}
 use Rattle.bench_nodes.specs.declared.table.ItemRow.{ItemRow}
 use Rattle.bench_nodes.specs.declared.table.ModelRow.{ModelRow}
 use Rattle.bench_nodes.specs.declared.table.NodeTable.{NodeTable}
@@ -14,6 +13,7 @@ use Rattle.bench_nodes.specs.declared.table.Slot.{Slot}
 use Rattle.bench_nodes.specs.declared.table.SlotKey.{SlotKey}
 use Rattle.bench_nodes.specs.declared.table.SlotKey.TheVariants as slots
 use Rattle.bench_nodes.specs.declared.table.TestRow.{TestRow}
+unfoldable pub use Rattle.bench_nodes.specs.Slots.{is_slot, has_slot, is_output_of, uses}
 
 -- ---- stamps: 0 where a part is not there
 
@@ -69,9 +69,6 @@ abbrev pub keys_at : ℕ → List SlotKey → List Key
 keys_at test [] = []
 keys_at test (k ∷ ks) = key_at test k ∷ keys_at test ks
 
-abbrev pub is_slot : Kind → ℕ → Slot → Bool
-is_slot kind of s = (kind_number kind == kind_number s.kind) && (of == s.of)
-
 -- the inputs of the first slot of that kind and number
 abbrev pub slot_keys : List Slot → Kind → ℕ → List SlotKey
 slot_keys [] kind of = []
@@ -108,19 +105,22 @@ inputs_of t Verdict test of = keys_at test (slot_keys t.slots.items Verdict of)
 abbrev pub inputs : NodeTable → Node → List Key
 inputs t n = inputs_of t n.kind n.test n.of
 
--- the nodes of a test, among which are all that stand on a node of it
+-- ---- users
+
+-- the nodes of a test that have an output of its node of this kind among their inputs
+abbrev pub users_at : List Slot → Kind → ℕ → ℕ → List Node
+users_at [] kind of test = []
+users_at (s ∷ ss) kind of test = if uses kind of s.inputs.items then node_of test s ∷ users_at ss kind of test else users_at ss kind of test
+
+-- the nodes that stand on a node
 abbrev pub users : NodeTable → Node → List Node
-users t n = nodes_at t.slots.items n.test
+users t n = users_at t.slots.items n.kind n.of n.test
 
 -- ---- which nodes are there
 
 abbrev pub has_test : List TestRow → ℕ → Bool
 has_test [] id = false
 has_test (t ∷ ts) id = (id == t.id) || has_test ts id
-
-abbrev pub has_slot : List Slot → Kind → ℕ → Bool
-has_slot [] kind of = false
-has_slot (s ∷ ss) kind of = is_slot kind of s || has_slot ss kind of
 
 -- how many slots stand before the first of that kind and number
 abbrev pub slot_index : List Slot → Kind → ℕ → ℕ

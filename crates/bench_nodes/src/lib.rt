@@ -4,8 +4,12 @@
 
 mod find;
 mod nodes;
+mod places;
 mod table;
+mod users;
 
+pub use find::are_rising;
+pub use places::{SlotName, SlotPlaces};
 pub use table::{
     CONDITION, FAULT, INIT, ITEM, ItemRow, LOCATIONS, ModelRow, NodeTable, OBSERVED, Slot, SlotKey,
     THREAD, TestRow,

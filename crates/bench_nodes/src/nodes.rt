@@ -4,11 +4,14 @@ ghost use Rattle.std.specs.Prelude.{◌≡◌, ◌+◌, ◌*◌, ◌<◌, Some, 
 ghost use Rattle.memo_core.specs.Tests.{has_node};
 ghost use Rattle.bench_nodes.specs.Nodes.{node_of, nodes_at, used_in, key_at, keys_at, row_of, space_parts, space_keys};
 
-use crate::find::{fault_stamp, has_slot, has_test, item_stamp, row_of, slot_keys, test_stamp};
+use crate::find::{
+    fault_stamp, has_slot, has_test, item_stamp, row_of, slot_keys, test_index, test_stamp,
+};
 use crate::table::{FAULT, INIT, ITEM, LOCATIONS, NodeTable, Slot, SlotKey, THREAD, TestRow};
+use crate::users::{user_count, user_node};
 use memo_core::keys::{Key, Kind, Node};
 
-fn node_of(test: u64, slot: &Slot) -> Node
+pub(crate) fn node_of(test: u64, slot: &Slot) -> Node
     ensures { result ≡ node_of test slot.now }
 {
     Node {
@@ -53,10 +56,10 @@ fn key_count(_test: u64, keys: &[SlotKey]) -> usize
 }
 
 // How many inputs the space of a test has.
-fn space_count(tests: &[TestRow], id: u64) -> usize
-    ensures { result ≡ length (space_keys tests.now id) }
+fn space_count(table: &NodeTable, id: u64) -> usize
+    ensures { result ≡ length (space_keys table.now.tests.items id) }
 {
-    match row_of(tests, id) {
+    match row_of(table, id) {
         Some(test) => test.threads.len() + 2,
         None => 0,
     }
@@ -77,11 +80,11 @@ fn space_part(test: &TestRow, i: usize) -> Key
 }
 
 // An input of the space of a test.
-fn space_key(tests: &[TestRow], id: u64, i: usize) -> Key
-    requires { i < length (space_keys tests.now id) }
-    ensures { slice_get (space_keys tests.now id) i ≡ Some result }
+fn space_key(table: &NodeTable, id: u64, i: usize) -> Key
+    requires { i < length (space_keys table.now.tests.items id) }
+    ensures { slice_get (space_keys table.now.tests.items id) i ≡ Some result }
 {
-    match row_of(tests, id) {
+    match row_of(table, id) {
         Some(test) => space_part(test, i),
         None => unreachable!(),
     }
@@ -105,22 +108,15 @@ fn used_node(slots: &[Slot], tests: &[TestRow], i: usize) -> Node
     node_in(slots, tests, i / each, i % each)
 }
 
-fn is_used(slots: &[Slot], tests: &[TestRow], node: Node) -> bool
-    ensures { result ≡ has_node node (used_in slots.now tests.now) }
+fn is_used(table: &NodeTable, node: Node) -> bool
+    ensures { result ≡ has_node node (used_in table.now.slots.items table.now.tests.items) }
 {
-    has_test(tests, node.test) && has_slot(slots, node.kind, node.of)
-}
-
-// A node of a test.
-fn test_node(slots: &[Slot], test: u64, i: usize) -> Node
-    requires { i < length slots.now }
-    ensures { slice_get (nodes_at slots.now test) i ≡ Some result }
-{
-    node_of(test, &slots[i])
+    has_test(table, node.test) && has_slot(table, node.kind, node.of)
 }
 
 impl NodeTable {
-    ghost use Rattle.std.specs.Prelude.{◌≡◌, ◌∷◌, ◌+◌, ◌<◌, Some, length, drop, slice_get};
+    ghost use Rattle.std.specs.Prelude.{◌≡◌, ◌==◌, ◌∷◌, ◌+◌, ◌<◌, ◌≤◌, Some, length, drop, slice_get};
+    ghost use Rattle.std.specs.List.{position_or_len};
     ghost use Rattle.memo_core.specs.Tests.{has_node};
     ghost use Rattle.bench_nodes.specs.Nodes.{part_stamp, used, inputs_of, inputs, users, has_test, slot_keys};
 
@@ -133,22 +129,30 @@ impl NodeTable {
         } else if part == FAULT {
             fault_stamp(&self.models, of)
         } else {
-            test_stamp(&self.tests, part, of)
+            test_stamp(self, part, of)
         }
+    }
+
+    /// The index of the first test of that number, or how many tests there are.
+    pub fn test_index(&self, id: u64) -> usize
+        ensures found { result ≡ position_or_len (λ t. t.id == id) self.now.tests.items }
+        ensures within { result ≤ length self.now.tests.items }
+    {
+        test_index(self, id)
     }
 
     /// Whether a test of that number is there.
     pub fn has_test(&self, id: u64) -> bool
         ensures { result ≡ has_test self.now.tests.items id }
     {
-        has_test(&self.tests, id)
+        has_test(self, id)
     }
 
     /// The inputs of the nodes of this kind of the item or model of that number, without their test.
     pub fn slot_keys(&self, kind: Kind, of: u64) -> &[SlotKey]
         ensures { result.now ≡ slot_keys self.now.slots.items kind of }
     {
-        slot_keys(&self.slots, kind, of)
+        slot_keys(self, kind, of)
     }
 
     /// How many inputs a node has.
@@ -156,10 +160,10 @@ impl NodeTable {
         ensures { result ≡ length (inputs_of self.now node.kind node.test node.of) }
     {
         match node.kind {
-            Kind::Space => space_count(&self.tests, node.test),
-            Kind::Group => key_count(node.test, slot_keys(&self.slots, Kind::Group, node.of)),
-            Kind::Check => key_count(node.test, slot_keys(&self.slots, Kind::Check, node.of)),
-            Kind::Verdict => key_count(node.test, slot_keys(&self.slots, Kind::Verdict, node.of)),
+            Kind::Space => space_count(self, node.test),
+            Kind::Group => key_count(node.test, slot_keys(self, Kind::Group, node.of)),
+            Kind::Check => key_count(node.test, slot_keys(self, Kind::Check, node.of)),
+            Kind::Verdict => key_count(node.test, slot_keys(self, Kind::Verdict, node.of)),
         }
     }
 
@@ -169,10 +173,10 @@ impl NodeTable {
         ensures { slice_get (inputs_of self.now node.kind node.test node.of) i ≡ Some result }
     {
         match node.kind {
-            Kind::Space => space_key(&self.tests, node.test, i),
-            Kind::Group => key_of(node.test, slot_keys(&self.slots, Kind::Group, node.of), i),
-            Kind::Check => key_of(node.test, slot_keys(&self.slots, Kind::Check, node.of), i),
-            Kind::Verdict => key_of(node.test, slot_keys(&self.slots, Kind::Verdict, node.of), i),
+            Kind::Space => space_key(self, node.test, i),
+            Kind::Group => key_of(node.test, slot_keys(self, Kind::Group, node.of), i),
+            Kind::Check => key_of(node.test, slot_keys(self, Kind::Check, node.of), i),
+            Kind::Verdict => key_of(node.test, slot_keys(self, Kind::Verdict, node.of), i),
         }
     }
 
@@ -205,14 +209,14 @@ impl NodeTable {
     pub fn is_used(&self, node: Node) -> bool
         ensures { result ≡ has_node node (used self.now) }
     {
-        is_used(&self.slots, &self.tests, node)
+        is_used(self, node)
     }
 
     /// How many users a node has.
-    pub fn user_count(&self, _node: Node) -> usize
-        ensures { result ≡ length (users self.now _node) }
+    pub fn user_count(&self, node: Node) -> usize
+        ensures { result ≡ length (users self.now node) }
     {
-        self.slots.len()
+        user_count(self, node)
     }
 
     /// A user of a node, by its index from 0.
@@ -221,6 +225,6 @@ impl NodeTable {
         ensures at { slice_get (users self.now node) i ≡ Some result }
         ensures rest { drop i (users self.now node) ≡ result ∷ drop (i + 1) (users self.now node) }
     {
-        test_node(&self.slots, node.test, i)
+        user_node(self, node, i)
     }
 }

@@ -1,8 +1,11 @@
 //! The table of the stamps and of the nodes that each test has.
 
-ghost use Rattle.std.specs.Prelude.{◌≤◌, vec_len};
+ghost use Rattle.std.specs.Prelude.{◌≡◌, ◌≤◌, ◌||◌, not, true, [], vec_len};
+ghost use Rattle.bench_nodes.specs.Places.{are_rising, are_apart, lists_if, lists_in};
 
+use crate::places::SlotPlaces;
 use memo_core::keys::Kind;
+use std::alloc::Global;
 
 /// The part of an item: what it says, and what it does.
 pub const ITEM: u64 = 0;
@@ -95,6 +98,32 @@ pub struct NodeTable {
     pub items: Vec<ItemRow>,
     /// The nodes that each test has: each behind those that it uses.
     pub slots: Vec<Slot>,
+    /// Where the slots stand.
+    pub places: SlotPlaces,
+    /// Whether the numbers of the tests rise, so that a test is found without a search.
+    pub is_rising: bool,
     ghost few_tests: { vec_len tests ≤ 65536 },
     ghost few_slots: { vec_len slots ≤ 65536 },
+    ghost rising: { (not is_rising || are_rising tests.items) ≡ true },
+    ghost apart: { (not places.are_listed || are_apart slots.items) ≡ true },
+    ghost listed: { lists_in places.are_listed places.users.items ≡ lists_if places.are_listed slots.items },
+}
+
+impl NodeTable {
+    /// No tests, models, items and nodes.
+    pub fn new(alloc: Global) -> NodeTable
+        ensures tests { result.tests.items ≡ [] }
+        ensures models { result.models.items ≡ [] }
+        ensures items { result.items.items ≡ [] }
+        ensures slots { result.slots.items ≡ [] }
+    {
+        NodeTable {
+            tests: Vec::new(alloc),
+            models: Vec::new(alloc),
+            items: Vec::new(alloc),
+            slots: Vec::new(alloc),
+            places: SlotPlaces::new(alloc),
+            is_rising: false,
+        }
+    }
 }

@@ -44,12 +44,8 @@ fn texts(alloc: Global, recursive: bool) -> Result<Vec<Item>, AllocError> {
 
 fn parts_of(alloc: Global, lists: ItemLists, last: u64) -> Parts {
     let ItemLists { rows, roles, kinds } = lists;
-    let table = NodeTable {
-        tests: Vec::new(alloc),
-        models: Vec::new(alloc),
-        items: rows,
-        slots: Vec::new(alloc),
-    };
+    let mut table = NodeTable::new(alloc);
+    table.items = rows;
     Parts {
         table,
         locations: Vec::new(alloc),

@@ -6,7 +6,7 @@ ghost use Rattle.edited_tables.specs.Models.{raised_model};
 ghost use Rattle.edited_parts.specs.Edited.{IsReady, HasRoom, PutsTest, DropsTest, PutsModels, Commits};
 
 use crate::edited::{EditedParts, ModelParts};
-use bench_nodes::{ModelRow, TestRow};
+use bench_nodes::{ModelRow, TestRow, are_rising};
 use edited_items::raise_items;
 use edited_tables::{raise_row, raised_model};
 use source_text::Name;
@@ -56,7 +56,9 @@ fn put_test(parts: &mut Parts, at: usize, row: TestRow, locations: Vec<Name>, nu
 {
     let mut row = row;
     raise_row(&mut row, parts.last, number);
+    parts.table.is_rising = false;
     put_row(&mut parts.table.tests, at, row);
+    parts.table.is_rising = are_rising(&parts.table.tests);
     put_locations(&mut parts.locations, at, locations);
     parts.last = number;
 }
@@ -85,7 +87,9 @@ fn drop_test(parts: &mut Parts, at: usize, number: u64)
     ensures drops { DropsTest parts.old at parts.new }
     ensures last { parts.new.last ≡ number }
 {
+    parts.table.is_rising = false;
     drop_row(&mut parts.table.tests, at);
+    parts.table.is_rising = are_rising(&parts.table.tests);
     drop_locations(&mut parts.locations, at);
     parts.last = number;
 }
@@ -100,12 +104,15 @@ fn put_models(parts: &mut Parts, made: ModelParts, number: u64)
         faults,
         mut items,
         slots,
+        places,
     } = made;
     raise_models(&mut rows, parts.last, number);
     raise_items(&mut items.rows, parts.last, number);
     parts.table.models = rows;
     parts.table.items = items.rows;
+    parts.table.places.are_listed = false;
     parts.table.slots = slots;
+    parts.table.places = places;
     parts.faults = faults;
     parts.roles = items.roles;
     parts.kinds = items.kinds;

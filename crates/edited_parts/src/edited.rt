@@ -1,8 +1,9 @@
 //! What is made for an edit.
 
-ghost use Rattle.std.specs.Prelude.{◌≤◌, vec_len};
+ghost use Rattle.std.specs.Prelude.{◌≡◌, ◌≤◌, ◌||◌, not, true, vec_len};
+ghost use Rattle.bench_nodes.specs.Places.{are_apart, lists_if, lists_in};
 
-use bench_nodes::{ModelRow, Slot, TestRow};
+use bench_nodes::{ModelRow, Slot, SlotPlaces, TestRow};
 use binding_graph::ModelFault;
 use edited_items::ItemLists;
 use source_text::Name;
@@ -18,7 +19,11 @@ pub struct ModelParts {
     pub items: ItemLists,
     /// The nodes that each test has.
     pub slots: Vec<Slot>,
+    /// Where these stand.
+    pub places: SlotPlaces,
     ghost few_slots: { vec_len slots ≤ 65536 },
+    ghost apart: { (not places.are_listed || are_apart slots.items) ≡ true },
+    ghost listed: { lists_in places.are_listed places.users.items ≡ lists_if places.are_listed slots.items },
 }
 
 /// What an edit changes of the parts, without its number.

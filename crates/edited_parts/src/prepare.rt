@@ -7,6 +7,7 @@ use crate::edited::{EditedParts, ModelParts};
 use crate::models::{model_faults, model_items, model_rows, models_after, models_before};
 use crate::slots::all_slots;
 use crate::tests::made_test;
+use bench_nodes::SlotPlaces;
 use bench_texts::{NamedModel, Replacement};
 use edited_tables::{HeldModel, next_number};
 use litmus_values::Test;
@@ -47,11 +48,13 @@ fn model_parts(
     if slots.len() > MOST {
         return Err(AllocError);
     }
+    let places = SlotPlaces::of(alloc, &slots)?;
     Ok(ModelParts {
         rows,
         faults,
         items,
         slots,
+        places,
     })
 }
 

@@ -74,13 +74,14 @@ fn can_mark<K: StoreName, T: Texts>(
     if is_marked(memos, node) {
         return false;
     }
-    if !matches(texts, memos, node) {
-        if inputs_marked(texts, memos, node) {
-            note(waiting, node);
-        }
+    if !inputs_marked(texts, memos, node) {
         return false;
     }
-    inputs_marked(texts, memos, node)
+    let is_matched = matches(texts, memos, node);
+    if !is_matched {
+        note(waiting, node);
+    }
+    is_matched
 }
 
 /// Marks a node's memo.

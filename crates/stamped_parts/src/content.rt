@@ -91,7 +91,8 @@ fn test_part<'p>(test: &'p Test, locations: &'p [Name], part: u64) -> Option<Con
 fn test_content<'p>(parts: &'p Parts, tests: &'p [Test], part: u64, id: u64) -> Option<Content<'p>>
     ensures { option_map content_of result ≡ test_content parts.now.table.tests.items tests.now parts.now.locations.items part id }
 {
-    match test_at(&parts.table.tests, tests, &parts.locations, id) {
+    let index = parts.test_index(id);
+    match test_at(&parts.table.tests, tests, &parts.locations, id, index) {
         Some(found) => test_part(found.test, found.locations, part),
         None => None,
     }

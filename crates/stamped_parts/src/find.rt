@@ -10,18 +10,6 @@ use litmus_values::Test;
 use memo_core::keys::Kind;
 use source_text::Name;
 
-pub(crate) fn test_index(tests: &[TestRow], id: u64) -> usize
-    ensures found { result ≡ position_or_len (λ t. t.id == id) tests.now }
-    ensures within { result ≤ length tests.now }
-{
-    for (index, test) in tests.iter().enumerate() {
-        if test.id == id {
-            return index;
-        }
-    }
-    tests.len()
-}
-
 pub(crate) fn model_index(models: &[ModelRow], id: u64) -> usize
     ensures found { result ≡ position_or_len (λ m. m.id == id) models.now }
     ensures within { result ≤ length models.now }
@@ -86,15 +74,17 @@ pub(crate) struct TestView<'p> {
     pub(crate) locations: &'p [Name],
 }
 
+/// The test of a number, which stands at that index.
 pub(crate) fn test_at<'p>(
     rows: &'p [TestRow],
     tests: &'p [Test],
     locations: &'p [Vec<Name>],
-    id: u64,
+    _id: u64,
+    index: usize,
 ) -> Option<TestView<'p>>
-    ensures { option_map test_view result ≡ view_of rows.now tests.now locations.now id }
+    requires { index ≡ position_or_len (λ t. t.id == _id) rows.now }
+    ensures { option_map test_view result ≡ view_of rows.now tests.now locations.now _id }
 {
-    let index = test_index(rows, id);
     if index < rows.len() && index < tests.len() && index < locations.len() {
         Some(TestView {
             row: &rows[index],

@@ -109,7 +109,8 @@ fn first_content<'p>(
 fn space_parts<'p>(parts: &'p Parts, tests: &'p [Test], test: u64) -> Option<NodeParts<'p>>
     ensures { let s = state_of parts.now tests.now in option_map (given_of s test) result ≡ given_space (contents s (space_keys parts.now.table.tests.items test)) }
 {
-    match test_at(&parts.table.tests, tests, &parts.locations, test) {
+    let index = parts.test_index(test);
+    match test_at(&parts.table.tests, tests, &parts.locations, test, index) {
         Some(found) => {
             let count = found.row.threads.len();
             if count <= found.test.threads.len() {

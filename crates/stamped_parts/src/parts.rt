@@ -1,6 +1,6 @@
 //! What the parts of the texts hold, beside the tests.
 
-use crate::find::{item_index, model_index, test_index};
+use crate::find::{item_index, model_index};
 use bench_nodes::NodeTable;
 use binding_graph::ModelFault;
 use memo_core::keys::Kind;
@@ -39,12 +39,7 @@ impl Parts {
         ensures last { result.last ≡ 0 }
     {
         Parts {
-            table: NodeTable {
-                tests: Vec::new(alloc),
-                models: Vec::new(alloc),
-                items: Vec::new(alloc),
-                slots: Vec::new(alloc),
-            },
+            table: NodeTable::new(alloc),
             locations: Vec::new(alloc),
             faults: Vec::new(alloc),
             roles: Vec::new(alloc),
@@ -58,7 +53,7 @@ impl Parts {
         ensures found { result ≡ position_or_len (λ t. t.id == id) self.now.table.tests.items }
         ensures within { result ≤ length self.now.table.tests.items }
     {
-        test_index(&self.table.tests, id)
+        self.table.test_index(id)
     }
 
     /// The index of the first model of that number, or how many models there are.

@@ -1,0 +1,149 @@
+//! Where the slots of a table stand, and which slots use them: what is looked up in place of a search.
+
+ghost use Rattle.std.specs.Prelude.{◌≡◌, ◌||◌, not, true, false, [], IfOk, IfSome, Some, map, slice_get, option_map};
+ghost use Rattle.bench_nodes.specs.Slots.{is_slot};
+ghost use Rattle.bench_nodes.specs.Places.{are_apart, user_names, user_lists, lists_if, lists_in, names_in};
+
+use crate::find::{has_slot_among, is_slot};
+use crate::table::Slot;
+use crate::users::uses;
+use memo_core::keys::Kind;
+use std::alloc::{AllocError, Global};
+
+/// The most slots whose users are listed.
+const MOST_LISTED: usize = 4096;
+
+/// A slot by its kind and number.
+#[derive(Clone, Copy, Debug)]
+pub struct SlotName {
+    /// Its kind.
+    pub kind: Kind,
+    /// The number of its item or model, 0 for the space.
+    pub of: u64,
+}
+
+/// Where slots stand, and which slots use them.
+#[derive(Drop)]
+pub struct SlotPlaces {
+    /// Where the slot of a number may stand, by what is left of the number.
+    pub guesses: Vec<usize>,
+    /// Whether no two slots are of one kind and number, and the users of each are listed.
+    pub are_listed: bool,
+    /// The slots that use each slot.
+    pub users: Vec<Vec<SlotName>>,
+}
+
+// Where the guess for a slot stands among so many.
+fn spot(kind: Kind, of: u64, count: usize) -> Option<usize> {
+    let left = of.checked_rem(count as u64)? as usize;
+    match kind {
+        Kind::Space => Some(left),
+        Kind::Group => Some(left),
+        Kind::Check => Some(left),
+        Kind::Verdict => Some(count.saturating_sub(1).saturating_sub(left)),
+    }
+}
+
+/// The index of a slot of that kind and number, if it is guessed.
+pub(crate) fn guessed(guesses: &[usize], slots: &[Slot], kind: Kind, of: u64) -> Option<usize>
+    ensures { IfSome result (λ at. option_map (is_slot kind of) (slice_get slots.now at) ≡ Some true) }
+{
+    let spot = spot(kind, of, guesses.len())?;
+    let at = *guesses.get(spot)?;
+    let slot = slots.get(at)?;
+    if is_slot(kind, of, slot) {
+        Some(at)
+    } else {
+        None
+    }
+}
+
+// A guess for each slot.
+fn guesses_of(alloc: Global, slots: &[Slot]) -> Result<Vec<usize>, AllocError> {
+    let count = slots.len().saturating_mul(4);
+    let mut guesses = Vec::with_capacity(alloc, count)?;
+    for _ in 0..count {
+        guesses.push(usize::MAX)?;
+    }
+    for (index, slot) in slots.iter().enumerate() {
+        if let Some(spot) = spot(slot.kind, slot.of, count) {
+            if let Some(guess) = guesses.get_mut(spot) {
+                *guess = index;
+            }
+        }
+    }
+    Ok(guesses)
+}
+
+// Whether no two slots are of one kind and number.
+fn are_apart(slots: &[Slot]) -> bool
+    ensures { result ≡ are_apart slots.now }
+{
+    for (index, slot) in slots.iter().enumerate() {
+        if has_slot_among(&slots[index + 1..], slot.kind, slot.of) {
+            return false;
+        }
+    }
+    true
+}
+
+// The names of the slots that use a slot.
+fn user_names(
+    alloc: Global,
+    slots: &[Slot],
+    kind: Kind,
+    of: u64,
+) -> Result<Vec<SlotName>, AllocError>
+    ensures { IfOk result (λ v. v.items ≡ user_names slots.now kind of) }
+{
+    let mut names = Vec::new(alloc);
+    for slot in slots {
+        if uses(kind, of, &slot.inputs) {
+            names.push(SlotName {
+                kind: slot.kind,
+                of: slot.of,
+            })?;
+        }
+    }
+    Ok(names)
+}
+
+// The users of each slot.
+fn user_lists(alloc: Global, slots: &[Slot]) -> Result<Vec<Vec<SlotName>>, AllocError>
+    ensures { IfOk result (λ v. map names_in v.items ≡ user_lists slots.now slots.now) }
+{
+    let mut lists = Vec::with_capacity(alloc, slots.len())?;
+    for slot in slots {
+        lists.push(user_names(alloc, slots, slot.kind, slot.of)?)?;
+    }
+    Ok(lists)
+}
+
+impl SlotPlaces {
+    /// No places.
+    pub fn new(alloc: Global) -> SlotPlaces
+        ensures unlisted { result.are_listed ≡ false }
+        ensures none { result.users.items ≡ [] }
+    {
+        SlotPlaces {
+            guesses: Vec::new(alloc),
+            are_listed: false,
+            users: Vec::new(alloc),
+        }
+    }
+
+    /// The places of slots. Errors: want of memory.
+    pub fn of(alloc: Global, slots: &[Slot]) -> Result<SlotPlaces, AllocError>
+        ensures apart { IfOk result (λ p. (not p.are_listed || are_apart slots.now) ≡ true) }
+        ensures listed { IfOk result (λ p. lists_in p.are_listed p.users.items ≡ lists_if p.are_listed slots.now) }
+    {
+        if slots.len() > MOST_LISTED || !are_apart(slots) {
+            return Ok(SlotPlaces::new(alloc));
+        }
+        Ok(SlotPlaces {
+            guesses: guesses_of(alloc, slots)?,
+            are_listed: true,
+            users: user_lists(alloc, slots)?,
+        })
+    }
+}
