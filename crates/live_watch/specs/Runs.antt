@@ -28,6 +28,7 @@ pub record IsBegun (lasts firsts : List (List ℕ)) (ops : List BoardOp) (tests 
   pub told : List ℕ
   pub written : AreWritten lasts firsts told text
 
+-- so it is for the lines that are kept of a run
 abbrev pub Begins : (lasts nows : Vec (Vec ℕ Global) Global) → List BoardOp → Vec WatchedTest Global → List ℕ → Type 0
 Begins lasts nows ops tests text = IsBegun (lists_of lasts.items) (lists_of nows.items) ops tests.items text
 
