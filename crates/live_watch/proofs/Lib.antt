@@ -1,2 +1,3 @@
 pub mod Crossings
+pub mod Gaining
 pub mod Steps

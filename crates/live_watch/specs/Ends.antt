@@ -1,9 +1,17 @@
--- How watching ends. Read after Lines.
-use Rattle.std.specs.Prelude.{◌≡◌, ◌≢◌, ◌+◌, ℕ, Bool, Result, Err}
+-- How watching ends. Read after Runs.
+use Rattle.std.specs.Prelude.{◌≡◌, ◌≢◌, ◌+◌, ℕ, List, [], Option, Bool, Result, Err, OnOk}
 use Rattle.litmusbench.specs.declared.fault.SessionFault.{SessionFault}
+use Rattle.live_watch.specs.declared.start.Ended.{Ended}
+use Rattle.live_watch.specs.Runs.{IsRun}
 
 -- One write failed just where the fault is `Write`. No read failed, if the fault is not `Read`. So none failed where it answers.
 pub record AreCallsOf (answer : Result Bool SessionFault) (reads reads_then writes writes_then : ℕ) : Type 0 where
   pub wrote : answer ≡ Err SessionFault.Write → writes_then ≡ writes + 1
   pub unfailed : answer ≢ Err SessionFault.Write → writes_then ≡ writes
   pub unread : answer ≢ Err SessionFault.Read → reads_then ≡ reads
+
+-- So it is for a source and a sink whose failed calls are counted so; and where it answers, a whole run was written.
+pub record IsEnded {S K : Type 0} (reads : S → ℕ) (writes : K → ℕ) (contents : K → Option (List ℕ))
+    (source : S) (sink : K) (ended : Ended S K) : Type 0 where
+  pub calls : AreCallsOf ended.answer (reads source) (reads ended.source) (writes sink) (writes ended.sink)
+  pub run : OnOk ended.answer (IsRun [] (contents sink) (contents ended.sink))

@@ -3,7 +3,6 @@ use Rattle.std.specs.Prelude.{◌≡◌, ◌≢◌, ◌⊎◌, ℕ, ◌+◌, Lis
 use Rattle.std.specs.Prelude.{codes, decimal, drop, map, bytes_eq, if◌then◌else◌}
 use Rattle.std.specs.declared.alloc.Global.{Global}
 use Rattle.std.specs.List.{position_or_len, AllByRecursion as Each}
-use Rattle.std.specs.Io.KnownBytes.{Appends}
 use Rattle.source_text.specs.Layout.{is_line_end}
 use Rattle.compare_report.specs.Cells.{Cell, Open}
 use Rattle.compare_report.specs.Columns.{table_of}
@@ -97,6 +96,10 @@ pub record AreWritten (lasts nows : List (List ℕ)) (before after : List ℕ) :
   pub jobs : ℕ
   pub is : after ≡ before ++ changed_lines lasts nows ++ jobs_line jobs
 
+-- the text gained the line that says of the file of this path why its text is refused
+abbrev pub SaysRefused : (path before after : List ℕ) → Type 0
+SaysRefused path before after = (fault : EditFault) × (after ≡ before ++ path ++ codes ": " ++ fault_line fault)
+
 -- the line that says of the file of this path why its text is refused, or that it cannot be read or is not watched
 pub data IsTold (path text : List ℕ) : Type 0 where
   IsRefused : (fault : EditFault) → text ≡ path ++ codes ": " ++ fault_line fault → IsTold path text
@@ -109,8 +112,10 @@ abbrev pub IsAnswer : List ℕ → List BoardOp → List WatchedTest → (lasts 
 IsAnswer path ops tests lasts nows text =
     (AreShown ops tests nows × AreWritten lasts nows [] text) ⊎ (IsTold path text × (nows ≡ lasts))
 
--- the sink of these contents gained the answer to the line
-pub record IsAnswered {K : Type 0} (contents : K → Option (List ℕ)) (path : List ℕ) (ops : List BoardOp) (tests : List WatchedTest) (lasts nows : List (List ℕ)) (old new : K) : Type 0 where
-  pub text : List ℕ
-  pub answer : IsAnswer path ops tests lasts nows text
-  pub gains : Appends (contents old) (contents new) text
+-- so it is for the lines that are kept of a run
+abbrev pub IsReply : List ℕ → (lasts nows : Vec (Vec ℕ Global) Global) → List BoardOp → Vec WatchedTest Global → List ℕ → Type 0
+IsReply path lasts nows ops tests text = IsAnswer path ops tests.items (lists_of lasts.items) (lists_of nows.items) text
+
+-- the text gained the lines that changed, and the number of jobs
+abbrev pub AreGained : (lasts nows : Vec (Vec ℕ Global) Global) → (before after : List ℕ) → Type 0
+AreGained lasts nows before after = AreWritten (lists_of lasts.items) (lists_of nows.items) before after

@@ -1,11 +1,11 @@
 //! The loop: lines that name files, and what is answered to them.
 
-ghost use Rattle.std.specs.Prelude.{◌≡◌, ◌≢◌, ◌+◌, ◌-◌, ◌<◌, ◌^◌, ◌++◌, List, ℕ, codes, [], true, false};
+ghost use Rattle.std.specs.Prelude.{◌≡◌, ◌≢◌, ◌+◌, ◌-◌, ◌<◌, ◌^◌, ◌++◌, codes, true, false};
 ghost use Rattle.std.specs.Prelude.{IfOk, OnOk, OnErr, Ok, Err};
-ghost use Rattle.bench_texts.specs.declared.fault.EditFault.{EditFault};
 ghost use Rattle.session_edits.specs.Faults.{fault_line};
 ghost use Rattle.std.specs.Io.KnownBytes.{Appends};
-ghost use Rattle.live_watch.specs.Lines.{lists_of, AreShown, AreWritten, IsAnswer, IsAnswered};
+ghost use Rattle.live_watch.specs.Lines.{lists_of, AreShown, AreGained, SaysRefused, IsReply};
+ghost use Rattle.live_watch.specs.Runs.{Gains, Begins, IsRun};
 
 use crate::lines::put_answer;
 use crate::settling::Hands;
@@ -44,6 +44,20 @@ fn memory<T>(made: Result<T, AllocError>) -> Result<T, SessionFault>
 fn push_byte(line: &mut Vec<u8>, byte: u8) -> Result<(), AllocError> {
     line.push(byte)?;
     Ok(())
+}
+
+// Writes all the bytes. Where a write fails, it is the fault `Write`.
+fn write_text<K: ByteSink>(sink: &mut K, text: &[u8]) -> Result<(), SessionFault>
+    requires { K.failed_calls sink.old < 2 ^ 64 - 1 }
+    ensures gains { OnOk result (Appends (K.contents sink.old) (K.contents sink.new) text.now) }
+    ensures writes { OnOk result (K.failed_calls sink.new ≡ K.failed_calls sink.old) }
+    ensures wrote { OnErr result (K.failed_calls sink.new ≡ K.failed_calls sink.old + 1) }
+    ensures fault { OnErr result (result ≡ Err SessionFault.Write) }
+{
+    match write_whole(sink, text) {
+        Ok(()) => Ok(()),
+        Err(_) => Err(SessionFault::Write),
+    }
 }
 
 // The line of a file whose text is refused, or whose test or model the bench refuses.
@@ -120,7 +134,7 @@ impl<'a, 'd, J: Naming + StoreName, R: Wait + Drop> Run<'a, 'd, J, R> {
         text: &mut Vec<u8>,
     ) -> Result<bool, AllocError>
         ensures accepted { result ≡ Ok true → text.new.items ≡ text.old.items }
-        ensures refused { result ≡ Ok false → (fault : EditFault) × (text.new.items ≡ text.old.items ++ path.now ++ codes ": " ++ fault_line fault) }
+        ensures refused { result ≡ Ok false → SaysRefused path.now text.old.items text.new.items }
         ensures lines { self.new.lines ≡ self.old.lines }
     {
         match self.take(rt, alloc, file, version)? {
@@ -142,7 +156,7 @@ impl<'a, 'd, J: Naming + StoreName, R: Wait + Drop> Run<'a, 'd, J, R> {
     ) -> Result<(), SessionFault>
         ensures fault { OnErr result (result ≡ Err SessionFault.Memory) }
         ensures shown { OnOk result (AreShown self.new.watched.viewer self.new.watched.tests.items (lists_of self.new.lines.items)) }
-        ensures written { OnOk result (AreWritten (lists_of self.old.lines.items) (lists_of self.new.lines.items) text.old.items text.new.items) }
+        ensures written { OnOk result (AreGained self.old.lines self.new.lines text.old.items text.new.items) }
     {
         let (jobs, lines) = self.watched.settled_lines(rt, alloc, &self.hands)?;
         memory(put_answer(text, &self.lines, &lines, jobs))?;
@@ -182,8 +196,7 @@ impl<'a, 'd, J: Naming + StoreName, R: Wait + Drop> Run<'a, 'd, J, R> {
         tests: &[&str],
     ) -> Result<Vec<u8>, SessionFault>
         ensures fault { result ≢ Err SessionFault.Write }
-        ensures shown { OnOk result (AreShown self.new.watched.viewer self.new.watched.tests.items (lists_of self.new.lines.items)) }
-        ensures written { IfOk result (λ text. (told : List ℕ) × AreWritten (lists_of self.old.lines.items) (lists_of self.new.lines.items) told text.items) }
+        ensures begun { IfOk result (λ t. Begins self.old.lines self.new.lines self.new.watched.viewer self.new.watched.tests t.items) }
     {
         let mut text = Vec::new(alloc);
         self.begin_file(rt, alloc, versions, Watching::Model, self.model, &mut text)?;
@@ -211,7 +224,7 @@ impl<'a, 'd, J: Naming + StoreName, R: Wait + Drop> Run<'a, 'd, J, R> {
         version: Vec<u8>,
     ) -> Result<Vec<u8>, SessionFault>
         ensures fault { OnErr result (result ≡ Err SessionFault.Memory) }
-        ensures answer { IfOk result (λ text. IsAnswer path.now self.new.watched.viewer self.new.watched.tests.items (lists_of self.old.lines.items) (lists_of self.new.lines.items) text.items) }
+        ensures answer { let w = self.new.watched in IfOk result (λ t. IsReply path.now self.old.lines self.new.lines w.viewer w.tests t.items) }
     {
         let mut text = Vec::new(alloc);
         let is_accepted = memory(self.accept(rt, alloc, file, path, version, &mut text))?;
@@ -232,7 +245,7 @@ impl<'a, 'd, J: Naming + StoreName, R: Wait + Drop> Run<'a, 'd, J, R> {
         version: Version,
     ) -> Result<Vec<u8>, SessionFault>
         ensures fault { OnErr result (result ≡ Err SessionFault.Memory) }
-        ensures answer { IfOk result (λ text. IsAnswer path.now self.new.watched.viewer self.new.watched.tests.items (lists_of self.old.lines.items) (lists_of self.new.lines.items) text.items) }
+        ensures answer { let w = self.new.watched in IfOk result (λ t. IsReply path.now self.old.lines self.new.lines w.viewer w.tests t.items) }
     {
         match version {
             Version::Text(version) => self.answer_text(rt, alloc, file, path, version),
@@ -266,7 +279,7 @@ impl<'a, 'd, J: Naming + StoreName, R: Wait + Drop> Run<'a, 'd, J, R> {
         line: &[u8],
     ) -> Result<Vec<u8>, SessionFault>
         ensures fault { OnErr result (result ≡ Err SessionFault.Memory) }
-        ensures answer { IfOk result (λ text. IsAnswer line.now self.new.watched.viewer self.new.watched.tests.items (lists_of self.old.lines.items) (lists_of self.new.lines.items) text.items) }
+        ensures answer { let w = self.new.watched in IfOk result (λ t. IsReply line.now self.old.lines self.new.lines w.viewer w.tests t.items) }
     {
         let file = self.named(line);
         match self.path_of(file) {
@@ -296,17 +309,41 @@ impl<'a, 'd, J: Naming + StoreName, R: Wait + Drop> Run<'a, 'd, J, R> {
         ensures wrote { result ≡ Err SessionFault.Write → K.failed_calls sink.new ≡ K.failed_calls sink.old + 1 }
         ensures unfailed { result ≢ Err SessionFault.Write → K.failed_calls sink.new ≡ K.failed_calls sink.old }
         ensures unread { result ≢ Err SessionFault.Read }
-        // one write, of what is answered to the line
-        ensures answered { line.now ≢ [] → OnOk result (IsAnswered K.contents line.now self.new.watched.viewer self.new.watched.tests.items (lists_of self.old.lines.items) (lists_of self.new.lines.items) sink.old sink.new) }
+        // nothing for an empty line, and else one write, of what is answered to it
+        ensures answers { OnOk result (Gains self.old.lines self.new.lines (K.contents sink.old) (K.contents sink.new)) }
     {
         if line.is_empty() {
             return Ok(());
         }
         let text = self.answer_line(rt, alloc, versions, line)?;
-        match write_whole(sink, &text) {
-            Ok(()) => Ok(()),
-            Err(_) => Err(SessionFault::Write),
+        write_text(sink, &text)?;
+        Ok(())
+    }
+
+    // Answers the line that ends in this byte, if it is a line feed, or keeps the byte.
+    fn take_byte<W: Wait, V: Versions, K: ByteSink>(
+        &mut self,
+        rt: &W,
+        alloc: Global,
+        versions: &mut V,
+        line: &mut Vec<u8>,
+        byte: u8,
+        sink: &mut K,
+    ) -> Result<(), SessionFault>
+        requires { K.failed_calls sink.old < 2 ^ 64 - 1 }
+        ensures writes { OnOk result (K.failed_calls sink.new ≡ K.failed_calls sink.old) }
+        ensures wrote { result ≡ Err SessionFault.Write → K.failed_calls sink.new ≡ K.failed_calls sink.old + 1 }
+        ensures answers { OnOk result (Gains self.old.lines self.new.lines (K.contents sink.old) (K.contents sink.new)) }
+        ensures unfailed { result ≢ Err SessionFault.Write → K.failed_calls sink.new ≡ K.failed_calls sink.old }
+        ensures unread { result ≢ Err SessionFault.Read }
+    {
+        if byte == b'\n' {
+            self.write_answer(rt, alloc, versions, line, sink)?;
+            line.clear();
+            return Ok(());
         }
+        memory(push_byte(line, byte))?;
+        Ok(())
     }
 
     // Answers the lines that end in these bytes, and keeps what is behind the last line feed.
@@ -322,18 +359,47 @@ impl<'a, 'd, J: Naming + StoreName, R: Wait + Drop> Run<'a, 'd, J, R> {
         requires { K.failed_calls sink.old < 2 ^ 64 - 1 }
         ensures writes { OnOk result (K.failed_calls sink.new ≡ K.failed_calls sink.old) }
         ensures wrote { result ≡ Err SessionFault.Write → K.failed_calls sink.new ≡ K.failed_calls sink.old + 1 }
+        ensures answers { OnOk result (Gains self.old.lines self.new.lines (K.contents sink.old) (K.contents sink.new)) }
         ensures unfailed { result ≢ Err SessionFault.Write → K.failed_calls sink.new ≡ K.failed_calls sink.old }
         ensures unread { result ≢ Err SessionFault.Read }
     {
         for byte in bytes {
-            if *byte == b'\n' {
-                self.write_answer(rt, alloc, versions, line, sink)?;
-                line.clear();
-            } else {
-                memory(push_byte(line, *byte))?;
-            }
+            self.take_byte(rt, alloc, versions, line, *byte, sink)?;
         }
         Ok(())
+    }
+
+    // Reads once, and answers the lines that end in what was read, or the last one at the end. Whether the source goes on.
+    fn take_turn<W: Wait, V: Versions, S: ByteSource, K: ByteSink>(
+        &mut self,
+        rt: &W,
+        alloc: Global,
+        versions: &mut V,
+        line: &mut Vec<u8>,
+        source: &mut S,
+        sink: &mut K,
+    ) -> Result<bool, SessionFault>
+        requires source { S.failed_calls source.old < 2 ^ 64 - 1 }
+        requires sink { K.failed_calls sink.old < 2 ^ 64 - 1 }
+        ensures reads { OnOk result (S.failed_calls source.new ≡ S.failed_calls source.old) }
+        ensures writes { OnOk result (K.failed_calls sink.new ≡ K.failed_calls sink.old) }
+        ensures wrote { result ≡ Err SessionFault.Write → K.failed_calls sink.new ≡ K.failed_calls sink.old + 1 }
+        ensures answers { OnOk result (Gains self.old.lines self.new.lines (K.contents sink.old) (K.contents sink.new)) }
+        ensures unfailed { result ≢ Err SessionFault.Write → K.failed_calls sink.new ≡ K.failed_calls sink.old }
+        ensures unread { result ≢ Err SessionFault.Read → S.failed_calls source.new ≡ S.failed_calls source.old }
+    {
+        let mut buffer = [0u8; 4096];
+        match source.read_some(&mut buffer) {
+            Ok(0) => {
+                self.write_answer(rt, alloc, versions, line, sink)?;
+                Ok(false)
+            }
+            Ok(n) => {
+                self.take_bytes(rt, alloc, versions, line, &buffer[..n], sink)?;
+                Ok(true)
+            }
+            Err(_) => Err(SessionFault::Read),
+        }
     }
 
     // Answers the lines of a source until it ends.
@@ -350,16 +416,15 @@ impl<'a, 'd, J: Naming + StoreName, R: Wait + Drop> Run<'a, 'd, J, R> {
         ensures reads { OnOk result (S.failed_calls source.new ≡ S.failed_calls source.old) }
         ensures writes { OnOk result (K.failed_calls sink.new ≡ K.failed_calls sink.old) }
         ensures wrote { result ≡ Err SessionFault.Write → K.failed_calls sink.new ≡ K.failed_calls sink.old + 1 }
+        ensures answers { OnOk result (Gains self.old.lines self.new.lines (K.contents sink.old) (K.contents sink.new)) }
         ensures unfailed { result ≢ Err SessionFault.Write → K.failed_calls sink.new ≡ K.failed_calls sink.old }
         ensures unread { result ≢ Err SessionFault.Read → S.failed_calls source.new ≡ S.failed_calls source.old }
     {
         let mut line = Vec::new(alloc);
-        let mut buffer = [0u8; 4096];
         for _turn in 0..MAX_TURNS {
-            match source.read_some(&mut buffer) {
-                Ok(0) => return self.write_answer(rt, alloc, versions, &line, sink),
-                Ok(n) => self.take_bytes(rt, alloc, versions, &mut line, &buffer[..n], sink)?,
-                Err(_) => return Err(SessionFault::Read),
+            let goes_on = self.take_turn(rt, alloc, versions, &mut line, source, sink)?;
+            if !goes_on {
+                return Ok(());
             }
         }
         Err(SessionFault::Read)
@@ -381,13 +446,12 @@ impl<'a, 'd, J: Naming + StoreName, R: Wait + Drop> Run<'a, 'd, J, R> {
         ensures reads { OnOk result (S.failed_calls source.new ≡ S.failed_calls source.old) }
         ensures writes { OnOk result (K.failed_calls sink.new ≡ K.failed_calls sink.old) }
         ensures wrote { result ≡ Err SessionFault.Write → K.failed_calls sink.new ≡ K.failed_calls sink.old + 1 }
+        ensures run { OnOk result (IsRun (lists_of self.old.lines.items) (K.contents sink.old) (K.contents sink.new)) }
         ensures unfailed { result ≢ Err SessionFault.Write → K.failed_calls sink.new ≡ K.failed_calls sink.old }
         ensures unread { result ≢ Err SessionFault.Read → S.failed_calls source.new ≡ S.failed_calls source.old }
     {
         let text = self.begin(rt, alloc, versions, tests)?;
-        if write_whole(sink, &text).is_err() {
-            return Err(SessionFault::Write);
-        }
+        write_text(sink, &text)?;
         self.answer_lines(rt, alloc, versions, source, sink)?;
         Ok(self.is_refused)
     }

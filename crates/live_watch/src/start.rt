@@ -1,7 +1,7 @@
 //! The desk of a run, with its workers.
 
-ghost use Rattle.std.specs.Prelude.{◌≡◌, ◌-◌, ◌<◌, ◌^◌, IfOk};
-ghost use Rattle.live_watch.specs.Ends.{AreCallsOf};
+ghost use Rattle.std.specs.Prelude.{◌≡◌, [], ◌-◌, ◌<◌, ◌^◌, IfOk};
+ghost use Rattle.live_watch.specs.Ends.{IsEnded};
 
 use crate::answers::Run;
 use crate::settling::Hands;
@@ -42,7 +42,9 @@ fn run_at<'a, 'd, J: Naming + StoreName, R: AllocGlobal + Wait + Drop>(
     desk: &'d RunningDesk<J, R>,
     hands: Hands<'d, J, R>,
     paths: Paths<'a>,
-) -> Result<Run<'a, 'd, J, R>, AllocError> {
+) -> Result<Run<'a, 'd, J, R>, AllocError>
+    ensures { IfOk result (λ run. run.lines.items ≡ []) }
+{
     let alloc = rt.alloc();
     let viewer = match desk.viewer(rt) {
         Ok(viewer) => viewer,
@@ -95,7 +97,7 @@ where
     K: ByteSink + Drop,
     requires source { S.failed_calls source < 2 ^ 64 - 1 }
     requires sink { K.failed_calls sink < 2 ^ 64 - 1 }
-    ensures { IfOk result (λ ended. AreCallsOf ended.answer (S.failed_calls source) (S.failed_calls ended.source) (K.failed_calls sink) (K.failed_calls ended.sink)) }
+    ensures { IfOk result (λ e. IsEnded S.failed_calls K.failed_calls K.contents source sink e) }
 {
     let mut run = run_at(rt, desk, hands, paths)?;
     let mut source = source;
@@ -133,7 +135,7 @@ where
     K: ByteSink + Drop,
     requires source { S.failed_calls source < 2 ^ 64 - 1 }
     requires sink { K.failed_calls sink < 2 ^ 64 - 1 }
-    ensures { IfOk result (λ ended. AreCallsOf ended.answer (S.failed_calls source) (S.failed_calls ended.source) (K.failed_calls sink) (K.failed_calls ended.sink)) }
+    ensures { IfOk result (λ e. IsEnded S.failed_calls K.failed_calls K.contents source sink e) }
 {
     let hands = hands_of(turnstile, workers);
     let ended = attend(rt, turnstile.desk(), hands, paths, versions, source, sink);
@@ -158,7 +160,7 @@ where
     K: ByteSink + Drop,
     requires source { S.failed_calls source < 2 ^ 64 - 1 }
     requires sink { K.failed_calls sink < 2 ^ 64 - 1 }
-    ensures { IfOk result (λ ended. AreCallsOf ended.answer (S.failed_calls source) (S.failed_calls ended.source) (K.failed_calls sink) (K.failed_calls ended.sink)) }
+    ensures { IfOk result (λ e. IsEnded S.failed_calls K.failed_calls K.contents source sink e) }
 {
     let turnstile = Turnstile::new(desk);
     let gate = &turnstile;
@@ -170,7 +172,7 @@ where
         || -> Result<Ended<S, K>, AllocError>
             requires source { S.failed_calls source < 2 ^ 64 - 1 }
             requires sink { K.failed_calls sink < 2 ^ 64 - 1 }
-            ensures { IfOk result (λ ended. AreCallsOf ended.answer (S.failed_calls source) (S.failed_calls ended.source) (K.failed_calls sink) (K.failed_calls ended.sink)) }
+            ensures { IfOk result (λ e. IsEnded S.failed_calls K.failed_calls K.contents source sink e) }
         { attend_workers(rt, gate, workers, paths, versions, source, sink) },
     );
     match worked {
@@ -198,7 +200,7 @@ where
     requires values { seed.values.values ≡ J.shelves }
     requires source { S.failed_calls source < 2 ^ 64 - 1 }
     requires sink { K.failed_calls sink < 2 ^ 64 - 1 }
-    ensures { IfOk result (λ ended. AreCallsOf ended.answer (S.failed_calls source) (S.failed_calls ended.source) (K.failed_calls sink) (K.failed_calls ended.sink)) }
+    ensures { IfOk result (λ e. IsEnded S.failed_calls K.failed_calls K.contents source sink e) }
 {
     match seed.desk::<J, R, R>(rt, rt.alloc(), *rt) {
         Ok(desk) => watch_at(rt, &desk, workers, paths, versions, source, sink),
@@ -228,8 +230,8 @@ where
     K: ByteSink + Drop,
     requires source { S.failed_calls source < 2 ^ 64 - 1 }
     requires sink { K.failed_calls sink < 2 ^ 64 - 1 }
-    // Where it answers, no read and no write failed; and so it is for each fault of its own.
-    ensures { IfOk result (λ ended. AreCallsOf ended.answer (S.failed_calls source) (S.failed_calls ended.source) (K.failed_calls sink) (K.failed_calls ended.sink)) }
+    // Where it answers, no read and no write failed, and a whole run was written; and of each fault what failed is told.
+    ensures { IfOk result (λ e. IsEnded S.failed_calls K.failed_calls K.contents source sink e) }
 {
     match DeskSeed::new(rt.alloc()) {
         Ok(seed) => {
