@@ -41,7 +41,7 @@ pub enum Drawn {
     Shown,
     /// Those that the model forbids and that have what the test asks for.
     Forbidden,
-    /// All that the model keeps.
+    /// All, kept or forbidden.
     All,
 }
 

@@ -1,2 +1,5 @@
 pub mod Refusing
 pub mod Listing
+pub mod Boxing
+pub mod Pairing
+pub mod Graphing

@@ -1,2 +1,4 @@
 pub mod Checked
 pub mod Language
+pub mod Drawings
+pub mod Drawable

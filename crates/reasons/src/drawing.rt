@@ -1,20 +1,30 @@
 //! Executions of a test as drawings.
 
+ghost use Rattle.std.specs.Prelude.{◌≡◌, ◌<◌, ◌^◌, IfOk, length};
+ghost use Rattle.std.specs.List.{All};
+ghost use Rattle.candidates.specs.Listed.{ListsExecutions};
+ghost use Rattle.candidates.specs.Space.{IsShown, candidate_count};
+ghost use Rattle.memo_graph.specs.FromScratch.{AreItemsOf, IsFaultless};
+ghost use Rattle.reasons.specs.Drawable.{AddsDrawing, AreReady, IsGraphAt, subject_of};
+ghost use Rattle.reasons.specs.Drawings.{AreDrawingsOf, AreDrawn, AreSteps, IsCheckText, IsDrawn, IsFate};
+ghost use Rattle.reasons.specs.Drawings.{IsJudged, refused_comment, title_text};
+ghost use Rattle.reasons.specs.Drawings as drawings;
+
+use crate::boxes::{boxes, clusters};
 use crate::checks::{FirstRefusal, all_checks, first_refusal};
 use crate::instructions::{all_runs, instructions_of};
 use crate::labels::predefined_values;
-use crate::telling::{Judged, Told, reason, told_events};
+use crate::lines::{DrawnRelation, all_lines, drawn_relations};
+use crate::telling::{Judged, Told, reason};
 use binding_graph::{ResolveFault, Resolved, resolve};
-use bit_relations::{EventSet, Rel};
 use candidates::{Execution, Space, SpaceFault, space};
-use cat_eval::Column;
-use cat_values::{ModelText, Predefined};
-use columns::Cursor;
-use execution_graph::{Cluster, Drawing, Edges, Ink, drawn_events, edges, put_drawing};
+use cat_printing::print_item;
+use cat_values::ModelText;
+use execution_graph::{Drawing, drawn_events, put_drawing};
 use litmus_values::Test;
 use memo_graph::answers;
 use ppc_semantics::Run;
-use reason_text::{Reason, Telling, ToldEvent};
+use reason_text::{Telling, ToldStep};
 use satisfaction::is_satisfied;
 use source_text::{put_bytes, put_decimal};
 use std::alloc::{AllocError, Global};
@@ -27,266 +37,211 @@ pub enum Wanted {
     Shown,
     /// Those that the model forbids and that have what the test asks for.
     Forbidden,
-    /// All that the model keeps.
+    /// All, kept or forbidden.
     All,
 }
 
-// The relations that are drawn.
-const RELATIONS: [(Predefined, Ink); 11] = [
-    (Predefined::ProgramOrder, Ink::Order),
-    (Predefined::ReadsFrom, Ink::ReadsFrom),
-    (Predefined::Coherence, Ink::Coherence),
-    (Predefined::FromReads, Ink::FromReads),
-    (Predefined::AddressDependency, Ink::Dependency),
-    (Predefined::DataDependency, Ink::Dependency),
-    (Predefined::ControlDependency, Ink::Dependency),
-    (Predefined::SyncOrder, Ink::Fence),
-    (Predefined::LwsyncOrder, Ink::Fence),
-    (Predefined::EieioOrder, Ink::Fence),
-    (Predefined::IsyncOrder, Ink::Fence),
-];
-
 // Whether an execution is asked for that has what the test asks for, or not, and that the model keeps,
 // or not.
-fn is_wanted(wanted: Wanted, satisfied: bool, kept: bool) -> bool {
+fn is_wanted(wanted: Wanted, satisfied: bool, kept: bool) -> bool
+    ensures { result ≡ drawings.is_wanted wanted satisfied kept }
+{
     match wanted {
         Wanted::Shown => satisfied && kept,
         Wanted::Forbidden => satisfied && !kept,
-        Wanted::All => kept,
+        Wanted::All => true,
     }
 }
 
-// The value in a candidate.
-fn relation_at(values: &Column, candidate: usize) -> Rel {
-    let mut relation = Rel::empty(0);
-    if let Column::Relations(relations) = values {
-        if candidate < relations.len() {
-            relations.read(&mut Cursor::new(), candidate, &mut relation);
-        }
-    }
-    relation
+// A test under a model over its candidates.
+#[derive(Clone, Copy)]
+struct Scene<'a> {
+    test: &'a Test,
+    space: &'a Space,
+    judged: Judged<'a>,
+    relations: &'a [DrawnRelation],
+    runs: &'a [Vec<Run>],
 }
 
-fn relation_of(judged: Judged<'_>, name: Predefined, candidate: usize) -> Rel {
-    for value in judged.values.predefined {
-        if value.name == name {
-            return relation_at(&value.column, candidate);
-        }
-    }
-    Rel::empty(0)
-}
-
-// The edges of each relation that is drawn.
-fn all_edges(
-    alloc: Global,
-    judged: Judged<'_>,
-    candidate: usize,
-    events: &EventSet,
-) -> Result<Vec<Edges>, AllocError> {
-    let mut found = Vec::new(alloc);
-    for (name, ink) in RELATIONS {
-        let relation = relation_of(judged, name, candidate);
-        if relation.count() == events.count() {
-            let pairs = edges(alloc, &relation, events)?;
-            let name = Vec::from_slice(alloc, name.spelling())?;
-            found.push(Edges { name, ink, pairs })?;
-        }
-    }
-    Ok(found)
-}
-
-// The drawn events of a thread, or the drawn initial stores.
-fn events_of(
-    alloc: Global,
-    told: Told<'_>,
-    drawn: &EventSet,
-    thread: Option<usize>,
-) -> Result<Vec<ToldEvent>, AllocError> {
-    let mut numbers = Vec::new(alloc);
-    for number in 0..told.events.len() {
-        if told.events[number].thread == thread
-            && number < drawn.count()
-            && drawn.contains(number)
-        {
-            numbers.push(number)?;
-        }
-    }
-    told_events(alloc, told, &numbers)
-}
-
-fn clusters_of(
-    alloc: Global,
-    told: Told<'_>,
-    drawn: &EventSet,
-    threads: usize,
-) -> Result<Vec<Cluster>, AllocError> {
-    let mut clusters = Vec::new(alloc);
-    for thread in 0..threads {
-        let events = events_of(alloc, told, drawn, Some(thread))?;
-        clusters.push(Cluster { thread, events })?;
-    }
-    Ok(clusters)
-}
-
-// The name of the test, the number of the execution, and what comes of it.
+#[tactic(auto, unfolding(crate::specs::Drawings::title_text))]
 fn title_of(
     alloc: Global,
-    test: &Test,
+    name: &[u8],
     candidate: usize,
-    check: Option<&[u8]>,
-) -> Result<Vec<u8>, AllocError> {
+    fate: &[u8],
+) -> Result<Vec<u8>, AllocError>
+    ensures { IfOk result (λ v. v.items ≡ title_text name.now candidate fate.now) }
+{
     let mut title = Vec::new(alloc);
-    put_bytes(&mut title, test.name.as_bytes())?;
+    put_bytes(&mut title, name)?;
     put_bytes(&mut title, b", execution ")?;
     put_decimal(&mut title, candidate as u64)?;
-    match check {
-        None => put_bytes(&mut title, b": kept")?,
-        Some(check) => {
-            put_bytes(&mut title, b": forbidden by ")?;
-            put_bytes(&mut title, check)?;
-        }
-    }
+    put_bytes(&mut title, fate)?;
     Ok(title)
 }
 
-// Why the execution is forbidden, if it is.
-fn reason_of(
+// The check that refuses, as the model writes it.
+fn check_text(
+    alloc: Global,
+    judged: Judged<'_>,
+    refusal: &FirstRefusal,
+) -> Result<Vec<u8>, AllocError>
+    requires within { refusal.now.index < length judged.checks.now }
+    requires named { All (λ c. c.item < length judged.text.now) judged.checks.now }
+    ensures { IfOk result (λ v. IsCheckText judged.entry.checks.now judged.entry.text.now refusal.now v.items) }
+{
+    let check = &judged.checks[refusal.index];
+    print_item(alloc, &judged.text[check.item])
+}
+
+// What comes of an execution.
+fn fate_of(
+    alloc: Global,
+    judged: Judged<'_>,
+    candidate: usize,
+    found: &Option<FirstRefusal>,
+) -> Result<Vec<u8>, AllocError>
+    requires judged { IsJudged judged.checks.now candidate found.now }
+    requires named { All (λ c. c.item < length judged.text.now) judged.checks.now }
+    ensures { IfOk result (λ v. IsFate judged.entry.checks.now judged.entry.text.now found.now v.items) }
+{
+    match found {
+        None => Vec::from_slice(alloc, b": kept"),
+        Some(refusal) => {
+            let check = check_text(alloc, judged, refusal)?;
+            let mut fate = Vec::from_slice(alloc, b": forbidden by ")?;
+            put_bytes(&mut fate, &check)?;
+            Ok(fate)
+        }
+    }
+}
+
+// The steps of the reason why the execution is forbidden, if it is, and where they begin.
+fn steps_of(
     alloc: Global,
     judged: Judged<'_>,
     told: Told<'_>,
-    refusal: Option<FirstRefusal>,
-) -> Result<Option<Reason>, AllocError> {
-    let Some(refusal) = refusal else {
-        return Ok(None);
-    };
-    if refusal.index < judged.checks.len() {
-        let check = &judged.checks[refusal.index];
-        return Ok(Some(reason(alloc, judged, told, check, &refusal)?));
-    }
-    Ok(None)
-}
-
-fn title_with(
-    alloc: Global,
-    test: &Test,
-    candidate: usize,
-    reason: &Option<Reason>,
-) -> Result<Vec<u8>, AllocError> {
-    match reason {
-        None => title_of(alloc, test, candidate, None),
-        Some(reason) => title_of(alloc, test, candidate, Some(&reason.check)),
+    found: &Option<FirstRefusal>,
+) -> Result<(Option<usize>, Vec<ToldStep>), AllocError>
+    ensures { IfOk result (λ r. AreSteps found.now r.0 r.1.items) }
+{
+    match found {
+        None => Ok((None, Vec::new(alloc))),
+        Some(refusal) => {
+            if refusal.index >= judged.checks.len() {
+                return Ok((None, Vec::new(alloc)));
+            }
+            let check = &judged.checks[refusal.index];
+            let reason = reason(alloc, judged, told, check, refusal)?;
+            Ok((reason.first, reason.steps))
+        }
     }
 }
 
+// The graph of an execution.
 fn drawing_of(
     alloc: Global,
-    test: &Test,
-    judged: Judged<'_>,
+    scene: Scene<'_>,
+    candidate: usize,
     execution: &Execution,
-    told: Told<'_>,
-    reason: Option<Reason>,
-) -> Result<Drawing, AllocError> {
-    let drawn = drawn_events(&execution.events, &execution.sources);
-    let title = title_with(alloc, test, told.candidate, &reason)?;
-    let (first, steps) = match reason {
-        None => (None, Vec::new(alloc)),
-        Some(reason) => (reason.first, reason.steps),
+    found: &Option<FirstRefusal>,
+) -> Result<Drawing, AllocError>
+    requires ready { AreReady (subject_of scene) scene.relations.now }
+    requires shown { IsShown scene.space.now candidate execution.now }
+    requires judged { IsJudged scene.judged.checks.now candidate found.now }
+    ensures { IfOk result (IsGraphAt (subject_of scene.entry) candidate found.now) }
+{
+    let instructions = instructions_of(alloc, scene.runs, execution)?;
+    let told = Told {
+        candidate,
+        events: &execution.events,
+        instructions: &instructions,
     };
+    let drawn = drawn_events(&execution.events, &execution.sources);
+    let fate = fate_of(alloc, scene.judged, candidate, found)?;
+    let (first, steps) = steps_of(alloc, scene.judged, told, found)?;
     Ok(Drawing {
-        title,
-        initial: events_of(alloc, told, &drawn, None)?,
-        clusters: clusters_of(alloc, told, &drawn, execution.registers.len())?,
-        edges: all_edges(alloc, judged, told.candidate, &drawn)?,
+        title: title_of(alloc, scene.test.name.as_bytes(), candidate, &fate)?,
+        initial: boxes(alloc, told, &drawn, None)?,
+        clusters: clusters(alloc, told, &drawn, scene.test.threads.len())?,
+        edges: all_lines(alloc, scene.space, scene.relations, candidate, &drawn)?,
         first,
         steps,
     })
-}
-
-// Draws an execution.
-fn put_execution(
-    alloc: Global,
-    text: &mut Vec<u8>,
-    test: &Test,
-    space: &Space,
-    judged: Judged<'_>,
-    execution: &Execution,
-    told: Told<'_>,
-    refusal: Option<FirstRefusal>,
-) -> Result<(), AllocError> {
-    let reason = reason_of(alloc, judged, told, refusal)?;
-    let drawing = drawing_of(alloc, test, judged, execution, told, reason)?;
-    let telling = Telling {
-        shows: true,
-        locations: &space.locations,
-        initial_count: space.locations.len(),
-    };
-    put_drawing(text, telling, &drawing)
 }
 
 // Draws a candidate if it is asked for, and says whether it is.
 fn put_candidate(
     alloc: Global,
     text: &mut Vec<u8>,
-    test: &Test,
-    space: &Space,
-    judged: Judged<'_>,
-    runs: &[Vec<Run>],
+    scene: Scene<'_>,
     wanted: Wanted,
     candidate: usize,
-) -> Result<bool, AllocError> {
-    let Some(execution) = space.execution(alloc, candidate)? else {
+) -> Result<bool, AllocError>
+    requires ready { AreReady (subject_of scene) scene.relations.now }
+    requires within { candidate < candidate_count scene.space.now }
+    ensures { IfOk result (AddsDrawing wanted (subject_of scene.entry) candidate text.old.items text.new.items) }
+{
+    let Some(execution) = scene.space.execution(alloc, candidate)? else {
         return Ok(false);
     };
-    let satisfied = is_satisfied(&space.locations, &test.condition.proposition, &execution);
-    let refusal = first_refusal(alloc, judged.checks, candidate)?;
-    if !is_wanted(wanted, satisfied, refusal.is_none()) {
+    let locations = &scene.space.locations;
+    let satisfied = is_satisfied(locations, &scene.test.condition.proposition, &execution);
+    let found = first_refusal(alloc, scene.judged.checks, candidate)?;
+    if !is_wanted(wanted, satisfied, found.is_none()) {
         return Ok(false);
     }
-    let instructions = instructions_of(alloc, runs, &execution)?;
-    let told = Told {
-        candidate,
-        events: &execution.events,
-        instructions: &instructions,
+    let drawing = drawing_of(alloc, scene, candidate, &execution, &found)?;
+    let telling = Telling {
+        shows: true,
+        locations,
+        initial_count: locations.len(),
     };
-    put_execution(alloc, text, test, space, judged, &execution, told, refusal)?;
+    put_drawing(text, telling, &drawing)?;
     Ok(true)
 }
 
-fn put_candidates(
+// Draws the candidates that are asked for, so many at most.
+fn candidates_text(
     alloc: Global,
-    text: &mut Vec<u8>,
-    test: &Test,
-    space: &Space,
-    judged: Judged<'_>,
+    scene: Scene<'_>,
     wanted: Wanted,
     most: u64,
-) -> Result<(), AllocError> {
-    let runs = all_runs(alloc, test)?;
+) -> Result<Vec<u8>, AllocError>
+    requires ready { AreReady (subject_of scene) scene.relations.now }
+    requires few { candidate_count scene.space.now < 2 ^ 64 }
+    ensures { IfOk result (λ v. AreDrawingsOf wanted most (subject_of scene.entry) (candidate_count scene.entry.space.now) v.items) }
+{
+    let mut text = Vec::new(alloc);
     let mut count = 0;
-    for candidate in 0..space.len() {
-        if count >= most {
-            return Ok(());
-        }
-        if put_candidate(alloc, text, test, space, judged, &runs, wanted, candidate)? {
+    for candidate in 0..scene.space.len() {
+        if count < most && put_candidate(alloc, &mut text, scene, wanted, candidate)? {
             count += 1;
         }
     }
-    Ok(())
+    Ok(text)
 }
 
-fn put_drawn(
+// The drawings of a test under a model.
+fn space_text<'x>(
     alloc: Global,
-    text: &mut Vec<u8>,
-    test: &Test,
-    model: &ModelText,
-    resolved: &Resolved,
-    space: &Space,
+    test: &'x Test,
+    model: &'x ModelText,
+    resolved: &'x Resolved,
+    space: &'x Space,
     wanted: Wanted,
     most: u64,
-) -> Result<(), AllocError> {
+) -> Result<Vec<u8>, AllocError>
+    requires faultless { IsFaultless model.now }
+    requires items { AreItemsOf model.now resolved.now.items.items }
+    requires executions { ListsExecutions test.now space.now }
+    ensures { IfOk result (λ v. AreDrawn wanted most test.now model.now v.items) }
+{
     let found = answers(alloc, space, resolved)?;
     let checks = all_checks(alloc, space, &found.columns, &resolved.items)?;
     let predefined = predefined_values(alloc, space)?;
+    let relations = drawn_relations(alloc, space)?;
+    let runs = all_runs(alloc, test)?;
     let judged = Judged {
         text: &model.items,
         items: &resolved.items,
@@ -296,48 +251,63 @@ fn put_drawn(
         },
         checks: &checks,
     };
-    put_candidates(alloc, text, test, space, judged, wanted, most)
+    let scene = Scene {
+        test,
+        space,
+        judged,
+        relations: &relations,
+        runs: &runs,
+    };
+    candidates_text(alloc, scene, wanted, most)
 }
 
 // A comment of `dot` that tells a refusal.
-fn put_refused(text: &mut Vec<u8>, letter: &[u8], number: u8) -> Result<(), AllocError> {
-    put_bytes(text, b"// Refused ")?;
-    put_bytes(text, letter)?;
-    put_decimal(text, u64::from(number))?;
-    put_bytes(text, b"\n")
+#[tactic(auto, unfolding(crate::specs::Drawings::refused_comment))]
+fn comment(alloc: Global, letter: &[u8], number: u8) -> Result<Vec<u8>, AllocError>
+    ensures { IfOk result (λ v. v.items ≡ refused_comment letter.now number) }
+{
+    let mut text = Vec::new(alloc);
+    put_bytes(&mut text, b"// Refused ")?;
+    put_bytes(&mut text, letter)?;
+    put_decimal(&mut text, u64::from(number))?;
+    put_bytes(&mut text, b"\n")?;
+    Ok(text)
 }
 
-fn put_over_candidates(
+// The drawings of a test under a model without fault.
+fn resolved_text(
     alloc: Global,
-    text: &mut Vec<u8>,
     test: &Test,
     model: &ModelText,
     resolved: &Resolved,
     wanted: Wanted,
     most: u64,
-) -> Result<(), AllocError> {
+) -> Result<Vec<u8>, AllocError>
+    requires faultless { IsFaultless model.now }
+    requires items { AreItemsOf model.now resolved.now.items.items }
+    ensures { IfOk result (λ v. IsDrawn wanted most test.now model.now v.items) }
+{
     match space(alloc, test) {
-        Ok(space) => put_drawn(alloc, text, test, model, resolved, &space, wanted, most),
-        Err(SpaceFault::Refused(refusal)) => put_refused(text, b"E", refusal.number()),
+        Ok(space) => space_text(alloc, test, model, resolved, &space, wanted, most),
+        Err(SpaceFault::Refused(refusal)) => comment(alloc, b"E", refusal.number()),
         Err(SpaceFault::OutOfMemory(e)) => Err(e),
     }
 }
 
-/// Drawings of executions of a test under a model, at most so many, for `dot`. Errors: want of memory.
+/// Drawings of executions of a test under a model, at most so many, for `dot`; of a model with a fault and
+/// of a test that is refused, a comment that tells its number. Errors: want of memory.
 pub fn draw(
     alloc: Global,
     test: &Test,
     model: &ModelText,
     wanted: Wanted,
     most: u64,
-) -> Result<Vec<u8>, AllocError> {
-    let mut text = Vec::new(alloc);
+) -> Result<Vec<u8>, AllocError>
+    ensures { IfOk result (λ v. IsDrawn wanted most test.now model.now v.items) }
+{
     match resolve(alloc, model) {
-        Ok(resolved) => {
-            put_over_candidates(alloc, &mut text, test, model, &resolved, wanted, most)?
-        }
-        Err(ResolveFault::Refused(fault)) => put_refused(&mut text, b"M", fault.number())?,
-        Err(ResolveFault::OutOfMemory(e)) => return Err(e),
+        Ok(resolved) => resolved_text(alloc, test, model, &resolved, wanted, most),
+        Err(ResolveFault::Refused(fault)) => comment(alloc, b"M", fault.number()),
+        Err(ResolveFault::OutOfMemory(e)) => Err(e),
     }
-    Ok(text)
 }

@@ -12,7 +12,8 @@ use check_witness::expression_column;
 use std::alloc::{AllocError, Global};
 use step_labels::{EventPair, ModelName, NameValues, PredefinedValue, innermost, operands};
 
-fn predefined_value(
+/// The values of a name of the language that stands for a relation. Errors: want of memory.
+pub fn predefined_value(
     alloc: Global,
     space: &Space,
     name: Predefined,

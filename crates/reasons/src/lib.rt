@@ -2,10 +2,12 @@
 #![tactic(auto)]
 
 mod answer;
+mod boxes;
 mod checks;
 mod drawing;
 mod instructions;
 mod labels;
+mod lines;
 mod telling;
 
 pub use answer::why;

@@ -1,0 +1,226 @@
+-- Which executions of a test are drawn under a model, and how: `draw` cites `IsDrawn`. Read first specs/Checked, and Drawn and
+-- Texts of execution_graph.
+use Rattle.std.specs.Prelude.{ℕ, ◌≡◌, ◌<◌, ◌≤◌, ◌+◌, ◌↔◌, Option, Some, None, MatchOption, vec_len}
+use Rattle.std.specs.Prelude.{Bool, true, false, ◌&&◌, not}
+use Rattle.std.specs.Prelude.{List, [], ◌∷◌, ◌++◌, map, length, slice_get, codes, decimal}
+use Rattle.std.specs.Option.{is_none}
+use Rattle.std.specs.List.{All, AllPairs, AllZip, Contains, flat_map}
+use Rattle.binding_graph.specs.declared.resolved.ResolvedItem.{ResolvedItem}
+use Rattle.binding_graph.specs.declared.resolved.Source.TheVariants as sources
+use Rattle.binding_kinds.specs.declared.fault.ModelFault.{ModelFault}
+use Rattle.binding_kinds.specs.Numbers as model_faults
+use Rattle.candidates.specs.declared.candidate.Space.{Space}
+use Rattle.candidates.specs.declared.fault.EvalRefusal.{EvalRefusal}
+use Rattle.candidates.specs.Listed.{ListsExecutions, IsRefusal}
+use Rattle.candidates.specs.Faults as refusals
+use Rattle.candidates.specs.Space.{Candidate, candidate_count, candidates_in, shown_of}
+use Rattle.cat_eval.specs.Executions.{events_of, PairsAt}
+use Rattle.cat_printing.specs.Printing.{printed_item}
+use Rattle.cat_values.specs.declared.model.Item.{Item}
+use Rattle.cat_values.specs.declared.model.ModelText.{ModelText}
+use Rattle.cat_values.specs.declared.predefined.Predefined.{Predefined}
+use Rattle.cat_values.specs.declared.predefined.Predefined.TheVariants as names
+use Rattle.cat_values.specs.PredefinedNames.{spelling}
+use Rattle.cat_values.specs.Values.{clause_of}
+use Rattle.execution_graph.specs.declared.drawing.Cluster.{Cluster}
+use Rattle.execution_graph.specs.declared.drawing.Drawing.{Drawing}
+use Rattle.execution_graph.specs.declared.drawing.Edges.{Edges}
+use Rattle.execution_graph.specs.declared.drawing.Ink.{Ink}
+use Rattle.execution_graph.specs.declared.drawing.Ink.TheVariants as inks
+use Rattle.execution_graph.specs.Drawn.{AreEdges, DrawnAmong, IsDrawnEvent}
+use Rattle.execution_graph.specs.Texts.{drawing_text}
+use Rattle.litmus_values.specs.declared.test.Test.{Test}
+use Rattle.litmus_values.specs.Value.{formula_of}
+use Rattle.memo_graph.specs.declared.cell.ItemAnswers.{ItemAnswers}
+use Rattle.memo_graph.specs.FromScratch.{AreItemsOf, IsFaultOf, IsFaultless}
+use Rattle.memo_graph.specs.Known.{HasAllColumns}
+use Rattle.reason_text.specs.declared.event.ToldEvent.{ToldEvent}
+use Rattle.reason_text.specs.declared.reason.ToldStep.{ToldStep}
+use Rattle.run_combinations.specs.declared.combination.Event.{Event}
+use Rattle.verdict.specs.Evaluated.{is_satisfied}
+use Rattle.reasons.specs.declared.checks.CheckValues.{CheckValues}
+use Rattle.reasons.specs.declared.checks.FirstRefusal.{FirstRefusal}
+use Rattle.reasons.specs.declared.drawing.Wanted.{Wanted}
+use Rattle.reasons.specs.declared.drawing.Wanted.TheVariants as wanteds
+use Rattle.reasons.specs.Checked.{AcceptBelow, IsChecked, IsFirstRefusal, check_indexes, items_of}
+
+-- a test, its space, the items of a model as they stand in its text, and its checks
+pub record Subject : Type 0 where
+  pub test : Test
+  pub space : Space
+  pub items : List Item
+  pub checks : List CheckValues
+
+abbrev pub subject : Test → Space → ModelText → List CheckValues → Subject
+subject test space model checks = record { test = test; space = space; items = model.items.items; checks = checks }
+
+-- ---- the boxes of a graph: events
+
+abbrev pub HasThread : List Event → Option ℕ → ℕ → Type 0
+HasThread events thread n = (e : Event) × (slice_get events n ≡ Some e) × (e.thread ≡ thread)
+
+-- a drawn event of this thread; without a thread, a drawn initial store
+abbrev pub IsBoxed : List Event → (ℕ → Type 0) → Option ℕ → ℕ → Type 0
+IsBoxed events IsDrawn thread n = HasThread events thread n × IsDrawn n
+
+abbrev pub IsBox : List Event → ToldEvent → Type 0
+IsBox events box = slice_get events box.number ≡ Some box.event
+
+abbrev pub numbers_of : List ToldEvent → List ℕ
+numbers_of boxes = map (λ b. b.number) boxes
+
+-- the boxes are just those of these events, in their order
+pub record AreBoxes (events : List Event) (P : ℕ → Type 0) (boxes : List ToldEvent) : Type 0 where
+  pub rising : AllPairs (λ m n. m < n) (numbers_of boxes)
+  pub each : All (IsBox events) boxes
+  pub exact : (n : ℕ) → Contains (numbers_of boxes) n ↔ P n
+
+abbrev pub AreBoxesOf : List Event → (ℕ → Type 0) → Option ℕ → List ToldEvent → Type 0
+AreBoxesOf events IsDrawn thread boxes = AreBoxes events (IsBoxed events IsDrawn thread) boxes
+
+-- the drawn events of a thread, in program order
+pub record IsCluster (events : List Event) (IsDrawn : ℕ → Type 0) (thread : ℕ) (c : Cluster) : Type 0 where
+  pub number : c.thread ≡ thread
+  pub boxes : AreBoxesOf events IsDrawn (Some thread) c.events.items
+
+-- one for each of so many threads
+pub record AreClusters (events : List Event) (IsDrawn : ℕ → Type 0) (threads : ℕ) (clusters : List Cluster) : Type 0 where
+  pub count : length clusters ≡ threads
+  pub each : (t : ℕ) (c : Cluster) → slice_get clusters t ≡ Some c → IsCluster events IsDrawn t c
+
+-- ---- the lines of a graph: pairs of relations
+
+-- the relations that are drawn, and how
+abbrev pub relations : List (Predefined × Ink)
+relations =
+    (names.ProgramOrder, inks.Order)
+    ∷ (names.ReadsFrom, inks.ReadsFrom) ∷ (names.Coherence, inks.Coherence) ∷ (names.FromReads, inks.FromReads)
+    ∷ (names.AddressDependency, inks.Dependency) ∷ (names.DataDependency, inks.Dependency)
+    ∷ (names.ControlDependency, inks.Dependency)
+    ∷ (names.SyncOrder, inks.Fence) ∷ (names.LwsyncOrder, inks.Fence)
+    ∷ (names.EieioOrder, inks.Fence) ∷ (names.IsyncOrder, inks.Fence)
+    ∷ []
+
+-- the candidate of that number
+abbrev pub IsAt : Space → ℕ → Candidate → Type 0
+IsAt space k one = slice_get (candidates_in space.combinations.items) k ≡ Some one
+
+-- the pairs of a name of the language in a candidate
+abbrev pub PairsOf : Candidate → Predefined → ℕ → ℕ → Type 0
+PairsOf one name = PairsAt (events_of one) one [] 0 (sources.Predefined name)
+
+-- the edges of one of them between the drawn events
+pub record AreLines (one : Candidate) (IsDrawn : ℕ → Type 0) (relation : Predefined × Ink) (e : Edges) : Type 0 where
+  pub name : e.name.items ≡ spelling relation.0
+  pub ink : e.ink ≡ relation.1
+  pub pairs : AreEdges (DrawnAmong IsDrawn (PairsOf one relation.0)) e.pairs.items
+
+-- ---- the title
+
+-- no check refuses the candidate, or this is the first that does
+abbrev pub IsJudged : List CheckValues → ℕ → Option FirstRefusal → Type 0
+IsJudged checks k found = MatchOption found (AcceptBelow checks k (length checks)) (IsFirstRefusal checks k)
+
+-- the check that refuses, as the model writes it
+abbrev pub IsCheckText : List CheckValues → List Item → FirstRefusal → List ℕ → Type 0
+IsCheckText checks items first text =
+    (c : CheckValues) × (slice_get checks first.index ≡ Some c)
+    × (item : Item) × (slice_get items c.item ≡ Some item) × (text ≡ printed_item (clause_of item))
+
+-- what comes of the candidate
+abbrev pub IsFate : List CheckValues → List Item → Option FirstRefusal → List ℕ → Type 0
+IsFate checks items None fate = fate ≡ codes ": kept"
+IsFate checks items (Some first) fate =
+    (check : List ℕ) × IsCheckText checks items first check × (fate ≡ codes ": forbidden by " ++ check)
+
+-- the name of the test and the number of the candidate before it
+unfoldable pub title_text : List ℕ → ℕ → List ℕ → List ℕ
+title_text name k fate = name ++ codes ", execution " ++ decimal k ++ fate
+
+-- ---- the graph of an execution
+
+-- a kept execution has no steps of a reason
+abbrev pub AreSteps : Option FirstRefusal → Option ℕ → List ToldStep → Type 0
+AreSteps None first steps = (first ≡ None) × (steps ≡ [])
+AreSteps (Some refusal) first steps = Unit {0}
+
+abbrev pub IsDrawnIn : Candidate → ℕ → Type 0
+IsDrawnIn one = IsDrawnEvent one.0.events.items one.1.0
+
+-- the candidate of number k, with its events and its pairs, and the steps of the reason
+pub record IsGraph (s : Subject) (k : ℕ) (one : Candidate) (found : Option FirstRefusal) (d : Drawing) : Type 0 where
+  pub fate : List ℕ
+  pub told : IsFate s.checks s.items found fate
+  pub title : d.title.items ≡ title_text s.test.name k fate
+  pub initial : AreBoxesOf one.0.events.items (IsDrawnIn one) None d.initial.items
+  pub clusters : AreClusters one.0.events.items (IsDrawnIn one) (vec_len s.test.threads) d.clusters.items
+  pub edges : AllZip (AreLines one (IsDrawnIn one)) relations d.edges.items
+  pub steps : AreSteps found d.first d.steps.items
+
+-- ---- which executions
+
+-- by whether it has what the test asks for, and whether the model keeps it
+abbrev pub is_wanted : Wanted → Bool → Bool → Bool
+is_wanted wanteds.Shown satisfied kept = satisfied && kept
+is_wanted wanteds.Forbidden satisfied kept = satisfied && not kept
+is_wanted wanteds.All satisfied kept = true
+
+abbrev pub has_asked : Subject → Candidate → Bool
+has_asked s one =
+    is_satisfied s.space.locations.items (formula_of s.test.condition.proposition) (shown_of s.space.registers.items one)
+
+-- the candidate of number k, what comes of it, and whether it is asked for
+pub record IsFound (wanted : Wanted) (s : Subject) (k : ℕ) (one : Candidate) (found : Option FirstRefusal) (answer : Bool) : Type 0 where
+  pub is : IsAt s.space k one
+  pub judged : IsJudged s.checks k found
+  pub asked : is_wanted wanted (has_asked s one) (is_none found) ≡ answer
+
+-- of the candidates before a number, the drawings of those that are asked for, until there are so many
+pub data AreDrawings (wanted : Wanted) (most : ℕ) (s : Subject) : ℕ → List Drawing → Type 0 where
+  NoDrawing : AreDrawings wanted most s 0 []
+  OneDrawn : (k : ℕ) (ds : List Drawing) (one : Candidate) (found : Option FirstRefusal) (d : Drawing)
+      → AreDrawings wanted most s k ds → length ds < most → IsFound wanted s k one found true → IsGraph s k one found d
+      → AreDrawings wanted most s (k + 1) (ds ++ d ∷ [])
+  OneLeft : (k : ℕ) (ds : List Drawing) (one : Candidate) (found : Option FirstRefusal)
+      → AreDrawings wanted most s k ds → IsFound wanted s k one found false → AreDrawings wanted most s (k + 1) ds
+  OneTooMany : (k : ℕ) (ds : List Drawing)
+      → AreDrawings wanted most s k ds → most ≤ length ds → AreDrawings wanted most s (k + 1) ds
+
+-- ---- the whole
+
+-- the texts of the drawings, one after another
+abbrev pub drawings_text : Space → List Drawing → List ℕ
+drawings_text space ds = flat_map (drawing_text space.locations.items (length space.locations.items)) ds
+
+-- the text of the drawings of the candidates before a number
+abbrev pub AreDrawingsOf : Wanted → ℕ → Subject → ℕ → List ℕ → Type 0
+AreDrawingsOf wanted most s n text = (ds : List Drawing) × AreDrawings wanted most s n ds × (text ≡ drawings_text s.space ds)
+
+-- these are the checks of the resolved items, with the values of their expressions in the candidates of the space
+pub record AreChecks (resolved : List ResolvedItem) (s : Subject) : Type 0 where
+  pub answers : ItemAnswers
+  pub valued : HasAllColumns s.space resolved answers
+  pub each : All (IsChecked s.space answers.columns.items resolved) s.checks
+  pub all : items_of s.checks ≡ check_indexes 0 resolved
+
+-- the drawings of a test over its space, of all candidates, by the checks of a model without fault
+pub record AreDrawn (wanted : Wanted) (most : ℕ) (test : Test) (model : ModelText) (text : List ℕ) : Type 0 where
+  pub resolved : List ResolvedItem
+  pub resolves : AreItemsOf model resolved
+  pub space : Space
+  pub lists : ListsExecutions test space
+  pub checks : List CheckValues
+  pub checked : AreChecks resolved (subject test space model checks)
+  pub drawn : AreDrawingsOf wanted most (subject test space model checks) (candidate_count space) text
+
+-- a comment of `dot`
+unfoldable pub refused_comment : List ℕ → ℕ → List ℕ
+refused_comment letter number = codes "// Refused " ++ letter ++ decimal number ++ codes "\n"
+
+-- what is drawn of a test under a model: of a model with a fault, and of a test that is refused, a comment tells its number
+pub data IsDrawn (wanted : Wanted) (most : ℕ) (test : Test) (model : ModelText) (text : List ℕ) : Type 0 where
+  HasFault : (fault : ModelFault) → IsFaultOf model fault
+      → text ≡ refused_comment (codes "M") (model_faults.number fault) → IsDrawn wanted most test model text
+  HasNoSpace : IsFaultless model → (refusal : EvalRefusal) → IsRefusal test refusal
+      → text ≡ refused_comment (codes "E") (refusals.number refusal) → IsDrawn wanted most test model text
+  HasGraphs : IsFaultless model → AreDrawn wanted most test model text → IsDrawn wanted most test model text
