@@ -531,7 +531,7 @@ fn draw_command<'a>(alloc: Global) -> Result<Command<'a>, AllocError> {
         .action(ArgAction::Set);
     Command::new(alloc, "draw")
         .about(
-            "Drawings of executions for dot: those kept that have what the test asks for (--shown), those forbidden (--forbidden), or all kept (--all)",
+            "Drawings of executions for dot: those kept that have what the test asks for (--shown), those forbidden (--forbidden), or all (--all)",
         )
         .arg(model)?
         .arg(test)?

@@ -139,7 +139,7 @@ title_text name k fate = name ++ codes ", execution " ++ decimal k ++ fate
 
 -- ---- the graph of an execution
 
--- a kept execution has no steps of a reason
+-- a kept execution has no steps of a reason; which steps a forbidden one has is not said here
 abbrev pub AreSteps : Option FirstRefusal → Option ℕ → List ToldStep → Type 0
 AreSteps None first steps = (first ≡ None) × (steps ≡ [])
 AreSteps (Some refusal) first steps = Unit {0}
