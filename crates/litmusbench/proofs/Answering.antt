@@ -28,7 +28,6 @@ use Rattle.litmusbench.specs.declared.fault.SessionFault.{SessionFault}
 use Rattle.litmusbench.specs.declared.fault.SessionFault.TheVariants as faults
 use Rattle.litmusbench.specs.declared.stream.Answer.{Answer}
 use Rattle.memo_graph.specs.FromScratch.{IsFromScratch}
-use Rattle.litmusbench.specs.Reasoned.{IsReasoned}
 use Rattle.litmusbench.specs.Whys.{IsWhyAnswer}
 use Rattle.reasons.specs.declared.answer.Asked.{Asked}
 use Rattle.litmusbench.specs.Answer.{IsLogOf, IsModel, IsModelRefused, IsTestRefused, IsAnswer, RefusesModel, RefusesTest, IsRefusal, IsWritten, IsStreamed}
@@ -74,10 +73,6 @@ refuses_test (Ok a) model test rule number offset is_model refused e h =
 refuses_test (Err f) model test rule number offset is_model refused e h = tt
 
 -- a line of a refused text is what `draw` answers, and what `why` answers
-pub reasoned : (r : Result Answer AllocError) (model test line : List ℕ) → IfOk r (λ a. IsAnswer model test a.text.items a.is_refused) → IfOk r (λ a. (a.text.items ≡ line) × (a.is_refused ≡ true)) → IfOk r (λ a. IsReasoned model test a.text.items a.is_refused)
-reasoned (Ok a) model test line h e = subst (λ (b : Bool). IsReasoned model test a.text.items b) (sym e.1) (subst (λ (b : Bool). IsAnswer model test a.text.items b) e.1 h)
-reasoned (Err f) model test line h e = tt
-
 pub explained : (r : Result Answer AllocError) (asked : Asked) (model test line : List ℕ) → IfOk r (λ a. IsAnswer model test a.text.items a.is_refused)
     → IfOk r (λ a. (a.text.items ≡ line) × (a.is_refused ≡ true)) → IfOk r (λ a. IsWhyAnswer asked model test a.text.items a.is_refused)
 explained (Ok a) asked model test line h e =

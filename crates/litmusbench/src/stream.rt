@@ -3,7 +3,6 @@
 ghost use Rattle.std.specs.Prelude.{◌≡◌, ◌≢◌, ◌+◌, ◌-◌, ◌<◌, ◌^◌, true, IfOk, IfSome, take};
 ghost use Rattle.litmusbench.specs.Answer.{IsAnswer, IsReadFault, IsWritten, IsStreamed};
 ghost use Rattle.litmusbench.specs.Pictures.{IsPictureAnswer, IsPictureWritten};
-ghost use Rattle.litmusbench.specs.Reasoned.{IsReasoned, IsReasonWritten};
 ghost use Rattle.litmusbench.specs.Whys.{IsWhyAnswer, IsWhyWritten};
 ghost use Rattle.session_edits.specs.Answer.{refused_line};
 

@@ -9,7 +9,6 @@ ghost use Rattle.litmus_values.specs.Value.{content_of};
 ghost use Rattle.litmusbench.specs.Pictures as pictures;
 ghost use Rattle.litmusbench.specs.Pictures.{IsPictureOf};
 ghost use Rattle.litmusbench.specs.Answer.{IsLogOf, IsLog, IsRefusal, IsOfModel, IsOfTest};
-ghost use Rattle.litmusbench.specs.Reasoned.{AreRead};
 ghost use Rattle.litmusbench.specs.Whys.{IsWhyOf};
 
 use crate::fault::EvalFault;
