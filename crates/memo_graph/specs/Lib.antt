@@ -3,3 +3,4 @@ pub mod Known
 pub mod Cell
 pub mod FromScratch
 pub mod Laws
+pub mod Suites

@@ -13,8 +13,9 @@ ghost use Rattle.memo_graph.specs.Known.{column_of, AreFound, IsAnswered, Column
 ghost use Rattle.memo_graph.specs.FromScratch.{IsFromScratch};
 ghost use Rattle.memo_graph.specs.Cell.{IsSaid, IsCell, IsEvaluationBy, IsEvaluationOver, OfModel};
 
+use crate::suite::{over_space, space_for};
 use binding_graph::{CheckCode, Input, ResolveFault, Resolved, ResolvedItem, Role, resolve, used};
-use candidates::{Space, SpaceFault, space};
+use candidates::Space;
 use cat_eval::{Column, Evaluator};
 use cat_values::ModelText;
 use litmus_printing::print_condition;
@@ -234,7 +235,7 @@ fn lent<'c>(alloc: Global, checks: &'c [Vec<bool>]) -> Result<Vec<&'c [bool]>, A
     Ok(lent)
 }
 
-fn evaluated(
+pub(crate) fn evaluated(
     alloc: Global,
     test: &Test,
     resolved: &Resolved,
@@ -256,7 +257,7 @@ fn evaluated(
     )
 }
 
-fn refused(alloc: Global, test: &Test, refusal: Refusal) -> Result<Outcome, AllocError>
+pub(crate) fn refused(alloc: Global, test: &Test, refusal: Refusal) -> Result<Outcome, AllocError>
     ensures kind { IfOk result (λ o. o.kind ≡ test.now.condition.quantifier) }
     ensures text { IfOk result (λ o. o.condition ≡ condition_text test.now.condition.quantifier (formula_of test.now.condition.proposition)) }
     ensures refusal { IfOk result (λ o. o.result ≡ OutcomeResult.Refused refusal) }
@@ -272,11 +273,8 @@ fn over_candidates(alloc: Global, test: &Test, resolved: &Resolved) -> Result<Ou
     ensures cell { IfOk result (λ o. IsCell test.now o) }
     ensures model { IfOk result (λ o. OfModel (λ _. ⊥) (Unit {0}) (λ e. AreSound resolved.now.items.items → IsEvaluationOver resolved.now.items.items test.now e) o.result) }
 {
-    match space(alloc, test) {
-        Ok(space) => evaluated(alloc, test, resolved, &space),
-        Err(SpaceFault::Refused(refusal)) => refused(alloc, test, Refusal::Space(refusal)),
-        Err(SpaceFault::OutOfMemory(e)) => Err(e),
-    }
+    let space = space_for(alloc, test)?;
+    over_space(alloc, test, resolved, &space)
 }
 
 /// What the test says under the model: a fault of the model first, then a refusal of the test, and

@@ -9,4 +9,5 @@ mod question;
 mod rows;
 
 pub use answer::answer_command;
+pub use outcomes::test_outcomes;
 pub use rows::{TestOutcomes, test_pairs, test_rows};

@@ -1,16 +1,20 @@
-//! The outcomes of tests under models, each evaluated from nothing.
+//! The outcomes of tests under models, each as if it were evaluated from nothing.
 
-ghost use Rattle.std.specs.Prelude.{IfOk, map};
+ghost use denote.Ref.{Bor};
+ghost use Rattle.std.specs.Prelude.{◌≡◌, List, IfOk, map};
 ghost use Rattle.std.specs.List.{AllZip};
 ghost use Rattle.litmus_values.specs.Value.{content_of};
 ghost use Rattle.bench_texts.specs.Held.{model_of};
+ghost use Rattle.memo_graph.specs.Suites.{AreResolvedAs};
 ghost use Rattle.session_answers.specs.Cells.{IsOutcome, IsRow};
-ghost use Rattle.session_answers.specs.Rows.{row_said};
+ghost use Rattle.session_answers.specs.Rows.{HasOutcomes, row_said};
 
 use crate::rows::TestOutcomes;
 use bench_texts::NamedModel;
+use binding_graph::{ModelFault, Resolved};
+use cat_values::ModelText;
 use litmus_values::Test;
-use memo_graph::eval_cell;
+use memo_graph::{eval_cell, eval_row, resolved_models};
 use std::alloc::{AllocError, Global};
 use verdict::Outcome;
 
@@ -24,16 +28,44 @@ pub fn outcome_of(alloc: Global, test: &Test, model: &NamedModel) -> Result<Outc
 fn outcomes_of(
     alloc: Global,
     test: &Test,
-    models: &[&NamedModel],
+    models: &[Result<Resolved, ModelFault>],
 ) -> Result<TestOutcomes, AllocError>
-    ensures { IfOk result (λ r. IsRow (map (λ m. model_of m.now) models.now) (content_of test.now) (row_said r)) }
+    ensures { (texts : List (Bor ModelText)) → AreResolvedAs texts models.now → IfOk result (HasOutcomes texts test.now) }
 {
-    let name = test.name.copied(alloc)?;
-    let mut outcomes = Vec::with_capacity(alloc, models.len())?;
-    for model in models {
-        outcomes.push(outcome_of(alloc, test, *model)?)?;
+    Ok(TestOutcomes {
+        name: test.name.copied(alloc)?,
+        outcomes: eval_row(alloc, test, models)?,
+    })
+}
+
+/// The outcomes of each test under the models, each of which is resolved once; the candidates of a test are made once.
+/// Errors: out of memory.
+pub fn test_outcomes(
+    alloc: Global,
+    tests: &[Test],
+    models: &[&ModelText],
+) -> Result<Vec<TestOutcomes>, AllocError>
+    ensures { IfOk result (λ v. AllZip (HasOutcomes models.now) tests.now v.items) }
+{
+    let resolved = resolved_models(alloc, models)?;
+    let mut rows = Vec::with_capacity(alloc, tests.len())?;
+    for test in tests {
+        rows.push(outcomes_of(alloc, test, &resolved)?)?;
     }
-    Ok(TestOutcomes { name, outcomes })
+    Ok(rows)
+}
+
+fn model_texts<'m>(
+    alloc: Global,
+    models: &[&'m NamedModel],
+) -> Result<Vec<&'m ModelText>, AllocError>
+    ensures { IfOk result (λ v. map (λ t. t.now) v.items ≡ map (λ m. m.now.text) models.now) }
+{
+    let mut texts = Vec::with_capacity(alloc, models.len())?;
+    for model in models {
+        texts.push(model.text())?;
+    }
+    Ok(texts)
 }
 
 /// The outcomes of each test under the models. Errors: out of memory.
@@ -44,9 +76,6 @@ pub fn all_outcomes(
 ) -> Result<Vec<TestOutcomes>, AllocError>
     ensures { IfOk result (λ v. AllZip (IsRow (map (λ m. model_of m.now) models.now)) (map content_of tests.now) (map row_said v.items)) }
 {
-    let mut rows = Vec::with_capacity(alloc, tests.len())?;
-    for test in tests {
-        rows.push(outcomes_of(alloc, test, models)?)?;
-    }
-    Ok(rows)
+    let texts = model_texts(alloc, models)?;
+    test_outcomes(alloc, tests, &texts)
 }

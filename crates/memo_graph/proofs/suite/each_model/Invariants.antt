@@ -1,0 +1,7 @@
+use Rattle.std.proofs.Common.{List, Bor, take}
+use Rattle.cat_values.specs.declared.model.ModelText.{ModelText}
+use Rattle.memo_graph.specs.Suites.{AreOutcomes, AreResolvedAs}
+use Rattle.memo_graph.proofs.suite.each_model.Given as goal
+
+abbrev pub invariant-loop-model : goal.invariant-loop-model
+invariant-loop-model l = (texts : List (Bor ModelText)) → AreResolvedAs texts l.models → AreOutcomes (take l.model-index texts) l.test l.outcomes.items
