@@ -1,6 +1,6 @@
 -- The boxes of a drawing, as they are listed.
 use Rattle.std.proofs.Common.{ℕ, ◌≡◌, ◌<◌, ◌⊎◌, ◌+◌, ◌↔◌, ◌∙◌, inl, inr, List, [], ◌∷◌, ◌++◌, length, get_or, refl, sym, ap, subst, arith}
-use Rattle.std.specs.Prelude.{Bool, IsTrue, Some, Option, slice_get}
+use Rattle.std.specs.Prelude.{Bool, IsTrue, None, Some, Option, slice_get, slice_index_or}
 use Rattle.std.specs.List.{All, AllPairs, Contains}
 use Rattle.std.proofs.lemmas.Bool.{cases_eq}
 use Rattle.std.proofs.lemmas.List.{length-append, map-append}
@@ -12,27 +12,32 @@ use Rattle.execution_graph.specs.declared.drawing.Cluster.{Cluster}
 use Rattle.reason_text.specs.declared.event.ToldEvent.{ToldEvent}
 use Rattle.run_combinations.specs.declared.combination.Event.{Event}
 use Rattle.reasons.specs.Drawings.{AreBoxes, AreClusters, HasThread, IsBox, IsBoxed, IsCluster, numbers_of}
+use Rattle.reasons.specs.Told.{Scene}
 
 -- the boxes of the events below a number
-pub record BoxesBelow (events : List Event) (P : ℕ → Type 0) (i : ℕ) (boxes : List ToldEvent) : Type 0 where
+pub record BoxesBelow (scene : Scene) (P : ℕ → Type 0) (i : ℕ) (boxes : List ToldEvent) : Type 0 where
   pub rising : AllPairs (λ m n. m < n) (numbers_of boxes)
-  pub each : All (IsBox events) boxes
+  pub each : All (IsBox scene) boxes
   pub exact : (n : ℕ) → Contains (numbers_of boxes) n ↔ ((n < i) × P n)
 
 none_in : (n : ℕ) → Contains (let ns : List ℕ = [] in ns) n → ⊥
 none_in n here = let (k, lt, same) = here in absurd (omega (arith, lt))
 
-pub none_boxed : (events : List Event) (P : ℕ → Type 0) → BoxesBelow events P 0 []
-none_boxed events P = record {
+pub none_boxed : (scene : Scene) (P : ℕ → Type 0) → BoxesBelow scene P 0 []
+none_boxed scene P = record {
   rising = λ i j d lt inside. absurd (omega (arith, inside));
   each = λ k d lt. absurd (omega (arith, lt));
   exact = λ n. ((λ here. absurd (none_in n here)), (λ x. absurd (omega (arith, x.0))));
 }
 
-pub one_boxed : (events : List Event) (P : ℕ → Type 0) (i : ℕ) (boxes : List ToldEvent) (b : ToldEvent) → P i → b.number ≡ i → slice_get events i ≡ Some b.event → BoxesBelow events P i boxes → BoxesBelow events P (i + 1) (boxes ++ b ∷ [])
-one_boxed events P i boxes b here at is old = record {
+pub one_boxed : (scene : Scene) (P : ℕ → Type 0) (i : ℕ) (boxes : List ToldEvent) (b : ToldEvent) → P i → b.number ≡ i → slice_get scene.events i ≡ Some b.event → b.instruction ≡ slice_index_or scene.instructions i None
+    → BoxesBelow scene P i boxes → BoxesBelow scene P (i + 1) (boxes ++ b ∷ [])
+one_boxed scene P i boxes b here at is by old = record {
   rising = subst (λ (ns : List ℕ). AllPairs (λ m n. m < n) ns) (sym more) (all_pairs_push (λ m n. m < n) (numbers_of boxes) i old.rising below);
-  each = All-push (IsBox events) boxes b old.each (subst (λ (k : ℕ). slice_get events k ≡ Some b.event) (sym at) is);
+  each = All-push (IsBox scene) boxes b old.each record {
+    event = subst (λ (k : ℕ). slice_get scene.events k ≡ Some b.event) (sym at) is;
+    instruction = subst (λ (k : ℕ). b.instruction ≡ slice_index_or scene.instructions k None) (sym at) by;
+  };
   exact = λ n. subst (λ (ns : List ℕ). Contains ns n ↔ ((n < i + 1) × P n)) (sym more) ((λ x. forth n (Contains-push_cases (numbers_of boxes) i n x)), back n);
 }
   where
@@ -52,8 +57,8 @@ one_boxed events P i boxes b here at is old = record {
       | inr ne ↦ Contains-append_left (numbers_of boxes) (i ∷ []) n ((old.exact n).1 (omega (arith, l, ne), p))
     ]
 
-pub one_left : (events : List Event) (P : ℕ → Type 0) (i : ℕ) (boxes : List ToldEvent) → (P i → ⊥) → BoxesBelow events P i boxes → BoxesBelow events P (i + 1) boxes
-one_left events P i boxes none old = record {
+pub one_left : (scene : Scene) (P : ℕ → Type 0) (i : ℕ) (boxes : List ToldEvent) → (P i → ⊥) → BoxesBelow scene P i boxes → BoxesBelow scene P (i + 1) boxes
+one_left scene P i boxes none old = record {
   rising = old.rising;
   each = old.each;
   exact = λ n. ((λ x. let (l, p) = (old.exact n).0 x in (omega (arith, l), p)), back n);
@@ -65,8 +70,8 @@ one_left events P i boxes none old = record {
       | inr ne ↦ (old.exact n).1 (omega (arith, l, ne), p)
     ]
 
-pub all_boxed : (events : List Event) (P : ℕ → Type 0) (i : ℕ) (boxes : List ToldEvent) → ((n : ℕ) → P n → n < i) → BoxesBelow events P i boxes → AreBoxes events P boxes
-all_boxed events P i boxes within old = record {
+pub all_boxed : (scene : Scene) (P : ℕ → Type 0) (i : ℕ) (boxes : List ToldEvent) → ((n : ℕ) → P n → n < i) → BoxesBelow scene P i boxes → AreBoxes scene P boxes
+all_boxed scene P i boxes within old = record {
   rising = old.rising;
   each = old.each;
   exact = λ n. ((λ x. ((old.exact n).0 x).1), (λ p. (old.exact n).1 (within n p, p)));
@@ -82,17 +87,17 @@ boxed_within events D thread n x = let (here, drawn) = x in let (e, is, own) = h
 
 -- ---- clusters
 
-pub no_cluster : (events : List Event) (D : ℕ → Type 0) → AreClusters events D 0 []
-no_cluster events D = record {
+pub no_cluster : (scene : Scene) (D : ℕ → Type 0) → AreClusters scene D 0 []
+no_cluster scene D = record {
   count = refl;
   each = λ t c is. let lt : t < 0 = slice_get_within [] t c is in absurd (omega (arith, lt));
 }
 
-pub cluster_more : (events : List Event) (D : ℕ → Type 0) (i : ℕ) (cs : List Cluster) (c : Cluster) → IsCluster events D i c → AreClusters events D i cs → AreClusters events D (i + 1) (cs ++ c ∷ [])
-cluster_more events D i cs c here old = record {
+pub cluster_more : (scene : Scene) (D : ℕ → Type 0) (i : ℕ) (cs : List Cluster) (c : Cluster) → IsCluster scene D i c → AreClusters scene D i cs → AreClusters scene D (i + 1) (cs ++ c ∷ [])
+cluster_more scene D i cs c here old = record {
   count = length-append cs (c ∷ []) ∙ ap (λ (k : ℕ). k + 1) old.count;
   each = λ t x is. elim (get_more cs c x t is) [
     | inl sooner ↦ old.each t x sooner
-    | inr last ↦ subst (λ (y : Cluster). IsCluster events D t y) last.1 (subst (λ (k : ℕ). IsCluster events D k c) (sym old.count ∙ sym last.0) here)
+    | inr last ↦ subst (λ (y : Cluster). IsCluster scene D t y) last.1 (subst (λ (k : ℕ). IsCluster scene D k c) (sym old.count ∙ sym last.0) here)
   ];
 }

@@ -34,7 +34,8 @@ use Rattle.reasons.specs.declared.checks.FirstRefusal.{FirstRefusal}
 use Rattle.reasons.specs.declared.drawing.Wanted.{Wanted}
 use Rattle.reasons.specs.Checked.{IsChecked}
 use Rattle.reasons.specs.Drawable.{AddsDrawing}
-use Rattle.reasons.specs.Drawings.{AreBoxes, AreClusters, AreDrawings, IsAt, IsBoxed, OneDrawn, OneLeft, OneTooMany, Subject, drawings_text, has_asked, is_wanted}
+use Rattle.reasons.specs.Drawings.{AreBoxesOf, AreClusters, AreDrawings, IsAt, OneDrawn, OneLeft, OneTooMany, Subject, drawings_text, has_asked, is_wanted}
+use Rattle.reasons.specs.Told.{Scene}
 
 -- ---- one execution
 
@@ -75,31 +76,19 @@ pub none_is : (b : Bool) (found : Option FirstRefusal) → is_some found ≡ not
 none_is true found e = sym (ap not e)
 none_is false found e = sym (ap not e)
 
-boxed_as : (events : List Event) (S T : ℕ → Type 0) (thread : Option ℕ) → ((a : ℕ) → S a ↔ T a) → (boxes : List ToldEvent) → AreBoxes events (IsBoxed events S thread) boxes → AreBoxes events (IsBoxed events T thread) boxes
-boxed_as events S T thread same boxes old = record {
+-- the boxes are those of the same events
+pub boxed_as : (scene : Scene) (S T : ℕ → Type 0) (thread : Option ℕ) → ((a : ℕ) → S a ↔ T a) → (boxes : List ToldEvent) → AreBoxesOf scene S thread boxes → AreBoxesOf scene T thread boxes
+boxed_as scene S T thread same boxes old = record {
   rising = old.rising;
   each = old.each;
   exact = λ n. ((λ x. let (own, s) = (old.exact n).0 x in (own, (same n).0 s)), (λ x. let (own, t) = x in (old.exact n).1 (own, (same n).1 t)));
 }
 
-clusters_as : (events : List Event) (S T : ℕ → Type 0) (threads : ℕ) → ((a : ℕ) → S a ↔ T a) → (clusters : List Cluster) → AreClusters events S threads clusters → AreClusters events T threads clusters
-clusters_as events S T threads same clusters old = record {
+pub clusters_as : (scene : Scene) (S T : ℕ → Type 0) (threads : ℕ) → ((a : ℕ) → S a ↔ T a) → (clusters : List Cluster) → AreClusters scene S threads clusters → AreClusters scene T threads clusters
+clusters_as scene S T threads same clusters old = record {
   count = old.count;
-  each = λ t c is. let one = old.each t c is in record { number = one.number; boxes = boxed_as events S T (Some t) same c.events.items one.boxes };
+  each = λ t c is. let one = old.each t c is in record { number = one.number; boxes = boxed_as scene S T (Some t) same c.events.items one.boxes };
 }
-
--- the boxes of the events that are drawn of a candidate
-pub boxes_of : (events : List Event) (sources : List ℕ) (one : Candidate) (drawn : Events) (boxes : List ToldEvent) → events ≡ one.0.events.items → sources ≡ one.1.0 → IsEvents drawn (length events) (IsDrawnEvent events sources) → (thread : Option ℕ)
-    → AreBoxes events (IsBoxed events (IsMember drawn) thread) boxes → AreBoxes one.0.events.items (IsBoxed one.0.events.items (IsDrawnEvent one.0.events.items one.1.0) thread) boxes
-boxes_of events sources one drawn boxes es ss are thread old =
-    subst (λ (xs : List ℕ). AreBoxes one.0.events.items (IsBoxed one.0.events.items (IsDrawnEvent one.0.events.items xs) thread) boxes) ss
-    (subst (λ (xs : List Event). AreBoxes xs (IsBoxed xs (IsDrawnEvent xs sources) thread) boxes) es (boxed_as events (IsMember drawn) (IsDrawnEvent events sources) thread are.members boxes old))
-
-pub clusters_of : (events : List Event) (sources : List ℕ) (one : Candidate) (drawn : Events) (clusters : List Cluster) (threads : ℕ) → events ≡ one.0.events.items → sources ≡ one.1.0 → IsEvents drawn (length events) (IsDrawnEvent events sources)
-    → AreClusters events (IsMember drawn) threads clusters → AreClusters one.0.events.items (IsDrawnEvent one.0.events.items one.1.0) threads clusters
-clusters_of events sources one drawn clusters threads es ss are old =
-    subst (λ (xs : List ℕ). AreClusters one.0.events.items (IsDrawnEvent one.0.events.items xs) threads clusters) ss
-    (subst (λ (xs : List Event). AreClusters xs (IsDrawnEvent xs sources) threads clusters) es (clusters_as events (IsMember drawn) (IsDrawnEvent events sources) threads are.members clusters old))
 
 -- the members of the set are the events that are drawn of the candidate
 pub drawn_in : (events : List Event) (sources : List ℕ) (one : Candidate) (drawn : Events) → events ≡ one.0.events.items → sources ≡ one.1.0 → IsEvents drawn (length events) (IsDrawnEvent events sources) → (a : ℕ) → IsMember drawn a ↔ IsDrawnEvent one.0.events.items one.1.0 a

@@ -17,10 +17,12 @@ use Rattle.cat_values.specs.declared.predefined.Predefined.{Predefined}
 use Rattle.execution_graph.specs.declared.drawing.Edges.{Edges}
 use Rattle.execution_graph.specs.declared.drawing.Ink.{Ink}
 use Rattle.execution_graph.specs.Drawn.{AreEdges, Drawn, DrawnAmong, IsOrder}
+use Rattle.check_witness.specs.Pairs.{HasPair}
+use Rattle.shown_relations.specs.declared.values.ShownValues.{ShownValues}
 use Rattle.step_labels.specs.declared.label.PredefinedValue.{PredefinedValue}
 use Rattle.reasons.specs.declared.lines.DrawnRelation.{DrawnRelation}
 use Rattle.reasons.specs.Drawable.{AreValuesOf}
-use Rattle.reasons.specs.Drawings.{AreLines, IsAt, PairsOf}
+use Rattle.reasons.specs.Drawings.{AreAllLines, AreLines, AreShownLines, IsAt, PairsOf, Subject, relations}
 use Rattle.reasons.specs.Language.{IsOfLanguage}
 
 -- ---- the same pairs are drawn alike
@@ -71,11 +73,33 @@ lines_as one S T events relation e lines = record {
   pairs = edges_as S T (PairsOf one relation.0) (PairsOf one relation.0) events (λ a b. ((λ x. x), (λ x. x))) e.pairs.items lines.pairs;
 }
 
-pub all_lines_as : (one : Candidate) (S T : ℕ → Type 0) → ((a : ℕ) → S a ↔ T a) → (relations : List (Predefined × Ink)) (edges : List Edges) → AllZip (AreLines one S) relations edges → AllZip (AreLines one T) relations edges
+all_lines_as : (one : Candidate) (S T : ℕ → Type 0) → ((a : ℕ) → S a ↔ T a) → (relations : List (Predefined × Ink)) (edges : List Edges) → AllZip (AreLines one S) relations edges → AllZip (AreLines one T) relations edges
 all_lines_as one S T events [] [] lines = lines
 all_lines_as one S T events [] (e ∷ es) lines = lines
 all_lines_as one S T events (r ∷ rs) [] lines = lines
 all_lines_as one S T events (r ∷ rs) (e ∷ es) lines = (lines_as one S T events r e lines.0, all_lines_as one S T events rs es lines.1)
+
+shown_as : (k : ℕ) (S T : ℕ → Type 0) → ((a : ℕ) → S a ↔ T a) → (v : ShownValues) (e : Edges) → AreShownLines k S v e → AreShownLines k T v e
+shown_as k S T events v e lines = record {
+  name = lines.name;
+  ink = lines.ink;
+  pairs = edges_as S T (HasPair v.values k) (HasPair v.values k) events (λ a b. ((λ x. x), (λ x. x))) e.pairs.items lines.pairs;
+}
+
+all_shown_as : (k : ℕ) (S T : ℕ → Type 0) → ((a : ℕ) → S a ↔ T a) → (vs : List ShownValues) (es : List Edges) → AllZip (AreShownLines k S) vs es → AllZip (AreShownLines k T) vs es
+all_shown_as k S T events [] [] lines = lines
+all_shown_as k S T events [] (e ∷ es) lines = lines
+all_shown_as k S T events (v ∷ vs) [] lines = lines
+all_shown_as k S T events (v ∷ vs) (e ∷ es) lines = (shown_as k S T events v e lines.0, all_shown_as k S T events vs es lines.1)
+
+pub edges_as_drawn : (s : Subject) (k : ℕ) (one : Candidate) (S T : ℕ → Type 0) → ((a : ℕ) → S a ↔ T a) → (es : List Edges) → AreAllLines s k one S es → AreAllLines s k one T es
+edges_as_drawn s k one S T events es lines = record {
+  known = lines.known;
+  shown = lines.shown;
+  both = lines.both;
+  of_language = all_lines_as one S T events relations lines.known lines.of_language;
+  of_model = all_shown_as k S T events s.shown lines.shown lines.of_model;
+}
 
 -- ---- lists side by side
 

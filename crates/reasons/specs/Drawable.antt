@@ -9,12 +9,14 @@ use Rattle.execution_graph.specs.declared.drawing.Drawing.{Drawing}
 use Rattle.execution_graph.specs.declared.drawing.Edges.{Edges}
 use Rattle.execution_graph.specs.declared.drawing.Ink.{Ink}
 use Rattle.execution_graph.specs.Texts.{drawing_text}
+use Rattle.shown_relations.specs.Values.{IsSized}
 use Rattle.reasons.specs.declared.checks.FirstRefusal.{FirstRefusal}
 use Rattle.reasons.specs.declared.drawing.Scene.{Scene}
 use Rattle.reasons.specs.declared.drawing.Wanted.{Wanted}
 use Rattle.reasons.specs.declared.lines.DrawnRelation.{DrawnRelation}
-use Rattle.reasons.specs.Drawings.{AreLines, IsAt, IsFound, IsGraph, Subject, relations}
+use Rattle.reasons.specs.Drawings.{AreAllLines, AreLines, IsAt, IsFound, IsGraph, Subject, relations}
 use Rattle.reasons.specs.Language.{IsOfLanguage}
+use Rattle.reasons.specs.Views.{judgement_of}
 
 -- the values of a relation that is drawn
 pub record AreValuesOf (space : Space) (relation : Predefined × Ink) (r : DrawnRelation) : Type 0 where
@@ -24,12 +26,15 @@ pub record AreValuesOf (space : Space) (relation : Predefined × Ink) (r : Drawn
 
 abbrev pub subject_of : Scene → Subject
 subject_of scene =
-    record { test = scene.test.now; space = scene.space.now; items = scene.judged.text.now; checks = scene.judged.checks.now }
+    let model = judgement_of scene.judged false in
+    record { test = scene.test.now; space = scene.space.now; model = model; checks = scene.judged.checks.now; shown = scene.shown.now }
 
--- the checks are among the items of the model's text, and the values are those of the relations
+-- the checks are among the items of the model's text, the values are those of the relations, and those that are shown are of
+-- the events
 pub record AreReady (s : Subject) (values : List DrawnRelation) : Type 0 where
-  pub named : All (λ c. c.item < length s.items) s.checks
+  pub named : All (λ c. c.item < length s.model.text) s.checks
   pub all : AllZip (AreValuesOf s.space) relations values
+  pub sized : All (λ v. IsSized s.space v.values) s.shown
 
 -- the graph of the candidate of that number
 abbrev pub IsGraphAt : Subject → ℕ → Option FirstRefusal → Drawing → Type 0
@@ -54,3 +59,7 @@ AreLinesAt space k IsDrawn relation e = (one : Candidate) → IsAt space k one �
 -- the same of all relations
 abbrev pub AreAllLinesAt : Space → ℕ → (ℕ → Type 0) → List Edges → Type 0
 AreAllLinesAt space k IsDrawn es = (one : Candidate) → IsAt space k one → AllZip (AreLines one IsDrawn) relations es
+
+-- and of those that the model shows
+abbrev pub AreEdgesAt : Subject → ℕ → (ℕ → Type 0) → List Edges → Type 0
+AreEdgesAt s k IsDrawn es = (one : Candidate) → IsAt s.space k one → AreAllLines s k one IsDrawn es

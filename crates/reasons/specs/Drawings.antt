@@ -1,8 +1,8 @@
--- Which executions of a test are drawn under a model, and how: `draw` cites `IsDrawn`. Read first specs/Checked, and Drawn and
--- Texts of execution_graph.
+-- Which executions of a test are drawn under a model, and how: `draw` cites `IsDrawn`. Read first specs/Checked and Told, and
+-- Drawn and Texts of execution_graph.
 use Rattle.std.specs.Prelude.{ℕ, ◌≡◌, ◌<◌, ◌≤◌, ◌+◌, ◌↔◌, Option, Some, None, MatchOption, vec_len}
 use Rattle.std.specs.Prelude.{Bool, true, false, ◌&&◌, not}
-use Rattle.std.specs.Prelude.{List, [], ◌∷◌, ◌++◌, map, length, slice_get, codes, decimal}
+use Rattle.std.specs.Prelude.{List, [], ◌∷◌, ◌++◌, map, length, slice_get, slice_index_or, codes, decimal}
 use Rattle.std.specs.Option.{is_none}
 use Rattle.std.specs.List.{All, AllPairs, AllZip, Contains, flat_map}
 use Rattle.binding_graph.specs.declared.resolved.ResolvedItem.{ResolvedItem}
@@ -20,8 +20,11 @@ use Rattle.cat_values.specs.declared.model.Item.{Item}
 use Rattle.cat_values.specs.declared.model.ModelText.{ModelText}
 use Rattle.cat_values.specs.declared.predefined.Predefined.{Predefined}
 use Rattle.cat_values.specs.declared.predefined.Predefined.TheVariants as names
+use Rattle.cat_values.specs.declared.predefined.TheConstants.{PREDEFINED}
 use Rattle.cat_values.specs.PredefinedNames.{spelling}
 use Rattle.cat_values.specs.Values.{clause_of}
+use Rattle.event_origins.specs.Origins.{AreInstructions}
+use Rattle.check_witness.specs.Pairs.{HasPair}
 use Rattle.execution_graph.specs.declared.drawing.Cluster.{Cluster}
 use Rattle.execution_graph.specs.declared.drawing.Drawing.{Drawing}
 use Rattle.execution_graph.specs.declared.drawing.Edges.{Edges}
@@ -35,24 +38,37 @@ use Rattle.memo_graph.specs.declared.cell.ItemAnswers.{ItemAnswers}
 use Rattle.memo_graph.specs.FromScratch.{AreItemsOf, IsFaultOf, IsFaultless}
 use Rattle.memo_graph.specs.Known.{HasAllColumns}
 use Rattle.reason_text.specs.declared.event.ToldEvent.{ToldEvent}
+use Rattle.reason_text.specs.declared.reason.Reason.{Reason}
 use Rattle.reason_text.specs.declared.reason.ToldStep.{ToldStep}
 use Rattle.run_combinations.specs.declared.combination.Event.{Event}
+use Rattle.shown_relations.specs.declared.values.ShownValues.{ShownValues}
+use Rattle.shown_relations.specs.Values.{AreAllShown}
+use Rattle.step_labels.specs.declared.label.NameValues.{NameValues}
 use Rattle.verdict.specs.Evaluated.{is_satisfied}
 use Rattle.reasons.specs.declared.checks.CheckValues.{CheckValues}
 use Rattle.reasons.specs.declared.checks.FirstRefusal.{FirstRefusal}
 use Rattle.reasons.specs.declared.drawing.Wanted.{Wanted}
 use Rattle.reasons.specs.declared.drawing.Wanted.TheVariants as wanteds
 use Rattle.reasons.specs.Checked.{AcceptBelow, IsChecked, IsFirstRefusal, check_indexes, items_of}
+use Rattle.reasons.specs.Labels.{Judgement}
+use Rattle.reasons.specs.Language.{IsOfLanguage, names_in, relation_names}
+use Rattle.reasons.specs.Outcomes.{IsRefusedFor}
+use Rattle.reasons.specs.Told.{Scene}
 
--- a test, its space, the items of a model as they stand in its text, and its checks
+-- a test, its space, and a model over it, with its checks and the relations that it shows
 pub record Subject : Type 0 where
   pub test : Test
   pub space : Space
-  pub items : List Item
+  pub model : Judgement
   pub checks : List CheckValues
+  pub shown : List ShownValues
 
-abbrev pub subject : Test → Space → ModelText → List CheckValues → Subject
-subject test space model checks = record { test = test; space = space; items = model.items.items; checks = checks }
+-- what carries a step is not told deeper
+abbrev pub judgement : ModelText → List ResolvedItem → NameValues → Judgement
+judgement model resolved values = record { text = model.items.items; items = resolved; values = values; is_deep = false }
+
+abbrev pub subject : Test → Space → Judgement → List CheckValues → List ShownValues → Subject
+subject test space model checks shown = record { test = test; space = space; model = model; checks = checks; shown = shown }
 
 -- ---- the boxes of a graph: events
 
@@ -63,30 +79,32 @@ HasThread events thread n = (e : Event) × (slice_get events n ≡ Some e) × (e
 abbrev pub IsBoxed : List Event → (ℕ → Type 0) → Option ℕ → ℕ → Type 0
 IsBoxed events IsDrawn thread n = HasThread events thread n × IsDrawn n
 
-abbrev pub IsBox : List Event → ToldEvent → Type 0
-IsBox events box = slice_get events box.number ≡ Some box.event
+-- the event of its number, with the instruction that it comes from
+pub record IsBox (scene : Scene) (box : ToldEvent) : Type 0 where
+  pub event : slice_get scene.events box.number ≡ Some box.event
+  pub instruction : box.instruction ≡ slice_index_or scene.instructions box.number None
 
 abbrev pub numbers_of : List ToldEvent → List ℕ
 numbers_of boxes = map (λ b. b.number) boxes
 
 -- the boxes are just those of these events, in their order
-pub record AreBoxes (events : List Event) (P : ℕ → Type 0) (boxes : List ToldEvent) : Type 0 where
+pub record AreBoxes (scene : Scene) (P : ℕ → Type 0) (boxes : List ToldEvent) : Type 0 where
   pub rising : AllPairs (λ m n. m < n) (numbers_of boxes)
-  pub each : All (IsBox events) boxes
+  pub each : All (IsBox scene) boxes
   pub exact : (n : ℕ) → Contains (numbers_of boxes) n ↔ P n
 
-abbrev pub AreBoxesOf : List Event → (ℕ → Type 0) → Option ℕ → List ToldEvent → Type 0
-AreBoxesOf events IsDrawn thread boxes = AreBoxes events (IsBoxed events IsDrawn thread) boxes
+abbrev pub AreBoxesOf : Scene → (ℕ → Type 0) → Option ℕ → List ToldEvent → Type 0
+AreBoxesOf scene IsDrawn thread boxes = AreBoxes scene (IsBoxed scene.events IsDrawn thread) boxes
 
 -- the drawn events of a thread, in program order
-pub record IsCluster (events : List Event) (IsDrawn : ℕ → Type 0) (thread : ℕ) (c : Cluster) : Type 0 where
+pub record IsCluster (scene : Scene) (IsDrawn : ℕ → Type 0) (thread : ℕ) (c : Cluster) : Type 0 where
   pub number : c.thread ≡ thread
-  pub boxes : AreBoxesOf events IsDrawn (Some thread) c.events.items
+  pub boxes : AreBoxesOf scene IsDrawn (Some thread) c.events.items
 
 -- one for each of so many threads
-pub record AreClusters (events : List Event) (IsDrawn : ℕ → Type 0) (threads : ℕ) (clusters : List Cluster) : Type 0 where
+pub record AreClusters (scene : Scene) (IsDrawn : ℕ → Type 0) (threads : ℕ) (clusters : List Cluster) : Type 0 where
   pub count : length clusters ≡ threads
-  pub each : (t : ℕ) (c : Cluster) → slice_get clusters t ≡ Some c → IsCluster events IsDrawn t c
+  pub each : (t : ℕ) (c : Cluster) → slice_get clusters t ≡ Some c → IsCluster scene IsDrawn t c
 
 -- ---- the lines of a graph: pairs of relations
 
@@ -115,6 +133,20 @@ pub record AreLines (one : Candidate) (IsDrawn : ℕ → Type 0) (relation : Pre
   pub ink : e.ink ≡ relation.1
   pub pairs : AreEdges (DrawnAmong IsDrawn (PairsOf one relation.0)) e.pairs.items
 
+-- the edges of a relation that the model shows, in the candidate of number k
+pub record AreShownLines (k : ℕ) (IsDrawn : ℕ → Type 0) (v : ShownValues) (e : Edges) : Type 0 where
+  pub name : e.name.items ≡ v.name
+  pub ink : e.ink ≡ inks.Named
+  pub pairs : AreEdges (DrawnAmong IsDrawn (HasPair v.values k)) e.pairs.items
+
+-- those of the language, and then those that the model shows
+pub record AreAllLines (s : Subject) (k : ℕ) (one : Candidate) (IsDrawn : ℕ → Type 0) (es : List Edges) : Type 0 where
+  pub known : List Edges
+  pub shown : List Edges
+  pub both : es ≡ known ++ shown
+  pub of_language : AllZip (AreLines one IsDrawn) relations known
+  pub of_model : AllZip (AreShownLines k IsDrawn) s.shown shown
+
 -- ---- the title
 
 -- no check refuses the candidate, or this is the first that does
@@ -139,23 +171,32 @@ title_text name k fate = name ++ codes ", execution " ++ decimal k ++ fate
 
 -- ---- the graph of an execution
 
--- a kept execution has no steps of a reason; which steps a forbidden one has is not said here
-abbrev pub AreSteps : Option FirstRefusal → Option ℕ → List ToldStep → Type 0
-AreSteps None first steps = (first ≡ None) × (steps ≡ [])
-AreSteps (Some refusal) first steps = Unit {0}
+-- the steps of the reason why the check refuses the candidate, and where they begin; a kept execution has none
+abbrev pub AreSteps : Judgement → List CheckValues → Scene → Option FirstRefusal → Option ℕ → List ToldStep → Type 0
+AreSteps model checks scene None first steps = (first ≡ None) × (steps ≡ [])
+AreSteps model checks scene (Some refusal) first steps =
+    (r : Reason) × IsRefusedFor model checks scene refusal r × (first ≡ r.first) × (steps ≡ r.steps.items)
+
+-- the candidate of number k: its events, and the instructions that they come from
+pub record IsSceneOf (test : Test) (k : ℕ) (one : Candidate) (scene : Scene) : Type 0 where
+  pub number : scene.candidate ≡ k
+  pub events : scene.events ≡ one.0.events.items
+  pub instructions : AreInstructions test scene.events scene.instructions
 
 abbrev pub IsDrawnIn : Candidate → ℕ → Type 0
 IsDrawnIn one = IsDrawnEvent one.0.events.items one.1.0
 
 -- the candidate of number k, with its events and its pairs, and the steps of the reason
 pub record IsGraph (s : Subject) (k : ℕ) (one : Candidate) (found : Option FirstRefusal) (d : Drawing) : Type 0 where
+  pub scene : Scene
+  pub stands : IsSceneOf s.test k one scene
   pub fate : List ℕ
-  pub told : IsFate s.checks s.items found fate
+  pub told : IsFate s.checks s.model.text found fate
   pub title : d.title.items ≡ title_text s.test.name k fate
-  pub initial : AreBoxesOf one.0.events.items (IsDrawnIn one) None d.initial.items
-  pub clusters : AreClusters one.0.events.items (IsDrawnIn one) (vec_len s.test.threads) d.clusters.items
-  pub edges : AllZip (AreLines one (IsDrawnIn one)) relations d.edges.items
-  pub steps : AreSteps found d.first d.steps.items
+  pub initial : AreBoxesOf scene (IsDrawnIn one) None d.initial.items
+  pub clusters : AreClusters scene (IsDrawnIn one) (vec_len s.test.threads) d.clusters.items
+  pub edges : AreAllLines s k one (IsDrawnIn one) d.edges.items
+  pub steps : AreSteps s.model s.checks scene found d.first d.steps.items
 
 -- ---- which executions
 
@@ -196,12 +237,16 @@ drawings_text space ds = flat_map (drawing_text space.locations.items (length sp
 abbrev pub AreDrawingsOf : Wanted → ℕ → Subject → ℕ → List ℕ → Type 0
 AreDrawingsOf wanted most s n text = (ds : List Drawing) × AreDrawings wanted most s n ds × (text ≡ drawings_text s.space ds)
 
--- these are the checks of the resolved items, with the values of their expressions in the candidates of the space
-pub record AreChecks (resolved : List ResolvedItem) (s : Subject) : Type 0 where
+-- these are the checks of the resolved items, with the values of their expressions in the candidates of the space, and the
+-- values of all names
+pub record AreChecks (s : Subject) : Type 0 where
   pub answers : ItemAnswers
-  pub valued : HasAllColumns s.space resolved answers
-  pub each : All (IsChecked s.space answers.columns.items resolved) s.checks
-  pub all : items_of s.checks ≡ check_indexes 0 resolved
+  pub valued : HasAllColumns s.space s.model.items answers
+  pub each : All (IsChecked s.space answers.columns.items s.model.items) s.checks
+  pub all : items_of s.checks ≡ check_indexes 0 s.model.items
+  pub bound : s.model.values.bound.now ≡ answers.columns.items
+  pub each_name : All (IsOfLanguage s.space) s.model.values.predefined.now
+  pub all_names : names_in s.model.values.predefined.now ≡ relation_names PREDEFINED
 
 -- the drawings of a test over its space, of all candidates, by the checks of a model without fault
 pub record AreDrawn (wanted : Wanted) (most : ℕ) (test : Test) (model : ModelText) (text : List ℕ) : Type 0 where
@@ -209,9 +254,12 @@ pub record AreDrawn (wanted : Wanted) (most : ℕ) (test : Test) (model : ModelT
   pub resolves : AreItemsOf model resolved
   pub space : Space
   pub lists : ListsExecutions test space
+  pub values : NameValues
   pub checks : List CheckValues
-  pub checked : AreChecks resolved (subject test space model checks)
-  pub drawn : AreDrawingsOf wanted most (subject test space model checks) (candidate_count space) text
+  pub shown : List ShownValues
+  pub all_shown : AreAllShown space model shown
+  pub checked : AreChecks (subject test space (judgement model resolved values) checks shown)
+  pub drawn : AreDrawingsOf wanted most (subject test space (judgement model resolved values) checks shown) (candidate_count space) text
 
 -- a comment of `dot`
 unfoldable pub refused_comment : List ℕ → ℕ → List ℕ

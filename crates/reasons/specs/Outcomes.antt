@@ -4,6 +4,7 @@ use Rattle.litmus_values.specs.declared.test.Test.{Test}
 use Rattle.litmus_values.specs.Value.{formula_of}
 use Rattle.candidates.specs.declared.candidate.Space.{Space}
 use Rattle.candidates.specs.Space.{Shown, shown_in}
+use Rattle.event_origins.specs.Origins.{AreInstructions}
 use Rattle.verdict.specs.Evaluated.{is_satisfied}
 use Rattle.reason_text.specs.declared.event.ToldEvent.{ToldEvent}
 use Rattle.reason_text.specs.declared.reason.Reason.{Reason}
@@ -43,6 +44,7 @@ program_events c scene = events_from (length c.space.locations.items) scene
 pub record IsKept (c : Case) (k : ℕ) (events : List ToldEvent) : Type 0 where
   pub scene : Scene
   pub candidate : IsCandidate c k true scene
+  pub instructions : AreInstructions c.test scene.events scene.instructions
   pub accepted : AcceptBelow c.checks k (length c.checks)
   pub told : events ≡ program_events c scene
 
@@ -57,6 +59,7 @@ pub record IsRefusedFor (model : Judgement) (checks : List CheckValues) (scene :
 pub record IsForbidden (c : Case) (k : ℕ) (reason : Reason) : Type 0 where
   pub scene : Scene
   pub candidate : IsCandidate c k true scene
+  pub instructions : AreInstructions c.test scene.events scene.instructions
   pub first : FirstRefusal
   pub refuses : IsFirstRefusal c.checks k first
   pub told : IsRefusedFor c.model c.checks scene first reason

@@ -14,7 +14,7 @@ use Rattle.reasons.specs.declared.checks.CheckValues.{CheckValues}
 use Rattle.reasons.specs.Labels.{Judgement}
 use Rattle.reasons.specs.Steps.{StepStart, AreStarts, AreSteps, ends_of, numbers_of}
 
--- the candidate of a number: its events, and of each the instruction that it is said to come from
+-- the candidate of a number: its events, and of each the instruction that it comes from
 pub record Scene : Type 0 where
   pub candidate : ℕ
   pub events : List Event

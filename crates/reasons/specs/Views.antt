@@ -15,6 +15,7 @@ use Rattle.reasons.specs.Labels.{Judgement}
 use Rattle.reasons.specs.Outcomes.{Case, IsCandidate, IsOther, IsKept, IsForbidden, AreFindings, first_shown}
 use Rattle.reasons.specs.Steps.{StepStart, StepLeg}
 use Rattle.reasons.specs.Told.{Scene}
+use Rattle.event_origins.specs.Origins.{AreInstructions}
 use Rattle.step_labels.specs.declared.label.EventPair.{EventPair}
 use Rattle.step_labels.specs.declared.unions.ModelName.{ModelName}
 use Rattle.step_labels.specs.Labels.{Relates, IsInnermost}
@@ -42,7 +43,8 @@ IsOutcome c k (outcomes.Forbidden reason) = IsForbidden c k reason
 
 -- what comes of it where it satisfies the proposition
 abbrev pub IsOutcomeIf : Case → Scene → Outcome → Type 0
-IsOutcomeIf c scene outcome = IsCandidate c scene.candidate true scene → IsOutcome c scene.candidate outcome
+IsOutcomeIf c scene outcome =
+    IsCandidate c scene.candidate true scene → AreInstructions c.test scene.events scene.instructions → IsOutcome c scene.candidate outcome
 
 -- of these names the innermost that relates the events
 abbrev pub IsInnermostOf : Judged → EventPair → List ModelName → Option ModelName → Type 0

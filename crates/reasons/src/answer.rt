@@ -2,6 +2,7 @@
 
 ghost use Rattle.std.specs.Prelude.{◌≡◌, ◌++◌, ◌-◌, ◌^◌, ◌<◌, ◌≤◌, IfOk, OnOk};
 ghost use Rattle.candidates.specs.Space.{candidate_count, IsShown};
+ghost use Rattle.event_origins.specs.Origins.{AreAllRuns};
 ghost use Rattle.memo_graph.specs.Answers.{AreSound};
 ghost use Rattle.reasons.specs.Checked.{IsFirstRefusal};
 ghost use Rattle.reasons.specs.Outcomes.{IsRefusedFor};
@@ -10,12 +11,12 @@ ghost use Rattle.reasons.specs.Views.{AreFoundOf, AreWithKept, AreWithReason, Is
 ghost use Rattle.reasons.specs.Whys.{GoesOn, IsExplained, IsSaid, IsSaidOver, IsWhy, head_text, refusal_text};
 
 use crate::checks::{FirstRefusal, all_checks, first_refusal};
-use crate::instructions::{all_runs, instructions_of};
 use crate::labels::predefined_values;
 use crate::telling::{Judged, Told, reason_told, told_events};
 use binding_graph::{ResolveFault, Resolved, resolve};
 use candidates::{Execution, Space, SpaceFault, space};
 use cat_values::ModelText;
+use event_origins::{all_runs, instructions_of};
 use litmus_printing::print_condition;
 use litmus_values::Test;
 use memo_graph::answers;
@@ -68,8 +69,8 @@ fn program_events(
     told_events(alloc, told, &numbers)
 }
 
-// Why a candidate is forbidden.
-fn forbidden(
+/// Why a candidate is forbidden. Errors: want of memory.
+pub fn forbidden(
     alloc: Global,
     judged: Judged<'_>,
     is_deep: bool,
@@ -111,7 +112,8 @@ fn execution_outcome(
     candidate: usize,
     execution: &Execution,
 ) -> Result<Outcome, AllocError>
-    requires { IsShown space.now candidate execution.now }
+    requires shown { IsShown space.now candidate execution.now }
+    requires runs { AreAllRuns test.now runs.now }
     ensures { IfOk result (IsOutcome (case_of test.now space.now judged.entry is_deep) candidate) }
 {
     if !is_satisfied(&space.locations, &test.condition.proposition, execution) {
@@ -135,7 +137,8 @@ fn outcome_of(
     runs: &[Vec<Run>],
     candidate: usize,
 ) -> Result<Outcome, AllocError>
-    requires { candidate < candidate_count space.now }
+    requires within { candidate < candidate_count space.now }
+    requires runs { AreAllRuns test.now runs.now }
     ensures { IfOk result (IsOutcome (case_of test.now space.now judged.entry is_deep) candidate) }
 {
     match space.execution(alloc, candidate)? {

@@ -1,23 +1,16 @@
 //! The boxes of a drawing: its events.
 
-ghost use Rattle.std.specs.Prelude.{◌≡◌, ◌<◌, ◌↔◌, IfOk, IsTrue, Some, length, slice_get};
+ghost use Rattle.std.specs.Prelude.{◌≡◌, ◌<◌, ◌↔◌, IfOk, IsTrue, None, Some, length, slice_get, slice_index_or};
 ghost use Rattle.bit_relations.specs.Relation.{IsMember};
 ghost use Rattle.reasons.specs.Drawings.{AreBoxesOf, AreClusters, HasThread, IsBoxed, IsCluster};
+ghost use Rattle.reasons.specs.Views.{scene_of};
 
-use crate::telling::Told;
+use crate::telling::{Told, instruction_at};
 use bit_relations::EventSet;
 use candidates::Event;
 use execution_graph::Cluster;
-use ppc_semantics::Instruction;
 use reason_text::ToldEvent;
 use std::alloc::{AllocError, Global};
-
-fn instruction_at(instructions: &[Option<Instruction>], number: usize) -> Option<Instruction> {
-    match instructions.get(number) {
-        Some(instruction) => *instruction,
-        None => None,
-    }
-}
 
 fn is_thread(left: Option<usize>, right: Option<usize>) -> bool
     ensures { IsTrue result ↔ (left ≡ right) }
@@ -57,6 +50,7 @@ fn boxed(told: Told<'_>, number: usize) -> ToldEvent
     requires { number < length told.events.now }
     ensures number { result.number ≡ number }
     ensures event { slice_get told.entry.events.now number ≡ Some result.event }
+    ensures instruction { result.instruction ≡ slice_index_or told.entry.instructions.now number None }
 {
     let event = told.events[number];
     let instruction = instruction_at(told.instructions, number);
@@ -75,7 +69,7 @@ pub fn boxes(
     thread: Option<usize>,
 ) -> Result<Vec<ToldEvent>, AllocError>
     requires { drawn.now.count ≡ length told.events.now }
-    ensures { let events = told.entry.events.now in IfOk result (λ v. AreBoxesOf events (IsMember drawn.now) thread v.items) }
+    ensures { IfOk result (λ v. AreBoxesOf (scene_of told.entry) (IsMember drawn.now) thread v.items) }
 {
     let mut boxes = Vec::new(alloc);
     for number in 0..told.events.len() {
@@ -93,7 +87,7 @@ fn cluster(
     thread: usize,
 ) -> Result<Cluster, AllocError>
     requires { drawn.now.count ≡ length told.events.now }
-    ensures { IfOk result (IsCluster told.entry.events.now (IsMember drawn.now) thread) }
+    ensures { IfOk result (IsCluster (scene_of told.entry) (IsMember drawn.now) thread) }
 {
     let events = boxes(alloc, told, drawn, Some(thread))?;
     Ok(Cluster { thread, events })
@@ -107,7 +101,7 @@ pub fn clusters(
     threads: usize,
 ) -> Result<Vec<Cluster>, AllocError>
     requires { drawn.now.count ≡ length told.events.now }
-    ensures { IfOk result (λ v. AreClusters told.entry.events.now (IsMember drawn.now) threads v.items) }
+    ensures { IfOk result (λ v. AreClusters (scene_of told.entry) (IsMember drawn.now) threads v.items) }
 {
     let mut clusters = Vec::new(alloc);
     for thread in 0..threads {

@@ -1,31 +1,37 @@
 //! Executions of a test as drawings.
 
-ghost use Rattle.std.specs.Prelude.{◌≡◌, ◌<◌, ◌^◌, IfOk, length};
+ghost use Rattle.std.specs.Prelude.{◌≡◌, ◌<◌, ◌^◌, IfOk, false, length};
 ghost use Rattle.std.specs.List.{All};
 ghost use Rattle.candidates.specs.Listed.{ListsExecutions};
 ghost use Rattle.candidates.specs.Space.{IsShown, candidate_count};
+ghost use Rattle.event_origins.specs.Origins.{AreAllRuns};
 ghost use Rattle.memo_graph.specs.FromScratch.{AreItemsOf, IsFaultless};
-ghost use Rattle.reasons.specs.Drawable.{AddsDrawing, AreReady, IsGraphAt, subject_of};
+ghost use Rattle.reasons.specs.Drawable.{AddsDrawing, AreEdgesAt, AreReady, HasCount, IsGraphAt, subject_of};
+ghost use Rattle.bit_relations.specs.Relation.{IsMember};
 ghost use Rattle.reasons.specs.Drawings.{AreDrawingsOf, AreDrawn, AreSteps, IsCheckText, IsDrawn, IsFate};
 ghost use Rattle.reasons.specs.Drawings.{IsJudged, refused_comment, title_text};
 ghost use Rattle.reasons.specs.Drawings as drawings;
+ghost use Rattle.reasons.specs.Views.{judgement_of, scene_of};
 
+use crate::answer::forbidden;
 use crate::boxes::{boxes, clusters};
 use crate::checks::{FirstRefusal, all_checks, first_refusal};
-use crate::instructions::{all_runs, instructions_of};
 use crate::labels::predefined_values;
-use crate::lines::{DrawnRelation, all_lines, drawn_relations};
-use crate::telling::{Judged, Told, reason};
+use crate::lines::{DrawnRelation, all_lines, drawn_relations, shown_lines};
+use crate::telling::{Judged, Told};
 use binding_graph::{ResolveFault, Resolved, resolve};
+use bit_relations::EventSet;
 use candidates::{Execution, Space, SpaceFault, space};
 use cat_printing::print_item;
 use cat_values::ModelText;
-use execution_graph::{Drawing, drawn_events, put_drawing};
+use event_origins::{all_runs, instructions_of};
+use execution_graph::{Drawing, Edges, drawn_events, put_drawing};
 use litmus_values::Test;
 use memo_graph::answers;
 use ppc_semantics::Run;
 use reason_text::{Telling, ToldStep};
 use satisfaction::is_satisfied;
+use shown_relations::{ShownValues, shown_values};
 use source_text::{put_bytes, put_decimal};
 use std::alloc::{AllocError, Global};
 use step_labels::NameValues;
@@ -61,6 +67,7 @@ struct Scene<'a> {
     judged: Judged<'a>,
     relations: &'a [DrawnRelation],
     runs: &'a [Vec<Run>],
+    shown: &'a [ShownValues],
 }
 
 #[tactic(auto, unfolding(crate::specs::Drawings::title_text))]
@@ -123,19 +130,33 @@ fn steps_of(
     told: Told<'_>,
     found: &Option<FirstRefusal>,
 ) -> Result<(Option<usize>, Vec<ToldStep>), AllocError>
-    ensures { IfOk result (λ r. AreSteps found.now r.0 r.1.items) }
+    requires { IsJudged judged.checks.now told.candidate found.now }
+    ensures { IfOk result (λ r. AreSteps (judgement_of judged.entry false) judged.entry.checks.now (scene_of told.entry) found.now r.0 r.1.items) }
 {
     match found {
         None => Ok((None, Vec::new(alloc))),
         Some(refusal) => {
-            if refusal.index >= judged.checks.len() {
-                return Ok((None, Vec::new(alloc)));
-            }
-            let check = &judged.checks[refusal.index];
-            let reason = reason(alloc, judged, told, check, refusal)?;
+            let reason = forbidden(alloc, judged, false, told, refusal)?;
             Ok((reason.first, reason.steps))
         }
     }
+}
+
+// The edges of an execution between the events that are drawn.
+fn edges_of(
+    alloc: Global,
+    scene: Scene<'_>,
+    candidate: usize,
+    drawn: &EventSet,
+) -> Result<Vec<Edges>, AllocError>
+    requires ready { AreReady (subject_of scene) scene.relations.now }
+    requires count { HasCount scene.space.now candidate drawn.now.count }
+    ensures { IfOk result (λ v. AreEdgesAt (subject_of scene.entry) candidate (IsMember drawn.now) v.items) }
+{
+    let mut lines = all_lines(alloc, scene.space, scene.relations, candidate, drawn)?;
+    let mut shown = shown_lines(alloc, scene.space, scene.shown, candidate, drawn)?;
+    lines.append(&mut shown)?;
+    Ok(lines)
 }
 
 // The graph of an execution.
@@ -147,6 +168,7 @@ fn drawing_of(
     found: &Option<FirstRefusal>,
 ) -> Result<Drawing, AllocError>
     requires ready { AreReady (subject_of scene) scene.relations.now }
+    requires runs { AreAllRuns scene.test.now scene.runs.now }
     requires shown { IsShown scene.space.now candidate execution.now }
     requires judged { IsJudged scene.judged.checks.now candidate found.now }
     ensures { IfOk result (IsGraphAt (subject_of scene.entry) candidate found.now) }
@@ -164,7 +186,7 @@ fn drawing_of(
         title: title_of(alloc, scene.test.name.as_bytes(), candidate, &fate)?,
         initial: boxes(alloc, told, &drawn, None)?,
         clusters: clusters(alloc, told, &drawn, scene.test.threads.len())?,
-        edges: all_lines(alloc, scene.space, scene.relations, candidate, &drawn)?,
+        edges: edges_of(alloc, scene, candidate, &drawn)?,
         first,
         steps,
     })
@@ -179,6 +201,7 @@ fn put_candidate(
     candidate: usize,
 ) -> Result<bool, AllocError>
     requires ready { AreReady (subject_of scene) scene.relations.now }
+    requires runs { AreAllRuns scene.test.now scene.runs.now }
     requires within { candidate < candidate_count scene.space.now }
     ensures { IfOk result (AddsDrawing wanted (subject_of scene.entry) candidate text.old.items text.new.items) }
 {
@@ -209,6 +232,7 @@ fn candidates_text(
     most: u64,
 ) -> Result<Vec<u8>, AllocError>
     requires ready { AreReady (subject_of scene) scene.relations.now }
+    requires runs { AreAllRuns scene.test.now scene.runs.now }
     requires few { candidate_count scene.space.now < 2 ^ 64 }
     ensures { IfOk result (λ v. AreDrawingsOf wanted most (subject_of scene.entry) (candidate_count scene.entry.space.now) v.items) }
 {
@@ -242,6 +266,7 @@ fn space_text<'x>(
     let predefined = predefined_values(alloc, space)?;
     let relations = drawn_relations(alloc, space)?;
     let runs = all_runs(alloc, test)?;
+    let shown = shown_values(alloc, space, model)?;
     let judged = Judged {
         text: &model.items,
         items: &resolved.items,
@@ -257,6 +282,7 @@ fn space_text<'x>(
         judged,
         relations: &relations,
         runs: &runs,
+        shown: &shown,
     };
     candidates_text(alloc, scene, wanted, most)
 }

@@ -5,7 +5,6 @@ mod answer;
 mod boxes;
 mod checks;
 mod drawing;
-mod instructions;
 mod labels;
 mod lines;
 mod telling;

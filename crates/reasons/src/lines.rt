@@ -1,17 +1,19 @@
 //! The lines of a drawing: pairs of relations.
 
-ghost use Rattle.std.specs.Prelude.{◌≡◌, IfOk};
-ghost use Rattle.std.specs.List.{AllZip};
+ghost use Rattle.std.specs.Prelude.{◌≡◌, ◌≤◌, ◌↔◌, ℕ, IfOk};
+ghost use Rattle.std.specs.List.{All, AllZip};
 ghost use Rattle.binding_kinds.specs.declared.kinds.Kind.TheVariants as kinds;
-ghost use Rattle.bit_relations.specs.Relation.{Events, IsMember, IsRelation, Relation};
+ghost use Rattle.bit_relations.specs.Relation.{Events, Has, IsMember, IsRelation, Relation};
 ghost use Rattle.candidates.specs.Space.{Candidate};
 ghost use Rattle.cat_eval.specs.Columns.{HasValue};
 ghost use Rattle.cat_eval.specs.Executions.{events_of};
 ghost use Rattle.cat_eval.specs.Values.{IsFor};
+ghost use Rattle.check_witness.specs.Pairs.{HasPair};
 ghost use Rattle.reasons.specs.Drawable.{AreAllLinesAt, AreLinesAt, AreValuesOf, HasCount};
-ghost use Rattle.reasons.specs.Drawings.{IsAt, PairsOf};
+ghost use Rattle.reasons.specs.Drawings.{AreShownLines, IsAt, PairsOf};
 ghost use Rattle.reasons.specs.Drawings as drawings;
 ghost use Rattle.reasons.specs.Language.{IsOfLanguage};
+ghost use Rattle.shown_relations.specs.Values.{IsSized, IsSizedAt};
 
 use crate::labels::predefined_value;
 use bit_relations::{EventSet, Rel};
@@ -20,6 +22,7 @@ use cat_eval::Column;
 use cat_values::Predefined;
 use columns::Cursor;
 use execution_graph::{Edges, Ink, edges};
+use shown_relations::ShownValues;
 use std::alloc::{AllocError, Global};
 use step_labels::PredefinedValue;
 
@@ -141,6 +144,62 @@ pub fn all_lines(
     let mut lines = Vec::new(alloc);
     for index in 0..relations.len() {
         lines.push(lines_of(alloc, space, &relations[index], candidate, drawn)?)?;
+    }
+    Ok(lines)
+}
+
+// The value of a shown relation in a candidate of so many events.
+fn shown_at(values: &Column, candidate: usize, count: usize) -> Rel
+    requires few { count ≤ 128 }
+    requires sized { IsSizedAt values.now candidate count }
+    ensures count { result.count ≡ count }
+    ensures pairs { (a b : ℕ) → Has result a b ↔ HasPair values.now candidate a b }
+{
+    if let Column::Relations(relations) = values {
+        if candidate < relations.len() {
+            let mut relation = Rel::empty(0);
+            relations.read(&mut Cursor::new(), candidate, &mut relation);
+            return relation;
+        }
+    }
+    Rel::empty(count)
+}
+
+fn shown_line(
+    alloc: Global,
+    shown: &ShownValues,
+    candidate: usize,
+    drawn: &EventSet,
+) -> Result<Edges, AllocError>
+    requires { IsSizedAt shown.now.values candidate drawn.now.count }
+    ensures { IfOk result (AreShownLines candidate (IsMember drawn.now) shown.now) }
+{
+    let pairs = shown_at(&shown.values, candidate, drawn.count());
+    let pairs = edges(alloc, &pairs, drawn)?;
+    let name = Vec::from_slice(alloc, shown.name.as_bytes())?;
+    Ok(Edges {
+        name,
+        ink: Ink::Named,
+        pairs,
+    })
+}
+
+/// The edges of each relation that a model shows between the events that are drawn. Errors: want of memory.
+pub fn shown_lines(
+    alloc: Global,
+    space: &Space,
+    shown: &[ShownValues],
+    candidate: usize,
+    drawn: &EventSet,
+) -> Result<Vec<Edges>, AllocError>
+    requires sized { All (λ v. IsSized space.now v.values) shown.now }
+    requires count { HasCount space.now candidate drawn.now.count }
+    ensures { IfOk result (λ v. AllZip (AreShownLines candidate (IsMember drawn.now)) shown.now v.items) }
+{
+    let _space = space;
+    let mut lines = Vec::new(alloc);
+    for index in 0..shown.len() {
+        lines.push(shown_line(alloc, &shown[index], candidate, drawn)?)?;
     }
     Ok(lines)
 }

@@ -1,13 +1,13 @@
 //! A refusal as it is told.
 
-ghost use Rattle.std.specs.Prelude.{◌≡◌, ◌++◌, [], false, IfOk, IfSome, OnOk, map, drop, option_map, slice_get, slice_index_or};
+ghost use Rattle.std.specs.Prelude.{◌≡◌, ◌++◌, [], IfOk, IfSome, OnOk, map, drop, option_map, slice_get, slice_index_or};
 ghost use Rattle.factor_walks.specs.Walks.{runs_of};
 ghost use Rattle.reasons.specs.Steps.{AreStarts, AreSteps, AreStepsTo, IsStep, LeadsBack, ends_of, legs_to, next_event, numbers_of};
 ghost use Rattle.reasons.specs.Steps.{starts_at, starts_through, with_event, with_events};
 ghost use Rattle.reasons.specs.Told.{IsReason, told_at, told_events, written};
 ghost use Rattle.reasons.specs.Views.{judgement_of, leg_of, scene_of, start_of};
 
-use crate::checks::{CheckValues, FirstRefusal};
+use crate::checks::CheckValues;
 use crate::labels::label;
 use binding_graph::{Code, ResolvedItem};
 use bit_relations::MAX_EVENTS;
@@ -45,7 +45,8 @@ pub struct Told<'a> {
     pub instructions: &'a [Option<Instruction>],
 }
 
-fn instruction_at(instructions: &[Option<Instruction>], number: usize) -> Option<Instruction>
+/// The instruction that an event comes from, if it comes from one.
+pub fn instruction_at(instructions: &[Option<Instruction>], number: usize) -> Option<Instruction>
     ensures { result ≡ slice_index_or instructions.now number None }
 {
     match instructions.get(number) {
@@ -390,17 +391,4 @@ pub fn reason_told(
             &starts,
         )?,
     })
-}
-
-/// Why the check refuses the candidate. Errors: want of memory.
-pub fn reason(
-    alloc: Global,
-    judged: Judged<'_>,
-    told: Told<'_>,
-    check: &CheckValues<'_>,
-    refusal: &FirstRefusal,
-) -> Result<Reason, AllocError>
-    ensures { IfOk result (IsReason (judgement_of judged.entry false) (scene_of told.entry) check.now refusal.now.witness) }
-{
-    reason_told(alloc, judged, false, told, check, &refusal.witness)
 }

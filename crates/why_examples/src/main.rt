@@ -1,5 +1,5 @@
 //! Says of known tests why the model of Power forbids them, or shows an execution that it keeps, or both; and draws
-//! executions of four.
+//! executions of four, and one under a model that shows relations of its own.
 #![tactic(auto)]
 
 mod texts;
@@ -63,8 +63,13 @@ fn drawing_of(
     }
 }
 
-fn show_drawing<R: Print + AllocGlobal>(rt: &R, test: &[u8], wanted: Wanted) -> io::Result<()> {
-    rt.print(drawing_of(rt.alloc(), POWER, test, wanted)?)
+fn show_drawing<R: Print + AllocGlobal>(
+    rt: &R,
+    model: &[u8],
+    test: &[u8],
+    wanted: Wanted,
+) -> io::Result<()> {
+    rt.print(drawing_of(rt.alloc(), model, test, wanted)?)
 }
 
 fn show<R: Print + AllocGlobal>(rt: &R, asked: Asked, test: &[u8]) -> io::Result<()> {
@@ -82,9 +87,10 @@ fn main(rt: HostRuntime) -> io::Result<()> {
     show(&rt, FORBIDDEN, texts::MP_EITHER)?;
     show(&rt, DEEP, texts::MP_LWSYNC_ADDR)?;
     show(&rt, DEEP, texts::LB_DATAS)?;
-    show_drawing(&rt, texts::MP, Wanted::Shown)?;
-    show_drawing(&rt, texts::MP_LWSYNC_ADDR, Wanted::Forbidden)?;
-    show_drawing(&rt, texts::LB_DATAS, Wanted::Forbidden)?;
-    show_drawing(&rt, texts::COWR, Wanted::All)?;
+    show_drawing(&rt, POWER, texts::MP, Wanted::Shown)?;
+    show_drawing(&rt, POWER, texts::MP_LWSYNC_ADDR, Wanted::Forbidden)?;
+    show_drawing(&rt, POWER, texts::LB_DATAS, Wanted::Forbidden)?;
+    show_drawing(&rt, POWER, texts::COWR, Wanted::All)?;
+    show_drawing(&rt, texts::SHOWING, texts::MP_LWSYNC_ADDR, Wanted::Shown)?;
     Ok(())
 }

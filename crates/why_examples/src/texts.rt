@@ -106,3 +106,15 @@ PPC MP\n\
  stw r3,0(r4) |              ;\n\
 exists (1:r1=1 /\\ 1:r3=0)\n\
 ";
+
+/// A model that shows relations: of `preserved` what stands last counts, `com` is hidden, and the others stand for no
+/// relation.
+pub const SHOWING: &[u8] = b"\
+\"Showing\"\n\
+let com = rf | fr | co\n\
+show com, addr | data as preserved, [W] ; po ; [W] as stores\n\
+unshow com\n\
+let preserved = lwsync | addr | data\n\
+show preserved, W, nothing, rf | fr\n\
+acyclic po-loc | com as coherence\n\
+";

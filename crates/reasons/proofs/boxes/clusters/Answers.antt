@@ -2,13 +2,14 @@ use Rattle.std.proofs.Common.{◌+◌, sym, subst, List}
 use Rattle.bit_relations.specs.Relation.{IsMember}
 use Rattle.execution_graph.specs.declared.drawing.Cluster.{Cluster}
 use Rattle.reasons.specs.Drawings.{AreClusters}
+use Rattle.reasons.specs.Views.{scene_of}
 use Rattle.reasons.proofs.Boxing.{cluster_more}
 use Rattle.reasons.proofs.boxes.clusters.Goals as goal
 
 pub loop-thread-preserved : goal.loop-thread-preserved
 loop-thread-preserved c =
-    let events = c.args.told.events.now in
+    let scene = scene_of c.args.told in
     let D = IsMember c.args.drawn.now in
     let i = c.loop-thread.thread in
-    subst (λ (cs : List Cluster). AreClusters events D (i + 1) cs) (sym {A = List Cluster} c.in_ok-push.ensures.items)
-    (cluster_more events D i c.loop-thread.clusters.items c.in_ok-cluster.field-0 c.in_ok-cluster.ensures c.loop-thread.invariant)
+    subst (λ (cs : List Cluster). AreClusters scene D (i + 1) cs) (sym {A = List Cluster} c.in_ok-push.ensures.items)
+    (cluster_more scene D i c.loop-thread.clusters.items c.in_ok-cluster.field-0 c.in_ok-cluster.ensures c.loop-thread.invariant)

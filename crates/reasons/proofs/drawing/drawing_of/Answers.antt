@@ -1,15 +1,17 @@
-use Rattle.std.proofs.Common.{◌≡◌, ◌∙◌, List, ap, length}
+use Rattle.std.proofs.Common.{◌≡◌, ◌∙◌, List, ap, length, refl, sym}
 use Rattle.std.specs.Prelude.{None}
 use Rattle.bit_relations.specs.Relation.{IsEvents, IsMember}
 use Rattle.execution_graph.specs.Drawn.{IsDrawnEvent}
 use Rattle.run_combinations.specs.declared.combination.Event.{Event}
-use Rattle.reasons.specs.Drawings.{relations}
-use Rattle.reasons.proofs.Graphing.{boxes_of, clusters_of, drawn_in, events_shown, shown_there, sources_shown}
-use Rattle.reasons.proofs.Pairing.{all_lines_as}
+use Rattle.reasons.specs.Drawable.{subject_of}
+use Rattle.reasons.specs.Drawings.{IsDrawnIn}
+use Rattle.reasons.specs.Told.{Scene}
+use Rattle.reasons.proofs.Graphing.{boxed_as, clusters_as, drawn_in, events_shown, shown_there, sources_shown}
+use Rattle.reasons.proofs.Pairing.{edges_as_drawn}
 use Rattle.reasons.proofs.drawing.drawing_of.Goals as goal
 
-pub all_lines-requires-clause-count : goal.all_lines-requires-clause-count
-all_lines-requires-clause-count c =
+pub edges_of-requires-clause-count : goal.edges_of-requires-clause-count
+edges_of-requires-clause-count c =
     let space = c.args.scene.space.now in
     let k = c.args.candidate in
     let e = c.args.execution.now in
@@ -28,12 +30,21 @@ returns c = λ one is.
     let same = events_shown space k e one c.requires.shown is in
     let read = sources_shown space k e one c.requires.shown is in
     let are : IsEvents drawn (length events) (IsDrawnEvent events sources) = rw (c.deref-3.ensures.value, c.deref-4.ensures.value) at c.drawn_events-drawn.ensures in
+    let scene : Scene = record { candidate = k; events = c.deref.result.now; instructions = c.deref-2.result.now } in
+    let members = drawn_in events sources one drawn same read are in
+    let made = c.in_ok-instructions.ensures c.args.scene.test.now c.requires.runs in
     record {
+      scene = scene;
+      stands = record {
+        number = refl;
+        events = c.deref.ensures.value ∙ same;
+        instructions = rw (sym c.deref.ensures.value, sym c.deref-2.ensures.value) at made;
+      };
       fate = c.in_ok-fate.fate.items;
       told = c.in_ok-fate.ensures;
       title = rw (c.as_bytes.ensures, c.deref-5.ensures.value) at c.in_ok-title_of.ensures;
-      initial = boxes_of events sources one drawn c.in_ok-boxes.field-0.items same read are None (rw c.deref.ensures.value at c.in_ok-boxes.ensures);
-      clusters = clusters_of events sources one drawn c.in_ok-clusters.field-0.items _ same read are (rw (c.deref.ensures.value, c.len.ensures) at c.in_ok-clusters.ensures);
-      edges = all_lines_as one (IsMember drawn) (IsDrawnEvent one.0.events.items one.1.0) (drawn_in events sources one drawn same read are) relations c.in_ok-all_lines.field-0.items (c.in_ok-all_lines.ensures one is);
+      initial = boxed_as scene (IsMember drawn) (IsDrawnIn one) None members c.in_ok-boxes.field-0.items c.in_ok-boxes.ensures;
+      clusters = clusters_as scene (IsMember drawn) (IsDrawnIn one) _ members c.in_ok-clusters.field-0.items (rw c.len.ensures at c.in_ok-clusters.ensures);
+      edges = edges_as_drawn (subject_of c.args.scene) k one (IsMember drawn) (IsDrawnIn one) members c.in_ok-edges_of.field-0.items (c.in_ok-edges_of.ensures one is);
       steps = c.in_ok-first.ensures;
     }

@@ -1,0 +1,8 @@
+use Rattle.std.proofs.Common.{◌≡◌, map, drop}
+use Rattle.cat_values.specs.Values.{shown_of}
+use Rattle.shown_relations.specs.Shown.{after_show}
+use Rattle.shown_relations.proofs.names.after_show.Given as goal
+
+abbrev pub invariant-loop-position : goal.invariant-loop-position
+invariant-loop-position l =
+    after_show l.hidden l.item l.position (map shown_of (drop l.position l.expressions)) l.shown.items ≡ after_show l.hidden l.item 0 (map shown_of l.expressions) l.initial.shown.items

@@ -1,0 +1,8 @@
+use Rattle.std.proofs.Common.{◌≡◌, take}
+use Rattle.std.specs.Prelude.{filter}
+use Rattle.cat_values.specs.Values.{clauses_of}
+use Rattle.shown_relations.specs.Shown.{is_binding}
+use Rattle.shown_relations.proofs.texts.bindings.Given as goal
+
+abbrev pub invariant-loop-item : goal.invariant-loop-item
+invariant-loop-item l = clauses_of l.found.items ≡ filter is_binding (clauses_of (take l.item-index l.items))
