@@ -15,7 +15,7 @@ use Rattle.bench_nodes.specs.Nodes.{node_of, slot_keys, test_stamp, stamp_in, ro
 use Rattle.bench_nodes.specs.Slots.{is_slot, has_slot, uses}
 use Rattle.bench_nodes.specs.Places.{is_after, rise_after, are_rising, are_apart, named, user_names, user_lists}
 
-some_is : {X : Type 0} (a b : X) → Some a ≡ Some b → a ≡ b
+pub some_is : {X : Type 0} (a b : X) → Some a ≡ Some b → a ≡ b
 some_is a b e = cc
 
 -- ---- tests
@@ -78,7 +78,7 @@ no_stamp (u ∷ ts) part id h = elim (cases_Bool (u.id == id)) [
   | inr f ↦ rw f (no_stamp ts part id (rw f at h))
 ]
 
-turned : (a b : ℕ) (c : Bool) → a == b ≡ c → b == a ≡ c
+pub turned : (a b : ℕ) (c : Bool) → a == b ≡ c → b == a ≡ c
 turned a b true e = eq-eqb b a (sym (eqb-true a b e))
 turned a b false e = ne_eqb b a (λ same. let t = eq-eqb a b (sym same) in cc)
 
@@ -112,14 +112,14 @@ all_of true b c h i = rw i h
 all_of false b c h i = h
 
 -- a slot of that kind and number has them
-slot_is : (kind : Kind) (of : ℕ) (s : Slot) → is_slot kind of s ≡ true → (kind ≡ s.kind) × (of ≡ s.of)
+pub slot_is : (kind : Kind) (of : ℕ) (s : Slot) → is_slot kind of s ≡ true → (kind ≡ s.kind) × (of ≡ s.of)
 slot_is kind of s h =
     let a : Node = record { kind = kind; test = 0; of = of } in
     let b : Node = record { kind = s.kind; test = 0; of = s.of } in
     let e : a ≡ b = same_node_exact a b (all_of (kind_number kind == kind_number s.kind) (0 == 0) (of == s.of) h refl) in
     (ap (λ (n : Node). n.kind) e, ap (λ (n : Node). n.of) e)
 
-not_true : (b : Bool) → not b ≡ true → b ≡ false
+pub not_true : (b : Bool) → not b ≡ true → b ≡ false
 not_true true h = cc
 not_true false h = refl
 

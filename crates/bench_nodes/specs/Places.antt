@@ -1,10 +1,11 @@
 -- What a table looks up in place of a search, as the laws of its type say. Read it after Slots.
-use Rattle.std.specs.Prelude.{ℕ, ◌&&◌, not, nat_lt, Bool, true, false, List, [], ◌∷◌, Option, Some, None, Vec, map, if◌then◌else◌}
+use Rattle.std.specs.Prelude.{ℕ, zero, suc, ◌&&◌, not, nat_lt, Bool, true, false, List, [], ◌∷◌, ◌++◌, Option, Some, None, Vec, map, if◌then◌else◌}
 use Rattle.std.specs.declared.alloc.Global.{Global}
 use Rattle.memo_core.specs.declared.keys.Kind.{Kind}
 use Rattle.memo_core.specs.declared.keys.Node.{Node}
 use Rattle.bench_nodes.specs.declared.places.SlotName.{SlotName}
 use Rattle.bench_nodes.specs.declared.table.Slot.{Slot}
+use Rattle.bench_nodes.specs.declared.table.SlotKey.{SlotKey}
 use Rattle.bench_nodes.specs.declared.table.TestRow.{TestRow}
 use Rattle.bench_nodes.specs.Slots.{has_slot, uses}
 
@@ -38,6 +39,18 @@ user_names (s ∷ ss) kind of = if uses kind of s.inputs.items then name_of s �
 abbrev pub user_lists : List Slot → List Slot → List (List SlotName)
 user_lists all [] = []
 user_lists all (s ∷ ss) = user_names all s.kind s.of ∷ user_lists all ss
+
+-- with one more behind the list at an index
+abbrev pub put_at : ℕ → SlotName → List (List SlotName) → List (List SlotName)
+put_at at name [] = []
+put_at zero name (l ∷ ls) = (l ++ name ∷ []) ∷ ls
+put_at (suc at) name (l ∷ ls) = l ∷ put_at at name ls
+
+-- the lists of these slots, with a user of these inputs
+abbrev pub with_user : SlotName → List SlotKey → List Slot → List (List SlotName) → List (List SlotName)
+with_user name keys [] ls = ls
+with_user name keys (s ∷ ss) [] = []
+with_user name keys (s ∷ ss) (l ∷ ls) = (if uses s.kind s.of keys then l ++ name ∷ [] else l) ∷ with_user name keys ss ls
 
 abbrev pub names_in : Vec SlotName Global → List SlotName
 names_in v = v.items

@@ -1,11 +1,12 @@
 //! Where the slots of a table stand, and which slots use them: what is looked up in place of a search.
 
-ghost use Rattle.std.specs.Prelude.{◌≡◌, ◌||◌, not, true, false, [], IfOk, IfSome, Some, map, slice_get, option_map};
+ghost use Rattle.std.specs.Prelude.{◌≡◌, ◌||◌, ◌++◌, ◌∷◌, not, true, false, List, [], IfOk, IfSome, Some, map, slice_get, option_map};
 ghost use Rattle.bench_nodes.specs.Slots.{is_slot};
-ghost use Rattle.bench_nodes.specs.Places.{are_apart, user_names, user_lists, lists_if, lists_in, names_in};
+ghost use Rattle.bench_nodes.specs.Places.{are_apart, user_names, user_lists, lists_if, lists_in, names_in, name_of, put_at, with_user};
+ghost use Rattle.bench_nodes.specs.declared.places.SlotName.{SlotName as NameOfSlot};
 
 use crate::find::{has_slot_among, is_slot};
-use crate::table::Slot;
+use crate::table::{Slot, SlotKey};
 use crate::users::uses;
 use memo_core::keys::Kind;
 use std::alloc::{AllocError, Global};
@@ -119,6 +120,96 @@ fn user_lists(alloc: Global, slots: &[Slot]) -> Result<Vec<Vec<SlotName>>, Alloc
     Ok(lists)
 }
 
+// No users of each slot.
+fn no_lists(alloc: Global, slots: &[Slot]) -> Result<Vec<Vec<SlotName>>, AllocError>
+    ensures { IfOk result (λ v. map names_in v.items ≡ user_lists [] slots.now) }
+{
+    let mut lists = Vec::with_capacity(alloc, slots.len())?;
+    for _ in slots {
+        lists.push(Vec::new(alloc))?;
+    }
+    Ok(lists)
+}
+
+// Adds a user of the slot at an index.
+fn put_at(lists: &mut Vec<Vec<SlotName>>, at: usize, name: SlotName) -> Result<(), AllocError>
+    ensures { IfOk result (λ _. map names_in lists.new.items ≡ put_at at name (map names_in lists.old.items)) }
+{
+    if at < lists.len() {
+        lists[at].push(name)?;
+    }
+    Ok(())
+}
+
+// Adds a user of the slot whose output one of its inputs is, behind those inputs. Answers whether that slot was guessed, if
+// there is one.
+fn put_key(
+    lists: &mut Vec<Vec<SlotName>>,
+    guesses: &[usize],
+    slots: &[Slot],
+    before: &[SlotKey],
+    key: SlotKey,
+    name: SlotName,
+) -> Result<bool, AllocError>
+    requires { are_apart slots.now ≡ true }
+    ensures { IfOk result (λ found. found ≡ true → (all : List (List NameOfSlot)) → map names_in lists.old.items ≡ with_user name before.now slots.now all → map names_in lists.new.items ≡ with_user name (before.now ++ key ∷ []) slots.now all) }
+{
+    let SlotKey::Value(kind, of, _) = key else {
+        return Ok(true);
+    };
+    if uses(kind, of, before) {
+        return Ok(true);
+    }
+    match guessed(guesses, slots, kind, of) {
+        Some(at) => {
+            put_at(lists, at, name)?;
+            Ok(true)
+        }
+        None => Ok(false),
+    }
+}
+
+// Adds a user of the slots whose outputs its inputs are. Answers whether each of these slots was guessed.
+fn put_user(
+    lists: &mut Vec<Vec<SlotName>>,
+    guesses: &[usize],
+    slots: &[Slot],
+    user: &Slot,
+) -> Result<bool, AllocError>
+    requires { are_apart slots.now ≡ true }
+    ensures { IfOk result (λ found. found ≡ true → map names_in lists.new.items ≡ with_user (name_of user.now) user.now.inputs.items slots.now (map names_in lists.old.items)) }
+{
+    let inputs = user.inputs.as_slice();
+    let name = SlotName {
+        kind: user.kind,
+        of: user.of,
+    };
+    for index in 0..inputs.len() {
+        if !put_key(lists, guesses, slots, &inputs[..index], inputs[index], name)? {
+            return Ok(false);
+        }
+    }
+    Ok(true)
+}
+
+// The users of each slot, where each slot that is used is guessed.
+fn guessed_lists(
+    alloc: Global,
+    guesses: &[usize],
+    slots: &[Slot],
+) -> Result<Option<Vec<Vec<SlotName>>>, AllocError>
+    requires { are_apart slots.now ≡ true }
+    ensures { IfOk result (λ found. IfSome found (λ v. map names_in v.items ≡ user_lists slots.now slots.now)) }
+{
+    let mut lists = no_lists(alloc, slots)?;
+    for slot in slots {
+        if !put_user(&mut lists, guesses, slots, slot)? {
+            return Ok(None);
+        }
+    }
+    Ok(Some(lists))
+}
+
 impl SlotPlaces {
     /// No places.
     pub fn new(alloc: Global) -> SlotPlaces
@@ -140,10 +231,15 @@ impl SlotPlaces {
         if slots.len() > MOST_LISTED || !are_apart(slots) {
             return Ok(SlotPlaces::new(alloc));
         }
+        let guesses = guesses_of(alloc, slots)?;
+        let users = match guessed_lists(alloc, &guesses, slots)? {
+            Some(users) => users,
+            None => user_lists(alloc, slots)?,
+        };
         Ok(SlotPlaces {
-            guesses: guesses_of(alloc, slots)?,
+            guesses,
             are_listed: true,
-            users: user_lists(alloc, slots)?,
+            users,
         })
     }
 }

@@ -160,7 +160,10 @@ impl<K: StoreName> BenchPlay<K> {
             Some(events) => events,
             None => return Ok(()),
         };
-        let replies = self.bench.run_events(rt, alloc, &events)?;
+        let Ok(replies) = self.bench.run_events(rt, alloc, &events) else {
+            self.events = Some(events);
+            return put_bytes(answer, b"out of memory");
+        };
         for reply in &replies {
             put_reply(answer, reply)?;
             put_bytes(answer, b"\n")?;
@@ -225,6 +228,22 @@ impl<K: StoreName> BenchPlay<K> {
         }
     }
 
+    /// What is answered to a question. Where memory was refused, this is told, and the question is asked once more.
+    fn answer_again<R: Wait>(
+        &mut self,
+        rt: &R,
+        alloc: Global,
+        answer: &mut Vec<u8>,
+        question: &Question<'_>,
+    ) -> Result<(), AllocError> {
+        self.answer(rt, alloc, answer, question)?;
+        if answer.as_slice() != b"out of memory".as_slice() {
+            return Ok(());
+        }
+        put_bytes(answer, b"\n")?;
+        self.answer(rt, alloc, answer, question)
+    }
+
     /// What is answered to a line, with a line feed behind it: nothing where the line is one of a list of events.
     pub fn answer_line<R: Wait>(
         &mut self,
@@ -240,7 +259,7 @@ impl<K: StoreName> BenchPlay<K> {
                 return String::from_str(alloc, "");
             }
         }
-        self.answer(rt, alloc, &mut answer, &question)?;
+        self.answer_again(rt, alloc, &mut answer, &question)?;
         told(alloc, answer, question.is_quiet)
     }
 }
