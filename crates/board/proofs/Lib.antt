@@ -3,3 +3,4 @@ pub mod Lookups
 pub mod Legal
 pub mod Names
 pub mod Announcing
+pub mod Items

@@ -47,7 +47,7 @@ put_by : {A : Type 0} (f : A → List ℕ) (g : A → A) (y : A) → ((x : A) �
 put_by f g y is xs at true e le = map-changed-put f g (f y) is xs at (ltb-true at (length xs) e)
 put_by f g y is xs at false e le = let l : length xs ≤ at = ltb-false at (length xs) e in map-put_at-push f xs at y (omega arith)
 
-put_names : {A B : Type 0} (f : A → List ℕ) (g : A → A) (y : A) (named : B → List ℕ) (z : B) → ((x : A) → f (g x) ≡ f y) → (xs : List A) (zs : List B) (at : ℕ) → at ≤ length xs → f y ≡ named z → map f xs ≡ map named zs → map f (if nat_lt at (length xs) then changed_at at g xs else xs ++ y ∷ []) ≡ map named (put_at at z zs)
+pub put_names : {A B : Type 0} (f : A → List ℕ) (g : A → A) (y : A) (named : B → List ℕ) (z : B) → ((x : A) → f (g x) ≡ f y) → (xs : List A) (zs : List B) (at : ℕ) → at ≤ length xs → f y ≡ named z → map f xs ≡ map named zs → map f (if nat_lt at (length xs) then changed_at at g xs else xs ++ y ∷ []) ≡ map named (put_at at z zs)
 put_names f g y named z is xs zs at le same names =
     put_by f g y is xs at (nat_lt at (length xs)) refl le ∙ (ap (λ n. put_at at n (map f xs)) same ∙ (ap (λ ns. put_at at (named z) ns) names ∙ sym (map-placed named z zs at)))
 

@@ -3,7 +3,7 @@
 ghost use Rattle.std.specs.Prelude.{List, ◌++◌, ◌∷◌, []};
 ghost use Rattle.board.specs.declared.operation.BoardOp.{BoardOp};
 ghost use Rattle.board.specs.Legal.{texts_after, last_number, MayFollow, IsLegal};
-ghost use Rattle.board.specs.Right.{OutcomesAreRight, HasNamesOf};
+ghost use Rattle.board.specs.Right.{OutcomesAreRight, HasNamesOf, HasItemsOf};
 
 /// After each legal list of operations, each settled cell carries what evaluating its test under its model from nothing gives,
 /// for the texts at that moment.
@@ -14,6 +14,12 @@ pub fn legal_is_right()
 /// After each legal list of operations, the names of the board are those of the texts at that moment, in their orders.
 pub fn names_are_those()
     ensures { (ops : List BoardOp) → IsLegal ops → HasNamesOf ops }
+{}
+
+/// After each legal list of operations, each model of the board has the items of that model of the texts at that moment, with
+/// their numbers, one on each line.
+pub fn items_are_those()
+    ensures { (ops : List BoardOp) → IsLegal ops → HasItemsOf ops }
 {}
 
 /// Each beginning of a legal list is legal.

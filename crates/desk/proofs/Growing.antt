@@ -1,5 +1,5 @@
 -- What readers see only grows.
-use Rattle.std.proofs.Common.{◌≡◌, Bool, true, false, List, sym, subst}
+use Rattle.std.proofs.Common.{◌≡◌, Bool, true, false, List, [], ◌∷◌, ◌++◌, sym, subst}
 use Rattle.std.specs.Prelude.{MatchBool}
 use mathlib.Core.List.{IsPrefix}
 use Rattle.desk_rule.proofs.Fronts.{prefix_self, prefix_trans}
@@ -19,3 +19,12 @@ grown_from old mid new e p = subst (λ (l : List _). IsPrefix l new) e p
 -- it grew, and then grew again
 pub grown_then : {A : Type 0} (old mid new : List A) → IsPrefix old mid → IsPrefix mid new → IsPrefix old new
 grown_then old mid new p q = prefix_trans old mid new p q
+
+-- ---- what was appended goes on from what a viewer knew
+
+pub begins_after : {A : Type 0} (me old more all : List A) → IsPrefix me old → all ≡ old ++ more → IsPrefix me all
+begins_after me old more all p e = prefix_trans me old all p (more, sym e)
+
+pub begins_edit : {A : Type 0} (me old : List A) (op : A) (list more all : List A)
+    → IsPrefix me old → list ≡ old ++ op ∷ [] → all ≡ list ++ more → IsPrefix me all
+begins_edit me old op list more all p made e = begins_after me list more all (begins_after me old (op ∷ []) list p made) e

@@ -9,7 +9,7 @@ ghost use Rattle.desk.specs.Posts.{Posts};
 use crate::posting::{is_settled, post_above, post_settled};
 use crate::texts::BoardTexts;
 use cells::bench::Bench;
-use desk_rule::{Entry, Front, Naming, Plate, Press};
+use desk_rule::{Entry, Front, Naming, Plate, Press, Viewer};
 use left_right::Absorb;
 use memo_bench::witness::Witness;
 use memo_core::keys::Node;
@@ -89,6 +89,15 @@ impl<J: Naming, X: BoardTexts> Ledger<J, X> {
         ensures { IsTrue result → AreSettled (X.cells (fold X.after X.none self.now.all)) }
     {
         is_settled(&self.press)
+    }
+
+    /// Tells a viewer all operations, which go on from what it knows.
+    pub(crate) fn tell_all(&self, me: &mut Viewer<J, X>)
+        requires begins { IsPrefix me.old self.now.all }
+        ensures told { me.new ≡ self.now.all }
+        ensures legal { X.is_legal self.now.all }
+    {
+        me.tell(self.front());
     }
 
     /// Waits for the readers, and ends.

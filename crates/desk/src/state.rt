@@ -163,7 +163,7 @@ impl<J: Naming + StoreName, X: BoardTexts, R: Wait + Drop> DeskState<J, X, R> {
             self.owes = true;
             return Ok(Accepted::Later(number));
         }
-        me.tell(self.ledger.front());
+        self.ledger.tell_all(me);
         Ok(Accepted::Now(number))
     }
 
@@ -331,7 +331,7 @@ impl<J: Naming + StoreName, X: BoardTexts, R: Wait + Drop> DeskState<J, X, R> {
 
     /// Publishes, and tells the viewer once each cell is settled. Errors: K1, and K2 if the viewer has seen more than this desk
     /// has.
-    #[tactic(auto, using(crate::proofs::Growing::prefix_same, crate::proofs::Growing::grown_from))]
+    #[tactic(auto, using(crate::proofs::Growing::prefix_same, crate::proofs::Growing::grown_from, crate::proofs::Growing::begins_after))]
     pub fn settle<W: Wait>(
         &mut self,
         rt: &W,
@@ -357,7 +357,7 @@ impl<J: Naming + StoreName, X: BoardTexts, R: Wait + Drop> DeskState<J, X, R> {
         if !self.ledger.is_settled() {
             return Ok(Settling::Waits(self.changes));
         }
-        me.tell(self.ledger.front());
+        self.ledger.tell_all(me);
         Ok(Settling::Done)
     }
 

@@ -58,11 +58,15 @@ impl<J: Naming, L: Operations> Viewer<J, L> {
         front.begins_with(&self.front)
     }
 
-    /// Lets it know these operations.
+    /// Lets it know these operations, where they go on from what it knows; else it keeps what it knows.
     pub fn tell(&mut self, front: &Front<J, L>)
-        ensures { self.new ≡ front.now }
+        ensures told { IsPrefix self.old front.now → self.new ≡ front.now }
+        ensures kept { (IsPrefix self.old front.now → ⊥) → self.new ≡ self.old }
+        ensures begins { IsPrefix self.old self.new }
     {
-        self.front = front.again();
+        if front.begins_with(&self.front) {
+            self.front = front.again();
+        }
     }
 
     /// Takes the board that was published last. It takes no memory and waits for nobody. The viewer comes back where there is

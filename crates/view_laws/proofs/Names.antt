@@ -1,6 +1,6 @@
 -- Two lists with the same names have the same index of each name.
 use Rattle.std.proofs.Common.{◌≡◌, ℕ, zero, suc, ◌+◌, ◌<◌, ◌≤◌, List, [], ◌∷◌, length, map, Option, Some, None, not, cond, refl, sym, ap, ◌∙◌, arith}
-use Rattle.std.specs.Prelude.{slice_get, bytes_eq}
+use Rattle.std.specs.Prelude.{slice_get, bytes_eq, option_map}
 use Rattle.std.specs.List.{position_or_len}
 use Rattle.std.proofs.lemmas.Option.{none-some}
 
@@ -44,6 +44,13 @@ module _ {A B : Type 0} (f : A → List ℕ) (g : B → List ℕ) where
       let same : a ≡ x = (cc) in
       (y, refl, sym (first_alike (f a) (g y) (map f xs) (map g ys) e) ∙ ap f same)
   same_name (a ∷ xs) (y ∷ ys) (suc i) x e h = same_name xs ys i x (rest_alike (f a) (g y) (map f xs) (map g ys) e) h
+
+  pub get_alike : (xs : List A) (ys : List B) (i : ℕ) → map f xs ≡ map g ys → option_map f (slice_get xs i) ≡ option_map g (slice_get ys i)
+  get_alike [] [] i e = refl
+  get_alike [] (y ∷ ys) i e = cc
+  get_alike (x ∷ xs) [] i e = cc
+  get_alike (x ∷ xs) (y ∷ ys) zero e = ap (λ (n : List ℕ). Some n) (first_alike (f x) (g y) (map f xs) (map g ys) e)
+  get_alike (x ∷ xs) (y ∷ ys) (suc i) e = get_alike xs ys i (rest_alike (f x) (g y) (map f xs) (map g ys) e)
 
 -- ---- within a list, or past its end
 

@@ -5,12 +5,19 @@ ghost use Rattle.board.specs.declared.operation.BoardOp.{BoardOp};
 ghost use Rattle.board.specs.Operations.{board_after};
 ghost use Rattle.board.specs.Legal.{Held, IsLegal, last_number};
 ghost use Rattle.view_laws.specs.Results.{HasOneResult, ShowsRightCells};
+ghost use Rattle.view_laws.specs.Items.{ShowsRightItems};
 ghost use Rattle.view_laws.specs.Edits.{edits_in, edit_count, AreNumbersApart};
 
 /// After each legal list of operations each cell, asked for by the names of its test and of its model, is right for the texts
 /// after them: it is there just where both are, and an outcome is what evaluating the one under the other from nothing gives.
 pub fn cells_are_right()
     ensures { (ops : List BoardOp) → IsLegal ops → ShowsRightCells ops }
+{}
+
+/// After each legal list of operations the items of each model, asked for by its name, are those of that model in the texts
+/// after them, with their numbers, one on each line; there are none just where the texts lack the model.
+pub fn items_are_right()
+    ensures { (ops : List BoardOp) → IsLegal ops → ShowsRightItems ops }
 {}
 
 /// Texts have one result of a test under a model.
