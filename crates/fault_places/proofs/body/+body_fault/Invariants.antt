@@ -1,0 +1,15 @@
+use Rattle.std.proofs.Common.{◌≡◌, List, map, drop, reverse}
+use Rattle.std.specs.Prelude.{option_map}
+use Rattle.cat_values.specs.Value.{gathered}
+use Rattle.cat_values.specs.Values.{term_of}
+use Rattle.binding_kinds.specs.Value.{entry_of}
+use Rattle.binding_kinds.specs.Senses.{Sense, AreKept}
+use Rattle.fault_places.specs.Search.{signed_of, or_later, signed_in_body, signed_in_bodies}
+use Rattle.fault_places.proofs.body.+body_fault.Given as goal
+
+abbrev pub invariant-loop-argument : goal.invariant-loop-argument
+invariant-loop-argument l =
+    (senses : List Sense) → AreKept l.sight.functions.now senses →
+    (let names = reverse (map entry_of l.sight.entries.now) in
+    or_later (option_map signed_of l.all) (signed_in_bodies senses names l.sight.parameters.now (gathered (map term_of (drop l.argument-index l.argument-items))))
+    ≡ signed_in_body senses names l.sight.parameters.now (term_of l.term))

@@ -1,0 +1,3 @@
+pub mod Signs
+pub mod Search
+pub mod Found

@@ -1,0 +1,105 @@
+//! The fault of an application itself, whatever its arguments' faults are.
+
+ghost use Rattle.std.specs.Prelude.{◌≡◌, ◌<◌, ◌≤◌, List, length, reverse, map, None, Ok, Err, MatchResult};
+ghost use Rattle.cat_values.specs.Value.{gathered};
+ghost use Rattle.cat_values.specs.Values.{term_of};
+ghost use Rattle.binding_kinds.specs.Value.{entry_of};
+ghost use Rattle.binding_kinds.specs.Kinds.{found};
+ghost use Rattle.binding_kinds.specs.Combinations.{digit, number_of};
+ghost use Rattle.binding_kinds.specs.Senses.{Sense, IsKept, AreKept, IsAlike, sense_of, sizes_in, kinds_in, size_applied, under_of, fault_applied};
+
+use binding_kinds::{Binder, Entry, Function, Kind, MAX_SIZE, ModelFault, find, judge, unless};
+use cat_values::Expression;
+use source_text::Name;
+
+/// The function that a name with so many arguments stands for.
+fn function_of<'a>(
+    entries: &[Entry],
+    functions: &'a [Function],
+    name: &Name,
+    count: usize,
+) -> Result<&'a Function, ModelFault>
+    ensures { let looked_for = found (reverse (map entry_of entries.now)) name.now in (senses : List Sense) → AreKept functions.now senses → MatchResult result (λ f. (s : Sense) × (sense_of senses count looked_for ≡ Ok s) × IsKept f.now s) (λ k. sense_of senses count looked_for ≡ Err k) }
+{
+    let Some(found) = find(entries, name) else {
+        return Err(ModelFault::Unbound);
+    };
+    match found.binder {
+        Binder::Applicable(function) => match functions.get(function) {
+            None => Err(ModelFault::Arity),
+            Some(one) => {
+                if one.arity == count {
+                    Ok(one)
+                } else {
+                    Err(ModelFault::Arity)
+                }
+            }
+        },
+        Binder::Predefined(_) => Err(ModelFault::Arity),
+        Binder::Bound(_) => Err(ModelFault::Arity),
+    }
+}
+
+fn digit(kind: Kind) -> usize
+    ensures value { result ≡ digit kind }
+    ensures small { result ≤ 2 }
+{
+    match kind {
+        Kind::OfSet => 0,
+        Kind::OfRelation => 1,
+        Kind::OfAny => 2,
+    }
+}
+
+/// The kinds of the arguments as one number.
+fn combination_of(entries: &[Entry], functions: &[Function], arguments: &[Expression]) -> usize
+    ensures { (senses : List Sense) → AreKept functions.now senses → length arguments.now ≤ 8 → result ≡ number_of (kinds_in senses (reverse (map entry_of entries.now)) (gathered (map term_of arguments.now))) }
+{
+    let mut combination = 0usize;
+    let mut end = arguments.len();
+    'arguments: while 0 < end {
+        end -= 1;
+        let judged = judge(entries, functions, 0, false, &arguments[end]);
+        let digit = digit(judged.kind);
+        combination = combination.saturating_mul(3).saturating_add(digit);
+    }
+    combination
+}
+
+/// The fault of an application itself, given its size.
+pub fn application_fault(
+    entries: &[Entry],
+    functions: &[Function],
+    name: &Name,
+    arguments: &[Expression],
+    size: usize,
+) -> Option<ModelFault>
+    ensures { let names = reverse (map entry_of entries.now) in let ts = gathered (map term_of arguments.now) in (senses : List Sense) → AreKept functions.now senses → (let f = sense_of senses (length arguments.now) (found names name.now) in IsAlike size (size_applied f (sizes_in senses names ts)) → result ≡ fault_applied f (sizes_in senses names ts) (kinds_in senses names ts) None) }
+{
+    match function_of(entries, functions, name, arguments.len()) {
+        Err(fault) => Some(fault),
+        Ok(function) => {
+            if MAX_SIZE < size {
+                return Some(ModelFault::TooLarge);
+            }
+            let combination = combination_of(entries, functions, arguments);
+            unless(!function.signature(combination).clashes, ModelFault::Kind)
+        }
+    }
+}
+
+/// Whether the argument at that index stands under a complement in the body of the function.
+pub fn is_under(
+    entries: &[Entry],
+    functions: &[Function],
+    name: &Name,
+    count: usize,
+    index: usize,
+) -> bool
+    ensures { (senses : List Sense) → AreKept functions.now senses → index < count → result ≡ under_of (sense_of senses count (found (reverse (map entry_of entries.now)) name.now)) index }
+{
+    match function_of(entries, functions, name, count) {
+        Err(_) => false,
+        Ok(function) => function.is_under(index),
+    }
+}

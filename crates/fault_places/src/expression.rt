@@ -1,0 +1,93 @@
+//! The first fault of an expression, and the sign that it stands at.
+
+ghost use Rattle.std.specs.Prelude.{◌≡◌, ◌||◌, List, reverse, map, option_map};
+ghost use Rattle.cat_values.specs.Values.{term_of};
+ghost use Rattle.binding_kinds.specs.Value.{entry_of};
+ghost use Rattle.binding_kinds.specs.Kinds.{found};
+ghost use Rattle.binding_kinds.specs.Verdict.{of_name};
+ghost use Rattle.binding_kinds.specs.Senses.{Sense, AreKept, kind_in};
+ghost use Rattle.fault_places.specs.Search.{signed_of, signed, signed_in};
+
+use crate::application::{application_fault, is_under};
+use crate::kinds::{is_relation, is_set, takes};
+use crate::place::{SignFault, or_later, signed};
+use crate::signs::{infix_sign, postfix_sign};
+use binding_kinds::{Entry, Function, Kind, ModelFault, is_turned, judge, unless};
+use cat_values::Expression;
+
+fn kind_of(entries: &[Entry], functions: &[Function], term: &Expression) -> Kind
+    ensures { (senses : List Sense) → AreKept functions.now senses → result ≡ kind_in senses (reverse (map entry_of entries.now)) (term_of term.now) }
+{
+    judge(entries, functions, 0, false, term).kind
+}
+
+fn either(one: bool, other: bool) -> bool
+    ensures { result ≡ (one || other) }
+{
+    one || other
+}
+
+/// The first fault of an expression, seen under a complement or not. The names of the item itself have the slot `from`
+/// and those behind it.
+pub fn expression_fault<'t>(
+    entries: &[Entry],
+    functions: &[Function],
+    from: usize,
+    under: bool,
+    term: &'t Expression,
+) -> Option<SignFault<'t>>
+    ensures { (senses : List Sense) → AreKept functions.now senses → option_map signed_of result ≡ signed_in senses (reverse (map entry_of entries.now)) from under (term_of term.now) }
+{
+    match term {
+        Expression::Named(name) => {
+            let judged = judge(entries, functions, from, under, term);
+            signed(judged.fault, name.as_bytes())
+        }
+        Expression::Everything => None,
+        Expression::NoPairs => None,
+        Expression::NoEvents => None,
+        Expression::Joined(op, left, right) => {
+            let first = expression_fault(entries, functions, from, under, left);
+            let fits = takes(
+                *op,
+                kind_of(entries, functions, left),
+                kind_of(entries, functions, right),
+            );
+            let here = signed(unless(fits, ModelFault::Kind), infix_sign(*op));
+            let second = expression_fault(entries, functions, from, is_turned(*op, under), right);
+            or_later(first, or_later(here, second))
+        }
+        Expression::Marked(op, operand) => {
+            let first = expression_fault(entries, functions, from, under, operand);
+            let fits = is_relation(kind_of(entries, functions, operand));
+            or_later(
+                first,
+                signed(unless(fits, ModelFault::Kind), postfix_sign(*op)),
+            )
+        }
+        Expression::Complement(operand) => {
+            expression_fault(entries, functions, from, true, operand)
+        }
+        Expression::Identity(operand) => {
+            let fits = is_set(kind_of(entries, functions, operand));
+            let here = signed(unless(fits, ModelFault::Kind), b"[");
+            or_later(
+                here,
+                expression_fault(entries, functions, from, under, operand),
+            )
+        }
+        Expression::Applied(name, arguments) => {
+            let count = arguments.len();
+            let judged = judge(entries, functions, from, under, term);
+            let own = application_fault(entries, functions, name, arguments, judged.size);
+            let mut all = signed(own, name.as_bytes());
+            for (index, argument) in arguments.iter().enumerate() {
+                let turned = is_under(entries, functions, name, count, index);
+                let inner = either(under, turned);
+                let one = expression_fault(entries, functions, from, inner, argument);
+                all = or_later(all, one);
+            }
+            all
+        }
+    }
+}

@@ -1,0 +1,105 @@
+//! The first fault of a group and of parameters, and the sign that it stands at.
+
+ghost use Rattle.std.specs.Prelude.{◌≡◌, [], List, reverse, map, option_map};
+ghost use Rattle.binding_kinds.specs.Value.{Naming, entry_of, bound_of};
+ghost use Rattle.binding_kinds.specs.GroupNames.{names_of};
+ghost use Rattle.binding_kinds.specs.Senses.{Sense, AreKept, kind_in};
+ghost use Rattle.binding_kinds.specs.Verdict.{is_seen, of_parameter};
+ghost use Rattle.binding_kinds.specs.First.{of_binding};
+ghost use Rattle.fault_places.specs.Search.{signed_of, signed, signed_in_group, signed_parameter};
+
+use crate::expression::expression_fault;
+use crate::place::{SignFault, or_later, signed};
+use binding_kinds::{Entry, Function, Kind, ModelFault, judge, unless};
+use cat_values::{Binding, MAX_PARAMETERS};
+use source_text::Name;
+
+/// Whether one of the bindings has the name.
+fn is_seen(before: &[Binding], name: &Name) -> bool
+    ensures { result ≡ is_seen (names_of before.now) name.now }
+{
+    let mut is_found = false;
+    for binding in before {
+        if binding.name.is_same(name) {
+            is_found = true;
+        }
+    }
+    is_found
+}
+
+/// The fault of a binding's own name, whose body has that kind.
+fn binding_fault(
+    body: Kind,
+    recursive: bool,
+    before: &[Binding],
+    binding: &Binding,
+) -> Option<ModelFault>
+    ensures { (senses : List Sense) → (names : List Naming) → body ≡ kind_in senses names (bound_of binding.now).body → result ≡ of_binding senses names recursive (names_of before.now) (bound_of binding.now) }
+{
+    if is_seen(before, &binding.name) {
+        return Some(ModelFault::Duplicate);
+    }
+    if recursive && body == Kind::OfSet {
+        return Some(ModelFault::SetInRec);
+    }
+    None
+}
+
+/// The first fault of the bindings of a group.
+pub fn group_fault<'t>(
+    entries: &[Entry],
+    functions: &[Function],
+    from: usize,
+    recursive: bool,
+    group: &'t [Binding],
+) -> Option<SignFault<'t>>
+    ensures { (senses : List Sense) → AreKept functions.now senses → option_map signed_of result ≡ signed_in_group senses (reverse (map entry_of entries.now)) from recursive [] (map bound_of group.now) }
+{
+    let mut all = None;
+    for (index, binding) in group.iter().enumerate() {
+        let judged = judge(entries, functions, from, false, &binding.body);
+        let own = binding_fault(judged.kind, recursive, &group[..index], binding);
+        let here = signed(own, binding.name.as_bytes());
+        let body = expression_fault(entries, functions, from, false, &binding.body);
+        let one = or_later(here, body);
+        all = or_later(all, one);
+    }
+    all
+}
+
+/// Whether one of the parameters has the name.
+#[tactic(auto, using(binding_kinds::proofs::Scopes::rev_next))]
+fn is_among(before: &[Name], name: &Name) -> bool
+    ensures { result ≡ is_seen (reverse before.now) name.now }
+{
+    let mut is_found = false;
+    for parameter in before {
+        if parameter.as_bytes() == name.as_bytes() {
+            is_found = true;
+        }
+    }
+    is_found
+}
+
+/// The fault of a parameter after those before it.
+fn parameter_fault(before: &[Name], parameter: &Name) -> Option<ModelFault>
+    ensures { result ≡ of_parameter (reverse before.now) parameter.now }
+{
+    if is_among(before, parameter) {
+        return Some(ModelFault::Duplicate);
+    }
+    unless(before.len() < MAX_PARAMETERS, ModelFault::TooLarge)
+}
+
+/// The first fault of the parameters of a function.
+pub fn parameters_fault<'t>(parameters: &'t [Name]) -> Option<SignFault<'t>>
+    ensures { option_map signed_of result ≡ signed_parameter [] parameters.now }
+{
+    let mut all = None;
+    for (index, parameter) in parameters.iter().enumerate() {
+        let own = parameter_fault(&parameters[..index], parameter);
+        let one = signed(own, parameter.as_bytes());
+        all = or_later(all, one);
+    }
+    all
+}

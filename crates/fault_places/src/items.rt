@@ -1,0 +1,49 @@
+//! The first fault of a model, by item and then by index.
+
+ghost use Rattle.std.specs.Prelude.{◌≡◌, List, reverse, map, IfOk, option_map};
+ghost use Rattle.binding_kinds.specs.Value.{entry_of, clause_of};
+ghost use Rattle.binding_kinds.specs.Senses.{Sense, AreKept};
+ghost use Rattle.fault_places.specs.Search.{placed_of, placed_in};
+ghost use Rattle.fault_places.specs.Found.{IsFound};
+
+use crate::declare::declare_item;
+use crate::place::ItemFault;
+use binding_kinds::Scope;
+use cat_values::Item;
+use std::alloc::{AllocError, Global};
+
+/// The first fault of items over a scope.
+fn find_fault<'t>(
+    alloc: Global,
+    scope: &mut Scope,
+    items: &'t [Item],
+) -> Result<Option<ItemFault<'t>>, AllocError>
+    ensures { (senses : List Sense) → AreKept scope.old.functions.items senses → IfOk result (λ f. option_map placed_of f ≡ placed_in senses (reverse (map entry_of scope.old.entries.items)) 0 (map clause_of items.now)) }
+{
+    for (index, item) in items.iter().enumerate() {
+        let fault = declare_item(alloc, scope, index, item)?;
+        match fault {
+            None => {}
+            Some(found) => {
+                return Ok(Some(ItemFault {
+                    item: index,
+                    fault: found.fault,
+                    sign: found.sign,
+                }));
+            }
+        }
+    }
+    Ok(None)
+}
+
+/// The first fault of the items of a model, if there is one: its item, its number, and the sign at fault. It is the
+/// fault for which the model is refused. Errors: out of memory.
+pub fn first_fault<'t>(
+    alloc: Global,
+    items: &'t [Item],
+) -> Result<Option<ItemFault<'t>>, AllocError>
+    ensures { IfOk result (IsFound (map clause_of items.now)) }
+{
+    let mut scope = Scope::new(alloc)?;
+    find_fault(alloc, &mut scope, items)
+}

@@ -1,0 +1,4 @@
+pub mod Models
+pub mod Replies
+pub mod Edits
+pub mod Outputs

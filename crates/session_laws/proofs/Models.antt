@@ -1,0 +1,116 @@
+-- Models that say the same give a test the same outcomes.
+use Rattle.std.proofs.Common.{◌≡◌, ℕ, List, [], ◌∷◌, map, Option, Some, None, refl, sym, ap, ◌∙◌, subst}
+use Rattle.std.proofs.lemmas.Simd.{map-map}
+use Rattle.std.specs.List.{AllZip}
+use Rattle.litmus_values.specs.declared.test.Test.{Test}
+use Rattle.litmus_values.specs.Value.{Content, content_of}
+use Rattle.cat_values.specs.declared.model.Item as code_item
+use Rattle.cat_values.specs.declared.model.Item.TheVariants as items
+use Rattle.cat_values.specs.declared.model.ModelText.{ModelText}
+use Rattle.cat_values.specs.Value as said
+use Rattle.cat_values.specs.Value.{Term}
+use Rattle.cat_values.specs.Values as values
+use Rattle.binding_kinds.specs.Value.{Bound, Clause, Group, Check, Mute, Defined, bound_of, clause_of}
+use Rattle.binding_kinds.specs.Faults.{HasNoFault, FirstFault}
+use Rattle.binding_graph.specs.declared.resolved.ResolvedItem.{ResolvedItem}
+use Rattle.binding_graph.specs.Resolved.{AreResolved, IsLabelled, IsLabelledAs, AreLabelled}
+use Rattle.verdict.specs.declared.answer.Outcome.{Outcome}
+use Rattle.verdict.specs.declared.answer.OutcomeResult.{OutcomeResult}
+use Rattle.verdict.specs.declared.answer.OutcomeResult.TheVariants.{Refused, Evaluated}
+use Rattle.verdict.specs.declared.answer.Refusal.TheVariants as refusals
+use Rattle.memo_graph.specs.FromScratch.{outermost, IsResultOf, IsFromScratch}
+use Rattle.bench_texts.specs.BenchTexts.{PlainModel}
+use Rattle.evaluation_laws.proofs.Saying.{one_outcome}
+use Rattle.slice_laws.proofs.Tests.{equal_tests}
+use Rattle.session_answers.specs.Cells.{IsOutcome}
+use Rattle.session_laws.specs.Laws.{HasOneOutcome}
+
+-- ---- what an item binds and checks, from what it says
+
+abbrev bound_by : List ℕ × Term → Bound
+bound_by b = record { name = b.0; body = b.1 }
+
+abbrev clause_by : said.Clause → Clause
+clause_by (said.Binding recursive group) = Group recursive (map bound_by group)
+clause_by (said.Function name parameters body) = Defined name parameters body
+clause_by (said.Checking check label) = Check check.word check.body
+clause_by (said.Flagging check label) = Check check.word check.body
+clause_by (said.Showing hidden shown) = Mute
+clause_by (said.Including path) = Mute
+
+one_clause : (i : code_item.Item) → clause_by (values.clause_of i) ≡ clause_of i
+one_clause (items.Let r g) = ap (Group r) (map-map bound_by values.binding_of g.items)
+one_clause (items.Function n ps b) = refl
+one_clause (items.Check c l) = refl
+one_clause (items.Flag c l) = refl
+one_clause (items.Show h s) = refl
+one_clause (items.Include n) = refl
+
+all_clauses : (is : List code_item.Item) → map clause_by (values.clauses_of is) ≡ map clause_of is
+all_clauses [] = refl
+all_clauses (i ∷ is) = let a = one_clause i in let b = all_clauses is in λ k. a k ∷ b k
+
+-- ---- labels
+
+-- what an item is resolved to has the labels of what the item says
+abbrev IsNamed : said.Clause → ResolvedItem → Type 0
+IsNamed (said.Binding recursive group) x = Unit {0}
+IsNamed (said.Function name parameters body) x = Unit {0}
+IsNamed (said.Checking check label) x = IsLabelled check.negated None x.role
+IsNamed (said.Flagging check label) x = IsLabelled check.negated (Some label) x.role
+IsNamed (said.Showing hidden shown) x = Unit {0}
+IsNamed (said.Including path) x = Unit {0}
+
+named_of : (i : code_item.Item) (x : ResolvedItem) → IsLabelledAs i x → IsNamed (values.clause_of i) x
+named_of (items.Let r g) x h = tt
+named_of (items.Function n ps b) x h = tt
+named_of (items.Check c l) x h = h
+named_of (items.Flag c l) x h = h
+named_of (items.Show s t) x h = tt
+named_of (items.Include n) x h = tt
+
+labelled_of : (i : code_item.Item) (x : ResolvedItem) → IsNamed (values.clause_of i) x → IsLabelledAs i x
+labelled_of (items.Let r g) x h = tt
+labelled_of (items.Function n ps b) x h = tt
+labelled_of (items.Check c l) x h = h
+labelled_of (items.Flag c l) x h = h
+labelled_of (items.Show s t) x h = tt
+labelled_of (items.Include n) x h = tt
+
+all_named : (is : List code_item.Item) (rs : List ResolvedItem) → AreLabelled is rs → AllZip IsNamed (values.clauses_of is) rs
+all_named [] [] h = tt
+all_named [] (r ∷ rs) h = h
+all_named (i ∷ is) [] h = h
+all_named (i ∷ is) (r ∷ rs) h = (named_of i r h.0, all_named is rs h.1)
+
+all_labelled : (is : List code_item.Item) (rs : List ResolvedItem) → AllZip IsNamed (values.clauses_of is) rs → AreLabelled is rs
+all_labelled [] [] h = tt
+all_labelled [] (r ∷ rs) h = h
+all_labelled (i ∷ is) [] h = h
+all_labelled (i ∷ is) (r ∷ rs) h = (labelled_of i r h.0, all_labelled is rs h.1)
+
+-- ---- models
+
+module _ (model other : ModelText) (same : values.clauses_of model.items.items ≡ values.clauses_of other.items.items) where
+  clauses : map clause_of model.items.items ≡ map clause_of other.items.items
+  clauses = sym (all_clauses model.items.items) ∙ (ap (map clause_by) same ∙ all_clauses other.items.items)
+
+  labels : (rs : List ResolvedItem) → AreLabelled model.items.items rs → AreLabelled other.items.items rs
+  labels rs h = all_labelled other.items.items rs (subst (λ (cs : List said.Clause). AllZip IsNamed cs rs) same (all_named model.items.items rs h))
+
+  moved : (test : Test) (r : OutcomeResult) → IsResultOf test model r → IsResultOf test other r
+  moved test (Refused (refusals.Model k)) h = subst (λ (cs : List Clause). FirstFault [] outermost 0 cs k) clauses h
+  moved test (Refused (refusals.Space r)) h = (subst (λ (cs : List Clause). HasNoFault [] outermost 0 cs) clauses h.0, h.1)
+  moved test (Evaluated e) h = (
+    subst (λ (cs : List Clause). HasNoFault [] outermost 0 cs) clauses h.0,
+    (h.1.0, (subst (λ (cs : List Clause). AreResolved [] [] outermost 0 cs h.1.0) clauses h.1.1.0, labels h.1.0 h.1.1.1), h.1.2, h.1.3, h.1.4),
+  )
+
+  pub equal_models : (test : Test) (o : Outcome) → IsFromScratch test model o → IsFromScratch test other o
+  equal_models test o h = record { kind = h.kind; condition = h.condition; result = moved test o.result h.result }
+
+pub one_outcome_said : (test : Content) (model : PlainModel) → HasOneOutcome test model
+one_outcome_said test model o p h g =
+    let there = equal_tests h.test g.test h.model (h.test_is ∙ sym g.test_is) o h.said in
+    let here = equal_models h.model g.model (h.model_is ∙ sym g.model_is) g.test o there in
+    one_outcome g.test g.model o p here g.said

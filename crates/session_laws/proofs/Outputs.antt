@@ -1,0 +1,149 @@
+-- Commands of which none is refused have one output.
+use Rattle.std.proofs.Common.{◌≡◌, ℕ, List, [], ◌∷◌, ◌++◌, Bool, true, false, ◌||◌, refl, sym, ap, ◌∙◌, subst}
+use Rattle.std.proofs.lemmas.List.{append_assoc, append-nil}
+use Rattle.session_script.specs.declared.command.Command.{Command}
+use Rattle.session_script.specs.declared.command.Command.TheVariants as commands
+use Rattle.bench_texts.specs.BenchTexts.{BenchTexts}
+use Rattle.bench_texts.specs.Edits.{Edit}
+use Rattle.session_edits.specs.Answer.{Said}
+use Rattle.session_edits.specs.Edits.{IsEdited, IsAccepted, IsRefused}
+use Rattle.session_edits.specs.Requests.{Asked, Editing, Asking, asked_in}
+use Rattle.session_answers.specs.Sessions.{IsAsked, IsAnswered, IsOutput, Nothing, OneMore, no_texts}
+use Rattle.session_laws.specs.Laws.{HasOneOutput, BeginsAlike}
+use Rattle.session_laws.proofs.Edits.{AreFew, few_made, one_made}
+use Rattle.session_laws.proofs.Replies.{one_reply}
+
+-- ---- one command
+
+-- the same answer, and the same texts after it
+record AreOne (a b : Said) (after later : BenchTexts) : Type 0 where
+  answer : a ≡ b
+  texts : after ≡ later
+
+is_denied : (a b : Said) → a ≡ b → b.refused ≡ true → a.refused ≡ false → ⊥
+is_denied a b e t f = let h : true ≡ false = sym t ∙ (sym (ap (λ (s : Said). s.refused) e) ∙ f) in absurd cc
+
+one_edited : (t : BenchTexts) (e : Edit) (a b : Said) (after later : BenchTexts) → AreFew t.tests → a.refused ≡ false → b.refused ≡ false → IsEdited t e a after → IsEdited t e b later → AreOne a b after later
+one_edited t e a b after later few f g (IsAccepted h x) (IsAccepted k y) = record { answer = x ∙ sym y; texts = one_made t e after later few h.makes k.makes }
+one_edited t e a b after later few f g (IsAccepted h x) (IsRefused fault is k y z) = absurd (is_denied b _ y refl g)
+one_edited t e a b after later few f g (IsRefused fault is k y z) h = absurd (is_denied a _ y refl f)
+
+one_asked : (t : BenchTexts) (q : Asked) (a b : Said) (after later : BenchTexts) → AreFew t.tests → a.refused ≡ false → b.refused ≡ false → IsAsked t q a after → IsAsked t q b later → AreOne a b after later
+one_asked t (Editing e) a b after later few f g h k = one_edited t e a b after later few f g h k
+one_asked t (Asking q) a b after later few f g h k = record { answer = one_reply t q a b h.0 k.0; texts = h.1 ∙ sym k.1 }
+
+one_answered : (t : BenchTexts) (c : Command) (a b : Said) (after later : BenchTexts) → AreFew t.tests → a.refused ≡ false → b.refused ≡ false → IsAnswered t c a after → IsAnswered t c b later → AreOne a b after later
+one_answered t (commands.Refused rule) a b after later few f g h k = record { answer = h.0 ∙ sym k.0; texts = h.1 ∙ sym k.1 }
+one_answered t (commands.Asked request text) a b after later few f g h k = one_asked t (asked_in request text) a b after later few f g h k
+
+few_edited : (t : BenchTexts) (e : Edit) (a : Said) (after : BenchTexts) → AreFew t.tests → IsEdited t e a after → AreFew after.tests
+few_edited t e a after few (IsAccepted h x) = few_made t e after h.all_there few h.makes
+few_edited t e a after few (IsRefused fault is k y z) = subst (λ (u : BenchTexts). AreFew u.tests) (sym z) few
+
+few_asked : (t : BenchTexts) (q : Asked) (a : Said) (after : BenchTexts) → AreFew t.tests → IsAsked t q a after → AreFew after.tests
+few_asked t (Editing e) a after few h = few_edited t e a after few h
+few_asked t (Asking q) a after few h = subst (λ (u : BenchTexts). AreFew u.tests) (sym h.1) few
+
+few_answered : (t : BenchTexts) (c : Command) (a : Said) (after : BenchTexts) → AreFew t.tests → IsAnswered t c a after → AreFew after.tests
+few_answered t (commands.Refused rule) a after few h = subst (λ (u : BenchTexts). AreFew u.tests) (sym h.1) few
+few_answered t (commands.Asked request text) a after few h = few_asked t (asked_in request text) a after few h
+
+few_output : (cs : List Command) (text : List ℕ) (r : Bool) (t : BenchTexts) → IsOutput cs text r t → AreFew t.tests
+few_output cs text r t Nothing = tt
+few_output cs text r t (OneMore front before refused texts c said after h answer) = few_answered texts c said after (few_output front before refused texts h) answer
+
+-- ---- commands
+
+record AreSplit (front other : List Command) (c d : Command) : Type 0 where
+  fronts : front ≡ other
+  ends : c ≡ d
+
+no_command : (cs : List Command) (c : Command) → [] ≡ (cs ++ c ∷ []) → ⊥
+no_command [] c e = absurd cc
+no_command (d ∷ cs) c e = absurd cc
+
+last_one : (front other : List Command) (c d : Command) → (front ++ c ∷ []) ≡ (other ++ d ∷ []) → AreSplit front other c d
+last_one [] [] c d e = record { fronts = refl; ends = cc }
+last_one [] (x ∷ other) c d e = absurd (no_command other d (let h : [] ≡ (other ++ d ∷ []) = cc in h))
+last_one (x ∷ front) [] c d e = absurd (no_command front c (let h : [] ≡ (front ++ c ∷ []) = cc in h))
+last_one (x ∷ front) (y ∷ other) c d e =
+    let heads : x ≡ y = cc in
+    let rest : (front ++ c ∷ []) ≡ (other ++ d ∷ []) = cc in
+    let r = last_one front other c d rest in
+    record { fronts = (λ i. heads i ∷ r.fronts i); ends = r.ends }
+
+neither : (a b : Bool) → (a || b) ≡ false → (a ≡ false) × (b ≡ false)
+neither false false e = (refl, refl)
+neither false true e = absurd (let h : true ≡ false = e in cc)
+neither true b e = absurd (let h : true ≡ false = e in cc)
+
+-- ---- outputs
+
+record IsOne (a b : List ℕ) (t u : BenchTexts) : Type 0 where
+  text : a ≡ b
+  texts : t ≡ u
+
+one_more : (front other : List Command) (c d : Command) (a b : List ℕ) (p q : Bool) (t u : BenchTexts) (s z : Said) (after later : BenchTexts) → front ≡ other → c ≡ d → AreFew t.tests → (IsOne a b t u)
+    → s.refused ≡ false → z.refused ≡ false → IsAnswered t c s after → IsAnswered u d z later → IsOne (a ++ s.text) (b ++ z.text) after later
+one_more front other c d a b p q t u s z after later fronts ends few same f g h k =
+    let moved : IsAnswered t c z later = subst (λ (e : Command). IsAnswered t e z later) (sym ends) (subst (λ (v : BenchTexts). IsAnswered v d z later) (sym same.texts) k) in
+    let one = one_answered t c s z after later few f g h moved in
+    record { text = ap (λ (l : List ℕ). l ++ s.text) same.text ∙ ap (λ (x : Said). b ++ x.text) one.answer; texts = one.texts }
+
+one_output : (cs : List Command) (a : List ℕ) (p : Bool) (t : BenchTexts) → IsOutput cs a p t → (ds : List Command) (b : List ℕ) (q : Bool) (u : BenchTexts) → IsOutput ds b q u → cs ≡ ds → p ≡ false → q ≡ false → IsOne a b t u
+one_output cs a p t Nothing ds b q u Nothing e f g = record { text = refl; texts = refl }
+one_output cs a p t Nothing ds b q u (OneMore other text2 refused2 texts2 d said2 later h2 answer2) e f g = absurd (no_command other d e)
+one_output cs a p t (OneMore front text1 refused1 texts1 c said1 after h1 answer1) ds b q u Nothing e f g = absurd (no_command front c (sym e))
+one_output cs a p t (OneMore front text1 refused1 texts1 c said1 after h1 answer1) ds b q u (OneMore other text2 refused2 texts2 d said2 later h2 answer2) e f g =
+    let l = last_one front other c d e in
+    let m = neither refused1 said1.refused f in
+    let n = neither refused2 said2.refused g in
+    let same = one_output front text1 refused1 texts1 h1 other text2 refused2 texts2 h2 l.fronts m.0 n.0 in
+    one_more front other c d text1 text2 refused1 refused2 texts1 texts2 said1 said2 after later l.fronts l.ends (few_output front text1 refused1 texts1 h1) same m.1 n.1 answer1 answer2
+
+pub one_output_said : (cs : List Command) → HasOneOutput cs
+one_output_said cs a b t u h g = let r = one_output cs a false t h cs b false u g refl refl refl in (r.text, r.texts)
+
+-- ---- first commands
+
+-- the output of the first commands, in front of that of all
+record IsFrontOf (first : List Command) (whole : List ℕ) : Type 0 where
+  text : List ℕ
+  texts : BenchTexts
+  output : IsOutput first text false texts
+  rest : List ℕ
+  split : whole ≡ text ++ rest
+
+cut_last : (first others front : List Command) (c x : Command) → (first ++ x ∷ others) ≡ (front ++ c ∷ []) → (ys : List Command) × (front ≡ first ++ ys)
+cut_last [] others front c x e = (front, refl)
+cut_last (f ∷ first) others [] c x e = absurd (some_command first others x (let h : [] ≡ (first ++ x ∷ others) = cc in h))
+  where
+    some_command : (cs ds : List Command) (y : Command) → [] ≡ (cs ++ y ∷ ds) → ⊥
+    some_command [] ds y k = absurd cc
+    some_command (z ∷ cs) ds y k = absurd cc
+cut_last (f ∷ first) others (g ∷ front) c x e =
+    let heads : g ≡ f = cc in
+    let rest : (first ++ x ∷ others) ≡ (front ++ c ∷ []) = cc in
+    let r = cut_last first others front c x rest in
+    (r.0, λ i. heads i ∷ r.1 i)
+
+front_output : (cs : List Command) (whole : List ℕ) (p : Bool) (t : BenchTexts) → IsOutput cs whole p t → (first others : List Command) → cs ≡ first ++ others → p ≡ false → IsFrontOf first whole
+front_output cs whole p t Nothing [] others e f = record { text = []; texts = no_texts; output = Nothing; rest = []; split = refl }
+front_output cs whole p t Nothing (x ∷ first) others e f = absurd (let h : [] ≡ x ∷ (first ++ others) = e in cc)
+front_output cs whole p t (OneMore front text refused texts c said after h answer) first [] e f = record {
+  text = text ++ said.text;
+  texts = after;
+  output = subst (λ (b : Bool). IsOutput first (text ++ said.text) b after) f (subst (λ (l : List Command). IsOutput l (text ++ said.text) (refused || said.refused) after) (e ∙ append-nil first) (OneMore front text refused texts c said after h answer));
+  rest = [];
+  split = sym (append-nil (text ++ said.text));
+}
+front_output cs whole p t (OneMore front text refused texts c said after h answer) first (x ∷ others) e f =
+    let cut = cut_last first others front c x (sym e) in
+    let r = front_output front text refused texts h first cut.0 cut.1 (neither refused said.refused f).0 in
+    record { text = r.text; texts = r.texts; output = r.output; rest = r.rest ++ said.text; split = ap (λ (l : List ℕ). l ++ said.text) r.split ∙ append_assoc r.text r.rest said.text }
+
+pub begins_alike : (first others : List Command) → BeginsAlike first others
+begins_alike first others text whole t u h g =
+    let r = front_output (first ++ others) whole false u g first others refl refl in
+    let same = one_output first text false t h first r.text false r.texts r.output refl refl refl in
+    (r.rest, r.split ∙ ap (λ (l : List ℕ). l ++ r.rest) (sym same.text))
