@@ -10,6 +10,7 @@ mod nodes;
 mod outcomes;
 mod reports;
 mod streams;
+mod told;
 mod values;
 
 use source_text::put_bytes;
@@ -44,6 +45,7 @@ fn put_answer(
         "values" => values::put_values(alloc, answer, text),
         "holds" => values::put_holds(alloc, answer, text),
         "words" => cells::put_form(alloc, answer, text),
+        "told" => told::put_told(alloc, answer, text),
         _ => bindings::put_answer(alloc, answer, question, text),
     }
 }

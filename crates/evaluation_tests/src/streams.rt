@@ -60,6 +60,7 @@ fn word_of(answer: Result<bool, SessionFault>) -> &'static str {
         Err(SessionFault::Read) => "no read",
         Err(SessionFault::Write) => "no write",
         Err(SessionFault::Memory) => "no memory",
+        Err(SessionFault::Shared) => "shared",
     }
 }
 

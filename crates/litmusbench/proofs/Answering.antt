@@ -84,13 +84,15 @@ kept None = tt
 kept (Some bytes) = refl
 
 -- nothing was written where the input was not read
-pub unread : (left known : Option (List ℕ)) (fault : SessionFault) → fault ≢ faults.Write → IsStreamed left known known (Err fault)
-unread left known faults.Write h = absurd (h refl)
-unread left known faults.Read h = kept known
-unread left known faults.Memory h = kept known
+pub unread : (left known : Option (List ℕ)) (fault : SessionFault) → fault ≢ faults.Write → fault ≢ faults.Shared → IsStreamed left known known (Err fault)
+unread left known faults.Write h k = absurd (h refl)
+unread left known faults.Read h k = kept known
+unread left known faults.Memory h k = kept known
+unread left known faults.Shared h k = absurd (k refl)
 
 pub streamed : (left old new : Option (List ℕ)) (r : Result Bool SessionFault) (model test : List ℕ) → IfSome left (λ bytes. IsCut bytes model test) → IsWritten model test old new r → IsStreamed left old new r
 streamed left old new (Ok refused) model test cut h = record { model = model; test = test; cut = cut; written = h }
 streamed left old new (Err faults.Write) model test cut h = record { model = model; test = test; cut = cut; written = h }
 streamed left old new (Err faults.Read) model test cut h = h
 streamed left old new (Err faults.Memory) model test cut h = h
+streamed left old new (Err faults.Shared) model test cut h = h

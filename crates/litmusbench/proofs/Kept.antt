@@ -231,6 +231,7 @@ written_alike model test m t old new (Ok refused) alike (text, answer, appended)
 written_alike model test m t old new (Err faults.Write) alike (text, refused, answer, front) = (text, refused, alike text refused answer, front)
 written_alike model test m t old new (Err faults.Read) alike h = h
 written_alike model test m t old new (Err faults.Memory) alike h = h
+written_alike model test m t old new (Err faults.Shared) alike h = h
 
 -- the answer to the cut of the first bytes that were left is that to the cut of all
 pub streamed_front : (left old new : Option (List ℕ)) (r : Result Bool SessionFault) (kept model test : List ℕ) → IfSome left (λ all. kept ≡ take 131075 all) → IsCut kept model test → IsWritten model test old new r → IsStreamed left old new r

@@ -92,6 +92,7 @@ IsWritten model test old new (Err session_faults.Write) =
     (text : List ℕ) × (refused : Bool) × IsAnswer model test text refused × WritesFront old new text
 IsWritten model test old new (Err session_faults.Read) = Keeps old new
 IsWritten model test old new (Err session_faults.Memory) = Keeps old new
+IsWritten model test old new (Err session_faults.Shared) = ⊥
 
 -- the same for the two texts into which an input is cut, of which these bytes are left, where they are known
 pub record IsWrittenOf (left old new : Option (List ℕ)) (result : Result Bool SessionFault) : Type 0 where
@@ -106,6 +107,7 @@ IsStreamed left old new (Ok refused) = IsWrittenOf left old new (Ok refused)
 IsStreamed left old new (Err session_faults.Write) = IsWrittenOf left old new (Err session_faults.Write)
 IsStreamed left old new (Err session_faults.Read) = Keeps old new
 IsStreamed left old new (Err session_faults.Memory) = Keeps old new
+IsStreamed left old new (Err session_faults.Shared) = ⊥
 
 -- a read is refused: one call failed, or, where none did, the input has so many bytes that it is taken for one that does not end
 abbrev pub IsReadFault : ℕ → ℕ → Option (List ℕ) → Type 0

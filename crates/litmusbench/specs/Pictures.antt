@@ -45,3 +45,4 @@ IsPictureWritten drawn most model test old new (Err session_faults.Write) =
     (text : List ℕ) × (refused : Bool) × IsPictureAnswer drawn most model test text refused × WritesFront old new text
 IsPictureWritten drawn most model test old new (Err session_faults.Read) = Keeps old new
 IsPictureWritten drawn most model test old new (Err session_faults.Memory) = Keeps old new
+IsPictureWritten drawn most model test old new (Err session_faults.Shared) = ⊥

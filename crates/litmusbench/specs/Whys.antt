@@ -35,3 +35,4 @@ IsWhyWritten asked model test old new (Err session_faults.Write) =
     (text : List ℕ) × (refused : Bool) × IsWhyAnswer asked model test text refused × WritesFront old new text
 IsWhyWritten asked model test old new (Err session_faults.Read) = Keeps old new
 IsWhyWritten asked model test old new (Err session_faults.Memory) = Keeps old new
+IsWhyWritten asked model test old new (Err session_faults.Shared) = ⊥

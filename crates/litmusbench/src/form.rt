@@ -499,7 +499,7 @@ fn diff_command<'a>(alloc: Global) -> Result<Command<'a>, AllocError> {
 fn session_command<'a>(alloc: Global) -> Result<Command<'a>, AllocError> {
     let workers = Arg::new(alloc, "N")
         .long("workers")
-        .help("How many workers, 0 to 32: for now any number does the same")
+        .help("How many threads run the jobs, 0 to 32: 0 is the program itself")
         .action(ArgAction::Set);
     let script = Arg::new(alloc, "SCRIPT")
         .help("The file of a script, in place of standard input")

@@ -184,6 +184,7 @@ fn read_first<S: ByteSource>(
     ensures failed { result ≡ Err SessionFault.Read → IsReadFault (S.failed_calls source.old) (S.failed_calls source.new) (S.remaining source.old) }
     ensures same { result ≢ Err SessionFault.Read → S.failed_calls source.new ≡ S.failed_calls source.old }
     ensures fault { result ≢ Err SessionFault.Write }
+    ensures own { result ≢ Err SessionFault.Shared }
 {
     match read_front(alloc, source, most) {
         Ok(bytes) => Ok(bytes),
@@ -202,8 +203,9 @@ pub fn read_text<S: ByteSource>(alloc: Global, source: &mut S) -> Result<Vec<u8>
     // `Read` comes after one failed call or at the bound, and all else after none.
     ensures failed { result ≡ Err SessionFault.Read → IsReadFault (S.failed_calls source.old) (S.failed_calls source.new) (S.remaining source.old) }
     ensures same { result ≢ Err SessionFault.Read → S.failed_calls source.new ≡ S.failed_calls source.old }
-    // Nothing is written.
+    // Nothing is written, and there is no desk.
     ensures fault { result ≢ Err SessionFault.Write }
+    ensures own { result ≢ Err SessionFault.Shared }
 {
     read_first(alloc, source, MOST_OF_TEXT)
 }

@@ -1,13 +1,15 @@
 //! The program: what its words ask for, over the bench's library.
 #![tactic(auto)]
 
+use bench_workers::NoGate;
 use clap::Error;
 use clap::error::ErrorKind;
 use litmusbench::{
     Asked, Drawn, Form, OfRead, OfWrite, RefusalTeller, Report, RunEnd, SessionFault, TextFile,
-    difference_report, eval_stream, exit_status, form_of, read_text, refusal_lines, session,
+    difference_report, eval_stream, exit_status, form_of, model_fault, read_text, refusal_lines,
     table_report, write_answer, write_drawings, write_report, write_why,
 };
+use live_session::session;
 use live_watch::watch_files;
 use std::alloc::AllocError;
 use std::fmt::Display;
@@ -59,6 +61,34 @@ fn tell_refusal<R: AllocGlobal, E: Print>(
     }
 }
 
+// Tells where a model whose text reads has a fault. What cannot be told is left out.
+fn tell_model<R: AllocGlobal, E: Print>(rt: &R, errors: &E, model: &TextFile<'_>) {
+    if let Ok(lines) = model_fault(rt.alloc(), model) {
+        let _ = io::writer(errors).write_all(&lines);
+    }
+}
+
+fn tell_models<R: AllocGlobal, E: Print>(rt: &R, errors: &E, models: &[TextFile<'_>]) {
+    for model in models {
+        tell_model(rt, errors, model);
+    }
+}
+
+// Tells of what was answered: a refusal, or else the fault of the model.
+fn tell_answer<R: AllocGlobal, E: Print>(
+    rt: &R,
+    errors: &E,
+    is_refused: bool,
+    model: &TextFile<'_>,
+    test: &TextFile<'_>,
+) {
+    if is_refused {
+        tell_refusal(rt, errors, model, test);
+    } else {
+        tell_model(rt, errors, model);
+    }
+}
+
 fn stream<R: AllocGlobal + Input + Print, E: Print>(
     rt: &R,
     errors: &E,
@@ -69,15 +99,14 @@ fn stream<R: AllocGlobal + Input + Print, E: Print>(
     eval_stream(rt, &mut source, &mut sink, &mut teller)
 }
 
-// Any number of workers does the same for now: cells are evaluated one after another.
-fn session_input<R: AllocGlobal + Input + Print, E: Print>(
-    rt: &R,
-    errors: &E,
-) -> Result<bool, SessionFault> {
+fn session_input<R, E: Print>(rt: &R, errors: &E, workers: u64) -> Result<bool, SessionFault>
+where
+    R: AllocGlobal + Input + Print + Threads + Wait + Copy + Drop + Send + Sync + 'static,
+{
     let mut source = OfRead::new(rt.reader());
     let mut sink = OfWrite::new(io::writer(rt));
     let mut teller = RefusalTeller::new(rt.alloc(), io::writer(errors));
-    session(rt, &mut source, &mut sink, &mut teller)
+    session(rt, &mut source, &mut sink, &mut teller, workers, NoGate)
 }
 
 fn tell_file<R: Eprint, T: Display>(rt: &R, path: &str, reason: &T) {
@@ -106,15 +135,20 @@ fn told<R: Eprint, T>(
     read
 }
 
-fn session_file<R: AllocGlobal + Eprint + Files + Print, E: Print>(
+fn session_file<R, E: Print>(
     rt: &R,
     errors: &E,
     path: &str,
-) -> Result<bool, SessionFault> {
+    workers: u64,
+) -> Result<bool, SessionFault>
+where
+    R: AllocGlobal + Eprint + Files + Print + Threads + Wait + Copy + Drop + Send + Sync + 'static,
+{
     let mut source = OfRead::new(open_file(rt, path)?);
     let mut sink = OfWrite::new(io::writer(rt));
     let mut teller = RefusalTeller::new(rt.alloc(), io::writer(errors));
-    told(rt, path, session(rt, &mut source, &mut sink, &mut teller))
+    let ended = session(rt, &mut source, &mut sink, &mut teller, workers, NoGate);
+    told(rt, path, ended)
 }
 
 fn text_of_file<R: AllocGlobal + Eprint + Files>(
@@ -143,9 +177,7 @@ fn eval_files<R: AllocGlobal + Eprint + Files + Print, E: Print>(
     let test = read_file(rt, test)?;
     let mut sink = OfWrite::new(io::writer(rt));
     let is_refused = write_answer(rt.alloc(), &model.text, &test.text, &mut sink)?;
-    if is_refused {
-        tell_refusal(rt, errors, &model, &test);
-    }
+    tell_answer(rt, errors, is_refused, &model, &test);
     Ok(is_refused)
 }
 
@@ -160,9 +192,7 @@ fn why_files<R: AllocGlobal + Eprint + Files + Print, E: Print>(
     let test = read_file(rt, test)?;
     let mut sink = OfWrite::new(io::writer(rt));
     let is_refused = write_why(rt.alloc(), asked, &model.text, &test.text, &mut sink)?;
-    if is_refused {
-        tell_refusal(rt, errors, &model, &test);
-    }
+    tell_answer(rt, errors, is_refused, &model, &test);
     Ok(is_refused)
 }
 
@@ -178,9 +208,7 @@ fn draw_files<R: AllocGlobal + Eprint + Files + Print, E: Print>(
     let test = read_file(rt, test)?;
     let mut sink = OfWrite::new(io::writer(rt));
     let is_refused = write_drawings(rt.alloc(), &model.text, &test.text, drawn, most, &mut sink)?;
-    if is_refused {
-        tell_refusal(rt, errors, &model, &test);
-    }
+    tell_answer(rt, errors, is_refused, &model, &test);
     Ok(is_refused)
 }
 
@@ -221,7 +249,9 @@ fn table_files<R: AllocGlobal + Eprint + Files + Print, E: Print>(
 ) -> Result<bool, SessionFault> {
     let models = files_of(rt, models)?;
     let tests = files_of(rt, tests)?;
-    write_both(rt, errors, table_report(rt.alloc(), &models, &tests))
+    let is_refused = write_both(rt, errors, table_report(rt.alloc(), &models, &tests))?;
+    tell_models(rt, errors, &models);
+    Ok(is_refused)
 }
 
 fn diff_files<R: AllocGlobal + Eprint + Files + Print, E: Print>(
@@ -232,12 +262,25 @@ fn diff_files<R: AllocGlobal + Eprint + Files + Print, E: Print>(
 ) -> Result<bool, SessionFault> {
     let models = files_of(rt, models)?;
     let tests = files_of(rt, tests)?;
-    write_both(rt, errors, difference_report(rt.alloc(), &models, &tests))
+    let is_refused = write_both(rt, errors, difference_report(rt.alloc(), &models, &tests))?;
+    tell_models(rt, errors, &models);
+    Ok(is_refused)
 }
 
 fn answer<R, E: Print>(rt: &R, errors: &E, words: &[&str]) -> RunEnd
 where
-    R: AllocGlobal + Eprint + Files + Input + Print + Threads + Wait + Copy + Drop + Send + Sync,
+    R: AllocGlobal
+        + Eprint
+        + Files
+        + Input
+        + Print
+        + Threads
+        + Wait
+        + Copy
+        + Drop
+        + Send
+        + Sync
+        + 'static,
 {
     match form_of(rt.alloc(), words) {
         Ok(Form::Stream) => tell_done(rt, stream(rt, errors)),
@@ -249,15 +292,15 @@ where
         Ok(
             Form::Session {
                 script: None,
-                workers: _,
+                workers,
             },
-        ) => tell_done(rt, session_input(rt, errors)),
+        ) => tell_done(rt, session_input(rt, errors, workers)),
         Ok(
             Form::Session {
                 script: Some(path),
-                workers: _,
+                workers,
             },
-        ) => tell_done(rt, session_file(rt, errors, path)),
+        ) => tell_done(rt, session_file(rt, errors, path, workers)),
         Ok(
             Form::Why {
                 model,
@@ -304,7 +347,8 @@ where
         + Copy
         + Drop
         + Send
-        + Sync,
+        + Sync
+        + 'static,
 {
     let words: Vec<String> = match env::args(rt) {
         Ok(words) => match words.collect(rt.alloc()) {

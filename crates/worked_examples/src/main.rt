@@ -1,12 +1,10 @@
 //! Prints what is known beforehand, as the file `stdout` has it: evaluations of known tests, inputs
-//! with a known answer, the words of the rules, and scripts of sessions. Each part begins with a line
-//! that names it.
+//! with a known answer, and the words of the rules. Each part begins with a line that names it.
 #![tactic(auto)]
 
 mod examples;
 mod inputs;
 mod rules;
-mod scripts;
 
 use std::io;
 use std::rt::Files;
@@ -17,9 +15,7 @@ fn run<R: Files + Print + AllocGlobal>(rt: &R) -> io::Result<()> {
     println!(rt; "# Inputs with a known answer")?;
     inputs::show_all(rt)?;
     println!(rt; "# The words of the rules")?;
-    rules::show_all(rt)?;
-    println!(rt; "# Scripts of sessions")?;
-    scripts::show_all(rt)
+    rules::show_all(rt)
 }
 
 fn main(rt: HostRuntime) -> io::Result<()> {

@@ -5,7 +5,7 @@ use Rattle.litmusbench.specs.Cut.{IsCut}
 use Rattle.litmusbench.proofs.stream.eval_stream.Goals as goal
 
 pub returns-in-Err-clause-written : goal.returns-in-Err-clause-written
-returns-in-Err-clause-written g c = unread _ _ c.in-Err.fault (search rules)
+returns-in-Err-clause-written g c = unread _ _ c.in-Err.fault (search rules) (search rules)
 
 pub returns-clause-written : goal.returns-clause-written
 returns-clause-written g c =

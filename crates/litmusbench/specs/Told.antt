@@ -1,0 +1,15 @@
+-- What is told of a model's file whose text reads and that has a fault.
+use Rattle.std.specs.Prelude.{◌≡◌, ℕ, List, []}
+use Rattle.cat_grammar.specs.declared.form.Form.TheVariants.{Model}
+use Rattle.cat_syntax.specs.Reads.{Reads}
+use Rattle.cat_tokens.specs.declared.rule.CatRule.{CatRule}
+use Rattle.cat_values.specs.Values.{clauses_of}
+use Rattle.cat_values.specs.declared.model.ModelText.{ModelText}
+use Rattle.litmusbench.specs.Answer.{IsModelRefused}
+use Rattle.litmusbench.specs.declared.file.TextFile.{TextFile}
+use Rattle.model_faults.specs.Told.{IsTold}
+
+-- the lines of its first fault, where it has one; a text that is refused is told elsewhere
+pub data IsFaultTold (file : TextFile) (lines : List ℕ) : Type 0 where
+  IsRead : (m : ModelText) → Reads Model file.text.items (clauses_of m.items.items) → IsTold file.path.now [] m.items.items lines → IsFaultTold file lines
+  IsUnread : (rule : CatRule) → (offset : ℕ) → IsModelRefused file.text.items rule offset → lines ≡ [] → IsFaultTold file lines

@@ -1,0 +1,4 @@
+pub mod Sessions
+pub mod Edits
+pub mod Viewers
+pub mod Crossings

@@ -1,0 +1,3 @@
+pub mod Sessions
+pub mod Faults
+pub mod Ready

@@ -1,0 +1,73 @@
+-- Read this first: what a session writes of a script. The answers to its commands are in session_answers, specs/Sessions.
+use Rattle.std.specs.Prelude.{◌≡◌, ℕ, ◌+◌, ◌≤◌, ◌⊎◌, List, [], ◌∷◌, ◌++◌, length, take, Bool, Option, Some, None, Result, Ok, Err, IfSome}
+use Rattle.std.specs.Io.KnownBytes.{Keeps, Appends}
+use Rattle.session_script.specs.declared.command.Command.{Command}
+use Rattle.session_script.specs.Commands.{commands_of}
+use Rattle.bench_texts.specs.BenchTexts.{BenchTexts}
+use Rattle.session_edits.specs.Answer.{Said}
+use Rattle.session_answers.specs.Sessions.{IsAnswered, IsOutput}
+use Rattle.litmusbench.specs.declared.fault.SessionFault.{SessionFault}
+use Rattle.litmusbench.specs.declared.fault.SessionFault.TheVariants as faults
+use Rattle.litmusbench.specs.Written.{WritesFront}
+
+-- The script, of which these bytes are left, where they are known, begins with some commands of this output, and goes on with
+-- the others.
+pub record IsBegun (left : Option (List ℕ)) (others : List Command) (text : List ℕ) (refused : Bool) (texts : BenchTexts) : Type 0 where
+  pub first : List Command
+  pub commands : IfSome left (λ script. commands_of script ≡ first ++ others)
+  pub output : IsOutput first text refused texts
+
+-- the output of the whole script is written
+pub record IsWhole (left old new : Option (List ℕ)) (refused : Bool) : Type 0 where
+  pub text : List ℕ
+  pub texts : BenchTexts
+  pub begun : IsBegun left [] text refused texts
+  pub written : Appends old new text
+
+-- the output of its first commands is written
+pub record IsFront (left old new : Option (List ℕ)) : Type 0 where
+  pub others : List Command
+  pub text : List ℕ
+  pub refused : Bool
+  pub texts : BenchTexts
+  pub begun : IsBegun left others text refused texts
+  pub written : Appends old new text
+
+-- the output of its first commands is written, and a front of the answer to the next
+pub record IsCutOff (left old new : Option (List ℕ)) : Type 0 where
+  pub command : Command
+  pub others : List Command
+  pub text : List ℕ
+  pub refused : Bool
+  pub texts : BenchTexts
+  pub begun : IsBegun left (command ∷ others) text refused texts
+  pub said : Said
+  pub after : BenchTexts
+  pub answer : IsAnswered texts command said after
+  pub count : ℕ
+  pub within : count ≤ length said.text
+  pub written : Appends old new (text ++ take count said.text)
+
+abbrev pub IsSession : (left old new : Option (List ℕ)) → Result Bool SessionFault → Type 0
+IsSession left old new (Ok refused) = IsWhole left old new refused
+IsSession left old new (Err faults.Read) = IsFront left old new
+IsSession left old new (Err faults.Memory) = IsFront left old new
+IsSession left old new (Err faults.Shared) = IsFront left old new
+IsSession left old new (Err faults.Write) = IsCutOff left old new
+
+-- ---- one command
+
+-- its answer over these texts is written, and those are the texts after it
+abbrev pub IsReplied : (t after : BenchTexts) → Command → (old new : Option (List ℕ)) → Said → Type 0
+IsReplied t after command old new said = IsAnswered t command said after × Appends old new said.text
+
+-- a front of its answer is written where a write failed, and else nothing
+abbrev pub IsReplyStopped : BenchTexts → Command → (old new : Option (List ℕ)) → SessionFault → Type 0
+IsReplyStopped t command old new faults.Write = (after : BenchTexts) × (said : Said) × IsAnswered t command said after × WritesFront old new said.text
+IsReplyStopped t command old new faults.Memory = Keeps old new
+IsReplyStopped t command old new faults.Shared = Keeps old new
+IsReplyStopped t command old new faults.Read = ⊥
+
+-- A read is refused: one call failed, or, where none did, no turn is left, and what is left of the source has that many bytes at least.
+abbrev pub IsTurnFault : (turns old new : ℕ) → Option (List ℕ) → Type 0
+IsTurnFault turns old new left = (new ≡ old + 1) ⊎ ((new ≡ old) × IfSome left (λ all. turns ≤ length all))

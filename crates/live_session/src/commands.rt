@@ -1,0 +1,158 @@
+//! The commands of a session, one after another.
+
+ghost use Rattle.std.specs.Prelude.{◌≡◌, ◌≢◌, ◌+◌, ◌-◌, ◌<◌, ◌^◌, IfOk, IfErr, IfSome, OnOk, OnErr, Err};
+ghost use Rattle.std.specs.Io.KnownBytes.{Appends};
+ghost use Rattle.session_script.specs.Reading.{left_to, turns_of, work_of, IsNext, IsPaid};
+ghost use Rattle.bench_texts.specs.Held.{texts_of};
+ghost use Rattle.session_answers.specs.Sessions.{no_texts};
+ghost use Rattle.litmusbench.specs.Answer.{IsReadFault};
+ghost use Rattle.litmusbench.specs.Written.{WritesFront};
+ghost use Rattle.live_session.specs.Ready.{IsReady};
+ghost use Rattle.live_session.specs.Sessions.{IsSession, IsReplied, IsReplyStopped, IsTurnFault};
+
+use crate::reply::{Replied, reply};
+use crate::state::Session;
+use desk_rule::Naming;
+use litmusbench::{AnswerListener, ByteSink, ByteSource, ReadFault, SessionFault, write_whole};
+use running_bench::RunningDesk;
+use session_edits::Answer;
+use session_script::{Command, ScriptReader};
+use std::alloc::{AllocError, Global};
+use std::sync::Wait;
+use value_store::StoreName;
+
+fn read_command<S: ByteSource>(
+    script: &mut ScriptReader,
+    source: &mut S,
+) -> Result<Option<Command>, SessionFault>
+    requires { S.failed_calls source.old < 2 ^ 64 - 1 }
+    ensures next { IfOk result (λ c. IsNext (left_to script.old (S.remaining source.old)) (left_to script.new (S.remaining source.new)) c) }
+    ensures work { IfOk result (λ c. IfSome c (λ some. work_of script.new < work_of script.old)) }
+    ensures paid { IfOk result (λ c. IsPaid (turns_of script.old) (turns_of script.new) (S.remaining source.old) (S.remaining source.new)) }
+    ensures read { result ≡ Err SessionFault.Read → IsTurnFault (turns_of script.old) (S.failed_calls source.old) (S.failed_calls source.new) (S.remaining source.old) }
+    ensures same { result ≢ Err SessionFault.Read → S.failed_calls source.new ≡ S.failed_calls source.old }
+    ensures fault { result ≢ Err SessionFault.Write }
+{
+    match script.next(source) {
+        Ok(command) => Ok(command),
+        Err(ReadFault::Read) => Err(SessionFault::Read),
+        Err(ReadFault::Endless) => Err(SessionFault::Read),
+        Err(ReadFault::Memory) => Err(SessionFault::Memory),
+    }
+}
+
+// The text of a command.
+fn text_of(alloc: Global, command: &Command) -> Result<Vec<u8>, AllocError> {
+    match command {
+        Command::Asked { request: _, text } => Vec::from_slice(alloc, text.as_bytes()),
+        Command::Refused(_) => Ok(Vec::new(alloc)),
+    }
+}
+
+// Writes an answer, of which a listener then hears.
+fn write_answer<K: ByteSink, L: AnswerListener>(
+    text: &[u8],
+    answer: &Answer,
+    sink: &mut K,
+    listener: &mut L,
+) -> Result<(), SessionFault>
+    requires { K.failed_calls sink.old < 2 ^ 64 - 1 }
+    ensures ok { OnOk result (Appends (K.contents sink.old) (K.contents sink.new) answer.now.text) }
+    ensures front { WritesFront (K.contents sink.old) (K.contents sink.new) answer.now.text }
+    ensures err { OnErr result (K.failed_calls sink.new ≡ K.failed_calls sink.old + 1) }
+    ensures same { OnOk result (K.failed_calls sink.new ≡ K.failed_calls sink.old) }
+    ensures fault { OnErr result (result ≡ Err SessionFault.Write) }
+{
+    if write_whole(sink, answer.text()).is_err() {
+        return Err(SessionFault::Write);
+    }
+    listener.hear(text, answer.text());
+    Ok(())
+}
+
+// Answers a command, and writes the answer.
+fn write_reply<J: Naming + StoreName, R: Wait + Drop, W: Wait, K: ByteSink, L: AnswerListener>(
+    rt: &W,
+    alloc: Global,
+    desk: &RunningDesk<J, R>,
+    session: Session<J>,
+    has_workers: bool,
+    command: Command,
+    sink: &mut K,
+    listener: &mut L,
+) -> Result<Replied<J>, SessionFault>
+    requires ready { IsReady session.viewer session.made (texts_of session.texts) }
+    requires sink { K.failed_calls sink.old < 2 ^ 64 - 1 }
+    ensures written { IfOk result (λ r. IsReplied (texts_of session.texts) (texts_of r.session.texts) command (K.contents sink.old) (K.contents sink.new) r.answer) }
+    ensures ready { IfOk result (λ r. IsReady r.session.viewer r.session.made (texts_of r.session.texts)) }
+    ensures stopped { IfErr result (λ fault. IsReplyStopped (texts_of session.texts) command (K.contents sink.old) (K.contents sink.new) fault) }
+    ensures failed { result ≡ Err SessionFault.Write → K.failed_calls sink.new ≡ K.failed_calls sink.old + 1 }
+    ensures same { result ≢ Err SessionFault.Write → K.failed_calls sink.new ≡ K.failed_calls sink.old }
+    ensures fault { result ≢ Err SessionFault.Read }
+{
+    let text = match text_of(alloc, &command) {
+        Ok(text) => text,
+        Err(_) => return Err(SessionFault::Memory),
+    };
+    let replied = match reply(rt, alloc, desk, session, has_workers, command) {
+        Ok(replied) => replied,
+        Err(fault) => return Err(fault),
+    };
+    match write_answer(&text, &replied.answer, sink, listener) {
+        Ok(()) => Ok(replied),
+        Err(fault) => Err(fault),
+    }
+}
+
+/// Answers the commands of a script one after another, each by one write as soon as its last line feed is read.
+pub(crate) fn answer_commands<
+    J: Naming + StoreName,
+    R: Wait + Drop,
+    W: Wait,
+    S: ByteSource,
+    K: ByteSink,
+    L: AnswerListener,
+>(
+    rt: &W,
+    alloc: Global,
+    desk: &RunningDesk<J, R>,
+    session: Session<J>,
+    has_workers: bool,
+    source: &mut S,
+    sink: &mut K,
+    listener: &mut L,
+) -> Result<bool, SessionFault>
+    requires ready { IsReady session.viewer session.made (texts_of session.texts) }
+    requires texts { texts_of session.texts ≡ no_texts }
+    requires source { S.failed_calls source.old < 2 ^ 64 - 1 }
+    requires sink { K.failed_calls sink.old < 2 ^ 64 - 1 }
+    ensures written { IsSession (S.remaining source.old) (K.contents sink.old) (K.contents sink.new) result }
+    ensures read { result ≡ Err SessionFault.Read → IsReadFault (S.failed_calls source.old) (S.failed_calls source.new) (S.remaining source.old) }
+    ensures no_read { result ≢ Err SessionFault.Read → S.failed_calls source.new ≡ S.failed_calls source.old }
+    ensures write { result ≡ Err SessionFault.Write → K.failed_calls sink.new ≡ K.failed_calls sink.old + 1 }
+    ensures no_write { result ≢ Err SessionFault.Write → K.failed_calls sink.new ≡ K.failed_calls sink.old }
+{
+    let mut script = ScriptReader::new(alloc);
+    let mut session = session;
+    let mut is_refused = false;
+    'commands: loop {
+        let read = read_command(&mut script, source)?;
+        match read {
+            None => return Ok(is_refused),
+            Some(command) => {
+                let replied = write_reply(
+                    rt,
+                    alloc,
+                    desk,
+                    session,
+                    has_workers,
+                    command,
+                    sink,
+                    listener,
+                )?;
+                is_refused |= replied.answer.is_refused();
+                session = replied.session;
+            }
+        }
+    }
+}

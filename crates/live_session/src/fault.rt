@@ -1,0 +1,20 @@
+//! What a session answers to a fault of its desk.
+
+ghost use Rattle.live_session.specs.Faults.{IsOwnFault};
+
+use bench_texts::EditFault;
+use desk::DeskFault;
+use litmusbench::SessionFault;
+
+/// A desk that refuses what the session's own texts accept, or that has no number left, is shared with someone else.
+pub(crate) fn fault_of(fault: &DeskFault<EditFault>) -> SessionFault
+    ensures { IsOwnFault result }
+{
+    match fault {
+        DeskFault::Edit(_) => SessionFault::Shared,
+        DeskFault::Claim(_) => SessionFault::Shared,
+        DeskFault::OutOfMemory => SessionFault::Memory,
+        DeskFault::Closed => SessionFault::Memory,
+        DeskFault::NoSeat => SessionFault::Memory,
+    }
+}

@@ -1,0 +1,78 @@
+//! What a command is answered.
+
+ghost use Rattle.std.specs.Prelude.{IfOk, IfErr};
+ghost use Rattle.bench_texts.specs.Held.{texts_of};
+ghost use Rattle.session_edits.specs.Requests.{asked_by};
+ghost use Rattle.session_answers.specs.Sessions.{IsAsked, IsAnswered};
+ghost use Rattle.live_session.specs.Faults.{IsOwnFault};
+ghost use Rattle.live_session.specs.Ready.{IsReady};
+
+use crate::asking::ask;
+use crate::editing::make_edit;
+use crate::state::Session;
+use desk_rule::Naming;
+use litmusbench::SessionFault;
+use running_bench::RunningDesk;
+use session_edits::{Answer, Asked, asked_in, refused_by};
+use session_script::Command;
+use std::alloc::Global;
+use std::sync::Wait;
+use value_store::StoreName;
+
+/// What a command is answered, and the session behind it.
+#[derive(Drop)]
+pub(crate) struct Replied<J: Naming> {
+    pub(crate) session: Session<J>,
+    pub(crate) answer: Answer,
+}
+
+fn reply_asked<J: Naming + StoreName, R: Wait + Drop, W: Wait>(
+    rt: &W,
+    alloc: Global,
+    desk: &RunningDesk<J, R>,
+    session: Session<J>,
+    has_workers: bool,
+    asked: Asked,
+) -> Result<Replied<J>, SessionFault>
+    requires ready { IsReady session.viewer session.made (texts_of session.texts) }
+    ensures answer { IfOk result (λ r. IsAsked (texts_of session.texts) (asked_by asked) r.answer (texts_of r.session.texts)) }
+    ensures ready { IfOk result (λ r. IsReady r.session.viewer r.session.made (texts_of r.session.texts)) }
+    ensures fault { IfErr result IsOwnFault }
+{
+    match asked {
+        Asked::Edit(edit) => make_edit(rt, alloc, desk, session, edit),
+        Asked::Question(question) => ask(rt, alloc, desk, session, has_workers, &question),
+    }
+}
+
+/// Answers a command over the session's texts, which an edit may change.
+pub(crate) fn reply<J: Naming + StoreName, R: Wait + Drop, W: Wait>(
+    rt: &W,
+    alloc: Global,
+    desk: &RunningDesk<J, R>,
+    session: Session<J>,
+    has_workers: bool,
+    command: Command,
+) -> Result<Replied<J>, SessionFault>
+    requires ready { IsReady session.viewer session.made (texts_of session.texts) }
+    ensures answer { IfOk result (λ r. IsAnswered (texts_of session.texts) command r.answer (texts_of r.session.texts)) }
+    ensures ready { IfOk result (λ r. IsReady r.session.viewer r.session.made (texts_of r.session.texts)) }
+    ensures fault { IfErr result IsOwnFault }
+{
+    match command {
+        Command::Refused(rule) => match refused_by(alloc, b'Q', rule.number()) {
+            Ok(answer) => Ok(Replied { session, answer }),
+            Err(_) => Err(SessionFault::Memory),
+        },
+        Command::Asked { request, text } => {
+            reply_asked(
+                rt,
+                alloc,
+                desk,
+                session,
+                has_workers,
+                asked_in(request, text),
+            )
+        }
+    }
+}

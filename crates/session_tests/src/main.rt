@@ -1,0 +1,113 @@
+//! Sessions of a running desk, as the file `stdout` has them: scripts with a known answer, two workers that must work at once,
+//! a script that does not end, and scripts that are drawn from a fixed seed. Each part begins with a line that names it.
+#![tactic(auto)]
+
+ghost use Rattle.std.specs.Prelude.{None};
+
+mod drawn;
+mod gate;
+mod kept;
+mod scripts;
+
+use gate::SharedMeeting;
+use litmusbench::{ByteSource, CallFailed, MemorySink, MemorySource, NoListener, SessionFault};
+use live_session::session;
+use std::io;
+use std::rt::Files;
+use std::sync::Wait;
+use std::thread::Threads;
+
+const SMALL: &[u8] =
+    b"model sc\nacyclic po|rf|fr|co as sc\n.\ntest\nPPC MP\n{ 0:r2=x; 0:r4=y; 1:r2=y; 1:r4=x; }\nP0 | P1 ;\nli r1,1 | lwz r1,0(r2) ;\nstw r1,0(r2) | lwz r3,0(r4) ;\nli r3,1 | ;\nstw r3,0(r4) | ;\nexists (1:r1=1 /\\ 1:r3=0)\n.\ntest\nPPC CoWR\n{ 0:r2=x; }\nP0 ;\nli r1,1 ;\nstw r1,0(r2) ;\nlwz r3,0(r2) ;\nexists (0:r3=0)\n.\ntable sc\n";
+
+/// How many scripts are drawn.
+const DRAWN: u64 = 300;
+
+/// A source that gives one byte at each call, and does not end.
+#[derive(Clone, Copy)]
+struct Endless;
+
+impl ByteSource for Endless {
+    ghost remaining = { λ _. None };
+
+    ghost failed_calls = { λ _. 0 };
+
+    fn read_some(&mut self, buffer: &mut [u8]) -> Result<usize, CallFailed> {
+        if buffer.is_empty() {
+            return Ok(0);
+        }
+        buffer[0] = b' ';
+        Ok(1)
+    }
+}
+
+fn word_of(end: Result<bool, SessionFault>) -> &'static str {
+    match end {
+        Ok(false) => "done",
+        Ok(true) => "refused",
+        Err(SessionFault::Read) => "no read",
+        Err(SessionFault::Write) => "no write",
+        Err(SessionFault::Memory) => "no memory",
+        Err(SessionFault::Shared) => "shared",
+    }
+}
+
+fn last_line(output: &[u8]) -> &str {
+    match str::from_utf8(output) {
+        Ok(text) => text.lines().last().unwrap_or(""),
+        Err(_) => "",
+    }
+}
+
+/// The first of two workers that begins a job waits until the other has ended one.
+fn show_meeting<R>(rt: &R) -> io::Result<()>
+where
+    R: AllocGlobal + Print + Threads + Wait + Copy + Drop + Send + Sync + 'static,
+{
+    let gate = SharedMeeting::new(rt.alloc())?;
+    let told = gate.share()?;
+    let mut source = MemorySource::failing_at(SMALL, None);
+    let mut sink = MemorySink::failing_at(Vec::new(rt.alloc()), None);
+    let end = session(rt, &mut source, &mut sink, &mut NoListener, 2, told);
+    let counts = gate.counts(rt);
+    let word = if counts.is_missed { "missed" } else { "met" };
+    println!(rt;
+        "two workers: {}, {}, {word}, {} claims begun, {} ended",
+        word_of(end),
+        last_line(sink.as_bytes()),
+        counts.begun,
+        counts.ended
+    )
+}
+
+fn show_endless<R>(rt: &R, workers: u64) -> io::Result<()>
+where
+    R: AllocGlobal + Print + Threads + Wait + Copy + Drop + Send + Sync + 'static,
+{
+    let gate = SharedMeeting::new(rt.alloc())?;
+    let mut sink = MemorySink::failing_at(Vec::new(rt.alloc()), None);
+    let end = session(rt, &mut Endless, &mut sink, &mut NoListener, workers, gate);
+    println!(rt;
+        "a script that does not end, {workers} workers: {}, {} bytes",
+        word_of(end),
+        sink.as_bytes().len()
+    )
+}
+
+fn run<R>(rt: &R) -> io::Result<()>
+where
+    R: AllocGlobal + Files + Print + Threads + Wait + Copy + Drop + Send + Sync + 'static,
+{
+    println!(rt; "# Scripts with a known answer")?;
+    scripts::show_all(rt)?;
+    println!(rt; "# Workers that meet, and a script without an end")?;
+    show_meeting(rt)?;
+    show_endless(rt, 0)?;
+    show_endless(rt, 2)?;
+    println!(rt; "# Scripts that are drawn")?;
+    kept::show(rt, DRAWN)
+}
+
+fn main(rt: HostRuntime) -> io::Result<()> {
+    run(&rt)
+}

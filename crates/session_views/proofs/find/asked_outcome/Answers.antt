@@ -1,0 +1,10 @@
+use Rattle.litmus_values.specs.Value.{content_of}
+use Rattle.bench_texts.specs.Held.{texts_of}
+use Rattle.session_views.specs.Asked.{asked_model}
+use Rattle.session_views.proofs.Cells.{outcome_shown}
+use Rattle.session_views.proofs.find.asked_outcome.Goals as goal
+
+pub returns : goal.returns
+returns c =
+    outcome_shown (texts_of c.args.texts.now) c.args.board.now c.requires.shows c.args.index c.args.asked.now.index (content_of c.args.test.now) (asked_model c.args.asked.now)
+    c.requires.test c.requires.model c.settled_at.result c.settled_at.ensures

@@ -1,0 +1,15 @@
+use Rattle.std.proofs.Common.{rules, map, Option, IfSome, subst}
+use Rattle.compare_report.specs.Columns.{row_of}
+use Rattle.compare_report.specs.declared.table.TestRow.{TestRow}
+use Rattle.litmus_values.specs.Value.{content_of}
+use Rattle.session_answers.specs.Cells.{IsRow}
+use Rattle.session_answers.proofs.Joined.{zip_more}
+use Rattle.session_views.specs.Asked.{asked_model}
+use Rattle.session_views.proofs.rows.asked_rows.Goals as goal
+
+pub loop-index-preserved : goal.loop-index-preserved
+loop-index-preserved c =
+    let row_is =
+    subst (λ (o : Option TestRow). IfSome o (λ r. IsRow (map asked_model c.args.models.now) (content_of c.index-tests-index.result) (row_of r))) c.in-Some.is c.in_ok-row.ensures in
+    zip_more (IsRow (map asked_model c.args.models.now)) content_of row_of c.tests-tests.result.now c.loop-index.index c.index-tests-index.result c.loop-index.rows.items c.push.new.self.items c.in-Some.row
+    (search rules) (search rules) (search rules) c.loop-index.invariant row_is

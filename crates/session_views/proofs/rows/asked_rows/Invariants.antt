@@ -1,0 +1,10 @@
+use Rattle.std.proofs.Common.{take, map}
+use Rattle.std.specs.List.{AllZip}
+use Rattle.compare_report.specs.Columns.{row_of}
+use Rattle.litmus_values.specs.Value.{content_of}
+use Rattle.session_answers.specs.Cells.{IsRow}
+use Rattle.session_views.specs.Asked.{asked_model}
+use Rattle.session_views.proofs.rows.asked_rows.Given as goal
+
+abbrev pub invariant-loop-index : goal.invariant-loop-index
+invariant-loop-index l = AllZip (IsRow (map asked_model l.models)) (map content_of (take l.index l.tests)) (map row_of l.rows.items)

@@ -1,0 +1,13 @@
+-- Models that a question asks for, with their indexes.
+use Rattle.std.specs.Prelude.{◌≡◌, Some, slice_get}
+use Rattle.bench_texts.specs.BenchTexts.{PlainModel}
+use Rattle.bench_texts.specs.declared.texts.Texts.{Texts}
+use Rattle.bench_texts.specs.Held.{model_of, texts_of}
+use Rattle.session_views.specs.declared.find.AskedModel.{AskedModel}
+
+abbrev pub asked_model : AskedModel → PlainModel
+asked_model asked = model_of asked.model.now
+
+-- the model is that of the index
+abbrev pub IsThere : Texts → AskedModel → Type 0
+IsThere texts asked = slice_get (texts_of texts).models asked.index ≡ Some (asked_model asked)

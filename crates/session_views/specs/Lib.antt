@@ -1,0 +1,3 @@
+pub mod Knowing
+pub mod Shown
+pub mod Asked
