@@ -34,10 +34,9 @@ const READS: u64 = 1_000_000;
 /// More jobs than a desk of this program ever has.
 const MOST_JOBS: u64 = 1_000_000;
 
-/// The nanoseconds until the last edit was made, and until each cell was settled, and whether each call was answered as it should.
+/// The nanoseconds until each cell was settled, and whether that was answered as it should.
 #[derive(Clone, Copy)]
 struct Times {
-    edited: u128,
     settled: u128,
     is_well: bool,
 }
@@ -81,29 +80,22 @@ fn play<J: Naming + StoreName, R: Wait + Drop, W: Wait>(
     }
 }
 
-/// Makes the edits and waits until each cell is settled; without workers it runs the jobs.
+/// Waits until each cell is settled; without workers it runs the jobs.
 fn settle<J: Naming + StoreName, R: Wait + Drop, W: Wait + Clock>(
     rt: &W,
     alloc: Global,
     desk: &RunningDesk<J, R>,
     viewer: Viewer<J, RunningTexts>,
-    edits: Vec<Edit>,
     has_workers: bool,
 ) -> io::Result<Times> {
     let mut viewer = viewer;
     let start = Instant::now(rt)?;
-    let is_made = make_edits(rt, desk, &mut viewer, edits);
-    let edited = start.elapsed(rt)?.as_nanos();
     if !has_workers {
         play(rt, alloc, desk);
     }
-    let is_settled = desk.settle(rt, &mut viewer).is_ok();
+    let is_well = desk.settle(rt, &mut viewer).is_ok();
     let settled = start.elapsed(rt)?.as_nanos();
-    Ok(Times {
-        edited,
-        settled,
-        is_well: is_made && is_settled,
-    })
+    Ok(Times { settled, is_well })
 }
 
 /// Takes a board and leaves it.
@@ -152,10 +144,9 @@ fn each(time: u128, count: u64) -> u128 {
 }
 
 fn print_times<R: Print>(rt: &R, workers: u32, times: Times) -> io::Result<()> {
-    let edited = each(times.edited, 1000);
     let settled = each(times.settled, 1000);
     let is_well = times.is_well;
-    println!(rt; "{workers} workers: edits {edited} us, settled after {settled} us, well {is_well}")
+    println!(rt; "{workers} workers: settled after {settled} us, well {is_well}")
 }
 
 fn print_reads<R: Print>(rt: &R, name: &str, reads: Option<Reads>) -> io::Result<()> {
@@ -172,7 +163,6 @@ fn settle_and_read<J, R>(
     rt: &R,
     desk: &RunningDesk<J, R>,
     author: Viewer<J, RunningTexts>,
-    edits: Vec<Edit>,
 ) -> (Option<Reads>, io::Result<Times>)
 where
     R: AllocGlobal + Clock + Wait + Threads + Send + Sync + Drop,
@@ -185,7 +175,7 @@ where
         rt,
         move || read_beside(rt, desk, end),
         || {
-            let times = settle(rt, alloc, desk, author, edits, true);
+            let times = settle(rt, alloc, desk, author, true);
             end.store(1, Ordering::SeqCst);
             times
         },
@@ -204,16 +194,20 @@ where
     let Ok(desk) = seed.desk::<J, R, R>(rt, alloc, *rt) else {
         return println!(rt; "no desk");
     };
-    let Ok(viewer) = desk.viewer(rt) else {
+    let Ok(mut viewer) = desk.viewer(rt) else {
         return println!(rt; "no viewer");
     };
+    let start = Instant::now(rt)?;
+    let is_made = make_edits(rt, &desk, &mut viewer, edits);
+    let edited = each(start.elapsed(rt)?.as_nanos(), 1000);
+    println!(rt; "edits made in {edited} us, well {is_made}")?;
     let worked = with_workers(
         rt,
         alloc,
         &desk,
         &NoGate,
         workers,
-        || settle(rt, alloc, &desk, viewer, edits, workers > 0),
+        || settle(rt, alloc, &desk, viewer, workers > 0),
     );
     match worked {
         Ok(worked) => print_times(rt, workers, worked.answer?),
@@ -233,16 +227,18 @@ where
     let Ok(desk) = seed.desk::<J, R, R>(rt, alloc, *rt) else {
         return println!(rt; "no desk");
     };
-    let (Ok(author), Ok(idle)) = (desk.viewer(rt), desk.viewer(rt)) else {
+    let (Ok(mut author), Ok(idle)) = (desk.viewer(rt), desk.viewer(rt)) else {
         return println!(rt; "no viewer");
     };
+    let is_made = make_edits(rt, &desk, &mut author, edits);
+    println!(rt; "edits made, well {is_made}")?;
     let worked = with_workers(
         rt,
         alloc,
         &desk,
         &NoGate,
         2,
-        || settle_and_read(rt, &desk, author, edits),
+        || settle_and_read(rt, &desk, author),
     );
     let Ok(worked) = worked else {
         return println!(rt; "no workers");

@@ -36,20 +36,22 @@ fn run<R>(rt: &R) -> io::Result<()>
 where
     R: Files + Env + Clock + Print + AllocGlobal + Wait + Threads + Copy + Send + Sync + Drop,
 {
-    let model = fs::read(rt, "power.cat")?;
-    let test = fs::read(rt, "MP+lwsync+addr.litmus")?;
     let mut is_timed = false;
+    let mut has_workers = false;
     for word in env::args(rt)? {
-        if word.as_str() == "workers" {
-            return desks::show(rt, &model, &test);
-        }
         is_timed |= word.as_str() == "times";
+        has_workers |= word.as_str() == "workers";
     }
-    let sizes = if is_timed {
-        tables::TIMED
+    let (name, sizes) = if is_timed || has_workers {
+        ("IRIW+syncs.litmus", tables::TIMED)
     } else {
-        tables::COUNTED
+        ("MP+lwsync+addr.litmus", tables::COUNTED)
     };
+    let model = fs::read(rt, "power.cat")?;
+    let test = fs::read(rt, name)?;
+    if has_workers {
+        return desks::show(rt, &model, &test);
+    }
     for size in sizes {
         let opened = Store::new(rt.alloc())?;
         show::<R, Brand>(rt, opened, *size, &model, &test, is_timed)?;

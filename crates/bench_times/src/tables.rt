@@ -8,6 +8,7 @@ use std::alloc::Global;
 use std::io;
 use std::rt::Clock;
 use std::sync::{Arc, Wait};
+use std::time::Instant;
 use value_store::{Store, StoreName};
 
 /// How many tests and models a bench has.
@@ -81,7 +82,10 @@ pub fn show<R: Clock + Print + Wait + AllocGlobal, K: StoreName>(
     let edits = edits_of(alloc, model, size.models, test, size.tests)?;
     let is_filled = fill(alloc, &mut bench, edits);
     let first = play(rt, alloc, &mut bench)?;
-    let is_edited = bench.edit(alloc, edit_of_dp(alloc, b"m0", 1)?).is_ok();
+    let edit = edit_of_dp(alloc, b"m0", 1)?;
+    let start = Instant::now(rt)?;
+    let is_edited = bench.edit(alloc, edit).is_ok();
+    let editing = each(start.elapsed(rt)?.as_nanos(), 1000);
     let second = play(rt, alloc, &mut bench)?;
     let is_settled = is_filled && is_edited && bench.all_settled();
     let tests = size.tests;
@@ -93,6 +97,7 @@ pub fn show<R: Clock + Print + Wait + AllocGlobal, K: StoreName>(
     )?;
     if is_timed {
         show_times(rt, "from nothing", first)?;
+        println!(rt; "  the edit: {editing} us")?;
         show_times(rt, "after an edit", second)?;
     }
     Ok(())

@@ -25,7 +25,7 @@ pub enum Posted {
 pub enum Settling {
     /// Each cell is settled and published, and the viewer was told.
     Done,
-    /// Some cell is open, after so many changes.
+    /// Some cell is open, after so many changes of the board.
     Waits(u64),
     /// Memory was refused.
     Refused,

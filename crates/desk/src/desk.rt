@@ -13,9 +13,22 @@ use crate::texts::BoardTexts;
 use cells::job::{Done, Job};
 use desk_rule::{Entry, Naming, Plate, Viewer};
 use left_right::Absorb;
+use std::hint::spin_loop;
 use std::mem::drop;
-use std::sync::{Condvar, Mutex, Wait};
+use std::sync::{Condvar, Mutex, MutexGuard, Wait};
 use value_store::StoreName;
+
+// How often the lock is tried before the thread sleeps, and how long it pauses between two tries.
+const TRIES: u32 = 100;
+
+const PAUSES: u32 = 10;
+
+// Lets some hundred cycles pass.
+fn pause() {
+    for _ in 0..PAUSES {
+        spin_loop();
+    }
+}
 
 /// A bench that threads share. Each call takes its lock once. Its drop waits for the viewers.
 pub struct Desk<J: Naming + StoreName, X: BoardTexts, R: Wait + Drop>
@@ -25,7 +38,7 @@ where
     state: Mutex<DeskState<J, X, R>>,
     // Those who wait for a job. Who takes one wakes the next.
     work: Condvar,
-    // Those who wait for a change.
+    // Those who wait for a change of the board.
     change: Condvar,
 }
 
@@ -39,10 +52,25 @@ impl<J: Naming + StoreName, X: BoardTexts, R: Wait + Drop> Desk<J, X, R> {
         }
     }
 
-    // Wakes one who waits for a job, and those who wait for a change.
-    fn tell_change(&self) {
+    // Takes the lock. As others have it for some microseconds only, it is tried for so long before the thread sleeps.
+    fn lock<W: Wait>(&self, rt: &W) -> MutexGuard<DeskState<J, X, R>> {
+        for _ in 0..TRIES {
+            if let Some(state) = self.state.try_lock() {
+                return state;
+            }
+            pause();
+        }
+        self.state.lock(rt)
+    }
+
+    // Leaves the lock. Wakes one who waits for a job and, if the board changed since, those who wait for that.
+    fn leave(&self, state: MutexGuard<DeskState<J, X, R>>, changes: u64) {
+        let is_changed = !state.is_unchanged(changes);
+        drop(state);
         self.work.notify_one();
-        self.change.notify_all();
+        if is_changed {
+            self.change.notify_all();
+        }
     }
 
     /// Makes an edit, publishes it and tells this viewer.
@@ -55,22 +83,26 @@ impl<J: Naming + StoreName, X: BoardTexts, R: Wait + Drop> Desk<J, X, R> {
         ensures err { OnErr result (me.new ≡ me.old) }
         ensures told { IfOk result (λ a. Tells X.is_legal X.is_edit X.is_settle edit me.old me.new a) }
     {
-        let answer = self.state.lock(rt).edit(rt, me, edit);
-        self.tell_change();
+        let mut state = self.lock(rt);
+        let changes = state.change_count();
+        let answer = state.edit(rt, me, edit);
+        self.leave(state, changes);
         answer
     }
 
     /// Gives out a job, if there is any work.
     pub fn claim<W: Wait>(&self, rt: &W) -> Result<Option<Job<J, X>>, DeskFault<X::Fault>> {
-        let answer = self.state.lock(rt).claim(rt);
-        self.tell_change();
+        let mut state = self.lock(rt);
+        let changes = state.change_count();
+        let answer = state.claim(rt);
+        self.leave(state, changes);
         answer
     }
 
     /// Waits for a job. It sleeps while there is no work. Errors: K1, B1, want of memory.
     pub fn next_job<W: Wait>(&self, rt: &W) -> Result<Job<J, X>, DeskFault<X::Fault>> {
         for _ in rt.forever() {
-            let mut state = self.state.lock(rt);
+            let mut state = self.lock(rt);
             if let Some(job) = state.claim(rt)? {
                 drop(state);
                 self.work.notify_one();
@@ -83,28 +115,34 @@ impl<J: Naming + StoreName, X: BoardTexts, R: Wait + Drop> Desk<J, X, R> {
 
     /// Takes a return.
     pub fn finish<W: Wait>(&self, rt: &W, done: Done<J, X>) -> Result<Taken, DeskFault<X::Fault>> {
-        let answer = self.state.lock(rt).finish(rt, done);
-        self.tell_change();
+        let mut state = self.lock(rt);
+        let changes = state.change_count();
+        let answer = state.finish(rt, done);
+        self.leave(state, changes);
         answer
     }
 
     /// Closes a claim, and says whether it was out.
     pub fn lose<W: Wait>(&self, rt: &W, claim: u64) -> Result<bool, DeskFault<X::Fault>> {
-        let answer = self.state.lock(rt).lose(rt, claim);
-        self.tell_change();
+        let mut state = self.lock(rt);
+        let changes = state.change_count();
+        let answer = state.lose(rt, claim);
+        self.leave(state, changes);
         answer
     }
 
     /// Forgets all that was computed, and closes every claim.
     pub fn renew<W: Wait>(&self, rt: &W) -> Result<(), DeskFault<X::Fault>> {
-        let answer = self.state.lock(rt).renew(rt);
-        self.tell_change();
+        let mut state = self.lock(rt);
+        let changes = state.change_count();
+        let answer = state.renew(rt);
+        self.leave(state, changes);
         answer
     }
 
     /// From now on each call is refused.
     pub fn close<W: Wait>(&self, rt: &W) -> Result<(), DeskFault<X::Fault>> {
-        let answer = self.state.lock(rt).close();
+        let answer = self.lock(rt).close();
         self.work.notify_all();
         self.change.notify_all();
         answer
@@ -114,7 +152,7 @@ impl<J: Naming + StoreName, X: BoardTexts, R: Wait + Drop> Desk<J, X, R> {
     pub fn viewer<W: Wait>(&self, rt: &W) -> Result<Viewer<J, X>, DeskFault<X::Fault>>
         ensures { IfOk result (λ v. v ≡ []) }
     {
-        self.state.lock(rt).viewer()
+        self.lock(rt).viewer()
     }
 
     /// Tells this viewer all that is published, if each cell of it is settled. Errors: K1, and K2 if the viewer has seen more
@@ -127,13 +165,14 @@ impl<J: Naming + StoreName, X: BoardTexts, R: Wait + Drop> Desk<J, X, R> {
         ensures err { OnErr result (me.new ≡ me.old) }
         ensures told { IfOk result (λ r. TellsSettled X.is_legal (λ ops. AreSettled (X.cells (fold X.after X.none ops))) me.old me.new r) }
     {
-        self.state.lock(rt).settle(rt, me)
+        self.lock(rt).settle(rt, me)
     }
 
-    /// Waits until there are other changes than so many, or the desk is closed. It does not wait where that is so.
+    /// Waits until the board has other changes than so many, something has to be tried again, or the desk is closed. It does
+    /// not wait where that is so.
     pub fn wait_past<W: Wait>(&self, rt: &W, changes: u64) {
         for _ in rt.forever() {
-            let state = self.state.lock(rt);
+            let state = self.lock(rt);
             if !state.is_unchanged(changes) {
                 return;
             }

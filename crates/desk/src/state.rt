@@ -35,8 +35,6 @@ where
     closed: bool,
     // Whether a settled cell may be open on the board, or readers may not see all: the next call tries again.
     owes: bool,
-    // How many calls changed something, so that those who wait know that one did.
-    changes: u64,
     alloc: Global,
     // Its drop waits for the viewers.
     rt: Box<R>,
@@ -113,7 +111,6 @@ impl<J: Naming + StoreName, X: BoardTexts, R: Wait + Drop> DeskState<J, X, R> {
             seats,
             closed: false,
             owes: true,
-            changes: 0,
             alloc,
             rt,
         }
@@ -157,7 +154,6 @@ impl<J: Naming + StoreName, X: BoardTexts, R: Wait + Drop> DeskState<J, X, R> {
         }
         self.owes = true;
         let number = make_edit(self.alloc, &mut self.bench, &mut self.ledger, edit)?;
-        self.changes = self.changes.wrapping_add(1);
         self.owes = !self.ledger.post(self.alloc, &self.bench);
         if !self.ledger.publish(rt) {
             self.owes = true;
@@ -175,7 +171,6 @@ impl<J: Naming + StoreName, X: BoardTexts, R: Wait + Drop> DeskState<J, X, R> {
         ensures grows { IsPrefix self.old.published self.new.published }
         ensures posted { PublishesOr (λ bench ops. ArePosted X.net (cells_of X.verdict_of X.outcome_in X.from_scratch X.reaches) bench (X.cells (fold X.after X.none ops))) self.old self.new result }
     {
-        self.changes = self.changes.wrapping_add(1);
         self.owes = true;
         if !self.ledger.post(self.alloc, &self.bench) {
             return Posted::Later;
@@ -196,7 +191,6 @@ impl<J: Naming + StoreName, X: BoardTexts, R: Wait + Drop> DeskState<J, X, R> {
         ensures grows { IsPrefix self.old.published self.new.published }
         ensures posted { PublishesOr (λ bench ops. ArePosted X.net (cells_of X.verdict_of X.outcome_in X.from_scratch X.reaches) bench (X.cells (fold X.after X.none ops))) self.old self.new result }
     {
-        self.changes = self.changes.wrapping_add(1);
         self.owes = true;
         if !self.ledger.post_above(self.alloc, &self.bench, node) {
             return Posted::Later;
@@ -304,7 +298,6 @@ impl<J: Naming + StoreName, X: BoardTexts, R: Wait + Drop> DeskState<J, X, R> {
         }
         self.owes = true;
         let lost = self.bench.lose(claim);
-        self.changes = self.changes.wrapping_add(1);
         self.try_again(rt);
         Ok(lost)
     }
@@ -324,7 +317,6 @@ impl<J: Naming + StoreName, X: BoardTexts, R: Wait + Drop> DeskState<J, X, R> {
         }
         self.owes = true;
         self.bench.renew();
-        self.changes = self.changes.wrapping_add(1);
         self.try_again(rt);
         Ok(())
     }
@@ -355,7 +347,7 @@ impl<J: Naming + StoreName, X: BoardTexts, R: Wait + Drop> DeskState<J, X, R> {
             return Ok(Settling::Refused);
         }
         if !self.ledger.is_settled() {
-            return Ok(Settling::Waits(self.changes));
+            return Ok(Settling::Waits(self.change_count()));
         }
         self.ledger.tell_all(me);
         Ok(Settling::Done)
@@ -386,14 +378,18 @@ impl<J: Naming + StoreName, X: BoardTexts, R: Wait + Drop> DeskState<J, X, R> {
         if self.closed {
             return Err(DeskFault::Closed);
         }
-        self.changes = self.changes.wrapping_add(1);
         self.closed = true;
         Ok(())
     }
 
-    /// Whether nothing changed since there were so many changes, and something still may.
+    /// How many changes of the board there were: operations that were appended.
+    pub(crate) fn change_count(&self) -> u64 {
+        self.ledger.front().len()
+    }
+
+    /// Whether the board is as it was after so many changes, nothing has to be tried again, and the desk is open.
     pub(crate) fn is_unchanged(&self, changes: u64) -> bool {
-        self.changes == changes && !self.closed
+        self.change_count() == changes && !self.owes && !self.closed
     }
 }
 
@@ -405,7 +401,6 @@ impl<J: Naming + StoreName, X: BoardTexts, R: Wait + Drop> Drop for DeskState<J,
             seats: _,
             closed: _,
             owes: _,
-            changes: _,
             alloc: _,
             rt,
         } = self;
