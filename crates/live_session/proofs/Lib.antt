@@ -1,4 +1,3 @@
 pub mod Sessions
 pub mod Edits
 pub mod Viewers
-pub mod Crossings

@@ -1,2 +1,3 @@
 pub mod Indexes
 pub mod Above
+pub mod Crossings

@@ -1,5 +1,5 @@
 -- What crosses to a thread holds no thread's own.
-use Rattle.bench_examples.proofs.Crossings.{bench_crosses}
+use Rattle.running_bench.proofs.Crossings.{bench_crosses}
 use Rattle.bench_examples.proofs.stress.play_plan.Goals as goal
 
 pub with_workers-worked-requires-send-X : goal.with_workers-worked-requires-send-X

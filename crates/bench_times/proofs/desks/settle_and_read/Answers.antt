@@ -1,5 +1,5 @@
 -- What crosses to a thread holds no thread's own.
-use Rattle.bench_times.proofs.Crossings.{desk_crosses}
+use Rattle.running_bench.proofs.Crossings.{desk_crosses}
 use Rattle.bench_times.proofs.desks.settle_and_read.Goals as goal
 
 pub join-requires-send-F : goal.join-requires-send-F

@@ -1,5 +1,5 @@
 -- What crosses to the workers holds no thread's own.
-use Rattle.bench_times.proofs.Crossings.{bench_crosses}
+use Rattle.running_bench.proofs.Crossings.{bench_crosses}
 use Rattle.bench_times.proofs.desks.show_workers.Goals as goal
 
 pub with_workers-worked-requires-send-X : goal.with_workers-worked-requires-send-X

@@ -1,6 +1,6 @@
 use Rattle.litmusbench.specs.declared.fault.SessionFault.TheVariants as faults
 use Rattle.live_session.proofs.Sessions.{not_begun}
-use Rattle.live_session.proofs.Crossings.{bench_crosses}
+use Rattle.running_bench.proofs.Crossings.{bench_crosses}
 use Rattle.live_session.proofs.running.session_at.Goals as goal
 
 pub returns-in_default-clause-written : goal.returns-in_default-clause-written

@@ -1,5 +1,5 @@
 -- What crosses to the workers holds no thread's own.
-use Rattle.live_watch.proofs.Crossings.{bench_crosses}
+use Rattle.running_bench.proofs.Crossings.{bench_crosses}
 use Rattle.live_watch.proofs.start.watch_at.Goals as goal
 
 pub beside_workers-worked-requires-send-X : goal.beside_workers-worked-requires-send-X

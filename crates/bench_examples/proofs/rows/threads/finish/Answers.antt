@@ -1,6 +1,6 @@
 -- What crosses to a thread holds no thread's own.
 use Rattle.std.proofs.Crossing.{send, sync}
-use Rattle.bench_examples.proofs.Crossings.{desk_crosses}
+use Rattle.running_bench.proofs.Crossings.{desk_crosses}
 use Rattle.bench_examples.proofs.rows.threads.finish.Goals as goal
 
 pub join-requires-send-F : goal.join-requires-send-F

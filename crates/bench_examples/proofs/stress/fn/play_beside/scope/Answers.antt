@@ -1,5 +1,5 @@
 -- What crosses to a thread holds no thread's own.
-use Rattle.bench_examples.proofs.Crossings.{desk_crosses}
+use Rattle.running_bench.proofs.Crossings.{desk_crosses}
 use Rattle.bench_examples.proofs.stress.watch.Shared.TheSendSync as shared
 use Rattle.bench_examples.proofs.stress.fn.play_beside.scope.Goals as goal
 
