@@ -1,10 +1,10 @@
 //! The jobs of the desk: the author runs them one after another, or the workers do.
 
 ghost use Rattle.std.specs.Prelude.{OnOk, OnErr, IfOk, ◌≡◌, Err};
-ghost use Rattle.board.specs.Legal.{IsLegal};
 ghost use Rattle.board.specs.Operations.{board_after};
 ghost use Rattle.desk.specs.Boards.{AreSettled};
 ghost use Rattle.running_bench.specs.Cells.{board_cells};
+ghost use Rattle.running_bench.specs.Texts.{IsHistory};
 ghost use Rattle.live_watch.specs.Lines.{lists_of, AreShown};
 
 use crate::turnstile::RunningTurnstile;
@@ -75,7 +75,7 @@ impl<'a, 'd, J: Naming + StoreName, R: Wait + Drop> Watched<'a, 'd, J, R> {
     // Waits until each cell is settled and published. Errors: `Memory`, also where a worker gave up.
     fn wait_settled<W: Wait>(&mut self, rt: &W) -> Result<(), SessionFault>
         ensures settled { OnOk result (AreSettled (board_cells (board_after self.new.viewer))) }
-        ensures legal { OnOk result (IsLegal self.new.viewer) }
+        ensures history { OnOk result (IsHistory self.new.viewer) }
         ensures fault { OnErr result (result ≡ Err SessionFault.Memory) }
     {
         match self.desk.settle(rt, &mut self.viewer) {
@@ -93,7 +93,7 @@ impl<'a, 'd, J: Naming + StoreName, R: Wait + Drop> Watched<'a, 'd, J, R> {
         hands: &Hands<'d, J, R>,
     ) -> Result<u64, SessionFault>
         ensures settled { OnOk result (AreSettled (board_cells (board_after self.new.viewer))) }
-        ensures legal { OnOk result (IsLegal self.new.viewer) }
+        ensures history { OnOk result (IsHistory self.new.viewer) }
         ensures fault { OnErr result (result ≡ Err SessionFault.Memory) }
     {
         match hands {

@@ -1,7 +1,7 @@
 -- What texts of tests and models owe to a desk.
 use Rattle.std.proofs.Common.{◌≡◌, true, false, Bool, ◌||◌, ℕ, zero, suc, ◌*◌, ◌+◌, ◌<◌, ◌≤◌, ◌^◌, List, [], ◌∷◌, ◌++◌, Option, Some, None}
 use Rattle.std.proofs.Common.{length, map, refl, sym, ap, subst, ◌∙◌, arith}
-use Rattle.std.specs.Prelude.{slice_get, if◌then◌else◌, nat_lt}
+use Rattle.std.specs.Prelude.{slice_get, if◌then◌else◌, nat_lt, fold}
 use Rattle.std.specs.Arc.{arc_value}
 use Rattle.std.proofs.Math.Nat.{mul-le-mul_left}
 use Rattle.std.proofs.lemmas.Bool.{ltb-false}
@@ -18,7 +18,7 @@ use Rattle.bench_texts.specs.declared.model.NamedModel.{NamedModel}
 use Rattle.bench_texts.specs.declared.prepared.Prepared.{Prepared}
 use Rattle.bench_texts.specs.declared.replacement.Replacement.{Replacement}
 use Rattle.bench_texts.specs.BenchTexts.{BenchTexts, PlainModel, test_index, model_index}
-use Rattle.bench_texts.specs.Edits.{edit_of, Applies}
+use Rattle.bench_texts.specs.Edits.{edit_of, Applies, Edit as PlainEdit}
 use Rattle.bench_texts.specs.Held.{texts_of}
 use Rattle.bench_texts.specs.Held as plain
 use Rattle.bench_texts.specs.Limits.{is_full, is_spent, models_outputs}
@@ -29,8 +29,8 @@ use Rattle.desk.specs.Boards.{BoardCell, with_outcome}
 use Rattle.board.specs.declared.operation.BoardOp.{BoardOp}
 use Rattle.board.specs.declared.operation.BoardOp.TheVariants as ops
 use Rattle.board.specs.Contents.{RowContent, ColumnContent, BoardContent}
-use Rattle.board.specs.Legal.{Held, held_of, held_with, held_after, nothing_held, texts_after}
-use Rattle.board.specs.Legal.{number_after, last_number, MayFollow, IsLegal}
+use Rattle.board.specs.Legal.{Held, held_of, held_with, held_after, nothing_held, texts_after, IsRightAt}
+use Rattle.board.specs.Legal.{number_after, last_number, MayFollow}
 use Rattle.board.specs.Operations.{with_cell, settled, after_operation, no_board, board_after}
 use Rattle.board.specs.Right.{HasNamesOf}
 use Rattle.board.proofs.Names.{IsNamed, as_many, names_from, one_more_is_legal}
@@ -43,7 +43,7 @@ use Rattle.stamped_texts.specs.Cells.{from_scratch, scratch_by, test_of, model_o
 use Rattle.stamped_texts.specs.CellProofs.{cell_in, is_named, stands_there, tests_apart, models_apart}
 use Rattle.running_bench.specs.Cells.{cell_with, all_cells, IsCountable, board_cells}
 use Rattle.running_bench.specs.Texts.{no_contents, contents_with, contents_after, AreAfter}
-use Rattle.running_bench.specs.Texts.{MayComeNext, Announced, IsEditAfter, IsSettle, Settles}
+use Rattle.running_bench.specs.Texts.{IsMadeOn, AreMadeFrom, IsHistory, MayComeNext, Announced, IsEditAfter, IsSettle, Settles}
 use Rattle.running_bench.specs.Listing.{are_all, all_get, all_put, cell_of_row, row_cell, outcome_at}
 
 -- ---- names
@@ -62,8 +62,14 @@ held_models h = map (λ m. m.name) h.models
 
 -- ---- one operation more
 
-pub goes_on_legally : (all : List BoardOp) (op : BoardOp) → IsLegal all → MayComeNext all op → IsLegal (all ++ op ∷ [])
-goes_on_legally all op legal may = one_more_is_legal all op nothing_held 0 legal may
+one_more_is_made : (all : List BoardOp) (op : BoardOp) (t : BenchTexts)
+    → AreMadeFrom t all → IsMadeOn (fold contents_with t all) op → AreMadeFrom t (all ++ op ∷ [])
+one_more_is_made [] op t made may = (may, tt)
+one_more_is_made (o ∷ all) op t made may = (made.0, one_more_is_made all op (contents_with t o) made.1 may)
+
+pub goes_on : (all : List BoardOp) (op : BoardOp) → IsHistory all → MayComeNext all op → IsHistory (all ++ op ∷ [])
+goes_on all op history may =
+    (one_more_is_legal all op nothing_held 0 history.0 may.0, one_more_is_made all op no_contents history.1 may.1)
 
 texts_push : (all : List BoardOp) (op : BoardOp) → texts_after (all ++ op ∷ []) ≡ held_after (texts_after all) op
 texts_push all op = fold_push held_after nothing_held all op
@@ -114,13 +120,6 @@ prepared_held t u e p h = held_alike t u ((h.same).state).tests (h.same).models
 
 -- ---- edits
 
-pub edits_follow : (t u : StampedTexts) (e : Edit) (p : PreparedEdit) (number : ℕ) (op : BoardOp) (all : List BoardOp)
-    → IsSound t → AreAfter t all → last_number all < number → IsPrepared t e p u → Announced u p number op → MayComeNext all op
-edits_follow t u e p number (ops.Edit b) all sound a lt h n =
-    let same : held_of u.texts ≡ texts_after all = prepared_held t u e p h ∙ a.held in
-    subst (λ (g : Held). MayFollow g (last_number all) (ops.Edit b)) same (n.2 (last_number all) lt)
-edits_follow t u e p number (ops.Settle at outcome) all sound a lt h n = absurd n
-
 not_full : (full spent is : Bool)
     → (if full then Some faults.Full else (if spent || is then Some faults.Spent else None)) ≡ None → full ≡ false
 not_full true spent is e = cc
@@ -136,6 +135,10 @@ few_by t e =
     let outputs = nat_lt 524288 (length t.tests * (1 + models_outputs t.models)) in
     let n = neither (nat_lt 512 (length t.tests)) (nat_lt 16 (length t.models)) outputs e in
     (ltb-false 512 (length t.tests) n.0, ltb-false 16 (length t.models) n.1)
+
+-- an edit makes no more tests and models than the bench takes
+pub made_few : (t new : BenchTexts) (e : PlainEdit) → Applies t false e new → (length new.tests ≤ 512) × (length new.models ≤ 16)
+made_few t new e applies = few_by new (not_full (is_full new) false (is_spent t) applies.within)
 
 -- the texts with what a prepared edit puts
 abbrev texts_made : StampedTexts → PreparedEdit → BenchTexts
@@ -206,6 +209,14 @@ edits_named t u e p number (ops.Edit b) all sound a h n =
     subst (λ (q : Prepared). Applies now false (edit_of e) (texts_with q.replacement now)) (sym n.1) applies in
     (n.0, put)
 edits_named t u e p number (ops.Settle at outcome) all sound a h n = absurd n
+
+pub edits_follow : (t u : StampedTexts) (e : Edit) (p : PreparedEdit) (number : ℕ) (op : BoardOp) (all : List BoardOp)
+    → IsSound t → AreAfter t all → last_number all < number → IsPrepared t e p u → Announced u p number op → MayComeNext all op
+edits_follow t u e p number (ops.Edit b) all sound a lt h n =
+    let same : held_of u.texts ≡ texts_after all = prepared_held t u e p h ∙ a.held in
+    let may = subst (λ (g : Held). MayFollow g (last_number all) (ops.Edit b)) same (n.2 (last_number all) lt) in
+    (may, (edit_of e, (edits_named t u e p number (ops.Edit b) all sound a h n).1))
+edits_follow t u e p number (ops.Settle at outcome) all sound a lt h n = absurd n
 
 pub edits_numbered : (u : StampedTexts) (p : PreparedEdit) (number : ℕ) (op : BoardOp) (all : List BoardOp)
     → Announced u p number op → last_number (all ++ op ∷ []) ≡ number
@@ -352,14 +363,15 @@ settles_follow t all index c o (ops.Settle at outcome) sound a h right s =
     let model_there = ap (λ (g : Held). slice_get g.models at.model) a.held ∙ model.1 in
     let test_is = test_here t at.test test.0 c.test sound test_there (test.2 ∙ cell.test_is) in
     let model_is = model_here t at.model model.0 c.model sound model_there (model.2 ∙ cell.model_is) in
-    record {
+    let there : IsRightAt texts at.test at.model (arc_value outcome) = record {
       test = test.0;
       model = model.0;
       test_there = test.1;
       model_there = model.1;
       right = subst (IsFromScratch test.0 model.0.text) (sym s.0)
           (right_by test.0 model.0 (test_of t c.test) (model_of t c.model) o test_is model_is right);
-    }
+    } in
+    (there, tt)
 
 -- ---- each cell of the texts is a cell of the board
 

@@ -1,5 +1,5 @@
 -- What texts of tests and models say of operations on boards. Read it after Cells.
-use Rattle.std.specs.Prelude.{◌≡◌, false, ℕ, ◌<◌, ◌≤◌, List, [], length, fold}
+use Rattle.std.specs.Prelude.{◌≡◌, false, ℕ, ◌<◌, ◌≤◌, List, [], ◌∷◌, length, fold}
 use Rattle.std.specs.Arc.{arc_value}
 use Rattle.verdict.specs.declared.answer.Outcome.{Outcome}
 use Rattle.bench_texts.specs.declared.edit.Edit as code
@@ -13,7 +13,7 @@ use Rattle.board.specs.declared.operation.BoardOp.{BoardOp}
 use Rattle.board.specs.declared.operation.BoardOp.TheVariants as ops
 use Rattle.board.specs.Contents.{BoardContent}
 use Rattle.board.specs.Legal as legal
-use Rattle.board.specs.Legal.{Held, held_of, texts_after, MayFollow}
+use Rattle.board.specs.Legal.{Held, held_of, texts_after, MayFollow, IsLegal}
 use Rattle.board.specs.Right.{HasNamesOf}
 use Rattle.stamped_texts.specs.declared.texts.StampedTexts.{StampedTexts}
 use Rattle.stamped_texts.specs.declared.texts.PreparedEdit.{PreparedEdit}
@@ -41,11 +41,30 @@ pub record AreAfter (t : StampedTexts) (all : List BoardOp) : Type 0 where
   pub few_tests : length (texts_after all).tests ≤ 512
   pub few_models : length (texts_after all).models ≤ 16
 
+-- ---- histories
+
+-- an edit is one that these texts make
+abbrev pub IsMadeOn : BenchTexts → BoardOp → Type 0
+IsMadeOn t (ops.Edit edit) = (e : Edit) × Applies t false e (texts_with edit.prepared.value.replacement t)
+IsMadeOn t (ops.Settle at outcome) = Unit {0}
+
+abbrev pub AreMadeFrom : BenchTexts → List BoardOp → Type 0
+AreMadeFrom t [] = Unit {0}
+AreMadeFrom t (op ∷ all) = IsMadeOn t op × AreMadeFrom (contents_with t op) all
+
+-- each edit among these operations is one that the texts after the operations before it make
+abbrev pub AreEditsMade : List BoardOp → Type 0
+AreEditsMade all = AreMadeFrom no_contents all
+
+-- the operations of a running bench
+abbrev pub IsHistory : List BoardOp → Type 0
+IsHistory all = IsLegal all × AreEditsMade all
+
 -- ---- operations that come next
 
 -- the operation may come after these
 abbrev pub MayComeNext : List BoardOp → BoardOp → Type 0
-MayComeNext all op = MayFollow (texts_after all) (legal.last_number all) op
+MayComeNext all op = MayFollow (texts_after all) (legal.last_number all) op × IsMadeOn (contents_after all) op
 
 -- the operation may follow when these are held and the numbers of all edits are below that one
 abbrev pub MayFollowBelow : Held → ℕ → BoardOp → Type 0

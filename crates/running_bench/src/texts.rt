@@ -253,12 +253,11 @@ impl Operations for RunningTexts {
 
     type Board = Board;
 
-    ghost use Rattle.board.specs.Legal.{IsLegal};
     ghost use Rattle.board.specs.Operations.{no_board, after_operation};
-    ghost use Rattle.running_bench.specs.Texts.{MayComeNext};
-    ghost use Rattle.running_bench.specs.Laws.{goes_on_legally};
+    ghost use Rattle.running_bench.specs.Texts.{IsHistory, MayComeNext};
+    ghost use Rattle.running_bench.specs.Laws.{goes_on};
 
-    ghost is_legal = { IsLegal };
+    ghost is_legal = { IsHistory };
 
     ghost may_follow = { MayComeNext };
 
@@ -274,9 +273,9 @@ impl Operations for RunningTexts {
         board.apply(alloc, op)
     }
 
-    ghost legal_none = { tt };
+    ghost legal_none = { (tt, tt) };
 
-    ghost legal_more = { goes_on_legally };
+    ghost legal_more = { goes_on };
 }
 
 // The indexes of the test and of the model of the cell that the desk counts so.

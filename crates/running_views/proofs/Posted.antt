@@ -1,6 +1,7 @@
 -- Cells that the desk lists as settled are shown as settled.
 use Rattle.std.proofs.Common.{◌≡◌, ℕ, zero, suc, ◌+◌, ◌-◌, ◌*◌, ◌^◌, ◌<◌, ◌≤◌, inl, inr, List, [], ◌∷◌, ◌++◌, length, map, Option, Some, None, Bool, true, false, refl, sym, ap, ◌∙◌, subst, arith}
 use Rattle.std.specs.Prelude.{slice_get, IsSome, if◌then◌else◌, nat_lt}
+use Rattle.std.proofs.Math.Nat.{mul-le-mul_left}
 use Rattle.std.proofs.lemmas.Bool.{cases_lt}
 use Rattle.std.proofs.lemmas.Option.{none-some}
 use Rattle.litmus_values.specs.declared.test.Test.{Test}
@@ -17,18 +18,19 @@ use Rattle.board.specs.declared.operation.BoardOp.{BoardOp}
 use Rattle.board.specs.Contents.{RowContent, ColumnContent, BoardContent, row_index, column_index, cell_at, cells_of, shown_cell, shown}
 use Rattle.board.specs.Operations.{no_board, board_after}
 use Rattle.board.specs.Legal.{Held, nothing_held, IsLegal, texts_after}
-use Rattle.board.proofs.Names.{IsNamed, names_from}
+use Rattle.board.proofs.Names.{IsNamed, as_many, names_from}
 use Rattle.stamped_texts.specs.declared.texts.StampedTexts.{StampedTexts}
 use Rattle.stamped_texts.specs.Texts.{IsSound}
 use Rattle.stamped_texts.specs.Cells.{from_scratch, scratch_by, test_of, model_of as model_in}
 use Rattle.stamped_texts.specs.CellProofs.{stands_there, tests_apart, models_apart}
 use Rattle.running_bench.specs.Cells.{cell_with, row_cells, all_cells, IsCountable, board_cells}
 use Rattle.running_bench.specs.Listing.{are_all, all_get, row_length, outcome_at, row_cell, cell_of_row}
-use Rattle.running_bench.specs.Texts.{AreAfter}
+use Rattle.running_bench.specs.Texts.{AreAfter, IsHistory}
 use Rattle.view_laws.specs.Results.{test_named, model_named, HasBoth, IsResultIn, IsRightCell}
 use Rattle.running_views.specs.Posted.{ShowsEachResult, SettledIsShown, PostedIsShown}
 use Rattle.view_laws.proofs.Names.{found, found_alike, there_alike, same_name, below}
 use Rattle.view_laws.proofs.Rights.{one_result, right_cell}
+use Rattle.running_views.proofs.Contents.{history_is_within}
 
 -- ---- an outcome at an index
 
@@ -83,6 +85,26 @@ module _ (ops : List BoardOp) (legal : IsLegal ops) where
       let is = settled (i * length b.columns + j) (cell_with r.0.name c.0.name (outcome_at r.0.cells j)) (listed countable i j r.0 c.0 r.1 c.1) in
       let s = shown_there b i j r.0 r.1 is in
       (s.0, s.1, settled_right h test model (shown b test model) s.0 s.1 (right_cell ops legal test model))
+
+-- ---- histories, whose boards a number of 64 bits counts
+
+product_few : (n m : ℕ) → n ≤ 512 → m ≤ 16 → n * m < 2 ^ 64
+product_few n m few_n few_m = let p = mul-le-mul_left n few_m in omega (arith, p, few_n)
+
+history_is_countable : (ops : List BoardOp) → IsHistory ops → IsCountable (board_after ops)
+history_is_countable ops history =
+    let board : BoardContent = board_after ops in
+    let texts : Held = texts_after ops in
+    let within = history_is_within ops history in
+    let is_named : IsNamed board.rows board.columns texts = names_from ops no_board nothing_held 0 history.0 (record { tests = refl; models = refl }) in
+    let rows = as_many (λ r. r.name) (λ t. t.name) board.rows texts.tests is_named.tests in
+    let columns = as_many (λ c. c.name) (λ m. m.name) board.columns texts.models is_named.models in
+    product_few (length board.rows) (length board.columns)
+    (subst (λ (k : ℕ). k ≤ 512) (sym rows) within.tests)
+    (subst (λ (k : ℕ). k ≤ 16) (sym columns) within.models)
+
+pub settled_history_is_shown : (ops : List BoardOp) → IsHistory ops → AreSettled (board_cells (board_after ops)) → ShowsEachResult ops
+settled_history_is_shown ops history settled = settled_is_shown ops history.0 (history_is_countable ops history) settled
 
 -- ---- a listed cell has a row and a column
 

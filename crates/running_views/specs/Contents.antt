@@ -1,11 +1,14 @@
 -- The texts after some operations as they are read, and with the numbers of their items. Read it after Edits.
-use Rattle.std.specs.Prelude.{◌≡◌, ℕ, false, List, [], ◌∷◌, ◌++◌, map}
+use Rattle.std.specs.Prelude.{◌≡◌, ◌≤◌, ℕ, false, List, [], ◌∷◌, ◌++◌, length, map}
 use Rattle.litmus_values.specs.Value.{content_of}
+use Rattle.verdict.specs.declared.answer.Outcome.{Outcome}
 use Rattle.bench_texts.specs.BenchTexts.{BenchTexts}
 use Rattle.bench_texts.specs.Edits as edits
-use Rattle.bench_texts.specs.Held.{model_of}
+use Rattle.bench_texts.specs.Held.{texts_of, model_of}
 use Rattle.board.specs.declared.operation.BoardOp.{BoardOp}
-use Rattle.board.specs.Legal.{Held, texts_after}
+use Rattle.board.specs.Legal.{Held, held_of, texts_after}
+use Rattle.stamped_texts.specs.declared.texts.StampedTexts.{StampedTexts}
+use Rattle.stamped_texts.specs.Cells.{from_scratch}
 use Rattle.running_bench.specs.Texts.{contents_after, IsEditOf}
 
 -- these are what the tests and the models say
@@ -22,3 +25,15 @@ abbrev pub IsApplied : List BoardOp → BoardOp → Type 0
 IsApplied ops op =
     (e : edits.Edit) (number : ℕ) → IsEditOf (contents_after ops) op e number
     → edits.Applies (contents_after ops) false e (contents_after (ops ++ op ∷ []))
+
+-- there are no more tests and models than a bench takes
+pub record IsWithinLimits (h : Held) : Type 0 where
+  pub tests : length h.tests ≤ 512
+  pub models : length h.models ≤ 16
+
+-- The texts are the same, wherever they lie in memory: their tests and models, the numbers of their items, and what evaluating
+-- each test under each model from nothing gives.
+pub record SayTheSame (t u : StampedTexts) : Type 0 where
+  pub held : held_of u.texts ≡ held_of t.texts
+  pub contents : texts_of u.texts ≡ texts_of t.texts
+  pub results : (test model : List ℕ) (o : Outcome) → from_scratch t test model o → from_scratch u test model o

@@ -18,7 +18,7 @@ ShowsEachResult ops =
     (test model : List ℕ) → HasBoth (texts_after ops) test model
     → (o : Outcome) × (shown (board_after ops) test model ≡ Settled o) × IsResultIn (texts_after ops) test model o
 
--- where every cell that the desk lists is settled, each result is shown
+-- where every cell that the desk lists is settled, each result is shown: a desk lists the cells that a number of 64 bits counts
 abbrev pub SettledIsShown : List BoardOp → Type 0
 SettledIsShown ops = IsCountable (board_after ops) → AreSettled (board_cells (board_after ops)) → ShowsEachResult ops
 

@@ -2,12 +2,15 @@
 
 ghost use Rattle.std.specs.Prelude.{List};
 ghost use Rattle.board.specs.declared.operation.BoardOp.{BoardOp};
-ghost use Rattle.board.specs.Legal.{IsLegal};
+ghost use Rattle.board.specs.Legal.{IsLegal, texts_after};
 ghost use Rattle.stamped_texts.specs.declared.texts.StampedTexts.{StampedTexts};
 ghost use Rattle.stamped_texts.specs.Texts.{IsSound};
-ghost use Rattle.running_bench.specs.Texts.{AreAfter};
-ghost use Rattle.running_views.specs.Contents.{HasContents, IsApplied};
-ghost use Rattle.running_views.specs.Posted.{SettledIsShown, PostedIsShown};
+ghost use Rattle.board.specs.Operations.{board_after};
+ghost use Rattle.desk.specs.Boards.{AreSettled};
+ghost use Rattle.running_bench.specs.Cells.{board_cells};
+ghost use Rattle.running_bench.specs.Texts.{AreAfter, IsHistory};
+ghost use Rattle.running_views.specs.Contents.{HasContents, IsApplied, IsWithinLimits, SayTheSame};
+ghost use Rattle.running_views.specs.Posted.{SettledIsShown, ShowsEachResult, PostedIsShown};
 
 /// The texts after some operations are what the edits among them make, one after another.
 pub fn edits_are_applied()
@@ -15,9 +18,22 @@ pub fn edits_are_applied()
     ensures contents { (ops : List BoardOp) → HasContents ops }
 {}
 
-/// Where every cell that a desk lists is settled, each test is shown with its result under each model.
+/// Two texts of a running bench after the same operations are the same, with the numbers of their items: so an edit that is
+/// refused leaves them what they were.
+pub fn texts_are_one()
+    ensures { (t u : StampedTexts) (ops : List BoardOp) → AreAfter t ops → AreAfter u ops → SayTheSame t u }
+{}
+
+/// The texts after each history of a running bench have no more tests and models than a bench takes.
+pub fn histories_are_within_limits()
+    ensures { (ops : List BoardOp) → IsHistory ops → IsWithinLimits (texts_after ops) }
+{}
+
+/// Where every cell that a desk lists is settled, each test is shown with its result under each model: after each history of
+/// a running bench, and after any legal operations whose board has cells that a number of 64 bits counts.
 pub fn settled_lists_are_shown()
-    ensures { (ops : List BoardOp) → IsLegal ops → SettledIsShown ops }
+    ensures histories { (ops : List BoardOp) → IsHistory ops → AreSettled (board_cells (board_after ops)) → ShowsEachResult ops }
+    ensures lists { (ops : List BoardOp) → IsLegal ops → SettledIsShown ops }
 {}
 
 /// A cell that is settled on the bench, and listed by the desk as settled, is shown with the outcome of the bench.

@@ -1,33 +1,39 @@
 //! What a viewer of the running bench takes, and asks of its view.
 
-ghost use Rattle.std.specs.Prelude.{◌≡◌, ◌≤◌, IfOk, IfErr};
+ghost use Rattle.std.specs.Prelude.{◌≡◌, ◌≤◌, IfOk, IfErr, option_map};
 ghost use mathlib.Core.List.{IsPrefix};
 ghost use Rattle.compare_report.specs.Cells.{cell_of};
-ghost use Rattle.board.specs.Contents.{shown};
+ghost use Rattle.board.specs.Contents.{shown, items_of};
 ghost use Rattle.board.specs.Operations.{board_after};
 ghost use Rattle.board.specs.Legal.{IsLegal, texts_after, last_number};
 ghost use Rattle.view_laws.specs.Results.{IsRightCell, ShowsRightCells};
 ghost use Rattle.view_laws.specs.Edits.{edit_count};
+ghost use Rattle.view_laws.specs.Items.{printed_in, ShowsRightItems};
+ghost use Rattle.running_bench.specs.Texts.{AreEditsMade};
 
 use compare_report::Shown;
 use desk_rule::{Naming, View, Viewer};
 use running_bench::RunningTexts;
-use view_laws::laws::{cells_are_right, edits_are_counted};
+use view_laws::laws::{cells_are_right, edits_are_counted, items_are_right};
 
 /// The board that was published last: its operations begin with all that the viewer saw or was told, each cell of it is right
-/// for the texts after them, and it counts their edits, which are no more than the number of the last. It takes no memory and
-/// waits for nobody. The viewer comes back where there is no view.
+/// for the texts after them, it has the items of their models with their numbers, each edit among them is one that the texts at
+/// its place make, and it counts their edits, which are no more than the number of the last. It takes no memory and waits for
+/// nobody. The viewer comes back where there is no view.
 pub fn newest_view<J: Naming>(
     viewer: Viewer<J, RunningTexts>,
 ) -> Result<View<J, RunningTexts>, Viewer<J, RunningTexts>>
     ensures begins { IfOk result (λ view. IsPrefix viewer view) }
     ensures legal { IfOk result (λ view. IsLegal view) }
+    ensures edits { IfOk result (λ view. AreEditsMade view) }
     ensures right { IfOk result (λ view. ShowsRightCells view) }
+    ensures items { IfOk result (λ view. ShowsRightItems view) }
     ensures counted { IfOk result (λ view. (board_after view).edits ≡ edit_count view) }
     ensures numbered { IfOk result (λ view. (board_after view).edits ≤ last_number view) }
     ensures same { IfErr result (λ back. back ≡ viewer) }
 {
     cells_are_right();
+    items_are_right();
     edits_are_counted();
     viewer.read()
 }
@@ -46,6 +52,17 @@ pub fn result_in<'v, J: Naming>(
 {
     cells_are_right();
     view.board().show(test, model)
+}
+
+/// The items of the model of this name in the texts after the operations of a view, with their numbers, one on each line; none
+/// where the texts lack the model. It takes no memory.
+pub fn items_in<'v, J: Naming>(view: &'v View<J, RunningTexts>, model: &[u8]) -> Option<&'v [u8]>
+    requires legal { IsLegal view.now }
+    ensures shown { option_map (λ b. b.now) result ≡ items_of (board_after view.now) model.now }
+    ensures right { option_map (λ b. b.now) result ≡ printed_in (texts_after view.now) model.now }
+{
+    items_are_right();
+    view.board().items(model)
 }
 
 /// How many edits there are among the operations of a view: no more than the number of the last.

@@ -4,8 +4,7 @@ use Rattle.bench_texts.specs.BenchTexts.{BenchTexts}
 use Rattle.bench_texts.specs.declared.edit.Edit.{Edit}
 use Rattle.desk.specs.Held.{HasEdit}
 use Rattle.board.specs.declared.operation.BoardOp.{BoardOp}
-use Rattle.board.specs.Legal.{IsLegal}
-use Rattle.running_bench.specs.Texts.{contents_after, IsEditAfter, IsSettle}
+use Rattle.running_bench.specs.Texts.{contents_after, IsHistory, IsEditAfter, IsSettle}
 use Rattle.view_laws.specs.Edits.{edits_in}
 
 -- The operations that were seen, and all that go on from them, have at least so many edits; where they have no more, these are
@@ -16,4 +15,4 @@ pub record KnowsOwn (seen : List BoardOp) (made : ℕ) (texts : BenchTexts) : Ty
 
 -- the later operations go on from the earlier ones and have the edit at its number, as a desk tells who made it
 abbrev pub HasOwnEdit : Edit → (number : ℕ) → (seen later : List BoardOp) → Type 0
-HasOwnEdit e number seen later = HasEdit IsLegal IsEditAfter IsSettle e number seen later
+HasOwnEdit e number seen later = HasEdit IsHistory IsEditAfter IsSettle e number seen later
