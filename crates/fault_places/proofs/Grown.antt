@@ -13,7 +13,7 @@ use Rattle.binding_kinds.specs.Value.{Naming, entry_of, bound_of}
 use Rattle.binding_kinds.specs.Senses.{Sense, IsKept, AreKept, kind_in}
 use Rattle.binding_kinds.specs.Verdict.{or_else, of_parameter, of_parameters}
 use Rattle.binding_kinds.proofs.Applications.{kept_long, kept_more}
-use Rattle.fault_places.specs.Search.{signed, or_later, signed_parameter}
+use Rattle.fault_places.specs.Search.{signed_fault, or_later, first_fault_in_parameters}
 use Rattle.binding_kinds.specs.Faults.{with_own, with_all}
 use Rattle.binding_kinds.proofs.Scopes.{rev_push}
 
@@ -38,10 +38,10 @@ none_of None e = refl
 none_of (Some k) e = absurd (let f : true ≡ false = e in cc)
 
 -- parameters of which none is at fault are at most eight
-pub no_parameter : (earlier ps : List (List ℕ)) → signed_parameter earlier ps ≡ None → of_parameters earlier ps ≡ None
+pub no_parameter : (earlier ps : List (List ℕ)) → first_fault_in_parameters earlier ps ≡ None → of_parameters earlier ps ≡ None
 no_parameter earlier [] e = refl
 no_parameter earlier (p ∷ ps) e = at_fault (of_parameter earlier p) (no_parameter (p ∷ earlier) ps) e
   where
-    at_fault : (o : Option ModelFault) → (signed_parameter (p ∷ earlier) ps ≡ None → of_parameters (p ∷ earlier) ps ≡ None) → or_later (signed o p) (signed_parameter (p ∷ earlier) ps) ≡ None → or_else o (of_parameters (p ∷ earlier) ps) ≡ None
+    at_fault : (o : Option ModelFault) → (first_fault_in_parameters (p ∷ earlier) ps ≡ None → of_parameters (p ∷ earlier) ps ≡ None) → or_later (signed_fault o p) (first_fault_in_parameters (p ∷ earlier) ps) ≡ None → or_else o (of_parameters (p ∷ earlier) ps) ≡ None
     at_fault None rest h = rest h
     at_fault (Some k) rest h = absurd cc

@@ -18,16 +18,16 @@ use Rattle.binding_kinds.specs.First.{of_binding, of_inside, of_applied}
 use Rattle.binding_kinds.proofs.First.{Judges, tested, named, inside}
 use Rattle.binding_kinds.proofs.FirstGroup.{seen_is, is_seen_of}
 use Rattle.fault_places.specs.Signs.{infix_sign, postfix_sign, check_sign, signs, signs_of_all, signs_of_bounds, signs_of_item}
-use Rattle.fault_places.specs.Search.{Signed, signed, or_later, signed_in, signed_among, signed_in_group, signed_parameter, signed_in_body, signed_in_bodies, signed_in_item, Placed, placed, placed_in}
+use Rattle.fault_places.specs.Search.{SignedFault, signed_fault, or_later, first_fault_in, first_fault_among, first_fault_in_group, first_fault_in_parameters, first_fault_in_body, first_fault_in_bodies, first_fault_in_item, PlacedFault, placed_fault, first_fault_in_items}
 
 -- the first of these faults stands at that sign of the list, or there is none
-abbrev Shows : (ℕ → ModelFault → Type 0) → List (List ℕ) → Option Signed → Type 0
+abbrev Shows : (ℕ → ModelFault → Type 0) → List (List ℕ) → Option SignedFault → Type 0
 Shows F zs None = (p : ℕ) (k : ModelFault) → F p k → ⊥
 Shows F zs (Some s) = (f : IsFirst F s.fault) × (slice_get zs f.index ≡ Some s.sign)
 
 -- ---- parts
 
-turn : (F G : ℕ → ModelFault → Type 0) (n : ℕ) (zs : List (List ℕ)) (o q : Option Signed) → ((p : ℕ) (k : ModelFault) → F p k → p < n) → ((p : ℕ) (k : ModelFault) → G p k → n ≤ p) → Shows F zs o → Shows G zs q → Shows (λ p k. F p k ⊎ G p k) zs (or_later o q)
+turn : (F G : ℕ → ModelFault → Type 0) (n : ℕ) (zs : List (List ℕ)) (o q : Option SignedFault) → ((p : ℕ) (k : ModelFault) → F p k → p < n) → ((p : ℕ) (k : ModelFault) → G p k → n ≤ p) → Shows F zs o → Shows G zs q → Shows (λ p k. F p k ⊎ G p k) zs (or_later o q)
 turn F G n zs None None low high f g = λ p k h. elim h [ inl a ↦ f p k a | inr b ↦ g p k b ]
 turn F G n zs None (Some s) low high f g = (
   record {
@@ -56,12 +56,12 @@ later_stays : (n a b : ℕ) (k l : ModelFault) → IsNoLater a k b l → IsNoLat
 later_stays n a b k l h = elim h [ inl lt ↦ inl (omega arith) | inr (e, r) ↦ inr (ap (λ (x : ℕ). n + x) e, r) ]
 
 -- the signs of a part stand in front
-front : (F : ℕ → ModelFault → Type 0) (xs zs : List (List ℕ)) (o : Option Signed) → ((i : ℕ) (s : List ℕ) → slice_get xs i ≡ Some s → slice_get zs i ≡ Some s) → Shows F xs o → Shows F zs o
+front : (F : ℕ → ModelFault → Type 0) (xs zs : List (List ℕ)) (o : Option SignedFault) → ((i : ℕ) (s : List ℕ) → slice_get xs i ≡ Some s → slice_get zs i ≡ Some s) → Shows F xs o → Shows F zs o
 front F xs zs None at h = h
 front F xs zs (Some s) at h = (h.0, at h.0.index s.sign h.1)
 
 -- or further on
-behind : (F : ℕ → ModelFault → Type 0) (n : ℕ) (ys zs : List (List ℕ)) (o : Option Signed) → ((i : ℕ) → slice_get zs (n + i) ≡ slice_get ys i) → Shows F ys o → Shows (λ p k. (after : ℕ) × (p ≡ n + after) × F after k) zs o
+behind : (F : ℕ → ModelFault → Type 0) (n : ℕ) (ys zs : List (List ℕ)) (o : Option SignedFault) → ((i : ℕ) → slice_get zs (n + i) ≡ slice_get ys i) → Shows F ys o → Shows (λ p k. (after : ℕ) × (p ≡ n + after) × F after k) zs o
 behind F n ys zs None at h = λ p k (after, e, g). h after k g
 behind F n ys zs (Some s) at h = (
   record {
@@ -73,7 +73,7 @@ behind F n ys zs (Some s) at h = (
 )
 
 -- the faults at one index
-at_sign : (F : ℕ → ModelFault → Type 0) (n : ℕ) (zs : List (List ℕ)) (sign : List ℕ) (o : Option ModelFault) → ((p : ℕ) (k : ModelFault) → F p k → p ≡ n) → slice_get zs n ≡ Some sign → Judges F o → Shows F zs (signed o sign)
+at_sign : (F : ℕ → ModelFault → Type 0) (n : ℕ) (zs : List (List ℕ)) (sign : List ℕ) (o : Option ModelFault) → ((p : ℕ) (k : ModelFault) → F p k → p ≡ n) → slice_get zs n ≡ Some sign → Judges F o → Shows F zs (signed_fault o sign)
 at_sign F n zs sign None here at h = h
 at_sign F n zs sign (Some k) here at h = (h, ap (slice_get zs) (here h.index k h.there) ∙ at)
 
@@ -145,7 +145,7 @@ own (Ok s) sizes kinds = at_size (size_with s sizes) (s.clashes kinds) (nat_lt 4
 -- ---- expressions
 
 mutual
-  shown : (ss : List Sense) (names : List Naming) (from : ℕ) (under : Bool) (t : Term) → Shows (IsFaultAt ss names from under t) (signs t) (signed_in ss names from under t)
+  shown : (ss : List Sense) (names : List Naming) (from : ℕ) (under : Bool) (t : Term) → Shows (IsFaultAt ss names from under t) (signs t) (first_fault_in ss names from under t)
   shown ss names from under (Atom x) = at_sign _ 0 (x ∷ []) x _ (λ p k h. h.0) refl (named from under (found names x))
   shown ss names from under AllEvents = λ p k h. absurd h
   shown ss names from under EmptyRelation = λ p k h. absurd h
@@ -176,13 +176,13 @@ mutual
       (at_sign _ 0 zs x _ (λ p k h. h.0) refl (own f (sizes_in ss names ts) (kinds_in ss names ts)))
       (behind (IsFaultAmong ss names from under (under_of f) 0 ts) 1 (signs_of_all ts) zs _ (next_at x (signs_of_all ts)) (shown_among ss names from under (under_of f) 0 ts))
 
-  shown_among : (ss : List Sense) (names : List Naming) (from : ℕ) (under : Bool) (turned : ℕ → Bool) (i : ℕ) (ts : Terms) → Shows (IsFaultAmong ss names from under turned i ts) (signs_of_all ts) (signed_among ss names from under turned i ts)
-  shown_among ss names from under turned i NoTerm = λ p k h. absurd h
-  shown_among ss names from under turned i (OneMore a others) =
+  shown_among : (ss : List Sense) (names : List Naming) (from : ℕ) (under : Bool) (under_at : ℕ → Bool) (i : ℕ) (ts : Terms) → Shows (IsFaultAmong ss names from under under_at i ts) (signs_of_all ts) (first_fault_among ss names from under under_at i ts)
+  shown_among ss names from under under_at i NoTerm = λ p k h. absurd h
+  shown_among ss names from under under_at i (OneMore a others) =
       let zs = signs a ++ signs_of_all others in
-      turn _ _ (width a) zs _ _ (inside ss names from (under || turned i) a) (λ p k (after, e, f). omega (arith, e))
-      (front _ (signs a) zs _ (get_front (signs a) (signs_of_all others)) (shown ss names from (under || turned i) a))
-      (behind (IsFaultAmong ss names from under turned (suc i) others) (width a) (signs_of_all others) zs _ (λ n. get_behind (signs a) (signs_of_all others) (width a) n (wide a)) (shown_among ss names from under turned (suc i) others))
+      turn _ _ (width a) zs _ _ (inside ss names from (under || under_at i) a) (λ p k (after, e, f). omega (arith, e))
+      (front _ (signs a) zs _ (get_front (signs a) (signs_of_all others)) (shown ss names from (under || under_at i) a))
+      (behind (IsFaultAmong ss names from under under_at (suc i) others) (width a) (signs_of_all others) zs _ (λ n. get_behind (signs a) (signs_of_all others) (width a) n (wide a)) (shown_among ss names from under under_at (suc i) others))
 
 -- ---- groups
 
@@ -212,7 +212,7 @@ judged_binding ss names recursive earlier b =
     at_tests true false false s0 s1 t0 t1 = λ p l h. elim h.1 [ inl d ↦ let f : false ≡ true = s1 d.0 in cc | inr m ↦ let f : false ≡ true = t1 m.1 in cc ]
     at_tests false false t s0 s1 t0 t1 = λ p l h. elim h.1 [ inl d ↦ let f : false ≡ true = s1 d.0 in cc | inr m ↦ let f = m.0 in cc ]
 
-shown_group : (ss : List Sense) (names : List Naming) (from : ℕ) (recursive : Bool) (earlier : List (List ℕ)) (bs : List Bound) → Shows (IsFaultIn ss names from recursive earlier bs) (signs_of_bounds bs) (signed_in_group ss names from recursive earlier bs)
+shown_group : (ss : List Sense) (names : List Naming) (from : ℕ) (recursive : Bool) (earlier : List (List ℕ)) (bs : List Bound) → Shows (IsFaultIn ss names from recursive earlier bs) (signs_of_bounds bs) (first_fault_in_group ss names from recursive earlier bs)
 shown_group ss names from recursive earlier [] = λ p k h. absurd h
 shown_group ss names from recursive earlier (b ∷ bs) =
     let xs = signs b.body in
@@ -257,7 +257,7 @@ judged_parameter earlier x = at_tests (is_seen earlier x) (nat_lt (length earlie
         at_least (inl less) = absurd (let f : false ≡ true = lt less in cc)
         at_least (inr le) = le
 
-shown_parameters : (earlier ps : List (List ℕ)) → Shows (IsFaultOfParameters earlier ps) ps (signed_parameter earlier ps)
+shown_parameters : (earlier ps : List (List ℕ)) → Shows (IsFaultOfParameters earlier ps) ps (first_fault_in_parameters earlier ps)
 shown_parameters earlier [] = λ p k h. absurd h
 shown_parameters earlier (x ∷ xs) =
     turn _ _ 1 (x ∷ xs) _ _ (λ p k s. omega (arith, s.0)) (λ p k (after, e, f). omega (arith, e))
@@ -301,7 +301,7 @@ mutual
   ]
 
 mutual
-  shown_body : (ss : List Sense) (names : List Naming) (ps : List (List ℕ)) (t : Term) → Shows (IsFaultOfBody ss names ps t) (signs t) (signed_in_body ss names ps t)
+  shown_body : (ss : List Sense) (names : List Naming) (ps : List (List ℕ)) (t : Term) → Shows (IsFaultOfBody ss names ps t) (signs t) (first_fault_in_body ss names ps t)
   shown_body ss names ps (Atom x) = at_sign _ 0 (x ∷ []) x _ (λ p k h. h.0) refl (judged_inside (parameter_of (reverse ps) x) (found names x))
   shown_body ss names ps AllEvents = λ p k h. absurd h
   shown_body ss names ps EmptyRelation = λ p k h. absurd h
@@ -320,7 +320,7 @@ mutual
       (at_sign _ 0 zs x _ (λ p k h. h.0) refl (judged_applied (parameter_of (reverse ps) x) (sense_of ss (count_of ts) (found names x))))
       (behind (IsFaultOfBodies ss names ps ts) 1 (signs_of_all ts) zs _ (next_at x (signs_of_all ts)) (shown_bodies ss names ps ts))
 
-  shown_bodies : (ss : List Sense) (names : List Naming) (ps : List (List ℕ)) (ts : Terms) → Shows (IsFaultOfBodies ss names ps ts) (signs_of_all ts) (signed_in_bodies ss names ps ts)
+  shown_bodies : (ss : List Sense) (names : List Naming) (ps : List (List ℕ)) (ts : Terms) → Shows (IsFaultOfBodies ss names ps ts) (signs_of_all ts) (first_fault_in_bodies ss names ps ts)
   shown_bodies ss names ps NoTerm = λ p k h. absurd h
   shown_bodies ss names ps (OneMore a others) =
       let zs = signs a ++ signs_of_all others in
@@ -330,7 +330,7 @@ mutual
 
 -- ---- items
 
-shown_item : (ss : List Sense) (names : List Naming) (item : ℕ) (c : Clause) → Shows (IsFaultOfItem ss names item c) (signs_of_item c) (signed_in_item ss names item c)
+shown_item : (ss : List Sense) (names : List Naming) (item : ℕ) (c : Clause) → Shows (IsFaultOfItem ss names item c) (signs_of_item c) (first_fault_in_item ss names item c)
 shown_item ss names item (Group true bs) = shown_group ss (with_own names item 0 bs) (length names) true [] bs
 shown_item ss names item (Group false bs) = shown_group ss names (length names) false [] bs
 shown_item ss names item (Check w e) =
@@ -345,16 +345,16 @@ shown_item ss names item (Defined n ps b) =
     (behind (IsFaultOfBody ss names ps b) (length ps) (signs b) (ps ++ signs b) _ (λ i. get_behind ps (signs b) (length ps) i refl) (shown_body ss names ps b))
 
 -- the first fault of the items, the first of which has the number, and where it stands
-pub record IsPlaced (ss : List Sense) (names : List Naming) (from : ℕ) (cs : List Clause) (x : Placed) : Type 0 where
+pub record IsPlaced (ss : List Sense) (names : List Naming) (from : ℕ) (cs : List Clause) (x : PlacedFault) : Type 0 where
   pub first : FirstFault ss names from cs x.fault
   pub item_is : from + first.item ≡ x.item
   pub sign_is : slice_get (signs_of_item (slice_index_or cs first.item Mute)) first.index ≡ Some x.sign
 
-abbrev pub ArePlaced : List Sense → List Naming → ℕ → List Clause → Option Placed → Type 0
+abbrev pub ArePlaced : List Sense → List Naming → ℕ → List Clause → Option PlacedFault → Type 0
 ArePlaced ss names from cs None = HasNoFault ss names from cs
 ArePlaced ss names from cs (Some x) = IsPlaced ss names from cs x
 
-after_item : (ss : List Sense) (names : List Naming) (from : ℕ) (c : Clause) (cs : List Clause) (o : Option Signed) (q : Option Placed) → Shows (IsFaultOfItem ss names from c) (signs_of_item c) o → ArePlaced (senses_after ss names c) (extended ss names from c) (from + 1) cs q → ArePlaced ss names from (c ∷ cs) (placed from o q)
+after_item : (ss : List Sense) (names : List Naming) (from : ℕ) (c : Clause) (cs : List Clause) (o : Option SignedFault) (q : Option PlacedFault) → Shows (IsFaultOfItem ss names from c) (signs_of_item c) o → ArePlaced (senses_after ss names c) (extended ss names from c) (from + 1) cs q → ArePlaced ss names from (c ∷ cs) (placed_fault from o q)
 after_item ss names from c cs None None f g = λ i p k h. elim h [ inl (e, a) ↦ f p k a | inr (after, e, b) ↦ g after p k b ]
 after_item ss names from c cs None (Some x) f g = record {
   first = record {
@@ -383,6 +383,6 @@ after_item ss names from c cs (Some s) q f g = record {
   sign_is = f.1;
 }
 
-pub all_placed : (ss : List Sense) (names : List Naming) (from : ℕ) (cs : List Clause) → ArePlaced ss names from cs (placed_in ss names from cs)
-all_placed ss names from [] = λ i p k h. absurd h
-all_placed ss names from (c ∷ cs) = after_item ss names from c cs (signed_in_item ss names from c) (placed_in (senses_after ss names c) (extended ss names from c) (from + 1) cs) (shown_item ss names from c) (all_placed (senses_after ss names c) (extended ss names from c) (from + 1) cs)
+pub items_are_placed : (ss : List Sense) (names : List Naming) (from : ℕ) (cs : List Clause) → ArePlaced ss names from cs (first_fault_in_items ss names from cs)
+items_are_placed ss names from [] = λ i p k h. absurd h
+items_are_placed ss names from (c ∷ cs) = after_item ss names from c cs (first_fault_in_item ss names from c) (first_fault_in_items (senses_after ss names c) (extended ss names from c) (from + 1) cs) (shown_item ss names from c) (items_are_placed (senses_after ss names c) (extended ss names from c) (from + 1) cs)

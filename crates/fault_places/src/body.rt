@@ -7,9 +7,9 @@ ghost use Rattle.binding_kinds.specs.Senses.{Sense, AreKept, sense_of};
 ghost use Rattle.binding_kinds.specs.Kinds.{found};
 ghost use Rattle.binding_kinds.specs.Meanings.{parameter_of};
 ghost use Rattle.binding_kinds.specs.First.{of_inside, of_applied};
-ghost use Rattle.fault_places.specs.Search.{signed_of, signed, signed_in_body};
+ghost use Rattle.fault_places.specs.Search.{signed_fault_of, signed_fault, first_fault_in_body};
 
-use crate::place::{SignFault, or_later, signed};
+use crate::place::{SignFault, or_later, signed_fault};
 use binding_kinds::{ModelFault, Sight};
 use cat_values::Expression;
 use source_text::Name;
@@ -37,10 +37,10 @@ fn applied_fault(sight: &Sight, name: &Name, count: usize) -> Option<ModelFault>
 
 /// The first fault of the body of a function. Kinds, sizes and complements count where the function is applied.
 pub fn body_fault<'t>(sight: &Sight, term: &'t Expression) -> Option<SignFault<'t>>
-    ensures { (senses : List Sense) → AreKept sight.now.functions.now senses → option_map signed_of result ≡ signed_in_body senses (reverse (map entry_of sight.now.entries.now)) sight.now.parameters.now (term_of term.now) }
+    ensures { (senses : List Sense) → AreKept sight.now.functions.now senses → option_map signed_fault_of result ≡ first_fault_in_body senses (reverse (map entry_of sight.now.entries.now)) sight.now.parameters.now (term_of term.now) }
 {
     match term {
-        Expression::Named(name) => signed(name_fault(sight, name), name.as_bytes()),
+        Expression::Named(name) => signed_fault(name_fault(sight, name), name.as_bytes()),
         Expression::Everything => None,
         Expression::NoPairs => None,
         Expression::NoEvents => None,
@@ -54,7 +54,7 @@ pub fn body_fault<'t>(sight: &Sight, term: &'t Expression) -> Option<SignFault<'
         Expression::Applied(name, arguments) => {
             let count = arguments.len();
             let own = applied_fault(sight, name, count);
-            let mut all = signed(own, name.as_bytes());
+            let mut all = signed_fault(own, name.as_bytes());
             for argument in arguments {
                 let one = body_fault(sight, argument);
                 all = or_later(all, one);

@@ -8,12 +8,12 @@ ghost use Rattle.binding_kinds.specs.Senses.{Sense, AreKept, kind_in};
 ghost use Rattle.binding_kinds.specs.Faults.{with_own, with_all, extended, senses_after};
 ghost use Rattle.binding_kinds.specs.Verdict.{unless};
 ghost use Rattle.fault_places.specs.Signs.{check_sign};
-ghost use Rattle.fault_places.specs.Search.{signed_of, signed, or_later, signed_in, signed_in_item, signed_parameter, signed_in_body};
+ghost use Rattle.fault_places.specs.Search.{signed_fault_of, signed_fault, or_later, first_fault_in, first_fault_in_item, first_fault_in_parameters, first_fault_in_body};
 
 use crate::body::body_fault;
 use crate::expression::expression_fault;
 use crate::group::{group_fault, parameters_fault};
-use crate::place::{SignFault, or_later, signed};
+use crate::place::{SignFault, or_later, signed_fault};
 use crate::signs::check_sign;
 use binding_functions::function_of;
 use binding_kinds::{
@@ -72,11 +72,11 @@ fn check_fault<'t>(
     functions: &[Function],
     check: &'t Check,
 ) -> Option<SignFault<'t>>
-    ensures { let names = reverse (map entry_of entries.now) in (senses : List Sense) → AreKept functions.now senses → option_map signed_of result ≡ or_later (signed (unless (takes_body check.now.word (kind_in senses names (term_of check.now.body))) ModelFault.Kind) (check_sign check.now.word)) (signed_in senses names (length entries.now) false (term_of check.now.body)) }
+    ensures { let names = reverse (map entry_of entries.now) in (senses : List Sense) → AreKept functions.now senses → option_map signed_fault_of result ≡ or_later (signed_fault (unless (takes_body check.now.word (kind_in senses names (term_of check.now.body))) ModelFault.Kind) (check_sign check.now.word)) (first_fault_in senses names (length entries.now) false (term_of check.now.body)) }
 {
     let from = entries.len();
     let kind = judge(entries, functions, from, false, &check.body).kind;
-    let here = signed(
+    let here = signed_fault(
         unless(takes_body(check.word, kind), ModelFault::Kind),
         check_sign(check.word),
     );
@@ -95,7 +95,7 @@ fn declare_function<'t>(
     parameters: &'t [Name],
     body: &'t Expression,
 ) -> Result<Option<SignFault<'t>>, AllocError>
-    ensures fault { (senses : List Sense) → AreKept scope.old.functions.items senses → IfOk result (λ f. option_map signed_of f ≡ or_later (signed_parameter [] parameters.now) (signed_in_body senses (reverse (map entry_of scope.old.entries.items)) parameters.now (term_of body.now))) }
+    ensures fault { (senses : List Sense) → AreKept scope.old.functions.items senses → IfOk result (λ f. option_map signed_fault_of f ≡ or_later (first_fault_in_parameters [] parameters.now) (first_fault_in_body senses (reverse (map entry_of scope.old.entries.items)) parameters.now (term_of body.now))) }
     ensures names { (senses : List Sense) → AreKept scope.old.functions.items senses → IfOk result (λ f. f ≡ None → reverse (map entry_of scope.new.entries.items) ≡ extended senses (reverse (map entry_of scope.old.entries.items)) index (Defined name.now parameters.now (term_of body.now))) }
     ensures functions { (senses : List Sense) → AreKept scope.old.functions.items senses → IfOk result (λ f. f ≡ None → AreKept scope.new.functions.items (senses_after senses (reverse (map entry_of scope.old.entries.items)) (Defined name.now parameters.now (term_of body.now)))) }
 {
@@ -131,7 +131,7 @@ pub fn declare_item<'t>(
     index: usize,
     item: &'t Item,
 ) -> Result<Option<SignFault<'t>>, AllocError>
-    ensures fault { (senses : List Sense) → AreKept scope.old.functions.items senses → IfOk result (λ f. option_map signed_of f ≡ signed_in_item senses (reverse (map entry_of scope.old.entries.items)) index (clause_of item.now)) }
+    ensures fault { (senses : List Sense) → AreKept scope.old.functions.items senses → IfOk result (λ f. option_map signed_fault_of f ≡ first_fault_in_item senses (reverse (map entry_of scope.old.entries.items)) index (clause_of item.now)) }
     ensures names { (senses : List Sense) → AreKept scope.old.functions.items senses → IfOk result (λ f. f ≡ None → reverse (map entry_of scope.new.entries.items) ≡ extended senses (reverse (map entry_of scope.old.entries.items)) index (clause_of item.now)) }
     ensures functions { (senses : List Sense) → AreKept scope.old.functions.items senses → IfOk result (λ f. f ≡ None → AreKept scope.new.functions.items (senses_after senses (reverse (map entry_of scope.old.entries.items)) (clause_of item.now))) }
 {

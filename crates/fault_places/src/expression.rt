@@ -6,11 +6,11 @@ ghost use Rattle.binding_kinds.specs.Value.{entry_of};
 ghost use Rattle.binding_kinds.specs.Kinds.{found};
 ghost use Rattle.binding_kinds.specs.Verdict.{of_name};
 ghost use Rattle.binding_kinds.specs.Senses.{Sense, AreKept, kind_in};
-ghost use Rattle.fault_places.specs.Search.{signed_of, signed, signed_in};
+ghost use Rattle.fault_places.specs.Search.{signed_fault_of, signed_fault, first_fault_in};
 
 use crate::application::{application_fault, is_under};
 use crate::kinds::{is_relation, is_set, takes};
-use crate::place::{SignFault, or_later, signed};
+use crate::place::{SignFault, or_later, signed_fault};
 use crate::signs::{infix_sign, postfix_sign};
 use binding_kinds::{Entry, Function, Kind, ModelFault, is_turned, judge, unless};
 use cat_values::Expression;
@@ -36,12 +36,12 @@ pub fn expression_fault<'t>(
     under: bool,
     term: &'t Expression,
 ) -> Option<SignFault<'t>>
-    ensures { (senses : List Sense) → AreKept functions.now senses → option_map signed_of result ≡ signed_in senses (reverse (map entry_of entries.now)) from under (term_of term.now) }
+    ensures { (senses : List Sense) → AreKept functions.now senses → option_map signed_fault_of result ≡ first_fault_in senses (reverse (map entry_of entries.now)) from under (term_of term.now) }
 {
     match term {
         Expression::Named(name) => {
             let judged = judge(entries, functions, from, under, term);
-            signed(judged.fault, name.as_bytes())
+            signed_fault(judged.fault, name.as_bytes())
         }
         Expression::Everything => None,
         Expression::NoPairs => None,
@@ -53,7 +53,7 @@ pub fn expression_fault<'t>(
                 kind_of(entries, functions, left),
                 kind_of(entries, functions, right),
             );
-            let here = signed(unless(fits, ModelFault::Kind), infix_sign(*op));
+            let here = signed_fault(unless(fits, ModelFault::Kind), infix_sign(*op));
             let second = expression_fault(entries, functions, from, is_turned(*op, under), right);
             or_later(first, or_later(here, second))
         }
@@ -62,7 +62,7 @@ pub fn expression_fault<'t>(
             let fits = is_relation(kind_of(entries, functions, operand));
             or_later(
                 first,
-                signed(unless(fits, ModelFault::Kind), postfix_sign(*op)),
+                signed_fault(unless(fits, ModelFault::Kind), postfix_sign(*op)),
             )
         }
         Expression::Complement(operand) => {
@@ -70,7 +70,7 @@ pub fn expression_fault<'t>(
         }
         Expression::Identity(operand) => {
             let fits = is_set(kind_of(entries, functions, operand));
-            let here = signed(unless(fits, ModelFault::Kind), b"[");
+            let here = signed_fault(unless(fits, ModelFault::Kind), b"[");
             or_later(
                 here,
                 expression_fault(entries, functions, from, under, operand),
@@ -80,10 +80,10 @@ pub fn expression_fault<'t>(
             let count = arguments.len();
             let judged = judge(entries, functions, from, under, term);
             let own = application_fault(entries, functions, name, arguments, judged.size);
-            let mut all = signed(own, name.as_bytes());
+            let mut all = signed_fault(own, name.as_bytes());
             for (index, argument) in arguments.iter().enumerate() {
-                let turned = is_under(entries, functions, name, count, index);
-                let inner = either(under, turned);
+                let is_complemented = is_under(entries, functions, name, count, index);
+                let inner = either(under, is_complemented);
                 let one = expression_fault(entries, functions, from, inner, argument);
                 all = or_later(all, one);
             }

@@ -6,10 +6,10 @@ ghost use Rattle.binding_kinds.specs.GroupNames.{names_of};
 ghost use Rattle.binding_kinds.specs.Senses.{Sense, AreKept, kind_in};
 ghost use Rattle.binding_kinds.specs.Verdict.{is_seen, of_parameter};
 ghost use Rattle.binding_kinds.specs.First.{of_binding};
-ghost use Rattle.fault_places.specs.Search.{signed_of, signed, signed_in_group, signed_parameter};
+ghost use Rattle.fault_places.specs.Search.{signed_fault_of, signed_fault, first_fault_in_group, first_fault_in_parameters};
 
 use crate::expression::expression_fault;
-use crate::place::{SignFault, or_later, signed};
+use crate::place::{SignFault, or_later, signed_fault};
 use binding_kinds::{Entry, Function, Kind, ModelFault, judge, unless};
 use cat_values::{Binding, MAX_PARAMETERS};
 use source_text::Name;
@@ -53,13 +53,13 @@ pub fn group_fault<'t>(
     recursive: bool,
     group: &'t [Binding],
 ) -> Option<SignFault<'t>>
-    ensures { (senses : List Sense) → AreKept functions.now senses → option_map signed_of result ≡ signed_in_group senses (reverse (map entry_of entries.now)) from recursive [] (map bound_of group.now) }
+    ensures { (senses : List Sense) → AreKept functions.now senses → option_map signed_fault_of result ≡ first_fault_in_group senses (reverse (map entry_of entries.now)) from recursive [] (map bound_of group.now) }
 {
     let mut all = None;
     for (index, binding) in group.iter().enumerate() {
         let judged = judge(entries, functions, from, false, &binding.body);
         let own = binding_fault(judged.kind, recursive, &group[..index], binding);
-        let here = signed(own, binding.name.as_bytes());
+        let here = signed_fault(own, binding.name.as_bytes());
         let body = expression_fault(entries, functions, from, false, &binding.body);
         let one = or_later(here, body);
         all = or_later(all, one);
@@ -93,12 +93,12 @@ fn parameter_fault(before: &[Name], parameter: &Name) -> Option<ModelFault>
 
 /// The first fault of the parameters of a function.
 pub fn parameters_fault<'t>(parameters: &'t [Name]) -> Option<SignFault<'t>>
-    ensures { option_map signed_of result ≡ signed_parameter [] parameters.now }
+    ensures { option_map signed_fault_of result ≡ first_fault_in_parameters [] parameters.now }
 {
     let mut all = None;
     for (index, parameter) in parameters.iter().enumerate() {
         let own = parameter_fault(&parameters[..index], parameter);
-        let one = signed(own, parameter.as_bytes());
+        let one = signed_fault(own, parameter.as_bytes());
         all = or_later(all, one);
     }
     all

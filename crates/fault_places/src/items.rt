@@ -3,7 +3,7 @@
 ghost use Rattle.std.specs.Prelude.{◌≡◌, List, reverse, map, IfOk, option_map};
 ghost use Rattle.binding_kinds.specs.Value.{entry_of, clause_of};
 ghost use Rattle.binding_kinds.specs.Senses.{Sense, AreKept};
-ghost use Rattle.fault_places.specs.Search.{placed_of, placed_in};
+ghost use Rattle.fault_places.specs.Search.{placed_fault_of, first_fault_in_items};
 ghost use Rattle.fault_places.specs.Found.{IsFound};
 
 use crate::declare::declare_item;
@@ -18,7 +18,7 @@ fn find_fault<'t>(
     scope: &mut Scope,
     items: &'t [Item],
 ) -> Result<Option<ItemFault<'t>>, AllocError>
-    ensures { (senses : List Sense) → AreKept scope.old.functions.items senses → IfOk result (λ f. option_map placed_of f ≡ placed_in senses (reverse (map entry_of scope.old.entries.items)) 0 (map clause_of items.now)) }
+    ensures { (senses : List Sense) → AreKept scope.old.functions.items senses → IfOk result (λ f. option_map placed_fault_of f ≡ first_fault_in_items senses (reverse (map entry_of scope.old.entries.items)) 0 (map clause_of items.now)) }
 {
     for (index, item) in items.iter().enumerate() {
         let fault = declare_item(alloc, scope, index, item)?;

@@ -1,7 +1,7 @@
 //! Faults and where they stand.
 
 ghost use Rattle.std.specs.Prelude.{◌≡◌, option_map};
-ghost use Rattle.fault_places.specs.Search.{signed_of, signed, or_later};
+ghost use Rattle.fault_places.specs.Search.{signed_fault_of, signed_fault, or_later};
 
 use binding_kinds::ModelFault;
 
@@ -26,8 +26,8 @@ pub struct ItemFault<'t> {
 }
 
 /// The fault at this sign, if there is one.
-pub fn signed<'t>(fault: Option<ModelFault>, sign: &'t [u8]) -> Option<SignFault<'t>>
-    ensures { option_map signed_of result ≡ signed fault sign.now }
+pub fn signed_fault<'t>(fault: Option<ModelFault>, sign: &'t [u8]) -> Option<SignFault<'t>>
+    ensures { option_map signed_fault_of result ≡ signed_fault fault sign.now }
 {
     match fault {
         None => None,
@@ -40,7 +40,7 @@ pub fn or_later<'t>(
     first: Option<SignFault<'t>>,
     later: Option<SignFault<'t>>,
 ) -> Option<SignFault<'t>>
-    ensures { option_map signed_of result ≡ or_later (option_map signed_of first.entry) (option_map signed_of later.entry) }
+    ensures { option_map signed_fault_of result ≡ or_later (option_map signed_fault_of first.entry) (option_map signed_fault_of later.entry) }
 {
     match first {
         None => later,

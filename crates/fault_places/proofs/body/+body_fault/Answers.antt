@@ -1,6 +1,6 @@
 use Rattle.std.proofs.Common.{◌≡◌, ℕ, ◌<◌, List, sym, ◌∙◌, ap, reverse, map, arith, length}
 use Rattle.binding_kinds.specs.Value.{entry_of}
-use Rattle.fault_places.specs.Search.{signed}
+use Rattle.fault_places.specs.Search.{signed_fault}
 use Rattle.fault_places.proofs.Spread.{body_application, next_body, all_bodies}
 use Rattle.fault_places.proofs.body.+body_fault.Goals as goal
 
@@ -9,7 +9,7 @@ loop-argument-init t c = λ ss kept.
     let names = reverse (map entry_of c.args.sight.now.entries.now) in
     let own = c.applied_fault-own.result in
     body_application ss names c.args.sight.now.parameters.now c.args.term.now c.in-Applied.name c.in-Applied.arguments c.deref-argument-items.result.now c.len-count.result own _ c.in-Applied.is c.deref-argument-items.ensures.value
-    (let k = c.in-Applied.arguments.ok in let m = c.len-count.ensures in omega (arith, k, m)) (c.applied_fault-own.ensures ss kept) (c.signed-all.ensures ∙ ap (λ (b : List ℕ). signed own b) c.as_bytes-in-Applied.ensures)
+    (let k = c.in-Applied.arguments.ok in let m = c.len-count.ensures in omega (arith, k, m)) (c.applied_fault-own.ensures ss kept) (c.signed_fault-all.ensures ∙ ap (λ (b : List ℕ). signed_fault own b) c.as_bytes-in-Applied.ensures)
 
 pub loop-argument-preserved : goal.loop-argument-preserved
 loop-argument-preserved t c = λ ss kept.

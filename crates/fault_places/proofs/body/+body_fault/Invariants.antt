@@ -4,12 +4,12 @@ use Rattle.cat_values.specs.Value.{gathered}
 use Rattle.cat_values.specs.Values.{term_of}
 use Rattle.binding_kinds.specs.Value.{entry_of}
 use Rattle.binding_kinds.specs.Senses.{Sense, AreKept}
-use Rattle.fault_places.specs.Search.{signed_of, or_later, signed_in_body, signed_in_bodies}
+use Rattle.fault_places.specs.Search.{signed_fault_of, or_later, first_fault_in_body, first_fault_in_bodies}
 use Rattle.fault_places.proofs.body.+body_fault.Given as goal
 
 abbrev pub invariant-loop-argument : goal.invariant-loop-argument
 invariant-loop-argument l =
     (senses : List Sense) → AreKept l.sight.functions.now senses →
     (let names = reverse (map entry_of l.sight.entries.now) in
-    or_later (option_map signed_of l.all) (signed_in_bodies senses names l.sight.parameters.now (gathered (map term_of (drop l.argument-index l.argument-items))))
-    ≡ signed_in_body senses names l.sight.parameters.now (term_of l.term))
+    or_later (option_map signed_fault_of l.all) (first_fault_in_bodies senses names l.sight.parameters.now (gathered (map term_of (drop l.argument-index l.argument-items))))
+    ≡ first_fault_in_body senses names l.sight.parameters.now (term_of l.term))

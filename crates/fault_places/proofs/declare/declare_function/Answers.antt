@@ -8,7 +8,7 @@ use Rattle.binding_kinds.specs.Value.{entry_of}
 use Rattle.binding_kinds.specs.Senses.{IsKept, AreKept}
 use Rattle.binding_kinds.specs.Functions.{sense_of_function}
 use Rattle.binding_kinds.proofs.FirstItem.{few_parameters}
-use Rattle.fault_places.specs.Search.{signed_of}
+use Rattle.fault_places.specs.Search.{signed_fault_of}
 use Rattle.fault_places.proofs.Grown.{named_more, functions_more, none_of, no_parameter}
 use Rattle.fault_places.proofs.declare.declare_function.Goals as goal
 
@@ -22,7 +22,7 @@ pub returns-clause-functions : goal.returns-clause-functions
 returns-clause-functions c = λ ss kept none.
     let ps = c.args.parameters.now in
     let fault : c.parameters_fault-fault.result ≡ None = none_of c.parameters_fault-fault.result (sym c.if-is_some.ensures) in
-    let few : length ps ≤ 8 = few_parameters ps (no_parameter [] ps (sym c.parameters_fault-fault.ensures ∙ ap (option_map signed_of) fault)) in
+    let few : length ps ≤ 8 = few_parameters ps (no_parameter [] ps (sym c.parameters_fault-fault.ensures ∙ ap (option_map signed_fault_of) fault)) in
     let kept_there : AreKept c.deref-2.result.now ss = rw c.deref-2.ensures.value kept in
     let one : IsKept c.in_ok-function.function (sense_of_function ss (reverse (map entry_of c.args.scope.now.entries.items)) ps (term_of c.args.body.now)) = rw c.deref.ensures.value at (c.in_ok-function.ensures.kept ss kept_there few) in
     functions_more c.args.scope.now.functions.items _ ss c.in_ok-function.function _ kept c.in_ok-push.ensures.items one

@@ -1,5 +1,5 @@
 use Rattle.std.proofs.Common.{◌≡◌, ℕ, ◌<◌, List, sym, ◌∙◌, ap, arith, length}
-use Rattle.fault_places.specs.Search.{signed}
+use Rattle.fault_places.specs.Search.{signed_fault}
 use Rattle.fault_places.proofs.Spread.{next_parameter, all_parameters}
 use Rattle.fault_places.proofs.group.parameters_fault.Goals as goal
 
@@ -7,7 +7,7 @@ pub loop-index-preserved : goal.loop-index-preserved
 loop-index-preserved c =
     let own = c.parameter_fault-own.result in
     next_parameter c.args.parameters.now c.loop-index.index c.index-parameters-index.result own _ _ _ _ (omega (arith, c.loop-index-test.true)) c.index-parameters-index.is
-    c.parameter_fault-own.ensures (c.signed-one.ensures ∙ ap (λ (b : List ℕ). signed own b) c.as_bytes.ensures) c.or_later-all.ensures c.loop-index.invariant
+    c.parameter_fault-own.ensures (c.signed_fault-one.ensures ∙ ap (λ (b : List ℕ). signed_fault own b) c.as_bytes.ensures) c.or_later-all.ensures c.loop-index.invariant
 
 pub returns : goal.returns
 returns c = all_parameters _ c.args.parameters.now c.loop-index.index _ _ (omega (arith, c.loop-index-test.false)) c.loop-index.invariant
