@@ -6,7 +6,8 @@
 #include <stdlib.h>
 #include <unistd.h>
 
-static long seen, number = -1;
+static _Atomic long seen;
+static long number = -1;
 
 static int is_refused(void) {
     if (number < 0) {

@@ -1,6 +1,7 @@
 -- Files read in turn, and rows put one behind another.
-use Rattle.std.proofs.Common.{◌≡◌, ◌≢◌, ℕ, ◌+◌, ◌<◌, List, [], ◌∷◌, ◌++◌, length, get_or, take, map, Result, Ok, Err, OnOk, IfOk, refl, sym, ap, ◌∙◌, subst}
-use Rattle.std.proofs.lemmas.List.{take_more, map-append, nil_from_length}
+use Rattle.std.proofs.Common.{◌≡◌, ◌≢◌, ℕ, ◌+◌, ◌<◌, List, [], ◌∷◌, ◌++◌, length, get_or, take, map, Result, Ok, Err, Bor, Vec, Global, OnOk, IfOk, refl, sym, ap, ◌∙◌, subst}
+use Rattle.std.proofs.lemmas.List.{take_more, nil_from_length}
+use Rattle.std.specs.declared.alloc.AllocError.{AllocError}
 use Rattle.std.specs.List.{AllZip}
 use Rattle.cat_tokens.specs.declared.rule.CatRule.{CatRule}
 use Rattle.cat_tokens.specs.Tokens.{number_of as model_rule_number}
@@ -12,7 +13,15 @@ use Rattle.litmusbench.specs.declared.reading.NamedModel.{NamedModel}
 use Rattle.litmusbench.specs.Answer.{IsModelRefused, IsTestRefused}
 use Rattle.litmusbench.specs.Files.{AddsFault}
 use Rattle.litmusbench.specs.Reports.{AddsModel, IsModelFault, IsTestFault, AreModels, NoModel, NextModel, AddsTest, AreTests, NoTest, NextTest, IsTestTold, IsToldOf}
-use Rattle.binding_graph.proofs.Labels.{zip_push}
+use Rattle.cat_values.specs.declared.model.ModelText.{ModelText}
+use Rattle.verdict.specs.declared.answer.Outcome.{Outcome}
+use Rattle.compare_report.specs.Cells.{Settled}
+use Rattle.memo_graph.specs.FromScratch.{IsFromScratch}
+use Rattle.memo_graph.specs.Suites.{AreOutcomes}
+use Rattle.session_answers.specs.declared.rows.TestOutcomes.{TestOutcomes}
+use Rattle.session_answers.specs.Rows.{HasOutcomes, row_said}
+use Rattle.session_answers.proofs.Named.{first_is, rest_is, no_first}
+use Rattle.litmusbench.specs.Reports.{IsCellUnder, IsRow}
 
 pub on_ok : {T E P Q : Type 0} (r : Result T E) → (P → Q) → OnOk r P → OnOk r Q
 on_ok (Ok x) f h = f h
@@ -50,13 +59,28 @@ tests_more first files i file tests more faults lines inside at_i before adds =
     let cut : take (i + 1) files ≡ take i files ++ file ∷ [] = take_more files i file inside ∙ ap (λ (f : TextFile). take i files ++ f ∷ []) (sym at_i) in
     subst (λ (l : List TextFile). AreTests first l more lines) (sym cut) (NextTest (take i files) file tests more faults lines before adds)
 
--- one more of each
-pub zip_more : {A B C : Type 0} (R : A → B → Type 0) (f : C → B) (xs : List A) (i : ℕ) (x : A) (old new : List C) (y : C) → i < length xs → x ≡ get_or xs i x → new ≡ old ++ y ∷ []
-    → AllZip R (take i xs) (map f old) → R x (f y) → AllZip R (take (i + 1) xs) (map f new)
-zip_more {A} {B} {C} R f xs i x old new y inside at_i pushed before r =
-    let cut : take (i + 1) xs ≡ take i xs ++ x ∷ [] = take_more xs i x inside ∙ ap (λ (a : A). take i xs ++ a ∷ []) (sym at_i) in
-    let ends : map f new ≡ map f old ++ f y ∷ [] = ap (λ (l : List C). map f l) pushed ∙ map-append f old (y ∷ []) in
-    subst (λ (l : List A). AllZip R l (map f new)) (sym cut) (subst (λ (l : List B). AllZip R (take i xs ++ x ∷ []) l) (sym ends) (zip_push R (take i xs) (map f old) x (f y) before r))
+cells_said : (test : Test) (models : List NamedModel) (texts : List (Bor ModelText)) (outcomes : List Outcome) → map (λ t. t.now) texts ≡ map (λ m. m.model) models → AreOutcomes texts test outcomes → AllZip (IsCellUnder test) models (map Settled outcomes)
+cells_said test [] [] [] e h = tt
+cells_said test [] [] (o ∷ os) e h = absurd h
+cells_said test [] (t ∷ ts) outcomes e h = absurd (no_first t.now (map (λ t. t.now) ts) e)
+cells_said test (m ∷ ms) [] outcomes e h = absurd (no_first m.model (map (λ m. m.model) ms) (sym e))
+cells_said test (m ∷ ms) (t ∷ ts) [] e h = absurd h
+cells_said test (m ∷ ms) (t ∷ ts) (o ∷ os) e h =
+    let first = first_is t.now m.model (map (λ t. t.now) ts) (map (λ m. m.model) ms) e in
+    let rest = rest_is t.now m.model (map (λ t. t.now) ts) (map (λ m. m.model) ms) e in
+    (subst (λ (l : ModelText). IsFromScratch test l o) first h.0, cells_said test ms ts os rest h.1)
+
+all_said : (tests : List Test) (models : List NamedModel) (texts : List (Bor ModelText)) (rows : List TestOutcomes) → map (λ t. t.now) texts ≡ map (λ m. m.model) models → AllZip (HasOutcomes texts) tests rows → AllZip (IsRow models) tests (map row_said rows)
+all_said [] models texts [] e h = tt
+all_said [] models texts (r ∷ rs) e h = absurd h
+all_said (t ∷ ts) models texts [] e h = absurd h
+all_said (t ∷ ts) models texts (r ∷ rs) e h = (record { name = h.0.name; cells = cells_said t models texts r.outcomes.items e h.0.outcomes }, all_said ts models texts rs e h.1)
+
+-- the outcomes of tests under the texts of models
+pub rows_said : (tests : List Test) (models : List NamedModel) (texts : List (Bor ModelText)) (r : Result (Vec TestOutcomes Global) AllocError) → map (λ t. t.now) texts ≡ map (λ m. m.model) models → IfOk r (λ v. AllZip (HasOutcomes texts) tests v.items)
+    → IfOk r (λ v. AllZip (IsRow models) tests (map row_said v.items))
+rows_said tests models texts (Ok rows) e h = all_said tests models texts rows.items e h
+rows_said tests models texts (Err fault) e h = tt
 
 -- what is told of a model and a test
 pub test_told : (file : TextFile) (before after : List Test) (none lines : List ℕ) → before ≡ [] → none ≡ [] → AddsTest file before none after lines → IsTestTold file [] lines

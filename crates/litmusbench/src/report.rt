@@ -12,10 +12,10 @@ use crate::fault::SessionFault;
 use crate::file::TextFile;
 use crate::reading::{NamedModel, read_models, read_tests};
 use crate::sink::{ByteSink, write_whole};
+use cat_syntax::ModelText;
 use compare_report::{difference_text, table_text};
 use litmus_ppc::{Name, Test};
-use memo_graph::eval_cell;
-use session_answers::{TestOutcomes, test_pairs, test_rows};
+use session_answers::{ProgressListener, TestOutcomes, test_outcomes, test_pairs, test_rows};
 use std::alloc::{AllocError, Global};
 
 /// What is said of files of models and tests.
@@ -35,45 +35,39 @@ struct EvaluatedFiles {
     faults: Vec<u8>,
 }
 
-fn outcomes_of(
-    alloc: Global,
-    test: &Test,
-    models: &[NamedModel],
-) -> Result<TestOutcomes, AllocError>
-    ensures { IfOk result (λ r. IsRow models.now test.now (row_said r)) }
+fn model_texts(alloc: Global, models: &[NamedModel]) -> Result<Vec<&ModelText>, AllocError>
+    ensures { IfOk result (λ v. map (λ t. t.now) v.items ≡ map (λ m. m.model) models.now) }
 {
-    let name = test.name.copied(alloc)?;
-    let mut outcomes = Vec::with_capacity(alloc, models.len())?;
+    let mut texts = Vec::with_capacity(alloc, models.len())?;
     for model in models {
-        outcomes.push(eval_cell(alloc, test, &model.model)?)?;
+        texts.push(&model.model)?;
     }
-    Ok(TestOutcomes { name, outcomes })
+    Ok(texts)
 }
 
-fn all_outcomes(
+fn all_outcomes<L: ProgressListener>(
     alloc: Global,
     tests: &[Test],
     models: &[NamedModel],
+    listener: &mut L,
 ) -> Result<Vec<TestOutcomes>, AllocError>
     ensures { IfOk result (λ v. AllZip (IsRow models.now) tests.now (map row_said v.items)) }
 {
-    let mut rows = Vec::with_capacity(alloc, tests.len())?;
-    for test in tests {
-        rows.push(outcomes_of(alloc, test, models)?)?;
-    }
-    Ok(rows)
+    let texts = model_texts(alloc, models)?;
+    test_outcomes(alloc, tests, &texts, listener)
 }
 
-fn evaluate_files(
+fn evaluate_files<L: ProgressListener>(
     alloc: Global,
     models: &[TextFile<'_>],
     tests: &[TextFile<'_>],
+    listener: &mut L,
 ) -> Result<EvaluatedFiles, AllocError>
     ensures { IfOk result (λ e. AreRead models.now tests.now e.models.items (map row_said e.rows.items) e.faults.items) }
 {
     let known = read_models(alloc, models)?;
     let read = read_tests(alloc, tests, known.faults)?;
-    let rows = all_outcomes(alloc, &read.tests, &known.models)?;
+    let rows = all_outcomes(alloc, &read.tests, &known.models, listener)?;
     Ok(EvaluatedFiles {
         models: known.models,
         rows,
@@ -103,15 +97,17 @@ fn table_of_rows(
     table_text(alloc, &names, &rows)
 }
 
-/// The table of the tests of some files under the models of others. Errors: want of memory.
-pub fn table_report(
+/// The table of the tests of some files under the models of others. A listener hears how far it is. Errors: want of
+/// memory.
+pub fn table_report<L: ProgressListener>(
     alloc: Global,
     models: &[TextFile<'_>],
     tests: &[TextFile<'_>],
+    listener: &mut L,
 ) -> Result<Report, AllocError>
     ensures { IfOk result (λ r. IsTable models.now tests.now r.text.items r.faults.items) }
 {
-    let found = evaluate_files(alloc, models, tests)?;
+    let found = evaluate_files(alloc, models, tests, listener)?;
     let text = table_of_rows(alloc, &found.models, &found.rows)?;
     Ok(Report {
         text,
@@ -134,15 +130,16 @@ fn difference_of_rows(
 }
 
 /// Where the two models of two files tell the tests of other files apart; no text where one of the
-/// models is refused. Errors: want of memory.
-pub fn difference_report(
+/// models is refused. A listener hears how far it is. Errors: want of memory.
+pub fn difference_report<L: ProgressListener>(
     alloc: Global,
     models: &[TextFile<'_>],
     tests: &[TextFile<'_>],
+    listener: &mut L,
 ) -> Result<Report, AllocError>
     ensures { IfOk result (λ r. IsDifference models.now tests.now r.text.items r.faults.items) }
 {
-    let found = evaluate_files(alloc, models, tests)?;
+    let found = evaluate_files(alloc, models, tests, listener)?;
     let text = difference_of_rows(alloc, &found.models, &found.rows)?;
     Ok(Report {
         text,

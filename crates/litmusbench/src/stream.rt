@@ -210,17 +210,22 @@ pub fn read_text<S: ByteSource>(alloc: Global, source: &mut S) -> Result<Vec<u8>
     read_first(alloc, source, MOST_OF_TEXT)
 }
 
-fn is_refusal(answered: &Result<bool, SessionFault>) -> bool {
-    match answered {
-        Ok(is_refused) => *is_refused,
-        Err(_) => false,
+// Tells a listener of texts that were answered.
+fn tell<L: AnswerListener>(
+    listener: &mut L,
+    model: &[u8],
+    test: &[u8],
+    answered: &Result<bool, SessionFault>,
+) {
+    if let Ok(is_refused) = answered {
+        listener.hear_texts(model, test, *is_refused);
     }
 }
 
 /// Reads all input, which holds a model, a line that is exactly `.` and a test, and writes what
 /// `write_answer` does. With no such line the test's text is empty. Bytes that cannot change the
-/// answer are not kept. A listener hears of the texts where one is refused. Errors: those of `read_text`, before the
-/// first write, and those of `write_answer`.
+/// answer are not kept. A listener hears of the texts behind the answer. Errors: those of `read_text`, before the first
+/// write, and those of `write_answer`.
 pub fn eval_stream<R: AllocGlobal, S: ByteSource, W: ByteSink, L: AnswerListener>(
     rt: &R,
     source: &mut S,
@@ -243,8 +248,6 @@ pub fn eval_stream<R: AllocGlobal, S: ByteSource, W: ByteSink, L: AnswerListener
     };
     let (model, test) = cut_at_dot(&bytes);
     let answered = write_answer(rt.alloc(), model, test, sink);
-    if is_refusal(&answered) {
-        listener.hear_refused(model, test);
-    }
+    tell(listener, model, test, &answered);
     answered
 }

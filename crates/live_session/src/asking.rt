@@ -15,12 +15,12 @@ use crate::state::Session;
 use bench_texts::Texts;
 use desk::{Refusals, Settling};
 use desk_rule::{Naming, View, Viewer};
-use litmusbench::SessionFault;
+use litmusbench::{ProgressListener, SessionFault};
 use running_bench::{RunningDesk, RunningTexts};
 use running_views::{edit_count_in, newest_view};
 use session_edits::{Answer, Question};
-use session_views::answer_from_board;
 use session_views::laws::{later_is_known, own_texts_are_shown};
+use session_views::{answer_from_board, board_progress};
 use std::alloc::Global;
 use std::sync::Wait;
 use value_store::StoreName;
@@ -106,11 +106,29 @@ fn answer_in<J: Naming>(
     }
 }
 
+// Tells a listener how far a table is, where it is due and there is no answer.
+fn tell_progress<J: Naming, L: ProgressListener>(
+    answer: &Result<Option<Answer>, SessionFault>,
+    view: &View<J, RunningTexts>,
+    texts: &Texts,
+    question: &Question,
+    listener: &mut L,
+) {
+    if let Ok(None) = answer {
+        if listener.is_due() {
+            if let Some(progress) = board_progress(texts, view.board(), question) {
+                listener.hear_progress(progress);
+            }
+        }
+    }
+}
+
 // Looks at the board that was published last.
-fn look<J: Naming>(
+fn look<J: Naming, L: ProgressListener>(
     alloc: Global,
     session: Session<J>,
     question: &Question,
+    listener: &mut L,
 ) -> Result<Looked<J>, SessionFault>
     requires ready { IsReady session.viewer session.made (texts_of session.texts) }
     ensures texts { IfOk result (λ l. l.session.texts ≡ session.texts) }
@@ -129,6 +147,7 @@ fn look<J: Naming>(
         Err(_) => return Err(SessionFault::Memory),
     };
     let answer = answer_in(alloc, &view, &texts, made, question);
+    tell_progress(&answer, &view, &texts, question, listener);
     let session = Session {
         viewer: view.leave(),
         texts,
@@ -169,14 +188,15 @@ fn go_on<J: Naming + StoreName, R: Wait + Drop, W: Wait>(
     Ok(())
 }
 
-/// The answer to a question, once the cells are settled that it asks for.
-pub(crate) fn ask<J: Naming + StoreName, R: Wait + Drop, W: Wait>(
+/// The answer to a question, once the cells are settled that it asks for. A listener hears how far a table is.
+pub(crate) fn ask<J: Naming + StoreName, R: Wait + Drop, W: Wait, L: ProgressListener>(
     rt: &W,
     alloc: Global,
     desk: &RunningDesk<J, R>,
     session: Session<J>,
     has_workers: bool,
     question: &Question,
+    listener: &mut L,
 ) -> Result<Replied<J>, SessionFault>
     requires ready { IsReady session.viewer session.made (texts_of session.texts) }
     ensures texts { IfOk result (λ r. r.session.texts ≡ session.texts) }
@@ -197,7 +217,7 @@ pub(crate) fn ask<J: Naming + StoreName, R: Wait + Drop, W: Wait>(
         let Looked {
             session: looked,
             answer,
-        } = match look(alloc, turned, question) {
+        } = match look(alloc, turned, question, listener) {
             Ok(looked) => looked,
             Err(fault) => return Err(fault),
         };

@@ -12,11 +12,12 @@ ghost use Rattle.live_session.specs.Sessions.{IsSession, IsReplied, IsReplyStopp
 
 use crate::reply::{Replied, reply};
 use crate::state::Session;
+use bench_texts::Texts;
 use desk_rule::Naming;
 use litmusbench::{AnswerListener, ByteSink, ByteSource, ReadFault, SessionFault, write_whole};
 use running_bench::RunningDesk;
 use session_edits::Answer;
-use session_script::{Command, ScriptReader};
+use session_script::{Command, Request, ScriptReader, ScriptText};
 use std::alloc::{AllocError, Global};
 use std::sync::Wait;
 use value_store::StoreName;
@@ -41,11 +42,51 @@ fn read_command<S: ByteSource>(
     }
 }
 
-// The text of a command.
-fn text_of(alloc: Global, command: &Command) -> Result<Vec<u8>, AllocError> {
+/// What is kept of a command for a listener: its text, and the model that it puts or changes.
+#[derive(Drop)]
+struct Heard {
+    text: Vec<u8>,
+    model: Option<ScriptText>,
+}
+
+// The model that a request puts or changes.
+fn changed_model(alloc: Global, request: &Request) -> Result<Option<ScriptText>, AllocError> {
+    match request {
+        Request::PutModel { model } => Ok(Some(model.copied(alloc)?)),
+        Request::SetItem { model, .. } => Ok(Some(model.copied(alloc)?)),
+        Request::InsertItem { model, .. } => Ok(Some(model.copied(alloc)?)),
+        Request::RemoveItem { model, .. } => Ok(Some(model.copied(alloc)?)),
+        _ => Ok(None),
+    }
+}
+
+fn heard_of(alloc: Global, command: &Command) -> Result<Heard, AllocError> {
     match command {
-        Command::Asked { request: _, text } => Vec::from_slice(alloc, text.as_bytes()),
-        Command::Refused(_) => Ok(Vec::new(alloc)),
+        Command::Asked { request, text } => Ok(Heard {
+            text: Vec::from_slice(alloc, text.as_bytes())?,
+            model: changed_model(alloc, request)?,
+        }),
+        Command::Refused(_) => Ok(Heard {
+            text: Vec::new(alloc),
+            model: None,
+        }),
+    }
+}
+
+// Tells a listener of the model that a command put or changed.
+fn tell_model<L: AnswerListener>(
+    texts: &Texts,
+    changed: &Option<ScriptText>,
+    answer: &Answer,
+    listener: &mut L,
+) {
+    if answer.is_refused() {
+        return;
+    }
+    if let Some(name) = changed {
+        if let Some(model) = texts.models().get(texts.model_index(name.as_bytes())) {
+            listener.hear_model(model.name(), model.numbers(), &model.text().items);
+        }
     }
 }
 
@@ -90,16 +131,24 @@ fn write_reply<J: Naming + StoreName, R: Wait + Drop, W: Wait, K: ByteSink, L: A
     ensures same { result ≢ Err SessionFault.Write → K.failed_calls sink.new ≡ K.failed_calls sink.old }
     ensures fault { result ≢ Err SessionFault.Read }
 {
-    let text = match text_of(alloc, &command) {
-        Ok(text) => text,
+    let heard = match heard_of(alloc, &command) {
+        Ok(heard) => heard,
         Err(_) => return Err(SessionFault::Memory),
     };
-    let replied = match reply(rt, alloc, desk, session, has_workers, command) {
+    let replied = match reply(rt, alloc, desk, session, has_workers, command, listener) {
         Ok(replied) => replied,
         Err(fault) => return Err(fault),
     };
-    match write_answer(&text, &replied.answer, sink, listener) {
-        Ok(()) => Ok(replied),
+    match write_answer(&heard.text, &replied.answer, sink, listener) {
+        Ok(()) => {
+            tell_model(
+                &replied.session.texts,
+                &heard.model,
+                &replied.answer,
+                listener,
+            );
+            Ok(replied)
+        }
         Err(fault) => Err(fault),
     }
 }

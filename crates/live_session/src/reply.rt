@@ -11,7 +11,7 @@ use crate::asking::ask;
 use crate::editing::make_edit;
 use crate::state::Session;
 use desk_rule::Naming;
-use litmusbench::SessionFault;
+use litmusbench::{AnswerListener, SessionFault};
 use running_bench::RunningDesk;
 use session_edits::{Answer, Asked, asked_in, refused_by};
 use session_script::Command;
@@ -26,13 +26,14 @@ pub(crate) struct Replied<J: Naming> {
     pub(crate) answer: Answer,
 }
 
-fn reply_asked<J: Naming + StoreName, R: Wait + Drop, W: Wait>(
+fn reply_asked<J: Naming + StoreName, R: Wait + Drop, W: Wait, L: AnswerListener>(
     rt: &W,
     alloc: Global,
     desk: &RunningDesk<J, R>,
     session: Session<J>,
     has_workers: bool,
     asked: Asked,
+    listener: &mut L,
 ) -> Result<Replied<J>, SessionFault>
     requires ready { IsReady session.viewer session.made (texts_of session.texts) }
     ensures answer { IfOk result (λ r. IsAsked (texts_of session.texts) (asked_by asked) r.answer (texts_of r.session.texts)) }
@@ -41,18 +42,23 @@ fn reply_asked<J: Naming + StoreName, R: Wait + Drop, W: Wait>(
 {
     match asked {
         Asked::Edit(edit) => make_edit(rt, alloc, desk, session, edit),
-        Asked::Question(question) => ask(rt, alloc, desk, session, has_workers, &question),
+        Asked::Question(question) => {
+            let replied = ask(rt, alloc, desk, session, has_workers, &question, listener);
+            listener.hear_end();
+            replied
+        }
     }
 }
 
 /// Answers a command over the session's texts, which an edit may change.
-pub(crate) fn reply<J: Naming + StoreName, R: Wait + Drop, W: Wait>(
+pub(crate) fn reply<J: Naming + StoreName, R: Wait + Drop, W: Wait, L: AnswerListener>(
     rt: &W,
     alloc: Global,
     desk: &RunningDesk<J, R>,
     session: Session<J>,
     has_workers: bool,
     command: Command,
+    listener: &mut L,
 ) -> Result<Replied<J>, SessionFault>
     requires ready { IsReady session.viewer session.made (texts_of session.texts) }
     ensures answer { IfOk result (λ r. IsAnswered (texts_of session.texts) command r.answer (texts_of r.session.texts)) }
@@ -72,6 +78,7 @@ pub(crate) fn reply<J: Naming + StoreName, R: Wait + Drop, W: Wait>(
                 session,
                 has_workers,
                 asked_in(request, text),
+                listener,
             )
         }
     }

@@ -107,7 +107,8 @@ where
 /// where there are none, and kept between questions; the bytes are the same for each number of workers. Errors: `Read` where a
 /// read failed or the script did not end within 16,777,216 reads that gave bytes, `Write`, `Memory`, or `Shared` where the desk
 /// is not the session's alone; what was written by then is the output of the first commands, and of the next answer a front
-/// where a write failed. A listener hears of each answer behind its write, and a gate of each job of a worker.
+/// where a write failed. A listener hears of each answer behind its write and of each model that is put or changed, and how far
+/// a table is while cells of it are open; a gate hears of each job of a worker.
 pub fn session<R, S, K, L, G>(
     rt: &R,
     source: &mut S,

@@ -5,18 +5,18 @@ use bench_workers::NoGate;
 use clap::Error;
 use clap::error::ErrorKind;
 use litmusbench::{
-    Asked, Drawn, Form, OfRead, OfWrite, RefusalTeller, Report, RunEnd, SessionFault, TextFile,
-    difference_report, eval_stream, exit_status, form_of, model_fault, read_text, refusal_lines,
-    table_report, write_answer, write_drawings, write_report, write_why,
+    Asked, Drawn, Form, NoProgress, OfRead, OfWrite, ProgressTeller, RefusalTeller, Report, RunEnd,
+    SessionFault, TextFile, difference_report, eval_stream, exit_status, form_of, model_fault,
+    read_text, refusal_lines, table_report, write_answer, write_drawings, write_report, write_why,
 };
 use live_session::session;
 use live_watch::watch_files;
 use std::alloc::AllocError;
 use std::fmt::Display;
 use std::fs::File;
-use std::io::Write;
+use std::io::{IsTerminal, Printer, Write};
 use std::process::ExitCode;
-use std::rt::{Env, Files};
+use std::rt::{Clock, Env, Files};
 use std::sync::Wait;
 use std::thread::Threads;
 use std::{env, io};
@@ -89,23 +89,36 @@ fn tell_answer<R: AllocGlobal, E: Print>(
     }
 }
 
+// Tells how far a table is, where the errors go to a terminal.
+fn progress_to<'r, R: AllocGlobal + Clock, E: Print + IsTerminal>(
+    rt: &'r R,
+    errors: &'r E,
+) -> ProgressTeller<'r, R, Printer<'r, E>> {
+    ProgressTeller::new(rt.alloc(), rt, io::writer(errors), errors.is_terminal())
+}
+
 fn stream<R: AllocGlobal + Input + Print, E: Print>(
     rt: &R,
     errors: &E,
 ) -> Result<bool, SessionFault> {
     let mut source = OfRead::new(rt.reader());
     let mut sink = OfWrite::new(io::writer(rt));
-    let mut teller = RefusalTeller::new(rt.alloc(), io::writer(errors));
+    let mut teller = RefusalTeller::new(rt.alloc(), io::writer(errors), NoProgress);
     eval_stream(rt, &mut source, &mut sink, &mut teller)
 }
 
-fn session_input<R, E: Print>(rt: &R, errors: &E, workers: u64) -> Result<bool, SessionFault>
+fn session_input<R, E: Print + IsTerminal>(
+    rt: &R,
+    errors: &E,
+    workers: u64,
+) -> Result<bool, SessionFault>
 where
-    R: AllocGlobal + Input + Print + Threads + Wait + Copy + Drop + Send + Sync + 'static,
+    R: AllocGlobal + Clock + Input + Print + Threads + Wait + Copy + Drop + Send + Sync + 'static,
 {
     let mut source = OfRead::new(rt.reader());
     let mut sink = OfWrite::new(io::writer(rt));
-    let mut teller = RefusalTeller::new(rt.alloc(), io::writer(errors));
+    let progress = progress_to(rt, errors);
+    let mut teller = RefusalTeller::new(rt.alloc(), io::writer(errors), progress);
     session(rt, &mut source, &mut sink, &mut teller, workers, NoGate)
 }
 
@@ -135,18 +148,30 @@ fn told<R: Eprint, T>(
     read
 }
 
-fn session_file<R, E: Print>(
+fn session_file<R, E: Print + IsTerminal>(
     rt: &R,
     errors: &E,
     path: &str,
     workers: u64,
 ) -> Result<bool, SessionFault>
 where
-    R: AllocGlobal + Eprint + Files + Print + Threads + Wait + Copy + Drop + Send + Sync + 'static,
+    R: AllocGlobal
+        + Clock
+        + Eprint
+        + Files
+        + Print
+        + Threads
+        + Wait
+        + Copy
+        + Drop
+        + Send
+        + Sync
+        + 'static,
 {
     let mut source = OfRead::new(open_file(rt, path)?);
     let mut sink = OfWrite::new(io::writer(rt));
-    let mut teller = RefusalTeller::new(rt.alloc(), io::writer(errors));
+    let progress = progress_to(rt, errors);
+    let mut teller = RefusalTeller::new(rt.alloc(), io::writer(errors), progress);
     let ended = session(rt, &mut source, &mut sink, &mut teller, workers, NoGate);
     told(rt, path, ended)
 }
@@ -241,7 +266,7 @@ fn write_both<R: Print, E: Print>(
     }
 }
 
-fn table_files<R: AllocGlobal + Eprint + Files + Print, E: Print>(
+fn table_files<R: AllocGlobal + Clock + Eprint + Files + Print, E: Print + IsTerminal>(
     rt: &R,
     errors: &E,
     models: &[&str],
@@ -249,12 +274,14 @@ fn table_files<R: AllocGlobal + Eprint + Files + Print, E: Print>(
 ) -> Result<bool, SessionFault> {
     let models = files_of(rt, models)?;
     let tests = files_of(rt, tests)?;
-    let is_refused = write_both(rt, errors, table_report(rt.alloc(), &models, &tests))?;
+    let mut progress = progress_to(rt, errors);
+    let report = table_report(rt.alloc(), &models, &tests, &mut progress);
+    let is_refused = write_both(rt, errors, report)?;
     tell_models(rt, errors, &models);
     Ok(is_refused)
 }
 
-fn diff_files<R: AllocGlobal + Eprint + Files + Print, E: Print>(
+fn diff_files<R: AllocGlobal + Clock + Eprint + Files + Print, E: Print + IsTerminal>(
     rt: &R,
     errors: &E,
     models: &[&str],
@@ -262,14 +289,17 @@ fn diff_files<R: AllocGlobal + Eprint + Files + Print, E: Print>(
 ) -> Result<bool, SessionFault> {
     let models = files_of(rt, models)?;
     let tests = files_of(rt, tests)?;
-    let is_refused = write_both(rt, errors, difference_report(rt.alloc(), &models, &tests))?;
+    let mut progress = progress_to(rt, errors);
+    let report = difference_report(rt.alloc(), &models, &tests, &mut progress);
+    let is_refused = write_both(rt, errors, report)?;
     tell_models(rt, errors, &models);
     Ok(is_refused)
 }
 
-fn answer<R, E: Print>(rt: &R, errors: &E, words: &[&str]) -> RunEnd
+fn answer<R, E: Print + IsTerminal>(rt: &R, errors: &E, words: &[&str]) -> RunEnd
 where
     R: AllocGlobal
+        + Clock
         + Eprint
         + Files
         + Input
@@ -334,9 +364,10 @@ where
     }
 }
 
-fn run<R, E: Print>(rt: &R, errors: &E) -> RunEnd
+fn run<R, E: Print + IsTerminal>(rt: &R, errors: &E) -> RunEnd
 where
     R: AllocGlobal
+        + Clock
         + Env
         + Eprint
         + Files

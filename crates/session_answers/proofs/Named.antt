@@ -48,13 +48,13 @@ pub outcome_said : (test : Test) (model : NamedModel) (text : ModelText) (r : Re
 outcome_said test model text (Ok outcome) e h = outcome_is test model text outcome e h
 outcome_said test model text (Err fault) e h = tt
 
-first_is : (x y : ModelText) (xs ys : List ModelText) → ◌≡◌ {A = List ModelText} (x ∷ xs) (y ∷ ys) → x ≡ y
+pub first_is : (x y : ModelText) (xs ys : List ModelText) → ◌≡◌ {A = List ModelText} (x ∷ xs) (y ∷ ys) → x ≡ y
 first_is x y xs ys e = cc
 
-rest_is : (x y : ModelText) (xs ys : List ModelText) → ◌≡◌ {A = List ModelText} (x ∷ xs) (y ∷ ys) → xs ≡ ys
+pub rest_is : (x y : ModelText) (xs ys : List ModelText) → ◌≡◌ {A = List ModelText} (x ∷ xs) (y ∷ ys) → xs ≡ ys
 rest_is x y xs ys e = cc
 
-no_first : (x : ModelText) (xs : List ModelText) → ◌≡◌ {A = List ModelText} (x ∷ xs) [] → ⊥
+pub no_first : (x : ModelText) (xs : List ModelText) → ◌≡◌ {A = List ModelText} (x ∷ xs) [] → ⊥
 no_first x xs e = cc
 
 -- its outcomes under several

@@ -5,9 +5,11 @@
 mod answer;
 mod find;
 mod outcomes;
+mod progress;
 mod question;
 mod rows;
 
 pub use answer::answer_command;
 pub use outcomes::test_outcomes;
+pub use progress::{NoProgress, Progress, ProgressListener};
 pub use rows::{TestOutcomes, test_pairs, test_rows};

@@ -9,6 +9,7 @@ ghost use Rattle.memo_graph.specs.Suites.{AreResolvedAs};
 ghost use Rattle.session_answers.specs.Cells.{IsOutcome, IsRow};
 ghost use Rattle.session_answers.specs.Rows.{HasOutcomes, row_said};
 
+use crate::progress::{NoProgress, Progress, ProgressListener};
 use crate::rows::TestOutcomes;
 use bench_texts::NamedModel;
 use binding_graph::{ModelFault, Resolved};
@@ -38,21 +39,48 @@ fn outcomes_of(
     })
 }
 
+// Tells that so many rows are evaluated, each by one job.
+fn tell_rows<L: ProgressListener>(listener: &mut L, rows: usize, tests: usize, models: usize) {
+    if listener.is_due() {
+        listener.hear_progress(Progress {
+            settled: rows.saturating_mul(models),
+            cells: tests.saturating_mul(models),
+            jobs: Some(rows as u64),
+        });
+    }
+}
+
+fn each_test<L: ProgressListener>(
+    alloc: Global,
+    tests: &[Test],
+    models: &[Result<Resolved, ModelFault>],
+    listener: &mut L,
+) -> Result<Vec<TestOutcomes>, AllocError>
+    ensures { (texts : List (Bor ModelText)) → AreResolvedAs texts models.now → IfOk result (λ v. AllZip (HasOutcomes texts) tests.now v.items) }
+{
+    let mut rows = Vec::with_capacity(alloc, tests.len())?;
+    tell_rows(listener, 0, tests.len(), models.len());
+    for test in tests {
+        rows.push(outcomes_of(alloc, test, models)?)?;
+        tell_rows(listener, rows.len(), tests.len(), models.len());
+    }
+    Ok(rows)
+}
+
 /// The outcomes of each test under the models, each of which is resolved once; the candidates of a test are made once.
-/// Errors: out of memory.
-pub fn test_outcomes(
+/// A listener hears how far it is, a job being a test under all models. Errors: out of memory.
+pub fn test_outcomes<L: ProgressListener>(
     alloc: Global,
     tests: &[Test],
     models: &[&ModelText],
+    listener: &mut L,
 ) -> Result<Vec<TestOutcomes>, AllocError>
     ensures { IfOk result (λ v. AllZip (HasOutcomes models.now) tests.now v.items) }
 {
     let resolved = resolved_models(alloc, models)?;
-    let mut rows = Vec::with_capacity(alloc, tests.len())?;
-    for test in tests {
-        rows.push(outcomes_of(alloc, test, &resolved)?)?;
-    }
-    Ok(rows)
+    let rows = each_test(alloc, tests, &resolved, listener);
+    listener.hear_end();
+    rows
 }
 
 fn model_texts<'m>(
@@ -77,5 +105,5 @@ pub fn all_outcomes(
     ensures { IfOk result (λ v. AllZip (IsRow (map (λ m. model_of m.now) models.now)) (map content_of tests.now) (map row_said v.items)) }
 {
     let texts = model_texts(alloc, models)?;
-    test_outcomes(alloc, tests, &texts)
+    test_outcomes(alloc, tests, &texts, &mut NoProgress)
 }

@@ -6,10 +6,13 @@ ghost use Rattle.std.specs.Prelude.{None};
 
 mod drawn;
 mod gate;
+mod hearing;
 mod kept;
 mod scripts;
 
+use bench_workers::NoGate;
 use gate::SharedMeeting;
+use hearing::Hearing;
 use litmusbench::{ByteSource, CallFailed, MemorySink, MemorySource, NoListener, SessionFault};
 use live_session::session;
 use std::io;
@@ -94,6 +97,26 @@ where
     )
 }
 
+/// A listener hears how far the table is before the first jobs, that it ended, and of the one model.
+fn show_hearing<R>(rt: &R) -> io::Result<()>
+where
+    R: AllocGlobal + Print + Threads + Wait + Copy + Drop + Send + Sync + 'static,
+{
+    let mut hearing = Hearing::new();
+    let mut source = MemorySource::failing_at(SMALL, None);
+    let mut sink = MemorySink::failing_at(Vec::new(rt.alloc()), None);
+    let end = session(rt, &mut source, &mut sink, &mut hearing, 0, NoGate);
+    println!(rt;
+        "a listener: {}, heard {} times, last {} of {} cells, {} tables ended, {} models",
+        word_of(end),
+        hearing.told,
+        hearing.settled,
+        hearing.cells,
+        hearing.ended,
+        hearing.models
+    )
+}
+
 fn run<R>(rt: &R) -> io::Result<()>
 where
     R: AllocGlobal + Files + Print + Threads + Wait + Copy + Drop + Send + Sync + 'static,
@@ -104,6 +127,8 @@ where
     show_meeting(rt)?;
     show_endless(rt, 0)?;
     show_endless(rt, 2)?;
+    println!(rt; "# What a listener hears")?;
+    show_hearing(rt)?;
     println!(rt; "# Scripts that are drawn")?;
     kept::show(rt, DRAWN)
 }

@@ -5,6 +5,8 @@
 mod answer;
 mod find;
 pub mod laws;
+mod progress;
 mod rows;
 
 pub use answer::answer_from_board;
+pub use progress::board_progress;

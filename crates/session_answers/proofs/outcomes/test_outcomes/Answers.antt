@@ -1,8 +1,4 @@
-use Rattle.session_answers.specs.Rows.{HasOutcomes}
-use Rattle.memo_graph.proofs.Suiting.{each_more}
 use Rattle.session_answers.proofs.outcomes.test_outcomes.Goals as goal
 
-pub loop-test-preserved : goal.loop-test-preserved
-loop-test-preserved c =
-    each_more (HasOutcomes c.args.models.now) c.args.tests.now c.loop-test.test-index c.test-item.result c.loop-test.rows.items c.push.new.self.items c.in_ok-outcomes_of.field-0 c.loop-test-test.true c.test-item.is c.in_ok-push.ensures.items
-    (c.in_ok-outcomes_of.ensures c.args.models.now (rw c.deref.ensures.value c.in_ok-resolved.ensures)) c.loop-test.invariant
+pub returns : goal.returns
+returns g c = c.each_test-rows.ensures c.args.models.now (rw c.deref.ensures.value c.in_ok-resolved.ensures)
