@@ -1,10 +1,12 @@
 //! Prints what is known beforehand, as the file `stdout` has it: evaluations of known tests, inputs
-//! with a known answer, and the words of the rules. Each part begins with a line that names it.
+//! with a known answer, the words of the rules, and what `docs/USING.md` shows of files. Each part begins with a line that
+//! names it.
 #![tactic(auto)]
 
 mod examples;
 mod inputs;
 mod rules;
+mod using;
 
 use std::io;
 use std::rt::Files;
@@ -15,7 +17,9 @@ fn run<R: Files + Print + AllocGlobal>(rt: &R) -> io::Result<()> {
     println!(rt; "# Inputs with a known answer")?;
     inputs::show_all(rt)?;
     println!(rt; "# The words of the rules")?;
-    rules::show_all(rt)
+    rules::show_all(rt)?;
+    println!(rt; "# Files as in USING.md")?;
+    using::show_all(rt)
 }
 
 fn main(rt: HostRuntime) -> io::Result<()> {
