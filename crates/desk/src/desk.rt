@@ -23,7 +23,7 @@ const TRIES: u32 = 100;
 
 const PAUSES: u32 = 10;
 
-// Lets some hundred cycles pass.
+// Lets about a thousand cycles pass.
 fn pause() {
     for _ in 0..PAUSES {
         spin_loop();
