@@ -1,5 +1,5 @@
 -- The bounds of each round, and of the combinations.
-use Rattle.std.proofs.Common.{Vec, ℕ, zero, suc, ◌≡◌, ◌↔◌, ◌<◌, ◌≤◌, ◌+◌, ◌-◌, ◌*◌, ◌^◌, inl, inr, List, [], ◌∷◌, ◌++◌, length, get_or, min, vec_len, cond, Result, Ok, Err, mul_assoc, refl, sym, ap, subst, ◌∙◌, arith, add-one}
+use Rattle.std.proofs.Common.{Vec, ℕ, zero, suc, ◌≡◌, ◌↔◌, ◌<◌, ◌≤◌, ◌+◌, ◌-◌, ◌*◌, ◌^◌, inl, inr, List, [], ◌∷◌, ◌++◌, length, get_or, min, vec_len, cond, Result, Ok, Err, mul_assoc, mul-le-mul, refl, sym, ap, subst, ◌∙◌, arith, add-one}
 use Rattle.std.specs.List.{Contains, count_by}
 use Rattle.std.specs.declared.alloc.Global.{Global}
 use Rattle.std.specs.Result.{IsErrAnd, IfErr}
@@ -172,6 +172,21 @@ pub combinations_more : (p : Program) (k : ℕ) (V : List Value) (product c next
 combinations_more p k V product c next had runs e =
     let (n, counted, f) = had in
     rw add-one (n * c, combinations_push (threads_from p k) (thread_of p k) V n c counted runs, e ∙ ap (λ (q : ℕ). min (q * c) (2 ^ 64 - 1)) f ∙ min_times (2 ^ 64 - 1) n c)
+
+bounded : (M a b c d : ℕ) → a ≤ b → min a M ≡ c → d ≡ min b M → c ≤ d
+bounded M a b c d le e f = omega (arith, le, e, f)
+
+pub combinations_within : (p : Program) (k : ℕ) (V : List Value) (product count next : ℕ) → ((n : ℕ) × HasCombinations (threads_from p k) V n × (min n (2 ^ 64 - 1) ≤ product)) → ((m : ℕ) × HasRuns (thread_of p k) V m × (m ≤ count)) → next ≡ min (product * count) (2 ^ 64 - 1)
+    → (n : ℕ) × HasCombinations (threads_from p (k + 1)) V n × (min n (2 ^ 64 - 1) ≤ next)
+combinations_within p k V product count next had has e =
+    let (n, counted, le) = had in
+    let (m, runs, few) = has in
+    rw add-one (n * m, combinations_push (threads_from p k) (thread_of p k) V n m counted runs, bounded (2 ^ 64 - 1) (min n (2 ^ 64 - 1) * m) (product * count) (min (n * m) (2 ^ 64 - 1)) next (mul-le-mul le few) (min_times (2 ^ 64 - 1) n m) e)
+
+pub few_runs : (p : Program) (k : ℕ) (V : List Value) (lines : List Line) (n : ℕ) → lines ≡ (thread_of p k).lines → ((first : State) → (m : ℕ) × HasRuns (record { lines = lines; first = first }) V m × (m ≤ n)) → (m : ℕ) × HasRuns (thread_of p k) V m × (m ≤ n)
+few_runs p k V lines n same each =
+    let (m, runs, le) = each (thread_of p k).first in
+    (m, has_runs (thread_of p k) V lines (thread_of p k).first m same refl runs, le)
 
 -- the free runs of one thread
 pub few_more : (p : Program) (V : List Value) (k n : ℕ) → HasFewRuns p V k → ((m : ℕ) × HasFreeRuns (thread_of p k) V m × (n ≡ min m 4097)) → n < 4097 → HasFewRuns p V (k + 1)

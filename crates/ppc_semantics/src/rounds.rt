@@ -1,6 +1,6 @@
 //! The domain of values that loads can read, and the limits of a test.
 
-ghost use Rattle.std.specs.Prelude.{ℕ, ◌≡◌, ◌≤◌, ◌<◌, ◌+◌, ◌↔◌, ◌-◌, ◌^◌, IfOk, IfErr, OnOk, List, Contains, min, length, vec_len};
+ghost use Rattle.std.specs.Prelude.{ℕ, ◌≡◌, ◌≤◌, ◌<◌, ◌+◌, ◌↔◌, ◌-◌, ◌^◌, IfOk, IfErr, OnOk, IsTrue, List, Contains, min, length, vec_len};
 ghost use Rattle.std.specs.List.{AllPairs, count_by};
 ghost use Rattle.thread_runs.specs.declared.value.Value.{Value};
 ghost use Rattle.thread_runs.specs.ValueSet.{IsOne, IsSet};
@@ -195,8 +195,36 @@ fn runs_in_thread(
     }
 }
 
-/// The bound of the combinations of runs.
-fn check_combinations(alloc: Global, program: &Program, values: &[Value]) -> Result<(), DomainFault>
+/// A number that is not 0, and at least that of the values.
+fn size_of(values: &[Value]) -> usize
+    ensures within { length values.now ≤ result }
+    ensures some { 0 < result }
+{
+    values.len().max(1)
+}
+
+/// Whether the numbers of free runs tell that there are few enough combinations of runs.
+fn are_surely_few(alloc: Global, program: &Program, values: &[Value]) -> Result<bool, AllocError>
+    requires { IsSet values.now }
+    ensures { IfOk result (λ b. IsTrue b → (n : ℕ) × dom.HasCombinations (dom.threads_of program.now) values.now n × (n ≤ 1048576)) }
+{
+    let size = size_of(values);
+    let mut product: u64 = 1;
+    for thread in 0..program.threads.len() {
+        let count = free_count(alloc, thread_lines(program, thread), size)?;
+        if count >= MANY {
+            return Ok(false);
+        }
+        product = product.saturating_mul(count as u64);
+    }
+    if product > MAX_COMBINATIONS {
+        return Ok(false);
+    }
+    Ok(true)
+}
+
+/// The bound of the combinations of runs, by counting the runs.
+fn count_combinations(alloc: Global, program: &Program, values: &[Value]) -> Result<(), DomainFault>
     requires { IsSet values.now }
     ensures few { OnOk result ((n : ℕ) × dom.HasCombinations (dom.threads_of program.now) values.now n × (n ≤ 1048576)) }
     ensures fault { IfErr result (λ e. dom.IsCombinationFault program.now values.now e) }
@@ -214,6 +242,19 @@ fn check_combinations(alloc: Global, program: &Program, values: &[Value]) -> Res
         return Err(DomainFault::Refused(DomainRefusal::TooManyCombinations));
     }
     Ok(())
+}
+
+/// The bound of the combinations of runs.
+fn check_combinations(alloc: Global, program: &Program, values: &[Value]) -> Result<(), DomainFault>
+    requires { IsSet values.now }
+    ensures few { OnOk result ((n : ℕ) × dom.HasCombinations (dom.threads_of program.now) values.now n × (n ≤ 1048576)) }
+    ensures fault { IfErr result (λ e. dom.IsCombinationFault program.now values.now e) }
+{
+    match are_surely_few(alloc, program, values) {
+        Ok(true) => Ok(()),
+        Ok(false) => count_combinations(alloc, program, values),
+        Err(fault) => Err(DomainFault::OutOfMemory(fault)),
+    }
 }
 
 /// The values before the first round.

@@ -1,8 +1,9 @@
 -- What free runs store, line by line.
-use Rattle.std.proofs.Common.{ℕ, zero, suc, ◌≡◌, ◌⊎◌, ◌<◌, ◌≤◌, ◌+◌, ◌*◌, inl, inr, Bool, true, false, List, [], ◌∷◌, ◌++◌, length, get_or, drop, nat_lt, refl, sym, ap, subst, ◌∙◌, Option, Some, None, if◌then◌else◌, append_assoc, arith, rules, add-one}
+use Rattle.std.proofs.Common.{ℕ, zero, suc, ◌≡◌, ◌⊎◌, ◌<◌, ◌≤◌, ◌+◌, ◌-◌, ◌*◌, inl, inr, Bool, true, false, List, [], ◌∷◌, ◌++◌, length, get_or, drop, nat_lt, refl, sym, ap, subst, ◌∙◌, Option, Some, None, if◌then◌else◌, append_assoc, arith, rules, add-one}
 use Rattle.std.specs.List.{flat_map, Contains, All}
 use Rattle.std.proofs.Math.Seq.{drop-cons}
-use Rattle.std.proofs.lemmas.List.{append-nil, drop_all}
+use Rattle.std.proofs.lemmas.List.{append-nil}
+use Rattle.std.proofs.lemmas.Bool.{cases_lt}
 use Rattle.std.proofs.lemmas.List.Elements.{Contains-append_left, Contains-append_right, Contains-append_cases, All-cons, All-head, All-tail, All-contains}
 use Rattle.thread_runs.specs.declared.value.Value.{Value}
 use Rattle.thread_runs.specs.declared.value.Value.TheVariants.{NoValue}
@@ -19,7 +20,8 @@ use Rattle.thread_runs.specs.Machine.{after, event_of, register, sum_of, is_load
 use Rattle.thread_runs.specs.Runs.{Walk, Outcome, ended, advanced, passed, supplied, free_ends, free_obeyed, free_one, free_from}
 use Rattle.thread_runs.specs.ValueSet.{IsOne}
 use Rattle.thread_runs.specs.FreeRuns.{FreeRun, count_one, count_free, sized}
-use Rattle.thread_runs.specs.FreeWalks.{walked, over_line, stored_by, stored_on, one_if, chosen, loaded, does_next, next_on, next_of, goes_by, Stores, SomeStores, AreAdded}
+use Rattle.thread_runs.specs.FreeWalks.{walked, over_line, stored_by, stored_on, one_if, chosen, loaded, does_next, next_on, next_of, goes_by, is_store, has_store, HasNoStore, Stores, SomeStores, AreAdded}
+use Rattle.thread_runs.proofs.RunList.{same_line}
 use Rattle.thread_runs.proofs.RunsExact.{contains_one, one_contains, flat_map_contains, contains_flat_map, map_contains, contains_map, all_from_contains}
 use Rattle.thread_runs.proofs.AllFree.{all_free, exact, counted, branch_no_load}
 
@@ -341,6 +343,15 @@ module _ (V : List Value) (xs : List Line) (on there : Bool) where
       go None (Label m) s p q lt h = subst (λ (z : FreeWalk). 0 < count_free (length V) xs z.seeking) (contains_one w n h) (subst (λ (o : Option ℕ). 0 < count_free (length V) xs o) (sym s) lt)
       go None (Does i) s p q lt h = does_goes V i xs w on there p q lt n h
 
+-- no line from the one before on is a store
+pub no_store_more : (lines : List Line) (end : ℕ) (d : Line) → 0 < end → end ≤ length lines → HasNoStore lines end (length lines) → has_store (get_or lines (end - 1) d) ≡ false → HasNoStore lines (end - 1) (length lines)
+no_store_more lines end d some within storeless here k e from to = elim (cases_lt k end) [
+  | inl lt ↦
+      let same : end - 1 ≡ k = omega arith in
+      subst (λ (j : ℕ). has_store (get_or lines j e) ≡ false) same (ap has_store (same_line lines (end - 1) e d (omega arith)) ∙ here)
+  | inr ge ↦ storeless k e ge to
+]
+
 -- the free runs on their way, and the values that are stored so far
 pub record IsUnderWay (lines : List Line) (first : State) (V : List Value) (k : ℕ) (walks : List FreeWalk) (old stored : List Value) : Type 0 where
   pub goes : All (λ w. 0 < count_free (length V) (drop k lines) w.seeking) walks
@@ -383,15 +394,46 @@ module _ (lines : List Line) (first : State) (V : List Value) where
       go [] (u ∷ us) f e a found = absurd cc
       go (b ∷ bs) vs f e a found = absurd cc
 
-  pub way_ends : (k : ℕ) (walks : List FreeWalk) (old stored : List Value) → length lines ≤ k → IsUnderWay lines first V k walks old stored → AreAdded (Stores lines first V) old stored
-  way_ends k walks old stored le u = record {
+  not_stored : (sk : Option ℕ) (x : Line) (w : FreeWalk) (v : Value) → has_store x ≡ false → Contains (stored_on sk x w) v → ⊥
+  not_stored (Some l) x w v storeless h = let lt = h.1 in omega arith
+  not_stored None (Label m) w v storeless h = let lt = h.1 in omega arith
+  not_stored None (Does i) w v storeless h = instruction_not i storeless h
+    where
+      instruction_not : (i : Instruction) → is_store i ≡ false → Contains (stored_by i w.state) v → ⊥
+      instruction_not (Store d b) storeless h = absurd cc
+      instruction_not (StoreIndexed d b c) storeless h = absurd cc
+      instruction_not (Load d b) storeless h = let lt = h.1 in omega arith
+      instruction_not (LoadIndexed d b c) storeless h = let lt = h.1 in omega arith
+      instruction_not (Barrier k) storeless h = let lt = h.1 in omega arith
+      instruction_not (Immediate d n) storeless h = let lt = h.1 in omega arith
+      instruction_not (Move d b) storeless h = let lt = h.1 in omega arith
+      instruction_not (AddImmediate d b n) storeless h = let lt = h.1 in omega arith
+      instruction_not (Operate o d b c) storeless h = let lt = h.1 in omega arith
+      instruction_not (Compare b c) storeless h = let lt = h.1 in omega arith
+      instruction_not (CompareImmediate b n) storeless h = let lt = h.1 in omega arith
+      instruction_not (Branch c l) storeless h = let lt = h.1 in omega arith
+      instruction_not (Jump l) storeless h = let lt = h.1 in omega arith
+
+  -- nothing is stored where no line is a store
+  no_later : (xs : List Line) (k : ℕ) → HasNoStore xs k (length xs) → (w : FreeWalk) (v : Value) → Keeps V (drop k xs) (fresh w) v → ⊥
+  no_later [] zero storeless w v h = none_kept w v h
+  no_later [] (suc k) storeless w v h = none_kept w v h
+  no_later (x ∷ xs) (suc k) storeless w v h = no_later xs k (λ j d le lt. storeless (suc j) d (omega arith) (omega arith)) w v h
+  no_later (x ∷ xs) zero storeless w v h =
+      elim (line_keeps V xs (goes_by (length V) xs false x) (goes_by (length V) xs true x) w.seeking x w refl refl refl v h) [
+        | inl here ↦ not_stored w.seeking x w v (storeless zero x (omega arith) (omega arith)) here
+        | inr there ↦ no_later xs zero (λ j d le lt. storeless (suc j) d (omega arith) (omega arith)) there.0 v there.2
+      ]
+
+  pub way_ends : (k : ℕ) (walks : List FreeWalk) (old stored : List Value) → HasNoStore lines k (length lines) → IsUnderWay lines first V k walks old stored → AreAdded (Stores lines first V) old stored
+  way_ends k walks old stored storeless u = record {
     longer = u.longer;
     unchanged = u.unchanged;
     kept = u.kept;
     sound = u.sound;
     whole = λ few v s one. elim (u.whole few v s one) [
       | inl here ↦ here
-      | inr there ↦ absurd (none_kept there.0 v (subst (λ (xs : List Line). Keeps V xs (fresh there.0) v) (drop_all k lines le) there.2))
+      | inr there ↦ absurd (no_later lines k storeless there.0 v there.2)
     ];
   }
 

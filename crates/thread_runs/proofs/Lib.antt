@@ -1,6 +1,7 @@
 pub mod MapInPlace
 pub mod RunList
 pub mod RunsExact
+pub mod FewRuns
 pub mod LineByLine
 pub mod Sorted
 pub mod FreeLines

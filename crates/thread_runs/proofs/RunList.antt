@@ -36,7 +36,7 @@ module _ (V : List Value) (bs : List Beginning) where
   pub plain_as : (x : Line) (i : Instruction) → x ≡ Does i → is_load i ≡ false → flat_map (next V x) bs ≡ map (gone_over (Does i)) bs
   plain_as x i e plain = ap (λ (y : Line). flat_map (next V y) bs) e ∙ plain_next i plain
 
-same_line : (xs : List Line) (k : ℕ) (d e : Line) → k < length xs → get_or xs k d ≡ get_or xs k e
+pub same_line : (xs : List Line) (k : ℕ) (d e : Line) → k < length xs → get_or xs k d ≡ get_or xs k e
 same_line [] k d e lt = absurd (omega arith)
 same_line (x ∷ xs) zero d e lt = refl
 same_line (x ∷ xs) (suc k) d e lt = same_line xs k d e (omega arith)

@@ -75,34 +75,34 @@ module _ (V : List Value) where
   next_stopped (Label m) b e = ap (λ (a : Beginning). a ∷ []) (over_stopped (Label m) b e)
   next_stopped (Does i) b e = not_spread i b (ap (λ (s : Bool). goes_on s b.walk.seeking (is_fault i b.walk.state)) e) ∙ ap (λ (a : Beginning). a ∷ []) (over_stopped (Does i) b e)
 
-  next_seeking : (x : Line) (b : Beginning) (l : ℕ) → b.stopped ≡ false → b.walk.seeking ≡ Some l → next V x b ≡ record b { walk = passed x l b.walk } ∷ []
+  pub next_seeking : (x : Line) (b : Beginning) (l : ℕ) → b.stopped ≡ false → b.walk.seeking ≡ Some l → next V x b ≡ record b { walk = passed x l b.walk } ∷ []
   next_seeking (Label m) b l e s = ap (λ (a : Beginning). a ∷ []) (over_awake (Label m) b e ∙ ap (λ (o : Option ℕ). over_line o (Label m) b) s)
   next_seeking (Does i) b l e s =
       not_spread i b (ap (λ (t : Bool). goes_on t b.walk.seeking (is_fault i b.walk.state)) e ∙ ap (λ (o : Option ℕ). goes_on false o (is_fault i b.walk.state)) s)
       ∙ ap (λ (a : Beginning). a ∷ []) (over_awake (Does i) b e ∙ ap (λ (o : Option ℕ). over_line o (Does i) b) s)
 
-  next_label : (m : ℕ) (b : Beginning) → b.stopped ≡ false → b.walk.seeking ≡ None → next V (Label m) b ≡ b ∷ []
+  pub next_label : (m : ℕ) (b : Beginning) → b.stopped ≡ false → b.walk.seeking ≡ None → next V (Label m) b ≡ b ∷ []
   next_label m b e s = ap (λ (a : Beginning). a ∷ []) (over_awake (Label m) b e ∙ ap (λ (o : Option ℕ). over_line o (Label m) b) s)
 
-  next_fault : (i : Instruction) (b : Beginning) → b.stopped ≡ false → b.walk.seeking ≡ None → is_fault i b.walk.state ≡ true → next V (Does i) b ≡ record b { stopped = true } ∷ []
+  pub next_fault : (i : Instruction) (b : Beginning) → b.stopped ≡ false → b.walk.seeking ≡ None → is_fault i b.walk.state ≡ true → next V (Does i) b ≡ record b { stopped = true } ∷ []
   next_fault i b e s f =
       not_spread i b (ap (λ (t : Bool). goes_on t b.walk.seeking (is_fault i b.walk.state)) e ∙ ap (λ (o : Option ℕ). goes_on false o (is_fault i b.walk.state)) s ∙ ap (λ (t : Bool). goes_on false None t) f)
       ∙ ap (λ (a : Beginning). a ∷ []) (over_awake (Does i) b e ∙ ap (λ (o : Option ℕ). over_line o (Does i) b) s ∙ ap (λ (t : Bool). over_instruction t i b) f)
 
-  next_plain : (i : Instruction) (b : Beginning) → b.stopped ≡ false → b.walk.seeking ≡ None → is_fault i b.walk.state ≡ false → is_load i ≡ false
+  pub next_plain : (i : Instruction) (b : Beginning) → b.stopped ≡ false → b.walk.seeking ≡ None → is_fault i b.walk.state ≡ false → is_load i ≡ false
       → next V (Does i) b ≡ record b { walk = advanced i (goes i b.walk.state) NoValue b.walk } ∷ []
   next_plain i b e s f d =
       ap (λ (t : Bool). if t then spread V i b else gone_over (Does i) b ∷ []) d
       ∙ ap (λ (a : Beginning). a ∷ []) (over_awake (Does i) b e ∙ ap (λ (o : Option ℕ). over_line o (Does i) b) s ∙ ap (λ (t : Bool). over_instruction t i b) f)
 
-  next_load : (i : Instruction) (b : Beginning) → b.stopped ≡ false → b.walk.seeking ≡ None → is_fault i b.walk.state ≡ false → is_load i ≡ true
+  pub next_load : (i : Instruction) (b : Beginning) → b.stopped ≡ false → b.walk.seeking ≡ None → is_fault i b.walk.state ≡ false → is_load i ≡ true
       → next V (Does i) b ≡ map (with_load i b) V
   next_load i b e s f d =
       ap (λ (t : Bool). if t then spread V i b else gone_over (Does i) b ∷ []) d
       ∙ ap (λ (t : Bool). if t then map (with_load i b) V else gone_over (Does i) b ∷ [])
       (ap (λ (t : Bool). goes_on t b.walk.seeking (is_fault i b.walk.state)) e ∙ ap (λ (o : Option ℕ). goes_on false o (is_fault i b.walk.state)) s ∙ ap (λ (t : Bool). goes_on false None t) f)
 
-  one_next : (x : Line) (xs : List Line) (b a : Beginning) → next V x b ≡ a ∷ [] → all_from V (x ∷ xs) b ≡ all_from V xs a
+  pub one_next : (x : Line) (xs : List Line) (b a : Beginning) → next V x b ≡ a ∷ [] → all_from V (x ∷ xs) b ≡ all_from V xs a
   one_next x xs b a e = ap (flat_map (all_from V xs)) e ∙ append-nil (all_from V xs a)
 
   pub stopped_stays : (xs : List Line) (b : Beginning) → b.stopped ≡ true → all_from V xs b ≡ b ∷ []

@@ -1,5 +1,5 @@
 -- Free runs on their way, and what they store.
-use Rattle.std.specs.Prelude.{ℕ, ◌≡◌, ◌≤◌, ◌⊎◌, Bool, true, false, List, [], ◌∷◌, ◌++◌, map, Option, Some, None, Contains, All, length, nat_lt}
+use Rattle.std.specs.Prelude.{ℕ, ◌≡◌, ◌≤◌, ◌<◌, ◌⊎◌, Bool, true, false, List, [], ◌∷◌, ◌++◌, map, Option, Some, None, Contains, All, length, nat_lt, slice_index_or}
 use Rattle.thread_runs.specs.declared.value.Value.{Value}
 use Rattle.thread_runs.specs.declared.value.Value.TheVariants.{NoValue}
 use Rattle.thread_runs.specs.declared.instruction.Instruction.{Instruction}
@@ -39,6 +39,20 @@ stored_on None (Does i) w = stored_by i w.state
 
 abbrev pub stored_at : Line → FreeWalk → List Value
 stored_at x w = stored_on w.seeking x w
+
+-- whether the line is a store
+abbrev pub is_store : Instruction → Bool
+is_store (Store d a) = true
+is_store (StoreIndexed d a b) = true
+is_store _ = false
+
+abbrev pub has_store : Line → Bool
+has_store (Label m) = false
+has_store (Does i) = is_store i
+
+-- no line from the one index on, and before the other, is a store
+abbrev pub HasNoStore : List Line → ℕ → ℕ → Type 0
+HasNoStore lines from to = (k : ℕ) (d : Line) → from ≤ k → k < to → has_store (slice_index_or lines k d) ≡ false
 
 -- what it becomes by a line: a load takes each value, and a branch goes on, and there, where free runs do
 abbrev pub one_if : Bool → FreeWalk → List FreeWalk

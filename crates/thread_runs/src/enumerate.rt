@@ -5,12 +5,11 @@ ghost use Rattle.thread_runs.specs.Runs.{IsLess};
 ghost use Rattle.std.specs.List.{flat_map};
 ghost use Rattle.thread_runs.specs.AllRuns as all;
 
-use crate::instruction::{Event, Instruction, Line, Program};
+use crate::instruction::{Instruction, Line, Program};
 use crate::run::{Domain, Run};
 use crate::state::{State, is_load};
 use crate::value::Value;
 use crate::walk::Walk;
-use arrayvec::ArrayVec;
 use std::alloc::{AllocError, Global};
 use std::marker::Model;
 
@@ -78,6 +77,27 @@ impl Beginning {
         Ok(())
     }
 
+    /// A copy of the beginning. Errors: out of memory.
+    fn copied(&self, alloc: Global) -> Result<Beginning, AllocError>
+        ensures { IfOk result (λ b. b ≡ self.now) }
+    {
+        Ok(Beginning {
+            values: Vec::from_slice(alloc, &self.values)?,
+            stopped: self.stopped,
+            walk: self.walk.copied(alloc)?,
+        })
+    }
+
+    /// The load takes the value.
+    fn load(&mut self, instruction: Instruction, value: Value) -> Result<(), AllocError>
+        ensures { OnOk result (self.new ≡ all.with_load instruction self.old value) }
+    {
+        self.values.push(value)?;
+        self.walk.advance(instruction, false, value)?;
+        self.stopped = false;
+        Ok(())
+    }
+
     /// What follows where the load takes the value.
     fn with_load(
         &self,
@@ -87,15 +107,9 @@ impl Beginning {
     ) -> Result<Beginning, AllocError>
         ensures { IfOk result (λ b. b ≡ all.with_load instruction self.now value) }
     {
-        let mut values = Vec::from_slice(alloc, &self.values)?;
-        values.push(value)?;
-        let mut walk = self.walk.copied(alloc)?;
-        walk.advance(instruction, false, value)?;
-        Ok(Beginning {
-            values,
-            stopped: false,
-            walk,
-        })
+        let mut copy = self.copied(alloc)?;
+        copy.load(instruction, value)?;
+        Ok(copy)
     }
 
     /// A beginning that is whole, as a run.
@@ -107,37 +121,16 @@ impl Beginning {
             stopped,
             walk,
         } = self;
-        let events = bounded(walk.events());
         let registers = walk.registers();
+        let (steps, mut events) = walk.into_lists();
+        events.truncate(128);
         Run {
             values,
-            steps: walk.into_steps(),
+            steps,
             events,
             registers,
             faulted: stopped,
         }
-    }
-}
-
-fn kept(events: &[Event]) -> ArrayVec<Event, 128>
-    requires { length events.now ≤ 128 }
-    ensures { result.items ≡ events.now }
-{
-    let mut kept = ArrayVec::new();
-    for event in events {
-        kept.push(*event);
-    }
-    kept
-}
-
-/// The first 128 of the events.
-fn bounded(events: &[Event]) -> ArrayVec<Event, 128>
-    ensures { result.items ≡ take 128 events.now }
-{
-    if events.len() <= 128 {
-        kept(events)
-    } else {
-        kept(&events[..128])
     }
 }
 
@@ -157,6 +150,24 @@ fn add_loads(
     Ok(())
 }
 
+/// One beginning for each value that the load takes, the last of them this one.
+fn add_all_loads(
+    alloc: Global,
+    mut beginning: Beginning,
+    instruction: Instruction,
+    values: &[Value],
+    next: &mut Vec<Beginning>,
+) -> Result<(), AllocError>
+    ensures { OnOk result (next.new.items ≡ next.old.items ++ map (all.with_load instruction beginning) values.now) }
+{
+    if let Some((last, others)) = values.split_last() {
+        add_loads(alloc, &beginning, instruction, others, next)?;
+        beginning.load(instruction, *last)?;
+        next.push(beginning)?;
+    }
+    Ok(())
+}
+
 /// What the beginning becomes by a load.
 fn spread(
     alloc: Global,
@@ -168,7 +179,7 @@ fn spread(
     ensures { OnOk result (next.new.items ≡ next.old.items ++ all.spread values.now instruction beginning) }
 {
     if beginning.executes(instruction) {
-        add_loads(alloc, &beginning, instruction, values, next)?;
+        add_all_loads(alloc, beginning, instruction, values, next)?;
     } else {
         beginning.go_over(Line::Does(instruction))?;
         next.push(beginning)?;

@@ -7,6 +7,7 @@ ghost use Rattle.thread_runs.specs.declared.instruction.Line.TheVariants.{Does};
 ghost use Rattle.thread_runs.specs.Runs.{IsLess, found_at};
 ghost use Rattle.thread_runs.specs.ValueSet.{IsSet};
 ghost use Rattle.thread_runs.specs.FreeWalks as free;
+ghost use Rattle.thread_runs.specs.AllRuns.{HasRuns};
 ghost use Rattle.thread_runs.specs.FreeRuns.{AreCounts, HasFreeRuns, capped, count_free, count_one};
 
 use crate::instruction::{Instruction, Line};
@@ -132,10 +133,12 @@ fn free_counts(alloc: Global, lines: &[Line], size: usize) -> Result<Vec<u32>, A
     Ok(counts)
 }
 
-/// The number of free runs of the thread over so many values, or 4,097 if there are more.
+/// The number of free runs of the thread over so many values, or 4,097 if there are more. Where it is
+/// less, the thread has no more runs over at most so many values, of which there is one at least.
 pub fn free_count(alloc: Global, lines: &[Line], size: usize) -> Result<u32, AllocError>
     ensures counted { IfOk result (λ n. n ≡ capped (count_free size lines.now None)) }
     ensures runs { IfOk result (λ n. (first : State) → (V : List Value) → AllPairs IsLess V → length V ≡ size → (m : ℕ) × HasFreeRuns (record { lines = lines.now; first = first }) V m × (n ≡ capped m)) }
+    ensures few { IfOk result (λ n. (first : State) → (V : List Value) → AllPairs IsLess V → length V ≤ size → 0 < size → n < 4097 → (m : ℕ) × HasRuns (record { lines = lines.now; first = first }) V m × (m ≤ n)) }
 {
     let counts = free_counts(alloc, lines, size)?;
     Ok(count_at(&counts, 0))
@@ -382,6 +385,34 @@ fn goes_by(
     }
 }
 
+/// Whether the line is a store.
+fn is_store(line: Line) -> bool
+    ensures { result ≡ free.has_store line }
+{
+    match line {
+        Line::Label(_) => false,
+        Line::Does(instruction) => matches!(
+            instruction,
+            Instruction::Store(_, _) | Instruction::StoreIndexed(_, _, _)
+        ),
+    }
+}
+
+/// The index behind the last store, or 0 where there is none.
+fn stores_end(lines: &[Line]) -> usize
+    ensures within { result ≤ length lines.now }
+    ensures none { free.HasNoStore lines.now result (length lines.now) }
+{
+    let mut end = lines.len();
+    while end > 0 {
+        if is_store(lines[end - 1]) {
+            return end;
+        }
+        end -= 1;
+    }
+    end
+}
+
 /// Adds the values that the free runs of the thread over the values store, until there are more
 /// values than a domain can have.
 pub fn add_stored(
@@ -405,7 +436,8 @@ pub fn add_stored(
         state: first,
         seeking: None,
     })?;
-    for index in 0..lines.len() {
+    let end = stores_end(lines);
+    for index in 0..end {
         let line = lines[index];
         note_all(&walks, line, stored)?;
         let on = goes_by(lines, &counts, size, index + 1, line, false);

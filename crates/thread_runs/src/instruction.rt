@@ -76,9 +76,3 @@ pub struct RunStep {
     /// The loaded value, or no value if it is not a load.
     pub loaded: Value,
 }
-
-impl Default for Event {
-    fn default() -> Event {
-        Event::Orders(Fence::Sync)
-    }
-}

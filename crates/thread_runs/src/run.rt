@@ -2,7 +2,6 @@
 
 use crate::instruction::{Event, RunStep};
 use crate::value::Value;
-use arrayvec::ArrayVec;
 
 /// The domain of values that loads can read: numbers first, rising, then addresses.
 #[derive(Drop)]
@@ -18,8 +17,8 @@ pub struct Run {
     pub values: Vec<Value>,
     /// The instructions in the order in which they were executed.
     pub steps: Vec<RunStep>,
-    /// The accesses and fences in program order.
-    pub events: ArrayVec<Event, 128>,
+    /// The first 128 accesses and fences, in program order.
+    pub events: Vec<Event>,
     /// The final values of the registers.
     pub registers: [Value; 32],
     /// Whether the run stopped at a fault.

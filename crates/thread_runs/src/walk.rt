@@ -109,17 +109,11 @@ impl Walk {
         self.state.registers
     }
 
-    /// The events so far.
-    pub fn events(&self) -> &[Event]
-        ensures { result.now ≡ self.now.events }
+    /// The steps and the events.
+    pub fn into_lists(self) -> (Vec<RunStep>, Vec<Event>)
+        ensures steps { result.0.items ≡ self.steps }
+        ensures events { result.1.items ≡ self.events }
     {
-        &self.events
-    }
-
-    /// The steps alone.
-    pub fn into_steps(self) -> Vec<RunStep>
-        ensures { result.items ≡ self.steps }
-    {
-        self.steps
+        (self.steps, self.events)
     }
 }

@@ -21,9 +21,9 @@ pub loop-index-preserved : goal.loop-index-preserved
 loop-index-preserved c = record {
   rising = c.note_all.ensures.set;
   way =
-      way_on c.args.lines.now c.args.first c.args.values.now c.loop-index.index _ _ _ _ _ _ _ _ c.loop-index-test.true c.goes_by-on.ensures c.goes_by-there.ensures c.loop-index.invariant.way
+      way_on c.args.lines.now c.args.first c.args.values.now c.loop-index.index _ _ _ _ _ _ _ _ (omega (arith, c.loop-index-test.true, c.stores_end-end.ensures.within)) c.goes_by-on.ensures c.goes_by-there.ensures c.loop-index.invariant.way
       (rw c.deref-in-loop-index.ensures.value at c.in_ok-note_all.ensures.added) c.in_ok-walks.ensures;
 }
 
 pub returns-clause-added : goal.returns-clause-added
-returns-clause-added c = way_ends c.args.lines.now c.args.first c.args.values.now c.loop-index.index _ _ _ (omega arith) c.loop-index.invariant.way
+returns-clause-added c = way_ends c.args.lines.now c.args.first c.args.values.now c.loop-index.index _ _ _ (λ k d le lt. c.stores_end-end.ensures.none k d (omega (arith, le, c.loop-index-test.false)) lt) c.loop-index.invariant.way
