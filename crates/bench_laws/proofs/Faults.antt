@@ -10,16 +10,18 @@ use Rattle.bench_texts.specs.Replacements.{tests_with, models_with}
 use Rattle.bench_texts.specs.declared.model.NamedModel.{NamedModel}
 use Rattle.bench_texts.specs.declared.replacement.Replacement.{Replacement}
 use Rattle.bench_texts.specs.declared.replacement.Replacement.TheVariants as made
+use Rattle.node_values.specs.declared.items.SharedItem.{SharedItem}
 use Rattle.bench_nodes.specs.declared.table.ModelRow.{ModelRow}
 use Rattle.bench_nodes.specs.declared.table.ItemRow.{ItemRow}
 use Rattle.bench_nodes.specs.Nodes.{item_stamp, fault_stamp}
 use Rattle.stamped_parts.specs.declared.parts.Parts.{Parts}
-use Rattle.stamped_parts.specs.Contents.{PartContent, state_of, item_content, fault_part, fault_content}
+use Rattle.stamped_parts.specs.Contents.{PartContent, OfRole, state_of, item_content, fault_part, fault_content}
 use Rattle.edited_tables.specs.declared.models.HeldModel.{HeldModel}
 use Rattle.edited_tables.specs.Laws.{IsLaterNumber, WasModelRow}
 use Rattle.edited_tables.specs.Models.{fault_by, fault_stamp_by, raised_model}
 use Rattle.edited_tables.specs.Stamps.{next_number, raised, IsStampOf}
 use Rattle.edited_tables.proofs.Stamping.{raised_low, fault_low}
+use Rattle.edited_items.proofs.Histories.{histories_go_on}
 use Rattle.edited_items.proofs.ItemRows.{items_keep_stamps}
 use Rattle.edited_parts.specs.declared.edited.EditedParts.{EditedParts}
 use Rattle.edited_parts.specs.declared.edited.EditedParts.TheVariants as edited
@@ -30,7 +32,7 @@ use Rattle.edited_parts.specs.Owed.{AreApart, ArePartsOf}
 use Rattle.edited_parts.specs.Readings.{fault_in, all_facts}
 use Rattle.edited_parts.proofs.PutModels.{held_content, held_stamp, held_ids, held_is, held_ids_are, held_were, content_pushed, were_pushed, were_removed}
 use Rattle.edited_parts.proofs.TestEdits.{fresh_above}
-use Rattle.bench_laws.specs.Cells.{EqualPartsKeepStamps}
+use Rattle.bench_laws.specs.Cells.{EqualPartsKeepStamps, EqualItemsKeepNames}
 use Rattle.bench_laws.proofs.ItemKinds.{items_after}
 
 none_is : {A : Type 0} {a : A} → None ≡ Some a → ⊥
@@ -219,3 +221,29 @@ faults_left p q tests models (made.DropModel at) number (edited.PutTest to row n
 faults_left p q tests models (made.DropModel at) number (edited.DropTest to) edit = absurd edit.is_made
 faults_left p q tests models (made.DropModel at) number (edited.Models m) edit =
     model_faults p q tests models number edit.later edit.owed tests (remove models at) m edit.is_made.faults edit.committed.changes (removed_kept p q tests models number edit.later edit.owed at (remove models at) m.rows.items edit.is_made.rows)
+
+-- ---- histories
+
+same_names : (p q : Parts) (tests after : List Test) → AreModelsSame p q → EqualItemsKeepNames (state_of p tests) (state_of q after)
+same_names p q tests after same of role history names was is = held_names (sym is ∙ (ap (λ (l : List ItemRow). item_content l q.roles.items of) same.items ∙ (ap (λ (l : List (Option SharedItem)). item_content p.table.items.items l of) same.roles ∙ was)))
+  where
+    held_names : Some (OfRole role names) ≡ Some (OfRole role history) → names ≡ history
+    held_names e = cc
+
+model_names : (p q : Parts) (tests : List Test) (models : List NamedModel) (r : Replacement) (number : ℕ) (m : ModelParts) → IsEdit p tests models r number (edited.Models m) q → AreModelsAfter p models r m → EqualItemsKeepNames (state_of p tests) (state_of q (tests_with r tests))
+model_names p q tests models r number m edit after of =
+    (histories_go_on p.last number p.table.items.items q.table.items.items p.roles.items q.roles.items q.kinds.items (all_facts (models_with r models)) (items_after p q tests models r number m edit after) of).same
+
+pub names_left : (p q : Parts) (tests : List Test) (models : List NamedModel) (r : Replacement) (number : ℕ) (e : EditedParts) → IsEdit p tests models r number e q → EqualItemsKeepNames (state_of p tests) (state_of q (tests_with r tests))
+names_left p q tests models (made.PutTest at test) number (edited.PutTest to row names) edit = same_names p q tests (put_at at test tests) edit.committed.changes.models
+names_left p q tests models (made.PutTest at test) number (edited.DropTest to) edit = absurd edit.is_made
+names_left p q tests models (made.PutTest at test) number (edited.Models m) edit = absurd edit.is_made
+names_left p q tests models (made.DropTest at) number (edited.PutTest to row names) edit = absurd edit.is_made
+names_left p q tests models (made.DropTest at) number (edited.DropTest to) edit = same_names p q tests (remove tests at) edit.committed.changes.models
+names_left p q tests models (made.DropTest at) number (edited.Models m) edit = absurd edit.is_made
+names_left p q tests models (made.PutModel at model next) number (edited.PutTest to row names) edit = absurd edit.is_made
+names_left p q tests models (made.PutModel at model next) number (edited.DropTest to) edit = absurd edit.is_made
+names_left p q tests models (made.PutModel at model next) number (edited.Models m) edit = model_names p q tests models (made.PutModel at model next) number m edit edit.is_made
+names_left p q tests models (made.DropModel at) number (edited.PutTest to row names) edit = absurd edit.is_made
+names_left p q tests models (made.DropModel at) number (edited.DropTest to) edit = absurd edit.is_made
+names_left p q tests models (made.DropModel at) number (edited.Models m) edit = model_names p q tests models (made.DropModel at) number m edit edit.is_made

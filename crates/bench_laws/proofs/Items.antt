@@ -1,5 +1,5 @@
 -- The items of a cell, as its state holds them.
-use Rattle.std.proofs.Common.{ℕ, ◌≡◌, ◌<◌, inl, inr, arith, true, List, [], ◌∷◌, ◌++◌, map, Option, Some, None, option_map, slice_get, refl, sym, ap, ◌∙◌, subst}
+use Rattle.std.proofs.Common.{ℕ, ◌≡◌, ◌<◌, inl, inr, arith, true, List, [], ◌∷◌, ◌++◌, map, get_or, Option, Some, None, option_map, slice_get, refl, sym, ap, ◌∙◌, subst}
 use Rattle.std.specs.List.{AllByRecursion as Each}
 use Rattle.std.proofs.lemmas.Simd.{map-map}
 use Rattle.memo_core.specs.declared.keys.Kind.{Kind}
@@ -10,16 +10,18 @@ use Rattle.binding_graph.specs.declared.resolved.ResolvedItem.{ResolvedItem}
 use Rattle.binding_graph.specs.declared.resolved.Role.{Role}
 use Rattle.binding_graph.specs.declared.resolved.Role.TheVariants as roles
 use Rattle.node_values.specs.Items.{RoleContent, Group, Check, Silent, role_content}
+use Rattle.node_values.specs.Naming.{names_in, number_of}
 use Rattle.bench_nodes.specs.declared.table.SlotKey.{SlotKey}
 use Rattle.bench_nodes.specs.declared.table.SlotKey.TheVariants as slots
 use Rattle.bench_nodes.specs.Nodes.{has_slot, slot_keys}
-use Rattle.model_slots.specs.Slots.{number_at, space_key, item_keys, name_key, flag_key, answer_key, key_by, keys_by, verdict_keys}
+use Rattle.model_slots.specs.Slots.{name_of as bound_name, input_name, number_at, space_key, item_keys, name_key, flag_key, answer_key, key_by, keys_by, verdict_keys}
 use Rattle.model_slots.specs.Tables.{ModelReading, Sound, IsNameOf, UsesNames, AreOrderedItems, name_count}
 use Rattle.model_slots.proofs.Lists.{each_map, each_to, each_has, has_map}
 use Rattle.slot_laws.specs.Closed.{AreClosed, IsPassedOn}
 use Rattle.slot_laws.proofs.Items.{resolved_closed}
-use Rattle.stamped_parts.specs.Built.{IsModelIn}
-use Rattle.stamped_parts.specs.Contents.{OfRole, State, content}
+use Rattle.stamped_parts.specs.Built.{IsHeld, AreHeld, IsModelIn}
+use Rattle.stamped_parts.specs.Contents.{PartContent, OfRole, State, histories, content}
+use Rattle.stamped_parts.proofs.BuiltSlots.{held_history_is}
 use Rattle.bench_laws.specs.Kept.{IsKept, IsRead}
 use Rattle.bench_laws.proofs.Origin.{HasKind, verdict_keys_are, item_keys_are, item_there, verdict_there, space_there}
 use Rattle.bench_laws.specs.Cells.{CellItem, name_of, cell_item, item_at, cell_items}
@@ -32,11 +34,17 @@ IsOfKind (Group recursive bodies) kind = kind ≡ kinds.Group
 IsOfKind (Check negated word code flag) kind = kind ≡ kinds.Check
 IsOfKind Silent kind = ⊥
 
-abbrev pub used_key : ℕ × ℕ → SlotKey
-used_key n = slots.Value kinds.Group n.0 n.1
+-- the number of the name at a position of an item, in the history that its part holds
+abbrev pub number_in : Option PartContent → ℕ → ℕ
+number_in (Some (OfRole role history)) position = number_of history (get_or (names_in role) position [])
+number_in _ position = 0
 
-abbrev pub keys_of : CellItem → List SlotKey
-keys_of c = slots.Item c.number ∷ map slots.Item c.functions ++ space_key ∷ map used_key c.names
+-- where the parts of items hold this
+abbrev pub used_key : (ℕ → Option PartContent) → ℕ × ℕ → SlotKey
+used_key parts n = slots.Value kinds.Group n.0 (number_in (parts n.0) n.1)
+
+abbrev pub keys_of : (ℕ → Option PartContent) → CellItem → List SlotKey
+keys_of parts c = slots.Item c.number ∷ map slots.Item c.functions ++ space_key ∷ map (used_key parts) c.names
 
 abbrev pub flag_keys : RoleContent → ℕ → List SlotKey
 flag_keys (Check negated word code (Some name)) own = slots.Item own ∷ []
@@ -60,12 +68,28 @@ by_items f (o ∷ os) = by_item f o ++ by_items f os
 abbrev pub cell_keys : List (Option CellItem) → List SlotKey
 cell_keys cs = slots.Test 2 ∷ slots.Test 3 ∷ by_items flag_keys cs ++ space_key ∷ by_items answer_keys cs
 
-pub keys_are : (numbers : List ℕ) (own : ℕ) (r : ResolvedItem) → item_keys numbers own r ≡ keys_of (cell_item numbers own r)
-keys_are numbers own r =
+-- the key of a name is that which the part of its item gives
+name_is : (s : State) (numbers : List ℕ) (items : List ResolvedItem) (name : Input) → AreHeld s numbers items → IsNameOf items name → name_key (histories s) numbers items name ≡ used_key (content s 0) (name_of numbers name)
+name_is s numbers items name held is =
+    let own = number_at numbers name.item in
+    let part = held name.item is.0 is.1 in
+    let history : histories s own ≡ part.0 = held_history_is s own (role_content is.0.role) part.0 part.1 in
+    let named : input_name items name ≡ get_or (names_in (role_content is.0.role)) name.position [] = ap (λ (o : Option ResolvedItem). bound_name o name.position) is.1 in
+    ap (λ (h : List (List ℕ)). slots.Value kinds.Group own (number_of h (input_name items name))) history
+    ∙ ap (λ (n : List ℕ). slots.Value kinds.Group own (number_of part.0 n)) named
+    ∙ sym (ap (λ (o : Option PartContent). slots.Value kinds.Group own (number_in o name.position)) part.1)
+
+names_are : (s : State) (numbers : List ℕ) (items : List ResolvedItem) (names : List Input) → AreHeld s numbers items → Each (IsNameOf items) names → map (name_key (histories s) numbers items) names ≡ map (used_key (content s 0)) (map (name_of numbers) names)
+names_are s numbers items [] held are = refl
+names_are s numbers items (n ∷ ns) held are =
+    ap (λ (k : SlotKey). k ∷ map (name_key (histories s) numbers items) ns) (name_is s numbers items n held are.0)
+    ∙ ap (λ (l : List SlotKey). used_key (content s 0) (name_of numbers n) ∷ l) (names_are s numbers items ns held are.1)
+
+pub keys_are : (s : State) (numbers : List ℕ) (items : List ResolvedItem) (own : ℕ) (r : ResolvedItem) → AreHeld s numbers items → Each (IsNameOf items) r.inputs.items → item_keys (histories s) numbers items own r ≡ keys_of (content s 0) (cell_item numbers own r)
+keys_are s numbers items own r held are =
     let f = map-map slots.Item (number_at numbers) r.functions.items in
-    let n = map-map used_key (name_of numbers) r.inputs.items in
-    ap (λ (l : List SlotKey). slots.Item own ∷ l ++ space_key ∷ map (name_key numbers) r.inputs.items) (sym f)
-    ∙ ap (λ (l : List SlotKey). slots.Item own ∷ map slots.Item (map (number_at numbers) r.functions.items) ++ space_key ∷ l) (sym n)
+    ap (λ (l : List SlotKey). slots.Item own ∷ l ++ space_key ∷ map (name_key (histories s) numbers items) r.inputs.items) (sym f)
+    ∙ ap (λ (l : List SlotKey). slots.Item own ∷ map slots.Item (map (number_at numbers) r.functions.items) ++ space_key ∷ l) (names_are s numbers items r.inputs.items held are)
 
 flag_is : (role : Role) (own : ℕ) → flag_key role own ≡ flag_keys (role_content role) own
 flag_is (roles.Group recursive bodies) own = refl
@@ -166,9 +190,9 @@ group_among numbers items used name inside is =
 
 pub record IsCellIn (s : State) (id : ℕ) (cs : List (Option CellItem)) : Type 0 where
   pub verdict_keys : slot_keys s.parts.table.slots.items kinds.Verdict id ≡ cell_keys cs
-  pub item_keys : (c : CellItem) (kind : Kind) → Has cs (Some c) → IsOfKind c.role kind → slot_keys s.parts.table.slots.items kind c.number ≡ keys_of c
-  pub held : (c : CellItem) → Has cs (Some c) → content s 0 c.number ≡ Some (OfRole c.role)
-  pub functions : (c : CellItem) → Has cs (Some c) → Each (λ f. content s 0 f ≡ Some (OfRole Silent)) c.functions
+  pub item_keys : (c : CellItem) (kind : Kind) → Has cs (Some c) → IsOfKind c.role kind → slot_keys s.parts.table.slots.items kind c.number ≡ keys_of (content s 0) c
+  pub held : (c : CellItem) → Has cs (Some c) → IsHeld s c.number c.role
+  pub functions : (c : CellItem) → Has cs (Some c) → Each (λ f. IsHeld s f Silent) c.functions
   pub names : (c : CellItem) → Has cs (Some c) → Each (λ n. IsGroupAmong cs n.0) c.names
   pub has_space : has_slot s.parts.table.slots.items kinds.Space 0 ≡ true
   pub has_item : (c : CellItem) (kind : Kind) → Has cs (Some c) → IsOfKind c.role kind → has_slot s.parts.table.slots.items kind c.number ≡ true
@@ -187,18 +211,18 @@ module _ (s : State) (models : List ModelReading) (k : IsKept s models) (id : �
   closed : AreClosed items
   closed = resolved_closed read_from.0 items read_from.1.resolved
 
-  held : (c : CellItem) → Has cs (Some c) → content s 0 c.number ≡ Some (OfRole c.role)
+  held : (c : CellItem) → Has cs (Some c) → IsHeld s c.number c.role
   held c h = let i = item_of numbers items used c h in
-      subst (λ (d : CellItem). content s 0 d.number ≡ Some (OfRole d.role)) i.is (model_in.1 i.index i.item i.found)
+      subst (λ (d : CellItem). IsHeld s d.number d.role) i.is (model_in.1 i.index i.item i.found)
 
-  passed : (r : ResolvedItem) (f : ℕ) → IsPassedOn items r f → content s 0 (number_at numbers f) ≡ Some (OfRole Silent)
-  passed r f p = model_in.1 f p.0 p.1 ∙ ap (λ (role : Role). Some (OfRole (role_content role))) p.2
+  passed : (r : ResolvedItem) (f : ℕ) → IsPassedOn items r f → IsHeld s (number_at numbers f) Silent
+  passed r f p = let part = model_in.1 f p.0 p.1 in (part.0, part.1 ∙ ap (λ (role : Role). Some (OfRole (role_content role) part.0)) p.2)
 
-  functions : (c : CellItem) → Has cs (Some c) → Each (λ f. content s 0 f ≡ Some (OfRole Silent)) c.functions
+  functions : (c : CellItem) → Has cs (Some c) → Each (λ f. IsHeld s f Silent) c.functions
   functions c h = let i = item_of numbers items used c h in
-      subst (λ (d : CellItem). Each (λ f. content s 0 f ≡ Some (OfRole Silent)) d.functions) i.is
-      (each_map (number_at numbers) (λ f. content s 0 f ≡ Some (OfRole Silent)) i.item.functions.items
-      (each_to (IsPassedOn items i.item) (λ f. content s 0 (number_at numbers f) ≡ Some (OfRole Silent)) (passed i.item) i.item.functions.items (closed i.index i.item i.found).functions))
+      subst (λ (d : CellItem). Each (λ f. IsHeld s f Silent) d.functions) i.is
+      (each_map (number_at numbers) (λ f. IsHeld s f Silent) i.item.functions.items
+      (each_to (IsPassedOn items i.item) (λ f. IsHeld s (number_at numbers f) Silent) (passed i.item) i.item.functions.items (closed i.index i.item i.found).functions))
 
   names : (c : CellItem) → Has cs (Some c) → Each (λ n. IsGroupAmong cs n.0) c.names
   names c h = let i = item_of numbers items used c h in
@@ -208,29 +232,30 @@ module _ (s : State) (models : List ModelReading) (k : IsKept s models) (id : �
       (ordered items used [] used (λ j g. absurd g) (λ j g. g) model_in.0 i.index i.item i.inside i.found)))
 
   abbrev HasKeys : CellItem → Kind → Type 0
-  HasKeys c kind = slot_keys s.parts.table.slots.items kind c.number ≡ keys_of c
+  HasKeys c kind = slot_keys s.parts.table.slots.items kind c.number ≡ keys_of (content s 0) c
 
   keys : (c : CellItem) (kind : Kind) → Has cs (Some c) → IsOfKind c.role kind → HasKeys c kind
   keys c kind h of = let i = item_of numbers items used c h in
       let own : HasKind i.item.role kind = kind_is i.item.role kind (subst (λ (d : CellItem). IsOfKind d.role kind) (sym i.is) of) in
       subst (λ (d : CellItem). HasKeys d kind) i.is
-      (item_keys_are models k.models_apart k.read s.parts.table.slots.items k.built.slots id numbers items used there i.index i.item kind i.inside i.found own
-      ∙ keys_are numbers (number_at numbers i.index) i.item)
+      (item_keys_are models k.models_apart k.read (histories s) s.parts.table.slots.items k.built.slots id numbers items used there i.index i.item kind i.inside i.found own
+      ∙ keys_are s numbers items (number_at numbers i.index) i.item model_in.1
+      (each_to (λ (n : Input). (n.item < i.index) × IsNameOf items n) (IsNameOf items) (λ n g. g.1) i.item.inputs.items (closed i.index i.item i.found).names))
 
   has_item : (c : CellItem) (kind : Kind) → Has cs (Some c) → IsOfKind c.role kind → has_slot s.parts.table.slots.items kind c.number ≡ true
   has_item c kind h of = let i = item_of numbers items used c h in
       let own : HasKind i.item.role kind = kind_is i.item.role kind (subst (λ (d : CellItem). IsOfKind d.role kind) (sym i.is) of) in
       subst (λ (d : CellItem). has_slot s.parts.table.slots.items kind d.number ≡ true) i.is
-      (item_there models k.models_apart k.read s.parts.table.slots.items k.built.slots id numbers items used there i.index i.item kind i.inside i.found own)
+      (item_there models k.models_apart k.read (histories s) s.parts.table.slots.items k.built.slots id numbers items used there i.index i.item kind i.inside i.found own)
 
   pub cell_in : IsCellIn s id cs
   cell_in = record {
-    verdict_keys = verdict_keys_are models k.models_apart k.read s.parts.table.slots.items k.built.slots (Sound id numbers items used) there ∙ verdict_are numbers items used;
+    verdict_keys = verdict_keys_are models k.models_apart k.read (histories s) s.parts.table.slots.items k.built.slots (Sound id numbers items used) there ∙ verdict_are numbers items used;
     item_keys = keys;
     held = held;
     functions = functions;
     names = names;
-    has_space = space_there models k.models_apart k.read s.parts.table.slots.items k.built.slots id numbers items used there;
+    has_space = space_there models k.models_apart k.read (histories s) s.parts.table.slots.items k.built.slots id numbers items used there;
     has_item = has_item;
-    has_verdict = verdict_there models k.models_apart k.read s.parts.table.slots.items k.built.slots (Sound id numbers items used) there;
+    has_verdict = verdict_there models k.models_apart k.read (histories s) s.parts.table.slots.items k.built.slots (Sound id numbers items used) there;
   }

@@ -25,7 +25,7 @@ use Rattle.bench_texts.specs.Readings.{IsReading, predefined_names}
 use Rattle.model_slots.specs.Slots.{number_at}
 use Rattle.model_slots.specs.Tables.{ModelReading, Sound, Faulty}
 use Rattle.stamped_parts.specs.declared.parts.Parts.{Parts}
-use Rattle.stamped_parts.specs.Contents.{state_of}
+use Rattle.stamped_parts.specs.Contents.{histories, state_of}
 use Rattle.stamped_parts.specs.States.{has_kind, has_model, has_own, keeps}
 use Rattle.edited_items.specs.Items.{ItemFact, fact_at, item_facts, kind_at}
 use Rattle.edited_items.specs.Laws.{IsOfItsKind, role_kind}
@@ -88,6 +88,7 @@ one_read : (id : ℕ) (ns : List ℕ) (items : List Item) (r : Reading) → IsRe
 one_read id ns items (readings.Sound resolved used) h paired apart = (
   map clause_of items,
   record {
+    no_fault = (h.0).no_fault;
     resolved = (h.0).as_resolved;
     reached = h.1;
     numbered = paired ∙ sym (h.0).whole;
@@ -241,5 +242,5 @@ module _ (p : Parts) (tests : List Test) (models : List NamedModel) (o : AreOrde
   pub parts_kept : AreKept p tests models
   parts_kept = record {
     kept = kept;
-    may_keep = λ n h. rw (used_test p.table n h) (owned n.kind n.of (origin here (kept.models_apart) (kept.read) p.table.slots.items (kept.built).slots n.kind n.of (used_slot p.table n h)));
+    may_keep = λ n h. rw (used_test p.table n h) (owned n.kind n.of (origin here (kept.models_apart) (kept.read) (histories (state_of p tests)) p.table.slots.items (kept.built).slots n.kind n.of (used_slot p.table n h)));
   }

@@ -28,7 +28,7 @@ use Rattle.edited_parts.specs.Readings.{reading_by, reading_of, readings_of}
 use Rattle.bench_laws.specs.Cells.{HaveSameCells, KeepsStamp, IsTestLeft, IsLeftFor, LeavesCell}
 use Rattle.bench_laws.specs.Left.{IsOrderlyEdit, CellRows, IsCellOf, IsSameCondition, IsSameFor, IsSameCell, IsLeft, reading_in}
 use Rattle.bench_laws.proofs.Kept.{parts_kept}
-use Rattle.bench_laws.proofs.Faults.{items_left, faults_left}
+use Rattle.bench_laws.proofs.Faults.{items_left, faults_left, names_left}
 use Rattle.bench_laws.proofs.ModelNumbers.{numbered_at, model_kept}
 use Rattle.bench_laws.proofs.TestEntries.{IsEntry, IsFound, find_entry, found_by_number, entry_names, part_alike}
 use Rattle.bench_laws.proofs.TestsLeft.{IsEntryKept, test_kept, space_alike}
@@ -143,6 +143,7 @@ module _ (p q : Parts) (tests : List Test) (models : List NamedModel) (r : Repla
       is_there = reading_there q.table.models.items (models_with r models) is.of b.model_row b.model is.model_row_is is.model_is;
       same = subst (λ (n : ℕ). HaveSameCells (reading_in a) (reading_by n b.model.numbers.items b.model.reading)) (sym model_id) same.reads;
       items = items_left p q tests models r number e o.edit;
+      names = names_left p q tests models r number e o.edit;
       faults = faults_left p q tests models r number e o.edit;
       has_test = ap (has_test q.table.tests.items) after_id ∙ found_after.is_there;
       test_left = left_for a.model_row.id a.model.numbers.items a.model.reading same.said;

@@ -1,3 +1,4 @@
+pub mod NamesOnce
 pub mod Nodes
 pub mod Origin
 pub mod Scratch

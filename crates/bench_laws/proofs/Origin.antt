@@ -32,9 +32,9 @@ verdict_inputs (Faulty id fault) = slots.Test 2 ∷ slots.Fault id ∷ []
 
 -- ---- what holds of the space, of items and of verdicts holds of each slot
 
-module _ (P : Kind → ℕ → List SlotKey → Type 0) (models : List ModelReading)
+module _ (histories : ℕ → List (List ℕ)) (P : Kind → ℕ → List SlotKey → Type 0) (models : List ModelReading)
     (space : (id : ℕ) (numbers : List ℕ) (items : List ResolvedItem) (used : List ℕ) → Has models (Sound id numbers items used) → P kinds.Space 0 [])
-    (item : (id : ℕ) (numbers : List ℕ) (items : List ResolvedItem) (used : List ℕ) → Has models (Sound id numbers items used) → (i : ℕ) (r : ResolvedItem) (kind : Kind) → Has used i → slice_get items i ≡ Some r → HasKind r.role kind → P kind (number_at numbers i) (item_keys numbers (number_at numbers i) r))
+    (item : (id : ℕ) (numbers : List ℕ) (items : List ResolvedItem) (used : List ℕ) → Has models (Sound id numbers items used) → (i : ℕ) (r : ResolvedItem) (kind : Kind) → Has used i → slice_get items i ≡ Some r → HasKind r.role kind → P kind (number_at numbers i) (item_keys histories numbers items (number_at numbers i) r))
     (verdict : (m : ModelReading) → Has models m → P kinds.Verdict (id_in m) (verdict_inputs m)) where
   abbrev All : List PlainSlot → Type 0
   All ss = Each (λ p. P p.kind p.of p.inputs) ss
@@ -45,34 +45,34 @@ module _ (P : Kind → ℕ → List SlotKey → Type 0) (models : List ModelRead
   role_slots roles.Silent own keys h = tt
 
   module _ (id : ℕ) (numbers : List ℕ) (items : List ResolvedItem) (used : List ℕ) (there : Has models (Sound id numbers items used)) where
-    one_item : (i : ℕ) → Has used i → (o : Option ResolvedItem) → slice_get items i ≡ o → All (item_slots numbers (number_at numbers i) o)
+    one_item : (i : ℕ) → Has used i → (o : Option ResolvedItem) → slice_get items i ≡ o → All (item_slots histories numbers items (number_at numbers i) o)
     one_item i inside None e = tt
-    one_item i inside (Some r) e = role_slots r.role (number_at numbers i) (item_keys numbers (number_at numbers i) r) (λ kind k. item id numbers items used there i r kind inside e k)
+    one_item i inside (Some r) e = role_slots r.role (number_at numbers i) (item_keys histories numbers items (number_at numbers i) r) (λ kind k. item id numbers items used there i r kind inside e k)
 
-    items_slots : (is : List ℕ) → ((i : ℕ) → Has is i → Has used i) → All (used_slots numbers items is)
+    items_slots : (is : List ℕ) → ((i : ℕ) → Has is i → Has used i) → All (used_slots histories numbers items is)
     items_slots [] inside = tt
     items_slots (i ∷ is) inside =
-        each_append (λ p. P p.kind p.of p.inputs) (item_slots numbers (number_at numbers i) (slice_get items i)) (used_slots numbers items is)
+        each_append (λ p. P p.kind p.of p.inputs) (item_slots histories numbers items (number_at numbers i) (slice_get items i)) (used_slots histories numbers items is)
         (one_item i (inside i (inl refl)) (slice_get items i) refl) (items_slots is (λ k h. inside k (inr h)))
 
-  model_slots : (m : ModelReading) → Has models m → All (slots_in m)
+  model_slots : (m : ModelReading) → Has models m → All (slots_in histories m)
   model_slots (Sound id numbers items used) there =
       let v : PlainSlot = record { kind = kinds.Verdict; of = id; inputs = verdict_keys numbers items used } in
-      each_append (λ p. P p.kind p.of p.inputs) (used_slots numbers items used) (v ∷ [])
+      each_append (λ p. P p.kind p.of p.inputs) (used_slots histories numbers items used) (v ∷ [])
       (items_slots id numbers items used there used (λ i h. h)) (verdict (Sound id numbers items used) there, tt)
   model_slots (Faulty id fault) there = (verdict (Faulty id fault) there, tt)
 
-  models_slots : (ms : List ModelReading) → ((m : ModelReading) → Has ms m → Has models m) → All (flat_map slots_in ms)
+  models_slots : (ms : List ModelReading) → ((m : ModelReading) → Has ms m → Has models m) → All (flat_map (slots_in histories) ms)
   models_slots [] inside = tt
-  models_slots (m ∷ ms) inside = each_append (λ p. P p.kind p.of p.inputs) (slots_in m) (flat_map slots_in ms) (model_slots m (inside m (inl refl))) (models_slots ms (λ n h. inside n (inr h)))
+  models_slots (m ∷ ms) inside = each_append (λ p. P p.kind p.of p.inputs) (slots_in histories m) (flat_map (slots_in histories) ms) (model_slots m (inside m (inl refl))) (models_slots ms (λ n h. inside n (inr h)))
 
   spaces : (ms : List ModelReading) → ((m : ModelReading) → Has ms m → Has models m) → All (space_slots ms)
   spaces [] inside = tt
   spaces (Sound id numbers items used ∷ ms) inside = (space id numbers items used (inside (Sound id numbers items used) (inl refl)), tt)
   spaces (Faulty id fault ∷ ms) inside = spaces ms (λ n h. inside n (inr h))
 
-  pub slots_by : All (all_slots models)
-  slots_by = each_append (λ p. P p.kind p.of p.inputs) (space_slots models) (flat_map slots_in models) (spaces models (λ m h. h)) (models_slots models (λ m h. h))
+  pub slots_by : All (all_slots histories models)
+  slots_by = each_append (λ p. P p.kind p.of p.inputs) (space_slots models) (flat_map (slots_in histories) models) (spaces models (λ m h. h)) (models_slots models (λ m h. h))
 
 -- ---- numbers
 
@@ -129,15 +129,15 @@ module _ (models : List ModelReading) (apart : AllPairs AreOther models) (read :
       omega (arith, lt, many)
 
   -- the inputs of the item of that number
-  abbrev OfItem : ℕ → List SlotKey → Type 0
-  OfItem of keys =
-      (id : ℕ) (numbers : List ℕ) (items : List ResolvedItem) (used : List ℕ) → Has models (Sound id numbers items used) → (i : ℕ) (r : ResolvedItem) → Has used i → slice_get items i ≡ Some r → number_at numbers i ≡ of → keys ≡ item_keys numbers of r
+  abbrev OfItem : (ℕ → List (List ℕ)) → ℕ → List SlotKey → Type 0
+  OfItem histories of keys =
+      (id : ℕ) (numbers : List ℕ) (items : List ResolvedItem) (used : List ℕ) → Has models (Sound id numbers items used) → (i : ℕ) (r : ResolvedItem) → Has used i → slice_get items i ≡ Some r → number_at numbers i ≡ of → keys ≡ item_keys histories numbers items of r
 
-  abbrev IsOwn : Kind → ℕ → List SlotKey → Type 0
-  IsOwn kinds.Space of keys = Unit {0}
-  IsOwn kinds.Group of keys = OfItem of keys
-  IsOwn kinds.Check of keys = OfItem of keys
-  IsOwn kinds.Verdict of keys = (m : ModelReading) → Has models m → id_in m ≡ of → keys ≡ verdict_inputs m
+  abbrev IsOwn : (ℕ → List (List ℕ)) → Kind → ℕ → List SlotKey → Type 0
+  IsOwn histories kinds.Space of keys = Unit {0}
+  IsOwn histories kinds.Group of keys = OfItem histories of keys
+  IsOwn histories kinds.Check of keys = OfItem histories of keys
+  IsOwn histories kinds.Verdict of keys = (m : ModelReading) → Has models m → id_in m ≡ of → keys ≡ verdict_inputs m
 
   some_item : {a b : ResolvedItem} → Some a ≡ Some b → a ≡ b
   some_item e = cc
@@ -151,8 +151,8 @@ module _ (models : List ModelReading) (apart : AllPairs AreOther models) (read :
   same_used : (a b : ℕ) (c d : List ℕ) (e f : List ResolvedItem) (g h : List ℕ) → Sound a c e g ≡ Sound b d f h → g ≡ h
   same_used a b c d e f g h p = cc
 
-  of_item : (id : ℕ) (numbers : List ℕ) (items : List ResolvedItem) (used : List ℕ) → Has models (Sound id numbers items used) → (i : ℕ) (r : ResolvedItem) → Has used i → slice_get items i ≡ Some r → OfItem (number_at numbers i) (item_keys numbers (number_at numbers i) r)
-  of_item id numbers items used there i r inside found jd ms js us also j q within at e =
+  of_item : (histories : ℕ → List (List ℕ)) (id : ℕ) (numbers : List ℕ) (items : List ResolvedItem) (used : List ℕ) → Has models (Sound id numbers items used) → (i : ℕ) (r : ResolvedItem) → Has used i → slice_get items i ≡ Some r → OfItem histories (number_at numbers i) (item_keys histories numbers items (number_at numbers i) r)
+  of_item histories id numbers items used there i r inside found jd ms js us also j q within at e =
       let same = same_model models (Sound jd ms js us) (Sound id numbers items used) apart also there
       (λ o. o.numbers (number_at numbers i) (subst (Has ms) e (number_there ms j (index_within jd ms js us also j within))) (number_there numbers i (index_within id numbers items used there i inside))) in
       let n : ms ≡ numbers = same_numbers jd id ms numbers js items us used same in
@@ -162,21 +162,22 @@ module _ (models : List ModelReading) (apart : AllPairs AreOther models) (read :
       (index_within id numbers items used there j (subst (λ (l : List ℕ). Has l j) u within)) (index_within id numbers items used there i inside)
       (ap (λ (l : List ℕ). get_or l j 0) (sym n) ∙ e) in
       let one : r ≡ q = some_item (sym found ∙ ap (slice_get items) (sym index) ∙ ap (λ (l : List ResolvedItem). slice_get l j) (sym t) ∙ at) in
-      ap (item_keys numbers (number_at numbers i)) one ∙ ap (λ (l : List ℕ). item_keys l (number_at numbers i) q) (sym n)
+      ap (item_keys histories numbers items (number_at numbers i)) one ∙ ap (λ (l : List ℕ). item_keys histories l items (number_at numbers i) q) (sym n)
+      ∙ ap (λ (l : List ResolvedItem). item_keys histories ms l (number_at numbers i) q) (sym t)
 
-  own_item : (id : ℕ) (numbers : List ℕ) (items : List ResolvedItem) (used : List ℕ) → Has models (Sound id numbers items used) → (i : ℕ) (r : ResolvedItem) (kind : Kind) → Has used i → slice_get items i ≡ Some r → HasKind r.role kind → IsOwn kind (number_at numbers i) (item_keys numbers (number_at numbers i) r)
-  own_item id numbers items used there i r kind inside found has = by_role r.role has
+  own_item : (histories : ℕ → List (List ℕ)) (id : ℕ) (numbers : List ℕ) (items : List ResolvedItem) (used : List ℕ) → Has models (Sound id numbers items used) → (i : ℕ) (r : ResolvedItem) (kind : Kind) → Has used i → slice_get items i ≡ Some r → HasKind r.role kind → IsOwn histories kind (number_at numbers i) (item_keys histories numbers items (number_at numbers i) r)
+  own_item histories id numbers items used there i r kind inside found has = by_role r.role has
     where
-      of : OfItem (number_at numbers i) (item_keys numbers (number_at numbers i) r)
-      of = of_item id numbers items used there i r inside found
+      of : OfItem histories (number_at numbers i) (item_keys histories numbers items (number_at numbers i) r)
+      of = of_item histories id numbers items used there i r inside found
 
-      by_role : (role : Role) → HasKind role kind → IsOwn kind (number_at numbers i) (item_keys numbers (number_at numbers i) r)
-      by_role (roles.Group recursive bodies) e = subst (λ (k : Kind). IsOwn k (number_at numbers i) (item_keys numbers (number_at numbers i) r)) (sym e) of
-      by_role (roles.Check check) e = subst (λ (k : Kind). IsOwn k (number_at numbers i) (item_keys numbers (number_at numbers i) r)) (sym e) of
+      by_role : (role : Role) → HasKind role kind → IsOwn histories kind (number_at numbers i) (item_keys histories numbers items (number_at numbers i) r)
+      by_role (roles.Group recursive bodies) e = subst (λ (k : Kind). IsOwn histories k (number_at numbers i) (item_keys histories numbers items (number_at numbers i) r)) (sym e) of
+      by_role (roles.Check check) e = subst (λ (k : Kind). IsOwn histories k (number_at numbers i) (item_keys histories numbers items (number_at numbers i) r)) (sym e) of
       by_role roles.Silent e = absurd e
 
-  own_verdict : (m : ModelReading) → Has models m → IsOwn kinds.Verdict (id_in m) (verdict_inputs m)
-  own_verdict m there n also e = ap verdict_inputs (sym (same_model models n m apart also there (λ o. o.ids e)))
+  own_verdict : (histories : ℕ → List (List ℕ)) (m : ModelReading) → Has models m → IsOwn histories kinds.Verdict (id_in m) (verdict_inputs m)
+  own_verdict histories m there n also e = ap verdict_inputs (sym (same_model models n m apart also there (λ o. o.ids e)))
 
   -- ---- of which model and item a slot is
 
@@ -223,28 +224,29 @@ module _ (models : List ModelReading) (apart : AllPairs AreOther models) (read :
       by_role (roles.Check check) e = subst (λ (k : Kind). Origin k (number_at numbers i)) (sym e) (of_kind kinds.Check (subst (HasKind r.role) e has))
       by_role roles.Silent e = absurd e
 
-  module _ (ss : List Slot) (are : map plain ss ≡ all_slots models) where
+  module _ (histories : ℕ → List (List ℕ)) (ss : List Slot) (are : map plain ss ≡ all_slots histories models) where
     pub origin : (kind : Kind) (of : ℕ) → has_slot ss kind of ≡ true → Origin kind of
     origin kind of has = slot_inputs (λ k n keys. Origin k n) ss kind of
-        (subst (Each (λ p. Origin p.kind p.of)) (sym are) (slots_by (λ k n keys. Origin k n) models
+        (subst (Each (λ p. Origin p.kind p.of)) (sym are) (slots_by histories (λ k n keys. Origin k n) models
         (λ id numbers items used there. record { id = id; numbers = numbers; items = items; used = used; there = there; none = refl })
         item_origin (λ m there. record { model = m; there = there; number = refl }))) has
 
-    own : (kind : Kind) (of : ℕ) → has_slot ss kind of ≡ true → IsOwn kind of (slot_keys ss kind of)
-    own kind of has = slot_inputs IsOwn ss kind of (subst (Each (λ p. IsOwn p.kind p.of p.inputs)) (sym are) (slots_by IsOwn models (λ id numbers items used there. tt) own_item own_verdict)) has
+    own : (kind : Kind) (of : ℕ) → has_slot ss kind of ≡ true → IsOwn histories kind of (slot_keys ss kind of)
+    own kind of has =
+        slot_inputs (IsOwn histories) ss kind of (subst (Each (λ p. IsOwn histories p.kind p.of p.inputs)) (sym are) (slots_by histories (IsOwn histories) models (λ id numbers items used there. tt) (own_item histories) (own_verdict histories))) has
 
     -- ---- each slot is there
 
-    has_all : (kind : Kind) (of : ℕ) → has_plain (all_slots models) kind of ≡ true → has_slot ss kind of ≡ true
+    has_all : (kind : Kind) (of : ℕ) → has_plain (all_slots histories models) kind of ≡ true → has_slot ss kind of ≡ true
     has_all kind of h = has_slot_plain ss kind of ∙ ap (λ (ps : List PlainSlot). has_plain ps kind of) are ∙ h
 
-    model_there : (ms : List ModelReading) (m : ModelReading) (kind : Kind) (of : ℕ) → Has ms m → has_plain (slots_in m) kind of ≡ true → has_plain (flat_map slots_in ms) kind of ≡ true
+    model_there : (ms : List ModelReading) (m : ModelReading) (kind : Kind) (of : ℕ) → Has ms m → has_plain (slots_in histories m) kind of ≡ true → has_plain (flat_map (slots_in histories) ms) kind of ≡ true
     model_there [] m kind of there h = absurd there
-    model_there (n ∷ ms) m kind of (inl e) h = has_left (slots_in n) (flat_map slots_in ms) kind of (ap (λ (x : ModelReading). has_plain (slots_in x) kind of) e ∙ h)
-    model_there (n ∷ ms) m kind of (inr there) h = has_right (slots_in n) (flat_map slots_in ms) kind of (model_there ms m kind of there h)
+    model_there (n ∷ ms) m kind of (inl e) h = has_left (slots_in histories n) (flat_map (slots_in histories) ms) kind of (ap (λ (x : ModelReading). has_plain (slots_in histories x) kind of) e ∙ h)
+    model_there (n ∷ ms) m kind of (inr there) h = has_right (slots_in histories n) (flat_map (slots_in histories) ms) kind of (model_there ms m kind of there h)
 
-    slot_there : (m : ModelReading) (kind : Kind) (of : ℕ) → Has models m → has_plain (slots_in m) kind of ≡ true → has_slot ss kind of ≡ true
-    slot_there m kind of there h = has_all kind of (has_right (space_slots models) (flat_map slots_in models) kind of (model_there models m kind of there h))
+    slot_there : (m : ModelReading) (kind : Kind) (of : ℕ) → Has models m → has_plain (slots_in histories m) kind of ≡ true → has_slot ss kind of ≡ true
+    slot_there m kind of there h = has_all kind of (has_right (space_slots models) (flat_map (slots_in histories) models) kind of (model_there models m kind of there h))
 
     space_first : (ms : List ModelReading) (id : ℕ) (numbers : List ℕ) (items : List ResolvedItem) (used : List ℕ) → Has ms (Sound id numbers items used) → has_plain (space_slots ms) kinds.Space 0 ≡ true
     space_first [] id numbers items used there = absurd there
@@ -253,33 +255,33 @@ module _ (models : List ModelReading) (apart : AllPairs AreOther models) (read :
     space_first (Faulty jd fault ∷ ms) id numbers items used (inr there) = space_first ms id numbers items used there
 
     pub space_there : (id : ℕ) (numbers : List ℕ) (items : List ResolvedItem) (used : List ℕ) → Has models (Sound id numbers items used) → has_slot ss kinds.Space 0 ≡ true
-    space_there id numbers items used there = has_all kinds.Space 0 (has_left (space_slots models) (flat_map slots_in models) kinds.Space 0 (space_first models id numbers items used there))
+    space_there id numbers items used there = has_all kinds.Space 0 (has_left (space_slots models) (flat_map (slots_in histories) models) kinds.Space 0 (space_first models id numbers items used there))
 
     role_there : (role : Role) (own : ℕ) (keys : List SlotKey) (kind : Kind) → HasKind role kind → has_plain (slots_of role own keys) kind own ≡ true
     role_there (roles.Group recursive bodies) own keys kind e = rw e (rw (eq-eqb own own refl) refl)
     role_there (roles.Check check) own keys kind e = rw e (rw (eq-eqb own own refl) refl)
     role_there roles.Silent own keys kind e = absurd e
 
-    used_there : (numbers : List ℕ) (items : List ResolvedItem) (is : List ℕ) (i : ℕ) (r : ResolvedItem) (kind : Kind) → Has is i → slice_get items i ≡ Some r → HasKind r.role kind → has_plain (used_slots numbers items is) kind (number_at numbers i) ≡ true
+    used_there : (numbers : List ℕ) (items : List ResolvedItem) (is : List ℕ) (i : ℕ) (r : ResolvedItem) (kind : Kind) → Has is i → slice_get items i ≡ Some r → HasKind r.role kind → has_plain (used_slots histories numbers items is) kind (number_at numbers i) ≡ true
     used_there numbers items [] i r kind inside found k = absurd inside
     used_there numbers items (j ∷ is) i r kind (inl e) found k =
-        has_left (item_slots numbers (number_at numbers j) (slice_get items j)) (used_slots numbers items is) kind (number_at numbers i)
-        (subst (λ (n : ℕ). has_plain (item_slots numbers (number_at numbers n) (slice_get items n)) kind (number_at numbers i) ≡ true) (sym e)
-        (ap (λ (o : Option ResolvedItem). has_plain (item_slots numbers (number_at numbers i) o) kind (number_at numbers i)) found
-        ∙ role_there r.role (number_at numbers i) (item_keys numbers (number_at numbers i) r) kind k))
+        has_left (item_slots histories numbers items (number_at numbers j) (slice_get items j)) (used_slots histories numbers items is) kind (number_at numbers i)
+        (subst (λ (n : ℕ). has_plain (item_slots histories numbers items (number_at numbers n) (slice_get items n)) kind (number_at numbers i) ≡ true) (sym e)
+        (ap (λ (o : Option ResolvedItem). has_plain (item_slots histories numbers items (number_at numbers i) o) kind (number_at numbers i)) found
+        ∙ role_there r.role (number_at numbers i) (item_keys histories numbers items (number_at numbers i) r) kind k))
     used_there numbers items (j ∷ is) i r kind (inr inside) found k =
-        has_right (item_slots numbers (number_at numbers j) (slice_get items j)) (used_slots numbers items is) kind (number_at numbers i) (used_there numbers items is i r kind inside found k)
+        has_right (item_slots histories numbers items (number_at numbers j) (slice_get items j)) (used_slots histories numbers items is) kind (number_at numbers i) (used_there numbers items is i r kind inside found k)
 
     pub item_there : (id : ℕ) (numbers : List ℕ) (items : List ResolvedItem) (used : List ℕ) → Has models (Sound id numbers items used) → (i : ℕ) (r : ResolvedItem) (kind : Kind) → Has used i → slice_get items i ≡ Some r → HasKind r.role kind → has_slot ss kind (number_at numbers i) ≡ true
     item_there id numbers items used there i r kind inside found k =
         let v : PlainSlot = record { kind = kinds.Verdict; of = id; inputs = verdict_keys numbers items used } in
         slot_there (Sound id numbers items used) kind (number_at numbers i) there
-        (has_left (used_slots numbers items used) (v ∷ []) kind (number_at numbers i) (used_there numbers items used i r kind inside found k))
+        (has_left (used_slots histories numbers items used) (v ∷ []) kind (number_at numbers i) (used_there numbers items used i r kind inside found k))
 
-    own_slot : (m : ModelReading) → has_plain (slots_in m) kinds.Verdict (id_in m) ≡ true
+    own_slot : (m : ModelReading) → has_plain (slots_in histories m) kinds.Verdict (id_in m) ≡ true
     own_slot (Sound id numbers items used) =
         let v : PlainSlot = record { kind = kinds.Verdict; of = id; inputs = verdict_keys numbers items used } in
-        has_right (used_slots numbers items used) (v ∷ []) kinds.Verdict id (rw (eq-eqb id id refl) refl)
+        has_right (used_slots histories numbers items used) (v ∷ []) kinds.Verdict id (rw (eq-eqb id id refl) refl)
     own_slot (Faulty id fault) = rw (eq-eqb id id refl) refl
 
     pub verdict_there : (m : ModelReading) → Has models m → has_slot ss kinds.Verdict (id_in m) ≡ true
@@ -290,10 +292,10 @@ module _ (models : List ModelReading) (apart : AllPairs AreOther models) (read :
     pub verdict_keys_are : (m : ModelReading) → Has models m → slot_keys ss kinds.Verdict (id_in m) ≡ verdict_inputs m
     verdict_keys_are m there = own kinds.Verdict (id_in m) (verdict_there m there) m there refl
 
-    pub item_keys_are : (id : ℕ) (numbers : List ℕ) (items : List ResolvedItem) (used : List ℕ) → Has models (Sound id numbers items used) → (i : ℕ) (r : ResolvedItem) (kind : Kind) → Has used i → slice_get items i ≡ Some r → HasKind r.role kind → slot_keys ss kind (number_at numbers i) ≡ item_keys numbers (number_at numbers i) r
+    pub item_keys_are : (id : ℕ) (numbers : List ℕ) (items : List ResolvedItem) (used : List ℕ) → Has models (Sound id numbers items used) → (i : ℕ) (r : ResolvedItem) (kind : Kind) → Has used i → slice_get items i ≡ Some r → HasKind r.role kind → slot_keys ss kind (number_at numbers i) ≡ item_keys histories numbers items (number_at numbers i) r
     item_keys_are id numbers items used there i r kind inside found k = by_role r.role k (item_there id numbers items used there i r kind inside found k)
       where
-        by_role : (role : Role) → HasKind role kind → has_slot ss kind (number_at numbers i) ≡ true → slot_keys ss kind (number_at numbers i) ≡ item_keys numbers (number_at numbers i) r
+        by_role : (role : Role) → HasKind role kind → has_slot ss kind (number_at numbers i) ≡ true → slot_keys ss kind (number_at numbers i) ≡ item_keys histories numbers items (number_at numbers i) r
         by_role (roles.Group recursive bodies) e has =
             ap (λ (x : Kind). slot_keys ss x (number_at numbers i)) e
             ∙ own kinds.Group (number_at numbers i) (subst (λ (x : Kind). has_slot ss x (number_at numbers i) ≡ true) e has) id numbers items used there i r inside found refl

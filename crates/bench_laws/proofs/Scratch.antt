@@ -1,5 +1,5 @@
 -- A settled verdict of a cell holds what evaluating from nothing gives.
-use Rattle.std.proofs.Common.{ℕ, ◌≡◌, true, List, [], ◌∷◌, Option, Some, refl, sym, ap, ◌∙◌, subst}
+use Rattle.std.proofs.Common.{ℕ, ◌≡◌, true, List, [], ◌∷◌, Option, Some, zip, refl, sym, ap, ◌∙◌, subst}
 use Rattle.litmus_values.specs.declared.test.Test.{Test}
 use Rattle.cat_values.specs.declared.model.ModelText.{ModelText}
 use Rattle.memo_core.specs.declared.keys.Key.{Key}
@@ -14,12 +14,12 @@ use Rattle.binding_graph.specs.declared.resolved.ResolvedItem.{ResolvedItem}
 use Rattle.bench_nodes.specs.declared.table.TestRow.{TestRow}
 use Rattle.verdict.specs.declared.answer.Outcome.{Outcome}
 use Rattle.node_values.specs.Givens.{VerdictPartsContent, FaultPartsContent, GivenContent, ForVerdict, ForFault}
-use Rattle.node_values.specs.Makes.{Makes}
+use Rattle.node_values.specs.Makes.{Makes, output_names}
 use Rattle.node_values.specs.Values.{NodeContent, OfOutcome, outcome_in}
 use Rattle.memo_graph.specs.FromScratch.{IsFaultOf, IsFaultless, AreItemsOf, IsFromScratch}
 use Rattle.model_slots.specs.Tables.{ModelReading, Sound, Faulty}
-use Rattle.stamped_parts.specs.Contents.{State}
-use Rattle.stamped_parts.specs.States.{net_in, makes, numbered}
+use Rattle.stamped_parts.specs.Contents.{State, histories}
+use Rattle.stamped_parts.specs.States.{net_in, makes}
 use Rattle.cells.specs.Cells as cells
 use Rattle.cells.specs.Cells.{SolvedIsFromScratch}
 use Rattle.cell_laws.specs.Settled.{IsNode, AreSolved}
@@ -29,8 +29,9 @@ use Rattle.bench_laws.proofs.Nodes.{verdict_used, fault_is_node, are_nodes}
 
 -- ---- the outcome that a solved verdict holds
 
-abbrev HoldsOutcome : List NodeContent → Type 0
-HoldsOutcome vs = (o : Outcome) × (vs ≡ OfOutcome o ∷ [])
+-- one outcome, which goes by 0
+abbrev HoldsOutcome : GivenContent → List NodeContent → Type 0
+HoldsOutcome g vs = (o : Outcome) × (vs ≡ OfOutcome o ∷ []) × (output_names g ≡ 0 ∷ [])
 
 abbrev Pair : Type 0
 Pair = ℕ × NodeContent
@@ -41,7 +42,7 @@ head_is p q ps qs e = cc
 none_some : (p : Pair) (ps : List Pair) → ◌≡◌ {A = List Pair} [] (p ∷ ps) → ⊥
 none_some p ps e = cc
 
-first_output : (os : List (Made NodeContent)) (v : NodeContent) → named_values os ≡ numbered 0 (v ∷ []) → (stamp : ℕ) × (output_at 0 os ≡ Some (stamp, v))
+first_output : (os : List (Made NodeContent)) (v : NodeContent) → named_values os ≡ (0, v) ∷ [] → (stamp : ℕ) × (output_at 0 os ≡ Some (stamp, v))
 first_output [] v e = absurd (none_some (0, v) [] e)
 first_output (o ∷ os) v e =
     let first = head_is (o.name, o.value) (0, v) (named_values os) [] e in
@@ -50,20 +51,20 @@ first_output (o ∷ os) v e =
     (o.stamp, rw name (ap (λ (w : NodeContent). let q : Option (ℕ × NodeContent) = Some (o.stamp, w) in q) value))
 
 module _ (net : Net GivenContent) (memos : List (Memo NodeContent)) (n : Node) where
-  carried : core.IsSolved makes net memos n → ((g : GivenContent) (values outputs : List NodeContent) → net.gives n g ≡ true → Makes g values outputs → HoldsOutcome outputs) → (o : Outcome) × (stamp : ℕ) × (at memos (Output n 0) ≡ Some (stamp, OfOutcome o))
+  carried : core.IsSolved makes net memos n → ((g : GivenContent) (values outputs : List NodeContent) → net.gives n g ≡ true → Makes g values outputs → HoldsOutcome g outputs) → (o : Outcome) × (stamp : ℕ) × (at memos (Output n 0) ≡ Some (stamp, OfOutcome o))
   carried s gives =
       let made = s.made.made in
       let outcome = gives s.made.given s.values made.0 s.made.gives made.1 in
-      let first = first_output s.memo.outputs (OfOutcome outcome.0) (made.2 ∙ ap (numbered 0) outcome.1) in
+      let first = first_output s.memo.outputs (OfOutcome outcome.0) (made.2 ∙ ap (zip (output_names s.made.given)) outcome.1 ∙ ap (λ (ns : List ℕ). zip ns (OfOutcome outcome.0 ∷ [])) outcome.2) in
       (outcome.0, first.0, ap (stored_at 0) s.found ∙ first.1)
 
-  verdict_holds : (parts : VerdictPartsContent) (uses : List Key) → IsNode net n (ForVerdict parts) uses → (g : GivenContent) (values outputs : List NodeContent) → net.gives n g ≡ true → Makes g values outputs → HoldsOutcome outputs
+  verdict_holds : (parts : VerdictPartsContent) (uses : List Key) → IsNode net n (ForVerdict parts) uses → (g : GivenContent) (values outputs : List NodeContent) → net.gives n g ≡ true → Makes g values outputs → HoldsOutcome g outputs
   verdict_holds parts uses is g values outputs gives made =
-      let h = subst (λ (x : GivenContent). Makes x values outputs) (is.given_is g gives) made in (h.0, h.1)
+      let h = subst (λ (x : GivenContent). Makes x values outputs) (is.given_is g gives) made in (h.0, h.1, ap output_names (is.given_is g gives))
 
-  fault_holds : (parts : FaultPartsContent) (uses : List Key) → IsNode net n (ForFault parts) uses → (g : GivenContent) (values outputs : List NodeContent) → net.gives n g ≡ true → Makes g values outputs → HoldsOutcome outputs
+  fault_holds : (parts : FaultPartsContent) (uses : List Key) → IsNode net n (ForFault parts) uses → (g : GivenContent) (values outputs : List NodeContent) → net.gives n g ≡ true → Makes g values outputs → HoldsOutcome g outputs
   fault_holds parts uses is g values outputs gives made =
-      let h = subst (λ (x : GivenContent). Makes x values outputs) (is.given_is g gives) made in (_, h)
+      let h = subst (λ (x : GivenContent). Makes x values outputs) (is.given_is g gives) made in (_, h, ap output_names (is.given_is g gives))
 
 some_node : {a b : Node} → Some a ≡ Some b → a ≡ b
 some_node e = cc
@@ -85,7 +86,7 @@ module _ (s : State) (models : List ModelReading) (kept : IsKept s models) (inde
             items = items;
             no_fault = none;
             of_model = of_model;
-            nodes = nodes_of row.id id numbers items;
+            nodes = nodes_of (histories s) row.id id numbers items;
             are_nodes = nodes;
             carries = record { used = is_used; settled = settled; stamp = c.1; first = c.2 };
           }),

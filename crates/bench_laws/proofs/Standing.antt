@@ -23,10 +23,10 @@ use Rattle.model_slots.proofs.Lists.{has_append, has_behind, has_map, has_contai
 use Rattle.slot_laws.specs.Closed.{NamesItem, AreClosed, LeadsByNames}
 use Rattle.slot_laws.proofs.Items.{resolved_closed}
 use Rattle.slot_laws.proofs.Reached.{name_reached, reached_by_names}
-use Rattle.stamped_parts.specs.Contents.{State}
+use Rattle.stamped_parts.specs.Contents.{State, histories}
 use Rattle.stamped_parts.specs.States.{net_in}
 use Rattle.cells.specs.Cells.{StandsOn}
-use Rattle.bench_laws.specs.Kept.{IsRead, id_in, IsKept, node_kind, item_node, space_node, verdict_node, IsUnderVerdict}
+use Rattle.bench_laws.specs.Kept.{IsRead, id_in, IsKept, node_kind, item_node, name_number, space_node, verdict_node, IsUnderVerdict}
 use Rattle.bench_laws.proofs.Origin.{HasKind, verdict_inputs, IsOfItem, IsOfSpace, IsOfVerdict, origin, item_keys_are, verdict_keys_are}
 
 -- ---- keys and nodes
@@ -58,11 +58,13 @@ name_of_item [] k h = absurd h
 name_of_item (n ∷ ns) k (inl e) = (n, inl refl, e)
 name_of_item (n ∷ ns) k (inr h) = let r = name_of_item ns k h in (r.0, inr r.1, r.2)
 
-pub space_among : (numbers : List ℕ) (own : ℕ) (r : ResolvedItem) → Has (item_keys numbers own r) space_key
-space_among numbers own r = has_behind (slots.Item own ∷ map (function_key numbers) r.functions.items) (space_key ∷ map (name_key numbers) r.inputs.items) space_key (inl refl)
+pub space_among : (histories : ℕ → List (List ℕ)) (numbers : List ℕ) (items : List ResolvedItem) (own : ℕ) (r : ResolvedItem) → Has (item_keys histories numbers items own r) space_key
+space_among histories numbers items own r =
+    has_behind (slots.Item own ∷ map (function_key numbers) r.functions.items) (space_key ∷ map (name_key histories numbers items) r.inputs.items) space_key (inl refl)
 
-pub name_among : (numbers : List ℕ) (own : ℕ) (r : ResolvedItem) (name : Input) → Has r.inputs.items name → Has (item_keys numbers own r) (name_key numbers name)
-name_among numbers own r name h = has_behind (slots.Item own ∷ map (function_key numbers) r.functions.items) (space_key ∷ map (name_key numbers) r.inputs.items) (name_key numbers name) (inr (has_map (name_key numbers) r.inputs.items name h))
+pub name_among : (histories : ℕ → List (List ℕ)) (numbers : List ℕ) (items : List ResolvedItem) (own : ℕ) (r : ResolvedItem) (name : Input) → Has r.inputs.items name → Has (item_keys histories numbers items own r) (name_key histories numbers items name)
+name_among histories numbers items own r name h =
+    has_behind (slots.Item own ∷ map (function_key numbers) r.functions.items) (space_key ∷ map (name_key histories numbers items) r.inputs.items) (name_key histories numbers items name) (inr (has_map (name_key histories numbers items) r.inputs.items name h))
 
 space_of_verdict : (numbers : List ℕ) (items : List ResolvedItem) (us : List ℕ) → Has (verdict_keys numbers items us) space_key
 space_of_verdict numbers items us = has_behind (slots.Test 2 ∷ slots.Test 3 ∷ keys_by flag_key numbers items us) (space_key ∷ keys_by answer_key numbers items us) space_key (inl refl)
@@ -122,7 +124,7 @@ module _ (s : State) (models : List ModelReading) (kept : IsKept s models) where
   verdict_uses : (test : ℕ) (m : ModelReading) → Has models m → (kind : Kind) (of name : ℕ) → Has (verdict_inputs m) (slots.Value kind of name) → Has (input_nodes ((net_in s).inputs (verdict_node test (id_in m)))) (record { kind = kind; test = test; of = of })
   verdict_uses test m there kind of name h =
       key_node test (slot_keys ss kinds.Verdict (id_in m)) kind of name
-      (subst (λ (ks : List SlotKey). Has ks (slots.Value kind of name)) (sym (verdict_keys_are models kept.models_apart kept.read ss kept.built.slots m there)) h)
+      (subst (λ (ks : List SlotKey). Has ks (slots.Value kind of name)) (sym (verdict_keys_are models kept.models_apart kept.read (histories s) ss kept.built.slots m there)) h)
 
   module _ (id : ℕ) (numbers : List ℕ) (items : List ResolvedItem) (us : List ℕ) (there : Has models (Sound id numbers items us)) where
     pub closed : AreClosed items
@@ -134,13 +136,13 @@ module _ (s : State) (models : List ModelReading) (kept : IsKept s models) where
     pub node_is : (test i : ℕ) (r : ResolvedItem) (kind : Kind) → slice_get items i ≡ Some r → HasKind r.role kind → item_node test numbers items i ≡ record { kind = kind; test = test; of = number_at numbers i }
     node_is test i r kind found k = rw (found, kind_of_role r.role kind k) refl
 
-    item_uses : (test i : ℕ) (r : ResolvedItem) (kind : Kind) → Has us i → slice_get items i ≡ Some r → HasKind r.role kind → (k : Kind) (of name : ℕ) → Has (item_keys numbers (number_at numbers i) r) (slots.Value k of name)
+    item_uses : (test i : ℕ) (r : ResolvedItem) (kind : Kind) → Has us i → slice_get items i ≡ Some r → HasKind r.role kind → (k : Kind) (of name : ℕ) → Has (item_keys (histories s) numbers items (number_at numbers i) r) (slots.Value k of name)
         → Has (input_nodes ((net_in s).inputs (record { kind = kind; test = test; of = number_at numbers i }))) (record { kind = k; test = test; of = of })
     item_uses test i r kind inside found is k of name h = by_role r.role is keys
       where
         keys : Has (input_nodes (keys_at test (slot_keys ss kind (number_at numbers i)))) (record { kind = k; test = test; of = of })
         keys = key_node test (slot_keys ss kind (number_at numbers i)) k of name
-            (subst (λ (ks : List SlotKey). Has ks (slots.Value k of name)) (sym (item_keys_are models kept.models_apart kept.read ss kept.built.slots id numbers items us there i r kind inside found is)) h)
+            (subst (λ (ks : List SlotKey). Has ks (slots.Value k of name)) (sym (item_keys_are models kept.models_apart kept.read (histories s) ss kept.built.slots id numbers items us there i r kind inside found is)) h)
 
         at_kind : (other : Kind) → (inputs_of s.parts.table other test (number_at numbers i) ≡ keys_at test (slot_keys ss other (number_at numbers i))) → kind ≡ other → Has (input_nodes (keys_at test (slot_keys ss kind (number_at numbers i)))) (record { kind = k; test = test; of = of }) → Has (input_nodes (inputs_of s.parts.table kind test (number_at numbers i))) (record { kind = k; test = test; of = of })
         at_kind other same e g =
@@ -168,10 +170,11 @@ module _ (s : State) (models : List ModelReading) (kept : IsKept s models) where
         let at : slice_get items c ≡ Some is.0 = ap (slice_get items) (sym name.2) ∙ is.1 in
         let group = named_kind is.0.role name.0.position is.2 in
         let next : StandsOn (net_in s) (record { kind = kinds.Group; test = test; of = number_at numbers c }) (item_node test numbers items b) = by_names test cs c b is.0 kinds.Group also at group h.1 in
-        let key : Has (item_keys numbers (number_at numbers a) r) (slots.Value kinds.Group (number_at numbers c) name.0.position) =
-        subst (λ (n : ℕ). Has (item_keys numbers (number_at numbers a) r) (slots.Value kinds.Group (number_at numbers n) name.0.position)) name.2 (name_among numbers (number_at numbers a) r name.0 name.1) in
+        let key : Has (item_keys (histories s) numbers items (number_at numbers a) r) (slots.Value kinds.Group (number_at numbers c) (name_number (histories s) numbers items name.0)) =
+        subst (λ (n : ℕ). Has (item_keys (histories s) numbers items (number_at numbers a) r) (slots.Value kinds.Group (number_at numbers n) (name_number (histories s) numbers items name.0))) name.2
+        (name_among (histories s) numbers items (number_at numbers a) r name.0 name.1) in
         stands_next (record { kind = kind; test = test; of = number_at numbers a }) (record { kind = kinds.Group; test = test; of = number_at numbers c }) (item_node test numbers items b)
-        (item_uses test a r kind inside found k kinds.Group (number_at numbers c) name.0.position key) next
+        (item_uses test a r kind inside found k kinds.Group (number_at numbers c) (name_number (histories s) numbers items name.0) key) next
       where
         some_item : {x y : ResolvedItem} → Some x ≡ Some y → x ≡ y
         some_item e = cc
@@ -219,10 +222,10 @@ module _ (s : State) (models : List ModelReading) (kept : IsKept s models) where
   }
 
   by_kind : (kind : Kind) (test of : ℕ) → has_slot ss kind of ≡ true → IsUnderVerdict s models (record { kind = kind; test = test; of = of })
-  by_kind kinds.Space test of has = space_needed test of (origin models kept.models_apart kept.read ss kept.built.slots kinds.Space of has)
-  by_kind kinds.Group test of has = of_item_needed kinds.Group test of (origin models kept.models_apart kept.read ss kept.built.slots kinds.Group of has)
-  by_kind kinds.Check test of has = of_item_needed kinds.Check test of (origin models kept.models_apart kept.read ss kept.built.slots kinds.Check of has)
-  by_kind kinds.Verdict test of has = verdict_needed test of (origin models kept.models_apart kept.read ss kept.built.slots kinds.Verdict of has)
+  by_kind kinds.Space test of has = space_needed test of (origin models kept.models_apart kept.read (histories s) ss kept.built.slots kinds.Space of has)
+  by_kind kinds.Group test of has = of_item_needed kinds.Group test of (origin models kept.models_apart kept.read (histories s) ss kept.built.slots kinds.Group of has)
+  by_kind kinds.Check test of has = of_item_needed kinds.Check test of (origin models kept.models_apart kept.read (histories s) ss kept.built.slots kinds.Check of has)
+  by_kind kinds.Verdict test of has = verdict_needed test of (origin models kept.models_apart kept.read (histories s) ss kept.built.slots kinds.Verdict of has)
 
 pub needed : (s : State) (models : List ModelReading) (n : Node) → IsKept s models → Has (used s.parts.table) n → IsUnderVerdict s models n
 needed s models n kept h = by_kind s models kept n.kind n.test n.of (used_slot s.parts.table n h)

@@ -20,14 +20,14 @@ use Rattle.bench_nodes.proofs.Laws.{used_by}
 use Rattle.model_slots.specs.Slots.{space_key}
 use Rattle.model_slots.specs.Tables.{ModelReading, Sound, Faulty}
 use Rattle.model_slots.proofs.Lists.{each_append, each_map, each_to, each_has}
-use Rattle.stamped_parts.specs.Built.{IsModelIn}
-use Rattle.stamped_parts.specs.Contents.{OfRole, OfFault, State, content}
+use Rattle.stamped_parts.specs.Built.{IsHeld, IsModelIn}
+use Rattle.stamped_parts.specs.Contents.{PartContent, OfRole, OfFault, State, histories, content}
 use Rattle.stamped_parts.specs.States.{keeps, net_in}
 use Rattle.bench_laws.specs.Kept.{IsKept, id_in, space_node, verdict_node}
 use Rattle.bench_laws.proofs.Origin.{verdict_keys_are, verdict_there}
-use Rattle.bench_laws.specs.Cells.{CellItem, cell_items, KeepsStamp, EqualPartsKeepStamps, IsTestLeft, LeavesCell}
+use Rattle.bench_laws.specs.Cells.{CellItem, cell_items, KeepsStamp, EqualPartsKeepStamps, EqualItemsKeepNames, IsTestLeft, LeavesCell}
 use Rattle.bench_laws.proofs.Stable.{IsCertain, nat_stable, untouched_stable}
-use Rattle.bench_laws.proofs.Items.{IsOfKind, used_key, keys_of, flag_keys, answer_keys, by_items, cell_keys, IsGroupAmong, IsCellIn, cell_in}
+use Rattle.bench_laws.proofs.Items.{IsOfKind, number_in, used_key, keys_of, flag_keys, answer_keys, by_items, cell_keys, IsGroupAmong, IsCellIn, cell_in}
 
 module _ (s t : State) (test : ℕ) where
   -- the part that an input names has its stamp of before
@@ -102,24 +102,46 @@ module _ (s t : State) (test : ℕ) where
 
     -- ---- items
 
-    module _ (id : ℕ) (cs : List (Option CellItem)) (was : IsCellIn s id cs) (is : IsCellIn t id cs) (items : EqualPartsKeepStamps s t 0) (may : (kind : Kind) (of : ℕ) → has_slot t.parts.table.slots.items kind of ≡ true → keeps t.parts (record { kind = kind; test = test; of = of }) ≡ true) where
-      own_left : (c : CellItem) → Has cs (Some c) → KeepsStamp s t 0 c.number
-      own_left c h = items c.number (OfRole c.role) (was.held c h) (is.held c h)
+    module _ (id : ℕ) (cs : List (Option CellItem)) (was : IsCellIn s id cs) (is : IsCellIn t id cs) (items : EqualPartsKeepStamps s t 0) (names : EqualItemsKeepNames s t) (may : (kind : Kind) (of : ℕ) → has_slot t.parts.table.slots.items kind of ≡ true → keeps t.parts (record { kind = kind; test = test; of = of }) ≡ true) where
+      -- an item that does the same before and after has one history
+      held_still : (of : ℕ) (role : RoleContent) (before : IsHeld s of role) → IsHeld t of role → content t 0 of ≡ Some (OfRole role before.0)
+      held_still of role before after = after.1 ∙ ap (λ (h : List (List ℕ)). Some (OfRole role h)) (names of role before.0 after.0 before.1 after.1)
 
-      both : (fs : List ℕ) → Each (λ f. content s 0 f ≡ Some (OfRole Silent)) fs → Each (λ f. content t 0 f ≡ Some (OfRole Silent)) fs → Each (λ f. KeepsStamp s t 0 f) fs
+      role_left : (of : ℕ) (role : RoleContent) → IsHeld s of role → IsHeld t of role → KeepsStamp s t 0 of
+      role_left of role before after = items of (OfRole role before.0) before.1 (held_still of role before after)
+
+      own_left : (c : CellItem) → Has cs (Some c) → KeepsStamp s t 0 c.number
+      own_left c h = role_left c.number c.role (was.held c h) (is.held c h)
+
+      both : (fs : List ℕ) → Each (λ f. IsHeld s f Silent) fs → Each (λ f. IsHeld t f Silent) fs → Each (λ f. KeepsStamp s t 0 f) fs
       both [] g h = tt
-      both (f ∷ fs) g h = (items f (OfRole Silent) g.0 h.0, both fs g.1 h.1)
+      both (f ∷ fs) g h = (role_left f Silent g.0 h.0, both fs g.1 h.1)
+
+      -- so names have the numbers that they had
+      group_still : (of : ℕ) → IsGroupAmong cs of → content t 0 of ≡ content s 0 of
+      group_still of g =
+          let before = was.held g.group g.there in
+          subst (λ (n : ℕ). content t 0 n ≡ content s 0 n) g.number (held_still g.group.number g.group.role before (is.held g.group g.there) ∙ sym before.1)
+
+      names_still : (ns : List (ℕ × ℕ)) → Each (λ n. IsGroupAmong cs n.0) ns → map (used_key (content t 0)) ns ≡ map (used_key (content s 0)) ns
+      names_still [] h = refl
+      names_still (n ∷ ns) h =
+          ap (λ (o : Option PartContent). slots.Value kinds.Group n.0 (number_in o n.1) ∷ map (used_key (content t 0)) ns) (group_still n.0 h.0)
+          ∙ ap (λ (l : List SlotKey). used_key (content s 0) n ∷ l) (names_still ns h.1)
+
+      keys_still : (c : CellItem) → Has cs (Some c) → keys_of (content t 0) c ≡ keys_of (content s 0) c
+      keys_still c h = ap (λ (l : List SlotKey). slots.Item c.number ∷ map slots.Item c.functions ++ space_key ∷ l) (names_still c.names (was.names c h))
 
       -- the texts among the inputs of an item
-      texts_left : (c : CellItem) → Has cs (Some c) → Each IsKeyLeft (keys_of c)
+      texts_left : (c : CellItem) → Has cs (Some c) → Each IsKeyLeft (keys_of (content s 0) c)
       texts_left c h = (
         own_left c h,
-        each_append IsKeyLeft (map slots.Item c.functions) (space_key ∷ map used_key c.names)
+        each_append IsKeyLeft (map slots.Item c.functions) (space_key ∷ map (used_key (content s 0)) c.names)
             (each_map slots.Item IsKeyLeft c.functions (both c.functions (was.functions c h) (is.functions c h)))
-            (tt, each_map used_key IsKeyLeft c.names (all_so c.names)),
+            (tt, each_map (used_key (content s 0)) IsKeyLeft c.names (all_so c.names)),
       )
         where
-          all_so : (ns : List (ℕ × ℕ)) → Each (λ n. IsKeyLeft (used_key n)) ns
+          all_so : (ns : List (ℕ × ℕ)) → Each (λ n. IsKeyLeft (used_key (content s 0) n)) ns
           all_so [] = tt
           all_so (n ∷ ns) = (tt, all_so ns)
 
@@ -131,14 +153,14 @@ module _ (s t : State) (test : ℕ) where
       item_untouched : (d : ℕ) (c : CellItem) (kind : Kind) → Has cs (Some c) → IsOfKind c.role kind → Untouched d (record { kind = kind; test = test; of = c.number })
       item_untouched zero c kind h of = tt
       item_untouched (suc d) c kind h of =
-          one_step d (record { kind = kind; test = test; of = c.number }) (keys_of c)
+          one_step d (record { kind = kind; test = test; of = c.number }) (keys_of (content s 0) c)
           (inputs_are s c.role kind c.number of ∙ ap (keys_at test) (was.item_keys c kind h of))
-          (inputs_are t c.role kind c.number of ∙ ap (keys_at test) (is.item_keys c kind h of))
+          (inputs_are t c.role kind c.number of ∙ ap (keys_at test) (is.item_keys c kind h of ∙ keys_still c h))
           (may kind c.number (is.has_item c kind h of)) (texts_left c h) (
             tt,
-            each_append (OfNode (Untouched d)) (map slots.Item c.functions) (space_key ∷ map used_key c.names)
+            each_append (OfNode (Untouched d)) (map slots.Item c.functions) (space_key ∷ map (used_key (content s 0)) c.names)
                 (each_map slots.Item (OfNode (Untouched d)) c.functions (none_among c.functions))
-                (space_untouched d (may kinds.Space 0 is.has_space), each_map used_key (OfNode (Untouched d)) c.names (each_to (λ n. IsGroupAmong cs n.0) (λ n. OfNode (Untouched d) (used_key n)) (λ n g. subst (λ (k : ℕ). Untouched d (record { kind = kinds.Group; test = test; of = k })) g.number (item_untouched d g.group kinds.Group g.there g.kind)) c.names (was.names c h))),
+                (space_untouched d (may kinds.Space 0 is.has_space), each_map (used_key (content s 0)) (OfNode (Untouched d)) c.names (each_to (λ n. IsGroupAmong cs n.0) (λ n. OfNode (Untouched d) (used_key (content s 0) n)) (λ n g. subst (λ (k : ℕ). Untouched d (record { kind = kinds.Group; test = test; of = k })) g.number (item_untouched d g.group kinds.Group g.there g.kind)) c.names (was.names c h))),
           )
         where
           none_among : (fs : List ℕ) → Each (λ f. OfNode (Untouched d) (slots.Item f)) fs
@@ -201,9 +223,9 @@ module _ (s t : State) (test : ℕ) where
   faulty_untouched before after id fault was is there also faults left may zero = tt
   faulty_untouched before after id fault was is there also faults left may (suc d) =
       one_step d (verdict_node test id) (slots.Test 2 ∷ slots.Fault id ∷ [])
-      (ap (keys_at test) (verdict_keys_are before was.models_apart was.read s.parts.table.slots.items was.built.slots (Faulty id fault) there))
-      (ap (keys_at test) (verdict_keys_are after is.models_apart is.read t.parts.table.slots.items is.built.slots (Faulty id fault) also))
-      (may kinds.Verdict id (verdict_there after is.models_apart is.read t.parts.table.slots.items is.built.slots (Faulty id fault) also))
+      (ap (keys_at test) (verdict_keys_are before was.models_apart was.read (histories s) s.parts.table.slots.items was.built.slots (Faulty id fault) there))
+      (ap (keys_at test) (verdict_keys_are after is.models_apart is.read (histories t) t.parts.table.slots.items is.built.slots (Faulty id fault) also))
+      (may kinds.Verdict id (verdict_there after is.models_apart is.read (histories t) t.parts.table.slots.items is.built.slots (Faulty id fault) also))
       (left, (faults id (OfFault fault) (each_has (IsModelIn s) before was.built.models_in (Faulty id fault) there) (each_has (IsModelIn t) after is.built.models_in (Faulty id fault) also), tt))
       (tt, (tt, tt))
 
@@ -219,7 +241,7 @@ module _ (s t : State) (before after : List ModelReading) (test : ℕ) where
     sound_untouched s t test h.test_left id (cell_items numbers items used)
         (cell_in s before h.kept_before id numbers items used h.was_there)
         (subst (IsCellIn t id) (sym h.same.1) (subst (λ (k : ℕ). IsCellIn t k (cell_items ns is us)) (sym h.same.0) (cell_in t after h.kept_after jd ns is us h.is_there)))
-        h.items (λ kind of has. h.may_keep (record { kind = kind; test = test; of = of }) (used_by t.parts.table (record { kind = kind; test = test; of = of }) h.has_test has)),
+        h.items h.names (λ kind of has. h.may_keep (record { kind = kind; test = test; of = of }) (used_by t.parts.table (record { kind = kind; test = test; of = of }) h.has_test has)),
   )
   by_readings (Sound id numbers items used) (Faulty jd fault) h = absurd h.same
   by_readings (Faulty id fault) (Sound jd ns is us) h = absurd h.same

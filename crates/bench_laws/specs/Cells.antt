@@ -10,7 +10,7 @@ use Rattle.node_values.specs.Items.{RoleContent, role_content}
 use Rattle.bench_nodes.specs.Nodes.{part_stamp, used, has_test, space_keys}
 use Rattle.model_slots.specs.Slots.{number_at}
 use Rattle.model_slots.specs.Tables.{ModelReading, Sound, Faulty}
-use Rattle.stamped_parts.specs.Contents.{PartContent, State, content}
+use Rattle.stamped_parts.specs.Contents.{PartContent, OfRole, State, content}
 use Rattle.stamped_parts.specs.States.{keeps, net_in}
 use Rattle.bench_laws.specs.Kept.{IsKept, id_in, verdict_node}
 
@@ -55,6 +55,11 @@ KeepsStamp s t part of = part_stamp t.parts.table part of ≡ part_stamp s.parts
 abbrev pub EqualPartsKeepStamps : State → State → ℕ → Type 0
 EqualPartsKeepStamps s t part = (of : ℕ) (c : PartContent) → content s part of ≡ Some c → content t part of ≡ Some c → KeepsStamp s t part of
 
+-- an item that does what it did has the history that it had
+abbrev pub EqualItemsKeepNames : State → State → Type 0
+EqualItemsKeepNames s t =
+    (of : ℕ) (role : RoleContent) (history names : List (List ℕ)) → content s 0 of ≡ Some (OfRole role history) → content t 0 of ≡ Some (OfRole role names) → names ≡ history
+
 -- the parts of the test have their stamps of before, and its space has the same inputs
 pub record IsTestLeft (s t : State) (test : ℕ) : Type 0 where
   pub stamps : (part : ℕ) → 1 < part → KeepsStamp s t part test
@@ -77,6 +82,7 @@ pub record LeavesCell (s t : State) (before after : List ModelReading) (m n : Mo
   pub is_there : Has after n
   pub same : HaveSameCells m n
   pub items : EqualPartsKeepStamps s t 0
+  pub names : EqualItemsKeepNames s t
   pub faults : EqualPartsKeepStamps s t 1
   pub has_test : has_test t.parts.table.tests.items test ≡ true
   pub test_left : IsLeftFor m s t test

@@ -8,14 +8,17 @@ use Rattle.memo_core.specs.declared.keys.Kind.{Kind}
 use Rattle.memo_core.specs.declared.keys.Kind.TheVariants as kinds
 use Rattle.memo_core.specs.declared.keys.Node.{Node}
 use Rattle.memo_core.specs.Step.{Has}
+use Rattle.binding_kinds.specs.declared.scope.Input.{Input}
 use Rattle.binding_kinds.specs.Value.{Clause}
+use Rattle.binding_kinds.specs.Faults.{HasNoFault}
 use Rattle.binding_graph.specs.declared.resolved.ResolvedItem.{ResolvedItem}
 use Rattle.binding_graph.specs.declared.resolved.Role.{Role}
 use Rattle.binding_graph.specs.declared.resolved.Role.TheVariants as roles
 use Rattle.binding_graph.specs.Reach.{AreReached}
 use Rattle.binding_graph.specs.Resolved.{AreResolved}
 use Rattle.bench_nodes.specs.declared.table.TestRow.{TestRow}
-use Rattle.model_slots.specs.Slots.{number_at}
+use Rattle.node_values.specs.Naming.{number_of}
+use Rattle.model_slots.specs.Slots.{number_at, input_name}
 use Rattle.model_slots.specs.Tables.{ModelReading, Sound, Faulty}
 use Rattle.slot_laws.specs.Closed.{predefined_names}
 use Rattle.stamped_parts.specs.Built.{IsBuilt}
@@ -26,8 +29,10 @@ use Rattle.cell_laws.specs.Settled.{CellNodes}
 
 -- ---- models
 
--- the items are those of the text, each with a number of its own, and these are the indexes of those that checks and flags reach
+-- the text has no fault; the items are those of it, each with a number of its own, and these are the indexes of those that checks
+-- and flags reach
 pub record IsReadFrom (clauses : List Clause) (numbers : List ℕ) (items : List ResolvedItem) (used : List ℕ) : Type 0 where
+  pub no_fault : HasNoFault [] predefined_names 0 clauses
   pub resolved : AreResolved [] [] predefined_names 0 clauses items
   pub reached : AreReached items used
   pub numbered : length numbers ≡ length items
@@ -90,9 +95,19 @@ space_node test = record { kind = kinds.Space; test = test; of = 0 }
 abbrev pub verdict_node : ℕ → ℕ → Node
 verdict_node test id = record { kind = kinds.Verdict; test = test; of = id }
 
--- the nodes of a test under a model without fault
-abbrev pub nodes_of : ℕ → ℕ → List ℕ → List ResolvedItem → CellNodes
-nodes_of test id numbers items = record { space = space_node test; item = item_node test numbers items; verdict = verdict_node test id }
+-- the number of a name that an item uses, in the history of the name's item
+abbrev pub name_number : (ℕ → List (List ℕ)) → List ℕ → List ResolvedItem → Input → ℕ
+name_number histories numbers items name = number_of (histories (number_at numbers name.item)) (input_name items name)
+
+-- the nodes of a test under a model without fault, where items have these histories
+abbrev pub nodes_of : (ℕ → List (List ℕ)) → ℕ → ℕ → List ℕ → List ResolvedItem → CellNodes
+nodes_of histories test id numbers items = record {
+  space = space_node test;
+  item = item_node test numbers items;
+  history = λ index. histories (number_at numbers index);
+  name = name_number histories numbers items;
+  verdict = verdict_node test id;
+}
 
 -- the verdict of the node's test under one of the models stands on the node
 pub record IsUnderVerdict (s : State) (models : List ModelReading) (n : Node) : Type 0 where

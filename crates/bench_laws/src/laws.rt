@@ -12,7 +12,7 @@ ghost use Rattle.node_values.specs.Givens.{ForFault, faulted};
 ghost use Rattle.node_values.specs.Values.{outcome_in};
 ghost use Rattle.memo_graph.specs.FromScratch.{IsFaultOf, IsFaultless, AreItemsOf, IsFromScratch};
 ghost use Rattle.model_slots.specs.Tables.{ModelReading, Sound, Faulty};
-ghost use Rattle.stamped_parts.specs.Contents.{State};
+ghost use Rattle.stamped_parts.specs.Contents.{State, histories};
 ghost use Rattle.stamped_parts.specs.States.{net_in, makes};
 ghost use Rattle.cells.specs.Cells.{SolvedIsFromScratch};
 ghost use Rattle.cell_laws.specs.Settled.{IsNode, AreNodesOf};
@@ -35,7 +35,7 @@ pub fn verdicts_are_used()
 
 /// Under a model without fault, the nodes of a test are those of the test and of the model's items.
 pub fn cells_have_their_nodes()
-    ensures { (s : State) (models : List ModelReading) → IsKept s models → (index : ℕ) (row : TestRow) (test : Test) → IsTestAt s index row test → (id : ℕ) (numbers : List ℕ) (items : List ResolvedItem) (used : List ℕ) → Has models (Sound id numbers items used) → AreNodesOf (net_in s) test items (nodes_of row.id id numbers items) }
+    ensures { (s : State) (models : List ModelReading) → IsKept s models → (index : ℕ) (row : TestRow) (test : Test) → IsTestAt s index row test → (id : ℕ) (numbers : List ℕ) (items : List ResolvedItem) (used : List ℕ) → Has models (Sound id numbers items used) → AreNodesOf (net_in s) test items (nodes_of (histories s) row.id id numbers items) }
 {}
 
 /// Under a model with a fault, the verdict of a test is given its condition and the fault.

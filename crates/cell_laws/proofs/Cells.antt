@@ -20,12 +20,12 @@ use Rattle.memo_core.specs.Right as core
 use Rattle.memo_graph.specs.FromScratch.{IsFaultless, AreItemsOf, IsFromScratch}
 use Rattle.node_values.specs.Givens.{GivenContent, asked, ForSpace, ForItem, ForVerdict}
 use Rattle.node_values.specs.Items.{role_content}
-use Rattle.node_values.specs.Makes.{Makes, refused}
+use Rattle.node_values.specs.Makes.{Makes, output_names, refused}
 use Rattle.node_values.specs.Values.{NodeContent, OfOutcome}
 use Rattle.node_laws.specs.Solved.{Table, IsValueOf, IsSolvedItem, Cell, IsSolved, is_node, flag_names, answers_in}
 use Rattle.node_laws.proofs.FromScratch.{solved_scratch, fault_scratch}
-use Rattle.cell_laws.specs.Settled.{CellNodes, check_keys, AreNodesOf, AreSolved, IsSettledCell, IsSettledFault}
-use Rattle.cell_laws.proofs.Held.{values_in, AreHeld, held_under, Holds, holds, used_held, output_there}
+use Rattle.cell_laws.specs.Settled.{CellNodes, check_keys, item_given, name_output, IsNumberOf, AreNodesOf, AreSolved, IsSettledCell, IsSettledFault}
+use Rattle.cell_laws.proofs.Held.{values_in, AreHeld, held_under, Holds, holds, used_held, output_there, one_once}
 use Rattle.cell_laws.proofs.Reached.{reached, itself}
 
 -- ---- lists
@@ -53,15 +53,27 @@ one_is : (v w : NodeContent) → ◌≡◌ {A = List NodeContent} (v ∷ []) (w 
 one_is v w e = cc
 
 -- a check gives one value
-check_gives : (role : Role) (values outputs : List NodeContent) → is_check role ≡ true → Makes (ForItem (role_content role)) values outputs → (v : NodeContent) × (outputs ≡ v ∷ [])
-check_gives (roles.Group recursive bodies) values outputs check made = absurd (let e : false ≡ true = check in cc)
-check_gives (roles.Check c) values outputs check made = (_, made.1)
-check_gives roles.Silent values outputs check made = absurd (let e : false ≡ true = check in cc)
+check_gives : (role : Role) (history : List (List ℕ)) (values outputs : List NodeContent) → is_check role ≡ true → Makes (ForItem (role_content role) history) values outputs → (v : NodeContent) × (outputs ≡ v ∷ [])
+check_gives (roles.Group recursive bodies) history values outputs check made = absurd (let e : false ≡ true = check in cc)
+check_gives (roles.Check c) history values outputs check made = (_, made.1)
+check_gives roles.Silent history values outputs check made = absurd (let e : false ≡ true = check in cc)
+
+-- its name is 0
+check_name : (role : Role) (history : List (List ℕ)) → is_check role ≡ true → slice_get (output_names (ForItem (role_content role) history)) 0 ≡ Some 0
+check_name (roles.Group recursive bodies) history check = absurd (let e : false ≡ true = check in cc)
+check_name (roles.Check c) history check = refl
+check_name roles.Silent history check = absurd (let e : false ≡ true = check in cc)
 
 check_is_node : (role : Role) → is_check role ≡ true → is_node role ≡ true
 check_is_node (roles.Group recursive bodies) h = refl
 check_is_node (roles.Check c) h = refl
 check_is_node roles.Silent h = h
+
+-- what has a named output is a node
+named_is_node : (role : Role) (history : List (List ℕ)) (place x : ℕ) → slice_get (output_names (ForItem (role_content role) history)) place ≡ Some x → is_node role ≡ true
+named_is_node (roles.Group recursive bodies) history place x h = refl
+named_is_node (roles.Check c) history place x h = refl
+named_is_node roles.Silent history place x h = absurd (none-some x h)
 
 module _ (net : Net GivenContent) (memos : List (Memo NodeContent)) (held : Node → Bool) (all : AreHeld net memos held) (test : Test) (items : List ResolvedItem) (nodes : CellNodes) (are : AreNodesOf net test items nodes) (verdict_held : held nodes.verdict ≡ true) where
   abbrev needed : ℕ → Bool
@@ -71,13 +83,13 @@ module _ (net : Net GivenContent) (memos : List (Memo NodeContent)) (held : Node
   table_over v = record { space = v; outputs = λ k. values_in memos (nodes.item k) }
 
   verdict_holds : Holds memos nodes.verdict (ForVerdict (asked test.condition test.observed.items (flag_names items))) (Output nodes.space 0 ∷ check_keys nodes 0 items)
-  verdict_holds = holds net memos held all nodes.verdict _ _ verdict_held are.verdict
+  verdict_holds = holds net memos held all nodes.verdict _ _ verdict_held are.verdict one_once
 
   verdict_uses : Each (λ m. held m ≡ true) (input_nodes (Output nodes.space 0 ∷ check_keys nodes 0 items))
   verdict_uses = used_held net memos held all nodes.verdict _ _ verdict_held are.verdict
 
   space_holds : Holds memos nodes.space (ForSpace are.parts) []
-  space_holds = holds net memos held all nodes.space _ _ verdict_uses.0 are.space
+  space_holds = holds net memos held all nodes.space _ _ verdict_uses.0 are.space one_once
 
   -- no value is used by the space
   no_values : (vs : List NodeContent) → core.ArePresent (at memos) [] vs → vs ≡ []
@@ -92,30 +104,40 @@ module _ (net : Net GivenContent) (memos : List (Memo NodeContent)) (held : Node
 
   -- a value of the space is that value
   space_is : (v : NodeContent) → ((s : ℕ) × (at memos (Output nodes.space 0) ≡ Some (s, v))) → v ≡ table.space
-  space_is v h = only_first (values_in memos nodes.space) space_made.0 v space_made.1 (output_there net memos held all nodes.space 0 h.0 v verdict_uses.0 h.1)
+  space_is v h = only_first (values_in memos nodes.space) space_made.0 v space_made.1 (output_there net memos held all nodes.space _ _ verdict_uses.0 are.space one_once 0 0 h.0 v refl h.1)
 
   -- ---- items
 
-  names_valued : (names : List Input) (values : List NodeContent) → Each (λ m. held m ≡ true) (input_nodes (map (λ name. Output (nodes.item name.item) name.position) names)) → core.ArePresent (at memos) (map (λ name. Output (nodes.item name.item) name.position) names) values → AllZip (IsValueOf table) names values
-  names_valued [] [] hs h = tt
-  names_valued [] (v ∷ vs) hs h = absurd h
-  names_valued (n ∷ ns) [] hs h = absurd h
-  names_valued (n ∷ ns) (v ∷ vs) hs h = (output_there net memos held all (nodes.item n.item) n.position h.0.0 v hs.0 h.0.1, names_valued ns vs hs.1 h.1)
+  -- the value of a name is that at its position among the outputs of its item
+  name_valued : (name : Input) (v : NodeContent) → are.is_used name.item ≡ true → IsNumberOf items nodes name → held (nodes.item name.item) ≡ true → ((s : ℕ) × (at memos (name_output nodes name) ≡ Some (s, v))) → IsValueOf table name v
+  name_valued name v used number is_held now =
+      let node = named_is_node number.0.role (nodes.history name.item) name.position (nodes.name name) number.2 in
+      output_there net memos held all (nodes.item name.item) _ _ is_held (are.item name.item number.0 used number.1 node) (are.once name.item number.0 used number.1 node) name.position (nodes.name name) now.0 v number.2 now.1
 
-  item_from : (index : ℕ) (r : ResolvedItem) (values : List NodeContent) → Each (λ m. held m ≡ true) (input_nodes (map (λ name. Output (nodes.item name.item) name.position) r.inputs.items)) → core.ArePresent (at memos) (Output nodes.space 0 ∷ map (λ name. Output (nodes.item name.item) name.position) r.inputs.items) values → Makes (ForItem (role_content r.role)) values (values_in memos (nodes.item index)) → IsSolvedItem table index r
-  item_from index r [] hs present made = absurd present
-  item_from index r (v ∷ vs) hs present made =
-      (vs, names_valued r.inputs.items vs hs present.1, subst (λ (w : NodeContent). Makes (ForItem (role_content r.role)) (w ∷ vs) (values_in memos (nodes.item index))) (space_is v present.0) made)
+  names_valued : (names : List Input) (values : List NodeContent) → Each (λ name. are.is_used name.item ≡ true) names → Each (IsNumberOf items nodes) names → Each (λ m. held m ≡ true) (input_nodes (map (name_output nodes) names)) → core.ArePresent (at memos) (map (name_output nodes) names) values → AllZip (IsValueOf table) names values
+  names_valued [] [] us ns hs h = tt
+  names_valued [] (v ∷ vs) us ns hs h = absurd h
+  names_valued (n ∷ names) [] us ns hs h = absurd h
+  names_valued (n ∷ names) (v ∷ vs) us ns hs h = (name_valued n v us.0 ns.0 hs.0 h.0, names_valued names vs us.1 ns.1 hs.1 h.1)
+
+  abbrev uses : ResolvedItem → List Key
+  uses r = Output nodes.space 0 ∷ map (name_output nodes) r.inputs.items
+
+  item_from : (index : ℕ) (r : ResolvedItem) (values : List NodeContent) → Each (λ name. are.is_used name.item ≡ true) r.inputs.items → Each (IsNumberOf items nodes) r.inputs.items → Each (λ m. held m ≡ true) (input_nodes (map (name_output nodes) r.inputs.items)) → core.ArePresent (at memos) (uses r) values
+      → Makes (item_given nodes index r) values (values_in memos (nodes.item index)) → IsSolvedItem table index r
+  item_from index r [] us ns hs present made = absurd present
+  item_from index r (v ∷ vs) us ns hs present made =
+      (vs, names_valued r.inputs.items vs us ns hs present.1, subst (λ (w : NodeContent). Makes (item_given nodes index r) (w ∷ vs) (values_in memos (nodes.item index))) (space_is v present.0) made)
 
   item_solved : (index : ℕ) (r : ResolvedItem) → needed index ≡ true → slice_get items index ≡ Some r → is_node r.role ≡ true → IsSolvedItem table index r
   item_solved index r needs found node =
       let used = first_of (are.is_used index) (held (nodes.item index)) needs in
       let is_held = second_of (are.is_used index) (held (nodes.item index)) needs in
       let is = are.item index r used found node in
-      let h = holds net memos held all (nodes.item index) _ _ is_held is in
-      item_from index r h.values (used_held net memos held all (nodes.item index) _ _ is_held is).1 h.present h.made
+      let h = holds net memos held all (nodes.item index) _ _ is_held is (are.once index r used found node) in
+      item_from index r h.values (are.names index r used found node) (are.numbers index r used found node) (used_held net memos held all (nodes.item index) _ _ is_held is).1 h.present h.made
 
-  names_needed : (names : List Input) → Each (λ name. are.is_used name.item ≡ true) names → Each (λ m. held m ≡ true) (input_nodes (map (λ name. Output (nodes.item name.item) name.position) names)) → Each (λ name. needed name.item ≡ true) names
+  names_needed : (names : List Input) → Each (λ name. are.is_used name.item ≡ true) names → Each (λ m. held m ≡ true) (input_nodes (map (name_output nodes) names)) → Each (λ name. needed name.item ≡ true) names
   names_needed [] us hs = tt
   names_needed (n ∷ ns) us hs = (both_of (are.is_used n.item) (held (nodes.item n.item)) us.0 hs.0, names_needed ns us.1 hs.1)
 
@@ -140,9 +162,13 @@ module _ (net : Net GivenContent) (memos : List (Memo NodeContent)) (held : Node
   check_value : (index : ℕ) (r : ResolvedItem) (v : NodeContent) → slice_get items index ≡ Some r → is_check r.role ≡ true → held (nodes.item index) ≡ true → ((s : ℕ) × (at memos (Output (nodes.item index) 0) ≡ Some (s, v))) → values_in memos (nodes.item index) ≡ v ∷ []
   check_value index r v found check is_held now =
       let used = are.checks index (r, found, check) in
-      let h = holds net memos held all (nodes.item index) _ _ is_held (are.item index r used found (check_is_node r.role check)) in
-      let gives = check_gives r.role h.values (values_in memos (nodes.item index)) check h.made in
-      let same = only_first (values_in memos (nodes.item index)) gives.0 v gives.1 (output_there net memos held all (nodes.item index) 0 now.0 v is_held now.1) in
+      let node = check_is_node r.role check in
+      let is = are.item index r used found node in
+      let once = are.once index r used found node in
+      let h = holds net memos held all (nodes.item index) _ _ is_held is once in
+      let gives = check_gives r.role (nodes.history index) h.values (values_in memos (nodes.item index)) check h.made in
+      let there = output_there net memos held all (nodes.item index) _ _ is_held is once 0 0 now.0 v (check_name r.role (nodes.history index) check) now.1 in
+      let same = only_first (values_in memos (nodes.item index)) gives.0 v gives.1 there in
       gives.1 ∙ ap (λ (w : NodeContent). w ∷ []) (sym same)
 
   -- the values of checks and flags that the verdict uses are their answers
@@ -205,7 +231,7 @@ module _ (net : Net GivenContent) (memos : List (Memo NodeContent)) (held : Node
   outcome_held : (o : Outcome) (stamp : ℕ) → at memos (Output nodes.verdict 0) ≡ Some (stamp, OfOutcome o) → values_in memos nodes.verdict ≡ OfOutcome o ∷ []
   outcome_held o stamp first =
       let made = verdict_holds.made in
-      let same = only_first (values_in memos nodes.verdict) (OfOutcome made.0) (OfOutcome o) made.1 (output_there net memos held all nodes.verdict 0 stamp (OfOutcome o) verdict_held first) in
+      let same = only_first (values_in memos nodes.verdict) (OfOutcome made.0) (OfOutcome o) made.1 (output_there net memos held all nodes.verdict _ _ verdict_held are.verdict one_once 0 0 stamp (OfOutcome o) refl first) in
       made.1 ∙ ap (λ (w : NodeContent). w ∷ []) (sym same)
 
   abbrev cell_with : Outcome → Cell
@@ -242,8 +268,8 @@ settled_fault_scratch net memos all test model o cell =
     let held = reached s.0 net cell.verdict in
     let are_held = held_under net memos all s.0 cell.verdict c.used s.1 in
     let own = itself net memos s.0 cell.verdict s.1 in
-    let h = holds net memos held are_held cell.verdict _ _ own cell.is_verdict in
-    let there = output_there net memos held are_held cell.verdict 0 c.stamp (OfOutcome o) own c.first in
+    let h = holds net memos held are_held cell.verdict _ _ own cell.is_verdict one_once in
+    let there = output_there net memos held are_held cell.verdict _ _ own cell.is_verdict one_once 0 0 c.stamp (OfOutcome o) refl c.first in
     let made : values_in memos cell.verdict ≡ OfOutcome (refused test.condition.quantifier (formula_of test.condition.proposition) (refusals.Model cell.fault)) ∷ [] = h.made in
     let same = only_first (values_in memos cell.verdict) (OfOutcome (refused test.condition.quantifier (formula_of test.condition.proposition) (refusals.Model cell.fault))) (OfOutcome o) made there in
     fault_scratch test model o (record { fault = cell.fault; of_model = cell.of_model; verdict = ap (λ (v : NodeContent). v ∷ []) same })

@@ -1,18 +1,20 @@
 -- What the nodes under a settled verdict hold.
-use Rattle.std.proofs.Common.{ℕ, ◌≡◌, List, [], ◌∷◌, Bool, true, Option, Some, None, slice_get, refl, sym, ap, ◌∙◌, subst, ◌+◌, arith}
+use Rattle.std.proofs.Common.{ℕ, ◌≡◌, zero, suc, List, [], ◌∷◌, Bool, true, Option, Some, None, slice_get, zip, refl, sym, ap, ◌∙◌, subst}
 use Rattle.std.specs.List.{AllByRecursion as Each}
+use Rattle.std.proofs.lemmas.Option.{none-some}
 use Rattle.memo_core.specs.declared.keys.Node.{Node}
 use Rattle.memo_core.specs.declared.keys.Key.{Key}
 use Rattle.memo_core.specs.declared.keys.Key.TheVariants.{Part, Output}
-use Rattle.memo_core.specs.Graph.{Memo, Net, at, memo_of, output_at, stored_at, input_nodes, IsSettledBy}
+use Rattle.memo_core.specs.Graph.{Memo, Net, at, memo_of, stored_at, named_values, input_nodes, IsSettledBy}
 use Rattle.memo_core.specs.Right as core
 use Rattle.memo_core.specs.Step.{Has}
 use Rattle.node_values.specs.Givens.{GivenContent}
-use Rattle.node_values.specs.Makes.{Makes}
+use Rattle.node_values.specs.Makes.{Makes, output_names}
 use Rattle.node_values.specs.Values.{NodeContent}
+use Rattle.node_values.proofs.Counting.{makes_many}
 use Rattle.stamped_parts.specs.States.{makes}
-use Rattle.cell_laws.specs.Settled.{outputs_of, IsNode, AreSolved}
-use Rattle.cell_laws.proofs.Named.{made_values, values_named, value_at}
+use Rattle.cell_laws.specs.Settled.{outputs_of, StandsOnce, IsNode, AreSolved}
+use Rattle.cell_laws.proofs.Named.{made_values, values_named, found_at}
 use Rattle.cell_laws.proofs.Reached.{reached, closed, stands}
 
 abbrev pub stored_values : Option (Memo NodeContent) → List NodeContent
@@ -58,25 +60,43 @@ pub record Holds (memos : List (Memo NodeContent)) (n : Node) (given : GivenCont
   pub made : Makes given values (values_in memos n)
 
 module _ (net : Net GivenContent) (memos : List (Memo NodeContent)) (held : Node → Bool) (all : AreHeld net memos held) where
-  values_are : (n : Node) (s : core.IsSolved makes net memos n) → values_in memos n ≡ s.made.made.0
-  values_are n s = ap stored_values s.found ∙ values_named s.memo.outputs s.made.made.0 0 s.made.made.2
+  module _ (n : Node) (given : GivenContent) (uses : List Key) (is_held : held n ≡ true) (is : IsNode net n given uses) (once : StandsOnce (output_names given)) where
+    solved : core.IsSolved makes net memos n
+    solved = all.solved n is_held
 
-  pub holds : (n : Node) (given : GivenContent) (uses : List Key) → held n ≡ true → IsNode net n given uses → Holds memos n given uses
-  holds n given uses is_held is =
-      let s = all.solved n is_held in
-      record {
-        values = s.values;
-        present = subst (λ (ks : List Key). core.ArePresent (at memos) ks s.values) is.uses_are (present_outputs (at memos) (net.inputs n) s.values s.present);
-        made = subst (λ (g : GivenContent). Makes g s.values (values_in memos n)) (is.given_is s.made.given s.made.gives) (subst (λ (vs : List NodeContent). Makes s.made.given s.values vs) (sym (values_are n s)) s.made.made.1);
-      }
+    same_given : solved.made.given ≡ given
+    same_given = is.given_is solved.made.given solved.made.gives
+
+    made_of : Makes given solved.values solved.made.made.0
+    made_of = subst (λ (g : GivenContent). Makes g solved.values solved.made.made.0) same_given solved.made.made.1
+
+    outputs_are : named_values solved.memo.outputs ≡ zip (output_names given) solved.made.made.0
+    outputs_are = solved.made.made.2 ∙ ap (λ (g : GivenContent). zip (output_names g) solved.made.made.0) same_given
+
+    values_are : values_in memos n ≡ solved.made.made.0
+    values_are = ap stored_values solved.found ∙ values_named solved.memo.outputs (output_names given) solved.made.made.0 (sym (makes_many given solved.values solved.made.made.0 made_of)) outputs_are
+
+    pub holds : Holds memos n given uses
+    holds = record {
+      values = solved.values;
+      present = subst (λ (ks : List Key). core.ArePresent (at memos) ks solved.values) is.uses_are (present_outputs (at memos) (net.inputs n) solved.values solved.present);
+      made = subst (λ (vs : List NodeContent). Makes given solved.values vs) (sym values_are) made_of;
+    }
+
+    -- the present value of an output is among what its node holds, at the place of its name
+    pub output_there : (place x s : ℕ) (v : NodeContent) → slice_get (output_names given) place ≡ Some x → at memos (Output n x) ≡ Some (s, v) → slice_get (values_in memos n) place ≡ Some v
+    output_there place x s v name now =
+        let found : stored_at x (Some solved.memo) ≡ Some (s, v) = subst (λ (m : Option (Memo NodeContent)). stored_at x m ≡ Some (s, v)) solved.found now in
+        let stands = found_at solved.memo.outputs (output_names given) solved.made.made.0 x s v outputs_are found in
+        let same : stands.0 ≡ place = once stands.0 place x stands.1 name in
+        subst (λ (k : ℕ). slice_get (values_in memos n) k ≡ Some v) same (ap (λ (vs : List NodeContent). slice_get vs stands.0) values_are ∙ stands.2)
 
   pub used_held : (n : Node) (given : GivenContent) (uses : List Key) → held n ≡ true → IsNode net n given uses → Each (λ m. held m ≡ true) (input_nodes uses)
   used_held n given uses is_held is = subst (λ (ks : List Key). Each (λ m. held m ≡ true) (input_nodes ks)) is.uses_are (subst (λ (ns : List Node). Each (λ m. held m ≡ true) ns) (sym (same_nodes (net.inputs n))) (all.closed n is_held))
 
-  -- the present value of an output is among what its node holds
-  pub output_there : (n : Node) (x s : ℕ) (v : NodeContent) → held n ≡ true → at memos (Output n x) ≡ Some (s, v) → slice_get (values_in memos n) x ≡ Some v
-  output_there n x s v is_held now =
-      let d = all.solved n is_held in
-      let at_start : x ≡ 0 + x = omega arith in
-      let found : stored_at x (Some d.memo) ≡ Some (s, v) = subst (λ (m : Option (Memo NodeContent)). stored_at x m ≡ Some (s, v)) d.found now in
-      subst (λ (vs : List NodeContent). slice_get vs x ≡ Some v) (sym (values_are n d)) (value_at d.memo.outputs d.made.made.0 0 x s v d.made.made.2 (subst (λ (k : ℕ). output_at k d.memo.outputs ≡ Some (s, v)) at_start found))
+-- ---- nodes of one output
+
+pub one_once : StandsOnce {A = ℕ} (0 ∷ [])
+one_once zero zero x at also = refl
+one_once zero (suc q) x at also = absurd (none-some x also)
+one_once (suc p) q x at also = absurd (none-some x at)

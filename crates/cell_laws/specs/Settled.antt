@@ -4,6 +4,7 @@ use Rattle.std.specs.List.{AllByRecursion as Each}
 use Rattle.litmus_values.specs.declared.test.Test.{Test}
 use Rattle.cat_values.specs.declared.model.ModelText.{ModelText}
 use Rattle.binding_kinds.specs.declared.fault.ModelFault.{ModelFault}
+use Rattle.binding_kinds.specs.declared.scope.Input.{Input}
 use Rattle.binding_graph.specs.declared.resolved.ResolvedItem.{ResolvedItem}
 use Rattle.binding_graph.specs.Reach.{is_check, IsCheckAt}
 use Rattle.verdict.specs.declared.answer.Outcome.{Outcome}
@@ -16,16 +17,19 @@ use Rattle.memo_core.specs.Right as core
 use Rattle.memo_core.specs.Step.{Has}
 use Rattle.node_values.specs.Givens.{GivenContent, asked, faulted, ForSpace, ForItem, ForVerdict, ForFault}
 use Rattle.node_values.specs.Items.{role_content}
+use Rattle.node_values.specs.Makes.{output_names}
 use Rattle.node_values.specs.Parts.{SpacePartsContent, HasParts}
 use Rattle.node_values.specs.Values.{NodeContent, OfOutcome}
 use Rattle.stamped_parts.specs.States.{makes}
 use Rattle.memo_graph.specs.FromScratch.{IsFaultOf, IsFaultless, AreItemsOf}
 use Rattle.node_laws.specs.Solved.{is_node, flag_names}
 
--- the nodes of a cell: of an item by its index
+-- the nodes of a cell: of an item by its index, with its history; and the number of a name that an item uses
 pub record CellNodes : Type 0 where
   pub space : Node
   pub item : ℕ → Node
+  pub history : ℕ → List (List ℕ)
+  pub name : Input → ℕ
   pub verdict : Node
 
 -- the outputs among some keys
@@ -44,6 +48,22 @@ abbrev pub check_keys : CellNodes → ℕ → List ResolvedItem → List Key
 check_keys nodes index [] = []
 check_keys nodes index (r ∷ rs) = (if is_check r.role then Output (nodes.item index) 0 ∷ [] else []) ++ check_keys nodes (suc index) rs
 
+-- no element stands twice
+abbrev pub StandsOnce : {A : Type 0} → List A → Type 0
+StandsOnce {A} xs = (p q : ℕ) (x : A) → slice_get xs p ≡ Some x → slice_get xs q ≡ Some x → p ≡ q
+
+-- what the node of an item is given: what the item does, and its history
+abbrev pub item_given : CellNodes → ℕ → ResolvedItem → GivenContent
+item_given nodes index r = ForItem (role_content r.role) (nodes.history index)
+
+abbrev pub name_output : CellNodes → Input → Key
+name_output nodes name = Output (nodes.item name.item) (nodes.name name)
+
+-- the number of the name is that of the output at the name's position
+abbrev pub IsNumberOf : List ResolvedItem → CellNodes → Input → Type 0
+IsNumberOf items nodes name =
+    (r : ResolvedItem) × (slice_get items name.item ≡ Some r) × (slice_get (output_names (item_given nodes name.item r)) name.position ≡ Some (nodes.name name))
+
 -- The nodes are those of the test under the items. Checks and flags are used, and with an item those whose names it uses;
 -- other items need no node.
 pub record AreNodesOf (net : Net GivenContent) (test : Test) (items : List ResolvedItem) (nodes : CellNodes) : Type 0 where
@@ -53,8 +73,10 @@ pub record AreNodesOf (net : Net GivenContent) (test : Test) (items : List Resol
   pub is_used : ℕ → Bool
   pub checks : (index : ℕ) → IsCheckAt items index → is_used index ≡ true
   pub names : (index : ℕ) (r : ResolvedItem) → is_used index ≡ true → slice_get items index ≡ Some r → is_node r.role ≡ true → Each (λ name. is_used name.item ≡ true) r.inputs.items
+  pub numbers : (index : ℕ) (r : ResolvedItem) → is_used index ≡ true → slice_get items index ≡ Some r → is_node r.role ≡ true → Each (IsNumberOf items nodes) r.inputs.items
+  pub once : (index : ℕ) (r : ResolvedItem) → is_used index ≡ true → slice_get items index ≡ Some r → is_node r.role ≡ true → StandsOnce (output_names (item_given nodes index r))
   pub item : (index : ℕ) (r : ResolvedItem) → is_used index ≡ true → slice_get items index ≡ Some r → is_node r.role ≡ true
-      → IsNode net (nodes.item index) (ForItem (role_content r.role)) (Output nodes.space 0 ∷ map (λ name. Output (nodes.item name.item) name.position) r.inputs.items)
+      → IsNode net (nodes.item index) (item_given nodes index r) (Output nodes.space 0 ∷ map (name_output nodes) r.inputs.items)
   pub verdict : IsNode net nodes.verdict (ForVerdict (asked test.condition test.observed.items (flag_names items))) (Output nodes.space 0 ∷ check_keys nodes 0 items)
 
 -- each settled node that cells use holds what is made of what its job is given now and of the present values of its present

@@ -7,16 +7,17 @@ use Rattle.binding_graph.specs.declared.resolved.ResolvedItem.{ResolvedItem}
 use Rattle.std.proofs.lemmas.Bool.Decides.{eqb_tells}
 use Rattle.memo_core.specs.declared.keys.Kind.{Kind}
 use Rattle.node_values.specs.declared.items.SharedItem.{SharedItem}
-use Rattle.node_values.specs.Items.{RoleContent, role_content, shared_role}
+use Rattle.node_values.specs.Items.{RoleContent, role_content, shared_role, shared_history}
+use Rattle.node_values.specs.Naming.{with_role_names}
 use Rattle.bench_nodes.specs.declared.table.ItemRow.{ItemRow}
 use Rattle.bench_nodes.specs.Nodes.{item_stamp}
 use Rattle.stamped_parts.specs.Built.{IsStamp, IsItemRow}
-use Rattle.stamped_parts.specs.Contents.{PartContent, OfRole, role_part, item_content}
+use Rattle.stamped_parts.specs.Contents.{PartContent, OfRole, role_part, item_content, part_history}
 use Rattle.edited_tables.specs.Laws.{IsLaterNumber, IsPartNow}
 use Rattle.edited_tables.specs.Stamps.{next_number, raised, IsStampOf}
 use Rattle.edited_tables.proofs.Stamping.{raised_low, part_now, stamp_now}
 use Rattle.edited_items.specs.Items.{ItemFact, fact_at, item_facts, held_after, IsItemOf, AreItemsOf, raised_item}
-use Rattle.edited_items.specs.Laws.{AreItemsAfter, AreApart, DoesWhatIsRead, AreItemsHeld}
+use Rattle.edited_items.specs.Laws.{AreItemsAfter, AreApart, HoldsRole, DoesWhatIsRead, AreItemsHeld}
 
 -- ---- the rows before
 
@@ -97,7 +98,9 @@ module _ (last number : ℕ) (rows : List ItemRow) (roles : List (Option SharedI
 
   row_now : (f : ItemFact) (row : ItemRow) (role : Option SharedItem) → IsItemOf (next_number last) rows roles f row role → IsItemRow number (raised_item last number row) role
   row_now f row None h = ap (raised last number) h.stamp ∙ raised_low last number 0 (omega arith)
-  row_now f row (Some r) h = stamp_now last number (item_stamp rows f.number) row.stamp (item_content rows roles f.number) (OfRole (shared_role r)) later (all_stamped last rows roles was f.number (OfRole (shared_role r))) h.stamp
+  row_now f row (Some r) h =
+      let now : PartContent = OfRole (shared_role r) (shared_history r) in
+      stamp_now last number (item_stamp rows f.number) row.stamp (item_content rows roles f.number) now later (all_stamped last rows roles was f.number now) h.stamp
 
   pub rows_now : (facts : List ItemFact) (before : List ItemRow) (does : List (Option SharedItem)) (kinds : List (Option Kind)) → AreItemsOf (next_number last) rows roles facts before does kinds
       → AllZip (IsItemRow number) (map (raised_item last number) before) does
@@ -128,9 +131,9 @@ items_are_stamped last number rows new roles does kinds facts a =
 
 -- ---- what items do
 
-does_read : (fresh : ℕ) (rows : List ItemRow) (roles : List (Option SharedItem)) (f : ItemFact) (row : ItemRow) (role : Option SharedItem) (c : RoleContent) → IsItemOf fresh rows roles f row role → f.role ≡ Some c → role_part role ≡ Some (OfRole c)
+does_read : (fresh : ℕ) (rows : List ItemRow) (roles : List (Option SharedItem)) (f : ItemFact) (row : ItemRow) (role : Option SharedItem) (c : RoleContent) → IsItemOf fresh rows roles f row role → f.role ≡ Some c → HoldsRole (role_part role) c
 does_read fresh rows roles f row role c h e =
-    h.role_is ∙ ap (λ (o : Option RoleContent). held_after o (item_content rows roles f.number)) e
+    (with_role_names (part_history (item_content rows roles f.number)) c, h.role_is ∙ ap (λ (o : Option RoleContent). held_after o (item_content rows roles f.number)) e)
 
 -- an item of another number stands in front
 behind : (row : ItemRow) (role : Option SharedItem) (rows : List ItemRow) (roles : List (Option SharedItem)) (fs : List ItemFact) → Each (λ g. row.number ≢ g.number) fs → Each (DoesWhatIsRead rows roles) fs → Each (DoesWhatIsRead (row ∷ rows) (role ∷ roles)) fs

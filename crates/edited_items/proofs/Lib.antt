@@ -1,3 +1,4 @@
 pub mod Rows
+pub mod Histories
 pub mod ItemRows
 pub mod ItemKinds

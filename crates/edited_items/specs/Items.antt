@@ -14,9 +14,10 @@ use Rattle.binding_graph.specs.declared.resolved.Resolved.{Resolved}
 use Rattle.binding_graph.specs.declared.resolved.ResolvedItem.{ResolvedItem}
 use Rattle.node_values.specs.declared.items.SharedItem.{SharedItem}
 use Rattle.node_values.specs.Items.{RoleContent, role_content}
+use Rattle.node_values.specs.Naming.{with_role_names}
 use Rattle.bench_nodes.specs.declared.table.ItemRow.{ItemRow}
 use Rattle.bench_nodes.specs.Nodes.{item_stamp}
-use Rattle.stamped_parts.specs.Contents.{PartContent, OfRole, role_part, item_content}
+use Rattle.stamped_parts.specs.Contents.{PartContent, OfRole, role_part, item_content, part_history}
 use Rattle.stamped_parts.specs.declared.parts.Parts.{Parts}
 use Rattle.edited_tables.specs.Stamps.{IsStampOf, raised}
 use Rattle.edited_items.specs.declared.items.ItemLists.{ItemLists}
@@ -67,10 +68,10 @@ facts_of_all models = flat_map facts_of models
 
 -- ---- rows
 
--- what the item does; under a fault what it did before
+-- what the item does, with the names that it has now behind those that it has had; under a fault what it did before
 abbrev pub held_after : Option RoleContent → Option PartContent → Option PartContent
 held_after None before = before
-held_after (Some role) before = Some (OfRole role)
+held_after (Some role) before = Some (OfRole role (with_role_names (part_history before) role))
 
 -- the row of an item, over the rows and roles before the edit
 pub record IsItemOf (fresh : ℕ) (rows : List ItemRow) (roles : List (Option SharedItem)) (fact : ItemFact) (row : ItemRow) (role : Option SharedItem) : Type 0 where

@@ -1,5 +1,5 @@
 -- LAWS of the rows of items after an edit: what `laws` states.
-use Rattle.std.specs.Prelude.{◌≡◌, true, ◌≢◌, ⊤, ℕ, ◌≤◌, List, [], ◌∷◌, length, map, get_or, slice_get, Option, Some, None}
+use Rattle.std.specs.Prelude.{◌≡◌, true, ◌≢◌, ⊤, ℕ, ◌≤◌, List, [], ◌∷◌, ◌++◌, length, map, get_or, slice_get, Option, Some, None}
 use Rattle.std.specs.List.{AllZip, AllByRecursion as Each}
 use Rattle.memo_core.specs.declared.keys.Kind.{Kind}
 use Rattle.memo_core.specs.declared.keys.Kind.TheVariants as kinds
@@ -46,14 +46,29 @@ EqualItemsKeepStamps =
     (last number : ℕ) (rows new : List ItemRow) (roles does : List (Option SharedItem)) (kinds : List (Option Kind)) (facts : List ItemFact) → AreItemsAfter last number rows roles facts new does kinds
     → (of : ℕ) (held : PartContent) → item_content rows roles of ≡ Some held → item_content new does of ≡ Some held → item_stamp new of ≡ item_stamp rows of
 
+-- what an item does goes on with its history, at the end of which alone names are added
+pub record GoesOn (before now : Option PartContent) : Type 0 where
+  pub grows : (role other : RoleContent) (history names : List (List ℕ)) → before ≡ Some (OfRole role history) → now ≡ Some (OfRole other names) → (more : List (List ℕ)) × (names ≡ history ++ more)
+  pub same : (role : RoleContent) (history names : List (List ℕ)) → before ≡ Some (OfRole role history) → now ≡ Some (OfRole role names) → names ≡ history
+
+-- each name keeps its number, and an item that does what it did has no new name
+abbrev pub HistoriesGoOn : Type 0
+HistoriesGoOn =
+    (last number : ℕ) (rows new : List ItemRow) (roles does : List (Option SharedItem)) (kinds : List (Option Kind)) (facts : List ItemFact) → AreItemsAfter last number rows roles facts new does kinds
+    → (of : ℕ) → GoesOn (item_content rows roles of) (item_content new does of)
+
 -- no two of the items have one number
 abbrev pub AreApart : List ItemFact → Type 0
 AreApart [] = ⊤
 AreApart (f ∷ fs) = Each (λ g. f.number ≢ g.number) fs × AreApart fs
 
+-- the part holds that the item does this, with some history
+abbrev pub HoldsRole : Option PartContent → RoleContent → Type 0
+HoldsRole part role = (history : List (List ℕ)) × (part ≡ Some (OfRole role history))
+
 -- the item does what is read of it
 abbrev pub DoesWhatIsRead : List ItemRow → List (Option SharedItem) → ItemFact → Type 0
-DoesWhatIsRead rows roles fact = (role : RoleContent) → fact.role ≡ Some role → item_content rows roles fact.number ≡ Some (OfRole role)
+DoesWhatIsRead rows roles fact = (role : RoleContent) → fact.role ≡ Some role → HoldsRole (item_content rows roles fact.number) role
 
 abbrev pub ItemsDoWhatIsRead : Type 0
 ItemsDoWhatIsRead =
@@ -73,7 +88,7 @@ ItemsStayInOrder =
 
 -- each item does what it is resolved to
 abbrev pub AreItemsHeld : List ItemRow → List (Option SharedItem) → List ℕ → List ResolvedItem → Type 0
-AreItemsHeld rows roles numbers items = (index : ℕ) (r : ResolvedItem) → slice_get items index ≡ Some r → item_content rows roles (get_or numbers index 0) ≡ Some (OfRole (role_content r.role))
+AreItemsHeld rows roles numbers items = (index : ℕ) (r : ResolvedItem) → slice_get items index ≡ Some r → HoldsRole (item_content rows roles (get_or numbers index 0)) (role_content r.role)
 
 abbrev pub ReadItemsAreHeld : Type 0
 ReadItemsAreHeld =

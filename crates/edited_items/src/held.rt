@@ -7,6 +7,7 @@ ghost use Rattle.edited_items.specs.Held.{held_part};
 
 use node_values::SharedItem;
 use stamped_parts::Parts;
+use std::alloc::AllocError;
 
 /// What an item did before an edit, where that is known, with its stamp.
 #[derive(Clone, Copy)]
@@ -22,6 +23,21 @@ fn role_at(roles: &[Option<SharedItem>], index: usize) -> Option<&SharedItem>
     match roles.get(index) {
         Some(role) => role.as_ref(),
         None => None,
+    }
+}
+
+impl HeldItem<'_> {
+    ghost use Rattle.std.specs.Prelude.{IfOk};
+    ghost use Rattle.stamped_parts.specs.Contents.{role_part};
+
+    /// What the item did, once more. Errors: too many shares.
+    pub fn again(&self) -> Result<Option<SharedItem>, AllocError>
+        ensures { IfOk result (λ r. role_part r ≡ held_part self.now) }
+    {
+        match self.role {
+            Some(before) => Ok(Some(before.again()?)),
+            None => Ok(None),
+        }
     }
 }
 

@@ -1,9 +1,9 @@
 //! The rows of items after an edit, made before it is put in place.
 
-ghost use Rattle.std.specs.Prelude.{◌≡◌, ◌∷◌, ◌++◌, [], List, IfOk, OnOk, Some, option_map};
+ghost use Rattle.std.specs.Prelude.{◌≡◌, ◌∷◌, ◌++◌, [], List, Option, IfOk, OnOk, Some, option_map};
 ghost use Rattle.std.specs.Arc.{arc_value};
 ghost use Rattle.cat_values.specs.Values.{clause_of};
-ghost use Rattle.node_values.specs.Items.{shared_role};
+ghost use Rattle.node_values.specs.Items.{RoleContent};
 ghost use Rattle.stamped_parts.specs.Contents.{role_part};
 ghost use Rattle.edited_tables.specs.Stamps.{IsStampOf};
 ghost use Rattle.edited_items.specs.Held.{held_part};
@@ -35,7 +35,7 @@ pub struct ModelItems<'m> {
 pub struct ItemLists {
     /// Their numbers and stamps.
     pub rows: Vec<ItemRow>,
-    /// What each of them does, where its model was without fault since the item has its text.
+    /// What each of them does, where its model was without fault since the item has its text, with the names that it has had.
     pub roles: Vec<Option<SharedItem>>,
     /// The kind of node that each of them is by its text, if it is one.
     pub kinds: Vec<Option<Kind>>,
@@ -52,9 +52,9 @@ fn node_kind(item: &Item) -> Option<Kind>
     }
 }
 
-// The stamp of an item that does this now: an equal role keeps its stamp.
+// The stamp of an item that does this now, as it is read: an equal role keeps its stamp, since its history has no new name.
 fn stamp_of(fresh: u64, held: &HeldItem, role: Option<&SharedItem>) -> u64
-    ensures { IsStampOf fresh (held_part held.now) held.now.stamp (role_part (option_map (λ r. r.now) role.entry)) result }
+    ensures { (read : Option RoleContent) → role_part (option_map (λ r. r.now) role.entry) ≡ held_after read (held_part held.now) → IsStampOf fresh (held_part held.now) held.now.stamp (role_part (option_map (λ r. r.now) role.entry)) result }
 {
     let Some(role) = role else {
         return 0;
@@ -71,14 +71,20 @@ fn stamp_of(fresh: u64, held: &HeldItem, role: Option<&SharedItem>) -> u64
     }
 }
 
-// The item at an index, if there is one. Errors: too many shares of what it is resolved to.
-fn shared_item(resolved: &Arc<Resolved>, index: usize) -> Result<Option<SharedItem>, AllocError>
-    ensures { IfOk result (λ r. option_map shared_role r ≡ read_role (Some (arc_value resolved.now).items.items) index) }
+// The item at an index, with its names behind those that it had, and what it did before where none is there. Errors: want of
+// memory, or too many shares.
+fn shared_item(
+    alloc: Global,
+    resolved: &Arc<Resolved>,
+    index: usize,
+    held: &HeldItem,
+) -> Result<Option<SharedItem>, AllocError>
+    ensures { IfOk result (λ r. role_part r ≡ held_after (read_role (Some (arc_value resolved.now).items.items) index) (held_part held.now)) }
 {
     if index < resolved.items.len() {
-        Ok(Some(SharedItem::new(Arc::try_clone(resolved)?, index)))
+        Ok(Some(SharedItem::new(alloc, Arc::try_clone(resolved)?, index, held.role)?))
     } else {
-        Ok(None)
+        held.again()
     }
 }
 
@@ -95,26 +101,19 @@ impl ModelItems<'_> {
         }
     }
 
-    // What the item at an index does, where the model has no fault. Errors: too many shares of what it is resolved to.
-    fn role(&self, index: usize) -> Result<Option<SharedItem>, AllocError>
-        ensures { IfOk result (λ r. option_map shared_role r ≡ read_role (resolved_items self.now) index) }
-    {
-        match self.resolved {
-            Some(resolved) => shared_item(resolved, index),
-            None => Ok(None),
-        }
-    }
-
-    // What the item at an index does: under a fault of its model what it did before. Errors: too many shares.
-    fn role_after(&self, index: usize, held: &HeldItem) -> Result<Option<SharedItem>, AllocError>
+    // What the item at an index does: under a fault of its model what it did before. Errors: want of memory, or too many
+    // shares.
+    fn role_after(
+        &self,
+        alloc: Global,
+        index: usize,
+        held: &HeldItem,
+    ) -> Result<Option<SharedItem>, AllocError>
         ensures { IfOk result (λ r. role_part r ≡ held_after (read_role (resolved_items self.now) index) (held_part held.now)) }
     {
-        if let Some(role) = self.role(index)? {
-            return Ok(Some(role));
-        }
-        match held.role {
-            Some(before) => Ok(Some(before.again()?)),
-            None => Ok(None),
+        match self.resolved {
+            Some(resolved) => shared_item(alloc, resolved, index, held),
+            None => held.again(),
         }
     }
 }
@@ -139,6 +138,7 @@ impl ItemLists {
     // The item at an index of a model, behind these. Errors: want of memory.
     fn add_item(
         &mut self,
+        alloc: Global,
         fresh: u64,
         before: &Parts,
         model: &ModelItems,
@@ -149,7 +149,7 @@ impl ItemLists {
     {
         let number = model.numbers[index];
         let held = held_item(before, number);
-        let role = model.role_after(index, &held)?;
+        let role = model.role_after(alloc, index, &held)?;
         let stamp = stamp_of(fresh, &held, role.as_ref());
         self.rows.push(ItemRow { number, stamp })?;
         self.roles.push(role)?;
@@ -161,6 +161,7 @@ impl ItemLists {
     /// Errors: want of memory.
     pub fn add_model(
         &mut self,
+        alloc: Global,
         fresh: u64,
         before: &Parts,
         model: &ModelItems,
@@ -168,7 +169,7 @@ impl ItemLists {
         ensures { (facts : List ItemFact) → AreListsOf fresh before.now facts self.old → OnOk result (AreListsOf fresh before.now (facts ++ facts_of model.now) self.new) }
     {
         for index in 0..model.numbers.len() {
-            self.add_item(fresh, before, model, index)?;
+            self.add_item(alloc, fresh, before, model, index)?;
         }
         Ok(())
     }
@@ -186,7 +187,7 @@ pub fn edit_items(
 {
     let mut lists = ItemLists::new(alloc);
     for model in models {
-        lists.add_model(fresh, before, model)?;
+        lists.add_model(alloc, fresh, before, model)?;
     }
     Ok(lists)
 }

@@ -1,6 +1,6 @@
 //! Laws of the rows of items after an edit.
 
-ghost use Rattle.edited_items.specs.Laws.{ItemPartsGoOn, ItemsArePartsAfter, EqualItemsKeepStamps, ItemsDoWhatIsRead, ItemRowsAreStamped, ItemsStayInOrder, ReadItemsAreHeld, ItemsHaveTheirKinds, KindsFollowRoles};
+ghost use Rattle.edited_items.specs.Laws.{ItemPartsGoOn, ItemsArePartsAfter, EqualItemsKeepStamps, HistoriesGoOn, ItemsDoWhatIsRead, ItemRowsAreStamped, ItemsStayInOrder, ReadItemsAreHeld, ItemsHaveTheirKinds, KindsFollowRoles};
 
 /// What an item does is as it was, under the stamp that it had, or has the number of the edit, or is not known.
 pub fn item_parts_go_on()
@@ -15,6 +15,11 @@ pub fn items_are_parts_after()
 /// An item that does what it did keeps its stamp.
 pub fn equal_items_keep_stamps()
     ensures { EqualItemsKeepStamps }
+{}
+
+/// Each name of an item keeps its number, and an item that does what it did has no new name.
+pub fn histories_go_on()
+    ensures { HistoriesGoOn }
 {}
 
 /// An item does what is read of it, where its model has no fault and no two items have one number.

@@ -116,8 +116,8 @@ no_readings rs ms i past = elim (cases_lt i (length rs)) [
     none [] ms e = refl
     none (r ∷ rs) ms e = ap (λ (l : List (Bor NamedModel)). readings_of (r ∷ rs) (map now l)) e
 
-pub all_read : (slots : List PlainSlot) (rs : List ModelRow) (ms : List (Bor NamedModel)) (i : ℕ) → min (length rs) (length ms) ≤ i → slots ++ flat_map slots_in (readings_of (drop i rs) (map now (drop i ms))) ≡ slots
-all_read slots rs ms i past = ap (λ (l : List ModelReading). slots ++ flat_map slots_in l) (no_readings rs ms i past) ∙ append-nil slots
+pub all_read : (histories : ℕ → List (List ℕ)) (slots : List PlainSlot) (rs : List ModelRow) (ms : List (Bor NamedModel)) (i : ℕ) → min (length rs) (length ms) ≤ i → slots ++ flat_map (slots_in histories) (readings_of (drop i rs) (map now (drop i ms))) ≡ slots
+all_read histories slots rs ms i past = ap (λ (l : List ModelReading). slots ++ flat_map (slots_in histories) l) (no_readings rs ms i past) ∙ append-nil slots
 
 -- ---- facts
 

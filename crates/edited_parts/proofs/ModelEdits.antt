@@ -1,5 +1,5 @@
 -- The parts of the bench after an edit of a model.
-use Rattle.std.proofs.Common.{ℕ, zero, suc, ◌+◌, ◌<◌, ◌≤◌, ◌≡◌, ◌≢◌, ◌⊎◌, inl, inr, List, [], ◌∷◌, ◌++◌, length, map, get_or, Option, Some, None, if◌then◌else◌, nat_lt, refl, sym, ap, subst, ◌∙◌, eq-eqb, ne_eqb, arith}
+use Rattle.std.proofs.Common.{ℕ, zero, suc, ◌+◌, ◌<◌, ◌≤◌, ◌≡◌, ◌≢◌, ◌⊎◌, inl, inr, List, [], ◌∷◌, ◌++◌, length, map, get_or, Option, Some, None, if◌then◌else◌, ◌==◌, nat_lt, refl, sym, ap, subst, ◌∙◌, eq-eqb, ne_eqb, arith}
 use Rattle.std.specs.Arc.{arc_value}
 use Rattle.std.specs.List.{AllZip, All, AllByRecursion as Each, range_with_len, remove}
 use Rattle.std.proofs.lemmas.Bool.Decides.{eqb_tells, leb_tells}
@@ -12,6 +12,7 @@ use Rattle.binding_kinds.specs.declared.fault.ModelFault.{ModelFault}
 use Rattle.binding_graph.specs.declared.resolved.ResolvedItem.{ResolvedItem}
 use Rattle.memo_core.specs.Step.{Has}
 use Rattle.node_values.specs.declared.items.SharedItem.{SharedItem}
+use Rattle.node_values.specs.Items.{held_history}
 use Rattle.bench_texts.proofs.Lists.{map-remove}
 use Rattle.bench_texts.specs.BenchTexts.{put_at}
 use Rattle.bench_texts.specs.Held.{IsRead}
@@ -29,7 +30,7 @@ use Rattle.bench_nodes.specs.declared.table.TestRow.{TestRow}
 use Rattle.bench_nodes.specs.Nodes.{item_stamp, fault_stamp, test_stamp}
 use Rattle.slot_laws.proofs.Items.{resolved_closed}
 use Rattle.slot_laws.proofs.Reached.{ordered_items}
-use Rattle.model_slots.specs.Slots.{plain}
+use Rattle.model_slots.specs.Slots.{plain, item_history}
 use Rattle.model_slots.specs.Tables.{ModelReading, IsOrderedModel, all_slots}
 use Rattle.stamped_parts.specs.declared.parts.Parts.{Parts}
 use Rattle.stamped_parts.specs.Built.{IsItemRow, IsModelRow, AreTestRows, IsModelIn, IsBuilt}
@@ -39,7 +40,7 @@ use Rattle.edited_tables.specs.declared.models.HeldModel.{HeldModel}
 use Rattle.edited_tables.specs.Laws.{IsLaterNumber, IsPartNow, WasModelRow}
 use Rattle.edited_tables.specs.Models.{raised_model}
 use Rattle.edited_tables.specs.Stamps.{next_number}
-use Rattle.edited_items.specs.Items.{ItemFact, fact_at, item_facts}
+use Rattle.edited_items.specs.Items.{ItemFact, fact_at, item_facts, raised_item}
 use Rattle.edited_items.specs.Laws.{AreItemsAfter, DoesWhatIsRead}
 use Rattle.edited_items.specs.Laws as items
 use Rattle.edited_items.proofs.ItemRows.{parts_go_on, items_are_stamped, items_do, items_in_order, items_held}
@@ -92,6 +93,15 @@ readings_raised : (last number : ℕ) (rs : List ModelRow) (ms : List NamedModel
 readings_raised last number [] ms = refl
 readings_raised last number (r ∷ rs) [] = refl
 readings_raised last number (r ∷ rs) (m ∷ ms) = ap (λ (l : List ModelReading). reading_by r.id m.numbers.items m.reading ∷ l) (readings_raised last number rs ms)
+
+-- a new number of an edit changes no history
+history_raised : (last number : ℕ) (rows : List ItemRow) (items : List (Option SharedItem)) → item_history (map (raised_item last number) rows) items ≡ item_history rows items
+history_raised last number rows items = let same = each rows items in λ k of. same of k
+  where
+    each : (rows : List ItemRow) (items : List (Option SharedItem)) (of : ℕ) → item_history (map (raised_item last number) rows) items of ≡ item_history rows items of
+    each [] items of = refl
+    each (i ∷ is) [] of = refl
+    each (i ∷ is) (s ∷ ss) of = ap (λ (h : List (List ℕ)). if i.number == of then held_history s else h) (each is ss of)
 
 split_each : (P : ItemFact → Type 0) (fs gs : List ItemFact) → Each P (fs ++ gs) → Each P fs × Each P gs
 split_each P [] gs h = (tt, h)
@@ -160,9 +170,19 @@ module _ (p q : Parts) (tests : List Test) (models ms : List NamedModel) (hs : L
   faults : q.faults.items ≡ map fault_of ms
   faults = puts.faults ∙ are_made.faults
 
+  abbrev made_histories : ℕ → List (List ℕ)
+  made_histories = item_history m.items.rows.items m.items.roles.items
+
+  histories_now : made_histories ≡ item_history q.table.items.items q.roles.items
+  histories_now =
+      sym (history_raised p.last number m.items.rows.items m.items.roles.items)
+      ∙ ap (λ (l : List ItemRow). item_history l m.items.roles.items) (sym puts.items)
+      ∙ ap (λ (l : List (Option SharedItem)). item_history q.table.items.items l) (sym puts.roles)
+
   pub models_built : IsBuilt (state_of q tests) (readings_of q.table.models.items ms)
   models_built = record {
-    slots = ap (λ (l : List Slot). map plain l) puts.slots ∙ (are_made.slots ∙ ap all_slots (sym (readings_raised p.last number m.rows.items ms) ∙ ap (λ (l : List ModelRow). readings_of l ms) (sym puts.rows)));
+    slots = ap (λ (l : List Slot). map plain l) puts.slots ∙ (are_made.slots ∙ (ap (all_slots made_histories) (sym (readings_raised p.last number m.rows.items ms) ∙ ap (λ (l : List ModelRow). readings_of l ms) (sym puts.rows))
+        ∙ ap (λ (h : ℕ → List (List ℕ)). all_slots h (readings_of q.table.models.items ms)) histories_now));
     models_in = models_in (state_of q tests) q.table.models.items ms (λ of has. ap (λ (l : List (Option ModelFault)). fault_content q.table.models.items l of) faults) apart_ids ordered does is_now.read;
     items = subst (λ (n : ℕ). AllZip (IsItemRow n) q.table.items.items q.roles.items) (sym last)
         (subst (λ (l : List (Option SharedItem)). AllZip (IsItemRow number) q.table.items.items l) (sym puts.roles)

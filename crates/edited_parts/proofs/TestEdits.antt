@@ -17,7 +17,7 @@ use Rattle.bench_nodes.specs.declared.table.ModelRow.{ModelRow}
 use Rattle.bench_nodes.specs.declared.table.Slot.{Slot}
 use Rattle.bench_nodes.specs.declared.table.TestRow.{TestRow}
 use Rattle.bench_nodes.specs.Nodes.{item_stamp, fault_stamp, test_stamp, stamp_in}
-use Rattle.model_slots.specs.Slots.{plain}
+use Rattle.model_slots.specs.Slots.{plain, item_history}
 use Rattle.model_slots.specs.Tables.{ModelReading, Sound, Faulty, all_slots}
 use Rattle.stamped_parts.specs.declared.parts.Parts.{Parts}
 use Rattle.stamped_parts.specs.Built.{IsStamp, IsItemRow, IsModelRow, IsTestRow, AreTestRows, IsModelIn, IsBuilt}
@@ -76,7 +76,7 @@ models_in_stay s t [] items faults h = tt
 models_in_stay s t (m ∷ ms) items faults h = (one m h.0, models_in_stay s t ms items faults h.1)
   where
     one : (m : ModelReading) → IsModelIn s m → IsModelIn t m
-    one (Sound id numbers is used) k = (k.0, λ index r e. items _ ∙ k.1 index r e)
+    one (Sound id numbers is used) k = (k.0, λ index r e. (let was = k.1 index r e in (was.0, items _ ∙ was.1)))
     one (Faulty id fault) k = faults id ∙ k
 
 module _ (p q : Parts) (same : AreModelsSame p q) where
@@ -104,11 +104,17 @@ module _ (p q : Parts) (same : AreModelsSame p q) where
     ]
   ]
 
+  slots_stay : (models : List NamedModel) → all_slots (item_history p.table.items.items p.roles.items) (readings_of p.table.models.items models) ≡ all_slots (item_history q.table.items.items q.roles.items) (readings_of q.table.models.items models)
+  slots_stay models =
+      ap (λ (l : List ModelRow). all_slots (item_history p.table.items.items p.roles.items) (readings_of l models)) (sym same.rows)
+      ∙ ap (λ (l : List ItemRow). all_slots (item_history l p.roles.items) (readings_of q.table.models.items models)) (sym same.items)
+      ∙ ap (λ (l : List (Option SharedItem)). all_slots (item_history q.table.items.items l) (readings_of q.table.models.items models)) (sym same.roles)
+
   -- what is built of tests that changed
   built_after : (tests after : List Test) (models : List NamedModel) (number : ℕ) → p.last ≤ number → q.last ≡ number → IsBuilt (state_of p tests) (readings_of p.table.models.items models)
       → AreTestRows number q.table.tests.items after q.locations.items → IsBuilt (state_of q after) (readings_of q.table.models.items models)
   built_after tests after models number le last built rows = record {
-    slots = ap (λ (l : List Slot). map plain l) same.slots ∙ (built.slots ∙ ap (λ (l : List ModelRow). all_slots (readings_of l models)) (sym same.rows));
+    slots = ap (λ (l : List Slot). map plain l) same.slots ∙ (built.slots ∙ slots_stay models);
     models_in = subst (λ (l : List ModelRow). Each (IsModelIn (state_of q after)) (readings_of l models)) (sym same.rows)
         (models_in_stay (state_of p tests) (state_of q after) (readings_of p.table.models.items models) items_same faults_same built.models_in);
     items = subst (λ (n : ℕ). AllZip (IsItemRow n) q.table.items.items q.roles.items) (sym last)

@@ -11,7 +11,7 @@ use Rattle.bench_texts.specs.BenchTexts.{put_at}
 use Rattle.bench_texts.specs.Replacements.{models_with}
 use Rattle.bench_nodes.specs.declared.table.ModelRow.{ModelRow}
 use Rattle.bench_nodes.specs.declared.table.TestRow.{TestRow}
-use Rattle.model_slots.specs.Slots.{plain}
+use Rattle.model_slots.specs.Slots.{plain, item_history}
 use Rattle.model_slots.specs.Tables.{all_slots}
 use Rattle.stamped_parts.specs.declared.parts.Parts.{Parts}
 use Rattle.edited_tables.specs.declared.models.HeldModel.{HeldModel}
@@ -87,7 +87,7 @@ pub record AreModelPartsMade (p : Parts) (before : List (Option HeldModel)) (mod
   pub rows : AreModelsMade (next_number p.last) before models m.rows.items
   pub faults : m.faults.items ≡ map (λ n. fault_in n.reading) models
   pub items : AreListsOf (next_number p.last) p (all_facts models) m.items
-  pub slots : map plain m.slots.items ≡ all_slots (readings_of m.rows.items models)
+  pub slots : map plain m.slots.items ≡ all_slots (item_history m.items.rows.items m.items.roles.items) (readings_of m.rows.items models)
 
 -- ---- edits
 

@@ -234,7 +234,7 @@ pub(crate) fn model_items(
 {
     let mut lists = ItemLists::new(alloc);
     for model in models {
-        lists.add_model(fresh, parts, &items_in(model))?;
+        lists.add_model(alloc, fresh, parts, &items_in(model))?;
     }
     Ok(lists)
 }

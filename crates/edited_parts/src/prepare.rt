@@ -11,6 +11,7 @@ use bench_nodes::SlotPlaces;
 use bench_texts::{NamedModel, Replacement};
 use edited_tables::{HeldModel, next_number};
 use litmus_values::Test;
+use model_slots::Histories;
 use stamped_parts::Parts;
 use std::alloc::{AllocError, Global};
 
@@ -44,7 +45,11 @@ fn model_parts(
     let rows = model_rows(alloc, fresh, before, models)?;
     let faults = model_faults(alloc, models)?;
     let items = model_items(alloc, fresh, parts, models)?;
-    let slots = all_slots(alloc, &rows, models)?;
+    let histories = Histories {
+        rows: &items.rows,
+        roles: &items.roles,
+    };
+    let slots = all_slots(alloc, &histories, &rows, models)?;
     if slots.len() > MOST {
         return Err(AllocError);
     }

@@ -1,24 +1,34 @@
 //! The nodes that each test has under the models after an edit.
 
 ghost use Rattle.std.specs.Prelude.{◌≡◌, ◌∷◌, ◌++◌, [], IfOk, List, if◌then◌else◌, map};
-ghost use Rattle.model_slots.specs.Slots.{plain};
+ghost use Rattle.model_slots.specs.Slots.{plain, histories_in};
 ghost use Rattle.model_slots.specs.Tables.{ModelReading, space_slot, slots_in, space_slots, all_slots};
 ghost use Rattle.edited_parts.specs.Readings.{reading_of, readings_of};
 
 use bench_nodes::{ModelRow, Slot};
 use bench_texts::{NamedModel, Reading};
 use memo_core::keys::Kind;
-use model_slots::{fault_slots, model_slots};
+use model_slots::{Histories, fault_slots, model_slots};
 use std::alloc::{AllocError, Global};
 
 // The nodes of a model.
-fn slots_in(alloc: Global, row: ModelRow, model: &NamedModel) -> Result<Vec<Slot>, AllocError>
-    ensures { IfOk result (λ v. map plain v.items ≡ slots_in (reading_of row model.now)) }
+fn slots_in(
+    alloc: Global,
+    histories: &Histories<'_>,
+    row: ModelRow,
+    model: &NamedModel,
+) -> Result<Vec<Slot>, AllocError>
+    ensures { let all = histories_in histories.now in IfOk result (λ v. map plain v.items ≡ slots_in all (reading_of row model.now)) }
 {
     match model.reading() {
-        Reading::Sound { resolved, used } => {
-            model_slots(alloc, row.id, model.numbers(), &resolved.items, used)
-        }
+        Reading::Sound { resolved, used } => model_slots(
+            alloc,
+            histories,
+            row.id,
+            model.numbers(),
+            &resolved.items,
+            used,
+        ),
         Reading::Faulty(_) => fault_slots(alloc, row.id),
     }
 }
@@ -67,18 +77,18 @@ fn space_slots(
     Ok(slots)
 }
 
-/// The nodes of these models with these rows. Errors: want of memory.
-#[tactic(auto, using(crate::proofs::Making::all_read))]
+/// The nodes of these models with these rows, where items have these histories. Errors: want of memory.
 pub(crate) fn all_slots(
     alloc: Global,
+    histories: &Histories<'_>,
     rows: &[ModelRow],
     models: &[&NamedModel],
 ) -> Result<Vec<Slot>, AllocError>
-    ensures { IfOk result (λ v. map plain v.items ≡ all_slots (readings_of rows.now (map (λ m. m.now) models.now))) }
+    ensures { let all = histories_in histories.now in IfOk result (λ v. map plain v.items ≡ all_slots all (readings_of rows.now (map (λ m. m.now) models.now))) }
 {
     let mut slots = space_slots(alloc, rows, models)?;
     for (row, model) in rows.iter().zip(models.iter()) {
-        put_slots(&mut slots, slots_in(alloc, *row, model)?)?;
+        put_slots(&mut slots, slots_in(alloc, histories, *row, model)?)?;
     }
     Ok(slots)
 }

@@ -1,3 +1,4 @@
+pub mod Finding
 pub mod Growing
 pub mod Lists
 pub mod Ordered

@@ -53,11 +53,11 @@ space_slots [] = []
 space_slots (Sound id numbers items used ∷ ms) = space_slot ∷ []
 space_slots (Faulty id fault ∷ ms) = space_slots ms
 
--- the nodes of a model
-abbrev pub slots_in : ModelReading → List PlainSlot
-slots_in (Sound id numbers items used) = sound_slots id numbers items used
-slots_in (Faulty id fault) = faulty_slots id
+-- the nodes of a model, where items have these histories
+abbrev pub slots_in : (ℕ → List (List ℕ)) → ModelReading → List PlainSlot
+slots_in histories (Sound id numbers items used) = sound_slots histories id numbers items used
+slots_in histories (Faulty id fault) = faulty_slots id
 
 -- the nodes of each test: its space, and those of each model
-abbrev pub all_slots : List ModelReading → List PlainSlot
-all_slots models = space_slots models ++ flat_map slots_in models
+abbrev pub all_slots : (ℕ → List (List ℕ)) → List ModelReading → List PlainSlot
+all_slots histories models = space_slots models ++ flat_map (slots_in histories) models

@@ -1,12 +1,16 @@
 //! The nodes of items.
 
 ghost use Rattle.std.specs.Prelude.{◌≡◌, ◌∷◌, ◌++◌, [], IfOk, map, get_or};
+ghost use Rattle.node_values.specs.Items.{role_content};
+ghost use Rattle.node_values.specs.Naming.{names_in};
 ghost use Rattle.bench_nodes.specs.declared.table.SlotKey.TheVariants as slots;
-ghost use Rattle.model_slots.specs.Slots.{plain, number_at, function_key, name_key, space_key, item_keys, slots_of, used_slots};
+ghost use Rattle.model_slots.specs.Slots.{plain, number_at, histories_in, input_name, function_key, name_key, space_key, item_keys, slots_of, used_slots};
 
+use crate::histories::{Histories, item_history};
 use bench_nodes::{Slot, SlotKey};
 use binding_graph::{Input, ResolvedItem, Role};
 use memo_core::keys::Kind;
+use node_values::number_of;
 use std::alloc::{AllocError, Global};
 
 // The number of the item at an index.
@@ -46,22 +50,59 @@ fn function_keys(
     Ok(keys)
 }
 
-fn name_key(numbers: &[u64], input: &Input) -> SlotKey
-    ensures { result ≡ name_key numbers.now input.now }
+// The name at a position of an item, empty where there is none.
+fn bound_name(role: &Role, position: usize) -> &[u8]
+    ensures { result.now ≡ get_or (names_in (role_content role.now)) position [] }
 {
-    SlotKey::Value(
-        Kind::Group,
-        number_at(numbers, input.item),
-        input.position as u64,
-    )
+    match role {
+        Role::Group { bodies, .. } => {
+            if position < bodies.len() {
+                bodies[position].name.as_bytes()
+            } else {
+                &[]
+            }
+        }
+        Role::Check(_) => &[],
+        Role::Silent => &[],
+    }
 }
 
-fn name_keys(alloc: Global, numbers: &[u64], inputs: &[Input]) -> Result<Vec<SlotKey>, AllocError>
-    ensures { IfOk result (λ v. v.items ≡ map (name_key numbers.now) inputs.now) }
+// The name that an input is, empty where it is none.
+fn input_name<'i>(items: &'i [ResolvedItem], input: &Input) -> &'i [u8]
+    ensures { result.now ≡ input_name items.now input.now }
+{
+    match items.get(input.item) {
+        Some(item) => bound_name(&item.role, input.position),
+        None => &[],
+    }
+}
+
+fn name_key(
+    histories: &Histories<'_>,
+    numbers: &[u64],
+    items: &[ResolvedItem],
+    input: &Input,
+) -> SlotKey
+    ensures { let all = histories_in histories.now in result ≡ name_key all numbers.now items.now input.now }
+{
+    let own = number_at(numbers, input.item);
+    let history = item_history(histories.rows, histories.roles, own);
+    let number = number_of(history, input_name(items, input));
+    SlotKey::Value(Kind::Group, own, number as u64)
+}
+
+fn name_keys(
+    alloc: Global,
+    histories: &Histories<'_>,
+    numbers: &[u64],
+    items: &[ResolvedItem],
+    inputs: &[Input],
+) -> Result<Vec<SlotKey>, AllocError>
+    ensures { let all = histories_in histories.now in IfOk result (λ v. v.items ≡ map (name_key all numbers.now items.now) inputs.now) }
 {
     let mut keys = Vec::with_capacity(alloc, inputs.len())?;
     for input in inputs {
-        keys.push(name_key(numbers, input))?;
+        keys.push(name_key(histories, numbers, items, input))?;
     }
     Ok(keys)
 }
@@ -69,14 +110,16 @@ fn name_keys(alloc: Global, numbers: &[u64], inputs: &[Input]) -> Result<Vec<Slo
 // The inputs of an item of that number.
 fn item_keys(
     alloc: Global,
+    histories: &Histories<'_>,
     numbers: &[u64],
+    items: &[ResolvedItem],
     own: u64,
     item: &ResolvedItem,
 ) -> Result<Vec<SlotKey>, AllocError>
-    ensures { IfOk result (λ v. v.items ≡ item_keys numbers.now own item.now) }
+    ensures { let all = histories_in histories.now in IfOk result (λ v. v.items ≡ item_keys all numbers.now items.now own item.now) }
 {
     let functions = function_keys(alloc, numbers, &item.functions)?;
-    let names = name_keys(alloc, numbers, &item.inputs)?;
+    let names = name_keys(alloc, histories, numbers, items, &item.inputs)?;
     let mut keys = Vec::new(alloc);
     keys.push(SlotKey::Item(own))?;
     keys.extend_from_slice(&functions)?;
@@ -113,16 +156,17 @@ fn put_slot(
 fn put_item(
     alloc: Global,
     slots: &mut Vec<Slot>,
+    histories: &Histories<'_>,
     numbers: &[u64],
     items: &[ResolvedItem],
     index: usize,
 ) -> Result<(), AllocError>
-    ensures { IfOk result (λ _. map plain slots.new.items ≡ map plain slots.old.items ++ used_slots numbers.now items.now (index ∷ [])) }
+    ensures { let all = histories_in histories.now in IfOk result (λ _. map plain slots.new.items ≡ map plain slots.old.items ++ used_slots all numbers.now items.now (index ∷ [])) }
 {
     match items.get(index) {
         Some(item) => {
             let own = number_at(numbers, index);
-            let keys = item_keys(alloc, numbers, own, item)?;
+            let keys = item_keys(alloc, histories, numbers, items, own, item)?;
             put_slot(slots, &item.role, own, keys)
         }
         None => Ok(()),
@@ -133,14 +177,15 @@ fn put_item(
 pub(crate) fn put_items(
     alloc: Global,
     slots: &mut Vec<Slot>,
+    histories: &Histories<'_>,
     numbers: &[u64],
     items: &[ResolvedItem],
     used: &[usize],
 ) -> Result<(), AllocError>
-    ensures { IfOk result (λ _. map plain slots.new.items ≡ map plain slots.old.items ++ used_slots numbers.now items.now used.now) }
+    ensures { let all = histories_in histories.now in IfOk result (λ _. map plain slots.new.items ≡ map plain slots.old.items ++ used_slots all numbers.now items.now used.now) }
 {
     for index in used {
-        put_item(alloc, slots, numbers, items, *index)?;
+        put_item(alloc, slots, histories, numbers, items, *index)?;
     }
     Ok(())
 }

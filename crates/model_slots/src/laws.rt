@@ -1,6 +1,6 @@
 //! Laws of the slots of models.
 
-ghost use Rattle.std.specs.Prelude.{◌≡◌, List, map};
+ghost use Rattle.std.specs.Prelude.{◌≡◌, ℕ, List, map};
 ghost use Rattle.std.specs.List.{AllByRecursion as Each};
 ghost use Rattle.bench_nodes.specs.declared.table.NodeTable.{NodeTable};
 ghost use Rattle.bench_nodes.specs.Order.{IsOrdered};
@@ -10,5 +10,5 @@ ghost use Rattle.model_slots.specs.Tables.{ModelReading, IsOrderedModel, all_slo
 /// In a table of the slots of models whose items use names of earlier items alone, each slot stands behind those that it
 /// uses.
 pub fn tables_are_ordered()
-    ensures { (table : NodeTable) (models : List ModelReading) → map plain table.slots.items ≡ all_slots models → Each IsOrderedModel models → IsOrdered table }
+    ensures { (table : NodeTable) (histories : ℕ → List (List ℕ)) (models : List ModelReading) → map plain table.slots.items ≡ all_slots histories models → Each IsOrderedModel models → IsOrdered table }
 {}

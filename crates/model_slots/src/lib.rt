@@ -2,8 +2,10 @@
 //! the verdict. Read `specs/Slots`, then `specs/Tables`: the nodes of several models.
 #![tactic(auto)]
 
+mod histories;
 mod items;
 pub mod laws;
 mod model;
 
+pub use histories::Histories;
 pub use model::{fault_slots, model_slots};

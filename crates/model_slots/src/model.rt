@@ -1,8 +1,9 @@
 //! The nodes of a model.
 
 ghost use Rattle.std.specs.Prelude.{◌≡◌, ◌∷◌, ◌++◌, [], IfOk, map};
-ghost use Rattle.model_slots.specs.Slots.{plain, flag_key, answer_key, keys_by, verdict_keys, sound_slots, faulty_slots};
+ghost use Rattle.model_slots.specs.Slots.{plain, histories_in, flag_key, answer_key, keys_by, verdict_keys, sound_slots, faulty_slots};
 
+use crate::histories::Histories;
 use crate::items::{number_at, put_items, space_key};
 use bench_nodes::{CONDITION, OBSERVED, Slot, SlotKey};
 use binding_graph::{ResolvedItem, Role};
@@ -115,20 +116,21 @@ fn verdict_keys(
     Ok(keys)
 }
 
-/// The nodes of a model of that number without fault: its items with their numbers, and the indexes of those that checks
-/// and flags reach. Errors: out of memory.
+/// The nodes of a model of that number without fault, where items have these histories: its items with their numbers, and the
+/// indexes of those that checks and flags reach. Errors: out of memory.
 pub fn model_slots(
     alloc: Global,
+    histories: &Histories<'_>,
     id: u64,
     numbers: &[u64],
     items: &[ResolvedItem],
     used: &[usize],
 ) -> Result<Vec<Slot>, AllocError>
-    ensures { IfOk result (λ v. map plain v.items ≡ sound_slots id numbers.now items.now used.now) }
+    ensures { let all = histories_in histories.now in IfOk result (λ v. map plain v.items ≡ sound_slots all id numbers.now items.now used.now) }
 {
     let inputs = verdict_keys(alloc, numbers, items, used)?;
     let mut slots = Vec::new(alloc);
-    put_items(alloc, &mut slots, numbers, items, used)?;
+    put_items(alloc, &mut slots, histories, numbers, items, used)?;
     let kind = Kind::Verdict;
     slots.push(Slot {
         kind,

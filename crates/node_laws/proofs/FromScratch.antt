@@ -1,6 +1,5 @@
 -- What solved nodes give is what evaluating from nothing gives.
 use Rattle.std.proofs.Common.{ℕ, ◌≡◌, List, [], ◌∷◌, reverse, Bool, Some, slice_get, refl, sym, ap, ◌∙◌, subst}
-use Rattle.std.specs.List.{zip}
 use Rattle.litmus_values.specs.declared.test.Test.{Test}
 use Rattle.litmus_values.specs.Value.{formula_of}
 use Rattle.cat_values.specs.declared.model.ModelText.{ModelText}
@@ -16,9 +15,9 @@ use Rattle.verdict.specs.declared.answer.Refusal.TheVariants as refusals
 use Rattle.verdict.specs.Evaluated.{IsEvaluatedAs}
 use Rattle.verdict.specs.Kept.{Flag}
 use Rattle.node_values.specs.Givens.{asked, ForVerdict}
-use Rattle.node_values.specs.Makes.{IsSpaceValue, Makes, refused}
+use Rattle.node_values.specs.Makes.{IsSpaceValue, checks_among, flags_among, Makes, refused}
 use Rattle.node_values.specs.Spaces.{SpaceContent, space_content}
-use Rattle.node_values.specs.Values.{NodeContent, OfSpace, OfRefusal, OfColumn, OfCheck, OfFlag, OfOutcome, checks_of, flags_of}
+use Rattle.node_values.specs.Values.{NodeContent, OfSpace, OfRefusal, OfColumn, OfCheck, OfOutcome, answers_of}
 use Rattle.node_values.proofs.PartTests.{of_each}
 use Rattle.memo_graph.specs.Answers.{AreSaid}
 use Rattle.memo_graph.specs.Cell.{IsEvaluationFrom}
@@ -69,7 +68,7 @@ module _ (test : Test) (model : ModelText) (cell : Cell) (solved : IsSolved test
       subst (λ (p : Outcome). IsFromScratch test model p) (sym (outcome_is cell.outcome made.0 made.1)) (record {
         kind = h.kind_is;
         condition = h.text;
-        result = evaluated_result test model cell.items space (checks_of (answers_in cell.table 0 cell.items)) (zip (flag_names cell.items) (flags_of (answers_in cell.table 0 cell.items))) made.0.result solved.no_fault solved.of_model lists said.said h.result;
+        result = evaluated_result test model cell.items space (checks_among (flag_names cell.items) (answers_of (answers_in cell.table 0 cell.items))) (flags_among (flag_names cell.items) (answers_of (answers_in cell.table 0 cell.items))) made.0.result solved.no_fault solved.of_model lists said.said h.result;
       })
 
   by_refusal : (r : EvalRefusal) → IsRefusal test r → cell.table.space ≡ OfRefusal r → IsFromScratch test model cell.outcome
@@ -85,7 +84,6 @@ module _ (test : Test) (model : ModelText) (cell : Cell) (solved : IsSolved test
   by_value (OfRefusal r) is h = by_refusal r ((of_each solved.parts test solved.of_test).1 r h) is
   by_value (OfColumn c) is h = absurd h
   by_value (OfCheck a) is h = absurd h
-  by_value (OfFlag a) is h = absurd h
   by_value (OfOutcome p) is h = absurd h
 
 pub solved_scratch : (test : Test) (model : ModelText) (cell : Cell) → IsSolved test model cell → IsFromScratch test model cell.outcome

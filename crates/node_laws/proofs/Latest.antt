@@ -1,7 +1,6 @@
 -- Items listed the latest first: an item's index is the number of those behind it.
-use Rattle.std.proofs.Common.{ℕ, ◌≡◌, ◌+◌, suc, List, [], ◌∷◌, ◌++◌, length, reverse, if◌then◌else◌, Option, Some, None, refl, sym, ap, ◌∙◌, subst, append_assoc, arith}
+use Rattle.std.proofs.Common.{ℕ, ◌≡◌, ◌+◌, suc, List, [], ◌∷◌, ◌++◌, length, reverse, if◌then◌else◌, Option, Some, refl, sym, ap, ◌∙◌, subst, append_assoc, arith}
 use Rattle.std.specs.Prelude.{slice_get}
-use Rattle.std.specs.List.{cons_option}
 use Rattle.std.proofs.lemmas.List.{reverse-append, append-nil}
 use Rattle.binding_graph.specs.declared.resolved.ResolvedItem.{ResolvedItem}
 use Rattle.binding_graph.specs.Reach.{is_check}
@@ -17,14 +16,18 @@ Each P (r ∷ rs) = P (length rs) r × Each P rs
 abbrev pub added : Table → ℕ → ResolvedItem → List NodeContent
 added table index r = if is_check r.role then table.outputs index else []
 
+-- what it adds to the names of flags
+abbrev pub added_name : ResolvedItem → List (Option (List ℕ))
+added_name r = if is_check r.role then flag_name r.role ∷ [] else []
+
 -- the answers of the checks and flags, and the names of the flags, in the order of the text
 abbrev pub late_answers : Table → List ResolvedItem → List NodeContent
 late_answers table [] = []
 late_answers table (r ∷ rs) = late_answers table rs ++ added table (length rs) r
 
-abbrev pub late_names : List ResolvedItem → List (List ℕ)
+abbrev pub late_names : List ResolvedItem → List (Option (List ℕ))
 late_names [] = []
-late_names (r ∷ rs) = late_names rs ++ cons_option (flag_name r.role) []
+late_names (r ∷ rs) = late_names rs ++ added_name r
 
 reverse_more : (r : ResolvedItem) (items rs : List ResolvedItem) → reverse (r ∷ items) ++ rs ≡ reverse items ++ r ∷ rs
 reverse_more r items rs = ap (λ (ys : List ResolvedItem). ys ++ rs) (reverse-append (r ∷ []) items) ∙ append_assoc (reverse items) (r ∷ []) rs
@@ -54,14 +57,10 @@ answers_before table (r ∷ items) rs =
 pub answers_reversed : (table : Table) (items : List ResolvedItem) → late_answers table (reverse items) ≡ answers_in table 0 items
 answers_reversed table items = ap (λ (xs : List ResolvedItem). late_answers table xs) (sym (append-nil (reverse items))) ∙ answers_before table items []
 
-names_at : (o : Option (List ℕ)) (items : List ResolvedItem) (names : List (List ℕ)) → (names ++ cons_option o []) ++ flag_names items ≡ names ++ cons_option o (flag_names items)
-names_at None items names = ap (λ (ns : List (List ℕ)). ns ++ flag_names items) (append-nil names)
-names_at (Some n) items names = append_assoc names (n ∷ []) (flag_names items)
-
 names_before : (items rs : List ResolvedItem) → late_names (reverse items ++ rs) ≡ late_names rs ++ flag_names items
 names_before [] rs = sym (append-nil (late_names rs))
 names_before (r ∷ items) rs =
-    ap (λ (xs : List ResolvedItem). late_names xs) (reverse_more r items rs) ∙ names_before items (r ∷ rs) ∙ names_at (flag_name r.role) items (late_names rs)
+    ap (λ (xs : List ResolvedItem). late_names xs) (reverse_more r items rs) ∙ names_before items (r ∷ rs) ∙ append_assoc (late_names rs) (added_name r) (flag_names items)
 
 pub names_reversed : (items : List ResolvedItem) → late_names (reverse items) ≡ flag_names items
 names_reversed items = ap (λ (xs : List ResolvedItem). late_names xs) (sym (append-nil (reverse items))) ∙ names_before items []

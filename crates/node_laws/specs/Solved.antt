@@ -1,7 +1,7 @@
 -- When what the nodes under a verdict hold is solved: each of them gives, from the present texts and from the values of the
 -- nodes that it uses, just what it holds.
 use Rattle.std.specs.Prelude.{◌≡◌, ℕ, suc, List, [], ◌∷◌, ◌++◌, Bool, true, false, if◌then◌else◌, Option, Some, None, slice_get}
-use Rattle.std.specs.List.{AllZip, AllByRecursion as Each, filter_map}
+use Rattle.std.specs.List.{AllZip, AllByRecursion as Each}
 use Rattle.litmus_values.specs.declared.test.Test.{Test}
 use Rattle.cat_values.specs.declared.model.ModelText.{ModelText}
 use Rattle.binding_kinds.specs.declared.fault.ModelFault.{ModelFault}
@@ -11,9 +11,9 @@ use Rattle.binding_graph.specs.declared.resolved.Role.{Role}
 use Rattle.binding_graph.specs.declared.resolved.Role.TheVariants as roles
 use Rattle.binding_graph.specs.Reach.{is_check, IsCheckAt}
 use Rattle.verdict.specs.declared.answer.Outcome.{Outcome}
-use Rattle.node_values.specs.Givens.{asked, faulted, ForSpace, ForItem, ForVerdict, ForFault}
+use Rattle.node_values.specs.Givens.{asked, faulted, ForSpace, ForVerdict, ForFault}
 use Rattle.node_values.specs.Items.{role_content}
-use Rattle.node_values.specs.Makes.{Makes}
+use Rattle.node_values.specs.Makes.{MakesItem, Makes}
 use Rattle.node_values.specs.Parts.{SpacePartsContent, HasParts}
 use Rattle.node_values.specs.Values.{NodeContent, OfOutcome}
 use Rattle.memo_graph.specs.FromScratch.{IsFaultOf, IsFaultless, AreItemsOf}
@@ -30,7 +30,7 @@ IsValueOf table name v = slice_get (table.outputs name.item) name.position ≡ S
 -- from the value of the space and those of the names that it uses, in their order, the item gives its outputs
 abbrev pub IsSolvedItem : Table → ℕ → ResolvedItem → Type 0
 IsSolvedItem table index r =
-    (values : List NodeContent) × AllZip (IsValueOf table) r.inputs.items values × Makes (ForItem (role_content r.role)) (table.space ∷ values) (table.outputs index)
+    (values : List NodeContent) × AllZip (IsValueOf table) r.inputs.items values × MakesItem (role_content r.role) (table.space ∷ values) (table.outputs index)
 
 -- groups, checks and flags are nodes; what has no value is none
 abbrev pub is_node : Role → Bool
@@ -43,9 +43,10 @@ flag_name (roles.Group recursive bodies) = None
 flag_name (roles.Check check) = check.flag
 flag_name roles.Silent = None
 
--- the names of the flags, in the order of the text
-abbrev pub flag_names : List ResolvedItem → List (List ℕ)
-flag_names items = filter_map (λ r. flag_name r.role) items
+-- for each check and flag, in the order of the text, the name of the flag
+abbrev pub flag_names : List ResolvedItem → List (Option (List ℕ))
+flag_names [] = []
+flag_names (r ∷ rs) = (if is_check r.role then flag_name r.role ∷ [] else []) ++ flag_names rs
 
 -- the answers of the checks and flags among items from this index on, in the order of the text
 abbrev pub answers_in : Table → ℕ → List ResolvedItem → List NodeContent

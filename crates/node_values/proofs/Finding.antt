@@ -1,10 +1,12 @@
 -- What is found among the values of inputs, one by one.
-use Rattle.std.proofs.Common.{ℕ, suc, min, ◌≤◌, ◌+◌, ◌<◌, ◌≡◌, List, [], ◌∷◌, ◌++◌, Option, Some, None, Bor, inl, inr, length, get_or, map, take, drop, refl, sym, ap, ◌∙◌, arith, add-one}
-use Rattle.std.specs.List.{filter_map, cons_option, zip}
+use Rattle.std.proofs.Common.{ℕ, zero, suc, Bool, min, ◌≤◌, ◌+◌, ◌<◌, ◌≡◌, List, [], ◌∷◌, ◌++◌, Option, Some, None, Bor, inl, inr, length, get_or, map, take, drop, refl, sym, ap, subst, ◌∙◌, arith, add-one}
+use Rattle.std.specs.List.{filter_map, cons_option}
 use Rattle.std.proofs.lemmas.Bool.{cases_lt}
 use Rattle.std.proofs.lemmas.List.{take_more, append-nil, map-append, drop_all}
 use Rattle.std.proofs.lemmas.List.Elements.{filter_map-append}
 use Rattle.std.proofs.Math.Seq.{drop-cons}
+use Rattle.verdict.specs.Kept.{Flag}
+use Rattle.node_values.specs.Makes.{checks_among, flags_among}
 use Rattle.node_values.specs.declared.value.NodeValue.{NodeValue}
 
 found_more : {Y : Type 0} (f : NodeValue → Option Y) (vs : List (Bor NodeValue)) (i : ℕ) (v : Bor NodeValue) → i < length vs → v ≡ get_or vs i v → filter_map f (map (λ w. w.now) (take (i + 1) vs)) ≡ filter_map f (map (λ w. w.now) (take i vs)) ++ cons_option (f v.now) []
@@ -33,22 +35,60 @@ found_none {Y} f vs i v found new lt is so_far holds same =
 
 -- ---- two lists side by side
 
-zip-nil : {X Y : Type 0} (xs : List X) (ys : List Y) → ys ≡ [] → zip xs ys ≡ []
-zip-nil [] ys e = refl
-zip-nil (x ∷ xs) ys e = ap (λ l. zip (x ∷ xs) l) e
+-- what is at an index, and what is behind it
+pub rest_here : {X : Type 0} (xs : List X) (i : ℕ) (x : X) → i < length xs → x ≡ get_or xs i x → drop i xs ≡ x ∷ drop (i + 1) xs
+rest_here {X} xs i x lt is = rw add-one (drop-cons xs i x lt ∙ ap (λ (z : X). z ∷ drop (suc i) xs) (sym is))
 
--- the pair at an index, and those behind it
-pub zip_here : {X B Y : Type 0} (g : B → Y) (xs : List X) (bs : List B) (i : ℕ) (x : X) (b : B) → i < length xs → i < length bs → x ≡ get_or xs i x → b ≡ get_or bs i b → zip (drop i xs) (map g (drop i bs)) ≡ (x, g b) ∷ zip (drop (i + 1) xs) (map g (drop (i + 1) bs))
-zip_here {X} {B} g xs bs i x b lt lt' is is' =
-    let here : drop i xs ≡ x ∷ drop (i + 1) xs = rw add-one (drop-cons xs i x lt ∙ ap (λ (z : X). z ∷ drop (suc i) xs) (sym is)) in
-    let there : drop i bs ≡ b ∷ drop (i + 1) bs = rw add-one (drop-cons bs i b lt' ∙ ap (λ (z : B). z ∷ drop (suc i) bs) (sym is')) in
-    ap (λ (l : List X). zip l (map g (drop i bs))) here ∙ ap (λ (l : List B). zip (x ∷ drop (i + 1) xs) (map g l)) there
+-- there is such, where the list is longer
+pub rest_there : {X : Type 0} (xs : List X) (i : ℕ) → i < length xs → (x : X) × (drop i xs ≡ x ∷ drop (i + 1) xs)
+rest_there [] i lt = absurd (omega (arith, lt))
+rest_there (x ∷ xs) zero lt = (x, refl)
+rest_there {X} (x ∷ xs) (suc i) lt =
+    let next = rest_there xs i (omega (arith, lt)) in
+    let moved : suc (i + 1) ≡ suc i + 1 = omega arith in
+    (next.0, subst (λ (n : ℕ). drop (suc i) (x ∷ xs) ≡ next.0 ∷ drop n (x ∷ xs)) moved next.1)
 
--- none are left where a list is at its end
-pub zip_end : {X B Y : Type 0} (g : B → Y) (xs : List X) (bs : List B) (i : ℕ) → min (length xs) (length bs) ≤ i → zip (drop i xs) (map g (drop i bs)) ≡ []
-zip_end {X} {B} g xs bs i past = elim (cases_lt i (length xs)) [
-  | inr short ↦ ap (λ (l : List X). zip l (map g (drop i bs))) (drop_all i xs short)
-  | inl long ↦
-      let short : length bs ≤ i = omega (arith, past, long) in
-      zip-nil (drop i xs) (map g (drop i bs)) (ap (λ (l : List B). map g l) (drop_all i bs short))
-]
+checks-nil : (names : List (Option (List ℕ))) (answers : List (List Bool)) → answers ≡ [] → checks_among names answers ≡ []
+checks-nil [] answers e = refl
+checks-nil (n ∷ ns) answers e = ap (checks_among (n ∷ ns)) e
+
+flags-nil : (names : List (Option (List ℕ))) (answers : List (List Bool)) → answers ≡ [] → flags_among names answers ≡ []
+flags-nil [] answers e = refl
+flags-nil (n ∷ ns) answers e = ap (flags_among (n ∷ ns)) e
+
+module _ (names : List (Option (List ℕ))) (answers : List (Bor (List Bool))) where
+  abbrev pub checks_from : ℕ → List (List Bool)
+  checks_from i = checks_among (drop i names) (map (λ a. a.now) (drop i answers))
+
+  abbrev pub flags_from : ℕ → List Flag
+  flags_from i = flags_among (drop i names) (map (λ a. a.now) (drop i answers))
+
+  -- none are left where a list is at its end
+  past_names : (i : ℕ) → length names ≤ i → (checks_from i ≡ []) × (flags_from i ≡ [])
+  past_names i past =
+      let none : drop i names ≡ [] = drop_all i names past in (
+        ap (λ (l : List (Option (List ℕ))). checks_among l (map (λ a. a.now) (drop i answers))) none,
+        ap (λ (l : List (Option (List ℕ))). flags_among l (map (λ a. a.now) (drop i answers))) none,
+      )
+
+  past_answers : (i : ℕ) → length answers ≤ i → (checks_from i ≡ []) × (flags_from i ≡ [])
+  past_answers i past =
+      let none : map (λ a. a.now) (drop i answers) ≡ [] = ap (λ (l : List (Bor (List Bool))). map (λ a. a.now) l) (drop_all i answers past) in
+      (checks-nil (drop i names) (map (λ a. a.now) (drop i answers)) none, flags-nil (drop i names) (map (λ a. a.now) (drop i answers)) none)
+
+  pub among_end : (i : ℕ) → min (length names) (length answers) ≤ i → (checks_from i ≡ []) × (flags_from i ≡ [])
+  among_end i past = elim (cases_lt i (length names)) [
+    | inr short ↦ past_names i short
+    | inl long ↦ past_answers i (omega (arith, past, long))
+  ]
+
+  module _ (i : ℕ) (n : Option (List ℕ)) (a : Bor (List Bool)) (lt : i < length names) (is : n ≡ get_or names i n) (next : drop i answers ≡ a ∷ drop (i + 1) answers) where
+    pub checks_here : checks_from i ≡ checks_among (n ∷ drop (i + 1) names) (a.now ∷ map (λ b. b.now) (drop (i + 1) answers))
+    checks_here =
+        ap (λ (l : List (Option (List ℕ))). checks_among l (map (λ b. b.now) (drop i answers))) (rest_here names i n lt is)
+        ∙ ap (λ (l : List (Bor (List Bool))). checks_among (n ∷ drop (i + 1) names) (map (λ b. b.now) l)) next
+
+    pub flags_here : flags_from i ≡ flags_among (n ∷ drop (i + 1) names) (a.now ∷ map (λ b. b.now) (drop (i + 1) answers))
+    flags_here =
+        ap (λ (l : List (Option (List ℕ))). flags_among l (map (λ b. b.now) (drop i answers))) (rest_here names i n lt is)
+        ∙ ap (λ (l : List (Bor (List Bool))). flags_among (n ∷ drop (i + 1) names) (map (λ b. b.now) l)) next

@@ -1,7 +1,7 @@
 -- From what the evaluator gives to what a node gives.
-use Rattle.std.proofs.Common.{ℕ, ◌+◌, ◌<◌, ◌≤◌, min, length, get_or, drop, append_assoc, ◌≡◌, ◌⊎◌, ◌↔◌, Bool, List, [], ◌∷◌, ◌++◌, Option, Some, None, Result, Ok, Err, IfOk, Vec, Global, Bor, map, inl, inr, refl, sym, ap, subst, ◌∙◌}
+use Rattle.std.proofs.Common.{ℕ, ◌+◌, ◌<◌, ◌≤◌, min, length, get_or, append_assoc, ◌≡◌, ◌⊎◌, ◌↔◌, Bool, List, [], ◌∷◌, ◌++◌, Option, Some, None, Result, Ok, Err, IfOk, Vec, Global, Bor, map, inl, inr, refl, sym, ap, subst, ◌∙◌}
 use Rattle.std.specs.Option.{unwrap_or}
-use Rattle.std.specs.List.{Contains, flat_map, zip}
+use Rattle.std.specs.List.{Contains, flat_map}
 use Rattle.std.specs.declared.alloc.AllocError.{AllocError}
 use Rattle.std.proofs.lemmas.List.{append-nil, map-append}
 use Rattle.std.proofs.lemmas.List.Elements.{Contains-append_left, Contains-append_right, Contains-append_cases}
@@ -21,12 +21,12 @@ use Rattle.verdict.specs.declared.judgement.Raised.{Raised}
 use Rattle.verdict.specs.Evaluated.{IsOutcome}
 use Rattle.verdict.specs.Kept.{Flag, of_raised}
 use Rattle.node_values.specs.Items.{role_content}
-use Rattle.node_values.specs.Makes.{HasColumns, HasAnswers, IsVerdict}
+use Rattle.node_values.specs.Makes.{HasColumns, HasAnswers, checks_among, flags_among, IsVerdict}
 use Rattle.node_values.specs.Spaces.{SpaceContent, space_content, no_executions}
-use Rattle.node_values.specs.Values.{NodeContent, first_space, space_of, columns_of, checks_of, flags_of}
+use Rattle.node_values.specs.Values.{NodeContent, first_space, space_of, columns_of, answers_of}
 use Rattle.node_values.specs.Views.{verdict_parts}
 use Rattle.node_values.specs.declared.given.VerdictParts.{VerdictParts}
-use Rattle.node_values.proofs.Finding.{zip_here, zip_end}
+use Rattle.node_values.proofs.Finding.{rest_here, rest_there, checks_from, flags_from, among_end, checks_here, flags_here}
 
 -- ---- the space among the values
 
@@ -62,10 +62,10 @@ answers_over r values s inputs found (Ok v) over same are made = record {
 }
 answers_over r values s inputs found (Err e) over same are made = tt
 
-pub outcome_over : (parts : VerdictParts) (values : List NodeContent) (s : Space) (observed : List Place) (checks : List (List Bool)) (flags : List Flag) (x : Result Outcome AllocError) → space_content s ≡ space_of values → observed ≡ parts.observed.items → checks ≡ checks_of values → flags ≡ zip parts.flags.items (flags_of values)
-    → IfOk x (λ o. IsOutcome s.locations.items (shown_in s) parts.condition.quantifier (formula_of parts.condition.proposition) observed checks flags o) → IfOk x (λ o. IsVerdict (verdict_parts parts) (space_of values) (checks_of values) (flags_of values) o)
+pub outcome_over : (parts : VerdictParts) (values : List NodeContent) (s : Space) (observed : List Place) (checks : List (List Bool)) (flags : List Flag) (x : Result Outcome AllocError) → space_content s ≡ space_of values → observed ≡ parts.observed.items → checks ≡ checks_among parts.flags.items (answers_of values) → flags ≡ flags_among parts.flags.items (answers_of values)
+    → IfOk x (λ o. IsOutcome s.locations.items (shown_in s) parts.condition.quantifier (formula_of parts.condition.proposition) observed checks flags o) → IfOk x (λ o. IsVerdict (verdict_parts parts) (space_of values) (answers_of values) o)
 outcome_over parts values s observed checks flags (Ok o) over shows are raised made =
-    subst (λ (t : SpaceContent). IsVerdict (verdict_parts parts) t (checks_of values) (flags_of values) o) over (rw (← shows, ← are, ← raised) made)
+    subst (λ (t : SpaceContent). IsVerdict (verdict_parts parts) t (answers_of values) o) over (rw (← shows, ← are, ← raised) made)
 outcome_over parts values s observed checks flags (Err e) over shows are raised made = tt
 
 -- ---- the locations of a test of some parts
@@ -87,24 +87,65 @@ part_names init entries ls observed same are n =
       (λ c. subst (λ (l : List (List ℕ)). Contains l n) (sym whole) (elim c [ inl a ↦ Contains-append_left names ls n a | inr b ↦ Contains-append_right names ls n b ])),
     )
 
--- ---- flags with their names
+-- ---- checks, and flags with their names
 
--- one flag more
-pub raised_more : (names : List (List ℕ)) (flags : List (Bor (List Bool))) (i : ℕ) (old new : List Raised) (r : Raised) → i < length names → i < length flags → r.name.now ≡ get_or names i r.name.now → r.holds ≡ get_or flags i r.holds
-    → of_raised old ++ zip (drop i names) (map (λ f. f.now) (drop i flags)) ≡ zip names (map (λ f. f.now) flags) → new ≡ old ++ r ∷ [] → of_raised new ++ zip (drop (i + 1) names) (map (λ f. f.now) (drop (i + 1) flags)) ≡ zip names (map (λ f. f.now) flags)
-raised_more names flags i old new r lt lt' is is' so_far pushed =
-    let rest : List Flag = zip (drop (i + 1) names) (map (λ f. f.now) (drop (i + 1) flags)) in
-    ap (λ (l : List Raised). of_raised l ++ rest) pushed
-    ∙ ap (λ (l : List Flag). l ++ rest) (map-append (λ (f : Raised). (f.name.now, f.holds.now)) old (r ∷ []))
-    ∙ append_assoc (of_raised old) ((r.name.now, r.holds.now) ∷ []) rest
-    ∙ ap (λ (l : List Flag). of_raised old ++ l) (sym (zip_here (λ (f : Bor (List Bool)). f.now) names flags i r.name.now r.holds lt lt' is is'))
-    ∙ so_far
+module _ (names : List (Option (List ℕ))) (answers : List (Bor (List Bool))) where
+  abbrev pub AreChecksTo : ℕ → List (Bor (List Bool)) → Type 0
+  AreChecksTo i checks = map (λ a. a.now) checks ++ checks_from names answers i ≡ checks_among names (map (λ a. a.now) answers)
 
--- all of them
-pub all_raised : (names : List (List ℕ)) (flags : List (Bor (List Bool))) (i : ℕ) (raised : List Raised) → min (length names) (length flags) ≤ i → of_raised raised ++ zip (drop i names) (map (λ f. f.now) (drop i flags)) ≡ zip names (map (λ f. f.now) flags) → of_raised raised ≡ zip names (map (λ f. f.now) flags)
-all_raised names flags i raised past so_far =
-    sym (append-nil (of_raised raised)) ∙ ap (λ (l : List Flag). of_raised raised ++ l) (sym (zip_end (λ (f : Bor (List Bool)). f.now) names flags i past)) ∙ so_far
+  abbrev pub AreFlagsTo : ℕ → List Raised → Type 0
+  AreFlagsTo i raised = of_raised raised ++ flags_from names answers i ≡ flags_among names (map (λ a. a.now) answers)
 
-pub flags_named : (names seen : List (List ℕ)) (given raised : List Raised) (bs found : List (Bor (List Bool))) (answers : List (List Bool)) → given ≡ raised → of_raised raised ≡ zip seen (map (λ f. f.now) bs) → seen ≡ names → bs ≡ found → map (λ f. f.now) found ≡ answers → of_raised given ≡ zip names answers
-flags_named names seen given raised bs found answers same are as_named as_found holds =
-    ap of_raised same ∙ are ∙ ap (λ (l : List (List ℕ)). zip l (map (λ f. f.now) bs)) as_named ∙ ap (λ (l : List (Bor (List Bool))). zip names (map (λ f. f.now) l)) as_found ∙ ap (zip names) holds
+  pub all_checks : (i : ℕ) (checks : List (Bor (List Bool))) → min (length names) (length answers) ≤ i → AreChecksTo i checks → map (λ a. a.now) checks ≡ checks_among names (map (λ a. a.now) answers)
+  all_checks i checks past so_far =
+      sym (append-nil (map (λ a. a.now) checks)) ∙ ap (λ (l : List (List Bool)). map (λ a. a.now) checks ++ l) (sym (among_end names answers i past).0) ∙ so_far
+
+  pub all_flags : (i : ℕ) (raised : List Raised) → min (length names) (length answers) ≤ i → AreFlagsTo i raised → of_raised raised ≡ flags_among names (map (λ a. a.now) answers)
+  all_flags i raised past so_far =
+      sym (append-nil (of_raised raised)) ∙ ap (λ (l : List Flag). of_raised raised ++ l) (sym (among_end names answers i past).1) ∙ so_far
+
+  module _ (i : ℕ) (lt : i < length names) (lt' : i < length answers) where
+    -- one check more
+    pub check_more : (a : Bor (List Bool)) (old new : List (Bor (List Bool))) → None ≡ get_or names i None → a ≡ get_or answers i a → AreChecksTo i old → new ≡ old ++ a ∷ [] → AreChecksTo (i + 1) new
+    check_more a old new is is' so_far pushed =
+        let rest : List (List Bool) = checks_from names answers (i + 1) in
+        ap (λ (l : List (Bor (List Bool))). map (λ b. b.now) l ++ rest) pushed
+        ∙ ap (λ (l : List (List Bool)). l ++ rest) (map-append (λ (b : Bor (List Bool)). b.now) old (a ∷ []))
+        ∙ append_assoc (map (λ b. b.now) old) (a.now ∷ []) rest
+        ∙ ap (λ (l : List (List Bool)). map (λ b. b.now) old ++ l) (sym (checks_here names answers i None a lt is (rest_here answers i a lt' is')))
+        ∙ so_far
+
+    -- a flag is no check
+    pub check_none : (old new : List (Bor (List Bool))) (name : List ℕ) → Some name ≡ get_or names i (Some name) → AreChecksTo i old → new ≡ old → AreChecksTo (i + 1) new
+    check_none old new name is so_far same =
+        let next = rest_there answers i lt' in
+        ap (λ (l : List (Bor (List Bool))). map (λ b. b.now) l ++ checks_from names answers (i + 1)) same
+        ∙ ap (λ (l : List (List Bool)). map (λ b. b.now) old ++ l) (sym (checks_here names answers i (Some name) next.0 lt is next.1))
+        ∙ so_far
+
+    -- one flag more
+    pub flag_more : (old new : List Raised) (r : Raised) → Some r.name.now ≡ get_or names i (Some r.name.now) → r.holds ≡ get_or answers i r.holds → AreFlagsTo i old → new ≡ old ++ r ∷ [] → AreFlagsTo (i + 1) new
+    flag_more old new r is is' so_far pushed =
+        let rest : List Flag = flags_from names answers (i + 1) in
+        ap (λ (l : List Raised). of_raised l ++ rest) pushed
+        ∙ ap (λ (l : List Flag). l ++ rest) (map-append (λ (f : Raised). (f.name.now, f.holds.now)) old (r ∷ []))
+        ∙ append_assoc (of_raised old) ((r.name.now, r.holds.now) ∷ []) rest
+        ∙ ap (λ (l : List Flag). of_raised old ++ l) (sym (flags_here names answers i (Some r.name.now) r.holds lt is (rest_here answers i r.holds lt' is')))
+        ∙ so_far
+
+    -- a check is no flag
+    pub flag_none : (old new : List Raised) → None ≡ get_or names i None → AreFlagsTo i old → new ≡ old → AreFlagsTo (i + 1) new
+    flag_none old new is so_far same =
+        let next = rest_there answers i lt' in
+        ap (λ (l : List Raised). of_raised l ++ flags_from names answers (i + 1)) same
+        ∙ ap (λ (l : List Flag). of_raised old ++ l) (sym (flags_here names answers i None next.0 lt is next.1))
+        ∙ so_far
+
+-- what is found of the parts is found of these
+pub checks_named : (names seen : List (Option (List ℕ))) (given found bs answers : List (Bor (List Bool))) (held : List (List Bool)) → given ≡ found → map (λ a. a.now) found ≡ checks_among seen (map (λ a. a.now) bs) → seen ≡ names → bs ≡ answers → map (λ a. a.now) answers ≡ held → map (λ a. a.now) given ≡ checks_among names held
+checks_named names seen given found bs answers held same are as_named as_found holds =
+    ap (λ (l : List (Bor (List Bool))). map (λ a. a.now) l) same ∙ are ∙ ap (λ (l : List (Option (List ℕ))). checks_among l (map (λ a. a.now) bs)) as_named ∙ ap (λ (l : List (Bor (List Bool))). checks_among names (map (λ a. a.now) l)) as_found ∙ ap (checks_among names) holds
+
+pub flags_named : (names seen : List (Option (List ℕ))) (given raised : List Raised) (bs answers : List (Bor (List Bool))) (held : List (List Bool)) → given ≡ raised → of_raised raised ≡ flags_among seen (map (λ a. a.now) bs) → seen ≡ names → bs ≡ answers → map (λ a. a.now) answers ≡ held → of_raised given ≡ flags_among names held
+flags_named names seen given raised bs answers held same are as_named as_found holds =
+    ap of_raised same ∙ are ∙ ap (λ (l : List (Option (List ℕ))). flags_among l (map (λ a. a.now) bs)) as_named ∙ ap (λ (l : List (Bor (List Bool))). flags_among names (map (λ a. a.now) l)) as_found ∙ ap (flags_among names) holds

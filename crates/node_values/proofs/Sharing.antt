@@ -1,7 +1,8 @@
 -- What an item of a model does.
-use Rattle.std.proofs.Common.{ℕ, zero, suc, ◌<◌, ◌≡◌, List, [], ◌∷◌, length, slice_index_or, refl, ap, sym, ◌∙◌, arith}
+use Rattle.std.proofs.Common.{ℕ, zero, suc, ◌<◌, ◌≡◌, List, [], ◌∷◌, length, slice_index_or, refl, ap, ◌∙◌, arith}
 use Rattle.binding_graph.specs.declared.resolved.ResolvedItem.{ResolvedItem}
-use Rattle.node_values.specs.Items.{RoleContent, role_content, role_at}
+use Rattle.node_values.specs.Items.{role_content}
+use Rattle.node_values.specs.Naming.{role_at}
 
 role_there : (items : List ResolvedItem) (i : ℕ) (d : ResolvedItem) → i < length items → role_content (slice_index_or items i d).role ≡ role_at items i
 role_there [] i d lt = absurd (omega arith)

@@ -1,11 +1,13 @@
 -- LAWS of what nodes give: what `laws` states.
-use Rattle.std.specs.Prelude.{◌≡◌, length, List}
+use Rattle.std.specs.Prelude.{◌≡◌, ℕ, length, List}
 use Rattle.litmus_values.specs.declared.test.Test.{Test}
 use Rattle.candidates.specs.declared.candidate.Space.{Space}
 use Rattle.candidates.specs.declared.fault.EvalRefusal.{EvalRefusal}
 use Rattle.candidates.specs.Listed.{ListsExecutions, IsRefusal}
 use Rattle.node_values.specs.Givens.{VerdictPartsContent, GivenContent, ForVerdict}
-use Rattle.node_values.specs.Makes.{Makes, output_count}
+use Rattle.node_values.specs.Items.{RoleContent}
+use Rattle.node_values.specs.Makes.{Makes, output_names}
+use Rattle.node_values.specs.Naming.{number_of, IsNamed, AreNamed, with_role_names}
 use Rattle.node_values.specs.Parts.{SpacePartsContent, HasParts, IsPartSpace, IsPartRefusal}
 use Rattle.node_values.specs.Spaces.{SpaceContent, space_content}
 use Rattle.node_values.specs.Values.{NodeContent}
@@ -28,6 +30,20 @@ IsOfEachTest parts t = HasParts parts t → ((s : SpaceContent) → IsPartSpace 
 abbrev pub HasOneVerdict : VerdictPartsContent → List NodeContent → Type 0
 HasOneVerdict parts values = (a b : List NodeContent) → Makes (ForVerdict parts) values a → Makes (ForVerdict parts) values b → a ≡ b
 
--- a node gives so many values, whatever those of its inputs are
-abbrev pub HasCount : GivenContent → Type 0
-HasCount given = (values outputs : List NodeContent) → Makes given values outputs → length outputs ≡ output_count given
+-- a node gives a value for each number by which its outputs go, whatever the values of its inputs are
+abbrev pub HasNames : GivenContent → Type 0
+HasNames given = (values outputs : List NodeContent) → Makes given values outputs → length outputs ≡ length (output_names given)
+
+-- ---- histories
+
+-- a history grows at its end alone: each name keeps its number
+abbrev pub KeepsNumbers : List (List ℕ) → RoleContent → Type 0
+KeepsNumbers history role = (name : List ℕ) → IsNamed history name → number_of (with_role_names history role) name ≡ number_of history name
+
+-- a name tells its number, and a number its name
+abbrev pub TellsNames : List (List ℕ) → Type 0
+TellsNames history = (a b : List ℕ) → IsNamed history a → number_of history a ≡ number_of history b → a ≡ b
+
+-- the names of what an item does are in its history then, which stays the same where they were in it before
+abbrev pub HoldsNames : List (List ℕ) → RoleContent → Type 0
+HoldsNames history role = AreNamed (with_role_names history role) role × (AreNamed history role → with_role_names history role ≡ history)

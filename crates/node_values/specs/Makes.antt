@@ -1,7 +1,6 @@
 -- What a node gives: from what it is given of the texts, and from the values of the nodes that it uses, of which the first
 -- is the space.
-use Rattle.std.specs.Prelude.{ℕ, ◌≡◌, Bool, List, [], ◌∷◌, length, map, Option, Some, None}
-use Rattle.std.specs.List.{zip}
+use Rattle.std.specs.Prelude.{ℕ, ◌≡◌, Bool, List, [], ◌∷◌, map, Option, Some, None}
 use denote.Ref.{Bor}
 use Rattle.litmus_values.specs.declared.test.Quantifier.{Quantifier}
 use Rattle.litmus_values.specs.Value.{Formula}
@@ -17,11 +16,13 @@ use Rattle.verdict.specs.declared.answer.OutcomeResult.TheVariants.{Refused}
 use Rattle.verdict.specs.declared.answer.Refusal.{Refusal}
 use Rattle.verdict.specs.declared.answer.Refusal.TheVariants as refusals
 use Rattle.verdict.specs.Evaluated.{IsOutcome}
+use Rattle.verdict.specs.Kept.{Flag}
 use Rattle.node_values.specs.Givens.{VerdictPartsContent, GivenContent, ForSpace, ForItem, ForVerdict, ForFault}
 use Rattle.node_values.specs.Items.{RoleContent, Group, Check, Silent, role_content}
+use Rattle.node_values.specs.Naming.{numbers_of}
 use Rattle.node_values.specs.Parts.{SpacePartsContent, IsPartSpace, IsPartRefusal}
 use Rattle.node_values.specs.Spaces.{SpaceContent, space_content}
-use Rattle.node_values.specs.Values.{NodeContent, OfSpace, OfRefusal, OfColumn, OfCheck, OfFlag, OfOutcome, space_of, refusal_of, columns_of, checks_of, flags_of}
+use Rattle.node_values.specs.Values.{NodeContent, OfSpace, OfRefusal, OfColumn, OfCheck, OfOutcome, space_of, refusal_of, columns_of, answers_of}
 
 -- the space of the parts, or why they have none
 abbrev pub IsSpaceValue : SpacePartsContent → NodeContent → Type 0
@@ -29,7 +30,6 @@ IsSpaceValue parts (OfSpace space) = IsPartSpace parts space
 IsSpaceValue parts (OfRefusal refusal) = IsPartRefusal parts refusal
 IsSpaceValue parts (OfColumn column) = ⊥
 IsSpaceValue parts (OfCheck answers) = ⊥
-IsSpaceValue parts (OfFlag answers) = ⊥
 IsSpaceValue parts (OfOutcome outcome) = ⊥
 
 -- the columns of the names of an item that does this over a space, from the columns of the names that it uses
@@ -52,47 +52,62 @@ pub record HasAnswers (role : RoleContent) (space : SpaceContent) (columns : Lis
   pub are : map (λ c. c.now) inputs ≡ columns
   pub values : AnswersOf read inputs over answers
 
--- a flag has its answers as those of a flag
-abbrev pub answers_value : Option (List ℕ) → List Bool → NodeContent
-answers_value None answers = OfCheck answers
-answers_value (Some name) answers = OfFlag answers
-
 -- a group gives the column of each of its names, a check or a flag its answers
 abbrev pub IsMadeBy : RoleContent → SpaceContent → List Column → List NodeContent → Type 0
 IsMadeBy (Group recursive bodies) space columns outputs = (cs : List Column) × (outputs ≡ map OfColumn cs) × HasColumns (Group recursive bodies) space columns cs
 IsMadeBy (Check negated word code flag) space columns outputs =
-    (answers : List Bool) × (outputs ≡ answers_value flag answers ∷ []) × HasAnswers (Check negated word code flag) space columns answers
+    (answers : List Bool) × (outputs ≡ OfCheck answers ∷ []) × HasAnswers (Check negated word code flag) space columns answers
 IsMadeBy Silent space columns outputs = outputs ≡ []
 
 -- an outcome that says why there is no evaluation
 abbrev pub refused : Quantifier → Formula → Refusal → Outcome
 refused kind proposition refusal = record { kind = kind; condition = condition_text kind proposition; result = Refused refusal }
 
--- the outcome of a condition over a space, from the answers of checks and flags
-abbrev pub IsVerdict : VerdictPartsContent → SpaceContent → List (List Bool) → List (List Bool) → Outcome → Type 0
-IsVerdict parts space checks flags o = IsOutcome space.locations space.executions parts.kind parts.proposition parts.observed checks (zip parts.flags flags) o
+-- the answers of the checks, which have no name of a flag
+abbrev pub checks_among : List (Option (List ℕ)) → List (List Bool) → List (List Bool)
+checks_among [] answers = []
+checks_among (n ∷ ns) [] = []
+checks_among (None ∷ ns) (a ∷ more) = a ∷ checks_among ns more
+checks_among (Some name ∷ ns) (a ∷ more) = checks_among ns more
+
+-- the answers of the flags, with their names
+abbrev pub flags_among : List (Option (List ℕ)) → List (List Bool) → List Flag
+flags_among [] answers = []
+flags_among (n ∷ ns) [] = []
+flags_among (None ∷ ns) (a ∷ more) = flags_among ns more
+flags_among (Some name ∷ ns) (a ∷ more) = (name, a) ∷ flags_among ns more
+
+-- the outcome of a condition over a space, from the answers of checks and flags in the order of the text
+abbrev pub IsVerdict : VerdictPartsContent → SpaceContent → List (List Bool) → Outcome → Type 0
+IsVerdict parts space answers o =
+    IsOutcome space.locations space.executions parts.kind parts.proposition parts.observed (checks_among parts.flags answers) (flags_among parts.flags answers) o
 
 -- where the test has no space, it says why
 abbrev pub IsVerdictOver : Option EvalRefusal → VerdictPartsContent → List NodeContent → Outcome → Type 0
 IsVerdictOver (Some refusal) parts values o = o ≡ refused parts.kind parts.proposition (refusals.Space refusal)
-IsVerdictOver None parts values o = IsVerdict parts (space_of values) (checks_of values) (flags_of values) o
+IsVerdictOver None parts values o = IsVerdict parts (space_of values) (answers_of values) o
+
+-- what an item gives, wherever its names stand in its history
+abbrev pub MakesItem : RoleContent → List NodeContent → List NodeContent → Type 0
+MakesItem role values outputs = IsMadeBy role (space_of values) (columns_of values) outputs
 
 -- what a node gives
 abbrev pub Makes : GivenContent → List NodeContent → List NodeContent → Type 0
 Makes (ForSpace parts) values outputs = (v : NodeContent) × (outputs ≡ v ∷ []) × IsSpaceValue parts v
-Makes (ForItem role) values outputs = IsMadeBy role (space_of values) (columns_of values) outputs
+Makes (ForItem role history) values outputs = MakesItem role values outputs
 Makes (ForVerdict parts) values outputs = (o : Outcome) × (outputs ≡ OfOutcome o ∷ []) × IsVerdictOver (refusal_of values) parts values o
 Makes (ForFault parts) values outputs = outputs ≡ OfOutcome (refused parts.kind parts.proposition (refusals.Model parts.fault)) ∷ []
 
--- ---- how many values a node gives
+-- ---- the numbers by which the outputs of a node go, in the order of its values
 
-abbrev pub role_outputs : RoleContent → ℕ
-role_outputs (Group recursive bodies) = length bodies
-role_outputs (Check negated word code flag) = 1
-role_outputs Silent = 0
+-- each name of a group by its number in the history, the answers of a check or a flag by 0
+abbrev pub item_outputs : RoleContent → List (List ℕ) → List ℕ
+item_outputs (Group recursive bodies) history = numbers_of history (Group recursive bodies)
+item_outputs (Check negated word code flag) history = 0 ∷ []
+item_outputs Silent history = []
 
-abbrev pub output_count : GivenContent → ℕ
-output_count (ForSpace parts) = 1
-output_count (ForItem role) = role_outputs role
-output_count (ForVerdict parts) = 1
-output_count (ForFault parts) = 1
+abbrev pub output_names : GivenContent → List ℕ
+output_names (ForSpace parts) = 0 ∷ []
+output_names (ForItem role history) = item_outputs role history
+output_names (ForVerdict parts) = 0 ∷ []
+output_names (ForFault parts) = 0 ∷ []

@@ -6,13 +6,12 @@ use Rattle.cat_eval.specs.declared.column.Column.{Column}
 use Rattle.verdict.specs.declared.answer.Outcome.{Outcome}
 use Rattle.node_values.specs.Spaces.{SpaceContent, no_executions}
 
--- a space, or why a test has none; the column of a name; the answers of a check, and of a flag; an outcome
+-- a space, or why a test has none; the column of a name; the answers of a check or a flag; an outcome
 pub data NodeContent : Type 0 where
   OfSpace : (space : SpaceContent) → NodeContent
   OfRefusal : (refusal : EvalRefusal) → NodeContent
   OfColumn : (column : Column) → NodeContent
   OfCheck : (answers : List Bool) → NodeContent
-  OfFlag : (answers : List Bool) → NodeContent
   OfOutcome : (outcome : Outcome) → NodeContent
 
 -- ---- what the values of a node's inputs hold
@@ -22,7 +21,6 @@ space_in (OfSpace space) = Some space
 space_in (OfRefusal refusal) = None
 space_in (OfColumn column) = None
 space_in (OfCheck answers) = None
-space_in (OfFlag answers) = None
 space_in (OfOutcome outcome) = None
 
 abbrev pub refusal_in : NodeContent → Option EvalRefusal
@@ -30,7 +28,6 @@ refusal_in (OfSpace space) = None
 refusal_in (OfRefusal refusal) = Some refusal
 refusal_in (OfColumn column) = None
 refusal_in (OfCheck answers) = None
-refusal_in (OfFlag answers) = None
 refusal_in (OfOutcome outcome) = None
 
 abbrev pub column_in : NodeContent → Option Column
@@ -38,7 +35,6 @@ column_in (OfSpace space) = None
 column_in (OfRefusal refusal) = None
 column_in (OfColumn column) = Some column
 column_in (OfCheck answers) = None
-column_in (OfFlag answers) = None
 column_in (OfOutcome outcome) = None
 
 abbrev pub check_in : NodeContent → Option (List Bool)
@@ -46,23 +42,13 @@ check_in (OfSpace space) = None
 check_in (OfRefusal refusal) = None
 check_in (OfColumn column) = None
 check_in (OfCheck answers) = Some answers
-check_in (OfFlag answers) = None
 check_in (OfOutcome outcome) = None
-
-abbrev pub flag_in : NodeContent → Option (List Bool)
-flag_in (OfSpace space) = None
-flag_in (OfRefusal refusal) = None
-flag_in (OfColumn column) = None
-flag_in (OfCheck answers) = None
-flag_in (OfFlag answers) = Some answers
-flag_in (OfOutcome outcome) = None
 
 abbrev pub outcome_in : NodeContent → Option Outcome
 outcome_in (OfSpace space) = None
 outcome_in (OfRefusal refusal) = None
 outcome_in (OfColumn column) = None
 outcome_in (OfCheck answers) = None
-outcome_in (OfFlag answers) = None
 outcome_in (OfOutcome outcome) = Some outcome
 
 -- the first of these values is the space, or says why there is none
@@ -81,8 +67,5 @@ refusal_of (v ∷ vs) = refusal_in v
 abbrev pub columns_of : List NodeContent → List Column
 columns_of values = filter_map column_in values
 
-abbrev pub checks_of : List NodeContent → List (List Bool)
-checks_of values = filter_map check_in values
-
-abbrev pub flags_of : List NodeContent → List (List Bool)
-flags_of values = filter_map flag_in values
+abbrev pub answers_of : List NodeContent → List (List Bool)
+answers_of values = filter_map check_in values

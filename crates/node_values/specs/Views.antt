@@ -1,9 +1,9 @@
 -- What contracts see of what is held and of what is given.
 use Rattle.node_values.specs.Givens.{asked, faulted, VerdictPartsContent, FaultPartsContent, GivenContent, ForSpace, ForItem, ForVerdict, ForFault}
-use Rattle.node_values.specs.Items.{shared_role}
+use Rattle.node_values.specs.Items.{shared_role, shared_history}
 use Rattle.node_values.specs.Parts.{SpacePartsContent, parts_of}
 use Rattle.node_values.specs.Spaces.{space_content}
-use Rattle.node_values.specs.Values.{NodeContent, OfSpace, OfRefusal, OfColumn, OfCheck, OfFlag, OfOutcome}
+use Rattle.node_values.specs.Values.{NodeContent, OfSpace, OfRefusal, OfColumn, OfCheck, OfOutcome}
 use Rattle.node_values.specs.declared.given.FaultParts.{FaultParts}
 use Rattle.node_values.specs.declared.given.GivenParts.{GivenParts}
 use Rattle.node_values.specs.declared.given.GivenParts.TheVariants as givens
@@ -17,7 +17,6 @@ value_content (contents.Space space) = OfSpace (space_content space)
 value_content (contents.Refused refusal) = OfRefusal refusal
 value_content (contents.Column column) = OfColumn column
 value_content (contents.Check answers) = OfCheck answers.items
-value_content (contents.Flag answers) = OfFlag answers.items
 value_content (contents.Outcome outcome) = OfOutcome outcome
 
 abbrev pub space_parts : SpaceParts → SpacePartsContent
@@ -31,6 +30,6 @@ fault_parts p = faulted p.condition p.fault
 
 abbrev pub given_content : GivenParts → GivenContent
 given_content (givens.Space parts) = ForSpace (space_parts parts)
-given_content (givens.Item item) = ForItem (shared_role item)
+given_content (givens.Item item) = ForItem (shared_role item) (shared_history item)
 given_content (givens.Verdict parts) = ForVerdict (verdict_parts parts)
 given_content (givens.Fault parts) = ForFault (fault_parts parts)

@@ -2,26 +2,17 @@
 
 ghost use Rattle.std.specs.Prelude.{◌≡◌, IfOk};
 ghost use Rattle.node_values.specs.Givens.{ForSpace, ForItem, ForVerdict, ForFault, asked, faulted};
-ghost use Rattle.node_values.specs.Items.{shared_role};
+ghost use Rattle.node_values.specs.Items.{shared_role, shared_history};
 ghost use Rattle.node_values.specs.Parts.{parts_of};
 
 use crate::given::{FaultParts, Given, GivenParts, SpaceParts, VerdictParts};
 use crate::items::SharedItem;
+use crate::names::copied_names;
 use binding_graph::ModelFault;
 use litmus_values::{Condition, InitEntry, Place, Thread};
 use part_copies::{copied_condition, copied_entries, copied_places, copied_threads};
 use source_text::Name;
 use std::alloc::{AllocError, Global};
-
-fn copied_names(alloc: Global, names: &[Name]) -> Result<Vec<Name>, AllocError>
-    ensures { IfOk result (λ v. v.items ≡ names.now) }
-{
-    let mut copies = Vec::with_capacity(alloc, names.len())?;
-    for name in names {
-        copies.push(name.copied(alloc)?)?;
-    }
-    Ok(copies)
-}
 
 impl Given {
     /// What the space of these parts is given. Errors: out of memory.
@@ -43,17 +34,18 @@ impl Given {
 
     /// What a group, a check or a flag is given that is this item. Errors: out of memory.
     pub fn of_item(alloc: Global, item: &SharedItem) -> Result<Given, AllocError>
-        ensures { IfOk result (λ g. g ≡ ForItem (shared_role item.now)) }
+        ensures { IfOk result (λ g. g ≡ ForItem (shared_role item.now) (shared_history item.now)) }
     {
         Given::new(alloc, GivenParts::Item(item.again()?))
     }
 
-    /// What a verdict is given with this condition, these observables and these names of flags. Errors: out of memory.
+    /// What a verdict is given with this condition, these observables, and for each check and flag the name of the flag.
+    /// Errors: out of memory.
     pub fn of_verdict(
         alloc: Global,
         condition: &Condition,
         observed: &[Place],
-        flags: Vec<Name>,
+        flags: Vec<Option<Name>>,
     ) -> Result<Given, AllocError>
         ensures { IfOk result (λ g. g ≡ ForVerdict (asked condition.now observed.now flags.items)) }
     {

@@ -3,15 +3,17 @@
 ghost use Rattle.std.specs.Prelude.{◌≡◌, ◌↔◌, IsTrue, IfOk};
 ghost use Rattle.litmus_values.specs.Value.{formula_of};
 ghost use Rattle.node_values.specs.Givens.{ForSpace, ForItem, ForVerdict, ForFault, asked, faulted, given_flags};
-ghost use Rattle.node_values.specs.Items.{role_content};
+ghost use Rattle.node_values.specs.Items.{shared_role, shared_history};
+ghost use Rattle.node_values.specs.Makes.{output_names};
 ghost use Rattle.node_values.specs.Parts.{parts_of};
 ghost use Rattle.node_values.specs.Views.{given_content};
 
 use crate::items::SharedItem;
+use crate::names::only_zero;
 use crate::same::{
-    same_entries, same_names, same_places, same_proposition, same_role, same_threads,
+    same_entries, same_flags, same_names, same_places, same_proposition, same_role, same_threads,
 };
-use binding_graph::{ModelFault, Role};
+use binding_graph::ModelFault;
 use litmus_values::{Condition, InitEntry, Place, Thread};
 use source_text::Name;
 use std::alloc::{AllocError, Global};
@@ -36,8 +38,8 @@ pub struct VerdictParts {
     pub condition: Condition,
     /// The observables that states show beside those of the condition.
     pub observed: Vec<Place>,
-    /// The names of the model's flags, in the order of the text.
-    pub flags: Vec<Name>,
+    /// For each check and flag of the model, in the order of the text, the name of the flag; none for a check.
+    pub flags: Vec<Option<Name>>,
 }
 
 /// The parts that a verdict under a model with a fault reads.
@@ -54,7 +56,7 @@ pub struct FaultParts {
 pub enum GivenParts {
     /// What the space of a test is given.
     Space(SpaceParts),
-    /// What a group, a check or a flag is given: an item, of which contracts see what it does.
+    /// What a group, a check or a flag is given: an item, of which contracts see what it does and its history.
     Item(SharedItem),
     /// What a verdict is given.
     Verdict(VerdictParts),
@@ -63,9 +65,14 @@ pub enum GivenParts {
 }
 
 /// What a node is given of the texts, which jobs share. Contracts see it as plain data.
-#[derive(Drop)]
 pub struct Given {
     pub(crate) parts: Arc<GivenParts>,
+}
+
+impl Drop for Given {
+    fn drop(self) {
+        let Given { parts: _ } = self;
+    }
 }
 
 impl Model for Given {
@@ -89,8 +96,14 @@ fn same_condition(this: &Condition, that: &Condition) -> bool
     this.quantifier == that.quantifier && same_proposition(&this.proposition, &that.proposition)
 }
 
+fn same_item(this: &SharedItem, that: &SharedItem) -> bool
+    ensures { IsTrue result ↔ ((shared_role this.now ≡ shared_role that.now) × (shared_history this.now ≡ shared_history that.now)) }
+{
+    same_role(&this.item().role, &that.item().role) && same_names(this.history(), that.history())
+}
+
 impl GivenParts {
-    fn flags(&self) -> &[Name]
+    fn flags(&self) -> &[Option<Name>]
         ensures { result.now ≡ given_flags (given_content self.now) }
     {
         match self {
@@ -116,18 +129,29 @@ impl GivenParts {
         }
     }
 
-    fn is_item(&self, role: &Role) -> bool
-        ensures { IsTrue result ↔ (ForItem (role_content role.now) ≡ given_content self.now) }
+    fn output_names(&self, alloc: Global) -> Result<Vec<u64>, AllocError>
+        ensures { IfOk result (λ v. v.items ≡ output_names (given_content self.now)) }
+    {
+        match self {
+            GivenParts::Space(_) => only_zero(alloc),
+            GivenParts::Item(item) => item.output_names(alloc),
+            GivenParts::Verdict(_) => only_zero(alloc),
+            GivenParts::Fault(_) => only_zero(alloc),
+        }
+    }
+
+    fn is_item(&self, item: &SharedItem) -> bool
+        ensures { IsTrue result ↔ (ForItem (shared_role item.now) (shared_history item.now) ≡ given_content self.now) }
     {
         match self {
             GivenParts::Space(_) => false,
-            GivenParts::Item(item) => same_role(role, &item.item().role),
+            GivenParts::Item(other) => same_item(item, other),
             GivenParts::Verdict(_) => false,
             GivenParts::Fault(_) => false,
         }
     }
 
-    fn is_verdict(&self, condition: &Condition, observed: &[Place], flags: &[Name]) -> bool
+    fn is_verdict(&self, condition: &Condition, observed: &[Place], flags: &[Option<Name>]) -> bool
         ensures { IsTrue result ↔ (ForVerdict (asked condition.now observed.now flags.now) ≡ given_content self.now) }
     {
         match self {
@@ -136,7 +160,7 @@ impl GivenParts {
             GivenParts::Verdict(parts) => {
                 same_condition(condition, &parts.condition)
                     && same_places(observed, &parts.observed)
-                    && same_names(flags, &parts.flags)
+                    && same_flags(flags, &parts.flags)
             }
             GivenParts::Fault(_) => false,
         }
@@ -175,8 +199,8 @@ impl Given {
         })
     }
 
-    /// The names of flags that a verdict is given; no name where it is for another node.
-    pub fn flags(&self) -> &[Name]
+    /// Which checks a verdict is told to be flags, by their names; none where it is for another node.
+    pub fn flags(&self) -> &[Option<Name>]
         ensures { result.now ≡ given_flags self.now }
     {
         self.parts.flags()
@@ -189,15 +213,29 @@ impl Given {
         self.parts.is_space(init, threads, locations)
     }
 
-    /// Whether it is what a group, a check or a flag is given that does this.
-    pub fn is_item(&self, role: &Role) -> bool
-        ensures { IsTrue result ↔ (ForItem (role_content role.now) ≡ self.now) }
+    /// The numbers by which the outputs of the node go, in the order of its values: of a group those of its names in its
+    /// history, of each other node 0. Errors: out of memory.
+    pub fn output_names(&self, alloc: Global) -> Result<Vec<u64>, AllocError>
+        ensures { IfOk result (λ v. v.items ≡ output_names self.now) }
     {
-        self.parts.is_item(role)
+        self.parts.output_names(alloc)
     }
 
-    /// Whether it is what a verdict is given with this condition, these observables and these names of flags.
-    pub fn is_verdict(&self, condition: &Condition, observed: &[Place], flags: &[Name]) -> bool
+    /// Whether it is what a group, a check or a flag is given that does what this item does, with the same history.
+    pub fn is_item(&self, item: &SharedItem) -> bool
+        ensures { IsTrue result ↔ (ForItem (shared_role item.now) (shared_history item.now) ≡ self.now) }
+    {
+        self.parts.is_item(item)
+    }
+
+    /// Whether it is what a verdict is given with this condition, these observables, and for each check and flag the name of
+    /// the flag.
+    pub fn is_verdict(
+        &self,
+        condition: &Condition,
+        observed: &[Place],
+        flags: &[Option<Name>],
+    ) -> bool
         ensures { IsTrue result ↔ (ForVerdict (asked condition.now observed.now flags.now) ≡ self.now) }
     {
         self.parts.is_verdict(condition, observed, flags)

@@ -1,17 +1,16 @@
 //! What a node gives.
 
 ghost use Rattle.std.specs.Prelude.{◌≡◌, ◌∷◌, [], List, IfOk, map, option_map};
-ghost use Rattle.std.specs.List.{zip};
 ghost use Rattle.litmus_values.specs.Value.{formula_of};
 ghost use Rattle.candidates.specs.declared.fault.EvalRefusal.{EvalRefusal};
 ghost use Rattle.verdict.specs.declared.answer.Outcome.{Outcome};
 ghost use Rattle.verdict.specs.declared.answer.Refusal.TheVariants as refusals;
 ghost use Rattle.verdict.specs.Kept.{of_raised};
 ghost use Rattle.node_values.specs.Items.{role_content};
-ghost use Rattle.node_values.specs.Makes.{IsSpaceValue, IsMadeBy, HasColumns, HasAnswers, IsVerdict, IsVerdictOver, refused, Makes};
+ghost use Rattle.node_values.specs.Makes.{IsSpaceValue, IsMadeBy, HasColumns, HasAnswers, checks_among, flags_among, IsVerdict, IsVerdictOver, refused, Makes};
 ghost use Rattle.node_values.specs.Parts.{HasParts};
 ghost use Rattle.node_values.specs.Spaces.{space_content, no_executions};
-ghost use Rattle.node_values.specs.Values.{NodeContent, OfColumn, OfOutcome, first_space, space_of, refusal_of, columns_of, checks_of, flags_of};
+ghost use Rattle.node_values.specs.Values.{NodeContent, OfColumn, OfOutcome, first_space, space_of, refusal_of, columns_of, answers_of};
 ghost use Rattle.node_values.specs.Views.{value_content, given_content, space_parts, verdict_parts, fault_parts};
 
 use crate::given::{FaultParts, Given, GivenParts, SpaceParts, VerdictParts};
@@ -68,44 +67,53 @@ fn columns_of<'v>(alloc: Global, values: &[&'v NodeValue]) -> Result<Vec<&'v Col
     Ok(columns)
 }
 
-fn checks_of<'v>(alloc: Global, values: &[&'v NodeValue]) -> Result<Vec<&'v [bool]>, AllocError>
-    ensures { IfOk result (λ v. map (λ c. c.now) v.items ≡ checks_of (map (λ v. v.now) values.now)) }
+fn answers_of<'v>(alloc: Global, values: &[&'v NodeValue]) -> Result<Vec<&'v [bool]>, AllocError>
+    ensures { IfOk result (λ v. map (λ a. a.now) v.items ≡ answers_of (map (λ v. v.now) values.now)) }
 {
-    let mut checks = Vec::with_capacity(alloc, values.len())?;
+    let mut found = Vec::with_capacity(alloc, values.len())?;
     for value in values {
         if let Some(answers) = value.check() {
-            checks.push(answers)?;
+            found.push(answers)?;
+        }
+    }
+    Ok(found)
+}
+
+// The answers of the checks.
+fn checks_among<'a>(
+    alloc: Global,
+    flags: &[Option<Name>],
+    answers: &[&'a [bool]],
+) -> Result<Vec<&'a [bool]>, AllocError>
+    ensures { IfOk result (λ v. map (λ a. a.now) v.items ≡ checks_among flags.now (map (λ a. a.now) answers.now)) }
+{
+    let mut checks = Vec::with_capacity(alloc, answers.len())?;
+    for at in 0..flags.len().min(answers.len()) {
+        match &flags[at] {
+            Some(_) => {}
+            None => checks.push(answers[at])?,
         }
     }
     Ok(checks)
 }
 
-fn flags_of<'v>(alloc: Global, values: &[&'v NodeValue]) -> Result<Vec<&'v [bool]>, AllocError>
-    ensures { IfOk result (λ v. map (λ c. c.now) v.items ≡ flags_of (map (λ v. v.now) values.now)) }
-{
-    let mut flags = Vec::with_capacity(alloc, values.len())?;
-    for value in values {
-        if let Some(answers) = value.flag() {
-            flags.push(answers)?;
-        }
-    }
-    Ok(flags)
-}
-
-// Each flag with its name.
-fn raised<'a>(
+// The answers of the flags, each with its name.
+fn flags_among<'a>(
     alloc: Global,
-    names: &'a [Name],
-    flags: &[&'a [bool]],
+    flags: &'a [Option<Name>],
+    answers: &[&'a [bool]],
 ) -> Result<Vec<Raised<'a>>, AllocError>
-    ensures { IfOk result (λ v. of_raised v.items ≡ zip names.now (map (λ f. f.now) flags.now)) }
+    ensures { IfOk result (λ v. of_raised v.items ≡ flags_among flags.now (map (λ a. a.now) answers.now)) }
 {
-    let mut raised = Vec::with_capacity(alloc, names.len())?;
-    for at in 0..names.len().min(flags.len()) {
-        raised.push(Raised {
-            name: &names[at],
-            holds: flags[at],
-        })?;
+    let mut raised = Vec::with_capacity(alloc, flags.len())?;
+    for at in 0..flags.len().min(answers.len()) {
+        match &flags[at] {
+            Some(name) => raised.push(Raised {
+                name,
+                holds: answers[at],
+            })?,
+            None => {}
+        }
     }
     Ok(raised)
 }
@@ -205,12 +213,9 @@ fn item_values<'v>(
             let columns = group_columns(alloc, item, values)?;
             column_values(alloc, columns)
         }
-        Role::Check(check) => {
+        Role::Check(_) => {
             let answers = check_answers(alloc, item, values)?;
-            match &check.flag {
-                Some(_) => one_value(alloc, NodeValue::of_flag(answers)),
-                None => one_value(alloc, NodeValue::of_check(answers)),
-            }
+            one_value(alloc, NodeValue::of_check(answers))
         }
         Role::Silent => Ok(Vec::new(alloc)),
     }
@@ -221,11 +226,11 @@ fn evaluated<'v>(
     parts: &'v VerdictParts,
     values: &[&'v NodeValue],
 ) -> Result<Outcome, AllocError>
-    ensures { let given = map (λ v. v.now) values.now in IfOk result (λ o. IsVerdict (verdict_parts parts.now) (space_of given) (checks_of given) (flags_of given) o) }
+    ensures { let given = map (λ v. v.now) values.now in IfOk result (λ o. IsVerdict (verdict_parts parts.now) (space_of given) (answers_of given) o) }
 {
-    let checks = checks_of(alloc, values)?;
-    let answers = flags_of(alloc, values)?;
-    let flags = raised(alloc, &parts.flags, &answers)?;
+    let answers = answers_of(alloc, values)?;
+    let checks = checks_among(alloc, &parts.flags, &answers)?;
+    let flags = flags_among(alloc, &parts.flags, &answers)?;
     let condition = &parts.condition;
     match first_space(values) {
         Some(space) => outcome(alloc, space, condition, &parts.observed, &checks, &flags),

@@ -92,6 +92,21 @@ pub fn same_names(these: &[Name], those: &[Name]) -> bool
     true
 }
 
+/// Whether the names of flags are the same, in order.
+pub fn same_flags(these: &[Option<Name>], those: &[Option<Name>]) -> bool
+    ensures { IsTrue result ↔ (these.now ≡ those.now) }
+{
+    if these.len() != those.len() {
+        return false;
+    }
+    for (this, that) in these.iter().zip(those.iter()) {
+        if !same_label(this, that) {
+            return false;
+        }
+    }
+    true
+}
+
 fn same_instruction(this: &Instruction, that: &Instruction) -> bool
     ensures { IsTrue result ↔ (this.now ≡ that.now) }
 {

@@ -2,7 +2,7 @@
 
 ghost use Rattle.std.specs.Prelude.{◌≡◌, ◌↔◌, IsTrue, option_map};
 ghost use Rattle.node_values.specs.Spaces.{space_content};
-ghost use Rattle.node_values.specs.Values.{OfSpace, OfRefusal, OfColumn, OfCheck, OfFlag, OfOutcome, space_in, column_in, check_in, flag_in, outcome_in, refusal_in};
+ghost use Rattle.node_values.specs.Values.{OfSpace, OfRefusal, OfColumn, OfCheck, OfOutcome, space_in, column_in, check_in, outcome_in, refusal_in};
 ghost use Rattle.node_values.specs.Views.{value_content};
 
 use candidates::{EvalRefusal, Space};
@@ -19,18 +19,21 @@ pub enum ValueContent {
     Refused(EvalRefusal),
     /// The value of a name in each candidate.
     Column(Column),
-    /// Whether a check holds, for each candidate.
+    /// Whether the check of a check or a flag holds, for each candidate.
     Check(Vec<bool>),
-    /// Whether the check of a flag holds, for each candidate.
-    Flag(Vec<bool>),
     /// The outcome of a test under a model.
     Outcome(Outcome),
 }
 
 /// The value of a node. Contracts see it as plain data: two that show the same are equal.
-#[derive(Drop)]
 pub struct NodeValue {
     content: ValueContent,
+}
+
+impl Drop for NodeValue {
+    fn drop(self) {
+        let NodeValue { content: _ } = self;
+    }
 }
 
 impl Model for NodeValue {
@@ -58,7 +61,6 @@ impl ValueContent {
             ValueContent::Refused(_) => None,
             ValueContent::Column(_) => None,
             ValueContent::Check(_) => None,
-            ValueContent::Flag(_) => None,
             ValueContent::Outcome(_) => None,
         }
     }
@@ -71,7 +73,6 @@ impl ValueContent {
             ValueContent::Space(_) => None,
             ValueContent::Refused(_) => None,
             ValueContent::Check(_) => None,
-            ValueContent::Flag(_) => None,
             ValueContent::Outcome(_) => None,
         }
     }
@@ -84,20 +85,6 @@ impl ValueContent {
             ValueContent::Space(_) => None,
             ValueContent::Refused(_) => None,
             ValueContent::Column(_) => None,
-            ValueContent::Flag(_) => None,
-            ValueContent::Outcome(_) => None,
-        }
-    }
-
-    fn flag(&self) -> Option<&[bool]>
-        ensures { option_map (λ c. c.now) result ≡ flag_in (value_content self.now) }
-    {
-        match self {
-            ValueContent::Flag(answers) => Some(answers.as_slice()),
-            ValueContent::Space(_) => None,
-            ValueContent::Refused(_) => None,
-            ValueContent::Column(_) => None,
-            ValueContent::Check(_) => None,
             ValueContent::Outcome(_) => None,
         }
     }
@@ -111,7 +98,6 @@ impl ValueContent {
             ValueContent::Refused(_) => None,
             ValueContent::Column(_) => None,
             ValueContent::Check(_) => None,
-            ValueContent::Flag(_) => None,
         }
     }
 
@@ -123,7 +109,6 @@ impl ValueContent {
             ValueContent::Space(_) => None,
             ValueContent::Column(_) => None,
             ValueContent::Check(_) => None,
-            ValueContent::Flag(_) => None,
             ValueContent::Outcome(_) => None,
         }
     }
@@ -138,7 +123,6 @@ impl ValueContent {
             ValueContent::Refused(_) => false,
             ValueContent::Column(_) => false,
             ValueContent::Check(_) => false,
-            ValueContent::Flag(_) => false,
             ValueContent::Outcome(_) => false,
         }
     }
@@ -151,7 +135,6 @@ impl ValueContent {
             ValueContent::Refused(other) => refusal == *other,
             ValueContent::Column(_) => false,
             ValueContent::Check(_) => false,
-            ValueContent::Flag(_) => false,
             ValueContent::Outcome(_) => false,
         }
     }
@@ -164,7 +147,6 @@ impl ValueContent {
             ValueContent::Refused(_) => false,
             ValueContent::Column(other) => column.is_same(other),
             ValueContent::Check(_) => false,
-            ValueContent::Flag(_) => false,
             ValueContent::Outcome(_) => false,
         }
     }
@@ -177,20 +159,6 @@ impl ValueContent {
             ValueContent::Refused(_) => false,
             ValueContent::Column(_) => false,
             ValueContent::Check(other) => same_answers(answers, other),
-            ValueContent::Flag(_) => false,
-            ValueContent::Outcome(_) => false,
-        }
-    }
-
-    fn is_flag(&self, answers: &[bool]) -> bool
-        ensures { IsTrue result ↔ (OfFlag answers.now ≡ value_content self.now) }
-    {
-        match self {
-            ValueContent::Space(_) => false,
-            ValueContent::Refused(_) => false,
-            ValueContent::Column(_) => false,
-            ValueContent::Check(_) => false,
-            ValueContent::Flag(other) => same_answers(answers, other),
             ValueContent::Outcome(_) => false,
         }
     }
@@ -203,7 +171,6 @@ impl ValueContent {
             ValueContent::Refused(_) => false,
             ValueContent::Column(_) => false,
             ValueContent::Check(_) => false,
-            ValueContent::Flag(_) => false,
             ValueContent::Outcome(other) => outcome.is_same(other),
         }
     }
@@ -216,7 +183,6 @@ impl ValueContent {
             ValueContent::Refused(refusal) => other.is_refusal(*refusal),
             ValueContent::Column(column) => other.is_column(column),
             ValueContent::Check(answers) => other.is_check(answers),
-            ValueContent::Flag(answers) => other.is_flag(answers),
             ValueContent::Outcome(outcome) => other.is_outcome(outcome),
         }
     }
@@ -257,21 +223,12 @@ impl NodeValue {
         }
     }
 
-    /// The value of a check.
+    /// The value of a check or a flag.
     pub fn of_check(answers: Vec<bool>) -> NodeValue
         ensures { result ≡ OfCheck answers.items }
     {
         NodeValue {
             content: ValueContent::Check(answers),
-        }
-    }
-
-    /// The value of a flag.
-    pub fn of_flag(answers: Vec<bool>) -> NodeValue
-        ensures { result ≡ OfFlag answers.items }
-    {
-        NodeValue {
-            content: ValueContent::Flag(answers),
         }
     }
 
@@ -298,18 +255,11 @@ impl NodeValue {
         self.content.column()
     }
 
-    /// The answers of a check, if it holds such.
+    /// The answers of a check or a flag, if it holds such.
     pub fn check(&self) -> Option<&[bool]>
         ensures { option_map (λ c. c.now) result ≡ check_in self.now }
     {
         self.content.check()
-    }
-
-    /// The answers of a flag, if it holds such.
-    pub fn flag(&self) -> Option<&[bool]>
-        ensures { option_map (λ c. c.now) result ≡ flag_in self.now }
-    {
-        self.content.flag()
     }
 
     /// The outcome, if it is one.

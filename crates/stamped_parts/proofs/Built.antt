@@ -1,5 +1,5 @@
 -- A state that is built of its tests and models is valid.
-use Rattle.std.proofs.Common.{ℕ, ◌+◌, ◌<◌, ◌≡◌, ◌⊎◌, inl, inr, true, false, List, [], ◌∷◌, ◌++◌, Option, Some, None, is_some, refl, ap, sym, subst, ◌∙◌, arith}
+use Rattle.std.proofs.Common.{ℕ, ◌+◌, ◌≡◌, ◌⊎◌, inl, inr, true, false, List, [], ◌∷◌, ◌++◌, Option, Some, None, is_some, refl, ap, sym, subst, ◌∙◌, arith}
 use Rattle.std.specs.List.{AllByRecursion as Each}
 use Rattle.std.proofs.lemmas.Bool.{cases_Bool}
 use Rattle.std.proofs.lemmas.Option.{none-some}
@@ -19,10 +19,10 @@ use Rattle.bench_nodes.specs.Nodes.{used, keys_at, is_slot, has_slot, slot_keys,
 use Rattle.bench_nodes.proofs.Laws.{used_test, used_slot}
 use Rattle.node_values.specs.Givens.{GivenContent, ForItem}
 use Rattle.node_values.specs.Items.{RoleContent}
-use Rattle.node_values.specs.Makes.{role_outputs, output_count}
+use Rattle.node_values.specs.Makes.{item_outputs, output_names}
 use Rattle.model_slots.specs.Tables.{ModelReading, Sound, Faulty, IsOrderedModel}
 use Rattle.model_slots.proofs.Ordered.{table_ordered}
-use Rattle.stamped_parts.specs.Contents.{PartContent, OfRole, OfFault, OfCondition, OfObserved, OfLocations, OfInit, OfThread, State, content}
+use Rattle.stamped_parts.specs.Contents.{PartContent, OfRole, OfFault, OfCondition, OfObserved, OfLocations, OfInit, OfThread, State, histories, content}
 use Rattle.stamped_parts.specs.States.{contents, space_given, given_space, given_item, given_verdict, given_by, given, HasOutput, IsValid}
 use Rattle.stamped_parts.specs.Built.{IsModelIn, IsTestRow, IsBuilt}
 use Rattle.stamped_parts.specs.Views.{FoundTest, view_of}
@@ -30,27 +30,27 @@ use Rattle.stamped_parts.proofs.BuiltRows.{found_test, stamps_are_low, empty_are
 use Rattle.stamped_parts.proofs.BuiltSlots.{HasRole, IsGoodKey, IsGoodOutput, BeginsAsItem, AsksFlags, AsksFault, IsGoodSlot, good_slot}
 use Rattle.stamped_parts.proofs.SpaceParts.{part_is, space_is}
 
--- ---- how many outputs a space gives
+-- ---- a space gives one output
 
-space_one : (init : List InitEntry) (threads : List (List Step)) (cs : List (Option PartContent)) (g : GivenContent) → space_given init threads cs ≡ Some g → output_count g ≡ 1
+space_one : (init : List InitEntry) (threads : List (List Step)) (cs : List (Option PartContent)) (g : GivenContent) → space_given init threads cs ≡ Some g → output_names g ≡ 0 ∷ []
 space_one init threads (Some (OfThread steps) ∷ cs) g e = space_one init (threads ++ steps ∷ []) cs g e
-space_one init threads (Some (OfLocations locations) ∷ cs) g e = ap output_count (sym (some_given e))
+space_one init threads (Some (OfLocations locations) ∷ cs) g e = ap output_names (sym (some_given e))
   where
     some_given : {a b : GivenContent} → Some a ≡ Some b → a ≡ b
     some_given e = cc
 space_one init threads [] g e = absurd (none-some g e)
 space_one init threads (None ∷ cs) g e = absurd (none-some g e)
-space_one init threads (Some (OfRole role) ∷ cs) g e = absurd (none-some g e)
+space_one init threads (Some (OfRole role history) ∷ cs) g e = absurd (none-some g e)
 space_one init threads (Some (OfFault fault) ∷ cs) g e = absurd (none-some g e)
 space_one init threads (Some (OfCondition quantifier condition) ∷ cs) g e = absurd (none-some g e)
 space_one init threads (Some (OfObserved observed) ∷ cs) g e = absurd (none-some g e)
 space_one init threads (Some (OfInit other) ∷ cs) g e = absurd (none-some g e)
 
-given_one : (cs : List (Option PartContent)) (g : GivenContent) → given_space cs ≡ Some g → output_count g ≡ 1
+given_one : (cs : List (Option PartContent)) (g : GivenContent) → given_space cs ≡ Some g → output_names g ≡ 0 ∷ []
 given_one (Some (OfInit init) ∷ cs) g e = space_one init [] cs g e
 given_one [] g e = absurd (none-some g e)
 given_one (None ∷ cs) g e = absurd (none-some g e)
-given_one (Some (OfRole role) ∷ cs) g e = absurd (none-some g e)
+given_one (Some (OfRole role history) ∷ cs) g e = absurd (none-some g e)
 given_one (Some (OfFault fault) ∷ cs) g e = absurd (none-some g e)
 given_one (Some (OfCondition quantifier condition) ∷ cs) g e = absurd (none-some g e)
 given_one (Some (OfObserved observed) ∷ cs) g e = absurd (none-some g e)
@@ -68,10 +68,10 @@ no_inputs (s ∷ ss) kind of e = elim (cases_Bool (is_slot kind of s)) [
 module _ (s : State) where
   -- ---- what items and verdicts are given
 
-  item_given : (test of : ℕ) (keys : List SlotKey) (b : BeginsAsItem s of keys) → given_item (contents s (keys_at test keys)) ≡ Some (ForItem b.2)
+  item_given : (test of : ℕ) (keys : List SlotKey) (b : BeginsAsItem s of keys) → given_item (contents s (keys_at test keys)) ≡ Some (ForItem b.2 b.3)
   item_given test of keys b =
       ap (λ (ks : List SlotKey). given_item (contents s (keys_at test ks))) b.1
-      ∙ ap (λ (c : Option PartContent). given_item (c ∷ contents s (keys_at test b.0))) b.3
+      ∙ ap (λ (c : Option PartContent). given_item (c ∷ contents s (keys_at test b.0))) b.4
 
   module _ (models : List ModelReading) (built : IsBuilt s models) where
     abbrev ss : List Slot
@@ -82,32 +82,35 @@ module _ (s : State) where
 
     -- ---- outputs
 
-    item_count : (kind : Kind) (test of name : ℕ) (g : GivenContent) → (has_slot ss kind of ≡ true → BeginsAsItem s of (slot_keys ss kind of)) → HasRole s of name → given_item (contents s (keys_at test (slot_keys ss kind of))) ≡ Some g → name < output_count g
-    item_count kind test of name g begins has e = elim (cases_Bool (has_slot ss kind of)) [
+    item_outputs_there : (kind : Kind) (test of name : ℕ) (g : GivenContent) → (has_slot ss kind of ≡ true → BeginsAsItem s of (slot_keys ss kind of)) → HasRole s of name → given_item (contents s (keys_at test (slot_keys ss kind of))) ≡ Some g → Has (output_names g) name
+    item_outputs_there kind test of name g begins has e = elim (cases_Bool (has_slot ss kind of)) [
       | inl t ↦ (
           let b = begins t in
-          let is : ForItem b.2 ≡ g = some_given (sym (item_given test of (slot_keys ss kind of) b) ∙ e) in
-          let role : b.2 ≡ has.0 = some_role (sym b.3 ∙ has.1) in
-          subst (λ (h : GivenContent). name < output_count h) is (subst (λ (r : RoleContent). name < role_outputs r) (sym role) has.2))
+          let is : ForItem b.2 b.3 ≡ g = some_given (sym (item_given test of (slot_keys ss kind of) b) ∙ e) in
+          let part : OfRole b.2 b.3 ≡ OfRole has.0 has.1 = some_part (sym b.4 ∙ has.2) in
+          let role : b.2 ≡ has.0 = part_role part in
+          let history : b.3 ≡ has.1 = part_names part in
+          subst (λ (h : GivenContent). Has (output_names h) name) is
+          (subst (λ (r : RoleContent). Has (item_outputs r b.3) name) (sym role) (subst (λ (h : List (List ℕ)). Has (item_outputs has.0 h) name) (sym history) has.3)))
       | inr t ↦ absurd (let none = ap (λ (ks : List SlotKey). given_item (contents s (keys_at test ks))) (no_inputs ss kind of t) in none-some g (sym none ∙ e))
     ]
       where
         some_given : {a b : GivenContent} → Some a ≡ Some b → a ≡ b
         some_given e = cc
 
-        some_role : {a b : RoleContent} → Some (OfRole a) ≡ Some (OfRole b) → a ≡ b
-        some_role e = part_role (some_part e)
-          where
-            some_part : {a b : PartContent} → Some a ≡ Some b → a ≡ b
-            some_part e = cc
+        some_part : {a b : PartContent} → Some a ≡ Some b → a ≡ b
+        some_part e = cc
 
-            part_role : {a b : RoleContent} → OfRole a ≡ OfRole b → a ≡ b
-            part_role e = cc
+        part_role : {a b : RoleContent} {g h : List (List ℕ)} → OfRole a g ≡ OfRole b h → a ≡ b
+        part_role e = cc
+
+        part_names : {a b : RoleContent} {g h : List (List ℕ)} → OfRole a g ≡ OfRole b h → g ≡ h
+        part_names e = cc
 
     output_there : (test : ℕ) (kind : Kind) (of name : ℕ) → IsGoodOutput s kind of name → HasOutput s (Output (record { kind = kind; test = test; of = of }) name)
-    output_there test kinds.Space of name h g e = let one = given_one (contents s (space_keys s.parts.table.tests.items test)) g e in omega (arith, one, h)
-    output_there test kinds.Group of name h g e = item_count kinds.Group test of name g (λ t. (good kinds.Group of t).1) h e
-    output_there test kinds.Check of name h g e = item_count kinds.Check test of name g (λ t. (good kinds.Check of t).1) h e
+    output_there test kinds.Space of name h g e = subst (λ (ns : List ℕ). Has ns name) (sym (given_one (contents s (space_keys s.parts.table.tests.items test)) g e)) h
+    output_there test kinds.Group of name h g e = item_outputs_there kinds.Group test of name g (λ t. (good kinds.Group of t).1) h e
+    output_there test kinds.Check of name h g e = item_outputs_there kinds.Check test of name g (λ t. (good kinds.Check of t).1) h e
     output_there test kinds.Verdict of name h g e = absurd h
 
     outputs_there : (test : ℕ) (ks : List SlotKey) → Each (IsGoodKey s) ks → Each (HasOutput s) (keys_at test ks)
@@ -143,27 +146,27 @@ module _ (s : State) where
       abbrev condition : Option PartContent
       condition = Some (OfCondition v.test.condition.quantifier (formula_of v.test.condition.proposition))
 
-      asks_flags : (keys : List SlotKey) → AsksFlags s keys → is_some (given_verdict (contents s (keys_at test keys))) ≡ true
-      asks_flags keys a =
-          ap (λ (ks : List SlotKey). is_some (given_verdict (contents s (keys_at test ks)))) a.1
-          ∙ ap (λ (c : Option PartContent). is_some (given_verdict (c ∷ content s 3 test ∷ contents s (keys_at test a.0)))) (part_is s test v found 2 (omega arith))
-          ∙ ap (λ (c : Option PartContent). is_some (given_verdict (condition ∷ c ∷ contents s (keys_at test a.0)))) (part_is s test v found 3 (omega arith))
+      asks_flags : (keys : List SlotKey) (flags : List (Option (List ℕ))) → AsksFlags s keys → is_some (given_verdict (contents s (keys_at test keys)) flags) ≡ true
+      asks_flags keys flags a =
+          ap (λ (ks : List SlotKey). is_some (given_verdict (contents s (keys_at test ks)) flags)) a.1
+          ∙ ap (λ (c : Option PartContent). is_some (given_verdict (c ∷ content s 3 test ∷ contents s (keys_at test a.0)) flags)) (part_is s test v found 2 (omega arith))
+          ∙ ap (λ (c : Option PartContent). is_some (given_verdict (condition ∷ c ∷ contents s (keys_at test a.0)) flags)) (part_is s test v found 3 (omega arith))
 
-      asks_fault : (keys : List SlotKey) → AsksFault s keys → is_some (given_verdict (contents s (keys_at test keys))) ≡ true
-      asks_fault keys a =
-          ap (λ (ks : List SlotKey). is_some (given_verdict (contents s (keys_at test ks)))) a.2
-          ∙ ap (λ (c : Option PartContent). is_some (given_verdict (c ∷ content s 1 a.0 ∷ []))) (part_is s test v found 2 (omega arith))
-          ∙ ap (λ (c : Option PartContent). is_some (given_verdict (condition ∷ c ∷ []))) a.3
+      asks_fault : (keys : List SlotKey) (flags : List (Option (List ℕ))) → AsksFault s keys → is_some (given_verdict (contents s (keys_at test keys)) flags) ≡ true
+      asks_fault keys flags a =
+          ap (λ (ks : List SlotKey). is_some (given_verdict (contents s (keys_at test ks)) flags)) a.2
+          ∙ ap (λ (c : Option PartContent). is_some (given_verdict (c ∷ content s 1 a.0 ∷ []) flags)) (part_is s test v found 2 (omega arith))
+          ∙ ap (λ (c : Option PartContent). is_some (given_verdict (condition ∷ c ∷ []) flags)) a.3
 
-      verdict_some : (keys : List SlotKey) → AsksFlags s keys ⊎ AsksFault s keys → is_some (given_verdict (contents s (keys_at test keys))) ≡ true
-      verdict_some keys (inl a) = asks_flags keys a
-      verdict_some keys (inr a) = asks_fault keys a
+      verdict_some : (keys : List SlotKey) (flags : List (Option (List ℕ))) → AsksFlags s keys ⊎ AsksFault s keys → is_some (given_verdict (contents s (keys_at test keys)) flags) ≡ true
+      verdict_some keys flags (inl a) = asks_flags keys flags a
+      verdict_some keys flags (inr a) = asks_fault keys flags a
 
-      given_some : (kind : Kind) (of : ℕ) → has_slot ss kind of ≡ true → is_some (given_by kind (contents s (inputs_of s.parts.table kind test of))) ≡ true
+      given_some : (kind : Kind) (of : ℕ) → has_slot ss kind of ≡ true → is_some (given_by s kind (inputs_of s.parts.table kind test of)) ≡ true
       given_some kinds.Space of has = space_some
       given_some kinds.Group of has = some_of (given_item (contents s (keys_at test (slot_keys ss kinds.Group of)))) _ (item_given test of (slot_keys ss kinds.Group of) (good kinds.Group of has).1)
       given_some kinds.Check of has = some_of (given_item (contents s (keys_at test (slot_keys ss kinds.Check of)))) _ (item_given test of (slot_keys ss kinds.Check of) (good kinds.Check of has).1)
-      given_some kinds.Verdict of has = verdict_some (slot_keys ss kinds.Verdict of) (good kinds.Verdict of has).1
+      given_some kinds.Verdict of has = verdict_some (slot_keys ss kinds.Verdict of) _ (good kinds.Verdict of has).1
 
     used_given : (n : Node) → Has (used s.parts.table) n → is_some (given s n) ≡ true
     used_given n h =
@@ -182,7 +185,7 @@ module _ (s : State) where
 
     pub built_valid : IsValid s
     built_valid = record {
-      ordered = table_ordered s.parts.table models built.slots (ordered_models models built.models_in);
+      ordered = table_ordered s.parts.table (histories s) models built.slots (ordered_models models built.models_in);
       outputs = λ n h. inputs_there n.kind n.test n.of (used_slot s.parts.table n h);
       gives = used_given;
       empty = empty_are_none s s.parts.last built.items built.faults built.tests;

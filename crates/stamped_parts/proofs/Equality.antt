@@ -8,11 +8,11 @@ use Rattle.node_values.specs.Values.{NodeContent}
 use Rattle.stamped_parts.specs.Equal.{same_tree, same_by, same_value, same_given}
 use Rattle.stamped_parts.specs.States.{is_given}
 
-first_of : (a b : Bool) → a && b ≡ true → a ≡ true
+pub first_of : (a b : Bool) → a && b ≡ true → a ≡ true
 first_of true b h = refl
 first_of false b h = h
 
-second_of : (a b : Bool) → a && b ≡ true → b ≡ true
+pub second_of : (a b : Bool) → a && b ≡ true → b ≡ true
 second_of true b h = h
 second_of false b h = cc
 

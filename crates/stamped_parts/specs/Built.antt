@@ -7,19 +7,23 @@ use Rattle.litmus_values.specs.declared.test.Test.{Test}
 use Rattle.binding_kinds.specs.declared.fault.ModelFault.{ModelFault}
 use Rattle.binding_graph.specs.declared.resolved.ResolvedItem.{ResolvedItem}
 use Rattle.node_values.specs.declared.items.SharedItem.{SharedItem}
-use Rattle.node_values.specs.Items.{role_content}
+use Rattle.node_values.specs.Items.{RoleContent, role_content}
 use Rattle.bench_nodes.specs.declared.table.ItemRow.{ItemRow}
 use Rattle.bench_nodes.specs.declared.table.ModelRow.{ModelRow}
 use Rattle.bench_nodes.specs.declared.table.TestRow.{TestRow}
 use Rattle.model_slots.specs.Slots.{plain, number_at}
 use Rattle.model_slots.specs.Tables.{ModelReading, Sound, Faulty, AreOrderedItems, all_slots}
-use Rattle.stamped_parts.specs.Contents.{OfRole, OfFault, State, content}
+use Rattle.stamped_parts.specs.Contents.{OfRole, OfFault, State, histories, content}
 
 -- ---- models
 
--- the part of each item holds what the item does
+-- the part of the item of that number holds what the item does, with some history
+abbrev pub IsHeld : State → ℕ → RoleContent → Type 0
+IsHeld s number role = (history : List (List ℕ)) × (content s 0 number ≡ Some (OfRole role history))
+
+-- that of each item does
 abbrev pub AreHeld : State → List ℕ → List ResolvedItem → Type 0
-AreHeld s numbers items = (index : ℕ) (r : ResolvedItem) → slice_get items index ≡ Some r → content s 0 (number_at numbers index) ≡ Some (OfRole (role_content r.role))
+AreHeld s numbers items = (index : ℕ) (r : ResolvedItem) → slice_get items index ≡ Some r → IsHeld s (number_at numbers index) (role_content r.role)
 
 -- the model is there as it is read
 abbrev pub IsModelIn : State → ModelReading → Type 0
@@ -61,7 +65,7 @@ AreTestRows last _ _ _ = ⊥
 
 -- the state is that of its tests and of these models
 pub record IsBuilt (s : State) (models : List ModelReading) : Type 0 where
-  pub slots : map plain s.parts.table.slots.items ≡ all_slots models
+  pub slots : map plain s.parts.table.slots.items ≡ all_slots (histories s) models
   pub models_in : Each (IsModelIn s) models
   pub items : AllZip (IsItemRow s.parts.last) s.parts.table.items.items s.parts.roles.items
   pub faults : AllZip (IsModelRow s.parts.last) s.parts.table.models.items s.parts.faults.items

@@ -9,15 +9,16 @@ use Rattle.litmus_values.specs.declared.test.Test.{Test}
 use Rattle.litmus_values.specs.Value.{Formula, formula_of, steps_of}
 use Rattle.binding_kinds.specs.declared.fault.ModelFault.{ModelFault}
 use Rattle.node_values.specs.declared.items.SharedItem.{SharedItem}
-use Rattle.node_values.specs.Items.{RoleContent, shared_role}
+use Rattle.node_values.specs.Items.{RoleContent, shared_role, shared_history}
 use Rattle.bench_nodes.specs.declared.table.ItemRow.{ItemRow}
 use Rattle.bench_nodes.specs.declared.table.ModelRow.{ModelRow}
 use Rattle.bench_nodes.specs.declared.table.TestRow.{TestRow}
+use Rattle.model_slots.specs.Slots.{item_history}
 use Rattle.stamped_parts.specs.declared.parts.Parts.{Parts}
 
--- what a part holds: of an item what it does, of a model its fault, and the parts of a test
+-- what a part holds: of an item what it does, with its history, of a model its fault, and the parts of a test
 pub data PartContent : Type 0 where
-  OfRole : (role : RoleContent) → PartContent
+  OfRole : (role : RoleContent) (history : List (List ℕ)) → PartContent
   OfFault : (fault : ModelFault) → PartContent
   OfCondition : (quantifier : Quantifier) (condition : Formula) → PartContent
   OfObserved : (observed : List Place) → PartContent
@@ -27,13 +28,18 @@ pub data PartContent : Type 0 where
 
 abbrev pub role_part : Option SharedItem → Option PartContent
 role_part None = None
-role_part (Some s) = Some (OfRole (shared_role s))
+role_part (Some s) = Some (OfRole (shared_role s) (shared_history s))
 
 -- of the item of that number
 abbrev pub item_content : List ItemRow → List (Option SharedItem) → ℕ → Option PartContent
 item_content [] roles number = None
 item_content (i ∷ is) [] number = None
 item_content (i ∷ is) (r ∷ rs) number = if i.number == number then role_part r else item_content is rs number
+
+-- the names that the item of a part has had
+abbrev pub part_history : Option PartContent → List (List ℕ)
+part_history (Some (OfRole role history)) = history
+part_history _ = []
 
 abbrev pub fault_part : Option ModelFault → Option PartContent
 fault_part None = None
@@ -68,6 +74,10 @@ pub record State : Type 0 where
 
 abbrev pub state_of : Parts → List Test → State
 state_of parts tests = record { parts = parts; tests = tests }
+
+-- the histories of items, by their numbers
+abbrev pub histories : State → ℕ → List (List ℕ)
+histories s = item_history s.parts.table.items.items s.parts.roles.items
 
 -- items have their part 0, models 1, tests the others
 abbrev pub content : State → ℕ → ℕ → Option PartContent

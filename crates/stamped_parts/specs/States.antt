@@ -1,6 +1,6 @@
 -- What nodes are given and make, what a state owes, and what an edit does to stamps.
-use Rattle.std.specs.Prelude.{◌≡◌, ⊤, ℕ, ◌+◌, ◌<◌, ◌≤◌, ◌⊎◌, ◌==◌, ◌&&◌, ◌||◌, Bool, true, false, is_some, List, [], ◌∷◌, ◌++◌, Option, Some, None, if◌then◌else◌}
-use Rattle.std.specs.List.{AllByRecursion as Each}
+use Rattle.std.specs.Prelude.{◌≡◌, ⊤, ℕ, ◌<◌, ◌≤◌, ◌⊎◌, ◌==◌, ◌&&◌, ◌||◌, Bool, true, false, is_some, List, [], ◌∷◌, ◌++◌, Option, Some, None, if◌then◌else◌}
+use Rattle.std.specs.List.{zip, AllByRecursion as Each}
 use Rattle.litmus_values.specs.declared.test.InitEntry.{InitEntry}
 use Rattle.litmus_values.specs.declared.test.Place.{Place}
 use Rattle.litmus_values.specs.declared.test.Quantifier.{Quantifier}
@@ -16,8 +16,8 @@ use Rattle.memo_core.specs.Names.{kind_number}
 use Rattle.memo_core.specs.Right.{Making}
 use Rattle.memo_core.specs.Step.{Has}
 use Rattle.node_values.specs.Givens.{GivenContent, ForSpace, ForItem, ForVerdict, ForFault}
-use Rattle.node_values.specs.Items.{RoleContent, Check}
-use Rattle.node_values.specs.Makes.{Makes, output_count}
+use Rattle.node_values.specs.Items.{Check}
+use Rattle.node_values.specs.Makes.{Makes, output_names}
 use Rattle.node_values.specs.Values.{NodeContent}
 use Rattle.bench_nodes.specs.declared.table.ItemRow.{ItemRow}
 use Rattle.bench_nodes.specs.declared.table.ModelRow.{ModelRow}
@@ -41,25 +41,42 @@ space_given init threads (Some (OfThread steps) ∷ cs) = space_given init (thre
 space_given init threads (Some (OfLocations locations) ∷ cs) = Some (ForSpace (record { init = init; threads = threads; locations = locations }))
 space_given init threads _ = None
 
+-- the text of that item is among some inputs
+abbrev pub is_read : List Key → ℕ → Bool
+is_read [] item = false
+is_read (Part part of ∷ ks) item = ((part == 0) && (of == item)) || is_read ks item
+is_read (Output n x ∷ ks) item = is_read ks item
+
 -- the name of a flag
-abbrev pub flag_names : RoleContent → List (List ℕ)
-flag_names (Check negated word code (Some name)) = name ∷ []
-flag_names _ = []
+abbrev pub flag_name : Option PartContent → Option (List ℕ)
+flag_name (Some (OfRole (Check negated word code flag) history)) = flag
+flag_name _ = None
 
--- the names of the flags among some items
-abbrev pub flags_among : List (Option PartContent) → List (List ℕ)
-flags_among [] = []
-flags_among (Some (OfRole role) ∷ cs) = flag_names role ++ flags_among cs
-flags_among (_ ∷ cs) = flags_among cs
+-- that of the item of that number, whose text is among some inputs where it is a flag
+abbrev pub flag_read : State → List Key → ℕ → Option (List ℕ)
+flag_read s keys item = if is_read keys item then flag_name (content s 0 item) else None
 
-abbrev pub asked_with : Quantifier → Formula → List Place → List (Option PartContent) → GivenContent
-asked_with kind proposition observed cs = ForVerdict (record { kind = kind; proposition = proposition; observed = observed; flags = flags_among cs })
+-- the node is that of a check or a flag
+abbrev pub is_answer : Kind → Bool
+is_answer kinds.Space = false
+is_answer kinds.Group = false
+is_answer kinds.Check = true
+is_answer kinds.Verdict = false
 
--- a condition, and then what is observed and the flags, or the fault of a model
-abbrev pub verdict_given : Quantifier → Formula → List (Option PartContent) → Option GivenContent
-verdict_given kind proposition (Some (OfObserved observed) ∷ cs) = Some (asked_with kind proposition observed cs)
-verdict_given kind proposition (Some (OfFault fault) ∷ cs) = Some (ForFault (record { kind = kind; proposition = proposition; fault = fault }))
-verdict_given kind proposition _ = None
+-- for each check and flag among some inputs, in order, the name of the flag
+abbrev pub flags_read : State → List Key → List Key → List (Option (List ℕ))
+flags_read s keys [] = []
+flags_read s keys (Part part of ∷ ks) = flags_read s keys ks
+flags_read s keys (Output n x ∷ ks) = if is_answer n.kind then flag_read s keys n.of ∷ flags_read s keys ks else flags_read s keys ks
+
+abbrev pub asked_with : Quantifier → Formula → List Place → List (Option (List ℕ)) → GivenContent
+asked_with kind proposition observed flags = ForVerdict (record { kind = kind; proposition = proposition; observed = observed; flags = flags })
+
+-- a condition, and then what is observed, or the fault of a model
+abbrev pub verdict_given : Quantifier → Formula → List (Option PartContent) → List (Option (List ℕ)) → Option GivenContent
+verdict_given kind proposition (Some (OfObserved observed) ∷ cs) flags = Some (asked_with kind proposition observed flags)
+verdict_given kind proposition (Some (OfFault fault) ∷ cs) flags = Some (ForFault (record { kind = kind; proposition = proposition; fault = fault }))
+verdict_given kind proposition _ flags = None
 
 -- a space begins with initial values, an item with what it does, a verdict with a condition
 abbrev pub given_space : List (Option PartContent) → Option GivenContent
@@ -67,23 +84,23 @@ given_space (Some (OfInit init) ∷ cs) = space_given init [] cs
 given_space _ = None
 
 abbrev pub given_item : List (Option PartContent) → Option GivenContent
-given_item (Some (OfRole role) ∷ cs) = Some (ForItem role)
+given_item (Some (OfRole role history) ∷ cs) = Some (ForItem role history)
 given_item _ = None
 
-abbrev pub given_verdict : List (Option PartContent) → Option GivenContent
-given_verdict (Some (OfCondition kind proposition) ∷ cs) = verdict_given kind proposition cs
-given_verdict _ = None
+abbrev pub given_verdict : List (Option PartContent) → List (Option (List ℕ)) → Option GivenContent
+given_verdict (Some (OfCondition kind proposition) ∷ cs) flags = verdict_given kind proposition cs flags
+given_verdict _ flags = None
 
--- by the kind of the node
-abbrev pub given_by : Kind → List (Option PartContent) → Option GivenContent
-given_by kinds.Space cs = given_space cs
-given_by kinds.Group cs = given_item cs
-given_by kinds.Check cs = given_item cs
-given_by kinds.Verdict cs = given_verdict cs
+-- by the kind of the node, of its inputs
+abbrev pub given_by : State → Kind → List Key → Option GivenContent
+given_by s kinds.Space ks = given_space (contents s ks)
+given_by s kinds.Group ks = given_item (contents s ks)
+given_by s kinds.Check ks = given_item (contents s ks)
+given_by s kinds.Verdict ks = given_verdict (contents s ks) (flags_read s ks ks)
 
 -- what a job of the node is given, if the node is there
 abbrev pub given : State → Node → Option GivenContent
-given s n = given_by n.kind (contents s (inputs s.parts.table n))
+given s n = given_by s n.kind (inputs s.parts.table n)
 
 abbrev pub is_given : Option GivenContent → GivenContent → Bool
 is_given None g = false
@@ -94,20 +111,16 @@ net_in s = net_of s.parts.table (λ n g. is_given (given s n) g)
 
 -- ---- what a job makes
 
--- values named by their index, from a number on
-abbrev pub numbered : ℕ → List NodeContent → List (ℕ × NodeContent)
-numbered i [] = []
-numbered i (v ∷ vs) = (i, v) ∷ numbered (i + 1) vs
-
+-- the values that it gives, each beside the number by which it goes
 abbrev pub makes : Making NodeContent GivenContent
-makes n g keys values outputs = (vs : List NodeContent) × Makes g values vs × (outputs ≡ numbered 0 vs)
+makes n g keys values outputs = (vs : List NodeContent) × Makes g values vs × (outputs ≡ zip (output_names g) vs)
 
 -- ---- what a state owes
 
 -- an output among inputs is one that its node gives
 abbrev pub HasOutput : State → Key → Type 0
 HasOutput s (Part part of) = ⊤
-HasOutput s (Output n x) = (g : GivenContent) → given s n ≡ Some g → x < output_count g
+HasOutput s (Output n x) = (g : GivenContent) → given s n ≡ Some g → Has (output_names g) x
 
 pub record IsValid (s : State) : Type 0 where
   pub ordered : IsOrdered s.parts.table

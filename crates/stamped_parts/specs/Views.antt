@@ -4,12 +4,13 @@ use Rattle.std.specs.Option.{option_or}
 use Rattle.std.specs.declared.alloc.Global.{Global}
 use Rattle.litmus_values.specs.declared.test.Test.{Test}
 use Rattle.litmus_values.specs.Value.{formula_of, steps_of}
+use Rattle.memo_core.specs.declared.keys.Key.{Key}
 use Rattle.bench_nodes.specs.declared.table.SlotKey.{SlotKey}
 use Rattle.bench_nodes.specs.declared.table.SlotKey.TheVariants as slots
 use Rattle.bench_nodes.specs.declared.table.TestRow.{TestRow}
-use Rattle.bench_nodes.specs.Nodes.{key_at, keys_at}
+use Rattle.bench_nodes.specs.Nodes.{keys_at}
 use Rattle.node_values.specs.Givens.{GivenContent, ForSpace, ForItem, ForVerdict, ForFault, asked, faulted}
-use Rattle.node_values.specs.Items.{shared_role}
+use Rattle.node_values.specs.Items.{shared_role, shared_history}
 use Rattle.node_values.specs.Parts.{parts_of}
 use Rattle.stamped_parts.specs.declared.nodes.NodeParts.{NodeParts}
 use Rattle.stamped_parts.specs.declared.nodes.NodeParts.TheVariants as parts
@@ -20,10 +21,10 @@ use Rattle.stamped_parts.specs.declared.content.Content.TheVariants as held
 use Rattle.stamped_parts.specs.declared.find.TestView.{TestView}
 use Rattle.stamped_parts.specs.declared.flags.FirstFlag.{FirstFlag}
 use Rattle.stamped_parts.specs.Contents.{PartContent, OfRole, OfFault, OfCondition, OfObserved, OfLocations, OfInit, OfThread, State}
-use Rattle.stamped_parts.specs.States.{contents, flags_among}
+use Rattle.stamped_parts.specs.States.{contents, flags_read}
 
 abbrev pub content_of : Content → PartContent
-content_of (held.Role item) = OfRole (shared_role item.now)
+content_of (held.Role item) = OfRole (shared_role item.now) (shared_history item.now)
 content_of (held.Fault fault) = OfFault fault
 content_of (held.Condition condition) = OfCondition condition.now.quantifier (formula_of condition.now.proposition)
 content_of (held.Observed observed) = OfObserved observed.now
@@ -77,19 +78,19 @@ contents_from s test (Some f) = option_map content_of f.held ∷ contents s (key
 
 -- ---- flags among inputs
 
--- of one input
-abbrev pub flags_at : State → ℕ → SlotKey → List (List ℕ)
-flags_at s test key = flags_among (contents s (key_at test key ∷ []))
+-- of one input, where it is the answers of a check or a flag
+abbrev pub flag_at : State → List Key → Key → List (Option (List ℕ))
+flag_at s keys key = flags_read s keys (key ∷ [])
 
--- the first flag, and those behind it
-abbrev pub flags_from : State → ℕ → Option FirstFlag → List (List ℕ)
-flags_from s test None = []
-flags_from s test (Some f) = f.name.now ∷ flags_among (contents s (keys_at test f.rest.now))
+-- the first check or flag, and those behind it
+abbrev pub flags_from : State → ℕ → List Key → Option FirstFlag → List (Option (List ℕ))
+flags_from s test keys None = []
+flags_from s test keys (Some f) = option_map (λ n. n.now) f.name ∷ flags_read s keys (keys_at test f.rest.now)
 
 -- ---- what a job is given
 
 abbrev pub given_of : State → ℕ → NodeParts → GivenContent
 given_of s test (parts.Space init threads locations) = ForSpace (parts_of init.now threads.now locations.now)
-given_of s test (parts.Item item) = ForItem (shared_role item.now)
-given_of s test (parts.Verdict condition observed rest) = ForVerdict (asked condition.now observed.now (flags_among (contents s (keys_at test rest.now))))
+given_of s test (parts.Item item) = ForItem (shared_role item.now) (shared_history item.now)
+given_of s test (parts.Verdict condition observed keys) = ForVerdict (asked condition.now observed.now (flags_read s (keys_at test keys.now) (keys_at test keys.now)))
 given_of s test (parts.Fault condition fault) = ForFault (faulted condition.now fault)

@@ -33,9 +33,9 @@ fn given_from(
         NodeParts::Verdict {
             condition,
             observed,
-            rest,
+            keys,
         } => {
-            let flags = copied_flags(alloc, parts, tests, test, rest)?;
+            let flags = copied_flags(alloc, parts, tests, test, keys)?;
             Given::of_verdict(alloc, condition, observed, flags)
         }
         NodeParts::Fault { condition, fault } => Given::of_fault(alloc, condition, fault),
@@ -57,14 +57,14 @@ fn is_given_from(
             threads,
             locations,
         } => given.is_space(init, threads, locations),
-        NodeParts::Item(item) => given.is_item(&item.item().role),
+        NodeParts::Item(item) => given.is_item(item),
         NodeParts::Verdict {
             condition,
             observed,
-            rest,
+            keys,
         } => {
             let flags = given.flags();
-            has_flags(parts, tests, test, rest, flags)
+            has_flags(parts, tests, test, keys, flags)
                 && given.is_verdict(condition, observed, flags)
         }
         NodeParts::Fault { condition, fault } => given.is_fault(condition, fault),

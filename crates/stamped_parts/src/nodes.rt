@@ -4,7 +4,7 @@ ghost use Rattle.std.specs.Prelude.{◌≡◌, option_map};
 ghost use Rattle.litmus_values.specs.Value.{formula_of};
 ghost use Rattle.bench_nodes.specs.Nodes.{keys_at, space_keys};
 ghost use Rattle.stamped_parts.specs.Contents.{state_of};
-ghost use Rattle.stamped_parts.specs.States.{contents, given_space, given_item, given_verdict, verdict_given, given};
+ghost use Rattle.stamped_parts.specs.States.{contents, flags_read, given_space, given_item, given_verdict, verdict_given, given};
 ghost use Rattle.stamped_parts.specs.Views.{first_view, part_before, first_part, contents_from, given_of};
 
 use crate::content::{Content, content_at};
@@ -26,11 +26,11 @@ pub(crate) enum NodeParts<'p> {
         locations: &'p [Name],
     },
     Item(&'p SharedItem),
-    /// The flags are among the inputs that are left.
+    /// Which checks are flags is among all the inputs of the node.
     Verdict {
         condition: &'p Condition,
         observed: &'p [Place],
-        rest: &'p [SlotKey],
+        keys: &'p [SlotKey],
     },
     Fault {
         condition: &'p Condition,
@@ -150,17 +150,18 @@ fn item_parts<'p>(
     }
 }
 
-// What a verdict of this condition is given by the inputs behind it.
+// What a verdict of this condition is given by the inputs behind it, and by which checks are flags among all of its inputs.
 fn parts_behind<'p>(
     parts: &'p Parts,
     tests: &'p [Test],
     test: u64,
     condition: &'p Condition,
+    rest: &'p [SlotKey],
     keys: &'p [SlotKey],
 ) -> Option<NodeParts<'p>>
-    ensures { let s = state_of parts.now tests.now in option_map (given_of s test) result ≡ verdict_given condition.now.quantifier (formula_of condition.now.proposition) (contents s (keys_at test keys.now)) }
+    ensures { let s = state_of parts.now tests.now in let all = keys_at test keys.now in option_map (given_of s test) result ≡ verdict_given condition.now.quantifier (formula_of condition.now.proposition) (contents s (keys_at test rest.now)) (flags_read s all all) }
 {
-    match first_content(parts, tests, test, keys) {
+    match first_content(parts, tests, test, rest) {
         Some(second) => match second.held {
             Some(Content::Role(_)) => None,
             Some(Content::Fault(fault)) => Some(NodeParts::Fault { condition, fault }),
@@ -168,7 +169,7 @@ fn parts_behind<'p>(
             Some(Content::Observed(observed)) => Some(NodeParts::Verdict {
                 condition,
                 observed,
-                rest: second.rest,
+                keys,
             }),
             Some(Content::Locations(_)) => None,
             Some(Content::Init(_)) => None,
@@ -185,14 +186,14 @@ fn verdict_parts<'p>(
     test: u64,
     keys: &'p [SlotKey],
 ) -> Option<NodeParts<'p>>
-    ensures { let s = state_of parts.now tests.now in option_map (given_of s test) result ≡ given_verdict (contents s (keys_at test keys.now)) }
+    ensures { let s = state_of parts.now tests.now in let all = keys_at test keys.now in option_map (given_of s test) result ≡ given_verdict (contents s all) (flags_read s all all) }
 {
     match first_content(parts, tests, test, keys) {
         Some(first) => match first.held {
             Some(Content::Role(_)) => None,
             Some(Content::Fault(_)) => None,
             Some(Content::Condition(condition)) => {
-                parts_behind(parts, tests, test, condition, first.rest)
+                parts_behind(parts, tests, test, condition, first.rest, keys)
             }
             Some(Content::Observed(_)) => None,
             Some(Content::Locations(_)) => None,

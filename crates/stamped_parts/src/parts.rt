@@ -9,7 +9,6 @@ use source_text::Name;
 use std::alloc::Global;
 
 /// The stamps of the parts, with what the parts hold that the tests do not.
-#[derive(Drop)]
 pub struct Parts {
     /// The stamps, and the nodes of each test.
     pub table: NodeTable,
@@ -23,6 +22,19 @@ pub struct Parts {
     pub kinds: Vec<Option<Kind>>,
     /// The number of the last edit.
     pub last: u64,
+}
+
+impl Drop for Parts {
+    fn drop(self) {
+        let Parts {
+            table: _,
+            locations: _,
+            faults: _,
+            roles: _,
+            kinds: _,
+            last: _,
+        } = self;
+    }
 }
 
 impl Parts {

@@ -1,17 +1,25 @@
-use Rattle.std.proofs.Common.{◌<◌, ◌≤◌, length, ap, sym, ◌∙◌, Some, rules}
+use Rattle.std.proofs.Common.{◌≡◌, ◌<◌, ◌≤◌, length, ap, sym, subst, ◌∙◌, option_map, IfOk, rules}
 use Rattle.std.specs.Arc.{arc_value}
-use Rattle.node_values.specs.Items.{role_at}
+use Rattle.node_values.specs.Items.{role_at, held_history}
+use Rattle.node_values.specs.Naming.{with_role_names}
+use Rattle.stamped_parts.specs.Contents.{role_part}
+use Rattle.edited_items.specs.Held.{held_part}
+use Rattle.edited_items.specs.Items.{held_after}
+use Rattle.edited_items.proofs.Histories.{new_held}
 use Rattle.edited_items.proofs.Rows.{role_within, role_past}
 use Rattle.edited_items.proofs.items.shared_item.Goals as goal
 
-pub returns-in_ok-try_clone : goal.returns-in_ok-try_clone
-returns-in_ok-try_clone c =
+pub returns-in_ok-new : goal.returns-in_ok-new
+returns-in_ok-new c =
     let items = (arc_value c.args.resolved.now).items.items in
+    let before = option_map (λ r. r.now) c.args.held.now.role in
     let lt : c.args.index < length items = search rules in
-    ap Some (c.new.ensures ∙ ap (λ r. role_at r.items.items c.args.index) (c.in_ok-try_clone.ensures)) ∙ sym (role_within items c.args.index lt)
+    let same = c.in_ok-try_clone.ensures in
+    new_held c.in_ok-new.field-0 before (role_at items c.args.index) _ (c.in_ok-new.ensures.role ∙ ap (λ r. role_at r.items.items c.args.index) same)
+    (c.in_ok-new.ensures.history ∙ ap (λ r. with_role_names (held_history before) (role_at r.items.items c.args.index)) same) (role_within items c.args.index lt)
 
 pub returns-else-index-len : goal.returns-else-index-len
 returns-else-index-len c =
     let items = (arc_value c.args.resolved.now).items.items in
     let past : length items ≤ c.args.index = search rules in
-    sym (role_past items c.args.index past)
+    subst (λ o. IfOk c.again.result (λ r. role_part r ≡ held_after o (held_part c.args.held.now))) (sym (role_past items c.args.index past)) c.again.ensures

@@ -1,11 +1,9 @@
-use Rattle.std.proofs.Common.{◌≡◌, length, refl, arith}
-use Rattle.stamped_parts.proofs.Numbering.{one_more, both_longer}
+use Rattle.stamped_parts.proofs.Numbering.{none_made, one_more}
 use Rattle.stamped_parts.proofs.jobs.outputs_of.Goals as goal
+
+pub loop-value-init : goal.loop-value-init
+loop-value-init c = none_made c.args.names.now c.in_ok-outputs.outputs.items c.in_ok-outputs.ensures.items
 
 pub loop-value-preserved : goal.loop-value-preserved
 loop-value-preserved c =
-    let before = c.loop-value.outputs.items in
-    let name : c.len-name.result ≡ length before = omega (arith, c.len-name.ensures) in (
-      one_more before c.loop-value.yielded c.push.new.self.items _ c.in-Some.value c.in_ok-push.ensures.items name refl c.loop-value.invariant.0 c.loop-value.invariant.1,
-      both_longer before c.loop-value.yielded c.push.new.self.items _ c.in-Some.value c.in_ok-push.ensures.items c.loop-value.invariant.1,
-    )
+    one_more c.args.names.now c.loop-value.outputs.items c.loop-value.yielded c.put_output.new.outputs.items c.in-Some.value c.in_ok-put_output.ensures.named c.in_ok-put_output.ensures.past c.loop-value.invariant

@@ -15,5 +15,5 @@ returns c = λ facts before.
     let d : c.push-3.new.self.items ≡ lists.kinds.items ++ c.kind.result ∷ [] = c.in_ok-push-3.ensures.items in
     let read = read_role (resolved_items m) c.args.index in
     rw (a, b, d) (items_more c.args.fresh p.table.items.items p.roles.items facts lists.rows.items lists.roles.items lists.kinds.items (fact_at m.numbers.now m.items.now (resolved_items m) c.args.index) row role c.kind.result before
-    (record { number_is = refl; role_is = c.in_ok-role.ensures ∙ ap (held_after read) held.role; stamp = stamp_along c.args.fresh _ _ _ _ _ _ stamp held.role held.stamp (ap role_part c.as_ref.ensures.value) c.stamp_of-stamp.ensures })
+    (record { number_is = refl; role_is = c.in_ok-role.ensures ∙ ap (held_after read) held.role; stamp = stamp_along c.args.fresh _ _ _ _ _ _ stamp held.role held.stamp (ap role_part c.as_ref.ensures.value) (c.stamp_of-stamp.ensures read (ap role_part c.as_ref.ensures.value ∙ c.in_ok-role.ensures)) })
     c.kind.ensures)

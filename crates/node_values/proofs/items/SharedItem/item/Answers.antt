@@ -1,4 +1,4 @@
-use Rattle.std.proofs.Common.{rules, arith, ap, ◌≡◌, ◌<◌, List, length}
+use Rattle.std.proofs.Common.{arith, ap, ◌≡◌, ◌<◌, List, length}
 use Rattle.std.specs.Arc.{arc_value}
 use Rattle.binding_graph.specs.declared.resolved.ResolvedItem.{ResolvedItem}
 use Rattle.binding_graph.specs.declared.resolved.Resolved.{Resolved}

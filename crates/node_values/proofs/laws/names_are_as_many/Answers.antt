@@ -1,5 +1,5 @@
 use Rattle.node_values.proofs.Counting.{makes_many}
-use Rattle.node_values.proofs.laws.count_is_known.Goals as goal
+use Rattle.node_values.proofs.laws.names_are_as_many.Goals as goal
 
 pub returns : goal.returns
 returns c = makes_many

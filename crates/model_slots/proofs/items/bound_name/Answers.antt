@@ -1,0 +1,13 @@
+use Rattle.std.proofs.Common.{[], get_or, ap, sym, ◌∙◌, arith}
+use Rattle.binding_graph.specs.declared.resolved.Role.{Role}
+use Rattle.node_values.specs.Items.{role_content}
+use Rattle.node_values.specs.Naming.{names_in}
+use Rattle.model_slots.proofs.Finding.{body_name_at}
+use Rattle.model_slots.proofs.items.bound_name.Goals as goal
+
+pub returns-then-position-len : goal.returns-then-position-len
+returns-then-position-len c =
+    let bodies = c.in-Group.bodies in
+    c.as_bytes.ensures
+    ∙ body_name_at bodies.items c.args.position c.index.result.now (omega (arith, c.if-position-len.true, c.len.ensures, bodies.ok.0)) c.index.ensures
+    ∙ ap (λ (r : Role). get_or (names_in (role_content r)) c.args.position []) (sym c.in-Group.is)
