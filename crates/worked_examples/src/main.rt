@@ -1,9 +1,10 @@
 //! Prints what is known beforehand, as the file `stdout` has it: evaluations of known tests, inputs
-//! with a known answer, the words of the rules, and what `docs/USING.md` shows of files. Each part begins with a line that
-//! names it.
+//! with a known answer, the words of the rules, what `docs/USING.md` shows of files, and reasons and drawings. Each part
+//! begins with a line that names it.
 #![tactic(auto)]
 
 mod examples;
+mod explanations;
 mod inputs;
 mod rules;
 mod using;
@@ -19,7 +20,9 @@ fn run<R: Files + Print + AllocGlobal>(rt: &R) -> io::Result<()> {
     println!(rt; "# The words of the rules")?;
     rules::show_all(rt)?;
     println!(rt; "# Files as in USING.md")?;
-    using::show_all(rt)
+    using::show_all(rt)?;
+    println!(rt; "# Reasons and drawings")?;
+    explanations::show_all(rt)
 }
 
 fn main(rt: HostRuntime) -> io::Result<()> {

@@ -1,13 +1,13 @@
-//! Asks the readers and the printers of tests and of models what each line of `cases.txt` asks, and
+//! Asks the readers and the printers of tests and of models what each line of `readers.txt` asks, and
 //! prints the line and the answer. The answers that are wanted come from other readers of the formats
 //! and from their grammars.
-#![tactic(auto)]
 
 mod models;
 mod propositions;
 mod tests;
 mod values;
 
+use crate::print_answer;
 use source_text::{put_bytes, put_decimal};
 use std::alloc::{AllocError, Global};
 use std::rt::Files;
@@ -62,23 +62,17 @@ fn show<R: Print + AllocGlobal>(rt: &R, line: &str) -> io::Result<()> {
         let mut answer = Vec::new(rt.alloc());
         put_answer(rt.alloc(), &mut answer, question, &text)?;
         println!(rt; "{line}")?;
-        match String::from_utf8(answer) {
-            Ok(answer) => println!(rt; "{answer}")?,
-            Err(_) => println!(rt; "no text")?,
-        }
+        print_answer(rt, answer)?;
     }
     Ok(())
 }
 
-fn run<R: Files + Print + AllocGlobal>(rt: &R) -> io::Result<()> {
+/// Asks each question of the file.
+pub fn show_all<R: Files + Print + AllocGlobal>(rt: &R) -> io::Result<()> {
     values::show(rt)?;
-    let list = fs::read_to_string(rt, "cases.txt")?;
+    let list = fs::read_to_string(rt, "readers.txt")?;
     for line in list.lines() {
         show(rt, line)?;
     }
     Ok(())
-}
-
-fn main(rt: HostRuntime) -> io::Result<()> {
-    run(&rt)
 }

@@ -1,6 +1,6 @@
 //! Models and their items as `cat_syntax` reads and prints them.
 
-use crate::put_refusal;
+use crate::readers::put_refusal;
 use cat_syntax::{CatFault, CatRule, print_model, read_item, read_model};
 use source_text::{put_bytes, put_decimal};
 use std::alloc::{AllocError, Global};

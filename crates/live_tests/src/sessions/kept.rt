@@ -1,6 +1,6 @@
 //! The bytes that are written are the same for each number of workers.
 
-use crate::drawn::{Draw, script};
+use crate::sessions::drawn::{Draw, script};
 use bench_workers::NoGate;
 use litmusbench::{MemorySink, MemorySource, NoListener, SessionFault};
 use live_session::session;

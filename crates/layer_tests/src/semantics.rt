@@ -1,11 +1,11 @@
-//! Asks the semantics of tests what each line of `cases.txt` asks, and prints the line and the answer.
+//! Asks the semantics of tests what each line of `semantics.txt` asks, and prints the line and the answer.
 //! The answers that are wanted were worked out by hand.
-#![tactic(auto)]
 
 mod environments;
 mod runs;
 mod spaces;
 
+use crate::print_answer;
 use litmus_ppc::{Test, read_test};
 use source_text::{put_between, put_bytes, put_decimal};
 use std::alloc::{AllocError, Global};
@@ -62,22 +62,16 @@ fn show<R: Print + AllocGlobal>(rt: &R, line: &str) -> io::Result<()> {
             Ok(test) => put_answer(rt.alloc(), &mut answer, question, &test)?,
             Err(_) => put_bytes(&mut answer, b"no test")?,
         }
-        match String::from_utf8(answer) {
-            Ok(answer) => println!(rt; "{answer}")?,
-            Err(_) => println!(rt; "no text")?,
-        }
+        print_answer(rt, answer)?;
     }
     Ok(())
 }
 
-fn run<R: Files + Print + AllocGlobal>(rt: &R) -> io::Result<()> {
-    let list = fs::read_to_string(rt, "cases.txt")?;
+/// Asks each question of the file.
+pub fn show_all<R: Files + Print + AllocGlobal>(rt: &R) -> io::Result<()> {
+    let list = fs::read_to_string(rt, "semantics.txt")?;
     for line in list.lines() {
         show(rt, line)?;
     }
     Ok(())
-}
-
-fn main(rt: HostRuntime) -> io::Result<()> {
-    run(&rt)
 }

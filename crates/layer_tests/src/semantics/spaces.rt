@@ -1,7 +1,7 @@
 //! Candidates of `candidates`: how many a test has, and each of them.
 
-use crate::environments::put_name;
-use crate::put_item;
+use crate::semantics::environments::put_name;
+use crate::semantics::put_item;
 use base_env::base;
 use candidates::{Execution, SpaceFault, space};
 use litmus_ppc::Test;

@@ -1,10 +1,10 @@
-//! Makes the edits that `cases.txt` lists, one a line, and answers what is asked between them: each line is printed with
+//! Makes the edits that `texts.txt` lists, one a line, and answers what is asked between them: each line is printed with
 //! its answer. The answers that are wanted were written by hand from what each edit is to make.
-#![tactic(auto)]
 
 mod answers;
 mod edits;
 
+use crate::print_answer;
 use bench_texts::{Edit, EditFault, Texts};
 use std::alloc::{AllocError, Global};
 use std::rt::Files;
@@ -74,15 +74,12 @@ fn show<R: Print + AllocGlobal>(rt: &R, texts: &mut Texts, line: &str) -> io::Re
     let mut answer = Vec::new(rt.alloc());
     answer_line(rt.alloc(), texts, &mut answer, question, text)?;
     println!(rt; "{line}")?;
-    match String::from_utf8(answer) {
-        Ok(answer) => println!(rt; "{answer}")?,
-        Err(_) => println!(rt; "no text")?,
-    }
-    Ok(())
+    print_answer(rt, answer)
 }
 
-fn run<R: Files + Print + AllocGlobal>(rt: &R) -> io::Result<()> {
-    let list = fs::read_to_string(rt, "cases.txt")?;
+/// Makes each edit of the file, and answers each question.
+pub fn show_all<R: Files + Print + AllocGlobal>(rt: &R) -> io::Result<()> {
+    let list = fs::read_to_string(rt, "texts.txt")?;
     let mut texts = Texts::new(rt.alloc());
     for line in list.lines() {
         if line == "fresh bench" {
@@ -93,8 +90,4 @@ fn run<R: Files + Print + AllocGlobal>(rt: &R) -> io::Result<()> {
         }
     }
     Ok(())
-}
-
-fn main(rt: HostRuntime) -> io::Result<()> {
-    run(&rt)
 }

@@ -1,6 +1,6 @@
 //! Domains and runs of `ppc_semantics`, and the dependencies of `dataflow`.
 
-use crate::put_pairs;
+use crate::semantics::put_pairs;
 use dataflow::links;
 use litmus_ppc::{Fence, Test};
 use ppc_semantics::{Domain, DomainFault, Event, Run, Value, domain, runs};

@@ -1,6 +1,5 @@
 //! Says of known tests why the model of Power forbids them, or shows an execution that it keeps, or both; and draws
 //! executions of four, and one under a model that shows relations of its own.
-#![tactic(auto)]
 
 mod texts;
 
@@ -76,21 +75,21 @@ fn show<R: Print + AllocGlobal>(rt: &R, asked: Asked, test: &[u8]) -> io::Result
     rt.print(text_of(rt.alloc(), asked, POWER, test)?)
 }
 
-fn main(rt: HostRuntime) -> io::Result<()> {
-    show(&rt, PLAIN, texts::MP_LWSYNC_ADDR)?;
-    show(&rt, PLAIN, texts::IRIW_SYNCS)?;
-    show(&rt, PLAIN, texts::LB_DATAS)?;
-    show(&rt, PLAIN, texts::TWO_TWO_W_LWSYNCS)?;
-    show(&rt, PLAIN, texts::COWR)?;
-    show(&rt, PLAIN, texts::MP)?;
-    show(&rt, PLAIN, texts::MP_EITHER)?;
-    show(&rt, FORBIDDEN, texts::MP_EITHER)?;
-    show(&rt, DEEP, texts::MP_LWSYNC_ADDR)?;
-    show(&rt, DEEP, texts::LB_DATAS)?;
-    show_drawing(&rt, POWER, texts::MP, Wanted::Shown)?;
-    show_drawing(&rt, POWER, texts::MP_LWSYNC_ADDR, Wanted::Forbidden)?;
-    show_drawing(&rt, POWER, texts::LB_DATAS, Wanted::Forbidden)?;
-    show_drawing(&rt, POWER, texts::COWR, Wanted::All)?;
-    show_drawing(&rt, texts::SHOWING, texts::MP_LWSYNC_ADDR, Wanted::Shown)?;
-    Ok(())
+/// Prints each answer.
+pub fn show_all<R: Print + AllocGlobal>(rt: &R) -> io::Result<()> {
+    show(rt, PLAIN, texts::MP_LWSYNC_ADDR)?;
+    show(rt, PLAIN, texts::IRIW_SYNCS)?;
+    show(rt, PLAIN, texts::LB_DATAS)?;
+    show(rt, PLAIN, texts::TWO_TWO_W_LWSYNCS)?;
+    show(rt, PLAIN, texts::COWR)?;
+    show(rt, PLAIN, texts::MP)?;
+    show(rt, PLAIN, texts::MP_EITHER)?;
+    show(rt, FORBIDDEN, texts::MP_EITHER)?;
+    show(rt, DEEP, texts::MP_LWSYNC_ADDR)?;
+    show(rt, DEEP, texts::LB_DATAS)?;
+    show_drawing(rt, POWER, texts::MP, Wanted::Shown)?;
+    show_drawing(rt, POWER, texts::MP_LWSYNC_ADDR, Wanted::Forbidden)?;
+    show_drawing(rt, POWER, texts::LB_DATAS, Wanted::Forbidden)?;
+    show_drawing(rt, POWER, texts::COWR, Wanted::All)?;
+    show_drawing(rt, texts::SHOWING, texts::MP_LWSYNC_ADDR, Wanted::Shown)
 }

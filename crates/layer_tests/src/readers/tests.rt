@@ -1,6 +1,6 @@
 //! Tests and their parts as `litmus_ppc` reads and prints them; a part is one of a test of one thread.
 
-use crate::{put_comparison, put_refusal};
+use crate::readers::{put_comparison, put_refusal};
 use litmus_ppc::*;
 use source_text::{put_bytes, put_decimal};
 use std::alloc::{AllocError, Global};

@@ -1,6 +1,6 @@
 //! The predefined names of `base_env` in a candidate.
 
-use crate::put_item;
+use crate::semantics::put_item;
 use base_env::BaseEnv;
 use bit_relations::{EventSet, Rel};
 use source_text::put_bytes;

@@ -1,9 +1,8 @@
 //! Watches a model and three tests whose versions stand in the table `versions.txt`: a line for each, with the path and the
-//! file that holds the version. Standard input names the paths that have a later version, as it does for the program. What is
-//! written is compared with what it is with 1, 2, 4 and 32 workers; then a read and a write fail.
-#![tactic(auto)]
+//! file that holds the version. The lines of `later.txt` name the paths that have a later version, as standard input does for
+//! the program. What is written is compared with what it is with 1, 2, 4 and 32 workers; then a read and a write fail.
 
-use litmusbench::{MemorySink, MemorySource, OfRead, read_text};
+use litmusbench::{MemorySink, MemorySource};
 use live_watch::{Version, Versions, watch};
 use std::alloc::{AllocError, Global};
 use std::io::Write;
@@ -61,7 +60,8 @@ impl Versions for Table {
 
 fn row_of<R: Files + AllocGlobal>(rt: &R, line: &str) -> Result<Row, AllocError> {
     let (path, file) = line.split_once(" ").unwrap_or((line, ""));
-    let text = match fs::read(rt, file) {
+    let version_path = format!(in rt.alloc(); "watched/{file}")?;
+    let text = match fs::read(rt, version_path.as_str()) {
         Ok(text) => Some(text),
         Err(_) => None,
     };
@@ -72,7 +72,7 @@ fn row_of<R: Files + AllocGlobal>(rt: &R, line: &str) -> Result<Row, AllocError>
 }
 
 fn read_table<R: Files + AllocGlobal>(rt: &R) -> io::Result<Table> {
-    let list = fs::read_to_string(rt, "versions.txt")?;
+    let list = fs::read_to_string(rt, "watched/versions.txt")?;
     let mut rows = Vec::new(rt.alloc());
     for line in list.lines() {
         rows.push(row_of(rt, line)?)?;
@@ -114,14 +114,12 @@ where
     }
 }
 
-fn run<R>(rt: &R) -> io::Result<()>
+/// Watches without workers, and compares that with what several workers write.
+pub fn show_all<R>(rt: &R) -> io::Result<()>
 where
-    R: AllocGlobal + Files + Input + Print + Threads + Wait + Copy + Drop + Send + Sync,
+    R: AllocGlobal + Files + Print + Threads + Wait + Copy + Drop + Send + Sync,
 {
-    let lines = match read_text(rt.alloc(), &mut OfRead::new(rt.reader())) {
-        Ok(lines) => lines,
-        Err(fault) => return println!(rt; "fault: {fault}"),
-    };
+    let lines = fs::read(rt, "watched/later.txt")?;
     let alone = watched(rt, &lines, 0)?;
     io::writer(rt).write_all(&alone)?;
     for workers in WORKERS {
@@ -134,8 +132,4 @@ where
     tell_failing(rt, None, Some(0))?;
     tell_failing(rt, None, Some(1))?;
     tell_failing(rt, None, None)
-}
-
-fn main(rt: HostRuntime) -> io::Result<()> {
-    run(&rt)
 }

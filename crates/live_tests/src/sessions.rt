@@ -1,6 +1,5 @@
-//! Sessions of a running desk, as the file `stdout` has them: scripts with a known answer, two workers that must work at once,
-//! a script that does not end, and scripts that are drawn from a fixed seed. Each part begins with a line that names it.
-#![tactic(auto)]
+//! Sessions of a running desk: scripts with a known answer, two workers that must work at once, a script that does not end,
+//! and scripts that are drawn from a fixed seed. Each part begins with a line that names it.
 
 ghost use Rattle.std.specs.Prelude.{None};
 
@@ -117,7 +116,8 @@ where
     )
 }
 
-fn run<R>(rt: &R) -> io::Result<()>
+/// Prints each part.
+pub fn show_all<R>(rt: &R) -> io::Result<()>
 where
     R: AllocGlobal + Files + Print + Threads + Wait + Copy + Drop + Send + Sync + 'static,
 {
@@ -131,8 +131,4 @@ where
     show_hearing(rt)?;
     println!(rt; "# Scripts that are drawn")?;
     kept::show(rt, DRAWN)
-}
-
-fn main(rt: HostRuntime) -> io::Result<()> {
-    run(&rt)
 }

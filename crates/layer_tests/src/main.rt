@@ -1,0 +1,31 @@
+//! Asks the layers under evaluation what the files of cases ask, and prints each line with its answer: the readers and the
+//! printers, the edits of texts, and the semantics of tests. Each part begins with a line that names it.
+#![tactic(auto)]
+
+mod readers;
+mod semantics;
+mod texts;
+
+use std::io;
+use std::rt::Files;
+
+/// Prints an answer, or that it is no text.
+fn print_answer<R: Print>(rt: &R, answer: Vec<u8>) -> io::Result<()> {
+    match String::from_utf8(answer) {
+        Ok(answer) => println!(rt; "{answer}"),
+        Err(_) => println!(rt; "no text"),
+    }
+}
+
+fn run<R: Files + Print + AllocGlobal>(rt: &R) -> io::Result<()> {
+    println!(rt; "# Readers and printers")?;
+    readers::show_all(rt)?;
+    println!(rt; "# Edits of texts")?;
+    texts::show_all(rt)?;
+    println!(rt; "# Semantics of tests")?;
+    semantics::show_all(rt)
+}
+
+fn main(rt: HostRuntime) -> io::Result<()> {
+    run(&rt)
+}
