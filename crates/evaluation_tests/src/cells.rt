@@ -1,10 +1,10 @@
 //! One cell of `memo_graph`, and the words of the command line.
 
 use crate::outcomes::put_counts;
-use cat_syntax::read_model;
-use litmus_ppc::{Quantifier, read_test};
+use cat_syntax::{ModelText, read_model};
+use litmus_ppc::{Quantifier, Test, read_test};
 use litmusbench::{Drawn, Form, form_of};
-use memo_graph::eval_cell;
+use memo_graph::{eval_cell, eval_suite};
 use source_text::{put_bytes, put_decimal};
 use std::alloc::{AllocError, Global};
 use verdict::{Outcome, OutcomeResult};
@@ -37,12 +37,40 @@ pub fn put_cell(
     test: &[u8],
 ) -> Result<(), AllocError> {
     match (read_model(alloc, model), read_test(alloc, test)) {
-        (Ok(model), Ok(test)) => match eval_cell(alloc, &test, &model) {
-            Ok(outcome) => put_outcome(answer, &outcome),
-            Err(_) => Err(AllocError),
-        },
+        (Ok(model), Ok(test)) => put_both(alloc, answer, &test, &model),
         _ => put_bytes(answer, b"refused"),
     }
+}
+
+/// Appends the outcome of a test under a model. Where a suite of the test under the model twice has another one, it says
+/// so.
+fn put_both(
+    alloc: Global,
+    answer: &mut Vec<u8>,
+    test: &Test,
+    model: &ModelText,
+) -> Result<(), AllocError> {
+    let outcome = eval_cell(alloc, test, model)?;
+    put_outcome(answer, &outcome)?;
+    let rows = eval_suite(alloc, std::slice::from_ref(test), &[model, model])?;
+    for row in &rows {
+        put_differences(answer, &outcome, row)?;
+    }
+    Ok(())
+}
+
+/// Appends a word for each outcome that is another one.
+fn put_differences(
+    answer: &mut Vec<u8>,
+    outcome: &Outcome,
+    others: &[Outcome],
+) -> Result<(), AllocError> {
+    for other in others {
+        if !outcome.is_same(other) {
+            put_bytes(answer, b"; a suite differs")?;
+        }
+    }
+    Ok(())
 }
 
 /// The words of a text.

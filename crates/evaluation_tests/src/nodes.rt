@@ -45,21 +45,26 @@ fn run_item(
     run_node(alloc, &given, &values)
 }
 
-/// The name of a flag, at the end of the names.
-fn add_flag(alloc: Global, names: &mut Vec<Name>, item: &ResolvedItem) -> Result<(), AllocError> {
+/// Of a check or a flag the name of the flag, at the end of the names: none of a check.
+fn add_flag(
+    alloc: Global,
+    names: &mut Vec<Option<Name>>,
+    item: &ResolvedItem,
+) -> Result<(), AllocError> {
     if let Role::Check(check) = &item.role {
-        if let Some(name) = &check.flag {
-            names.push(name.copied(alloc)?)?;
+        match &check.flag {
+            Some(name) => names.push(Some(name.copied(alloc)?))?,
+            None => names.push(None)?,
         }
     }
     Ok(())
 }
 
-/// What the used items of a model give, and the names of its flags.
+/// What the used items of a model give, and of each check and flag the name of the flag.
 #[derive(Drop)]
 struct ItemValues {
     values: Vec<Vec<NodeValue>>,
-    flags: Vec<Name>,
+    flags: Vec<Option<Name>>,
 }
 
 fn item_values(
@@ -74,7 +79,7 @@ fn item_values(
     for at in 0..resolved.items.len() {
         if places.contains(&at) {
             add_flag(alloc, &mut flags, &resolved.items[at])?;
-            let item = SharedItem::new(Arc::try_clone(&resolved)?, at);
+            let item = SharedItem::new(alloc, Arc::try_clone(&resolved)?, at, None)?;
             let made = run_item(alloc, space, &values, item)?;
             values.push(made)?;
         } else {

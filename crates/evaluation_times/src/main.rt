@@ -1,72 +1,43 @@
-//! Prints how long one evaluation takes, from the two texts to the log, for each pair of a model's
-//! file and a test's file that its words name. With the word `relations` it prints how long the
-//! operations on relations take beside plain loops, and without words whether both give the same.
-//! After the word `--phases` it prints for each pair how the time of one evaluation is spent.
+//! Prints for each pair of a model's file and a test's file that its words name how long one evaluation takes, from the
+//! two texts to the log, and the most memory that is held meanwhile; after the word `--phases` how that time is spent.
+//! After the word `suite` it prints how long a cell takes where all tests are evaluated under all models. With the word
+//! `relations` it prints how long the operations on relations take beside plain loops, and without words whether both
+//! give the same.
 #![tactic(auto)]
+
+ghost use Rattle.std.specs.Prelude.{◌≤◌, length};
 
 mod phases;
 mod plain;
 mod relations;
+mod suite;
+mod timing;
 
-use phases::{PHASES, Phase};
-use std::alloc::{AllocError, Global};
+use phases::{Evaluation, PHASES, Phase};
 use std::rt::{Clock, Env, Files};
-use std::time::Instant;
 use std::{env, fs, io};
+use timing::{forget_memory, show_memory, show_microseconds, time_of};
 
-/// At most this many evaluations of one pair.
-const MOST: u32 = 100_000;
-
-/// A pair is evaluated until this many microseconds have passed.
-const LONG_ENOUGH: u128 = 500_000;
-
-/// How many evaluations were made, and in how many microseconds.
-#[derive(Clone, Copy)]
-struct Timing {
-    evaluations: u32,
-    microseconds: u128,
-}
-
-/// Takes evaluations as far as a phase until enough time has passed.
-fn time_phase<R: Clock + AllocGlobal>(
-    rt: &R,
-    phase: Phase,
-    model: &[u8],
-    test: &[u8],
-) -> io::Result<Timing> {
-    let start = Instant::now(rt)?;
-    let mut microseconds = 0;
-    for count in 1..MOST {
-        phase.evaluate(rt.alloc(), model, test);
-        microseconds = start.elapsed(rt)?.as_micros();
-        if microseconds > LONG_ENOUGH {
-            return Ok(Timing {
-                evaluations: count,
-                microseconds,
-            });
-        }
-    }
-    Ok(Timing {
-        evaluations: MOST,
-        microseconds,
-    })
-}
-
+/// Prints how long the quickest evaluation of a pair takes, and the most memory that is held meanwhile.
 fn show<R: Files + Clock + Print + AllocGlobal>(rt: &R, model: &str, test: &str) -> io::Result<()> {
     let model_text = fs::read(rt, model)?;
     let test_text = fs::read(rt, test)?;
-    let timing = time_phase(rt, Phase::Log, &model_text, &test_text)?;
-    let evaluations = timing.evaluations;
+    let evaluation = Evaluation {
+        phase: Phase::Log,
+        model: &model_text,
+        test: &test_text,
+    };
+    forget_memory(rt);
+    let timing = time_of(rt, &evaluation)?;
+    print!(rt; "{test} under {model}: ")?;
+    show_microseconds(rt, timing.least)?;
+    show_memory(rt)?;
+    let evaluations = timing.turns;
     let microseconds = timing.microseconds;
-    println!(rt; "{test} under {model}: {evaluations} evaluations in {microseconds} microseconds")
+    println!(rt; " ({evaluations} evaluations in {microseconds} microseconds)")
 }
 
-/// The nanoseconds of one evaluation.
-fn nanoseconds_of(timing: Timing) -> u128 {
-    (timing.microseconds.min(u128::from(u64::MAX)) * 1000) / u128::from(timing.evaluations.max(1))
-}
-
-/// Prints for each phase by how much an evaluation takes longer for it.
+/// Prints for each phase by how much the quickest evaluation takes longer for it.
 fn show_phases<R: Files + Clock + Print + AllocGlobal>(
     rt: &R,
     model: &str,
@@ -74,14 +45,19 @@ fn show_phases<R: Files + Clock + Print + AllocGlobal>(
 ) -> io::Result<()> {
     let model_text = fs::read(rt, model)?;
     let test_text = fs::read(rt, test)?;
-    println!(rt; "{test} under {model}, in nanoseconds:")?;
+    println!(rt; "{test} under {model}:")?;
     let mut before = 0;
     for phase in PHASES {
-        let time = nanoseconds_of(time_phase(rt, phase, &model_text, &test_text)?);
-        let name = phase.name();
-        let more = time.saturating_sub(before);
-        println!(rt; "  {name}: {more}")?;
-        before = time;
+        let evaluation = Evaluation {
+            phase,
+            model: &model_text,
+            test: &test_text,
+        };
+        let least = time_of(rt, &evaluation)?.least;
+        print!(rt; "  {}: ", phase.name())?;
+        show_microseconds(rt, least.saturating_sub(before))?;
+        println!(rt; "")?;
+        before = least;
     }
     Ok(())
 }
@@ -112,6 +88,25 @@ fn show_pairs<R: Files + Clock + Print + AllocGlobal>(
     Ok(())
 }
 
+/// The index of a word among the words, or how many they are where it is not among them.
+fn index_of(words: &[String], word: &str) -> usize
+    ensures { result ≤ length words.now }
+{
+    for index in 0..words.len() {
+        if words[index].as_str() == word {
+            return index;
+        }
+    }
+    words.len()
+}
+
+/// Prints how long a cell of a suite takes: the models stand before the word `over`, the tests behind it.
+fn show_suite<R: Files + Clock + Print + AllocGlobal>(rt: &R, words: &[String]) -> io::Result<()> {
+    let index = index_of(words, suite::OVER);
+    let tests = words.get(index + 1..).unwrap_or(&[]);
+    suite::show(rt, &words[..index], tests)
+}
+
 fn run<R: Files + Env + Clock + Print + AllocGlobal>(rt: &R) -> io::Result<()> {
     let words = words_of(rt)?;
     if words.len() == 2 && words[1].as_str() == "relations" {
@@ -119,11 +114,15 @@ fn run<R: Files + Env + Clock + Print + AllocGlobal>(rt: &R) -> io::Result<()> {
     }
     if words.len() < 3 {
         println!(rt; "evaluation_times [--phases] MODEL TEST MODEL TEST ..")?;
+        println!(rt; "evaluation_times suite MODEL .. over TEST ..")?;
         println!(rt; "evaluation_times relations")?;
         return relations::show_all(rt, false);
     }
     if words[1].as_str() == "--phases" {
         return show_pairs(rt, &words[2..], true);
+    }
+    if words[1].as_str() == "suite" {
+        return show_suite(rt, &words[2..]);
     }
     show_pairs(rt, &words[1..], false)
 }
