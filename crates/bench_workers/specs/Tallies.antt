@@ -7,6 +7,10 @@ use Rattle.bench_workers.specs.declared.tally.Tally.{Tally}
 abbrev sum_of : ℕ → ℕ → ℕ
 sum_of a b = min (a + b) (2 ^ 64 - 1)
 
+-- no jobs
+abbrev pub no_jobs : Tally
+no_jobs = record { stored = 0; same = 0; stale = 0; unknown = 0; refused = 0 }
+
 -- the counts with one more return, by what it came to
 abbrev pub noted : Finish → Tally → Tally
 noted Unknown t = record { stored = t.stored; same = t.same; stale = t.stale; unknown = sum_of t.unknown 1; refused = t.refused }

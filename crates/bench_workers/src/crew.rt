@@ -1,5 +1,8 @@
 //! Workers that stay at a desk until they are dismissed.
 
+ghost use Rattle.std.specs.Prelude.{◌≡◌, ◌+◌, ℕ, [], length, min, IfOk, OnOk};
+ghost use Rattle.bench_workers.specs.Tallies.{no_jobs};
+
 use crate::gate::Gate;
 use crate::tally::Tally;
 use crate::worker::work;
@@ -8,12 +11,14 @@ use desk::{BoardTexts, Desk};
 use desk_rule::{Entry, Naming, Plate};
 use left_right::Absorb;
 use std::alloc::Global;
+use std::marker::Model;
 use std::sync::{Arc, Wait};
 use std::thread;
 use std::thread::{JoinHandle, Threads};
 use value_store::StoreName;
 
 /// Workers at a desk, each in a thread of its own. They work until the desk is closed; `dismiss` closes it and joins them.
+/// Contracts see it as the number of its workers.
 pub struct Crew<J: Naming + StoreName, X: BoardTexts, R: Wait + Drop>
 where
     Plate<J, X>: Absorb<Entry<J, X>, State = [X::Op; 0]>,
@@ -22,12 +27,25 @@ where
     handles: Vec<JoinHandle<Tally>>,
 }
 
+impl<J: Naming + StoreName, X: BoardTexts, R: Wait + Drop> Model for Crew<J, X, R>
+where
+    Plate<J, X>: Absorb<Entry<J, X>, State = [X::Op; 0]>,
+{
+    ghost use Rattle.std.specs.Prelude.{ℕ, length};
+
+    ghost Value = { ℕ };
+
+    ghost view = { λ c. length c.handles.items };
+}
+
 // Closes a desk, and joins the workers at it.
 fn send_home<J: Naming + StoreName, X: BoardTexts, R: Wait + Drop, W: Threads + Wait>(
     rt: &W,
     desk: &Desk<J, X, R>,
     handles: Vec<JoinHandle<Tally>>,
-) -> Tally {
+) -> Tally
+    ensures { handles.items ≡ [] → result ≡ no_jobs }
+{
     let _again = desk.close(rt).is_err();
     let mut total = Tally::new();
     for handle in handles {
@@ -94,6 +112,7 @@ where
     R: Wait + Drop + Send + Sync + 'static,
     G: Gate + Drop + Send + Sync + 'static,
     W: Threads + Wait + Copy + Drop + Send + Sync + 'static,
+    ensures { OnOk result (length handles.new.items ≡ length handles.old.items + count) }
 {
     let Ok(gate) = Arc::new(alloc, gate) else {
         return Err(WorkersFault::OutOfMemory);
@@ -133,8 +152,10 @@ where
     R: Wait + Drop + Send + Sync + 'static,
     G: Gate + Drop + Send + Sync + 'static,
     W: Threads + Wait + Copy + Drop + Send + Sync + 'static,
+    ensures { IfOk result (λ crew. crew ≡ min count 32) }
 {
     let Ok(own) = Arc::try_clone(desk) else {
+        let _tally = send_home(rt, &**desk, Vec::new(alloc));
         return Err(WorkersFault::OutOfMemory);
     };
     let mut handles = Vec::new(alloc);
@@ -148,8 +169,10 @@ where
 }
 
 impl<J: Naming + StoreName, X: BoardTexts, R: Wait + Drop> Crew<J, X, R> {
-    /// Closes the desk, and joins the workers. The jobs of all workers.
-    pub fn dismiss<W: Threads + Wait>(self, rt: &W) -> Tally {
+    /// Closes the desk, and joins the workers. The jobs of all workers: a crew of none did none.
+    pub fn dismiss<W: Threads + Wait>(self, rt: &W) -> Tally
+        ensures { self ≡ 0 → result ≡ no_jobs }
+    {
         let Crew { desk, handles } = self;
         send_home(rt, &*desk, handles)
     }

@@ -1,7 +1,7 @@
 //! What became of the jobs of workers.
 
 ghost use Rattle.std.specs.Prelude.{◌≡◌, ◌+◌, ◌-◌, ◌^◌, min};
-ghost use Rattle.bench_workers.specs.Tallies.{noted, added};
+ghost use Rattle.bench_workers.specs.Tallies.{noted, added, no_jobs};
 
 use memo_core::claims::Finish;
 
@@ -23,7 +23,7 @@ pub struct Tally {
 impl Tally {
     /// No jobs.
     pub fn new() -> Tally
-        ensures { result ≡ record { stored = 0; same = 0; stale = 0; unknown = 0; refused = 0 } }
+        ensures { result ≡ no_jobs }
     {
         Tally {
             stored: 0,
