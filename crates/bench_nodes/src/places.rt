@@ -24,7 +24,6 @@ pub struct SlotName {
 }
 
 /// Where slots stand, and which slots use them.
-#[derive(Drop)]
 pub struct SlotPlaces {
     /// Where the slot of a number may stand, by what is left of the number.
     pub guesses: Vec<usize>,
@@ -32,6 +31,16 @@ pub struct SlotPlaces {
     pub are_listed: bool,
     /// The slots that use each slot.
     pub users: Vec<Vec<SlotName>>,
+}
+
+impl Drop for SlotPlaces {
+    fn drop(self) {
+        let SlotPlaces {
+            guesses: _,
+            are_listed: _,
+            users: _,
+        } = self;
+    }
 }
 
 // Where the guess for a slot stands among so many.

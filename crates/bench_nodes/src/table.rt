@@ -88,7 +88,6 @@ pub struct Slot {
 }
 
 /// The stamps of all parts, and the nodes that each test has.
-#[derive(Drop)]
 pub struct NodeTable {
     /// The tests.
     pub tests: Vec<TestRow>,
@@ -107,6 +106,19 @@ pub struct NodeTable {
     ghost rising: { (not is_rising || are_rising tests.items) ≡ true },
     ghost apart: { (not places.are_listed || are_apart slots.items) ≡ true },
     ghost listed: { lists_in places.are_listed places.users.items ≡ lists_if places.are_listed slots.items },
+}
+
+impl Drop for NodeTable {
+    fn drop(self) {
+        let NodeTable {
+            tests: _,
+            models: _,
+            items: _,
+            slots: _,
+            places: _,
+            is_rising: _,
+        } = self;
+    }
 }
 
 impl NodeTable {

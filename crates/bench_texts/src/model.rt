@@ -16,13 +16,23 @@ use std::mem::replace;
 pub const MAX_ITEMS: usize = 256;
 
 /// A model on the bench: its name, and its items with their numbers and what they are resolved to.
-#[derive(Drop)]
 pub struct NamedModel {
     name: Name,
     text: ModelText,
     numbers: Vec<u64>,
     reading: Reading,
     ghost paired: { vec_len numbers ≡ vec_len text.items },
+}
+
+impl Drop for NamedModel {
+    fn drop(self) {
+        let NamedModel {
+            name: _,
+            text: _,
+            numbers: _,
+            reading: _,
+        } = self;
+    }
 }
 
 impl NamedModel {

@@ -6,11 +6,20 @@ use litmus_values::Test;
 use std::alloc::Global;
 
 /// The tests and the models of the bench, in their order. Each name stands once.
-#[derive(Drop)]
 pub struct Texts {
     pub(crate) tests: Vec<Test>,
     pub(crate) models: Vec<NamedModel>,
     pub(crate) next: u64,
+}
+
+impl Drop for Texts {
+    fn drop(self) {
+        let Texts {
+            tests: _,
+            models: _,
+            next: _,
+        } = self;
+    }
 }
 
 impl Texts {

@@ -100,7 +100,6 @@ pub enum Role {
 }
 
 /// An item whose names are resolved.
-#[derive(Drop)]
 pub struct ResolvedItem {
     /// What it does.
     pub role: Role,
@@ -111,9 +110,24 @@ pub struct ResolvedItem {
     pub functions: Vec<usize>,
 }
 
+impl Drop for ResolvedItem {
+    fn drop(self) {
+        let ResolvedItem {
+            role: _,
+            inputs: _,
+            functions: _,
+        } = self;
+    }
+}
+
 /// A model without fault: its items in the order of the text.
-#[derive(Drop)]
 pub struct Resolved {
     /// As many as the text has.
     pub items: Vec<ResolvedItem>,
+}
+
+impl Drop for Resolved {
+    fn drop(self) {
+        let Resolved { items: _ } = self;
+    }
 }

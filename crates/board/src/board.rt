@@ -21,11 +21,20 @@ use verdict::Outcome;
 
 /// For each test and each model what is known of the cell, the printed items of the models, and how many edits were made.
 /// Contracts see it as plain data.
-#[derive(Drop)]
 pub struct Board {
     rows: Vec<Row>,
     columns: Vec<Column>,
     edits: u64,
+}
+
+impl Drop for Board {
+    fn drop(self) {
+        let Board {
+            rows: _,
+            columns: _,
+            edits: _,
+        } = self;
+    }
 }
 
 impl Model for Board {

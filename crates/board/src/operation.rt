@@ -47,7 +47,6 @@ pub enum NameChange {
 }
 
 /// An accepted edit, as a board takes it.
-#[derive(Drop)]
 pub struct BoardEdit {
     /// The number of the edit.
     pub number: u64,
@@ -59,8 +58,18 @@ pub struct BoardEdit {
     pub prepared: Snapshot<Prepared>,
 }
 
+impl Drop for BoardEdit {
+    fn drop(self) {
+        let BoardEdit {
+            number: _,
+            change: _,
+            reached: _,
+            prepared: _,
+        } = self;
+    }
+}
+
 /// A change of a board: what the calls of an author and the results that the bench accepts do to it.
-#[derive(Drop)]
 pub enum BoardOp {
     /// An accepted edit.
     Edit(BoardEdit),
@@ -71,4 +80,13 @@ pub enum BoardOp {
         /// The outcome, which all boards share.
         outcome: Arc<Outcome>,
     },
+}
+
+impl Drop for BoardOp {
+    fn drop(self) {
+        match self {
+            BoardOp::Edit(_) => {},
+            BoardOp::Settle { at: _, outcome: _ } => {},
+        }
+    }
 }

@@ -12,7 +12,6 @@ use source_text::Name;
 use std::alloc::{AllocError, Global};
 
 /// All candidates of a test: those of each combination in turn.
-#[derive(Drop)]
 pub struct Space {
     /// The test's locations, sorted by name bytes.
     pub locations: Vec<Name>,
@@ -20,6 +19,16 @@ pub struct Space {
     pub registers: Vec<Vec<[Value; 32]>>,
     /// The combinations that have candidates, in the order of their runs.
     pub combinations: Vec<Combination>,
+}
+
+impl Drop for Space {
+    fn drop(self) {
+        let Space {
+            locations: _,
+            registers: _,
+            combinations: _,
+        } = self;
+    }
 }
 
 /// The candidate at this index among those of the combination.

@@ -14,12 +14,20 @@ use std::alloc::{AllocError, Global};
 
 /// The value of a name in each candidate of a space, in order. Contracts see one value a candidate; neighbours with
 /// equal values share one.
-#[derive(Drop)]
 pub enum Column {
     /// A set for each candidate.
     Sets(SetRuns),
     /// A relation for each candidate.
     Relations(RunColumn),
+}
+
+impl Drop for Column {
+    fn drop(self) {
+        match self {
+            Column::Sets(_) => {},
+            Column::Relations(_) => {},
+        }
+    }
 }
 
 impl Column {

@@ -130,8 +130,13 @@ pub enum Item {
 }
 
 /// A model: its items in the order of the text. The title is not kept.
-#[derive(Drop)]
 pub struct ModelText {
     /// The items. A model that was read from a text has at most 256.
     pub items: Vec<Item>,
+}
+
+impl Drop for ModelText {
+    fn drop(self) {
+        let ModelText { items: _ } = self;
+    }
 }

@@ -25,12 +25,17 @@ pub enum Value {
 }
 
 /// The initial value of a location or a register. The initial value is 0 if no entry gives it.
-#[derive(Drop)]
 pub struct InitEntry {
     /// The location or the register.
     pub place: Place,
     /// Its initial value.
     pub value: Value,
+}
+
+impl Drop for InitEntry {
+    fn drop(self) {
+        let InitEntry { place: _, value: _ } = self;
+    }
 }
 
 /// A line of a thread: a label or an instruction.
@@ -43,10 +48,15 @@ pub enum Step {
 }
 
 /// A thread: its labels and instructions in program order.
-#[derive(Drop)]
 pub struct Thread {
     /// Labels and instructions, in the order of the text.
     pub steps: Vec<Step>,
+}
+
+impl Drop for Thread {
+    fn drop(self) {
+        let Thread { steps: _ } = self;
+    }
 }
 
 /// Of which final states of the allowed executions a condition says that its proposition holds.
@@ -100,12 +110,20 @@ pub enum Proposition {
 
 /// The condition of a test: a quantifier over final states, and a proposition on one of them (the
 /// herd7 manual, chapter on litmus tests).
-#[derive(Drop)]
 pub struct Condition {
     /// Which final states satisfy the proposition.
     pub quantifier: Quantifier,
     /// The proposition on one final state.
     pub proposition: Proposition,
+}
+
+impl Drop for Condition {
+    fn drop(self) {
+        let Condition {
+            quantifier: _,
+            proposition: _,
+        } = self;
+    }
 }
 
 /// A litmus test (the herd7 manual, chapter on litmus tests).

@@ -20,9 +20,14 @@ use std::sync::Arc;
 use verdict::Outcome;
 
 /// Tests and models with their stamps, whose edits and outcomes are operations on boards. Contracts see them as those texts.
-#[derive(Drop)]
 pub struct RunningTexts {
     texts: StampedTexts,
+}
+
+impl Drop for RunningTexts {
+    fn drop(self) {
+        let RunningTexts { texts: _ } = self;
+    }
 }
 
 impl Model for RunningTexts {

@@ -16,18 +16,32 @@ use stamped_parts::{Parts, is_same, run};
 use std::alloc::{AllocError, Global};
 
 /// Tests and models, with the stamps of their parts.
-#[derive(Drop)]
 pub struct StampedTexts {
     pub(crate) texts: BenchTexts,
     pub(crate) parts: Parts,
 }
 
+impl Drop for StampedTexts {
+    fn drop(self) {
+        let StampedTexts { texts: _, parts: _ } = self;
+    }
+}
+
 /// An edit that was prepared: the text that it puts, and the parts. No more than `used` nodes are used after it.
-#[derive(Drop)]
 pub struct PreparedEdit {
     texts: Prepared,
     parts: EditedParts,
     used: usize,
+}
+
+impl Drop for PreparedEdit {
+    fn drop(self) {
+        let PreparedEdit {
+            texts: _,
+            parts: _,
+            used: _,
+        } = self;
+    }
 }
 
 impl PreparedEdit {
@@ -36,6 +50,19 @@ impl PreparedEdit {
         ensures { result.now ≡ self.now.texts }
     {
         &self.texts
+    }
+
+    // The text that it puts, and the parts.
+    fn into_parts(self) -> (Prepared, EditedParts)
+        ensures text { result.0 ≡ self.texts }
+        ensures parts { result.1 ≡ self.parts }
+    {
+        let PreparedEdit {
+            texts,
+            parts,
+            used: _,
+        } = self;
+        (texts, parts)
     }
 }
 
@@ -249,8 +276,9 @@ impl Texts for StampedTexts {
     }
 
     fn commit(&mut self, prepared: PreparedEdit, number: u64) {
-        self.texts.commit(prepared.texts);
-        commit_parts(&mut self.parts, prepared.parts, number);
+        let (texts, parts) = prepared.into_parts();
+        self.texts.commit(texts);
+        commit_parts(&mut self.parts, parts, number);
     }
 
     ghost same_exact = { value_exact };

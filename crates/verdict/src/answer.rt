@@ -95,7 +95,6 @@ pub enum OutcomeResult {
 
 /// The outcome of a test under a model, as herd7 reports it (the herd7 manual, chapter on litmus
 /// tests). Contracts see it as plain data.
-#[derive(Drop)]
 pub struct Outcome {
     /// The quantifier of the test's condition.
     pub kind: Quantifier,
@@ -103,6 +102,16 @@ pub struct Outcome {
     pub condition: Vec<u8>,
     /// The evaluation or the refusal.
     pub result: OutcomeResult,
+}
+
+impl Drop for Outcome {
+    fn drop(self) {
+        let Outcome {
+            kind: _,
+            condition: _,
+            result: _,
+        } = self;
+    }
 }
 
 impl Model for Outcome {
