@@ -18,7 +18,7 @@ use Rattle.run_combinations.specs.declared.combination.Action.TheVariants.{Write
 use Rattle.run_combinations.specs.declared.combination.Event.{Event}
 
 -- members of a filter
-filtered_there : {X : Type 0} (P : X → Type 0) (xs ys : List X) → IsFiltered P xs ys → (x : X) → Contains xs x → P x → Contains ys x
+pub filtered_there : {X : Type 0} (P : X → Type 0) (xs ys : List X) → IsFiltered P xs ys → (x : X) → Contains xs x → P x → Contains ys x
 filtered_there P [] ys none x c p = absurd (no_member x c)
 filtered_there {X} P (z ∷ xs) ys (kept {ys = us} q f) x c p = elim (member_cases z xs x c) [
   | inl e ↦ subst (λ (y : X). Contains (z ∷ us) y) e (member_first z us)

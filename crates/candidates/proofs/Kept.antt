@@ -11,12 +11,14 @@ use Rattle.thread_runs.specs.declared.instruction.Line.{Line}
 use Rattle.thread_runs.specs.declared.instruction.Program.{Program}
 use Rattle.thread_runs.specs.declared.run.Run as made
 use Rattle.thread_runs.specs.Runs.{Thread, Run, IsRun, AreRuns, started}
-use Rattle.thread_runs.specs.AllRuns.{Shown, shown, shown_of, ShowsRuns, lines_at, thread_of}
+use Rattle.thread_runs.specs.AllRuns.{Shown, shown, shown_of, lines_at, thread_of}
+use Rattle.thread_runs.specs.Held.{AreLeft, IsUnserved, ShowsServed}
+use Rattle.thread_runs.proofs.Serving.{left_contains}
 use Rattle.ppc_semantics.specs.Domain.{has_event, IsDomain, threads_from, threads_of}
 use Rattle.candidates.proofs.Choosing.{runs_in}
 use Rattle.candidates.proofs.Small.{run_few}
 use Rattle.candidates.specs.Executions.{product, events_from}
-use Rattle.run_combinations.specs.Layouts.{AreAllRuns, chosen_events}
+use Rattle.run_combinations.specs.Layouts.{AreServedRuns, chosen_events}
 use Rattle.run_combinations.specs.Events.{thread_events}
 use Rattle.run_combinations.specs.declared.combination.Event.{Event}
 
@@ -28,11 +30,15 @@ pub record Same (m : made.Run) (r : Run) : Type 0 where
 abbrev pub SameRun : List Value → Thread → made.Run → Run → Type 0
 SameRun V t m r = Same m r × IsRun t (Contains V) r
 
--- the runs of each thread
-abbrev pub AreKept : List Value → List Thread → List (Vec made.Run Global) → List (List Run) → Type 0
-AreKept V [] [] [] = Unit {0}
-AreKept V (t ∷ ts) (v ∷ vs) (rs ∷ rss) = AreRuns t (Contains V) rs × AllZip (SameRun V t) v.items rs × AreKept V ts vs rss
-AreKept V _ _ _ = ⊥
+-- the runs of a thread, but for some that no store serves
+abbrev pub AreServed : Program → List Value → Thread → List Run → Type 0
+AreServed p V t rs = (all : List Run) × AreRuns t (Contains V) all × AreLeft (IsUnserved p) all rs
+
+-- those of each thread
+abbrev pub AreKept : Program → List Value → List Thread → List (Vec made.Run Global) → List (List Run) → Type 0
+AreKept p V [] [] [] = Unit {0}
+AreKept p V (t ∷ ts) (v ∷ vs) (rs ∷ rss) = AreServed p V t rs × AllZip (SameRun V t) v.items rs × AreKept p V ts vs rss
+AreKept p V _ _ _ = ⊥
 
 -- one of each
 abbrev pub AreOne : List Value → List Thread → List made.Run → List Run → Type 0
@@ -61,21 +67,27 @@ zip_rows V t ts mss rss each (m ∷ ms) (r ∷ rs) h =
     (zip_with V t ts m r h.0 mss rss each) (zip_rows V t ts mss rss each ms rs h.1)
 
 -- all choices of them
-pub product_kept : (V : List Value) (ts : List Thread) (vs : List (Vec made.Run Global)) (rss : List (List Run)) → AreKept V ts vs rss → AllZip (AreOne V ts) (product (runs_in vs)) (product rss)
-product_kept V [] [] [] h = (tt, tt)
-product_kept V [] [] (rs ∷ rss) h = absurd h
-product_kept V [] (v ∷ vs) rss h = absurd h
-product_kept V (t ∷ ts) [] rss h = absurd h
-product_kept V (t ∷ ts) (v ∷ vs) [] h = absurd h
-product_kept V (t ∷ ts) (v ∷ vs) (rs ∷ rss) h = zip_rows V t ts (product (runs_in vs)) (product rss) (product_kept V ts vs rss h.2) v.items rs h.1
+pub product_kept : (p : Program) (V : List Value) (ts : List Thread) (vs : List (Vec made.Run Global)) (rss : List (List Run)) → AreKept p V ts vs rss → AllZip (AreOne V ts) (product (runs_in vs)) (product rss)
+product_kept p V [] [] [] h = (tt, tt)
+product_kept p V [] [] (rs ∷ rss) h = absurd h
+product_kept p V [] (v ∷ vs) rss h = absurd h
+product_kept p V (t ∷ ts) [] rss h = absurd h
+product_kept p V (t ∷ ts) (v ∷ vs) [] h = absurd h
+product_kept p V (t ∷ ts) (v ∷ vs) (rs ∷ rss) h = zip_rows V t ts (product (runs_in vs)) (product rss) (product_kept p V ts vs rss h.2) v.items rs h.1
 
-pub runs_kept : (V : List Value) (ts : List Thread) (vs : List (Vec made.Run Global)) (rss : List (List Run)) → AreKept V ts vs rss → AllZip (λ t rs. AreRuns t (Contains V) rs) ts rss
-runs_kept V [] [] [] h = tt
-runs_kept V [] [] (rs ∷ rss) h = absurd h
-runs_kept V [] (v ∷ vs) rss h = absurd h
-runs_kept V (t ∷ ts) [] rss h = absurd h
-runs_kept V (t ∷ ts) (v ∷ vs) [] h = absurd h
-runs_kept V (t ∷ ts) (v ∷ vs) (rs ∷ rss) h = (h.0, runs_kept V ts vs rss h.2)
+-- all runs of each thread
+abbrev pub AllRuns : Program → List Value → List Thread → List (List Run) → Type 0
+AllRuns p V ts rss = (alls : List (List Run)) × AllZip (λ t all. AreRuns t (Contains V) all) ts alls × AllZip (AreLeft (IsUnserved p)) alls rss
+
+pub runs_kept : (p : Program) (V : List Value) (ts : List Thread) (vs : List (Vec made.Run Global)) (rss : List (List Run)) → AreKept p V ts vs rss → AllRuns p V ts rss
+runs_kept p V [] [] [] h = ([], tt, tt)
+runs_kept p V [] [] (rs ∷ rss) h = absurd h
+runs_kept p V [] (v ∷ vs) rss h = absurd h
+runs_kept p V (t ∷ ts) [] rss h = absurd h
+runs_kept p V (t ∷ ts) (v ∷ vs) [] h = absurd h
+runs_kept p V (t ∷ ts) (v ∷ vs) (rs ∷ rss) h =
+    let rest : AllRuns p V ts rss = runs_kept p V ts vs rss h.2 in
+    (h.0.0 ∷ rest.0, (h.0.1, rest.1), (h.0.2, rest.2))
 
 -- the events of a choice
 pub one_run_each : (V : List Value) (ts : List Thread) (ms : List made.Run) (rs : List Run) → AreOne V ts ms rs → AllZip (λ t r. IsRun t (Contains V) r) ts rs
@@ -119,37 +131,37 @@ thread_count (l ∷ ls) (suc t) =
     let a : count_by has_event (lines_at (slice_get ls t)) ≤ sum_by (λ (lines : Vec Line Global). count_by has_event lines.items) ls = thread_count ls t in
     omega (arith, a, sum_by-cons (λ (lines : Vec Line Global). count_by has_event lines.items) l ls)
 
-kept_push : (V : List Value) (ts : List Thread) (vs : List (Vec made.Run Global)) (rss : List (List Run)) (t : Thread) (v : Vec made.Run Global) (rs : List Run) → AreKept V ts vs rss → AreRuns t (Contains V) rs → AllZip (SameRun V t) v.items rs → AreKept V (ts ++ t ∷ []) (vs ++ v ∷ []) (rss ++ rs ∷ [])
-kept_push V [] [] [] t v rs h a z = (a, z, tt)
-kept_push V [] [] (qs ∷ rss) t v rs h a z = absurd h
-kept_push V [] (w ∷ vs) rss t v rs h a z = absurd h
-kept_push V (u ∷ ts) [] rss t v rs h a z = absurd h
-kept_push V (u ∷ ts) (w ∷ vs) [] t v rs h a z = absurd h
-kept_push V (u ∷ ts) (w ∷ vs) (qs ∷ rss) t v rs h a z = (h.0, h.1, kept_push V ts vs rss t v rs h.2 a z)
+kept_push : (p : Program) (V : List Value) (ts : List Thread) (vs : List (Vec made.Run Global)) (rss : List (List Run)) (t : Thread) (v : Vec made.Run Global) (rs : List Run) → AreKept p V ts vs rss → AreServed p V t rs → AllZip (SameRun V t) v.items rs → AreKept p V (ts ++ t ∷ []) (vs ++ v ∷ []) (rss ++ rs ∷ [])
+kept_push p V [] [] [] t v rs h a z = (a, z, tt)
+kept_push p V [] [] (qs ∷ rss) t v rs h a z = absurd h
+kept_push p V [] (w ∷ vs) rss t v rs h a z = absurd h
+kept_push p V (u ∷ ts) [] rss t v rs h a z = absurd h
+kept_push p V (u ∷ ts) (w ∷ vs) [] t v rs h a z = absurd h
+kept_push p V (u ∷ ts) (w ∷ vs) (qs ∷ rss) t v rs h a z = (h.0, h.1, kept_push p V ts vs rss t v rs h.2 a z)
 
 there : {X : Type 0} (xs : List X) (n : ℕ) → n < length xs → (x : X) × (slice_get xs n ≡ Some x) × (take (suc n) xs ≡ take n xs ++ x ∷ [])
 there [] n lt = absurd (omega (arith, lt))
 there (x ∷ xs) zero lt = (x, refl, refl)
 there {X} (x ∷ xs) (suc n) lt = let r : (y : X) × (slice_get xs n ≡ Some y) × (take (suc n) xs ≡ take n xs ++ y ∷ []) = there xs n (omega (arith, lt)) in (r.0, r.1, ap (λ (l : List X). x ∷ l) r.2)
 
-module _ (p : Program) (V : List Value) (runs : List (Vec made.Run Global)) (domain : IsDomain p V) (are : AreAllRuns p V runs) where
-  thread_kept : (t : ℕ) (v : Vec made.Run Global) (s : ShowsRuns (thread_of p t) V v.items) → AllZip (SameRun V (thread_of p t)) v.items s.0
-  thread_kept t v s = zipped (IsRun (thread_of p t) (Contains V)) v.items s.0 s.2 (λ r c. ((s.1.exact r).0 c, few r ((s.1.exact r).0 c)))
+module _ (p : Program) (V : List Value) (runs : List (Vec made.Run Global)) (domain : IsDomain p V) (are : AreServedRuns p V runs) where
+  thread_kept : (t : ℕ) (v : Vec made.Run Global) (s : ShowsServed p t V v.items) → AllZip (SameRun V (thread_of p t)) v.items s.2
+  thread_kept t v s = zipped (IsRun (thread_of p t) (Contains V)) v.items s.2 s.4 (λ r c. let is : IsRun (thread_of p t) (Contains V) r = (s.1.exact r).0 (left_contains (IsUnserved p) s.0 s.2 s.3 r c) in (is, few r is))
     where
       few : (r : Run) → IsRun (thread_of p t) (Contains V) r → length r.outcome.walk.events ≤ 128
       few r h =
           let a : length r.outcome.walk.events ≤ 0 + count_by has_event (thread_of p t).lines = run_few (thread_of p t).lines (started (thread_of p t).first) r.values r.outcome h.1 in
           omega (arith, a, thread_count p.threads.items t, domain.events)
 
-  first_kept : (n : ℕ) → n ≤ length runs → (rss : List (List Run)) × AreKept V (threads_from p n) (take n runs) rss
+  first_kept : (n : ℕ) → n ≤ length runs → (rss : List (List Run)) × AreKept p V (threads_from p n) (take n runs) rss
   first_kept zero le = ([], tt)
   first_kept (suc n) le =
-      let before : (rss : List (List Run)) × AreKept V (threads_from p n) (take n runs) rss = first_kept n (omega (arith, le)) in
+      let before : (rss : List (List Run)) × AreKept p V (threads_from p n) (take n runs) rss = first_kept n (omega (arith, le)) in
       let here : (v : Vec made.Run Global) × (slice_get runs n ≡ Some v) × (take (suc n) runs ≡ take n runs ++ v ∷ []) = there runs n (omega (arith, le)) in
-      let s : ShowsRuns (thread_of p n) V here.0.items = are.each n here.0 here.1 in
-      (before.0 ++ s.0 ∷ [], subst (λ (l : List (Vec made.Run Global)). AreKept V (threads_from p n ++ thread_of p n ∷ []) l (before.0 ++ s.0 ∷ [])) (sym here.2) (kept_push V (threads_from p n) (take n runs) before.0 (thread_of p n) here.0 s.0 before.1 s.1 (thread_kept n here.0 s)))
+      let s : ShowsServed p n V here.0.items = are.each n here.0 here.1 in
+      (before.0 ++ s.2 ∷ [], subst (λ (l : List (Vec made.Run Global)). AreKept p V (threads_from p n ++ thread_of p n ∷ []) l (before.0 ++ s.2 ∷ [])) (sym here.2) (kept_push p V (threads_from p n) (take n runs) before.0 (thread_of p n) here.0 s.2 before.1 (s.0, s.1, s.3) (thread_kept n here.0 s)))
 
-  pub all_kept : (rss : List (List Run)) × AreKept V (threads_of p) runs rss
+  pub all_kept : (rss : List (List Run)) × AreKept p V (threads_of p) runs rss
   all_kept =
-      let a : (rss : List (List Run)) × AreKept V (threads_from p (length runs)) (take (length runs) runs) rss = first_kept (length runs) (omega arith) in
-      (a.0, subst (λ (n : ℕ). AreKept V (threads_from p n) runs a.0) are.count (subst (λ (l : List (Vec made.Run Global)). AreKept V (threads_from p (length runs)) l a.0) (take_all (length runs) runs (omega arith)) a.1))
+      let a : (rss : List (List Run)) × AreKept p V (threads_from p (length runs)) (take (length runs) runs) rss = first_kept (length runs) (omega arith) in
+      (a.0, subst (λ (n : ℕ). AreKept p V (threads_from p n) runs a.0) are.count (subst (λ (l : List (Vec made.Run Global)). AreKept p V (threads_from p (length runs)) l a.0) (take_all (length runs) runs (omega arith)) a.1))

@@ -23,6 +23,7 @@ pub mod Places
 pub mod Products
 pub mod ReadsFrom
 pub mod RisingPairs
+pub mod Serving
 pub mod Showing
 pub mod Small
 pub mod Sole

@@ -17,11 +17,13 @@ use Rattle.thread_runs.specs.declared.instruction.Program.{Program}
 use Rattle.thread_runs.specs.declared.run.Run as made
 use Rattle.thread_runs.specs.declared.state.State.{State}
 use Rattle.thread_runs.specs.Machine.{is_load, is_fault, goes, event_of}
-use Rattle.thread_runs.specs.Runs.{Walk, Outcome, Thread, Run, started, advanced, passed, ends, supplied, obeyed, one, run_from}
-use Rattle.thread_runs.specs.AllRuns.{Shown, shown, shown_of, ShowsRuns, lines_at, thread_of}
+use Rattle.thread_runs.specs.Runs.{Walk, Outcome, Run, started, advanced, passed, ends, supplied, obeyed, one, run_from}
+use Rattle.thread_runs.specs.AllRuns.{Shown, shown, shown_of, lines_at, thread_of}
+use Rattle.thread_runs.specs.Held.{IsUnserved, ShowsServed}
+use Rattle.thread_runs.proofs.Serving.{left_contains}
 use Rattle.ppc_semantics.specs.Domain.{makes_event, has_event, IsDomain}
 use Rattle.run_combinations.specs.Events.{action_in, with_action, thread_events, initial_stores}
-use Rattle.run_combinations.specs.Layouts.{AreAllRuns, ArePartsOf, AreThreadsOf, IsLaidOut}
+use Rattle.run_combinations.specs.Layouts.{AreServedRuns, ArePartsOf, AreThreadsOf, IsLaidOut}
 use Rattle.run_combinations.specs.Search.{PrefixLists, with_run, combinations, start, all_combinations}
 use Rattle.run_combinations.specs.Candidates.{AreSmall}
 use Rattle.candidates.specs.TestSpaces.{HasLayout}
@@ -115,11 +117,13 @@ shown_few n (m ∷ runs) (q ∷ all) e few (suc k) r g = shown_few n runs all (r
     rest : map shown (m ∷ runs) ≡ map shown_of (q ∷ all) → map shown runs ≡ map shown_of all
     rest e = tails e
 
-runs_few : (t : Thread) (V : List Value) (runs : List made.Run) → ShowsRuns t V runs → (k : ℕ) (r : made.Run) → slice_get runs k ≡ Some r → length r.events.items ≤ count_by has_event t.lines
-runs_few t V runs s k r g = shown_few (count_by has_event t.lines) runs s.0 s.2 few k r g
+runs_few : (p : Program) (t : ℕ) (V : List Value) (runs : List made.Run) → ShowsServed p t V runs → (k : ℕ) (r : made.Run) → slice_get runs k ≡ Some r → length r.events.items ≤ count_by has_event (thread_of p t).lines
+runs_few p t V runs s k r g = shown_few (count_by has_event (thread_of p t).lines) runs s.2 s.4 few k r g
   where
-    few : (q : Run) → Contains s.0 q → length q.outcome.walk.events ≤ count_by has_event t.lines
-    few q there = let a : length q.outcome.walk.events ≤ 0 + count_by has_event t.lines = run_few t.lines (started t.first) q.values q.outcome ((s.1.exact q).0 there).1 in omega (arith, a)
+    few : (q : Run) → Contains s.2 q → length q.outcome.walk.events ≤ count_by has_event (thread_of p t).lines
+    few q there =
+        let a : length q.outcome.walk.events ≤ 0 + count_by has_event (thread_of p t).lines = run_few (thread_of p t).lines (started (thread_of p t).first) q.values q.outcome ((s.1.exact q).0 (left_contains (IsUnserved p) s.0 s.2 s.3 q there)).1 in
+        omega (arith, a)
 
 -- and its part
 one_action : (thread : ℕ) (o : Option Action) → length (with_action thread o) ≤ 1
@@ -181,10 +185,10 @@ pub layout_small : (t : Test) (l : Layout) → HasLayout t l → AreSmall (all_c
 layout_small t l h =
     let p : Program = h.0 in
     let d : IsDomain p h.1 = h.4 in
-    let r : AreAllRuns p h.1 h.2 = h.5 in
+    let r : AreServedRuns p h.1 h.2 = h.5 in
     let o : IsLaidOut p h.2 l = h.6 in
     let a : length l.initial.items ≡ length (initial_stores 0 p.initial.items) = ap (λ (es : List Event). length es) o.initial in
     let b : length p.initial.items ≡ length p.locations.items = h.3.initial.each_one in
     all_small p.threads.items l.threads.items (start l.initial.items)
-    (threads_few 0 h.2 p.threads.items l.threads.items (r.count ∙ p.threads.ok.0) (λ j v g. runs_few (thread_of p j) h.1 v.items (r.each j v g)) o.threads)
+    (threads_few 0 h.2 p.threads.items l.threads.items (r.count ∙ p.threads.ok.0) (λ j v g. runs_few p j h.1 v.items (r.each j v g)) o.threads)
     (omega (arith, a, b, initial_length 0 p.initial.items, d.events))

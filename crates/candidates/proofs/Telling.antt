@@ -13,7 +13,8 @@ use Rattle.ppc_semantics.specs.Domain.{IsDomain, threads_of}
 use Rattle.candidates.proofs.Choosing.{AreChoices, runs_in, layout_choices}
 use Rattle.candidates.proofs.Executing.{executed_so, orders_at}
 use Rattle.candidates.proofs.Flat.{flat, orders_flat}
-use Rattle.candidates.proofs.Kept.{AreKept, all_kept, product_kept, runs_kept}
+use Rattle.candidates.proofs.Kept.{AreKept, AllRuns, all_kept, product_kept, runs_kept}
+use Rattle.candidates.proofs.Serving.{all_executions}
 use Rattle.candidates.proofs.Listing.{AreListed, no_more, one_more, not_one, Listing, all_listed}
 use Rattle.candidates.proofs.Small.{layout_small}
 use Rattle.candidates.specs.declared.fault.EvalRefusal.TheVariants.{TooManyEvents, TooManyValues, TooManyRuns, TooManyCandidates, AddressFault, TooManyCombinations}
@@ -55,15 +56,16 @@ layout_told t l cs h found =
     let V : List Value = h.1 in
     let runs : List (Vec made.Run Global) = h.2 in
     let o : IsLaidOut p runs l = h.6 in
-    let k : (rss : List (List Run)) × AreKept V (threads_of p) runs rss = all_kept p V runs h.4 h.5 in
+    let k : (rss : List (List Run)) × AreKept p V (threads_of p) runs rss = all_kept p V runs h.4 h.5 in
+    let a : AllRuns p V (threads_of p) k.0 = runs_kept p V (threads_of p) runs k.0 k.1 in
     let choices : AreChoices 0 (start (initial_stores 0 p.initial.items)) l.threads.items (product (runs_in runs)) (all_combinations l) =
     subst (λ (es : List Event). AreChoices 0 (start es) l.threads.items (product (runs_in runs)) (all_combinations l)) o.initial (layout_choices p runs l o) in
     let all : Listing (location_count l) p.initial.items (threads_of p) V l.threads.items (all_combinations l) cs (product k.0) =
     all_listed (location_count l) p.initial.items (threads_of p) V l.threads.items (product (runs_in runs)) (product k.0) (all_combinations l) cs
-    (product_kept V (threads_of p) runs k.0 k.1) choices (layout_small t l h) found in
+    (product_kept p V (threads_of p) runs k.0 k.1) choices (layout_small t l h) found in
     record {
       all = all.all;
-      executions = record { program = p; values = V; of_test = h.3; starts = refl; domain = h.4; executions = record { runs = k.0; of_threads = runs_kept V (threads_of p) runs k.0 k.1; executions = all.executions } };
+      executions = record { program = p; values = V; of_test = h.3; starts = refl; domain = h.4; executions = record { runs = a.0; of_threads = a.1; executions = all_executions p V a.0 k.0 all.all a.2 all.executions } };
       listed = all.listed;
     }
 

@@ -14,7 +14,7 @@ use Rattle.thread_runs.specs.declared.run.Run.{Run}
 use Rattle.ppc_semantics.specs.Domain.{IsDomain, IsFault}
 use Rattle.ppc_semantics.specs.Lowering.{IsProgram}
 use Rattle.run_combinations.specs.Keys.{IsKeyed, bit_of}
-use Rattle.run_combinations.specs.Layouts.{AreAllRuns, IsLaidOut}
+use Rattle.run_combinations.specs.Layouts.{AreServedRuns, IsLaidOut}
 use Rattle.candidates.specs.declared.candidate.Space.{Space}
 use Rattle.run_combinations.specs.Ways.{AreWays, IsWay, accesses_in}
 use Rattle.run_combinations.specs.Lists.{tuples}
@@ -220,7 +220,7 @@ pub fault_told : (t : Test) (e : SpaceFault) → IsLayoutFault t e → IsTestRef
 fault_told t (Refused r) h = inl h
 fault_told t (OutOfMemory x) h = tt
 
-pub ready : (t : Test) (p : Program) (values : List Value) (l : Layout) → IsProgram t p → IsDomain p values → (runs : List (Vec Run Global)) × AreAllRuns p values runs × IsLaidOut p runs l × IsKeyed (bit_of values) l → IsReady t l
+pub ready : (t : Test) (p : Program) (values : List Value) (l : Layout) → IsProgram t p → IsDomain p values → (runs : List (Vec Run Global)) × AreServedRuns p values runs × IsLaidOut p runs l × IsKeyed (bit_of values) l → IsReady t l
 ready t p values l h d r = ((p, values, r.0, h, d, r.1, r.2), bit_of values, p.initial.items, r.3, r.2.initial)
 
 -- what the space of a layout says of the test

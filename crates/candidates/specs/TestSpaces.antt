@@ -16,7 +16,7 @@ use Rattle.candidates.specs.Faults.{refusal_of}
 use Rattle.litmus_values.specs.declared.test.Test.{Test}
 use Rattle.run_combinations.specs.Keys.{IsKeyed}
 use Rattle.run_combinations.specs.Events.{initial_stores}
-use Rattle.run_combinations.specs.Layouts.{AreAllRuns, IsLaidOut}
+use Rattle.run_combinations.specs.Layouts.{AreServedRuns, IsLaidOut}
 use Rattle.run_combinations.specs.Ways.{AreWays}
 use Rattle.run_combinations.specs.Search.{PrefixLists, all_combinations, location_count}
 use Rattle.run_combinations.specs.Combinations.{CombinationLists, combination_lists, ordered}
@@ -42,9 +42,9 @@ IsAnswer l (Ok s) = IsSpaceOf l s
 IsAnswer l (Err r) = IsRefusedAs l r
 
 -- what the candidates of the test are made of: the initial stores of its program, and runs of each of its threads over
--- its domain
+-- its domain, but for some with a load of what its location never holds
 abbrev pub HasLayout : Test → Layout → Type 0
-HasLayout t l = (p : Program) × (values : List Value) × (runs : List (Vec Run Global)) × IsProgram t p × IsDomain p values × AreAllRuns p values runs × IsLaidOut p runs l
+HasLayout t l = (p : Program) × (values : List Value) × (runs : List (Vec Run Global)) × IsProgram t p × IsDomain p values × AreServedRuns p values runs × IsLaidOut p runs l
 
 -- with the sets of what its runs read and store
 abbrev pub IsReady : Test → Layout → Type 0

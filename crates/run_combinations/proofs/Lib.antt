@@ -16,5 +16,6 @@ pub mod Pairs
 pub mod Parting
 pub mod Pruning
 pub mod Searching
+pub mod Serving
 pub mod Stores
 pub mod WayLists

@@ -4,7 +4,7 @@ use Rattle.std.specs.declared.alloc.Global.{Global}
 use Rattle.thread_runs.specs.declared.value.Value.{Value}
 use Rattle.thread_runs.specs.declared.run.Run.{Run}
 use Rattle.thread_runs.specs.declared.instruction.Program.{Program}
-use Rattle.thread_runs.specs.AllRuns.{ShowsRuns, thread_of}
+use Rattle.thread_runs.specs.Held.{ShowsServed}
 use Rattle.run_combinations.specs.Events.{thread_events, initial_stores, CannotRead}
 use Rattle.run_combinations.specs.Parts.{IsPartOf}
 use Rattle.run_combinations.specs.declared.combination.Event.{Event}
@@ -12,10 +12,10 @@ use Rattle.run_combinations.specs.declared.layout.Layout.{Layout}
 use Rattle.run_combinations.specs.declared.layout.ThreadParts.{ThreadParts}
 use Rattle.run_combinations.specs.declared.part.Part.{Part}
 
--- all runs of each thread over these values
-pub record AreAllRuns (p : Program) (values : List Value) (runs : List (Vec Run Global)) : Type 0 where
+-- the runs of each thread over these values, but for some with a load of what its location never holds
+pub record AreServedRuns (p : Program) (values : List Value) (runs : List (Vec Run Global)) : Type 0 where
   pub count : length runs ≡ vec_len p.threads
-  pub each : (t : ℕ) (v : Vec Run Global) → slice_get runs t ≡ Some v → ShowsRuns (thread_of p t) values v.items
+  pub each : (t : ℕ) (v : Vec Run Global) → slice_get runs t ≡ Some v → ShowsServed p t values v.items
 
 -- parts of some runs of the thread, in their order, from this index on
 abbrev pub ArePartsOf : ℕ → List Run → ℕ → List Part → Type 0

@@ -1,8 +1,7 @@
 -- The ways in which the loads of a combination of runs read its stores.
-use Rattle.std.specs.Prelude.{Bool, true, false, ◌&&◌, nat_eq, filter, ℕ, ◌≡◌, ◌<◌, ◌≤◌, List, [], ◌∷◌, ◌++◌, map, length, slice_index, slice_index_or, Option, None, Some, Contains}
+use Rattle.std.specs.Prelude.{Bool, false, ◌&&◌, nat_eq, filter, ℕ, ◌≡◌, ◌<◌, ◌≤◌, List, [], ◌∷◌, ◌++◌, map, length, slice_index, slice_index_or, Option, None, Some, Contains}
 use Rattle.bit_relations.specs.Pairs.{Union, IsAcyclic}
-use Rattle.thread_runs.specs.declared.value.Value.{Value}
-use Rattle.thread_runs.specs.declared.value.Value.TheVariants.{Number, Address, NoValue}
+pub use Rattle.thread_runs.specs.Held.{same_value}
 use Rattle.run_combinations.specs.Lists.{tuples, IsFiltered}
 use Rattle.run_combinations.specs.Events.{numbers, is_load, is_store, ReadsFrom}
 use Rattle.run_combinations.specs.declared.combination.Action.{Action}
@@ -53,12 +52,6 @@ pub record IsProper (n : ℕ) (g : Accesses) : Type 0 where
 -- the front with each of the choices behind it
 abbrev pub nexts : List ℕ → List ℕ → List (List ℕ)
 nexts choices front = map (λ x. front ++ x ∷ []) choices
-
-abbrev pub same_value : Value → Value → Bool
-same_value (Number m) (Number n) = nat_eq m n
-same_value (Address k) (Address l) = nat_eq k l
-same_value NoValue NoValue = true
-same_value _ _ = false
 
 -- a load may read the stores of its location and value
 abbrev pub may_read : Action → Action → Bool

@@ -8,8 +8,8 @@ ghost use Rattle.bit_relations.specs.Pairs.{Added, Union};
 ghost use Rattle.run_combinations.specs.Keys.{HasKey, TellsAll, TellsWithin, key_in, bit_of};
 ghost use Rattle.run_combinations.specs.Ways.{same_value};
 
-use crate::reading::is_same;
 use ppc_semantics::Value;
+use thread_runs::is_same;
 
 /// Words enough for 128 locations with 16 values each.
 const WORDS: usize = 32;

@@ -4,19 +4,21 @@ ghost use Rattle.std.specs.Prelude.{Vec, ℕ, ◌≡◌, ◌<◌, List, Some, le
 ghost use Rattle.std.specs.declared.alloc.Global.{Global};
 ghost use Rattle.thread_runs.specs.declared.value.Value.{Value};
 ghost use Rattle.thread_runs.specs.declared.run.Run.{Run};
+ghost use Rattle.thread_runs.specs.Held.{AreHeld};
 ghost use Rattle.thread_runs.specs.ValueSet.{IsSet};
 ghost use Rattle.run_combinations.specs.Keys.{HasKey, IsKeyed, bit_of};
 ghost use Rattle.run_combinations.specs.Events.{initial_stores, HasStore};
 ghost use Rattle.run_combinations.specs.Parts.{AreSketches, HasWritesOf, AreBelow, IsMade, NamesRuns, AreThreads};
 ghost use Rattle.std.specs.List.{AllZip};
-ghost use Rattle.run_combinations.specs.Layouts.{AreAllRuns, IsLaidOut};
+ghost use Rattle.run_combinations.specs.Layouts.{AreServedRuns, IsLaidOut};
 
 use crate::combination::{Action, Event};
 use crate::keys::KeySet;
 use crate::part::{Part, Sketch, add_keys, join_writes, parts, sift, sketches};
-use ppc_semantics::{Domain, Program, Run, Value, runs_of};
+use ppc_semantics::{Domain, Program, Run, Value};
 use source_text::Name;
 use std::alloc::{AllocError, Global};
+use thread_runs::{held_values, served_runs_of};
 
 /// The runs of a thread that may be part of a candidate.
 #[derive(Drop)]
@@ -67,16 +69,32 @@ fn initial_keys(values: &[Value], initial: &[Event]) -> KeySet
     writes
 }
 
-/// The runs of each thread.
-fn all_runs(alloc: Global, program: &Program, domain: &Domain) -> Result<Vec<Vec<Run>>, AllocError>
-    requires { IsSet domain.now.values.items }
-    ensures { IfOk result (λ v. AreAllRuns program.now domain.now.values.items v.items) }
+/// The runs of each thread, where `held` says what locations may hold: but for some with a load of what
+/// its location never holds.
+fn served_runs(
+    alloc: Global,
+    program: &Program,
+    domain: &Domain,
+    held: &[Vec<Value>],
+) -> Result<Vec<Vec<Run>>, AllocError>
+    requires set { IsSet domain.now.values.items }
+    requires held { AreHeld program.now domain.now.values.items held.now }
+    ensures { IfOk result (λ v. AreServedRuns program.now domain.now.values.items v.items) }
 {
     let mut threads = Vec::with_capacity(alloc, program.threads.len())?;
     for thread in 0..program.threads.len() {
-        threads.push(runs_of(alloc, program, thread, domain)?)?;
+        threads.push(served_runs_of(alloc, program, thread, domain, held)?)?;
     }
     Ok(threads)
+}
+
+/// The runs of each thread, but for some with a load of what its location never holds.
+fn all_runs(alloc: Global, program: &Program, domain: &Domain) -> Result<Vec<Vec<Run>>, AllocError>
+    requires { IsSet domain.now.values.items }
+    ensures { IfOk result (λ v. AreServedRuns program.now domain.now.values.items v.items) }
+{
+    let held = held_values(alloc, program, &domain.values)?;
+    served_runs(alloc, program, domain, &held)
 }
 
 /// The runs of each thread in short.
@@ -133,7 +151,7 @@ impl Layout {
     /// What the candidates of a program over a domain are made of.
     pub fn new(alloc: Global, program: Program, domain: &Domain) -> Result<Layout, AllocError>
         requires { IsSet domain.now.values.items }
-        ensures { IfOk result (λ l. (runs : List (Vec Run Global)) × AreAllRuns program domain.now.values.items runs × IsLaidOut program runs l × IsKeyed (bit_of domain.now.values.items) l) }
+        ensures { IfOk result (λ l. (runs : List (Vec Run Global)) × AreServedRuns program domain.now.values.items runs × IsLaidOut program runs l × IsKeyed (bit_of domain.now.values.items) l) }
     {
         let runs = all_runs(alloc, &program, domain)?;
         let initial = initial_events(alloc, &program.initial)?;

@@ -17,8 +17,8 @@ pub use combination::{Action, Combination, Event};
 pub use layout::{Layout, ThreadParts, registers};
 pub use orders::with_orders;
 pub use part::Part;
-pub use reading::is_same;
 pub use search::{Found, find_combinations};
+pub use thread_runs::is_same;
 
 /// The greatest number of candidates that a test may have.
 pub const MAX_CANDIDATES: usize = 16_384;

@@ -5,14 +5,14 @@ ghost use Rattle.bit_relations.specs.Relation.{IsMember, IsEvents};
 ghost use Rattle.run_combinations.specs.Rounds.{IsInside, IsMeeting, CanRead, CanArise, WithStores, WithLoads, IsRound, HasDerived, TellsPossible, GainsNext, AreNext, AreOver, HasOver, HasWays, Shows, AreLoads, AreStores};
 ghost use Rattle.run_combinations.specs.Lists.{lists_of};
 ghost use Rattle.run_combinations.specs.Events.{numbers, is_load, is_store};
-ghost use Rattle.run_combinations.specs.Ways.{may_read, same_value};
+ghost use Rattle.run_combinations.specs.Ways.{may_read};
 ghost use Rattle.run_combinations.specs.Ways as ways;
 
 use crate::combination::{Action, Event};
 use crate::orders::joined;
 use bit_relations::{EventSet, MAX_EVENTS};
-use ppc_semantics::Value;
 use std::alloc::{AllocError, Global};
+use thread_runs::is_same;
 
 /// A load with the stores of its location and value.
 #[derive(Clone, Copy)]
@@ -142,18 +142,6 @@ fn is_source(load: &Event, store: &Event) -> bool
                 value: written,
             },
         ) => written_to == location && is_same(written, value),
-        _ => false,
-    }
-}
-
-/// Whether both are one value.
-pub fn is_same(value: Value, other: Value) -> bool
-    ensures { result ≡ same_value value other }
-{
-    match (value, other) {
-        (Value::Number(m), Value::Number(n)) => m == n,
-        (Value::Address(k), Value::Address(l)) => k == l,
-        (Value::NoValue, Value::NoValue) => true,
         _ => false,
     }
 }

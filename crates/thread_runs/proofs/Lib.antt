@@ -1,6 +1,9 @@
 pub mod MapInPlace
 pub mod RunList
 pub mod RunsExact
+pub mod Serving
+pub mod Telling
+pub mod Holding
 pub mod FewRuns
 pub mod LineByLine
 pub mod Sorted

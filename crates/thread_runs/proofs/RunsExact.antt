@@ -333,7 +333,7 @@ pairs_map R f (x ∷ xs) h =
     subst (λ (w : _). R (f x) w) e (All-contains (λ z. R (f x) (f z)) xs z (pairs_head (λ x y. R (f x) (f y)) x xs h) within)))
     (pairs_map R f xs (pairs_tail (λ x y. R (f x) (f y)) x xs h))
 
-map_twice : {A B C : Type 0} (g : B → C) (f : A → B) (xs : List A) → map g (map f xs) ≡ map (λ x. g (f x)) xs
+pub map_twice : {A B C : Type 0} (g : B → C) (f : A → B) (xs : List A) → map g (map f xs) ≡ map (λ x. g (f x)) xs
 map_twice g f [] = refl
 map_twice g f (x ∷ xs) = ap (λ (ys : List _). g (f x) ∷ ys) (map_twice g f xs)
 
@@ -366,9 +366,3 @@ has_runs t V n rising e = (map whole (all_from V t.lines (beginning_at t.first))
 
 pub shows_runs : (t : Thread) (V : List Value) (runs : List made.Run) → AllPairs IsLess V → map shown runs ≡ map shown_whole (all_from V t.lines (beginning_at t.first)) → ShowsRuns t V runs
 shows_runs t V runs rising e = (map whole (all_from V t.lines (beginning_at t.first)), are_runs t V rising, e ∙ sym (map_twice shown_of whole (all_from V t.lines (beginning_at t.first))))
-
-pub shows_from : (t : Thread) (V U : List Value) (lines : List Line) (s : State) (runs : List made.Run) (bs : List Beginning) → AllPairs IsLess V
-    → map shown runs ≡ map shown_whole bs → bs ≡ all_from U lines (beginning_at s) → U ≡ V → lines ≡ t.lines → s ≡ t.first → ShowsRuns t V runs
-shows_from t V U lines s runs bs rising e f p q r = shows_runs t V runs rising
-    (e ∙ ap (map shown_whole) f ∙ ap (λ (vs : List Value). map shown_whole (all_from vs lines (beginning_at s))) p
-    ∙ ap (λ (ls : List Line). map shown_whole (all_from V ls (beginning_at s))) q ∙ ap (λ (x : State). map shown_whole (all_from V t.lines (beginning_at x))) r)

@@ -3,12 +3,12 @@ use Rattle.std.specs.Prelude.{Vec, slice_get, slice_index_or, replicate, ℕ, �
 use Rattle.std.specs.List.{flat_map}
 use Rattle.std.specs.declared.alloc.Global.{Global}
 use Rattle.thread_runs.specs.declared.value.Value.{Value}
-use Rattle.thread_runs.specs.declared.value.Value.TheVariants.{Number, NoValue}
+use Rattle.thread_runs.specs.declared.value.Value.TheVariants.{Number, Address, NoValue}
 use Rattle.thread_runs.specs.declared.instruction.Instruction.{Instruction}
 use Rattle.thread_runs.specs.declared.instruction.Line.{Line}
 use Rattle.thread_runs.specs.declared.instruction.Line.TheVariants.{Label, Does}
 use Rattle.thread_runs.specs.declared.state.State.{State}
-use Rattle.thread_runs.specs.Machine.{is_load, is_fault, goes}
+use Rattle.thread_runs.specs.Machine.{address_of, is_load, is_fault, goes}
 use Rattle.thread_runs.specs.declared.value.Comparison.TheVariants.{Equal}
 use Rattle.thread_runs.specs.declared.instruction.Program.{Program}
 use Rattle.thread_runs.specs.declared.instruction.Event.{Event}
@@ -62,6 +62,26 @@ next V (Does i) b = if is_load i then spread V i b else gone_over (Does i) b ∷
 abbrev pub all_from : List Value → List Line → Beginning → List Beginning
 all_from V [] b = b ∷ []
 all_from V (x ∷ xs) b = flat_map (all_from V xs) (next V x b)
+
+-- the same where a load takes only what its location may hold, as far as that is given, by location
+abbrev pub values_or : List Value → Option (Vec Value Global) → List Value
+values_or V None = V
+values_or V (Some vs) = vs.items
+
+abbrev pub served : List Value → List (Vec Value Global) → Value → List Value
+served V held (Address location) = values_or V (slice_get held location)
+served V held _ = V
+
+abbrev pub spread_over : List Value → List (Vec Value Global) → Instruction → Beginning → List Beginning
+spread_over V held i b = if executes i b then map (with_load i b) (served V held (address_of i b.walk.state)) else gone_over (Does i) b ∷ []
+
+abbrev pub next_over : List Value → List (Vec Value Global) → Line → Beginning → List Beginning
+next_over V held (Label m) b = gone_over (Label m) b ∷ []
+next_over V held (Does i) b = if is_load i then spread_over V held i b else gone_over (Does i) b ∷ []
+
+abbrev pub all_over : List Value → List (Vec Value Global) → List Line → Beginning → List Beginning
+all_over V held [] b = b ∷ []
+all_over V held (x ∷ xs) b = flat_map (all_over V held xs) (next_over V held x b)
 
 -- a beginning that is whole is a run
 abbrev pub whole : Beginning → Run

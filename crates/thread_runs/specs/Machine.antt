@@ -120,6 +120,12 @@ event_of (StoreIndexed d a b) v s = Writes (sum_of (register s a) (register s b)
 event_of (Barrier f) v s = Orders f ∷ []
 event_of _ v s = []
 
+-- the address of a load
+abbrev pub address_of : Instruction → State → Value
+address_of (Load d a) s = register s a
+address_of (LoadIndexed d a b) s = sum_of (register s a) (register s b)
+address_of _ s = NoValue
+
 abbrev pub is_value : Value → Bool
 is_value NoValue = false
 is_value _ = true

@@ -4,6 +4,7 @@ ghost use Rattle.std.specs.List.{AllPairs};
 ghost use Rattle.thread_runs.specs.Runs.{IsLess};
 ghost use Rattle.std.specs.List.{flat_map};
 ghost use Rattle.thread_runs.specs.AllRuns as all;
+ghost use Rattle.thread_runs.specs.Held.{AreHeld, ShowsServed};
 
 use crate::instruction::{Instruction, Line, Program};
 use crate::run::{Domain, Run};
@@ -168,18 +169,34 @@ fn add_all_loads(
     Ok(())
 }
 
+/// What a load of the address takes: of the values those that its location may hold, as far as that
+/// is given.
+fn served<'a>(values: &'a [Value], held: &'a [Vec<Value>], address: Value) -> &'a [Value]
+    ensures { result.now ≡ all.served values.now held.now address }
+{
+    match address {
+        Value::Address(location) => match held.get(location) {
+            Some(own) => own,
+            None => values,
+        },
+        _ => values,
+    }
+}
+
 /// What the beginning becomes by a load.
 fn spread(
     alloc: Global,
     mut beginning: Beginning,
     instruction: Instruction,
     values: &[Value],
+    held: &[Vec<Value>],
     next: &mut Vec<Beginning>,
 ) -> Result<(), AllocError>
-    ensures { OnOk result (next.new.items ≡ next.old.items ++ all.spread values.now instruction beginning) }
+    ensures { OnOk result (next.new.items ≡ next.old.items ++ all.spread_over values.now held.now instruction beginning) }
 {
     if beginning.executes(instruction) {
-        add_all_loads(alloc, beginning, instruction, values, next)?;
+        let taken = served(values, held, beginning.walk.address(instruction));
+        add_all_loads(alloc, beginning, instruction, taken, next)?;
     } else {
         beginning.go_over(Line::Does(instruction))?;
         next.push(beginning)?;
@@ -192,12 +209,13 @@ fn spread_all(
     beginnings: Vec<Beginning>,
     instruction: Instruction,
     values: &[Value],
+    held: &[Vec<Value>],
 ) -> Result<Vec<Beginning>, AllocError>
-    ensures { IfOk result (λ v. v.items ≡ flat_map (all.spread values.now instruction) beginnings.items) }
+    ensures { IfOk result (λ v. v.items ≡ flat_map (all.spread_over values.now held.now instruction) beginnings.items) }
 {
     let mut next = Vec::new(alloc);
     for beginning in beginnings {
-        spread(alloc, beginning, instruction, values, &mut next)?;
+        spread(alloc, beginning, instruction, values, held, &mut next)?;
     }
     Ok(next)
 }
@@ -219,8 +237,9 @@ fn go_on(
     mut beginnings: Vec<Beginning>,
     line: Line,
     values: &[Value],
+    held: &[Vec<Value>],
 ) -> Result<Vec<Beginning>, AllocError>
-    ensures { IfOk result (λ v. v.items ≡ flat_map (all.next values.now line) beginnings.items) }
+    ensures { IfOk result (λ v. v.items ≡ flat_map (all.next_over values.now held.now line) beginnings.items) }
 {
     match line {
         Line::Label(_) => {
@@ -229,7 +248,7 @@ fn go_on(
         }
         Line::Does(instruction) => {
             if is_load(instruction) {
-                return spread_all(alloc, beginnings, instruction, values);
+                return spread_all(alloc, beginnings, instruction, values, held);
             }
             go_over_all(&mut beginnings, line)?;
             Ok(beginnings)
@@ -237,19 +256,20 @@ fn go_on(
     }
 }
 
-/// All runs, as beginnings that are whole.
+/// All runs whose loads take what is given, as beginnings that are whole.
 fn beginnings_of(
     alloc: Global,
     lines: &[Line],
     first: State,
     values: &[Value],
+    held: &[Vec<Value>],
 ) -> Result<Vec<Beginning>, AllocError>
-    ensures { IfOk result (λ v. v.items ≡ all.all_from values.now lines.now (all.beginning_at first)) }
+    ensures { IfOk result (λ v. v.items ≡ all.all_over values.now held.now lines.now (all.beginning_at first)) }
 {
     let mut beginnings = Vec::new(alloc);
     beginnings.push(Beginning::new(alloc, first))?;
     for line in lines {
-        beginnings = go_on(alloc, beginnings, *line, values)?;
+        beginnings = go_on(alloc, beginnings, *line, values, held)?;
     }
     Ok(beginnings)
 }
@@ -264,7 +284,7 @@ pub fn run_count(
 ) -> Result<usize, AllocError>
     ensures { AllPairs IsLess values.now → IfOk result (all.HasRuns (record { lines = lines.now; first = first }) values.now) }
 {
-    Ok(beginnings_of(alloc, lines, first, values)?.len())
+    Ok(beginnings_of(alloc, lines, first, values, &[])?.len())
 }
 
 fn shown_runs(alloc: Global, beginnings: Vec<Beginning>) -> Result<Vec<Run>, AllocError>
@@ -275,6 +295,28 @@ fn shown_runs(alloc: Global, beginnings: Vec<Beginning>) -> Result<Vec<Run>, All
         runs.push(beginning.into_run())?;
     }
     Ok(runs)
+}
+
+/// The runs of a thread of the program whose loads take what is given.
+fn runs_over(
+    alloc: Global,
+    program: &Program,
+    thread: usize,
+    values: &[Value],
+    held: &[Vec<Value>],
+) -> Result<Vec<Run>, AllocError>
+    ensures runs { IfOk result (λ v. thread < vec_len program.now.threads → map all.shown v.items ≡ map all.shown_whole (all.all_over values.now held.now (all.thread_of program.now thread).lines (all.beginning_at (all.thread_of program.now thread).first))) }
+    ensures no_thread { IfOk result (λ v. vec_len program.now.threads ≤ thread → v.items ≡ []) }
+{
+    match program.threads.get(thread) {
+        Some(lines) => {
+            let first = State::first(program, thread);
+            let beginnings = beginnings_of(alloc, lines, first, values, held)?;
+            let runs = shown_runs(alloc, beginnings)?;
+            Ok(runs)
+        }
+        None => Ok(Vec::new(alloc)),
+    }
 }
 
 /// The runs of a thread over the domain, in lexicographic order of their lists of loaded values. A
@@ -288,13 +330,19 @@ pub fn runs_of(
     ensures runs { IfOk result (λ v. AllPairs IsLess domain.now.values.items → thread < vec_len program.now.threads → all.ShowsRuns (all.thread_of program.now thread) domain.now.values.items v.items) }
     ensures no_thread { IfOk result (λ v. vec_len program.now.threads ≤ thread → v.items ≡ []) }
 {
-    match program.threads.get(thread) {
-        Some(lines) => {
-            let first = State::first(program, thread);
-            let beginnings = beginnings_of(alloc, lines, first, &domain.values)?;
-            let runs = shown_runs(alloc, beginnings)?;
-            Ok(runs)
-        }
-        None => Ok(Vec::new(alloc)),
-    }
+    runs_over(alloc, program, thread, &domain.values, &[])
+}
+
+/// The same runs but for some with a load that takes what its location never holds, where `held` says
+/// what locations may hold. Errors: out of memory.
+pub fn served_runs_of(
+    alloc: Global,
+    program: &Program,
+    thread: usize,
+    domain: &Domain,
+    held: &[Vec<Value>],
+) -> Result<Vec<Run>, AllocError>
+    ensures { IfOk result (λ v. AllPairs IsLess domain.now.values.items → AreHeld program.now domain.now.values.items held.now → thread < vec_len program.now.threads → ShowsServed program.now thread domain.now.values.items v.items) }
+{
+    runs_over(alloc, program, thread, &domain.values, held)
 }

@@ -4,6 +4,7 @@
 
 mod enumerate;
 mod free;
+mod held;
 mod instruction;
 pub mod laws;
 mod run;
@@ -12,8 +13,9 @@ mod value;
 mod value_set;
 mod walk;
 
-pub use enumerate::{run_count, runs_of};
+pub use enumerate::{run_count, runs_of, served_runs_of};
 pub use free::{MANY, MAX_VALUES, add_stored, free_count};
+pub use held::{held_values, is_same};
 pub use instruction::{Event, Instruction, Line, Program, RunStep};
 pub use run::{Domain, Run};
 pub use state::{State, cancels, is_load};

@@ -145,6 +145,17 @@ pub fn apply(instruction: Instruction, loaded: Value, state: &mut State)
     }
 }
 
+/// The address of a load; of another instruction no value.
+pub fn address(instruction: Instruction, state: &State) -> Value
+    ensures { result ≡ machine.address_of instruction state.now }
+{
+    match instruction {
+        Instruction::Load(_, a) => register(state, a),
+        Instruction::LoadIndexed(_, a, b) => sum(register(state, a), register(state, b)),
+        _ => Value::NoValue,
+    }
+}
+
 /// The event of the instruction, if it has one.
 pub fn event(instruction: Instruction, loaded: Value, state: &State) -> Option<Event>
     ensures { machine.event_of instruction loaded state.now ≡ machine.list_of result }

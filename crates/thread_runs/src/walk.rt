@@ -1,9 +1,10 @@
 //! The walk of a thread through its lines.
 ghost use Rattle.std.specs.Prelude.{◌≡◌, IfOk, OnOk};
+ghost use Rattle.thread_runs.specs.Machine as machine;
 ghost use Rattle.thread_runs.specs.Runs as runs;
 
 use crate::instruction::{Event, Instruction, Line, RunStep};
-use crate::state::{State, apply, event, goes, is_fault, target};
+use crate::state::{State, address, apply, event, goes, is_fault, target};
 use crate::value::Value;
 use std::alloc::{AllocError, Global};
 use std::marker::Model;
@@ -93,6 +94,13 @@ impl Walk {
         ensures { result ≡ runs.is_fault instruction self.now.state }
     {
         is_fault(instruction, &self.state)
+    }
+
+    /// The address of a load now.
+    pub fn address(&self, instruction: Instruction) -> Value
+        ensures { result ≡ machine.address_of instruction self.now.state }
+    {
+        address(instruction, &self.state)
     }
 
     /// Whether the instruction, if it is a branch, is taken now.
