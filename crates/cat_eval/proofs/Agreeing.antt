@@ -136,59 +136,6 @@ code_at (t ∷ ts) (c ∷ cs) codes (suc x) lt =
     let (b, is, within) = code_at ts cs codes.1 x (omega (arith, lt)) in
     (b, is, (λ name inside. Contains-append_right (names_in c.code.steps.items) (bodies_names cs) name (within name inside)))
 
--- ---- a name that passes a test makes the list pass
-
-pub passes_in : (test : Predefined → Bool) (xs : List Step) (name : Predefined) → Contains (names_in xs) name → IsTrue (test name) → IsTrue (list_any (step_passes test) xs)
-passes_in test [] name inside passes = absurd (omega (arith, inside.1))
-passes_in test (x ∷ xs) name inside passes = elim (Contains-append_cases (step_names x) (names_in xs) name inside) [
-  | inl here ↦ first (step_passes test x) (list_any (step_passes test) xs) (step x here)
-  | inr later ↦ second (step_passes test x) (list_any (step_passes test) xs) (passes_in test xs name later passes)
-]
-  where
-    first : (p q : Bool) → IsTrue p → IsTrue (p || q)
-    first true q h = refl
-    first false q h = absurd cc
-
-    second : (p q : Bool) → IsTrue q → IsTrue (p || q)
-    second true q h = refl
-    second false q h = h
-
-    source : (s : Source) → Contains (source_names s) name → IsTrue (source_passes test s)
-    source (sources.Predefined n) (zero, lt, is) = rw is passes
-    source (sources.Predefined n) (suc k, lt, is) = absurd (omega (arith, lt))
-    source (sources.Input index) h = absurd (omega (arith, h.1))
-    source (sources.Own position) h = absurd (omega (arith, h.1))
-
-    step : (x : Step) → Contains (step_names x) name → IsTrue (step_passes test x)
-    step (steps.PushSet s) h = source s h
-    step steps.PushAllEvents h = absurd (omega (arith, h.1))
-    step steps.PushNoEvents h = absurd (omega (arith, h.1))
-    step (steps.BlendSets how) h = absurd (omega (arith, h.1))
-    step steps.TurnSet h = absurd (omega (arith, h.1))
-    step (steps.PushRelation s) h = source s h
-    step steps.PushNoPairs h = absurd (omega (arith, h.1))
-    step (steps.BlendRelations how) h = absurd (omega (arith, h.1))
-    step steps.Compose h = absurd (omega (arith, h.1))
-    step steps.Multiply h = absurd (omega (arith, h.1))
-    step steps.Restrict h = absurd (omega (arith, h.1))
-    step (steps.Close how) h = absurd (omega (arith, h.1))
-    step steps.TurnRelation h = absurd (omega (arith, h.1))
-
-pub passes_among : (test : Predefined → Bool) (bodies : List Body) (name : Predefined) → Contains (bodies_names bodies) name → IsTrue (test name) → IsTrue (list_any (λ one. list_any (step_passes test) one.code.steps.items) bodies)
-passes_among test [] name inside passes = absurd (omega (arith, inside.1))
-passes_among test (c ∷ cs) name inside passes = elim (Contains-append_cases (names_in c.code.steps.items) (bodies_names cs) name inside) [
-  | inl here ↦ first (list_any (step_passes test) c.code.steps.items) (list_any (λ one. list_any (step_passes test) one.code.steps.items) cs) (passes_in test c.code.steps.items name here passes)
-  | inr later ↦ second (list_any (step_passes test) c.code.steps.items) (list_any (λ one. list_any (step_passes test) one.code.steps.items) cs) (passes_among test cs name later passes)
-]
-  where
-    first : (p q : Bool) → IsTrue p → IsTrue (p || q)
-    first true q h = refl
-    first false q h = absurd cc
-
-    second : (p q : Bool) → IsTrue q → IsTrue (p || q)
-    second true q h = refl
-    second false q h = h
-
 -- ---- two ways for names to stand for events and pairs
 
 module _ (n : ℕ) (sets others : Source → ℕ → Type 0) (rels further : Source → ℕ → ℕ → Type 0) where

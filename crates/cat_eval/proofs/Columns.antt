@@ -15,7 +15,7 @@ use Rattle.binding_graph.specs.declared.resolved.Source.{Source}
 use Rattle.binding_graph.specs.declared.resolved.Step.{Step}
 use Rattle.binding_graph.specs.Trees.{SetTree, RelTree, set_code, rel_code}
 use Rattle.candidates.specs.declared.candidate.Space.{Space}
-use Rattle.base_env.specs.Known.{Known}
+use Rattle.cat_eval.specs.Seen.{Known}
 use Rattle.cat_eval.specs.declared.column.Column.{Column}
 use Rattle.cat_eval.specs.declared.column.Column.TheVariants as columns
 use Rattle.cat_eval.specs.Candidates.{name_count}

@@ -37,37 +37,11 @@ held_of base names sets relations = record {
         later true h = Contains-append_right (y ∷ []) (filter test ys) x h
         later false h = h
 
-pub held_listed : (base : Known) (list some : List Predefined) → AreListed list some → AreHeld list base → AreHeld some base
-held_listed base list some listed h = record {
-  sets = λ name inside set. h.sets name (listed name inside) set;
-  relations = λ name inside relation. h.relations name (listed name inside) relation;
-}
-
 pub worlds_more : (names : List Predefined) (reads orders : Bool) (bases more : List Known) (some others : List Candidate) → AreWorlds names reads orders bases some → AreWorlds names reads orders more others → AreWorlds names reads orders (bases ++ more) (some ++ others)
 worlds_more names reads orders [] more [] others h k = k
 worlds_more names reads orders [] more (c ∷ cs) others h k = absurd h
 worlds_more names reads orders (b ∷ bs) more [] others h k = absurd h
 worlds_more names reads orders (b ∷ bs) more (c ∷ cs) others h k = (h.0, worlds_more names reads orders bs more cs others h.1 k)
-
-pub worlds_long : (names : List Predefined) (reads orders : Bool) (bases : List Known) (some : List Candidate) → AreWorlds names reads orders bases some → length bases ≡ length some
-worlds_long names reads orders [] [] h = refl
-worlds_long names reads orders [] (c ∷ cs) h = absurd h
-worlds_long names reads orders (b ∷ bs) [] h = absurd h
-worlds_long names reads orders (b ∷ bs) (c ∷ cs) h = let e : length bs ≡ length cs = worlds_long names reads orders bs cs h.1 in omega (arith, e)
-
--- worlds that hold some names hold those that are listed among them
-pub worlds_listed : (list some : List Predefined) → AreListed list some → (reads orders : Bool) (bases : List Known) (cs : List Candidate) → AreWorlds list reads orders bases cs → AreWorlds some reads orders bases cs
-worlds_listed list some listed reads orders [] [] h = tt
-worlds_listed list some listed reads orders [] (c ∷ cs) h = absurd h
-worlds_listed list some listed reads orders (b ∷ bs) [] h = absurd h
-worlds_listed list some listed reads orders (b ∷ bs) (c ∷ cs) h = (
-  record {
-    ready = record { known = h.0.ready.known; held = held_listed b list some listed h.0.ready.held; entered = h.0.ready.entered };
-    reading = h.0.reading;
-    ordered = h.0.ordered;
-  },
-  worlds_listed list some listed reads orders bs cs h.1,
-)
 
 -- one item of a list further
 pub map_step : {X Y : Type 0} (f : X → Y) (xs : List X) (i : ℕ) (x : X) → i < length xs → x ≡ get_or xs i x → map f (take (i + 1) xs) ≡ map f (take i xs) ++ f x ∷ []

@@ -1,5 +1,6 @@
 pub mod Agreeing
 pub mod Among
+pub mod Blocks
 pub mod Codes
 pub mod Columns
 pub mod Entering
@@ -8,11 +9,14 @@ pub mod Exact
 pub mod Growing
 pub mod Grown
 pub mod Likeness
+pub mod Filling
 pub mod Listed
+pub mod Looking
 pub mod Monotone
 pub mod Slots
 pub mod Repeating
 pub mod Same
+pub mod Seeing
 pub mod Standing
 pub mod Stacks
 pub mod Steps

@@ -1,10 +1,10 @@
 -- Where each input has the same value in two candidates with the same predefined names, an item means the same in both.
-use Rattle.std.proofs.Common.{ℕ, ◌≡◌, ◌<◌, ◌≤◌, ◌+◌, ◌-◌, ◌++◌, ◌∙◌, inl, inr, List, [], ◌∷◌, length, length-append, get_or, zero, suc, Bool, true, false, IsTrue, sym, ap, subst, refl, arith}
+use Rattle.std.proofs.Common.{ℕ, ◌≡◌, ◌<◌, ◌+◌, ◌-◌, ◌++◌, ◌∙◌, inl, inr, List, [], ◌∷◌, length, length-append, get_or, zero, suc, Bool, true, false, sym, ap, subst, refl, arith}
 use Rattle.std.specs.Prelude.{Option, Some, None, slice_get}
-use Rattle.std.proofs.lemmas.Bool.{cases_lt, cases_eq}
+use Rattle.std.proofs.lemmas.Bool.{cases_eq}
 use denote.Ref.{Bor}
 use Rattle.bit_relations.specs.Relation.{Relation, Events, no_slot}
-use Rattle.base_env.specs.Known.{Known, EventsFound}
+use Rattle.cat_eval.specs.Seen.{Known}
 use Rattle.binding_kinds.specs.declared.kinds.Kind.{Kind}
 use Rattle.binding_kinds.specs.declared.kinds.Kind.TheVariants as kinds
 use Rattle.binding_graph.specs.declared.resolved.Body.{Body}
@@ -18,7 +18,7 @@ use Rattle.cat_eval.specs.declared.column.Column.TheVariants as columns
 use Rattle.cat_eval.specs.Columns.{HasValue}
 use Rattle.cat_eval.specs.Least.{body}
 use Rattle.cat_eval.specs.Meaning.{MeansSet, Means}
-use Rattle.cat_eval.specs.Named.{ColumnEvents, ColumnPairs, PairsFound, InputEvents, InputPairs, EventsIn, PairsOutside, WithOwn, Of}
+use Rattle.cat_eval.specs.Named.{ColumnEvents, ColumnPairs, InputEvents, InputPairs, EventsIn, PairsOutside, WithOwn, Of}
 use Rattle.cat_eval.specs.OverNames.{IsAnswerOver, AreAnswersOver, IsMeaningOver, HaveValuesOver, AreColumnsOver}
 use Rattle.cat_eval.specs.Steady.{HasSame, AreSame, IsSteady, Repeats, EndsWith}
 use Rattle.cat_eval.specs.Values.{Adds, column_len}
@@ -27,7 +27,7 @@ use Rattle.cat_eval.proofs.Columns.{get_last, adds_new, columns_more, least_of_n
 use Rattle.cat_eval.proofs.Exact.{unless_same}
 use Rattle.cat_eval.proofs.Growing.{codes_long}
 use Rattle.cat_eval.proofs.Same.{Same, SameSet, changed, changed_set}
-use Rattle.cat_eval.proofs.Visits.{holds_same, empty_same, answers_more, get_within}
+use Rattle.cat_eval.proofs.Visits.{holds_same, empty_same, answers_more}
 
 column_events : (c : Column) (j k n : ℕ) → HasSame c j k → SameSet (ColumnEvents c j n) (ColumnEvents c k n)
 column_events (columns.Sets values) j k n same = λ a. rw same ((λ x. x), (λ x. x))

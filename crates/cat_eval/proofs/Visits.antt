@@ -13,7 +13,7 @@ use denote.Ref.{Bor}
 use Rattle.cat_values.specs.declared.model.CheckWord.{CheckWord}
 use Rattle.cat_values.specs.declared.model.CheckWord.TheVariants as words
 use Rattle.binding_graph.specs.declared.resolved.CheckCode.{CheckCode}
-use Rattle.base_env.specs.Known.{Known}
+use Rattle.cat_eval.specs.Seen.{Known}
 use Rattle.cat_eval.specs.declared.column.Column.{Column}
 use Rattle.cat_eval.specs.Checks.{Holds, IsEmptySet}
 use Rattle.cat_eval.specs.OverNames.{IsAnswerOver, AreAnswersOver}

@@ -8,9 +8,13 @@ pub mod Least
 pub mod Meaning
 pub mod Named
 pub mod Needed
+pub mod Needs
+pub mod Places
 pub mod Rising
 pub mod Running
+pub mod Seen
 pub mod Steady
+pub mod Tables
 pub mod Uses
 pub mod Values
 pub mod Worlds

@@ -1,18 +1,15 @@
 -- What the names of an item stand for in one candidate.
 use Rattle.std.specs.Prelude.{ℕ, ◌≡◌, Option, Some, None, List, slice_get}
 use denote.Ref.{Bor}
-use Rattle.bit_relations.specs.Relation.{Relation, Has}
+use Rattle.bit_relations.specs.Relation.{Relation}
 use Rattle.binding_graph.specs.declared.resolved.Source.{Source}
 use Rattle.binding_graph.specs.declared.resolved.Source.TheVariants as sources
-use Rattle.base_env.specs.Known.{Known, EventsOf, PairsOf, EventsFound}
+use Rattle.base_env.specs.Known.{EventsFound}
 use Rattle.cat_eval.specs.declared.column.Column.{Column}
 use Rattle.cat_eval.specs.declared.column.Column.TheVariants as columns
 use Rattle.cat_eval.specs.declared.names.Names.{Names}
-
--- the pairs of a relation that was found, if it is one of n events
-abbrev pub PairsFound : Option Relation → ℕ → ℕ → ℕ → Type 0
-PairsFound None n a b = ⊥
-PairsFound (Some r) n a b = (r.count ≡ n) × Has r a b
+use Rattle.cat_eval.specs.Seen.{Known, EventsOf, PairsOf}
+pub use Rattle.cat_eval.specs.Seen.{PairsFound}
 
 -- the events of a column's set in a candidate of n events
 abbrev pub ColumnEvents : Column → ℕ → ℕ → ℕ → Type 0

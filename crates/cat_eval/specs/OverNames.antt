@@ -6,7 +6,7 @@ use Rattle.binding_kinds.specs.declared.kinds.Kind.{Kind}
 use Rattle.binding_graph.specs.declared.resolved.Body.{Body}
 use Rattle.binding_graph.specs.declared.resolved.CheckCode.{CheckCode}
 use Rattle.binding_graph.specs.declared.resolved.Step.{Step}
-use Rattle.base_env.specs.Known.{Known}
+use Rattle.cat_eval.specs.Seen.{Known}
 use Rattle.cat_eval.specs.declared.column.Column.{Column}
 use Rattle.cat_eval.specs.Columns.{HaveValues}
 use Rattle.cat_eval.specs.Named.{EventsIn, PairsOutside}

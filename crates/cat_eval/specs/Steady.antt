@@ -2,7 +2,6 @@
 use Rattle.std.specs.Prelude.{ℕ, ◌≡◌, ◌<◌, ◌≤◌, ◌-◌, List, [], ◌∷◌, ◌++◌, Some, slice_get}
 use denote.Ref.{Bor}
 use Rattle.bit_relations.specs.Relation.{Relation, Events}
-use Rattle.base_env.specs.Known.{Known}
 use Rattle.cat_eval.specs.declared.column.Column.{Column}
 use Rattle.cat_eval.specs.declared.column.Column.TheVariants as columns
 use Rattle.cat_eval.specs.Columns.{HasValue}
@@ -30,5 +29,5 @@ abbrev pub Repeats : Column → Column → Type 0
 Repeats old new = (s : Events) (r : Relation) → HasValue old (column_len old - 1) s r → Adds old new s r
 
 -- the last of them
-abbrev pub EndsWith : List Known → Known → Type 0
-EndsWith bases base = (before : List Known) × (bases ≡ before ++ base ∷ [])
+abbrev pub EndsWith : {X : Type 0} → List X → X → Type 0
+EndsWith bases base = (before : _) × (bases ≡ before ++ base ∷ [])

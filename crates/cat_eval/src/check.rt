@@ -1,18 +1,20 @@
 //! Whether a check holds.
 
 ghost use Rattle.std.specs.Prelude.{◌≡◌, ℕ, ◌++◌, ◌∷◌, [], List, Bool, length, IfOk, OnOk};
-ghost use Rattle.base_env.specs.Known.{Known};
+ghost use Rattle.cat_eval.specs.Seen.{Known};
 ghost use Rattle.cat_eval.specs.Values.{AnswersOf};
 ghost use Rattle.cat_eval.specs.OverNames.{AreAnswersOver};
+ghost use Rattle.cat_eval.specs.Tables.{IsOver};
 ghost use Rattle.cat_eval.specs.Steady.{IsSteady};
 
 use crate::column::Column;
+use crate::evaluator::Evaluator;
 use crate::machine::Machine;
 use crate::names::Names;
 use crate::needs::Needs;
+use crate::seen::Seen;
 use crate::steady::{is_as_before, steady_after};
-use crate::walk::{Evaluator, Visit};
-use base_env::Base;
+use crate::visit::{Visit, visit_all};
 use binding_graph::{CheckCode, ResolvedItem, Role};
 use candidates::Space;
 use std::alloc::{AllocError, Global};
@@ -44,7 +46,7 @@ fn push_last(answers: &mut Vec<bool>) -> Result<(), AllocError>
 impl Visit for CheckRun<'_> {
     ghost has_taken = { λ first bases run. (run.check ≡ first.check) × (run.inputs ≡ first.inputs) × AreAnswersOver first.check.now first.inputs.now bases run.answers.items × IsSteady first.inputs.now (length run.answers.items) run.steady };
 
-    fn visit(&mut self, machine: &mut Machine, base: &Base, again: bool) -> Result<(), AllocError> {
+    fn visit(&mut self, machine: &mut Machine, base: &Seen, again: bool) -> Result<(), AllocError> {
         let candidate = self.answers.len();
         let same = is_as_before(again, candidate, self.steady);
         self.steady = steady_after(self.inputs, self.steady, candidate);
@@ -80,7 +82,7 @@ pub fn eval_check(
 }
 
 impl Evaluator {
-    /// As `eval_check`.
+    /// As `eval_check`, over the space of the evaluator.
     pub fn check(
         &mut self,
         alloc: Global,
@@ -88,17 +90,22 @@ impl Evaluator {
         space: &Space,
         inputs: &[&Column],
     ) -> Result<Vec<bool>, AllocError>
-        ensures { IfOk result (λ v. AnswersOf item.now.role inputs.now space.now v.items) }
+        requires { IsOver self.old space.now }
+        ensures over { IsOver self.new space.now }
+        ensures answers { IfOk result (λ v. AnswersOf item.now.role inputs.now space.now v.items) }
     {
         match &item.role {
             Role::Check(check) => {
+                let needs = Needs::of(alloc, item)?;
+                self.table.need(alloc, &mut self.base, space, &needs.names)?;
+                let named = self.table.named(alloc, &needs.names)?;
                 let mut run = CheckRun {
                     check,
                     inputs,
                     answers: Vec::new(alloc),
                     steady: 0,
                 };
-                self.visit_all(alloc, space, &Needs::of(alloc, item)?, &mut run)?;
+                visit_all(&named, space, &mut self.machine, &mut run)?;
                 Ok(run.answers)
             }
             Role::Group { .. } | Role::Silent => Ok(Vec::new(alloc)),

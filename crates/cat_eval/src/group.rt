@@ -1,7 +1,7 @@
 //! The values of the names of a group.
 
 ghost use Rattle.std.specs.Prelude.{◌≡◌, ℕ, ◌<◌, ◌≤◌, List, [], true, false, length, slice_index_or, IfOk, OnOk};
-ghost use Rattle.base_env.specs.Known.{Known};
+ghost use Rattle.cat_eval.specs.Seen.{Known};
 ghost use Rattle.bit_relations.specs.Relation.{Relation, Events, IsRelation, IsEvents, no_slot};
 ghost use Rattle.binding_graph.specs.Trees.{RelTree};
 ghost use Rattle.cat_eval.specs.Candidates.{name_count};
@@ -10,16 +10,18 @@ ghost use Rattle.cat_eval.specs.OverNames.{AreColumnsOver, IsMeaningOver};
 ghost use Rattle.cat_eval.specs.Least.{IsLeast, AreMonotone};
 ghost use Rattle.cat_eval.specs.Named.{EventsIn, PairsOutside};
 ghost use Rattle.cat_eval.specs.Rising.{AreCodes};
+ghost use Rattle.cat_eval.specs.Tables.{IsOver};
 ghost use Rattle.cat_eval.specs.Steady.{IsSteady, Repeats};
 ghost use Rattle.cat_eval.specs.Values.{Adds, IsFor, column_len};
 
 use crate::column::Column;
+use crate::evaluator::Evaluator;
 use crate::machine::Machine;
 use crate::needs::Needs;
+use crate::seen::Seen;
 use crate::solver::Solver;
 use crate::steady::{is_as_before, steady_after};
-use crate::walk::{Evaluator, Visit};
-use base_env::Base;
+use crate::visit::{Visit, visit_all};
 use binding_graph::{Body, Kind, ResolvedItem, Role};
 use bit_relations::{EventSet, Rel};
 use candidates::Space;
@@ -106,7 +108,7 @@ impl GroupRun<'_> {
     fn evaluate_one(
         &mut self,
         machine: &mut Machine,
-        base: &Base,
+        base: &Seen,
         candidate: usize,
         position: usize,
     ) -> Result<(), AllocError>
@@ -129,7 +131,7 @@ impl GroupRun<'_> {
     fn evaluate_each(
         &mut self,
         machine: &mut Machine,
-        base: &Base,
+        base: &Seen,
         candidate: usize,
     ) -> Result<(), AllocError>
         ensures fixed { (self.new.bodies ≡ self.old.bodies) × (self.new.inputs ≡ self.old.inputs) × (self.new.recursive ≡ self.old.recursive) × (self.new.solver.own ≡ self.old.solver.own) × (self.new.steady ≡ self.old.steady) }
@@ -146,7 +148,7 @@ impl GroupRun<'_> {
     fn solve(
         &mut self,
         machine: &mut Machine,
-        base: &Base,
+        base: &Seen,
         candidate: usize,
     ) -> Result<(), AllocError>
         ensures fixed { (self.new.bodies ≡ self.old.bodies) × (self.new.inputs ≡ self.old.inputs) × (self.new.recursive ≡ self.old.recursive) × (length self.new.solver.own.items ≡ length self.old.solver.own.items) × (self.new.steady ≡ self.old.steady) }
@@ -164,7 +166,7 @@ impl GroupRun<'_> {
 impl Visit for GroupRun<'_> {
     ghost has_taken = { λ first bases run. (run.bodies ≡ first.bodies) × (run.inputs ≡ first.inputs) × (run.recursive ≡ first.recursive) × HasOwn first.recursive first.bodies.now run.solver.own.items × AreColumnsOver first.recursive first.bodies.now first.inputs.now bases run.columns.items × (0 < length first.bodies.now → IsSteady first.inputs.now (length bases) run.steady) };
 
-    fn visit(&mut self, machine: &mut Machine, base: &Base, again: bool) -> Result<(), AllocError> {
+    fn visit(&mut self, machine: &mut Machine, base: &Seen, again: bool) -> Result<(), AllocError> {
         let candidate = candidate_count(&self.columns);
         let same = is_as_before(again, candidate, self.steady);
         self.steady = steady_after(self.inputs, self.steady, candidate);
@@ -232,7 +234,7 @@ pub fn eval_group(
 }
 
 impl Evaluator {
-    /// As `eval_group`.
+    /// As `eval_group`, over the space of the evaluator.
     pub fn group(
         &mut self,
         alloc: Global,
@@ -240,11 +242,16 @@ impl Evaluator {
         space: &Space,
         inputs: &[&Column],
     ) -> Result<Vec<Column>, AllocError>
+        requires { IsOver self.old space.now }
+        ensures over { IsOver self.new space.now }
         ensures values { IfOk result (λ v. ColumnsOf item.now.role inputs.now space.now v.items) }
         ensures long { IfOk result (λ v. length v.items ≡ name_count item.now.role) }
     {
         match &item.role {
             Role::Group { recursive, bodies } => {
+                let needs = Needs::of(alloc, item)?;
+                self.table.need(alloc, &mut self.base, space, &needs.names)?;
+                let named = self.table.named(alloc, &needs.names)?;
                 let mut run = GroupRun {
                     bodies,
                     inputs,
@@ -253,7 +260,7 @@ impl Evaluator {
                     columns: columns_of(alloc, bodies)?,
                     steady: 0,
                 };
-                self.visit_all(alloc, space, &Needs::of(alloc, item)?, &mut run)?;
+                visit_all(&named, space, &mut self.machine, &mut run)?;
                 Ok(run.columns)
             }
             Role::Check(_) | Role::Silent => Ok(Vec::new(alloc)),

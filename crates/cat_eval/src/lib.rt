@@ -6,18 +6,22 @@
 
 mod check;
 mod column;
+mod evaluator;
 mod group;
 mod machine;
 mod names;
 mod needs;
 pub mod rounds;
+mod seen;
 mod shape;
 mod solver;
 mod stack;
 mod steady;
+mod table;
+mod visit;
 mod walk;
 
 pub use check::eval_check;
 pub use column::Column;
+pub use evaluator::Evaluator;
 pub use group::eval_group;
-pub use walk::Evaluator;

@@ -5,7 +5,7 @@ ghost use Rattle.bit_relations.specs.Relation.{IsRelation, IsEvents};
 ghost use Rattle.cat_eval.specs.Named.{EventsNamed, PairsNamed, Of};
 
 use crate::column::Column;
-use base_env::Base;
+use crate::seen::Seen;
 use binding_graph::Source;
 use bit_relations::{EventSet, Rel};
 
@@ -13,7 +13,7 @@ use bit_relations::{EventSet, Rel};
 #[derive(Clone, Copy)]
 pub(crate) struct Names<'a> {
     /// The predefined names of the candidate.
-    pub(crate) base: &'a Base,
+    pub(crate) base: &'a Seen<'a>,
     /// The values of the item's inputs in all candidates.
     pub(crate) inputs: &'a [&'a Column],
     /// The present values of the names of its own recursive group.

@@ -2,6 +2,7 @@
 
 ghost use Rattle.std.specs.Prelude.{◌≡◌, ◌++◌, ◌∷◌, ◌||◌, [], IfOk, OnOk, IsTrue, Contains, List};
 ghost use Rattle.cat_values.specs.declared.predefined.Predefined.{Predefined};
+ghost use Rattle.cat_eval.specs.Needs.{AreSuited, is_changing_name};
 ghost use Rattle.cat_eval.specs.Needed.{changes_with_reads, changes_with_orders, step_passes, steps_read, steps_order, bodies_read, bodies_order, role_reads, role_orders, step_names, names_in, bodies_names, role_names, AreListed};
 
 use binding_graph::{Body, ResolvedItem, Role, Source, Step};
@@ -59,6 +60,34 @@ fn is_listed(names: &[Predefined], name: Predefined) -> bool
 }
 
 impl Needs {
+    /// No need.
+    pub(crate) fn none(alloc: Global) -> Needs
+        ensures names { result.names.items ≡ [] }
+        ensures suited { AreSuited result.names.items result.reads result.orders }
+    {
+        Needs {
+            names: Vec::new(alloc),
+            reads: false,
+            orders: false,
+        }
+    }
+
+    /// Whether a name changes with reads-from or coherence.
+    pub(crate) fn is_changing(name: Predefined) -> bool
+        ensures { result ≡ is_changing_name name }
+    {
+        changes_with_reads(name) || changes_with_orders(name)
+    }
+
+    /// Adds what an item needs.
+    pub(crate) fn add_item(&mut self, item: &ResolvedItem) -> Result<(), AllocError> {
+        match &item.role {
+            Role::Group { bodies, .. } => self.add_bodies(bodies),
+            Role::Check(check) => self.add_all(&check.code.steps),
+            Role::Silent => Ok(()),
+        }
+    }
+
     /// What an item needs.
     pub(crate) fn of(alloc: Global, item: &ResolvedItem) -> Result<Needs, AllocError>
         ensures changes { IfOk result (λ needs. (needs.reads ≡ role_reads item.now.role) × (needs.orders ≡ role_orders item.now.role)) }
@@ -114,15 +143,36 @@ impl Needs {
     }
 
     /// Adds a name.
-    fn add(&mut self, name: Predefined) -> Result<(), AllocError>
+    pub(crate) fn add(&mut self, name: Predefined) -> Result<(), AllocError>
         ensures changes { OnOk result ((self.new.reads ≡ (self.old.reads || changes_with_reads name)) × (self.new.orders ≡ (self.old.orders || changes_with_orders name))) }
         ensures names { OnOk result (AreListed self.new.names.items (self.old.names.items ++ (name ∷ []))) }
+        ensures suited { AreSuited self.old.names.items self.old.reads self.old.orders → AreSuited self.new.names.items self.new.reads self.new.orders }
+    {
+        self.note(name);
+        self.list(name)?;
+        Ok(())
+    }
+
+    /// Notes what a name changes with.
+    fn note(&mut self, name: Predefined)
+        ensures names { self.new.names ≡ self.old.names }
+        ensures reads { self.new.reads ≡ (self.old.reads || changes_with_reads name) }
+        ensures orders { self.new.orders ≡ (self.old.orders || changes_with_orders name) }
     {
         self.reads = self.reads || changes_with_reads(name);
         self.orders = self.orders || changes_with_orders(name);
-        if !is_listed(&self.names, name) {
-            self.names.push(name)?;
+    }
+
+    /// Adds a name to the list, if it is not there.
+    fn list(&mut self, name: Predefined) -> Result<(), AllocError>
+        ensures fixed { (self.new.reads ≡ self.old.reads) × (self.new.orders ≡ self.old.orders) }
+        ensures listed { OnOk result (AreListed self.new.names.items (self.old.names.items ++ (name ∷ []))) }
+        ensures within { AreListed (self.old.names.items ++ (name ∷ [])) self.new.names.items }
+    {
+        if is_listed(&self.names, name) {
+            return Ok(());
         }
+        self.names.push(name)?;
         Ok(())
     }
 }

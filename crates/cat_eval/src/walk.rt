@@ -1,4 +1,4 @@
-//! All candidates of a space, one after another.
+//! The predefined names of all candidates of a space, one after another.
 
 ghost use Rattle.std.specs.Prelude.{◌≡◌, ℕ, ◌++◌, List, [], ◌∷◌, length, IsTrue, IfOk, IfSome, OnOk, MatchOption};
 ghost use Rattle.candidates.specs.Space.{candidates_in};
@@ -9,28 +9,20 @@ ghost use Rattle.cat_eval.specs.Candidates.{reading_so, reading_in};
 ghost use Rattle.cat_eval.specs.Steady.{EndsWith};
 ghost use Rattle.cat_eval.specs.Worlds.{AreHeld, IsReady, AreWorlds};
 
-use crate::machine::Machine;
 use crate::needs::Needs;
 use crate::shape::is_same_shape;
 use base_env::Base;
 use candidates::{Combination, Space};
-use std::alloc::{AllocError, Global};
-
-/// Where items are evaluated, one after another: each uses the memory of the ones before.
-#[derive(Drop)]
-pub struct Evaluator {
-    base: Base,
-    machine: Machine,
-}
+use std::alloc::AllocError;
 
 /// What is done with each candidate.
-pub(crate) trait Visit {
+pub(crate) trait Enter {
     /// From the first state on it has taken candidates of these predefined names, one after
     /// another.
     ghost has_taken: { Self → List Known → Self → Type 0 };
 
     /// Takes the next candidate, of which the predefined names are given, and whether they are those of the one before.
-    fn visit(&mut self, machine: &mut Machine, base: &Base, again: bool) -> Result<(), AllocError>
+    fn enter(&mut self, base: &Base, again: bool) -> Result<(), AllocError>
         ensures { (first : _) (bases : List Known) → (IsTrue again → EndsWith bases base.now) → has_taken first bases self.old → OnOk result (has_taken first (bases ++ base.now ∷ []) self.new) };
 }
 
@@ -113,11 +105,10 @@ fn go_to_combination(
 
 /// Visits the candidates of a combination that read in the present way. `again` says whether the base is that of the
 /// last candidate, before and after.
-fn visit_orders<V: Visit>(
+fn enter_orders<V: Enter>(
     combination: &Combination,
     needs: &Needs,
     base: &mut Base,
-    machine: &mut Machine,
     again: bool,
     visitor: &mut V,
 ) -> Result<bool, AllocError>
@@ -130,18 +121,17 @@ fn visit_orders<V: Visit>(
     for order in &combination.orders {
         let same = go_to_order(needs, base, combination, previous, order, again);
         previous = Some(order);
-        visitor.visit(machine, base, same)?;
+        visitor.enter(base, same)?;
         again = true;
     }
     Ok(again)
 }
 
 /// Visits the candidates of a combination, which the base has entered. `again` as above.
-fn visit_combination<V: Visit>(
+fn enter_combination<V: Enter>(
     combination: &Combination,
     needs: &Needs,
     base: &mut Base,
-    machine: &mut Machine,
     again: bool,
     visitor: &mut V,
 ) -> Result<bool, AllocError>
@@ -152,41 +142,16 @@ fn visit_combination<V: Visit>(
     let mut again = again;
     for sources in &combination.sources {
         let same = go_to_sources(needs, base, combination, sources, again);
-        again = visit_orders(combination, needs, base, machine, same, visitor)?;
+        again = enter_orders(combination, needs, base, same, visitor)?;
     }
     Ok(again)
 }
 
-impl Evaluator {
-    /// An evaluator that has evaluated nothing.
-    pub fn new(alloc: Global) -> Evaluator {
-        Evaluator {
-            base: Base::empty(alloc),
-            machine: Machine::new(alloc),
-        }
-    }
-
-    /// Visits all candidates of a space, in order, with the predefined names that are needed.
-    pub(crate) fn visit_all<V: Visit>(
-        &mut self,
-        alloc: Global,
-        space: &Space,
-        needs: &Needs,
-        visitor: &mut V,
-    ) -> Result<(), AllocError>
-        ensures { V.has_taken visitor.old [] visitor.old → OnOk result ((bases : List Known) × AreWorlds needs.now.names.items needs.now.reads needs.now.orders bases (candidates_in space.now.combinations.items) × V.has_taken visitor.old bases visitor.new) }
-    {
-        self.base.hold(alloc, &needs.names)?;
-        visit_space(space, needs, &mut self.base, &mut self.machine, visitor)
-    }
-}
-
 /// Visits all candidates of a space, in order, with predefined names that are held.
-fn visit_space<V: Visit>(
+pub(crate) fn enter_space<V: Enter>(
     space: &Space,
     needs: &Needs,
     base: &mut Base,
-    machine: &mut Machine,
     visitor: &mut V,
 ) -> Result<(), AllocError>
     requires known { IsConsistent base.old }
@@ -198,7 +163,7 @@ fn visit_space<V: Visit>(
     for combination in &space.combinations {
         let same = go_to_combination(entered, base, combination, again);
         entered = Some(combination);
-        again = visit_combination(combination, needs, base, machine, same, visitor)?;
+        again = enter_combination(combination, needs, base, same, visitor)?;
     }
     Ok(())
 }

@@ -5,6 +5,7 @@ ghost use Rattle.std.specs.Prelude.{◌≡◌, ◌<◌, ◌∷◌, ◌++◌, ℕ
 ghost use Rattle.litmus_values.specs.Value.{formula_of};
 ghost use Rattle.litmus_printing.specs.Printing.{condition_text};
 ghost use Rattle.cat_eval.specs.Columns.{ColumnsOf};
+ghost use Rattle.cat_eval.specs.Tables.{IsOver};
 ghost use Rattle.cat_eval.specs.Values.{AnswersOf};
 ghost use Rattle.verdict.specs.Evaluated.{IsEvaluatedAs};
 ghost use Rattle.verdict.specs.Kept.{of_raised};
@@ -97,7 +98,9 @@ fn group_columns(
     item: &ResolvedItem,
     columns: &[Vec<Column>],
 ) -> Result<Vec<Column>, AllocError>
-    ensures { IfOk result (λ v. (inputs : List (Bor Column)) × AreFound columns.now item.now.inputs.items inputs × ColumnsOf item.now.role inputs space.now v.items) }
+    requires { IsOver evaluator.old space.now }
+    ensures over { IsOver evaluator.new space.now }
+    ensures found { IfOk result (λ v. (inputs : List (Bor Column)) × AreFound columns.now item.now.inputs.items inputs × ColumnsOf item.now.role inputs space.now v.items) }
 {
     let inputs = inputs(alloc, columns, item)?;
     evaluator.group(alloc, item, space, &inputs)
@@ -111,7 +114,9 @@ fn check_answers(
     item: &ResolvedItem,
     columns: &[Vec<Column>],
 ) -> Result<Vec<bool>, AllocError>
-    ensures { IfOk result (λ v. (inputs : List (Bor Column)) × AreFound columns.now item.now.inputs.items inputs × AnswersOf item.now.role inputs space.now v.items) }
+    requires { IsOver evaluator.old space.now }
+    ensures over { IsOver evaluator.new space.now }
+    ensures found { IfOk result (λ v. (inputs : List (Bor Column)) × AreFound columns.now item.now.inputs.items inputs × AnswersOf item.now.role inputs space.now v.items) }
 {
     let inputs = inputs(alloc, columns, item)?;
     evaluator.check(alloc, item, space, &inputs)
@@ -146,7 +151,9 @@ fn answer_check<'a>(
     check: &'a CheckCode,
     answers: &mut ItemAnswers<'a>,
 ) -> Result<(), AllocError>
-    ensures { item.now.role ≡ Role.Check check.now → OnOk result (IsAnswered space.now at item.now answers.old answers.new) }
+    requires { IsOver evaluator.old space.now }
+    ensures over { IsOver evaluator.new space.now }
+    ensures answered { item.now.role ≡ Role.Check check.now → OnOk result (IsAnswered space.now at item.now answers.old answers.new) }
 {
     let holds = check_answers(alloc, evaluator, space, item, &answers.columns)?;
     match &check.flag {
@@ -173,7 +180,9 @@ fn answer_item<'a>(
     item: &'a ResolvedItem,
     answers: &mut ItemAnswers<'a>,
 ) -> Result<(), AllocError>
-    ensures { OnOk result (IsAnswered space.now at item.now answers.old answers.new) }
+    requires { IsOver evaluator.old space.now }
+    ensures over { IsOver evaluator.new space.now }
+    ensures answered { OnOk result (IsAnswered space.now at item.now answers.old answers.new) }
 {
     match &item.role {
         Role::Group { .. } => {
@@ -196,12 +205,28 @@ pub fn answers<'a>(
     ensures columns { let items = resolved.now.items.items in AreSound items → IfOk result (HasAllColumns space.now items) }
 {
     let mut evaluator = Evaluator::new(alloc);
+    answers_by(alloc, &mut evaluator, space, resolved)
+}
+
+/// As `answers`, by an evaluator that has evaluated nothing, or items over this space.
+fn answers_by<'a>(
+    alloc: Global,
+    evaluator: &mut Evaluator,
+    space: &Space,
+    resolved: &'a Resolved,
+) -> Result<ItemAnswers<'a>, AllocError>
+    requires { IsOver evaluator.old space.now }
+    ensures over { IsOver evaluator.new space.now }
+    ensures said { let items = resolved.now.items.items in AreSound items → IfOk result (λ a. AreSaid space.now (reverse items) (checks_of a) (flags_of a)) }
+    ensures columns { let items = resolved.now.items.items in AreSound items → IfOk result (HasAllColumns space.now items) }
+{
     let mut answers = no_answers(alloc, resolved.items.len())?;
     let indexes = used(alloc, resolved)?;
+    evaluator.prepare(alloc, space, &resolved.items, &indexes)?;
     for at in &indexes {
         answer_item(
             alloc,
-            &mut evaluator,
+            evaluator,
             space,
             *at,
             &resolved.items[*at],
@@ -237,14 +262,17 @@ fn lent<'c>(alloc: Global, checks: &'c [Vec<bool>]) -> Result<Vec<&'c [bool]>, A
 
 pub(crate) fn evaluated(
     alloc: Global,
+    evaluator: &mut Evaluator,
     test: &Test,
     resolved: &Resolved,
     space: &Space,
 ) -> Result<Outcome, AllocError>
+    requires { IsOver evaluator.old space.now }
+    ensures over { IsOver evaluator.new space.now }
     ensures said { IfOk result (λ o. IsSaid space.now test.now o) }
     ensures answers { AreSound resolved.now.items.items → IfOk result (λ o. IsEvaluatedAs (IsEvaluationBy resolved.now.items.items space.now test.now) o.result) }
 {
-    let found = answers(alloc, space, resolved)?;
+    let found = answers_by(alloc, evaluator, space, resolved)?;
     let checks = lent(alloc, &found.checks)?;
     let flags = raised(alloc, &found.flags)?;
     outcome(
@@ -274,7 +302,7 @@ fn over_candidates(alloc: Global, test: &Test, resolved: &Resolved) -> Result<Ou
     ensures model { IfOk result (λ o. OfModel (λ _. ⊥) (Unit {0}) (λ e. AreSound resolved.now.items.items → IsEvaluationOver resolved.now.items.items test.now e) o.result) }
 {
     let space = space_for(alloc, test)?;
-    over_space(alloc, test, resolved, &space)
+    over_space(alloc, &mut Evaluator::new(alloc), test, resolved, &space)
 }
 
 /// What the test says under the model: a fault of the model first, then a refusal of the test, and

@@ -2,7 +2,9 @@
 
 ghost use denote.Ref.{Bor};
 ghost use Rattle.std.specs.Prelude.{List, IfOk};
+ghost use Rattle.std.specs.Result.{ForOk};
 ghost use Rattle.cat_values.specs.declared.model.ModelText.{ModelText};
+ghost use Rattle.cat_eval.specs.Tables.{IsOver};
 ghost use Rattle.memo_graph.specs.Answers.{AreSound};
 ghost use Rattle.memo_graph.specs.Cell.{IsCell, IsEvaluationOver, OfModel};
 ghost use Rattle.memo_graph.specs.FromScratch.{IsFromScratch};
@@ -11,6 +13,7 @@ ghost use Rattle.memo_graph.specs.Suites.{AreOutcomes, AreRows, IsSpaceFor, IsRe
 use crate::cell::{evaluated, refused};
 use binding_graph::{ModelFault, ResolveFault, Resolved, resolve};
 use candidates::{EvalRefusal, Space, SpaceFault, space};
+use cat_eval::Evaluator;
 use cat_values::ModelText;
 use litmus_values::Test;
 use std::alloc::{AllocError, Global};
@@ -61,16 +64,19 @@ pub fn resolved_models(
 /// What the test says over its candidates.
 pub(crate) fn over_space(
     alloc: Global,
+    evaluator: &mut Evaluator,
     test: &Test,
     resolved: &Resolved,
     space: &Result<Space, EvalRefusal>,
 ) -> Result<Outcome, AllocError>
-    requires { IsSpaceFor test.now space.now }
+    requires space { IsSpaceFor test.now space.now }
+    requires over { ForOk space.now (IsOver evaluator.old) }
+    ensures over { ForOk space.now (IsOver evaluator.new) }
     ensures cell { IfOk result (λ o. IsCell test.now o) }
     ensures model { IfOk result (λ o. OfModel (λ _. ⊥) (Unit {0}) (λ e. AreSound resolved.now.items.items → IsEvaluationOver resolved.now.items.items test.now e) o.result) }
 {
     match space {
-        Ok(space) => evaluated(alloc, test, resolved, space),
+        Ok(space) => evaluated(alloc, evaluator, test, resolved, space),
         Err(refusal) => refused(alloc, test, Refusal::Space(*refusal)),
     }
 }
@@ -78,15 +84,18 @@ pub(crate) fn over_space(
 /// What the test says under a model.
 fn under_model(
     alloc: Global,
+    evaluator: &mut Evaluator,
     test: &Test,
     space: &Result<Space, EvalRefusal>,
     model: &Result<Resolved, ModelFault>,
 ) -> Result<Outcome, AllocError>
-    requires { IsSpaceFor test.now space.now }
-    ensures { (text : ModelText) → IsResolvedAs text model.now → IfOk result (IsFromScratch test.now text) }
+    requires space { IsSpaceFor test.now space.now }
+    requires over { ForOk space.now (IsOver evaluator.old) }
+    ensures over { ForOk space.now (IsOver evaluator.new) }
+    ensures outcome { (text : ModelText) → IsResolvedAs text model.now → IfOk result (IsFromScratch test.now text) }
 {
     match model {
-        Ok(resolved) => over_space(alloc, test, resolved, space),
+        Ok(resolved) => over_space(alloc, evaluator, test, resolved, space),
         Err(fault) => refused(alloc, test, Refusal::Model(*fault)),
     }
 }
@@ -101,9 +110,10 @@ fn each_model(
     requires { IsSpaceFor test.now space.now }
     ensures { (texts : List (Bor ModelText)) → AreResolvedAs texts models.now → IfOk result (λ v. AreOutcomes texts test.now v.items) }
 {
+    let mut evaluator = Evaluator::new(alloc);
     let mut outcomes = Vec::with_capacity(alloc, models.len())?;
     for model in models {
-        outcomes.push(under_model(alloc, test, space, model)?)?;
+        outcomes.push(under_model(alloc, &mut evaluator, test, space, model)?)?;
     }
     Ok(outcomes)
 }

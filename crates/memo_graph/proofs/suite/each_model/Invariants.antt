@@ -1,7 +1,9 @@
 use Rattle.std.proofs.Common.{List, Bor, take}
 use Rattle.cat_values.specs.declared.model.ModelText.{ModelText}
+use Rattle.std.specs.Result.{ForOk}
+use Rattle.cat_eval.specs.Tables.{IsOver}
 use Rattle.memo_graph.specs.Suites.{AreOutcomes, AreResolvedAs}
 use Rattle.memo_graph.proofs.suite.each_model.Given as goal
 
 abbrev pub invariant-loop-model : goal.invariant-loop-model
-invariant-loop-model l = (texts : List (Bor ModelText)) → AreResolvedAs texts l.models → AreOutcomes (take l.model-index texts) l.test l.outcomes.items
+invariant-loop-model l = ((texts : List (Bor ModelText)) → AreResolvedAs texts l.models → AreOutcomes (take l.model-index texts) l.test l.outcomes.items) × ForOk l.space (IsOver l.evaluator)

@@ -1,0 +1,6 @@
+use Rattle.std.proofs.Common.{refl}
+use Rattle.cat_eval.proofs.Filling.{filled_again}
+use Rattle.cat_eval.proofs.table.push_again.Goals as goal
+
+pub returns-clause-filled : goal.returns-clause-filled
+returns-clause-filled c = λ bases base ends before. filled_again c.args.entry.now _ bases base refl ends c.in_ok-push_last.ensures before

@@ -1,0 +1,13 @@
+use Rattle.std.proofs.Common.{List, take, ◌++◌}
+use Rattle.std.specs.Prelude.{IsTrue}
+use Rattle.base_env.specs.Known.{Known}
+use Rattle.cat_eval.specs.Candidates.{reading_in}
+use Rattle.cat_eval.specs.Steady.{EndsWith}
+use Rattle.cat_eval.specs.Worlds.{IsReady, AreWorlds}
+use Rattle.cat_eval.proofs.walk.enter_combination.Given as goal
+
+abbrev pub invariant-loop-sources : goal.invariant-loop-sources
+invariant-loop-sources g l =
+    IsReady l.needs.names.items l.base l.combination
+    × ((first : _) (bases : List Known) → (IsTrue l.initial.again → EndsWith bases l.initial.base) → g.V.Enter.has_taken first bases l.initial.visitor
+    → (more : List Known) × AreWorlds l.needs.names.items l.needs.reads l.needs.orders more (reading_in l.combination (take l.sources-index l.combination.sources.items)) × g.V.Enter.has_taken first (bases ++ more) l.visitor × (IsTrue l.again → EndsWith (bases ++ more) l.base))

@@ -1,0 +1,55 @@
+//! Where items are evaluated.
+
+ghost use Rattle.candidates.specs.declared.candidate.Space.{Space};
+ghost use Rattle.cat_eval.specs.Tables.{IsOver};
+
+use crate::machine::Machine;
+use crate::needs::Needs;
+use crate::table::Table;
+use base_env::Base;
+use binding_graph::ResolvedItem;
+use candidates::Space;
+use std::alloc::{AllocError, Global};
+
+/// Where items are evaluated over the candidates of one space: the predefined names are made once, and each item uses the
+/// memory of the ones before.
+#[derive(Drop)]
+pub struct Evaluator {
+    pub(crate) base: Base,
+    pub(crate) table: Table,
+    pub(crate) machine: Machine,
+}
+
+impl Evaluator {
+    /// An evaluator that has evaluated nothing.
+    pub fn new(alloc: Global) -> Evaluator
+        ensures { (space : Space) → IsOver result space }
+    {
+        Evaluator {
+            base: Base::empty(alloc),
+            table: Table::new(alloc),
+            machine: Machine::new(alloc),
+        }
+    }
+
+    /// Makes the predefined names that some items need, in one go. An index that is no item's asks for nothing.
+    /// Errors: want of memory.
+    pub fn prepare(
+        &mut self,
+        alloc: Global,
+        space: &Space,
+        items: &[ResolvedItem],
+        indexes: &[usize],
+    ) -> Result<(), AllocError>
+        requires { IsOver self.old space.now }
+        ensures { IsOver self.new space.now }
+    {
+        let mut needs = Needs::none(alloc);
+        for index in indexes {
+            if *index < items.len() {
+                needs.add_item(&items[*index])?;
+            }
+        }
+        self.table.need(alloc, &mut self.base, space, &needs.names)
+    }
+}

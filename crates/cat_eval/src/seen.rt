@@ -1,0 +1,95 @@
+//! The predefined names that an item uses, as they are in one candidate.
+
+ghost use Rattle.std.specs.Prelude.{◌≡◌, ℕ, ◌≤◌, ◌↔◌, map};
+ghost use Rattle.bit_relations.specs.Relation.{IsRelation, IsEvents};
+ghost use Rattle.cat_eval.specs.Named.{InputEvents, InputPairs};
+ghost use Rattle.cat_eval.specs.Seen.{EventsOf, PairsOf, EventsAmong, PairsAmong, seen, value_at};
+
+use crate::column::Column;
+use bit_relations::{EventSet, Rel};
+use cat_values::Predefined;
+use std::marker::Model;
+
+/// A predefined name, and what it stands for in each candidate.
+#[derive(Clone, Copy)]
+pub(crate) struct NamedColumn<'a> {
+    pub(crate) name: Predefined,
+    pub(crate) column: &'a Column,
+}
+
+/// The predefined names that an item uses, as they are in one candidate. Contracts see the number of its events, and
+/// what stands under the names.
+#[derive(Drop)]
+pub(crate) struct Seen<'a> {
+    named: &'a [NamedColumn<'a>],
+    /// The number of the candidate.
+    candidate: usize,
+    /// How many events it has.
+    count: usize,
+}
+
+impl<'a> Model for Seen<'a> {
+    ghost use Rattle.std.specs.Prelude.{◌≤◌};
+    ghost use Rattle.cat_eval.specs.Seen.{Known, seen};
+
+    ghost Value = { Known };
+
+    ghost view = { λ s. seen s.named.now s.candidate s.count };
+
+    ghost invariant = { λ s. s.count ≤ 128 };
+}
+
+/// The column of a name, if it is one of these.
+fn column_of<'c>(named: &[NamedColumn<'c>], name: Predefined) -> Option<&'c Column>
+    ensures events { (k n a : ℕ) → InputEvents result k n a ↔ EventsAmong (map (value_at k) named.now) name n a }
+    ensures pairs { (k n a b : ℕ) → InputPairs result k n a b ↔ PairsAmong (map (value_at k) named.now) name n a b }
+{
+    for one in named {
+        if one.name == name {
+            return Some(one.column);
+        }
+    }
+    None
+}
+
+impl<'a> Seen<'a> {
+    /// The names in a candidate of so many events.
+    pub(crate) fn new(named: &'a [NamedColumn<'a>], candidate: usize, count: usize) -> Seen<'a>
+        requires { count ≤ 128 }
+        ensures { result ≡ seen named.now candidate count }
+    {
+        Seen {
+            named,
+            candidate,
+            count,
+        }
+    }
+
+    /// How many events the candidate has.
+    pub(crate) fn count(&self) -> usize
+        ensures value { result ≡ self.now.count }
+        ensures few { result ≤ 128 }
+    {
+        self.count
+    }
+
+    /// The set of a name: empty where it stands for none.
+    pub(crate) fn set(&self, name: Predefined) -> EventSet
+        ensures { IsEvents result self.now.count (EventsOf self.now name) }
+    {
+        match column_of(self.named, name) {
+            Some(column) => column.set(self.candidate, self.count),
+            None => EventSet::empty(self.count),
+        }
+    }
+
+    /// Makes `target` the relation of a name: empty where it stands for none.
+    pub(crate) fn write_relation(&self, name: Predefined, target: &mut Rel)
+        ensures { IsRelation target.new self.now.count (PairsOf self.now name) }
+    {
+        match column_of(self.named, name) {
+            Some(column) => column.write_relation(self.candidate, self.count, target),
+            None => target.clear(self.count),
+        }
+    }
+}
