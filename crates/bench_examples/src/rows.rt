@@ -20,7 +20,7 @@ use stamped_texts::StampedTexts;
 use std::alloc::Global;
 use std::marker::Brand;
 use std::rt::Files;
-use std::sync::{Arc, Wait};
+use std::sync::Wait;
 use std::thread::Threads;
 use std::{fs, io};
 use value_store::{Opened, Store, StoreName};
@@ -57,8 +57,8 @@ fn play_bench<R: Print + Wait, K: StoreName>(
 ) -> io::Result<()>
     requires { opened.values ≡ K.shelves }
 {
-    let store = Arc::new(alloc, opened.named::<K>())?;
-    let mut play = BenchPlay::<K>::new(alloc, Bench::<K, StampedTexts>::new(alloc, store));
+    let bench = Bench::<K, StampedTexts>::new(alloc, opened.named::<K>())?;
+    let mut play = BenchPlay::<K>::new(alloc, bench);
     for line in lines {
         println!(rt; "{line}")?;
         let answer = play.answer_line(rt, alloc, line)?;

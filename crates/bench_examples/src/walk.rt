@@ -13,7 +13,7 @@ use stamped_texts::StampedTexts;
 use std::alloc::Global;
 use std::io;
 use std::marker::Brand;
-use std::sync::{Arc, Wait};
+use std::sync::Wait;
 use steps::Walk;
 use value_store::{Opened, Store, StoreName};
 
@@ -26,8 +26,8 @@ fn walk_over<R: Print + Wait, K: StoreName>(
 ) -> io::Result<()>
     requires { opened.values ≡ K.shelves }
 {
-    let store = Arc::new(alloc, opened.named::<K>())?;
-    let mut walk = Walk::<K>::new(alloc, Bench::<K, StampedTexts>::new(alloc, store))?;
+    let bench = Bench::<K, StampedTexts>::new(alloc, opened.named::<K>())?;
+    let mut walk = Walk::<K>::new(alloc, bench)?;
     for _ in 0..EVENTS {
         walk.step(rt, alloc)?;
     }

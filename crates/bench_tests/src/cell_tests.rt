@@ -10,7 +10,7 @@ use memo_core::claims::Finish;
 use std::alloc::Global;
 use std::marker::Brand;
 use std::process::Abort;
-use std::sync::{Arc, Wait};
+use std::sync::Wait;
 use std::test::Fail;
 use value_store::{Opened, Store, StoreName};
 
@@ -133,8 +133,7 @@ fn play<R: Abort + Wait, K: StoreName>(
 ) -> Result<(), Fail>
     requires { opened.values ≡ K.shelves }
 {
-    let store = Arc::new(alloc, opened.named::<K>())?;
-    let mut bench = Bench::new(alloc, store);
+    let mut bench = Bench::new(alloc, opened.named::<K>())?;
     if is_losing {
         losing(rt, alloc, &mut bench)
     } else {

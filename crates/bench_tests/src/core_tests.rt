@@ -12,7 +12,7 @@ use memo_core::claims::{ClaimFault, Finish};
 use std::alloc::Global;
 use std::marker::Brand;
 use std::process::Abort;
-use std::sync::{Arc, Wait};
+use std::sync::Wait;
 use std::test::Fail;
 use value_store::{Opened, Store, StoreFault, StoreName};
 
@@ -377,8 +377,7 @@ fn play<R: Abort + Wait, K: StoreName>(
 ) -> Result<(), Fail>
     requires { opened.values ≡ K.shelves }
 {
-    let store = Arc::new(alloc, opened.named::<K>())?;
-    let mut bench = Bench::new(alloc, store);
+    let mut bench = Bench::new(alloc, opened.named::<K>())?;
     match scenario {
         Scenario::TwoRows => two_rows(rt, alloc, &mut bench),
         Scenario::Cutoff => cutoff(rt, alloc, &mut bench),

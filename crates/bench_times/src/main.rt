@@ -11,7 +11,7 @@ mod tables;
 use node_values::NodeValue;
 use std::marker::Brand;
 use std::rt::{Clock, Env, Files};
-use std::sync::{Arc, Wait};
+use std::sync::Wait;
 use std::thread::Threads;
 use std::{env, fs, io};
 use tables::Size;
@@ -28,8 +28,7 @@ fn show<R: Clock + Print + Wait + AllocGlobal, K: StoreName>(
 ) -> io::Result<()>
     requires { opened.values ≡ K.shelves }
 {
-    let store = Arc::new(rt.alloc(), opened.named::<K>())?;
-    tables::show(rt, store, size, model, test, is_timed)
+    tables::show(rt, opened.named::<K>(), size, model, test, is_timed)
 }
 
 fn run<R>(rt: &R) -> io::Result<()>

@@ -7,7 +7,7 @@ use stamped_texts::StampedTexts;
 use std::alloc::Global;
 use std::io;
 use std::rt::Clock;
-use std::sync::{Arc, Wait};
+use std::sync::Wait;
 use std::time::Instant;
 use value_store::{Store, StoreName};
 
@@ -71,14 +71,14 @@ fn show_times<R: Print>(rt: &R, name: &str, played: Played) -> io::Result<()> {
 /// Settles a bench of this size, sets the first item of the first model to an equal value, and settles it again.
 pub fn show<R: Clock + Print + Wait + AllocGlobal, K: StoreName>(
     rt: &R,
-    store: Arc<Store<K, NodeValue>, Global>,
+    store: Store<K, NodeValue>,
     size: Size,
     model: &[u8],
     test: &[u8],
     is_timed: bool,
 ) -> io::Result<()> {
     let alloc = rt.alloc();
-    let mut bench: Bench<K, StampedTexts> = Bench::new(alloc, store);
+    let mut bench: Bench<K, StampedTexts> = Bench::new(alloc, store)?;
     let edits = edits_of(alloc, model, size.models, test, size.tests)?;
     let is_filled = fill(alloc, &mut bench, edits);
     let first = play(rt, alloc, &mut bench)?;

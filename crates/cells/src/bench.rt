@@ -13,7 +13,7 @@ use memo_bench::graph::{Graph, LAST};
 use memo_bench::witness::Witness;
 use memo_core::claims::{ClaimFault, Finish};
 use memo_core::table::output_token;
-use std::alloc::Global;
+use std::alloc::{AllocError, Global};
 use std::marker::Model;
 use std::sync::Arc;
 use value_store::{Store, StoreName};
@@ -37,30 +37,31 @@ impl<K: StoreName, T: CellTexts> Model for Bench<K, T> {
 }
 
 impl<K: StoreName, T: CellTexts> Bench<K, T> {
-    /// A bench without tests and models.
-    pub fn new(alloc: Global, store: Arc<Store<K, T::Value>, Global>) -> Self
-        ensures memos { result.memos ≡ [] }
-        ensures claims { result.claims ≡ [] }
-        ensures taken { result.taken ≡ 0 }
-        ensures valid { T.is_valid result.texts }
-        ensures parts { (p q : ℕ) → (T.net result.texts).part p q ≡ 0 }
+    /// A bench without tests and models. It takes its store, so that no other bench has one of that name. Errors: want of memory.
+    pub fn new(alloc: Global, store: Store<K, T::Value>) -> Result<Self, AllocError>
+        ensures memos { IfOk result (λ bench. bench.memos ≡ []) }
+        ensures claims { IfOk result (λ bench. bench.claims ≡ []) }
+        ensures taken { IfOk result (λ bench. bench.taken ≡ 0) }
+        ensures valid { IfOk result (λ bench. T.is_valid bench.texts) }
+        ensures parts { IfOk result (λ bench. (p q : ℕ) → (T.net bench.texts).part p q ≡ 0) }
     {
         Bench::over(alloc, T::empty(alloc), store)
     }
 
-    /// A bench over texts without parts.
-    pub fn over(alloc: Global, texts: T, store: Arc<Store<K, T::Value>, Global>) -> Self
+    /// A bench over texts without parts. Errors: want of memory.
+    pub fn over(alloc: Global, texts: T, store: Store<K, T::Value>) -> Result<Self, AllocError>
         requires new { (p q : ℕ) → (T.net texts).part p q ≡ 0 }
         requires last { T.last texts ≡ 0 }
         requires valid { T.is_valid texts }
-        ensures texts { result.texts ≡ texts }
-        ensures memos { result.memos ≡ [] }
-        ensures claims { result.claims ≡ [] }
-        ensures taken { result.taken ≡ 0 }
+        ensures texts { IfOk result (λ bench. bench.texts ≡ texts) }
+        ensures memos { IfOk result (λ bench. bench.memos ≡ []) }
+        ensures claims { IfOk result (λ bench. bench.claims ≡ []) }
+        ensures taken { IfOk result (λ bench. bench.taken ≡ 0) }
     {
-        Bench {
+        let store = Arc::new(alloc, store)?;
+        Ok(Bench {
             graph: Graph::new(alloc, texts, store),
-        }
+        })
     }
 
     /// The tests and models.

@@ -12,7 +12,7 @@ use desk_rule::{Entry, Naming, OpenFault, Opened, Opening, Plate, open};
 use left_right::Absorb;
 use node_values::NodeValue;
 use std::alloc::{AllocError, Global};
-use std::sync::{Arc, Wait};
+use std::sync::Wait;
 use value_store::{MAX_VALUES, Opened as OpenedStore, Store, StoreName};
 
 /// A desk of litmus tests and models.
@@ -80,7 +80,6 @@ fn parts<J: Naming + StoreName, R: Wait + Drop>(
     ensures after { IfOk result (λ made. AreAfter made.0.texts []) }
 {
     let held = Box::new(alloc, held)?;
-    let store = Arc::new(alloc, store)?;
     let texts = <RunningTexts as BoardTexts>::start(alloc);
-    Ok((Bench::over(alloc, texts, store), held))
+    Ok((Bench::over(alloc, texts, store)?, held))
 }
