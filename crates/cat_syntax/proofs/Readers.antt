@@ -24,7 +24,7 @@ use Rattle.cat_syntax.specs.ReadingTexts.{reading, ReadsTo}
 use Rattle.cat_syntax.specs.Reads.{Reads, FaultAt, IsLong, InText, IsFaultOf}
 use Rattle.cat_syntax.proofs.Texts.{too_long, fits}
 use Rattle.cat_grammar.proofs.Groups.{length-items_meaning}
-use Rattle.cat_grammar.proofs.Outcomes.{no_fault, fault_found, items_found, items_only, kept, refused, refused_is, not_both}
+use Rattle.cat_grammar.proofs.Outcomes.{no_fault, fault_found, items_found, items_only, refused_is, not_both}
 
 -- the last token of a text is its end
 ends_last : (skip offset : ℕ) (bytes : List ℕ) → (ts : List Token) × (tokens_of (tokens_from skip offset bytes) ≡ ts ++ End ∷ [])

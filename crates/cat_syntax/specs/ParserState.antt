@@ -1,14 +1,29 @@
 -- A parser as a state of the machine.
 use Rattle.std.specs.Prelude.{◌≡◌, Result, Ok, Err}
 use Rattle.cat_terms.specs.declared.frames.StepError.{StepError}
+use Rattle.cat_terms.specs.declared.terms.OpenExpression.{OpenExpression}
 use Rattle.cat_syntax.specs.declared.items.Parser.{Parser}
+use Rattle.cat_syntax.specs.declared.parts.Head.{Head}
+use Rattle.cat_syntax.specs.declared.parts.Part as code_part
+use Rattle.cat_syntax.specs.declared.parts.Part.TheVariants as parts
+use Rattle.cat_grammar.specs.ItemMachine as machine
 use Rattle.cat_grammar.specs.ItemMachine.{State, Fault}
 use Rattle.cat_values.specs.Values.{clauses_of}
-use Rattle.cat_syntax.specs.ReadingItems.{part_of, Fails}
+use Rattle.cat_terms.specs.Reading.{stack_of, expectation_of}
+use Rattle.cat_syntax.specs.ReadingItems.{head_of, part_of, Fails}
+
+-- the part with the expression that is read in it
+abbrev pub part_with : OpenExpression → code_part.Part → machine.Part
+part_with o (parts.Body h) = machine.Body (head_of h) (stack_of o.frames.items) o.operators (expectation_of o.expected)
+part_with o p = part_of p
 
 abbrev pub state_of : Parser → State
-state_of p = record { items = clauses_of p.items.items; part = part_of p.part }
+state_of p = record { items = clauses_of p.items.items; part = part_with p.open p.part }
 
 abbrev pub AreSteps : Result (Unit {0}) StepError → Parser → Result State Fault → Type 0
 AreSteps (Ok _) p made = made ≡ Ok (state_of p)
 AreSteps (Err e) p made = Fails e made
+
+-- the part is in an expression, of an item with this head
+abbrev pub IsBody : Head → code_part.Part → Type 0
+IsBody h p = p ≡ parts.Body h

@@ -1,15 +1,15 @@
 //! Reads items, token by token.
 
-ghost use Rattle.std.specs.Prelude.{◌≡◌};
+ghost use Rattle.std.specs.Prelude.{◌≡◌, false};
 ghost use Rattle.cat_grammar.specs.Grammar.{limits, has_no_effect};
 ghost use Rattle.cat_values.specs.Values.{term_of, clause_of, clauses_of};
-ghost use Rattle.cat_grammar.specs.ItemMachine.{begin_item, excess, unless, item_or_end, after_title, after_tilde, after_flag, after_include, finished, item_ended, item_ended_by_tilde, after_body, and_read, label_start, shown_on, after_as, after_show_as, after_show_label, goes_on, step_part, start, step};
-ghost use Rattle.cat_syntax.specs.ReadingItems.{show_of, head_of, part_of, Gives, Steps, result_of, token_of};
+ghost use Rattle.cat_grammar.specs.ItemMachine.{begin_item, excess, unless, item_or_end, after_title, after_tilde, after_flag, after_include, finished, item_ended, item_ended_by_tilde, after_body, and_read, label_start, shown_on, after_as, after_show_as, after_show_label, step_part, start, step};
+ghost use Rattle.cat_syntax.specs.ReadingItems.{show_of, head_of, part_of, is_body, Gives, Steps};
 
 use crate::lets::{LetPart, after_let};
 use crate::parts::{Head, Part, ShowHead, body_start, check_body, show_body};
 use cat_grammar::{CheckHead, Form};
-use cat_terms::{ExpressionStep, StepError, expression_step};
+use cat_terms::{ExpressionStep, OpenExpression, StepError};
 use cat_tokens::{CatRule, Token};
 use cat_values::{CheckWord, Expression, Item};
 use std::alloc::Global;
@@ -26,7 +26,7 @@ fn item_start(alloc: Global, token: Token) -> Result<Part, StepError>
         Token::Let => Ok(Part::Let(LetPart::Keyword)),
         Token::Flag => Ok(Part::AfterFlag),
         Token::Tilde => Ok(Part::AfterTilde(false)),
-        Token::Check(word) => Ok(check_body(alloc, false, false, word)),
+        Token::Check(word) => Ok(check_body(false, false, word)),
         Token::Show => Ok(show_body(alloc, false)),
         Token::Unshow => Ok(show_body(alloc, true)),
         Token::Include => Ok(Part::AfterInclude),
@@ -96,21 +96,21 @@ fn title_read(alloc: Global, form: Form, count: usize, token: Token) -> Result<P
 }
 
 // The check word after `~`.
-fn tilde_read(alloc: Global, flagged: bool, token: Token) -> Result<Part, StepError>
+fn tilde_read(flagged: bool, token: Token) -> Result<Part, StepError>
     ensures { Gives part_of result (after_tilde flagged token) }
 {
     match token {
-        Token::Check(word) => Ok(check_body(alloc, flagged, true, word)),
+        Token::Check(word) => Ok(check_body(flagged, true, word)),
         other => Err(StepError::Refused(other.rule())),
     }
 }
 
-fn flag_read(alloc: Global, token: Token) -> Result<Part, StepError>
+fn flag_read(token: Token) -> Result<Part, StepError>
     ensures { Gives part_of result (after_flag token) }
 {
     match token {
         Token::Tilde => Ok(Part::AfterTilde(true)),
-        Token::Check(word) => Ok(check_body(alloc, true, false, word)),
+        Token::Check(word) => Ok(check_body(true, false, word)),
         other => Err(StepError::Refused(other.rule())),
     }
 }
@@ -182,7 +182,6 @@ fn item_ended(
 
 // The `~` of the next item and its check word, after an item's last expression.
 fn item_ended_by_tilde(
-    alloc: Global,
     form: Form,
     items: &mut Vec<Item>,
     head: Head,
@@ -194,7 +193,7 @@ fn item_ended_by_tilde(
     let item = finished(head, body, CatRule::Syntax)?;
     items.push(item)?;
     match excess(form, items.len()) {
-        None => Ok(check_body(alloc, false, true, word)),
+        None => Ok(check_body(false, true, word)),
         Some(CatRule::TooMany) => Err(StepError::RefusedBefore(CatRule::TooMany)),
         Some(rule) => Err(StepError::Refused(rule)),
     }
@@ -214,7 +213,7 @@ fn body_read(
     match token {
         Token::And => and_read(head, body),
         Token::As => label_start(head, body),
-        Token::Comma => comma_read(alloc, head, body),
+        Token::Comma => comma_read(head, body),
         other => item_ended(alloc, form, items, head, body, other),
     }
 }
@@ -241,13 +240,13 @@ fn label_start(head: Head, body: Expression) -> Result<Part, StepError>
     }
 }
 
-fn comma_read(alloc: Global, head: Head, body: Expression) -> Result<Part, StepError>
+fn comma_read(head: Head, body: Expression) -> Result<Part, StepError>
     ensures { Gives part_of result (shown_on (head_of head) (term_of body)) }
 {
     match head {
         Head::Show(head) => {
             let head = head.with(body, None)?;
-            Ok(body_start(alloc, Head::Show(head)))
+            Ok(body_start(Head::Show(head)))
         }
         Head::Bound(_, _) => Err(StepError::Refused(CatRule::Syntax)),
         Head::Function(_, _) => Err(StepError::Refused(CatRule::Syntax)),
@@ -303,7 +302,7 @@ fn after_show_label(
     ensures { Steps result items.new.items (after_show_label limits form (clauses_of items.old.items) (show_of head) token) }
 {
     match token {
-        Token::Comma => Ok(body_start(alloc, Head::Show(head))),
+        Token::Comma => Ok(body_start(Head::Show(head))),
         other => {
             items.push(head.into_item())?;
             item_or_end(alloc, form, items.len(), other)
@@ -311,28 +310,7 @@ fn after_show_label(
     }
 }
 
-// What a token did to the item's expression.
-fn after_expression_step(
-    alloc: Global,
-    form: Form,
-    items: &mut Vec<Item>,
-    head: Head,
-    outcome: ExpressionStep,
-) -> Result<Part, StepError>
-    ensures { Steps result items.new.items (goes_on limits form (clauses_of items.old.items) (head_of head) (token_of outcome) (result_of outcome)) }
-{
-    match outcome {
-        ExpressionStep::Goes(frames, operators, expected) => Ok(Part::Body(
-            head, frames, operators, expected,
-        )),
-        ExpressionStep::Ends(body, token) => body_read(alloc, form, items, head, body, token),
-        ExpressionStep::EndsTilde(body, word) => item_ended_by_tilde(
-            alloc, form, items, head, body, word,
-        ),
-    }
-}
-
-// A token where the reader stands at this part.
+// A token where the reader stands at this part, which is not in an item's expression.
 fn part_after(
     alloc: Global,
     form: Form,
@@ -340,18 +318,16 @@ fn part_after(
     part: Part,
     token: Token,
 ) -> Result<Part, StepError>
-    ensures { Steps result items.new.items (step_part limits form (clauses_of items.old.items) (part_of part) token) }
+    ensures { is_body part ≡ false → Steps result items.new.items
+        (step_part limits form (clauses_of items.old.items) (part_of part) token) }
 {
     match part {
         Part::Title => title_read(alloc, form, items.len(), token),
         Part::Start => item_or_end(alloc, form, items.len(), token),
         Part::Let(part) => after_let(alloc, part, token),
-        Part::AfterFlag => flag_read(alloc, token),
-        Part::AfterTilde(flagged) => tilde_read(alloc, flagged, token),
-        Part::Body(head, frames, operators, expected) => {
-            let step = expression_step(alloc, frames, operators, expected, token)?;
-            after_expression_step(alloc, form, items, head, step)
-        }
+        Part::AfterFlag => flag_read(token),
+        Part::AfterTilde(flagged) => tilde_read(flagged, token),
+        Part::Body(_) => Err(StepError::Refused(token.rule())),
         Part::Label(head, body) => label_read(items, head, body, token),
         Part::ShowLabel(head, body) => show_label_read(head, body, token),
         Part::AfterShowLabel(head) => after_show_label(alloc, form, items, head, token),
@@ -367,10 +343,14 @@ pub struct Parser {
     form: Form,
     items: Vec<Item>,
     part: Part,
+    // The expression of the item, where the reader stands in one.
+    open: OpenExpression,
 }
 
 impl Parser {
-    ghost use Rattle.cat_syntax.specs.ParserState.{state_of, AreSteps};
+    ghost use Rattle.cat_syntax.specs.declared.parts.Head.{Head};
+    ghost use Rattle.cat_terms.specs.OpenReading.{whole_of};
+    ghost use Rattle.cat_syntax.specs.ParserState.{state_of, AreSteps, IsBody};
 
     /// The reader before a text of this form.
     pub fn new(alloc: Global, form: Form) -> Parser
@@ -386,6 +366,7 @@ impl Parser {
             form,
             items: Vec::new(alloc),
             part,
+            open: OpenExpression::new(alloc),
         }
     }
 
@@ -395,9 +376,61 @@ impl Parser {
         ensures steps { AreSteps result self.new (step limits self.old.form (state_of self.old) token) }
         ensures form { self.new.form ≡ self.old.form }
     {
+        if !self.part.is_body() {
+            return self.part_step(token);
+        }
+        match self.open.step(self.alloc, &token)? {
+            ExpressionStep::Goes => Ok(()),
+            ExpressionStep::Ends => self.body_ended(token),
+            ExpressionStep::EndsTilde(word) => self.body_ended_by_tilde(word),
+        }
+    }
+
+    // A token that stands in no expression.
+    fn part_step(&mut self, token: Token) -> Result<(), StepError>
+        ensures steps { is_body self.old.part ≡ false → AreSteps result self.new (step limits self.old.form (state_of self.old) token) }
+        ensures form { self.new.form ≡ self.old.form }
+    {
         let part = mem::replace(&mut self.part, Part::Done);
         self.part = part_after(self.alloc, self.form, &mut self.items, part, token)?;
+        self.open.restart();
         Ok(())
+    }
+
+    // A token after an item's expression.
+    fn body_ended(&mut self, token: Token) -> Result<(), StepError>
+        ensures steps { (h : Head) → IsBody h self.old.part → AreSteps result self.new
+            (after_body limits self.old.form (clauses_of self.old.items.items) (head_of h) (whole_of self.old.open.expected) token) }
+        ensures form { self.new.form ≡ self.old.form }
+    {
+        let part = mem::replace(&mut self.part, Part::Done);
+        match part {
+            Part::Body(head) => {
+                let body = self.open.take_whole();
+                self.part = body_read(self.alloc, self.form, &mut self.items, head, body, token)?;
+                self.open.restart();
+                Ok(())
+            }
+            _ => Err(StepError::Refused(token.rule())),
+        }
+    }
+
+    // The `~` of the next item and its check word, after an item's expression.
+    fn body_ended_by_tilde(&mut self, word: CheckWord) -> Result<(), StepError>
+        ensures steps { (h : Head) → IsBody h self.old.part → AreSteps result self.new
+            (item_ended_by_tilde limits self.old.form (clauses_of self.old.items.items) (head_of h) (whole_of self.old.open.expected) word) }
+        ensures form { self.new.form ≡ self.old.form }
+    {
+        let part = mem::replace(&mut self.part, Part::Done);
+        match part {
+            Part::Body(head) => {
+                let body = self.open.take_whole();
+                self.part = item_ended_by_tilde(self.form, &mut self.items, head, body, word)?;
+                self.open.restart();
+                Ok(())
+            }
+            _ => Err(StepError::Refused(CatRule::Syntax)),
+        }
     }
 
     /// The items that were read.

@@ -1,6 +1,6 @@
 //! Reads the heads of a `let`.
 
-ghost use Rattle.std.specs.Prelude.{◌≡◌, [], IfOk};
+ghost use Rattle.std.specs.Prelude.{◌≡◌, IfOk};
 ghost use Rattle.cat_grammar.specs.Grammar.{limits};
 ghost use Rattle.cat_values.specs.Values.{term_of, clause_of};
 ghost use Rattle.cat_grammar.specs.ItemMachine.{fresh, extended, group_clause, after_keyword, bound_name, parameter_read, after_parameter, after_let_name, after_bound, after_parameters, after_let};
@@ -141,33 +141,28 @@ fn after_name(alloc: Global, name: Name, token: Token) -> Result<Part, StepError
     ensures { Gives part_of result (after_let_name name token) }
 {
     match token {
-        Token::Equals => Ok(body_start(alloc, Head::Bound(Group::new(alloc, false), name))),
+        Token::Equals => Ok(body_start(Head::Bound(Group::new(alloc, false), name))),
         Token::Open => Ok(Part::Let(LetPart::Parameter(name, Vec::new(alloc)))),
         other => Err(StepError::Refused(other.rule())),
     }
 }
 
 // A token after a name that is no function's. A parenthesis would make it one, which is not supported here.
-fn after_bound(alloc: Global, group: Group, name: Name, token: Token) -> Result<Part, StepError>
+fn after_bound(group: Group, name: Name, token: Token) -> Result<Part, StepError>
     ensures { Gives part_of result (after_bound (group_of group) name token) }
 {
     match token {
-        Token::Equals => Ok(body_start(alloc, Head::Bound(group, name))),
+        Token::Equals => Ok(body_start(Head::Bound(group, name))),
         Token::Open => Err(StepError::Refused(CatRule::Unsupported)),
         other => Err(StepError::Refused(other.rule())),
     }
 }
 
-fn after_parameters(
-    alloc: Global,
-    name: Name,
-    parameters: Vec<Name>,
-    token: Token,
-) -> Result<Part, StepError>
+fn after_parameters(name: Name, parameters: Vec<Name>, token: Token) -> Result<Part, StepError>
     ensures { Gives part_of result (after_parameters name parameters.items token) }
 {
     match token {
-        Token::Equals => Ok(body_start(alloc, Head::Function(name, parameters))),
+        Token::Equals => Ok(body_start(Head::Function(name, parameters))),
         other => Err(StepError::Refused(other.rule())),
     }
 }
@@ -180,9 +175,9 @@ pub fn after_let(alloc: Global, part: LetPart, token: Token) -> Result<Part, Ste
         LetPart::Keyword => keyword_read(alloc, token),
         LetPart::Named(name) => after_name(alloc, name, token),
         LetPart::And(group) => bound_name(group, token),
-        LetPart::Bound(group, name) => after_bound(alloc, group, name, token),
+        LetPart::Bound(group, name) => after_bound(group, name, token),
         LetPart::Parameter(name, parameters) => parameter_read(name, parameters, token),
         LetPart::AfterParameter(name, parameters) => after_parameter(name, parameters, token),
-        LetPart::Parameters(name, parameters) => after_parameters(alloc, name, parameters, token),
+        LetPart::Parameters(name, parameters) => after_parameters(name, parameters, token),
     }
 }

@@ -1,13 +1,12 @@
 //! The position of the reader in an item.
 
 ghost use Rattle.std.specs.Prelude.{◌≡◌, IfOk};
-ghost use Rattle.cat_values.specs.Values.{term_of, check_of, clause_of};
-ghost use Rattle.cat_grammar.specs.ItemMachine.{checked, shown_also, shown_clause, begin_body, begin_check, begin_show};
+ghost use Rattle.cat_values.specs.Values.{term_of, clause_of};
+ghost use Rattle.cat_grammar.specs.ItemMachine.{shown_also, shown_clause, begin_body, begin_check, begin_show};
 ghost use Rattle.cat_syntax.specs.ReadingItems.{show_of, head_of, part_of};
 
 use crate::lets::{Group, LetPart};
 use cat_grammar::CheckHead;
-use cat_terms::{Expectation, Frame};
 use cat_values::{CheckWord, Expression, Item, ShownExpression};
 use source_text::Name;
 use std::alloc::{AllocError, Global};
@@ -47,9 +46,8 @@ pub enum Part {
     AfterFlag,
     /// After `~`, with whether the check is a flag's.
     AfterTilde(bool),
-    /// In an item's expression: the open frames, the number of operators so far, and what is
-    /// expected.
-    Body(Head, Vec<Frame>, usize, Expectation),
+    /// In an item's expression, which the reader keeps beside its position.
+    Body(Head),
     /// After a check's `as`.
     Label(CheckHead, Expression),
     /// After the `as` of a shown expression.
@@ -62,15 +60,29 @@ pub enum Part {
     Done,
 }
 
+impl Part {
+    ghost use Rattle.cat_syntax.specs.ReadingItems.{is_body};
+
+    /// Whether it is in an item's expression.
+    pub fn is_body(&self) -> bool
+        ensures { result ≡ is_body self.now }
+    {
+        match self {
+            Part::Body(_) => true,
+            _ => false,
+        }
+    }
+}
+
 /// Where an item's expression begins.
-pub fn body_start(alloc: Global, head: Head) -> Part
+pub fn body_start(head: Head) -> Part
     ensures { part_of result ≡ begin_body (head_of head) }
 {
-    Part::Body(head, Vec::new(alloc), 0, Expectation::Wants)
+    Part::Body(head)
 }
 
 /// Where the expression of a check begins.
-pub fn check_body(alloc: Global, flagged: bool, negated: bool, word: CheckWord) -> Part
+pub fn check_body(flagged: bool, negated: bool, word: CheckWord) -> Part
     ensures { part_of result ≡ begin_check flagged negated word }
 {
     let head = CheckHead {
@@ -78,7 +90,7 @@ pub fn check_body(alloc: Global, flagged: bool, negated: bool, word: CheckWord) 
         negated,
         word,
     };
-    body_start(alloc, Head::Check(head))
+    body_start(Head::Check(head))
 }
 
 /// Where the first expression of a `show` begins.
@@ -89,7 +101,7 @@ pub fn show_body(alloc: Global, hidden: bool) -> Part
         hidden,
         shown: Vec::new(alloc),
     };
-    body_start(alloc, Head::Show(head))
+    body_start(Head::Show(head))
 }
 
 impl ShowHead {

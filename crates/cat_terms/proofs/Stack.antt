@@ -1,16 +1,18 @@
 -- The stack of frames as a list.
-use Rattle.std.proofs.Common.{◌≡◌, ℕ, ◌+◌, ◌<◌, ◌≤◌, Bool, true, false, cond, List, [], ◌∷◌, ◌++◌, map, Result, refl, sym, ap, subst, ◌∙◌, arith}
-use Rattle.std.specs.Prelude.{if◌then◌else◌, count_by, ◌&&◌}
+use Rattle.std.proofs.Common.{◌≡◌, ℕ, ◌+◌, ◌-◌, ◌<◌, length, get_or, Bool, true, false, cond, List, [], ◌∷◌, ◌++◌, map, Result, refl, sym, ap, subst, ◌∙◌, arith}
+use Rattle.std.specs.Prelude.{if◌then◌else◌, count_by, ◌&&◌, nat_le, Some, None}
+use Rattle.std.specs.List.{slice_get}
+use Rattle.std.proofs.lemmas.Option.{get_or_from_slice_get, slice_get-get_or}
+use Rattle.std.proofs.Math.Seq.{get_or-append_seam}
 use Rattle.std.specs.List.{list_all}
-use Rattle.std.proofs.lemmas.List.{map-append}
+use Rattle.std.proofs.lemmas.List.{map-append, length-append}
 use Rattle.std.proofs.lemmas.List.Sums.{sum_by-cons}
 use Rattle.cat_terms.specs.declared.frames.Frame.TheVariants as frames
 use Rattle.std.proofs.Common.{Vec, Global}
 use Rattle.std.proofs.Math.Bool.{and-false, and-true}
-use Rattle.std.proofs.lemmas.Bool.{le-leb, lt-leb, lt-ltb}
+use Rattle.std.proofs.lemmas.Bool.{lt-ltb}
 use Rattle.cat_values.specs.declared.model.Expression.{Expression}
 use Rattle.cat_values.specs.declared.model.Expression.TheVariants as expressions
-use Rattle.cat_values.specs.declared.model.Expression.TheVariants.{Applied'}
 use Rattle.cat_values.specs.declared.model.Infix.{Infix}
 use Rattle.cat_values.specs.declared.model.Infix.TheVariants.{Product}
 use Rattle.cat_tokens.specs.declared.rule.CatRule.TheVariants.{TooDeep, Syntax}
@@ -25,7 +27,9 @@ use Rattle.cat_grammar.specs.Machine as machine
 use Rattle.cat_grammar.specs.Grammar.{level, limits}
 use Rattle.cat_values.specs.Values.{term_of}
 use Rattle.cat_values.proofs.Arguments.{applied_term}
-use Rattle.cat_terms.specs.Reading.{frame_of, stacked, stack_of, is_open, is_square, is_no_bracket, StepsTo}
+use Rattle.cat_terms.specs.declared.terms.OpenExpression.{OpenExpression}
+use Rattle.cat_terms.specs.Reading.{frame_of, stacked, stack_of, is_open, is_square, is_no_bracket, takes_operand}
+use Rattle.cat_terms.specs.OpenReading.{StepsTo}
 
 pub stacked-push : (fs : List code_frame.Frame) (f : code_frame.Frame) (below : List machine.Frame) → stacked (fs ++ f ∷ []) below ≡ frame_of f ∷ stacked fs below
 stacked-push [] f below = refl
@@ -43,24 +47,56 @@ module _ (l : ℕ) (start : List machine.Frame × Term) (items rest : List code_
   popped_prefix f e is w same =
       popped f e ∙ ap (λ (g : code_frame.Frame). machine.fold_to l (frame_of g ∷ stack_of rest) v) is ∙ ap (λ (x : Term). machine.fold_to l (stack_of rest) (Not x)) (sym same)
 
-  pub popped_left : (f : code_frame.Frame) → items ≡ rest ++ f ∷ [] → (op : Infix) (a a' w : Expression) → f ≡ frames.Left op a → a' ≡ a → term_of w ≡ v → l ≤ level op → start ≡ machine.fold_to l (stack_of rest) (Join op (term_of a') (term_of w))
+  pub popped_left : (f : code_frame.Frame) → items ≡ rest ++ f ∷ [] → (op : Infix) (a a' w : Expression) → f ≡ frames.Left op a → a' ≡ a → term_of w ≡ v → nat_le l (level op) ≡ true → start ≡ machine.fold_to l (stack_of rest) (Join op (term_of a') (term_of w))
   popped_left f e op a a' w is left same le =
       popped f e ∙ ap (λ (g : code_frame.Frame). machine.fold_to l (frame_of g ∷ stack_of rest) v) is
-      ∙ ap (λ (x : Bool). if x then machine.fold_to l (stack_of rest) (Join op (term_of a) v) else (machine.LeftOf op (term_of a) ∷ stack_of rest, v)) (le-leb l (level op) le)
+      ∙ ap (λ (x : Bool). if x then machine.fold_to l (stack_of rest) (Join op (term_of a) v) else (machine.LeftOf op (term_of a) ∷ stack_of rest, v)) le
       ∙ ap (λ (x : Term). machine.fold_to l (stack_of rest) (Join op (term_of a) x)) (sym same)
       ∙ ap (λ (x : Expression). machine.fold_to l (stack_of rest) (Join op (term_of x) (term_of w))) (sym left)
 
-  pub popped_stays : (f : code_frame.Frame) → items ≡ rest ++ f ∷ [] → (op : Infix) (a : Expression) (after : List code_frame.Frame) → f ≡ frames.Left op a → level op < l → after ≡ rest ++ frames.Left op a ∷ [] → start ≡ (stack_of after, v)
-  popped_stays f e op a after is lt pushed =
-      popped f e ∙ ap (λ (g : code_frame.Frame). machine.fold_to l (frame_of g ∷ stack_of rest) v) is
-      ∙ ap (λ (x : Bool). if x then machine.fold_to l (stack_of rest) (Join op (term_of a) v) else (machine.LeftOf op (term_of a) ∷ stack_of rest, v)) (lt-leb l (level op) lt)
-      ∙ sym (ap (λ (fs : List machine.Frame). (fs, v)) (ap stack_of pushed ∙ stack_of-push rest (frames.Left op a)))
+-- what the innermost frame takes
+taken_alone : (l : ℕ) (f : code_frame.Frame) (below : List machine.Frame) → takes_operand l (frame_of f ∷ below) ≡ takes_operand l (frame_of f ∷ [])
+taken_alone l frames.Group below = refl
+taken_alone l frames.Square below = refl
+taken_alone l frames.Prefix below = refl
+taken_alone l (frames.Left op a) below = refl
+taken_alone l (frames.Applied n args) below = refl
 
-  -- a bracket stays
-  pub popped_bracket : (f : code_frame.Frame) → items ≡ rest ++ f ∷ [] → (g : code_frame.Frame) → f ≡ g → machine.fold_to l (frame_of g ∷ stack_of rest) v ≡ (frame_of g ∷ stack_of rest, v) → (after : List code_frame.Frame) → after ≡ rest ++ g ∷ [] → start ≡ (stack_of after, v)
-  popped_bracket f e g is stays after pushed =
-      popped f e ∙ ap (λ (h : code_frame.Frame). machine.fold_to l (frame_of h ∷ stack_of rest) v) is ∙ stays
-      ∙ sym (ap (λ (fs : List machine.Frame). (fs, v)) (ap stack_of pushed ∙ stack_of-push rest g))
+split_last : (f : code_frame.Frame) (fs : List code_frame.Frame) → (front : List code_frame.Frame) × (x : code_frame.Frame) × (f ∷ fs ≡ front ++ x ∷ [])
+split_last f [] = ([], f, refl)
+split_last f (g ∷ gs) = let r = split_last g gs in (f ∷ r.0, r.1, ap (λ (xs : List code_frame.Frame). f ∷ xs) r.2)
+
+taken_last : (l : ℕ) (fs front : List code_frame.Frame) (x f : code_frame.Frame) → fs ≡ front ++ x ∷ [] → Some f ≡ slice_get fs (length fs - 1) → takes_operand l (frame_of f ∷ []) ≡ takes_operand l (stack_of fs)
+taken_last l fs front x f e h =
+    let many : length fs - 1 ≡ length front = omega (arith, ap length e, length-append front (x ∷ [])) in
+    let same : f ≡ x = sym (get_or_from_slice_get fs (length fs - 1) f f (sym h)) ∙ ap (λ (n : ℕ). get_or fs n f) many ∙ ap (λ (gs : List code_frame.Frame). get_or gs (length front) f) e ∙ get_or-append_seam front x [] f in
+    ap (λ (g : code_frame.Frame). takes_operand l (frame_of g ∷ [])) same ∙ sym (taken_alone l x (stack_of front)) ∙ sym (ap (λ (gs : List code_frame.Frame). takes_operand l (stack_of gs)) e ∙ ap (takes_operand l) (stack_of-push front x))
+
+pub taken_by : (l : ℕ) (fs : List code_frame.Frame) (f : code_frame.Frame) → Some f ≡ slice_get fs (length fs - 1) → takes_operand l (frame_of f ∷ []) ≡ takes_operand l (stack_of fs)
+taken_by l [] f h = absurd cc
+taken_by l (g ∷ gs) f h = let r = split_last g gs in taken_last l (g ∷ gs) r.0 r.1 f r.2 h
+
+pub taken_by_none : (l : ℕ) (fs : List code_frame.Frame) → None ≡ slice_get fs (length fs - 1) → false ≡ takes_operand l (stack_of fs)
+taken_by_none l [] h = refl
+taken_by_none l (g ∷ gs) h = let x = slice_get-get_or (g ∷ gs) (length (g ∷ gs) - 1) g (omega arith) in absurd cc
+
+-- the frame that was popped takes the operand, as the innermost frame did
+pub popped_takes : (l : ℕ) (items rest : List code_frame.Frame) (f g : code_frame.Frame) → takes_operand l (stack_of items) ≡ true → items ≡ rest ++ f ∷ [] → f ≡ g → takes_operand l (frame_of g ∷ []) ≡ true
+popped_takes l items rest f g h e is =
+    sym (ap (λ (x : code_frame.Frame). takes_operand l (frame_of x ∷ [])) is) ∙ sym (taken_alone l f (stack_of rest)) ∙ sym (ap (λ (fs : List code_frame.Frame). takes_operand l (stack_of fs)) e ∙ ap (takes_operand l) (stack_of-push rest f)) ∙ h
+
+pub none_takes : (l : ℕ) (items : List code_frame.Frame) → takes_operand l (stack_of items) ≡ true → length items ≡ 0 → ⊥
+none_takes l [] h e = cc
+none_takes l (f ∷ fs) h e = absurd (omega arith)
+
+-- an operand that no frame takes stays
+pub fold_stays : (l : ℕ) (fs : List machine.Frame) (v : Term) → takes_operand l fs ≡ false → machine.fold_to l fs v ≡ (fs, v)
+fold_stays l [] v h = refl
+fold_stays l (machine.InGroup ∷ fs) v h = refl
+fold_stays l (machine.InSquare ∷ fs) v h = refl
+fold_stays l (machine.InPrefix ∷ fs) v h = absurd cc
+fold_stays l (machine.LeftOf op a ∷ fs) v h = ap (λ (x : Bool). if x then machine.fold_to l fs (Join op a v) else (machine.LeftOf op a ∷ fs, v)) h
+fold_stays l (machine.InArguments n args ∷ fs) v h = refl
 
 open_count-stacked : (fs : List code_frame.Frame) (below : List machine.Frame) → machine.open_count (stacked fs below) ≡ count_by is_open fs + machine.open_count below
 open_count-stacked [] below = omega arith
@@ -110,13 +146,13 @@ opened_below fs all f used e lt =
     ∙ ap (λ (gs : List machine.Frame). machine.Goes gs used machine.Wants) (sym (ap stack_of e ∙ stack_of-push fs f))
 
 -- an operand after a star and a tilde
-pub star_tilde_other : (fs gs all : List code_frame.Frame) (used : ℕ) (left : Expression) (t : Token) (r : Result code_step.ExpressionStep StepError) → ((w : CheckWord) → t ≡ tokens.Check w → ⊥)
-    → stack_of gs ≡ machine.infix_at Product (stack_of fs) (term_of left) → all ≡ gs ++ frames.Prefix ∷ [] → StepsTo t r (machine.operand limits (stack_of all) used t) → StepsTo t r (machine.after_star_tilde limits (stack_of fs) used (term_of left) t)
-star_tilde_other fs gs all used left t r other e pushed h =
+pub star_tilde_other : (fs gs all : List code_frame.Frame) (used : ℕ) (left : Expression) (t : Token) (r : Result code_step.ExpressionStep StepError) (o : OpenExpression) → ((w : CheckWord) → t ≡ tokens.Check w → ⊥)
+    → stack_of gs ≡ machine.infix_at Product (stack_of fs) (term_of left) → all ≡ gs ++ frames.Prefix ∷ [] → StepsTo t r o (machine.operand limits (stack_of all) used t) → StepsTo t r o (machine.after_star_tilde limits (stack_of fs) used (term_of left) t)
+star_tilde_other fs gs all used left t r o other e pushed h =
     let same : stack_of all ≡ machine.InPrefix ∷ machine.infix_at Product (stack_of fs) (term_of left) = ap stack_of pushed ∙ stack_of-push gs frames.Prefix ∙ ap (λ (xs : List machine.Frame). machine.InPrefix ∷ xs) e in
-    by_token t other (subst (λ (xs : List machine.Frame). StepsTo t r (machine.operand limits xs used t)) same h)
+    by_token t other (subst (λ (xs : List machine.Frame). StepsTo t r o (machine.operand limits xs used t)) same h)
   where
-    by_token : (u : Token) → ((w : CheckWord) → u ≡ tokens.Check w → ⊥) → StepsTo t r (machine.operand limits (machine.InPrefix ∷ machine.infix_at Product (stack_of fs) (term_of left)) used u) → StepsTo t r (machine.after_star_tilde limits (stack_of fs) used (term_of left) u)
+    by_token : (u : Token) → ((w : CheckWord) → u ≡ tokens.Check w → ⊥) → StepsTo t r o (machine.operand limits (machine.InPrefix ∷ machine.infix_at Product (stack_of fs) (term_of left)) used u) → StepsTo t r o (machine.after_star_tilde limits (stack_of fs) used (term_of left) u)
     by_token (tokens.Check w) n k = absurd (n w refl)
     by_token _ n k = k
 
@@ -132,3 +168,7 @@ pub comma_pushed : (fs after : List code_frame.Frame) (n : List ℕ) (args all :
 comma_pushed fs after n args all a e pushed =
     ap (λ (l : List Term). machine.InArguments n l ∷ stack_of fs) (sym (ap (map term_of) e ∙ map-push args.items a))
     ∙ sym (ap stack_of pushed ∙ stack_of-push fs (frames.Applied n all))
+
+-- the machine's result in another spelling
+pub steps_same : (t : Token) (r : Result code_step.ExpressionStep StepError) (o : OpenExpression) (a b : machine.StepResult) → a ≡ b → StepsTo t r o b → StepsTo t r o a
+steps_same t r o a b e h = subst (λ (m : machine.StepResult). StepsTo t r o m) (sym e) h

@@ -1,1 +1,2 @@
+pub mod OpenReading
 pub mod Reading

@@ -1,16 +1,11 @@
 -- What the reader holds of an expression, as the machine sees it.
-use Rattle.std.specs.Prelude.{◌≡◌, List, [], ◌∷◌, Bool, true, false, map, Result, Ok, Err}
-use Rattle.cat_terms.specs.declared.frames.StepError.{StepError}
-use Rattle.cat_terms.specs.declared.frames.StepError.TheVariants as errors
+use Rattle.std.specs.Prelude.{ℕ, List, [], ◌∷◌, Bool, true, false, map, nat_le}
 use Rattle.cat_terms.specs.declared.frames.Frame as code_frame
 use Rattle.cat_terms.specs.declared.frames.Frame.TheVariants as frames
 use Rattle.cat_terms.specs.declared.frames.Expectation as code_expectation
 use Rattle.cat_terms.specs.declared.frames.Expectation.TheVariants as expectations
-use Rattle.cat_terms.specs.declared.frames.ExpressionStep as code_step
-use Rattle.cat_terms.specs.declared.frames.ExpressionStep.TheVariants as code_steps
-use Rattle.cat_tokens.specs.declared.token.Token.{Token}
-use Rattle.cat_tokens.specs.declared.token.Token.TheVariants as tokens
 use Rattle.cat_values.specs.Values.{term_of}
+use Rattle.cat_grammar.specs.Grammar.{level}
 use Rattle.cat_grammar.specs.Machine as machine
 
 abbrev pub frame_of : code_frame.Frame → machine.Frame
@@ -36,15 +31,6 @@ expectation_of (expectations.Has a) = machine.Has (term_of a)
 expectation_of (expectations.HasStar a) = machine.HasStar (term_of a)
 expectation_of (expectations.HasStarTilde a) = machine.HasStarTilde (term_of a)
 
--- what a token did to an expression, read before this token, is what the machine does, unless memory ran out
-abbrev pub StepsTo : Token → Result code_step.ExpressionStep StepError → machine.StepResult → Type 0
-StepsTo t (Ok (code_steps.Goes fs used expected)) made = made ≡ machine.Goes (stack_of fs.items) used (expectation_of expected)
-StepsTo t (Ok (code_steps.Ends v back)) made = (made ≡ machine.Ends (term_of v)) × (back ≡ t)
-StepsTo t (Ok (code_steps.EndsTilde v w)) made = (made ≡ machine.EndsTilde (term_of v)) × (t ≡ tokens.Check w)
-StepsTo t (Err errors.OutOfMemory) made = Unit {0}
-StepsTo t (Err (errors.Refused k)) made = made ≡ machine.Refuses k
-StepsTo t (Err (errors.RefusedBefore k)) made = ⊥
-
 abbrev pub is_open : code_frame.Frame → Bool
 is_open frames.Group = true
 is_open frames.Square = true
@@ -65,3 +51,12 @@ is_no_bracket frames.Square = false
 is_no_bracket frames.Prefix = true
 is_no_bracket (frames.Left op a) = true
 is_no_bracket (frames.Applied n args) = false
+
+-- the innermost frame takes an operand that binds at least this tightly
+abbrev pub takes_operand : ℕ → List machine.Frame → Bool
+takes_operand l [] = false
+takes_operand l (machine.InGroup ∷ fs) = false
+takes_operand l (machine.InSquare ∷ fs) = false
+takes_operand l (machine.InPrefix ∷ fs) = true
+takes_operand l (machine.LeftOf op a ∷ fs) = nat_le l (level op)
+takes_operand l (machine.InArguments n args ∷ fs) = false

@@ -1,17 +1,17 @@
 //! The open brackets and operators of an expression.
 
-ghost use Rattle.std.specs.Prelude.{◌≡◌, ◌+◌, IfOk};
-ghost use Rattle.cat_grammar.specs.Machine.{open_count, is_outermost, fold_to, opened, infix_at};
-ghost use Rattle.cat_grammar.specs.Grammar.{limits, level, left_level};
+ghost use Rattle.std.specs.Prelude.{◌≡◌, [], ◌∷◌, IfOk};
+ghost use Rattle.cat_grammar.specs.Machine.{open_count, is_outermost, fold_to, infix_at};
+ghost use Rattle.cat_grammar.specs.Grammar.{level, left_level};
 ghost use Rattle.cat_values.specs.Values.{term_of};
-ghost use Rattle.cat_terms.specs.Reading.{frame_of, stack_of, StepsTo};
-ghost use Rattle.cat_tokens.specs.declared.token.Token.{Token};
+ghost use Rattle.cat_terms.specs.Reading.{stack_of, takes_operand};
 ghost use Rattle.cat_terms.specs.declared.frames.StepError.TheVariants.{OutOfMemory};
 
-use cat_tokens::{CatRule, Token};
+use cat_tokens::CatRule;
 use cat_values::{CheckWord, Expression, Infix};
 use source_text::Name;
 use std::alloc::{AllocError, AllocFailed, Global};
+use std::mem;
 
 /// Why a step over a token failed.
 #[derive(Drop)]
@@ -73,14 +73,14 @@ pub enum Expectation {
 }
 
 /// The result of a step over a token.
-#[derive(Drop)]
+#[derive(Clone, Copy)]
 pub enum ExpressionStep {
-    /// The expression goes on: the open frames, the number of operators so far, and what is expected.
-    Goes(Vec<Frame>, usize, Expectation),
+    /// The expression goes on.
+    Goes,
     /// The expression ended before this token.
-    Ends(Expression, Token),
+    Ends,
     /// The expression ended before the `~` that stands before this check word.
-    EndsTilde(Expression, CheckWord),
+    EndsTilde(CheckWord),
 }
 
 /// The greatest number of brackets and prefixes that are open at once.
@@ -116,7 +116,7 @@ fn left_level(op: Infix) -> usize
 }
 
 impl Frame {
-    ghost use Rattle.cat_terms.specs.Reading.{is_open, is_square, is_no_bracket};
+    ghost use Rattle.cat_terms.specs.Reading.{frame_of, is_open, is_square, is_no_bracket};
 
     // Whether it counts as open.
     fn is_open(&self) -> bool
@@ -144,6 +144,19 @@ impl Frame {
         }
     }
 
+    // Whether it takes an operand that binds at least this tightly.
+    fn takes(&self, least: usize) -> bool
+        ensures { result ≡ takes_operand least (frame_of self.now ∷ []) }
+    {
+        match self {
+            Frame::Group => false,
+            Frame::Square => false,
+            Frame::Prefix => true,
+            Frame::Applied(_, _) => false,
+            Frame::Left(op, _) => least <= level(*op),
+        }
+    }
+
     // Whether it is no bracket.
     fn is_no_bracket(&self) -> bool
         ensures { result ≡ is_no_bracket self.now }
@@ -158,48 +171,45 @@ impl Frame {
     }
 }
 
-/// Joins the operand with the open operators to its left that bind at least this tightly.
-pub fn joined(
+// Whether the innermost frame takes an operand that binds at least this tightly.
+fn takes(frames: &[Frame], least: usize) -> bool
+    ensures { result ≡ takes_operand least (stack_of frames.now) }
+{
+    match frames.last() {
+        Some(frame) => frame.takes(least),
+        None => false,
+    }
+}
+
+/// Joins the operand with the open operators to its left that bind at least this tightly. Errors: out of memory.
+pub fn join(
     alloc: Global,
     least: usize,
     frames: &mut Vec<Frame>,
-    operand: Expression,
-) -> Result<Expression, AllocError>
-    ensures { IfOk result (λ v. fold_to least (stack_of frames.old.items) (term_of operand)
-        ≡ (stack_of frames.new.items, term_of v)) }
+    operand: &mut Expression,
+) -> Result<(), AllocError>
+    ensures { IfOk result (λ _. fold_to least (stack_of frames.old.items) (term_of operand.old)
+        ≡ (stack_of frames.new.items, term_of operand.new)) }
 {
-    let mut operand = operand;
-    while let Some(frame) = frames.pop() {
-        match frame {
-            Frame::Prefix => operand = Expression::Complement(Box::new(alloc, operand)?),
-            Frame::Left(op, left) => {
-                if least <= level(op) {
-                    let left = Box::new(alloc, left)?;
-                    operand = Expression::Joined(op, left, Box::new(alloc, operand)?);
-                } else {
-                    frames.push(Frame::Left(op, left))?;
-                    return Ok(operand);
-                }
+    while takes(frames, least) {
+        let right = mem::replace(operand, Expression::Everything);
+        match frames.pop() {
+            Some(Frame::Prefix) => *operand = Expression::Complement(Box::new(alloc, right)?),
+            Some(Frame::Left(op, left)) => {
+                let left = Box::new(alloc, left)?;
+                *operand = Expression::Joined(op, left, Box::new(alloc, right)?);
             }
-            Frame::Group => {
-                frames.push(Frame::Group)?;
-                return Ok(operand);
-            }
-            Frame::Square => {
-                frames.push(Frame::Square)?;
-                return Ok(operand);
-            }
-            Frame::Applied(name, arguments) => {
-                frames.push(Frame::Applied(name, arguments))?;
-                return Ok(operand);
-            }
+            Some(Frame::Group) => unreachable!(),
+            Some(Frame::Square) => unreachable!(),
+            Some(Frame::Applied(_, _)) => unreachable!(),
+            None => unreachable!(),
         }
     }
-    Ok(operand)
+    Ok(())
 }
 
-// How many brackets and prefixes are open.
-fn open_frames(frames: &[Frame]) -> usize
+/// How many brackets and prefixes are open.
+pub fn open_frames(frames: &[Frame]) -> usize
     ensures { result ≡ open_count (stack_of frames.now) }
 {
     frames.iter().filter(|f| f.is_open()).count()
@@ -217,33 +227,17 @@ pub fn are_outermost(frames: &[Frame]) -> bool
     true
 }
 
-/// Opens a bracket or a prefix.
-pub fn opened(
-    frames: Vec<Frame>,
-    operators: usize,
-    frame: Frame,
-) -> Result<ExpressionStep, StepError>
-    ensures { (t : Token) → StepsTo t result (opened limits (stack_of frames.items) operators (frame_of frame)) }
-{
-    let mut frames = frames;
-    if open_frames(&frames) >= MAX_NESTING {
-        return Err(StepError::Refused(CatRule::TooDeep));
-    }
-    frames.push(frame)?;
-    Ok(ExpressionStep::Goes(frames, operators, Expectation::Wants))
-}
-
-/// The frames after an infix operator whose left operand was read.
-pub fn infix_after(
+/// Opens an infix operator whose left operand was read. Errors: out of memory.
+pub fn open_infix(
     alloc: Global,
-    frames: Vec<Frame>,
+    frames: &mut Vec<Frame>,
     op: Infix,
     left: Expression,
-) -> Result<Vec<Frame>, AllocError>
-    ensures { IfOk result (λ fs. stack_of fs.items ≡ infix_at op (stack_of frames.items) (term_of left)) }
+) -> Result<(), AllocError>
+    ensures { IfOk result (λ _. stack_of frames.new.items ≡ infix_at op (stack_of frames.old.items) (term_of left)) }
 {
-    let mut frames = frames;
-    let left = joined(alloc, left_level(op), &mut frames, left)?;
+    let mut left = left;
+    join(alloc, left_level(op), frames, &mut left)?;
     frames.push(Frame::Left(op, left))?;
-    Ok(frames)
+    Ok(())
 }

@@ -1,283 +1,332 @@
 //! Reads an expression, token by token.
 
-ghost use Rattle.std.specs.Prelude.{◌≡◌, ◌+◌};
-ghost use Rattle.cat_grammar.specs.Machine.{fold_to, operand, after_brace, ended, closed, square_closed, comma_read, after, after_name, after_star, after_star_tilde, expression_step};
-ghost use Rattle.cat_grammar.specs.Grammar.{limits};
-ghost use Rattle.cat_values.specs.Values.{term_of};
-ghost use Rattle.cat_terms.specs.Reading.{stack_of, expectation_of, StepsTo};
-ghost use Rattle.cat_tokens.specs.declared.token.Token.TheVariants.{Close, CloseSquare, Comma};
-
 use crate::frames::{
-    Expectation, ExpressionStep, Frame, MAX_OPERATORS, StepError, are_outermost, infix_after,
-    joined, opened,
+    Expectation, ExpressionStep, Frame, MAX_NESTING, MAX_OPERATORS, StepError, are_outermost, join,
+    open_frames, open_infix,
 };
 use cat_tokens::{CatRule, Token};
 use cat_values::{Expression, Infix, Postfix};
 use source_text::Name;
 use std::alloc::Global;
+use std::mem;
 
-// A token where an operand is wanted.
-fn operand(frames: Vec<Frame>, operators: usize, token: Token) -> Result<ExpressionStep, StepError>
-    ensures { StepsTo token result (operand limits (stack_of frames.items) operators token) }
-{
-    match token {
-        Token::Name(name) => Ok(ExpressionStep::Goes(frames, operators, Expectation::Named(name))),
-        Token::Underscore => Ok(ExpressionStep::Goes(
-            frames,
-            operators,
-            Expectation::Has(Expression::Everything),
-        )),
-        Token::Zero => Ok(ExpressionStep::Goes(
-            frames,
-            operators,
-            Expectation::Has(Expression::NoPairs),
-        )),
-        Token::OpenBrace => Ok(ExpressionStep::Goes(frames, operators, Expectation::Brace)),
-        Token::Tilde => opened(frames, operators, Frame::Prefix),
-        Token::Open => opened(frames, operators, Frame::Group),
-        Token::OpenSquare => opened(frames, operators, Frame::Square),
-        other => Err(StepError::Refused(other.rule())),
-    }
-}
-
-// A token after `{`.
-fn after_brace(
-    frames: Vec<Frame>,
-    operators: usize,
-    token: Token,
-) -> Result<ExpressionStep, StepError>
-    ensures { StepsTo token result (after_brace (stack_of frames.items) operators token) }
-{
-    match token {
-        Token::CloseBrace => Ok(ExpressionStep::Goes(
-            frames,
-            operators,
-            Expectation::Has(Expression::NoEvents),
-        )),
-        other => Err(StepError::Refused(other.rule())),
-    }
-}
-
-// A `)` after an operand.
-fn closed(
-    alloc: Global,
-    frames: Vec<Frame>,
-    operators: usize,
-    operand: Expression,
-) -> Result<ExpressionStep, StepError>
-    ensures { StepsTo Close result (closed operators (fold_to 0 (stack_of frames.items) (term_of operand))) }
-{
-    let mut frames = frames;
-    let operand = joined(alloc, 0, &mut frames, operand)?;
-    match frames.pop() {
-        None => Ok(ExpressionStep::Ends(operand, Token::Close)),
-        Some(Frame::Group) => Ok(ExpressionStep::Goes(
-            frames,
-            operators,
-            Expectation::Has(operand),
-        )),
-        Some(Frame::Applied(name, arguments)) => {
-            let mut arguments = arguments;
-            arguments.push(operand)?;
-            let applied = Expression::Applied(name, arguments);
-            Ok(ExpressionStep::Goes(frames, operators, Expectation::Has(applied)))
-        }
-        Some(Frame::Square) => Err(StepError::Refused(CatRule::Syntax)),
-        Some(Frame::Prefix) => Err(StepError::Refused(CatRule::Syntax)),
-        Some(Frame::Left(_, _)) => Err(StepError::Refused(CatRule::Syntax)),
-    }
-}
-
-// A `]` after an operand.
-fn square_closed(
-    alloc: Global,
-    frames: Vec<Frame>,
-    operators: usize,
-    operand: Expression,
-) -> Result<ExpressionStep, StepError>
-    ensures { StepsTo CloseSquare result (square_closed operators (fold_to 0 (stack_of frames.items) (term_of operand))) }
-{
-    let mut frames = frames;
-    let operand = joined(alloc, 0, &mut frames, operand)?;
-    let Some(frame) = frames.pop() else {
-        return Ok(ExpressionStep::Ends(operand, Token::CloseSquare));
-    };
-    if !frame.is_square() {
-        return Err(StepError::Refused(CatRule::Syntax));
-    }
-    let identity = Expression::Identity(Box::new(alloc, operand)?);
-    Ok(ExpressionStep::Goes(frames, operators, Expectation::Has(identity)))
-}
-
-// A `,` after an operand.
-fn comma_read(
-    alloc: Global,
-    frames: Vec<Frame>,
-    operators: usize,
-    operand: Expression,
-) -> Result<ExpressionStep, StepError>
-    ensures { StepsTo Comma result (comma_read operators (fold_to 0 (stack_of frames.items) (term_of operand))) }
-{
-    let mut frames = frames;
-    let operand = joined(alloc, 0, &mut frames, operand)?;
-    match frames.pop() {
-        None => Ok(ExpressionStep::Ends(operand, Token::Comma)),
-        Some(Frame::Applied(name, arguments)) => {
-            let mut arguments = arguments;
-            arguments.push(operand)?;
-            frames.push(Frame::Applied(name, arguments))?;
-            Ok(ExpressionStep::Goes(frames, operators, Expectation::Wants))
-        }
-        Some(Frame::Group) => Err(StepError::Refused(CatRule::Syntax)),
-        Some(Frame::Square) => Err(StepError::Refused(CatRule::Syntax)),
-        Some(Frame::Prefix) => Err(StepError::Refused(CatRule::Syntax)),
-        Some(Frame::Left(_, _)) => Err(StepError::Refused(CatRule::Syntax)),
-    }
-}
-
-// A token that cannot go on after an operand.
-fn ended(
-    alloc: Global,
-    frames: Vec<Frame>,
-    operand: Expression,
-    token: Token,
-) -> Result<ExpressionStep, StepError>
-    ensures { StepsTo token result (ended token (fold_to 0 (stack_of frames.items) (term_of operand))) }
-{
-    let mut frames = frames;
-    let operand = joined(alloc, 0, &mut frames, operand)?;
-    match frames.pop() {
-        None => Ok(ExpressionStep::Ends(operand, token)),
-        Some(_) => Err(StepError::Refused(token.rule())),
-    }
-}
-
-// A token after an operand.
-fn after(
-    alloc: Global,
-    frames: Vec<Frame>,
-    operators: usize,
-    operand: Expression,
-    token: Token,
-) -> Result<ExpressionStep, StepError>
-    ensures { StepsTo token result (after limits (stack_of frames.items) operators (term_of operand) token) }
-{
-    match token {
-        Token::Sign(sign) => {
-            if operators >= MAX_OPERATORS {
-                return Err(StepError::Refused(CatRule::TooDeep));
-            }
-            let frames = infix_after(alloc, frames, sign.infix(), operand)?;
-            Ok(ExpressionStep::Goes(frames, operators + 1, Expectation::Wants))
-        }
-        Token::Mark(mark) => {
-            if operators >= MAX_OPERATORS {
-                return Err(StepError::Refused(CatRule::TooDeep));
-            }
-            let marked = Expression::Marked(mark.postfix(), Box::new(alloc, operand)?);
-            Ok(ExpressionStep::Goes(frames, operators + 1, Expectation::Has(marked)))
-        }
-        Token::Star => {
-            if operators >= MAX_OPERATORS {
-                return Err(StepError::Refused(CatRule::TooDeep));
-            }
-            Ok(ExpressionStep::Goes(frames, operators + 1, Expectation::HasStar(operand)))
-        }
-        Token::Close => closed(alloc, frames, operators, operand),
-        Token::CloseSquare => square_closed(alloc, frames, operators, operand),
-        Token::Comma => comma_read(alloc, frames, operators, operand),
-        other => ended(alloc, frames, operand, other),
-    }
-}
-
-// A token after a name.
-fn after_name(
-    alloc: Global,
-    frames: Vec<Frame>,
-    operators: usize,
-    name: Name,
-    token: Token,
-) -> Result<ExpressionStep, StepError>
-    ensures { StepsTo token result (after_name limits (stack_of frames.items) operators name token) }
-{
-    match token {
-        Token::Open => opened(frames, operators, Frame::Applied(name, Vec::new(alloc))),
-        other => after(alloc, frames, operators, Expression::Named(name), other),
-    }
-}
-
-// A token after an operand and a star, which is infix where an operand follows.
-fn after_star(
-    alloc: Global,
-    frames: Vec<Frame>,
-    operators: usize,
-    left: Expression,
-    token: Token,
-) -> Result<ExpressionStep, StepError>
-    ensures { StepsTo token result (after_star limits (stack_of frames.items) operators (term_of left) token) }
-{
-    match token {
-        Token::Tilde => {
-            if are_outermost(&frames) {
-                return Ok(ExpressionStep::Goes(frames, operators, Expectation::HasStarTilde(left)));
-            }
-            let frames = infix_after(alloc, frames, Infix::Product, left)?;
-            operand(frames, operators, Token::Tilde)
-        }
-        other => {
-            if other.begins_operand() {
-                let frames = infix_after(alloc, frames, Infix::Product, left)?;
-                return operand(frames, operators, other);
-            }
-            let closure = Expression::Marked(Postfix::Closure, Box::new(alloc, left)?);
-            after(alloc, frames, operators, closure, other)
-        }
-    }
-}
-
-// A token after an operand, a star and a tilde, outside all brackets.
-fn after_star_tilde(
-    alloc: Global,
-    frames: Vec<Frame>,
-    operators: usize,
-    left: Expression,
-    token: Token,
-) -> Result<ExpressionStep, StepError>
-    ensures { StepsTo token result (after_star_tilde limits (stack_of frames.items) operators (term_of left) token) }
-{
-    match token {
-        Token::Check(word) => {
-            let mut frames = frames;
-            let closure = Expression::Marked(Postfix::Closure, Box::new(alloc, left)?);
-            let whole = joined(alloc, 0, &mut frames, closure)?;
-            Ok(ExpressionStep::EndsTilde(whole, word))
-        }
-        other => {
-            let mut frames = infix_after(alloc, frames, Infix::Product, left)?;
-            frames.push(Frame::Prefix)?;
-            operand(frames, operators, other)
-        }
-    }
-}
-
-/// The step over a token of an expression: `frames` are open, the innermost last, and `operators` counts the
-/// operators so far. A `*` is decided by the token behind it; where that is `~`, outside all brackets, by the token
-/// behind the `~`. Errors: out of memory, or the rule that this token breaks.
-pub fn expression_step(
-    alloc: Global,
+/// An expression that is read in part: what is open, how many operators it has so far, and what is expected.
+#[derive(Drop)]
+pub struct OpenExpression {
+    // The innermost last.
     frames: Vec<Frame>,
     operators: usize,
     expected: Expectation,
-    token: Token,
-) -> Result<ExpressionStep, StepError>
-    ensures { StepsTo token result (expression_step limits (stack_of frames.items) operators (expectation_of expected) token) }
-{
-    match expected {
-        Expectation::Wants => operand(frames, operators, token),
-        Expectation::Brace => after_brace(frames, operators, token),
-        Expectation::Named(name) => after_name(alloc, frames, operators, name, token),
-        Expectation::Has(left) => after(alloc, frames, operators, left, token),
-        Expectation::HasStar(left) => after_star(alloc, frames, operators, left, token),
-        Expectation::HasStarTilde(left) => after_star_tilde(alloc, frames, operators, left, token),
+}
+
+impl OpenExpression {
+    ghost use Rattle.std.specs.Prelude.{◌≡◌, ◌+◌};
+    ghost use Rattle.cat_grammar.specs.Machine.{Goes, Ends, fold_to, operand, opened, after_brace, ended, closed, square_closed, comma_read, after, after_name, after_star, after_star_tilde, expression_step};
+    ghost use Rattle.cat_grammar.specs.Grammar.{limits};
+    ghost use Rattle.cat_values.specs.Values.{term_of};
+    ghost use Rattle.cat_terms.specs.Reading.{frame_of, stack_of, expectation_of};
+    ghost use Rattle.cat_terms.specs.OpenReading.{IsStart, StepsTo, whole_of};
+    ghost use Rattle.cat_tokens.specs.declared.token.Token.{Token};
+    ghost use Rattle.cat_tokens.specs.declared.token.Token.TheVariants.{Close, CloseSquare, Comma};
+
+    /// An expression of which nothing is read.
+    pub fn new(alloc: Global) -> OpenExpression
+        ensures { IsStart result }
+    {
+        OpenExpression {
+            frames: Vec::new(alloc),
+            operators: 0,
+            expected: Expectation::Wants,
+        }
+    }
+
+    /// Begins another expression.
+    pub fn restart(&mut self)
+        ensures { IsStart self.new }
+    {
+        self.frames.clear();
+        self.operators = 0;
+        self.expected = Expectation::Wants;
+    }
+
+    /// Takes the expression out that has ended.
+    pub fn take_whole(&mut self) -> Expression
+        ensures { term_of result ≡ whole_of self.old.expected }
+    {
+        match mem::replace(&mut self.expected, Expectation::Wants) {
+            Expectation::Has(whole) => whole,
+            _ => Expression::Everything,
+        }
+    }
+
+    /// The step over a token of an expression. A `*` is decided by the token behind it; where that is `~`, outside all
+    /// brackets, by the token behind the `~`. Errors: out of memory, or the rule that this token breaks; the
+    /// expression is then to be dropped.
+    pub fn step(&mut self, alloc: Global, token: &Token) -> Result<ExpressionStep, StepError>
+        ensures { StepsTo token.now result self.new
+            (expression_step limits (stack_of self.old.frames.items) self.old.operators (expectation_of self.old.expected) token.now) }
+    {
+        match mem::replace(&mut self.expected, Expectation::Wants) {
+            Expectation::Wants => self.operand(alloc, token),
+            Expectation::Brace => self.after_brace(token),
+            Expectation::Named(name) => self.after_name(alloc, name, token),
+            Expectation::Has(left) => self.after(alloc, left, token),
+            Expectation::HasStar(left) => self.after_star(alloc, left, token),
+            Expectation::HasStarTilde(left) => self.after_star_tilde(alloc, left, token),
+        }
+    }
+
+    // The expression goes on with what is expected next.
+    fn goes(&mut self, expected: Expectation) -> Result<ExpressionStep, StepError>
+        ensures { (t : Token) → StepsTo t result self.new
+            (Goes (stack_of self.old.frames.items) self.old.operators (expectation_of expected)) }
+    {
+        self.expected = expected;
+        Ok(ExpressionStep::Goes)
+    }
+
+    // The expression has ended.
+    fn ends(&mut self, whole: Expression) -> Result<ExpressionStep, StepError>
+        ensures { (t : Token) → StepsTo t result self.new (Ends (term_of whole)) }
+    {
+        self.expected = Expectation::Has(whole);
+        Ok(ExpressionStep::Ends)
+    }
+
+    // A token where an operand is wanted.
+    fn operand(&mut self, alloc: Global, token: &Token) -> Result<ExpressionStep, StepError>
+        ensures { StepsTo token.now result self.new (operand limits (stack_of self.old.frames.items) self.old.operators token.now) }
+    {
+        match token {
+            Token::Name(name) => {
+                let name = name.copied(alloc)?;
+                self.goes(Expectation::Named(name))
+            }
+            Token::Underscore => self.goes(Expectation::Has(Expression::Everything)),
+            Token::Zero => self.goes(Expectation::Has(Expression::NoPairs)),
+            Token::OpenBrace => self.goes(Expectation::Brace),
+            Token::Tilde => self.opened(Frame::Prefix),
+            Token::Open => self.opened(Frame::Group),
+            Token::OpenSquare => self.opened(Frame::Square),
+            other => Err(StepError::Refused(other.rule())),
+        }
+    }
+
+    // Opens a bracket or a prefix.
+    fn opened(&mut self, frame: Frame) -> Result<ExpressionStep, StepError>
+        ensures { (t : Token) → StepsTo t result self.new
+            (opened limits (stack_of self.old.frames.items) self.old.operators (frame_of frame)) }
+    {
+        if open_frames(&self.frames) >= MAX_NESTING {
+            return Err(StepError::Refused(CatRule::TooDeep));
+        }
+        self.frames.push(frame)?;
+        self.goes(Expectation::Wants)
+    }
+
+    // A token after `{`.
+    fn after_brace(&mut self, token: &Token) -> Result<ExpressionStep, StepError>
+        ensures { StepsTo token.now result self.new (after_brace (stack_of self.old.frames.items) self.old.operators token.now) }
+    {
+        match token {
+            Token::CloseBrace => self.goes(Expectation::Has(Expression::NoEvents)),
+            other => Err(StepError::Refused(other.rule())),
+        }
+    }
+
+    // A `)` after an operand.
+    fn closed(&mut self, alloc: Global, operand: Expression) -> Result<ExpressionStep, StepError>
+        ensures { StepsTo Close result self.new
+            (closed self.old.operators (fold_to 0 (stack_of self.old.frames.items) (term_of operand))) }
+    {
+        let mut operand = operand;
+        join(alloc, 0, &mut self.frames, &mut operand)?;
+        match self.frames.pop() {
+            None => self.ends(operand),
+            Some(Frame::Group) => self.goes(Expectation::Has(operand)),
+            Some(Frame::Applied(name, arguments)) => {
+                let mut arguments = arguments;
+                arguments.push(operand)?;
+                self.goes(Expectation::Has(Expression::Applied(name, arguments)))
+            }
+            Some(Frame::Square) => Err(StepError::Refused(CatRule::Syntax)),
+            Some(Frame::Prefix) => Err(StepError::Refused(CatRule::Syntax)),
+            Some(Frame::Left(_, _)) => Err(StepError::Refused(CatRule::Syntax)),
+        }
+    }
+
+    // A `]` after an operand.
+    fn square_closed(
+        &mut self,
+        alloc: Global,
+        operand: Expression,
+    ) -> Result<ExpressionStep, StepError>
+        ensures { StepsTo CloseSquare result self.new
+            (square_closed self.old.operators (fold_to 0 (stack_of self.old.frames.items) (term_of operand))) }
+    {
+        let mut operand = operand;
+        join(alloc, 0, &mut self.frames, &mut operand)?;
+        let Some(frame) = self.frames.pop() else {
+            return self.ends(operand);
+        };
+        if !frame.is_square() {
+            return Err(StepError::Refused(CatRule::Syntax));
+        }
+        let identity = Expression::Identity(Box::new(alloc, operand)?);
+        self.goes(Expectation::Has(identity))
+    }
+
+    // A `,` after an operand.
+    fn comma_read(
+        &mut self,
+        alloc: Global,
+        operand: Expression,
+    ) -> Result<ExpressionStep, StepError>
+        ensures { StepsTo Comma result self.new
+            (comma_read self.old.operators (fold_to 0 (stack_of self.old.frames.items) (term_of operand))) }
+    {
+        let mut operand = operand;
+        join(alloc, 0, &mut self.frames, &mut operand)?;
+        match self.frames.pop() {
+            None => self.ends(operand),
+            Some(Frame::Applied(name, arguments)) => {
+                let mut arguments = arguments;
+                arguments.push(operand)?;
+                self.frames.push(Frame::Applied(name, arguments))?;
+                self.goes(Expectation::Wants)
+            }
+            Some(Frame::Group) => Err(StepError::Refused(CatRule::Syntax)),
+            Some(Frame::Square) => Err(StepError::Refused(CatRule::Syntax)),
+            Some(Frame::Prefix) => Err(StepError::Refused(CatRule::Syntax)),
+            Some(Frame::Left(_, _)) => Err(StepError::Refused(CatRule::Syntax)),
+        }
+    }
+
+    // A token that cannot go on after an operand.
+    fn ended(
+        &mut self,
+        alloc: Global,
+        operand: Expression,
+        token: &Token,
+    ) -> Result<ExpressionStep, StepError>
+        ensures { StepsTo token.now result self.new (ended token.now (fold_to 0 (stack_of self.old.frames.items) (term_of operand))) }
+    {
+        let mut operand = operand;
+        join(alloc, 0, &mut self.frames, &mut operand)?;
+        match self.frames.pop() {
+            None => self.ends(operand),
+            Some(_) => Err(StepError::Refused(token.rule())),
+        }
+    }
+
+    // A token after an operand.
+    fn after(
+        &mut self,
+        alloc: Global,
+        operand: Expression,
+        token: &Token,
+    ) -> Result<ExpressionStep, StepError>
+        ensures { StepsTo token.now result self.new
+            (after limits (stack_of self.old.frames.items) self.old.operators (term_of operand) token.now) }
+    {
+        match token {
+            Token::Sign(sign) => {
+                if self.operators >= MAX_OPERATORS {
+                    return Err(StepError::Refused(CatRule::TooDeep));
+                }
+                open_infix(alloc, &mut self.frames, sign.infix(), operand)?;
+                self.operators += 1;
+                self.goes(Expectation::Wants)
+            }
+            Token::Mark(mark) => {
+                if self.operators >= MAX_OPERATORS {
+                    return Err(StepError::Refused(CatRule::TooDeep));
+                }
+                let marked = Expression::Marked(mark.postfix(), Box::new(alloc, operand)?);
+                self.operators += 1;
+                self.goes(Expectation::Has(marked))
+            }
+            Token::Star => {
+                if self.operators >= MAX_OPERATORS {
+                    return Err(StepError::Refused(CatRule::TooDeep));
+                }
+                self.operators += 1;
+                self.goes(Expectation::HasStar(operand))
+            }
+            Token::Close => self.closed(alloc, operand),
+            Token::CloseSquare => self.square_closed(alloc, operand),
+            Token::Comma => self.comma_read(alloc, operand),
+            other => self.ended(alloc, operand, other),
+        }
+    }
+
+    // A token after a name.
+    fn after_name(
+        &mut self,
+        alloc: Global,
+        name: Name,
+        token: &Token,
+    ) -> Result<ExpressionStep, StepError>
+        ensures { StepsTo token.now result self.new
+            (after_name limits (stack_of self.old.frames.items) self.old.operators name token.now) }
+    {
+        match token {
+            Token::Open => self.opened(Frame::Applied(name, Vec::new(alloc))),
+            other => self.after(alloc, Expression::Named(name), other),
+        }
+    }
+
+    // A token after an operand and a star, which is infix where an operand follows.
+    fn after_star(
+        &mut self,
+        alloc: Global,
+        left: Expression,
+        token: &Token,
+    ) -> Result<ExpressionStep, StepError>
+        ensures { StepsTo token.now result self.new
+            (after_star limits (stack_of self.old.frames.items) self.old.operators (term_of left) token.now) }
+    {
+        match token {
+            Token::Tilde => {
+                if are_outermost(&self.frames) {
+                    return self.goes(Expectation::HasStarTilde(left));
+                }
+                open_infix(alloc, &mut self.frames, Infix::Product, left)?;
+                self.operand(alloc, token)
+            }
+            other => {
+                if other.begins_operand() {
+                    open_infix(alloc, &mut self.frames, Infix::Product, left)?;
+                    return self.operand(alloc, other);
+                }
+                let closure = Expression::Marked(Postfix::Closure, Box::new(alloc, left)?);
+                self.after(alloc, closure, other)
+            }
+        }
+    }
+
+    // A token after an operand, a star and a tilde, outside all brackets.
+    fn after_star_tilde(
+        &mut self,
+        alloc: Global,
+        left: Expression,
+        token: &Token,
+    ) -> Result<ExpressionStep, StepError>
+        ensures { StepsTo token.now result self.new
+            (after_star_tilde limits (stack_of self.old.frames.items) self.old.operators (term_of left) token.now) }
+    {
+        match token {
+            Token::Check(word) => {
+                let mut closure = Expression::Marked(Postfix::Closure, Box::new(alloc, left)?);
+                join(alloc, 0, &mut self.frames, &mut closure)?;
+                self.expected = Expectation::Has(closure);
+                Ok(ExpressionStep::EndsTilde(*word))
+            }
+            other => {
+                open_infix(alloc, &mut self.frames, Infix::Product, left)?;
+                self.frames.push(Frame::Prefix)?;
+                self.operand(alloc, other)
+            }
+        }
     }
 }

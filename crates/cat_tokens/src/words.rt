@@ -6,7 +6,7 @@ ghost use Rattle.cat_tokens.specs.Words.{item_word, part_word, is_definition_wor
 use crate::rule::CatRule;
 use crate::token::Token;
 use cat_values::CheckWord;
-use source_text::Name;
+use source_text::{Name, is_word};
 use std::alloc::{AllocError, Global};
 
 // Whether it is a word of definitions that models may not use here.
@@ -14,31 +14,31 @@ use std::alloc::{AllocError, Global};
 fn is_definition_word(text: &[u8]) -> bool
     ensures { result ≡ is_definition_word text.now }
 {
-    if text == b"procedure".as_slice() {
+    if is_word(text, b"procedure") {
         return true;
     }
-    if text == b"call".as_slice() {
+    if is_word(text, b"call") {
         return true;
     }
-    if text == b"enum".as_slice() {
+    if is_word(text, b"enum") {
         return true;
     }
-    if text == b"match".as_slice() {
+    if is_word(text, b"match") {
         return true;
     }
-    if text == b"try".as_slice() {
+    if is_word(text, b"try") {
         return true;
     }
-    if text == b"fold".as_slice() {
+    if is_word(text, b"fold") {
         return true;
     }
-    if text == b"fun".as_slice() {
+    if is_word(text, b"fun") {
         return true;
     }
-    if text == b"function".as_slice() {
+    if is_word(text, b"function") {
         return true;
     }
-    if text == b"instructions".as_slice() {
+    if is_word(text, b"instructions") {
         return true;
     }
     false
@@ -49,34 +49,34 @@ fn is_definition_word(text: &[u8]) -> bool
 fn is_other_word(text: &[u8]) -> bool
     ensures { result ≡ is_other_word text.now }
 {
-    if text == b"with".as_slice() {
+    if is_word(text, b"with") {
         return true;
     }
-    if text == b"from".as_slice() {
+    if is_word(text, b"from") {
         return true;
     }
-    if text == b"in".as_slice() {
+    if is_word(text, b"in") {
         return true;
     }
-    if text == b"begin".as_slice() {
+    if is_word(text, b"begin") {
         return true;
     }
-    if text == b"end".as_slice() {
+    if is_word(text, b"end") {
         return true;
     }
-    if text == b"forall".as_slice() {
+    if is_word(text, b"forall") {
         return true;
     }
-    if text == b"do".as_slice() {
+    if is_word(text, b"do") {
         return true;
     }
-    if text == b"undefined_unless".as_slice() {
+    if is_word(text, b"undefined_unless") {
         return true;
     }
-    if text == b"requires".as_slice() {
+    if is_word(text, b"requires") {
         return true;
     }
-    if text == b"default".as_slice() {
+    if is_word(text, b"default") {
         return true;
     }
     false
@@ -87,28 +87,28 @@ fn is_other_word(text: &[u8]) -> bool
 fn item_word(text: &[u8]) -> Option<Token>
     ensures { result ≡ item_word text.now }
 {
-    if text == b"let".as_slice() {
+    if is_word(text, b"let") {
         return Some(Token::Let);
     }
-    if text == b"acyclic".as_slice() {
+    if is_word(text, b"acyclic") {
         return Some(Token::Check(CheckWord::Acyclic));
     }
-    if text == b"irreflexive".as_slice() {
+    if is_word(text, b"irreflexive") {
         return Some(Token::Check(CheckWord::Irreflexive));
     }
-    if text == b"empty".as_slice() {
+    if is_word(text, b"empty") {
         return Some(Token::Check(CheckWord::Empty));
     }
-    if text == b"flag".as_slice() {
+    if is_word(text, b"flag") {
         return Some(Token::Flag);
     }
-    if text == b"show".as_slice() {
+    if is_word(text, b"show") {
         return Some(Token::Show);
     }
-    if text == b"unshow".as_slice() {
+    if is_word(text, b"unshow") {
         return Some(Token::Unshow);
     }
-    if text == b"include".as_slice() {
+    if is_word(text, b"include") {
         return Some(Token::Include);
     }
     None
@@ -119,13 +119,13 @@ fn item_word(text: &[u8]) -> Option<Token>
 fn part_word(text: &[u8]) -> Option<Token>
     ensures { result ≡ part_word text.now }
 {
-    if text == b"rec".as_slice() {
+    if is_word(text, b"rec") {
         return Some(Token::Rec);
     }
-    if text == b"and".as_slice() {
+    if is_word(text, b"and") {
         return Some(Token::And);
     }
-    if text == b"as".as_slice() {
+    if is_word(text, b"as") {
         return Some(Token::As);
     }
     None

@@ -1,5 +1,5 @@
 -- The cells whose verdicts stand on a node are those of the node's test.
-use Rattle.std.proofs.Common.{◌≡◌, true, false, Bool, ℕ, zero, suc, ◌*◌, ◌+◌, ◌<◌, ◌≤◌, ◌==◌, ◌^◌, List, [], ◌∷◌, ◌++◌, Option, Some, None, length, map}
+use Rattle.std.proofs.Common.{◌≡◌, ℕ, zero, suc, ◌*◌, ◌+◌, ◌==◌, List, [], ◌∷◌, ◌++◌, Option, Some, None, length, map}
 use Rattle.std.proofs.Common.{refl, sym, ap, subst, ◌∙◌, arith, inl, inr}
 use Rattle.std.specs.Prelude.{slice_get}
 use Rattle.std.specs.List.{position_or_len}
@@ -16,14 +16,14 @@ use Rattle.bench_nodes.specs.declared.table.NodeTable.{NodeTable}
 use Rattle.bench_nodes.specs.declared.table.SlotKey.{SlotKey}
 use Rattle.bench_nodes.specs.declared.table.SlotKey.TheVariants as slots
 use Rattle.bench_nodes.specs.declared.table.TestRow.{TestRow}
-use Rattle.bench_nodes.specs.Nodes.{keys_at, slot_keys, thread_parts, space_parts, space_keys, row_parts, row_of, inputs_of}
+use Rattle.bench_nodes.specs.Nodes.{keys_at, slot_keys, thread_parts, row_parts, row_of, inputs_of}
 use Rattle.bench_texts.specs.BenchTexts.{test_index}
 use Rattle.bench_texts.specs.Held.{texts_of}
 use Rattle.edited_parts.specs.Owed.{AreApart}
 use Rattle.board.specs.declared.operation.BoardOp.{BoardOp}
 use Rattle.board.specs.Contents.{BoardContent}
 use Rattle.board.specs.Operations.{board_after}
-use Rattle.desk.specs.Boards.{HoldsAbove, IsListedWithin}
+use Rattle.desk.specs.Boards.{HoldsAbove}
 use Rattle.stamped_texts.specs.declared.texts.StampedTexts.{StampedTexts}
 use Rattle.stamped_texts.specs.Texts.{IsSound, net_of, verdict_of}
 use Rattle.stamped_texts.specs.CellProofs.{cell_in}

@@ -1,6 +1,7 @@
 -- What crosses to the threads of a running bench holds no thread's own: its texts, what its jobs are given, and its prepared edits.
 use denote.Param.Send.{IsSend, IsSync, sendable}
 use Rattle.std.proofs.Crossing.{crosses}
+use Rattle.source_text.proofs.name.Name.TheSendSync as name
 use Rattle.litmus_values.proofs.test.Proposition.TheLaws.TheKnot as proposition
 use Rattle.cat_values.proofs.model.Expression.TheLaws.TheKnot as expression
 use Rattle.node_values.proofs.items.SharedItem.TheSendSync as shared
@@ -25,16 +26,16 @@ use Rattle.cells.proofs.job.Done.TheSendSync as done
 use Rattle.desk.proofs.desk.Desk.TheSendSync as desk
 
 test_field_send : IsSend (Test.the_field).row
-test_field_send = search (proposition.crosses, crosses, sendable) depth 100 fits 20000
+test_field_send = search (name.the_send, proposition.crosses, crosses, sendable) depth 100 fits 20000
 
 pub test_send : IsSend Test.the_row
-test_send = search (proposition.crosses, crosses, sendable) depth 100 fits 20000
+test_send = search (name.the_send, proposition.crosses, crosses, sendable) depth 100 fits 20000
 
 test_field_sync : IsSync (Test.the_field).row
-test_field_sync = search (proposition.crosses, crosses, sendable) depth 100 fits 20000
+test_field_sync = search (name.the_sync, proposition.crosses, crosses, sendable) depth 100 fits 20000
 
 pub test_sync : IsSync Test.the_row
-test_sync = search (proposition.crosses, crosses, sendable) depth 100 fits 20000
+test_sync = search (name.the_sync, proposition.crosses, crosses, sendable) depth 100 fits 20000
 
 item_field_send : IsSend (Item.the_field).row
 item_field_send = search (expression.crosses, crosses, sendable) depth 100 fits 20000
@@ -49,82 +50,82 @@ pub item_sync : IsSync Item.the_row
 item_sync = search (expression.crosses, crosses, sendable) depth 100 fits 20000
 
 model_field_send : IsSend (NamedModel.the_field).row
-model_field_send = search (item_send, item_sync, item_field_send, item_field_sync, reading.the_send, reading.the_sync, reading.the_field_send, reading.the_field_sync, crosses, sendable) depth 100 fits 20000
+model_field_send = search (item_send, reading.the_field_send, crosses, sendable) depth 100 fits 20000
 
 pub model_send : IsSend NamedModel.the_row
-model_send = search (item_send, item_sync, item_field_send, item_field_sync, reading.the_send, reading.the_sync, reading.the_field_send, reading.the_field_sync, crosses, sendable) depth 100 fits 20000
+model_send = search (item_send, reading.the_field_send, crosses, sendable) depth 100 fits 20000
 
 model_field_sync : IsSync (NamedModel.the_field).row
-model_field_sync = search (item_send, item_sync, item_field_send, item_field_sync, reading.the_send, reading.the_sync, reading.the_field_send, reading.the_field_sync, crosses, sendable) depth 100 fits 20000
+model_field_sync = search (item_sync, reading.the_field_sync, crosses, sendable) depth 100 fits 20000
 
 pub model_sync : IsSync NamedModel.the_row
-model_sync = search (item_send, item_sync, item_field_send, item_field_sync, reading.the_send, reading.the_sync, reading.the_field_send, reading.the_field_sync, crosses, sendable) depth 100 fits 20000
+model_sync = search (item_sync, reading.the_field_sync, crosses, sendable) depth 100 fits 20000
 
 replacement_field_send : IsSend (Replacement.the_field).row
-replacement_field_send = search (test_send, test_sync, test_field_send, test_field_sync, model_send, model_sync, model_field_send, model_field_sync, crosses, sendable) depth 100 fits 20000
+replacement_field_send = search (test_field_send, model_field_send, crosses, sendable) depth 100 fits 20000
 
 pub replacement_send : IsSend Replacement.the_row
-replacement_send = search (test_send, test_sync, test_field_send, test_field_sync, model_send, model_sync, model_field_send, model_field_sync, crosses, sendable) depth 100 fits 20000
+replacement_send = search (test_field_send, model_field_send, crosses, sendable) depth 100 fits 20000
 
 replacement_field_sync : IsSync (Replacement.the_field).row
-replacement_field_sync = search (test_send, test_sync, test_field_send, test_field_sync, model_send, model_sync, model_field_send, model_field_sync, crosses, sendable) depth 100 fits 20000
+replacement_field_sync = search (test_field_sync, model_field_sync, crosses, sendable) depth 100 fits 20000
 
 pub replacement_sync : IsSync Replacement.the_row
-replacement_sync = search (test_send, test_sync, test_field_send, test_field_sync, model_send, model_sync, model_field_send, model_field_sync, crosses, sendable) depth 100 fits 20000
+replacement_sync = search (test_field_sync, model_field_sync, crosses, sendable) depth 100 fits 20000
 
 prepared_field_send : IsSend (Prepared.the_field).row
-prepared_field_send = search (replacement_send, replacement_sync, replacement_field_send, replacement_field_sync, crosses, sendable) depth 100 fits 20000
+prepared_field_send = search (replacement_field_send, crosses, sendable) depth 100 fits 20000
 
 pub prepared_send : IsSend Prepared.the_row
-prepared_send = search (replacement_send, replacement_sync, replacement_field_send, replacement_field_sync, crosses, sendable) depth 100 fits 20000
+prepared_send = search (replacement_field_send, crosses, sendable) depth 100 fits 20000
 
 prepared_field_sync : IsSync (Prepared.the_field).row
-prepared_field_sync = search (replacement_send, replacement_sync, replacement_field_send, replacement_field_sync, crosses, sendable) depth 100 fits 20000
+prepared_field_sync = search (replacement_field_sync, crosses, sendable) depth 100 fits 20000
 
 pub prepared_sync : IsSync Prepared.the_row
-prepared_sync = search (replacement_send, replacement_sync, replacement_field_send, replacement_field_sync, crosses, sendable) depth 100 fits 20000
+prepared_sync = search (replacement_field_sync, crosses, sendable) depth 100 fits 20000
 
 texts_field_send : IsSend (Texts.the_field).row
-texts_field_send = search (test_send, test_sync, test_field_send, test_field_sync, model_send, model_sync, model_field_send, model_field_sync, crosses, sendable) depth 100 fits 20000
+texts_field_send = search (test_send, model_send, crosses, sendable) depth 100 fits 20000
 
 pub texts_send : IsSend Texts.the_row
-texts_send = search (test_send, test_sync, test_field_send, test_field_sync, model_send, model_sync, model_field_send, model_field_sync, crosses, sendable) depth 100 fits 20000
+texts_send = search (test_send, model_send, crosses, sendable) depth 100 fits 20000
 
 texts_field_sync : IsSync (Texts.the_field).row
-texts_field_sync = search (test_send, test_sync, test_field_send, test_field_sync, model_send, model_sync, model_field_send, model_field_sync, crosses, sendable) depth 100 fits 20000
+texts_field_sync = search (test_sync, model_sync, crosses, sendable) depth 100 fits 20000
 
 pub texts_sync : IsSync Texts.the_row
-texts_sync = search (test_send, test_sync, test_field_send, test_field_sync, model_send, model_sync, model_field_send, model_field_sync, crosses, sendable) depth 100 fits 20000
+texts_sync = search (test_sync, model_sync, crosses, sendable) depth 100 fits 20000
 
 pub given_send : IsSend Given.the_row
-given_send = search (proposition.crosses, shared.the_send, shared.the_sync, shared.the_field_send, shared.the_field_sync, space.the_send, space.the_sync, space.the_field_send, space.the_field_sync, crosses, sendable) depth 100 fits 20000
+given_send = search (proposition.crosses, shared.the_field_send, shared.the_field_sync, space.the_field_send, space.the_field_sync, crosses, sendable) depth 100 fits 20000
 
 pub given_sync : IsSync Given.the_row
-given_sync = search (proposition.crosses, shared.the_send, shared.the_sync, shared.the_field_send, shared.the_field_sync, space.the_send, space.the_sync, space.the_field_send, space.the_field_sync, crosses, sendable) depth 100 fits 20000
+given_sync = search (proposition.crosses, shared.the_field_send, shared.the_field_sync, space.the_field_send, space.the_field_sync, crosses, sendable) depth 100 fits 20000
 
 pub edit_send : IsSend PreparedEdit.the_row
-edit_send = search (prepared_send, prepared_sync, prepared_field_send, prepared_field_sync, edited.the_send, edited.the_sync, edited.the_field_send, edited.the_field_sync, crosses, sendable) depth 100 fits 20000
+edit_send = search (prepared_field_send, edited.the_field_send, crosses, sendable) depth 100 fits 20000
 
 pub edit_sync : IsSync PreparedEdit.the_row
-edit_sync = search (prepared_send, prepared_sync, prepared_field_send, prepared_field_sync, edited.the_send, edited.the_sync, edited.the_field_send, edited.the_field_sync, crosses, sendable) depth 100 fits 20000
+edit_sync = search (prepared_field_sync, edited.the_field_sync, crosses, sendable) depth 100 fits 20000
 
 stamped_field_send : IsSend (StampedTexts.the_field).row
-stamped_field_send = search (texts_send, texts_sync, texts_field_send, texts_field_sync, parts.the_send, parts.the_sync, parts.the_field_send, parts.the_field_sync, crosses, sendable) depth 100 fits 20000
+stamped_field_send = search (texts_field_send, parts.the_field_send, crosses, sendable) depth 100 fits 20000
 
 pub stamped_send : IsSend StampedTexts.the_row
-stamped_send = search (texts_send, texts_sync, texts_field_send, texts_field_sync, parts.the_send, parts.the_sync, parts.the_field_send, parts.the_field_sync, crosses, sendable) depth 100 fits 20000
+stamped_send = search (texts_field_send, parts.the_field_send, crosses, sendable) depth 100 fits 20000
 
 stamped_field_sync : IsSync (StampedTexts.the_field).row
-stamped_field_sync = search (texts_send, texts_sync, texts_field_send, texts_field_sync, parts.the_send, parts.the_sync, parts.the_field_send, parts.the_field_sync, crosses, sendable) depth 100 fits 20000
+stamped_field_sync = search (texts_field_sync, parts.the_field_sync, crosses, sendable) depth 100 fits 20000
 
 pub stamped_sync : IsSync StampedTexts.the_row
-stamped_sync = search (texts_send, texts_sync, texts_field_send, texts_field_sync, parts.the_send, parts.the_sync, parts.the_field_send, parts.the_field_sync, crosses, sendable) depth 100 fits 20000
+stamped_sync = search (texts_field_sync, parts.the_field_sync, crosses, sendable) depth 100 fits 20000
 
 pub running_send : IsSend RunningTexts.the_row
-running_send = search (stamped_send, stamped_sync, stamped_field_send, stamped_field_sync, crosses, sendable) depth 100 fits 20000
+running_send = search (stamped_field_send, crosses, sendable) depth 100 fits 20000
 
 pub running_sync : IsSync RunningTexts.the_row
-running_sync = search (stamped_send, stamped_sync, stamped_field_send, stamped_field_sync, crosses, sendable) depth 100 fits 20000
+running_sync = search (stamped_field_sync, crosses, sendable) depth 100 fits 20000
 
 pub operation_send : IsSend BoardOp.the_row
 operation_send = search (crosses, sendable) depth 100 fits 20000

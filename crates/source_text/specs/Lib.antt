@@ -1,3 +1,4 @@
 pub mod Joined
 pub mod Layout
 pub mod Letters
+pub mod Names

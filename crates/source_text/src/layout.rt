@@ -1,6 +1,6 @@
 //! Blanks, lines, strings and comments.
 
-ghost use Rattle.std.specs.Prelude.{◌≡◌, ◌<◌, ◌≤◌, length, slice_index, IfSome};
+ghost use Rattle.std.specs.Prelude.{◌≡◌, ◌<◌, ◌≤◌, length, IfSome};
 ghost use Rattle.std.specs.List.{position_or_len};
 ghost use Rattle.source_text.specs.Layout.{is_blank, is_line_end, quoted_from, comment_from, comment_of};
 

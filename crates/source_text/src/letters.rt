@@ -1,6 +1,7 @@
 //! Bytes of a text: letters, digits, and the byte at an index.
 
 ghost use Rattle.std.specs.Prelude.{◌≡◌, ◌<◌, length, slice_index};
+ghost use Rattle.std.specs.Str.{bytes_eq};
 ghost use Rattle.source_text.specs.Letters.{is_letter, is_digit};
 
 /// Whether a byte is an ASCII letter.
@@ -23,4 +24,18 @@ pub fn byte_at(bytes: &[u8], index: usize) -> u8
     ensures within { 0 < result → index < length bytes.now }
 {
     if index < bytes.len() { bytes[index] } else { 0 }
+}
+
+/// Whether a text is this word. Lengths and first bytes are compared where it is called, as most words differ there.
+#[inline(always)]
+pub fn is_word(text: &[u8], word: &[u8]) -> bool
+    ensures { result ≡ bytes_eq text.now word.now }
+{
+    if text.len() != word.len() {
+        return false;
+    }
+    if byte_at(text, 0) != byte_at(word, 0) {
+        return false;
+    }
+    text == word
 }

@@ -9,7 +9,7 @@ mod name;
 mod put;
 
 pub use layout::{comment_length, is_blank, line_length, quoted_length};
-pub use letters::{byte_at, is_digit, is_letter};
+pub use letters::{byte_at, is_digit, is_letter, is_word};
 pub use name::Name;
 pub use put::{put_between, put_bytes, put_decimal};
 

@@ -3,18 +3,36 @@
 use std::alloc::{AllocError, Global};
 use std::marker::Model;
 
-/// A name, which contracts see as its bytes.
+// As many bytes are kept in place.
+const SHORT: usize = 14;
+
+// Where the bytes of a name are: in place as far as the length says, or in an allocation.
 #[derive(Drop)]
+enum Bytes {
+    Short(u8, [u8; SHORT]),
+    Long(Box<Vec<u8>>),
+}
+
+/// A name, which contracts see as its bytes. A short one takes no memory of its own.
 pub struct Name {
-    bytes: Vec<u8>,
+    bytes: Bytes,
+}
+
+impl Drop for Name {
+    fn drop(self) {
+        let Name { bytes: _ } = self;
+    }
 }
 
 impl Model for Name {
     ghost use Rattle.std.specs.Prelude.{List, ℕ};
+    ghost use Rattle.source_text.specs.Names.{bytes_of, IsSound};
 
     ghost Value = { List ℕ };
 
-    ghost view = { λ n. n.bytes.items };
+    ghost view = { λ n. bytes_of n.bytes };
+
+    ghost invariant = { λ n. IsSound n.bytes };
 }
 
 impl Name {
@@ -24,8 +42,16 @@ impl Name {
     pub fn new(alloc: Global, text: &[u8]) -> Result<Name, AllocError>
         ensures { IfOk result (λ n. n ≡ text.now) }
     {
+        if text.len() > SHORT {
+            let long = Box::new(alloc, Vec::from_slice(alloc, text)?)?;
+            return Ok(Name {
+                bytes: Bytes::Long(long),
+            });
+        }
+        let mut short = [0; SHORT];
+        short[..text.len()].copy_from_slice(text);
         Ok(Name {
-            bytes: Vec::from_slice(alloc, text)?,
+            bytes: Bytes::Short(text.len() as u8, short),
         })
     }
 
@@ -33,20 +59,28 @@ impl Name {
     pub fn as_bytes(&self) -> &[u8]
         ensures { result.now ≡ self.now }
     {
-        &self.bytes
+        match &self.bytes {
+            Bytes::Short(length, short) => &short[..usize::from(*length)],
+            Bytes::Long(long) => long.as_slice(),
+        }
     }
 
     /// A copy of the name. Errors: out of memory.
     pub fn copied(&self, alloc: Global) -> Result<Name, AllocError>
         ensures { IfOk result (λ n. n ≡ self.now) }
     {
-        Name::new(alloc, &self.bytes)
+        match &self.bytes {
+            Bytes::Short(length, short) => Ok(Name {
+                bytes: Bytes::Short(*length, *short),
+            }),
+            Bytes::Long(long) => Name::new(alloc, long.as_slice()),
+        }
     }
 
     /// Whether both names have the same bytes.
     pub fn is_same(&self, other: &Name) -> bool
         ensures { IsTrue result ↔ (self.now ≡ other.now) }
     {
-        self.bytes.as_slice() == other.bytes.as_slice()
+        self.as_bytes() == other.as_bytes()
     }
 }

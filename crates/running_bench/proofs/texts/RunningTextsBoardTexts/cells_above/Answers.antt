@@ -1,4 +1,4 @@
-use Rattle.std.proofs.Common.{◌≡◌, ◌==◌, ap, sym, subst, ◌∙◌}
+use Rattle.std.proofs.Common.{◌==◌, ap, sym, subst, ◌∙◌}
 use Rattle.std.specs.List.{position_or_len}
 use Rattle.bench_nodes.specs.declared.table.TestRow.{TestRow}
 use Rattle.board.specs.Contents.{BoardContent}

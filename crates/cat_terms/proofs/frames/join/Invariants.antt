@@ -2,11 +2,11 @@ use Rattle.std.proofs.Common.{◌≡◌, vec_len}
 use Rattle.cat_grammar.specs.Machine.{fold_to}
 use Rattle.cat_values.specs.Values.{term_of}
 use Rattle.cat_terms.specs.Reading.{stack_of}
-use Rattle.cat_terms.proofs.frames.joined.Given as goal
+use Rattle.cat_terms.proofs.frames.join.Given as goal
 
-abbrev pub invariant-loop-frame : goal.invariant-loop-frame
-invariant-loop-frame l =
+abbrev pub invariant-loop-alloc : goal.invariant-loop-alloc
+invariant-loop-alloc l =
     fold_to l.least (stack_of l.initial.frames.items) (term_of l.initial.operand) ≡ fold_to l.least (stack_of l.frames.items) (term_of l.operand)
 
-abbrev pub decreases-loop-frame : goal.decreases-loop-frame
-decreases-loop-frame l = vec_len l.frames
+abbrev pub decreases-loop-alloc : goal.decreases-loop-alloc
+decreases-loop-alloc l = vec_len l.frames

@@ -4,10 +4,10 @@ use Rattle.cat_grammar.specs.Machine.{fold_to, left_frames}
 use Rattle.cat_terms.specs.Reading.{stack_of}
 use Rattle.cat_values.specs.Values.{term_of}
 use Rattle.cat_terms.proofs.Stack.{stack_of-push}
-use Rattle.cat_terms.proofs.frames.infix_after.Goals as goal
+use Rattle.cat_terms.proofs.frames.open_infix.Goals as goal
 
 pub returns : goal.returns
 returns c =
     ap stack_of c.in_ok-push.ensures.items
-    ∙ stack_of-push c.joined.new.frames.items (Left c.args.op c.in_ok-left.left)
-    ∙ sym (ap (λ n. left_frames c.args.op (fold_to n (stack_of c.args.frames.items) (term_of c.args.left))) (sym c.left_level.ensures) ∙ ap (left_frames c.args.op) c.in_ok-left.ensures)
+    ∙ stack_of-push c.join.new.frames.items (Left c.args.op c.join.new.operand)
+    ∙ sym (ap (λ n. left_frames c.args.op (fold_to n (stack_of c.args.frames.now.items) (term_of c.args.left))) (sym c.left_level.ensures) ∙ ap (left_frames c.args.op) c.in_ok-join.ensures)
