@@ -1,16 +1,15 @@
 -- Bits of words, and sets of them.
-use Rattle.std.proofs.Common.{ℕ, zero, suc, ◌≡◌, ◌<◌, ◌≤◌, ◌^◌, ◌↔◌, ◌⊎◌, Bool, true, false, nat_eq, List, length, replicate, get_or, inl, inr, arith, refl, sym, subst, w64}
+use Rattle.std.proofs.Common.{ℕ, zero, suc, ◌≡◌, ◌<◌, ◌≤◌, ◌^◌, ◌↔◌, ◌⊎◌, Bool, true, false, nat_eq, List, replicate, get_or, inl, inr, arith, refl, sym, subst, w64}
 use Rattle.std.specs.Int.{bit_not}
 use Rattle.std.specs.Int.RustNames.{bit_and}
 use Rattle.std.proofs.lemmas.Bool.{cases_lt, cases_eq}
-use Rattle.std.proofs.lemmas.List.{get_or_past}
 use Rattle.bit_relations.specs.Relation.{Bit}
 use Rattle.bit_relations.specs.Pairs.{Union}
 use Rattle.bit_relations.specs.Rows.{RowsHave, AreWritten}
 use Rattle.bit_relations.proofs.Bits.{Bit-zero, Bit-and_not, Bit_cases, Bit-width, same_word}
 use Rattle.bit_relations.proofs.Writing.{zeros}
 use Rattle.run_combinations.proofs.Counting.{eq_true}
-use Rattle.run_combinations.specs.Keys.{TellsAll}
+use Rattle.run_combinations.specs.Keys.{InFirst, TellsAll}
 
 -- a word has a bit, or none of the first bits
 first_bits : (x n : ℕ) → ((b : ℕ) × Bit x b) ⊎ ((b : ℕ) → b < n → Bit x b → ⊥)
@@ -55,33 +54,24 @@ tells_all x y xs ys = left_bits x y (bit_and x (bit_not w64 y)) xs (λ b. Bit-an
 abbrev pub HasFirst : List ℕ → List ℕ → ℕ → Type 0
 HasFirst xs ys n = (a b : ℕ) → a < n → RowsHave xs a b → RowsHave ys a b
 
--- there is nothing behind the words
-none_past : (xs : List ℕ) (a b : ℕ) → length xs ≤ a → RowsHave xs a b → ⊥
-none_past xs a b past h = Bit-zero b (subst (λ (w : ℕ). Bit w b) (get_or_past {X = ℕ} xs a 0 past) h)
-
 pub no_bits : (n a b : ℕ) → RowsHave (replicate n 0) a b → ⊥
 no_bits n a b h = Bit-zero b (subst (λ (w : ℕ). Bit w b) (zeros n a) h)
 
-pub all_words : (xs ys : List ℕ) (n : ℕ) → length xs ≤ n → HasFirst xs ys n → (a b : ℕ) → RowsHave xs a b → RowsHave ys a b
-all_words xs ys n long before a b h =
-    elim (cases_lt a n) [
-      | inl lt ↦ before a b lt h
-      | inr ge ↦ absurd (none_past xs a b (past ge) h)
-    ]
-  where
-    past : n ≤ a → length xs ≤ a
-    past ge = omega (arith, long, ge)
+-- all words before the end
+pub all_words : (xs ys : List ℕ) (end n : ℕ) → end ≤ n → HasFirst xs ys n → (a b : ℕ) → InFirst end xs a b → RowsHave ys a b
+all_words xs ys end n far before a b h = before a b (omega (arith, far, h.0)) h.1
 
-pub all_joined : (old new others : List ℕ) (n : ℕ) → length old ≤ n → length others ≤ n → AreWritten old new n (Union (RowsHave old) (RowsHave others)) → (a b : ℕ) → RowsHave new a b ↔ (RowsHave old a b ⊎ RowsHave others a b)
-all_joined old new others n long longer written a b =
+pub all_joined : (old new others : List ℕ) (end n : ℕ) → end ≤ n → n ≤ end → AreWritten old new n (Union (RowsHave old) (RowsHave others)) → (a b : ℕ) → RowsHave new a b ↔ (RowsHave old a b ⊎ InFirst end others a b)
+all_joined old new others end n far near written a b =
     elim (cases_lt a n) [
-      | inl lt ↦ written.inside a lt b
+      | inl lt ↦
+          let inside : RowsHave new a b ↔ (RowsHave old a b ⊎ RowsHave others a b) = written.inside a lt b in (
+            (λ h. elim (inside.0 h) [ inl o ↦ inl o | inr o ↦ inr (omega (arith, lt, near), o) ]),
+            (λ h. elim h [ inl o ↦ inside.1 (inl o) | inr o ↦ inside.1 (inr o.1) ]),
+          )
       | inr ge ↦
           let same : get_or new a 0 ≡ get_or old a 0 = written.outside a ge in (
             (λ h. inl (subst (λ (w : ℕ). Bit w b) same h)),
-            (λ h. elim h [ inl o ↦ absurd (none_past old a b (past long ge) o) | inr o ↦ absurd (none_past others a b (past longer ge) o) ]),
+            (λ h. elim h [ inl o ↦ subst (λ (w : ℕ). Bit w b) (sym same) o | inr o ↦ absurd (omega (arith, o.0, ge, far)) ]),
           )
     ]
-  where
-    past : {m : ℕ} → m ≤ n → n ≤ a → m ≤ a
-    past few ge = omega (arith, few, ge)

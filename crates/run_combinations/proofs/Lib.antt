@@ -1,10 +1,12 @@
 pub mod Arising
 pub mod Counting
+pub mod Cutting
 pub mod Cycles
 pub mod Deriving
 pub mod Extending
 pub mod Filters
 pub mod Finding
+pub mod Fronts
 pub mod Gathering
 pub mod Judging
 pub mod Keying

@@ -1,11 +1,10 @@
 -- Laws of the orders of stores.
-use Rattle.std.proofs.Common.{Vec, ℕ, ◌≡◌, ◌+◌, List, [], ◌∷◌, ◌++◌, map, replicate, Bool, true, false, ◌||◌, nat_eq, refl, sym, subst, arith}
+use Rattle.std.proofs.Common.{ℕ, ◌≡◌, ◌+◌, List, [], ◌∷◌, ◌++◌, map, replicate, Bool, true, false, ◌||◌, nat_eq, refl, sym, subst, arith}
 use Rattle.std.specs.List.{flat_map}
-use Rattle.std.specs.declared.alloc.Global.{Global}
 use Rattle.std.proofs.lemmas.Bool.Decides.{nat_tests}
 use Rattle.std.proofs.lemmas.List.{replicate_more}
 use Rattle.std.proofs.lemmas.List.Folds.{list_any-append}
-use Rattle.run_combinations.specs.Lists.{lists_of, tuples, IsFiltered, none, kept, left}
+use Rattle.run_combinations.specs.Lists.{tuples, IsFiltered, none, kept, left}
 use Rattle.run_combinations.specs.Events.{has_store, AreDistinct}
 use Rattle.run_combinations.specs.Orders.{with_new}
 use Rattle.run_combinations.proofs.Filters.{IsFiltered-stages, none_of_map, tuples_more}
@@ -69,7 +68,3 @@ orders_more first others i fronts next before e =
     let All : List (List ℕ) → Type 0 = λ xs. IsFiltered AreDistinct xs next in
     let Choices : List (List ℕ) → Type 0 = λ cs. IsFiltered AreDistinct (tuples [] ((first ∷ []) ∷ cs)) next in
     subst Choices (replicate_more i others) (subst All (sym (tuples_more ((first ∷ []) ∷ replicate i others) others [])) (subst Next (sym e) stages))
-
--- the first index alone
-pub orders_one : (first : ℕ) (v : Vec ℕ Global) (vs : List (Vec ℕ Global)) → vs ≡ v ∷ [] → v.items ≡ first ∷ [] → IsFiltered AreDistinct (tuples [] ((first ∷ []) ∷ [])) (lists_of vs)
-orders_one first v vs e f = rw (e, f) (kept {x = first ∷ []} (refl, tt) none)

@@ -1,11 +1,9 @@
 -- Laws of stores and of their orders.
-use Rattle.std.proofs.Common.{Vec, ℕ, zero, suc, ◌≡◌, ◌<◌, ◌≤◌, ◌+◌, min, List, [], ◌∷◌, ◌++◌, filter, take, length, get_or, replicate, Bool, true, false, not, ◌&&◌, cond, refl, sym, ap, ◌∙◌, arith}
-use Rattle.std.specs.List.{flat_map}
-use Rattle.std.specs.declared.alloc.Global.{Global}
+use Rattle.std.proofs.Common.{ℕ, zero, suc, ◌≡◌, ◌<◌, ◌≤◌, ◌+◌, min, List, [], ◌∷◌, ◌++◌, filter, take, length, get_or, replicate, Bool, true, false, not, ◌&&◌, cond, refl, sym, ap, ◌∙◌, arith}
 use Rattle.std.proofs.lemmas.List.{take_more, length-take, append-nil}
-use Rattle.run_combinations.specs.Lists.{lists_of, tuples, IsFiltered, none, kept, left, joined_with}
+use Rattle.run_combinations.specs.Lists.{tuples, IsFiltered, none, kept, left}
 use Rattle.run_combinations.specs.Events.{has_store, AreDistinct, numbers}
-use Rattle.run_combinations.specs.Orders.{AreOrders, are_distinct, orders_of, is_thread_store, stores_of, all_orders}
+use Rattle.run_combinations.specs.Orders.{AreOrders, are_distinct, orders_of, is_thread_store, stores_of}
 use Rattle.run_combinations.specs.declared.combination.Event.{Event}
 
 -- the fact and the test
@@ -89,14 +87,3 @@ unfolding stores_of
 stores_are es {ys} location n end before is le ge =
     let m : n ≡ min (length es) 128 = omega arith in
     before ∙ ap (λ (k : ℕ). numbers (is_thread_store location) 0 (take k es)) m ∙ ap (λ (l : List Event). numbers (is_thread_store location) 0 l) (take_all es 128)
-
--- one location more
-pub one_location_more : {after : List (List ℕ)} {slice : List ℕ} (es : List Event) (n : ℕ) (fronts fronts' others others' : List (Vec ℕ Global)) → lists_of fronts ≡ all_orders es n → slice ≡ stores_of es n → AreOrders n slice (lists_of others) → fronts' ≡ fronts → others' ≡ others → after ≡ flat_map (joined_with (lists_of others')) (lists_of fronts') → after ≡ all_orders es (n + 1)
-one_location_more {after} {slice} es n fronts fronts' others others' h s o f g e =
-    let k : n + 1 ≡ suc n = omega arith in
-    e
-    ∙ ap (λ (l : List (Vec ℕ Global)). flat_map (joined_with (lists_of l)) (lists_of fronts')) g
-    ∙ ap (λ (l : List (Vec ℕ Global)). flat_map (joined_with (lists_of others)) (lists_of l)) f
-    ∙ ap (λ (l : List (List ℕ)). flat_map (joined_with (lists_of others)) l) h
-    ∙ ap (λ (l : List (List ℕ)). flat_map (joined_with l) (all_orders es n)) (orders_are n slice (lists_of others) o ∙ ap (λ (l : List ℕ). orders_of n l) s)
-    ∙ sym (ap (λ (m : ℕ). all_orders es m) k)

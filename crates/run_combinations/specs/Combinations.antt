@@ -1,5 +1,5 @@
 -- A combination of runs as plain data, and its candidates as a list.
-use Rattle.std.specs.Prelude.{Vec, ℕ, ◌≡◌, List, length, map}
+use Rattle.std.specs.Prelude.{ℕ, List, map}
 use Rattle.std.specs.List.{flat_map}
 use Rattle.dataflow.specs.DependencyLists.{DependencyLists, dependency_lists}
 use Rattle.run_combinations.specs.Lists.{lists_of}

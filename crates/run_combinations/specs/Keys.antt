@@ -1,5 +1,5 @@
 -- Sets of pairs of a location and a value, each of which has one bit.
-use Rattle.std.specs.Prelude.{ℕ, ◌≡◌, ◌+◌, ◌*◌, ◌/◌, ◌%◌, ◌⊎◌, ◌&&◌, if◌then◌else◌, nat_lt, Bool, true, false, List, [], ◌∷◌, Option, Some, None}
+use Rattle.std.specs.Prelude.{ℕ, ◌≡◌, ◌<◌, ◌+◌, ◌*◌, ◌/◌, ◌%◌, ◌⊎◌, ◌&&◌, if◌then◌else◌, nat_lt, Bool, true, false, List, [], ◌∷◌, Option, Some, None}
 use Rattle.std.specs.List.{position_or_len}
 use Rattle.bit_relations.specs.Rows.{RowsHave}
 use Rattle.thread_runs.specs.declared.value.Value.{Value}
@@ -15,6 +15,10 @@ use Rattle.run_combinations.specs.declared.search.Prefix.{Prefix}
 -- the set has the bit of a word
 abbrev pub HasKey : KeySet → ℕ → ℕ → Type 0
 HasKey s word bit = RowsHave s.words word bit
+
+-- the words before the end have the bit
+abbrev pub InFirst : ℕ → List ℕ → ℕ → ℕ → Type 0
+InFirst end rows word bit = (word < end) × RowsHave rows word bit
 
 -- the number of the pair of a location and a value, by the index of the value among these; none past 128 locations and
 -- 16 values

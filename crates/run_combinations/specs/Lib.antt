@@ -1,11 +1,13 @@
 pub mod Candidates
 pub mod Combinations
 pub mod Events
+pub mod Growing
 pub mod Keys
 pub mod Layouts
 pub mod Lists
 pub mod Orders
 pub mod Parts
+pub mod Prefixes
 pub mod Rounds
 pub mod Search
 pub mod Ways

@@ -6,6 +6,7 @@
 #![tactic(auto)]
 
 mod combination;
+mod key_words;
 mod keys;
 mod layout;
 mod orders;

@@ -1,14 +1,26 @@
 //! The orders of the stores of a combination of runs.
-ghost use Rattle.std.specs.Prelude.{◌≡◌, ◌-◌, ◌^◌, ◌++◌, length, map, min, IfOk, OnOk};
+ghost use Rattle.std.specs.Prelude.{◌≡◌, ◌≤◌, ◌-◌, ◌^◌, ◌++◌, length, drop, map, min, IfOk, OnOk};
 ghost use Rattle.std.specs.List.{flat_map};
-ghost use Rattle.run_combinations.specs.Lists.{lists_of, joined_with};
-ghost use Rattle.run_combinations.specs.Orders.{with_new, AreOrders, is_thread_store, stores_of, all_orders, AreApart};
+ghost use Rattle.run_combinations.specs.Events as event_lists;
+ghost use Rattle.run_combinations.specs.Growing.{store_lists, rows_from, orders_from};
+ghost use Rattle.run_combinations.specs.Growing as growing;
+ghost use Rattle.run_combinations.specs.Lists.{lists_of};
+ghost use Rattle.run_combinations.specs.Orders.{is_thread_store, stores_of, all_orders, AreApart};
 ghost use Rattle.run_combinations.specs.Orders as definitions;
 ghost use Rattle.run_combinations.specs.Combinations.{combination_lists, ordered};
 
 use crate::combination::{Action, Combination, Event};
 use bit_relations::MAX_EVENTS;
 use std::alloc::{AllocError, Global};
+
+/// The stores of a location, by their numbers.
+#[derive(Drop)]
+struct LocationStores {
+    /// The initial store, which comes first.
+    initial: u8,
+    /// Those by threads.
+    others: Vec<u8>,
+}
 
 /// Whether the event is a store of a thread to the location.
 fn is_store(event: &Event, location: usize) -> bool
@@ -36,85 +48,92 @@ fn stores_at(alloc: Global, events: &[Event], location: usize) -> Result<Vec<u8>
     Ok(stores)
 }
 
-/// The front with the rest behind it.
-pub fn joined(alloc: Global, front: &[u8], rest: &[u8]) -> Result<Vec<u8>, AllocError>
-    ensures { IfOk result (λ v. v.items ≡ front.now ++ rest.now) }
+/// The stores of each location, in the order of the locations.
+fn all_stores(
+    alloc: Global,
+    events: &[Event],
+    locations: usize,
+) -> Result<Vec<LocationStores>, AllocError>
+    ensures { IfOk result (λ v. store_lists v.items ≡ growing.all_stores events.now (min locations 128)) }
 {
-    let mut whole = Vec::with_capacity(alloc, front.len() + rest.len())?;
-    whole.extend_from_slice(front)?;
-    whole.extend_from_slice(rest)?;
-    Ok(whole)
+    let mut stores = Vec::with_capacity(alloc, locations.min(MAX_EVENTS))?;
+    for location in 0..locations.min(MAX_EVENTS) {
+        stores.push(LocationStores {
+            initial: location as u8,
+            others: stores_at(alloc, events, location)?,
+        })?;
+    }
+    Ok(stores)
 }
 
-/// Adds the front with each store that it lacks.
-fn add_each(
-    alloc: Global,
-    front: &[u8],
-    stores: &[u8],
-    longer: &mut Vec<Vec<u8>>,
-) -> Result<(), AllocError>
-    ensures { OnOk result (lists_of longer.new.items ≡ lists_of longer.old.items ++ with_new stores.now front.now) }
+/// Whether the front has the store at an index from `begin` on.
+fn has_store(front: &[u8], begin: usize, store: u8) -> bool
+    requires { begin ≤ length front.now }
+    ensures { result ≡ event_lists.has_store (drop begin front.now) store }
 {
-    for store in stores {
-        if !front.contains(store) {
-            longer.push(joined(alloc, front, &[*store])?)?;
+    for other in &front[begin..] {
+        if *other == store {
+            return true;
+        }
+    }
+    false
+}
+
+/// Adds the orders that begin with the front and go on with the stores of these locations.
+#[cycle(growing)]
+fn add_orders(
+    alloc: Global,
+    locations: &[LocationStores],
+    front: &mut Vec<u8>,
+    found: &mut Vec<Vec<u8>>,
+) -> Result<(), AllocError>
+    ensures front { OnOk result (front.new.items ≡ front.old.items) }
+    ensures found { OnOk result (lists_of found.new.items ≡ lists_of found.old.items ++ orders_from (store_lists locations.now) front.old.items) }
+{
+    match locations.split_first() {
+        None => {
+            found.push(Vec::from_slice(alloc, front)?)?;
+            Ok(())
+        }
+        Some((location, later)) => {
+            let begin = front.len();
+            front.push(location.initial)?;
+            let left = location.others.len();
+            add_rows(alloc, &location.others, later, left, begin, front, found)?;
+            front.pop();
+            Ok(())
+        }
+    }
+}
+
+/// Adds the orders that begin with the front, in which the stores of a location begin at an index and
+/// so many of its stores by threads are left out, and go on with these and the later locations.
+#[cycle(growing)]
+fn add_rows(
+    alloc: Global,
+    others: &[u8],
+    later: &[LocationStores],
+    left: usize,
+    begin: usize,
+    front: &mut Vec<u8>,
+    found: &mut Vec<Vec<u8>>,
+) -> Result<(), AllocError>
+    requires { begin ≤ length front.old.items }
+    ensures front { OnOk result (front.new.items ≡ front.old.items) }
+    ensures found { OnOk result (lists_of found.new.items ≡ lists_of found.old.items ++ flat_map (orders_from (store_lists later.now)) (rows_from others.now begin left front.old.items)) }
+{
+    if left == 0 {
+        add_orders(alloc, later, front, found)?;
+        return Ok(());
+    }
+    for store in others {
+        if !has_store(front, begin, *store) {
+            front.push(*store)?;
+            add_rows(alloc, others, later, left - 1, begin, front, found)?;
+            front.pop();
         }
     }
     Ok(())
-}
-
-/// Each front with each store that it lacks.
-fn with_each(alloc: Global, fronts: &[Vec<u8>], stores: &[u8]) -> Result<Vec<Vec<u8>>, AllocError>
-    ensures { IfOk result (λ v. lists_of v.items ≡ flat_map (with_new stores.now) (lists_of fronts.now)) }
-{
-    let mut longer = Vec::new(alloc);
-    for front in fronts {
-        add_each(alloc, front, stores, &mut longer)?;
-    }
-    Ok(longer)
-}
-
-/// The orders of the stores of one location, in lexicographic order: the first one, then the
-/// others in any order.
-fn orders_at(alloc: Global, first: u8, stores: &[u8]) -> Result<Vec<Vec<u8>>, AllocError>
-    ensures { IfOk result (λ v. AreOrders first stores.now (lists_of v.items)) }
-{
-    let mut fronts = Vec::new(alloc);
-    fronts.push(Vec::from_slice(alloc, &[first])?)?;
-    for _index in 0..stores.len() {
-        fronts = with_each(alloc, &fronts, stores)?;
-    }
-    Ok(fronts)
-}
-
-/// Adds the front with each of the others behind it.
-fn add_joined(
-    alloc: Global,
-    front: &[u8],
-    others: &[Vec<u8>],
-    longer: &mut Vec<Vec<u8>>,
-) -> Result<(), AllocError>
-    ensures { OnOk result (lists_of longer.new.items ≡ lists_of longer.old.items ++ joined_with (lists_of others.now) front.now) }
-{
-    for other in others {
-        longer.push(joined(alloc, front, other)?)?;
-    }
-    Ok(())
-}
-
-/// Each front with each of the others behind it.
-fn with_all(
-    alloc: Global,
-    fronts: &[Vec<u8>],
-    others: &[Vec<u8>],
-) -> Result<Vec<Vec<u8>>, AllocError>
-    ensures { IfOk result (λ v. lists_of v.items ≡ flat_map (joined_with (lists_of others.now)) (lists_of fronts.now)) }
-{
-    let mut longer = Vec::new(alloc);
-    for front in fronts {
-        add_joined(alloc, front, others, &mut longer)?;
-    }
-    Ok(longer)
 }
 
 /// The orders of all stores, in lexicographic order: those of each location after one another,
@@ -122,13 +141,10 @@ fn with_all(
 fn orders(alloc: Global, events: &[Event], locations: usize) -> Result<Vec<Vec<u8>>, AllocError>
     ensures { IfOk result (λ v. lists_of v.items ≡ all_orders events.now (min locations 128)) }
 {
+    let stores = all_stores(alloc, events, locations)?;
+    let mut front = Vec::with_capacity(alloc, events.len())?;
     let mut orders = Vec::new(alloc);
-    orders.push(Vec::new(alloc))?;
-    for location in 0..locations.min(MAX_EVENTS) {
-        let stores = stores_at(alloc, events, location)?;
-        let others = orders_at(alloc, location as u8, &stores)?;
-        orders = with_all(alloc, &orders, &others)?;
-    }
+    add_orders(alloc, &stores, &mut front, &mut orders)?;
     Ok(orders)
 }
 

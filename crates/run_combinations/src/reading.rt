@@ -1,6 +1,6 @@
 //! The ways in which the loads of a combination of runs read its stores.
 
-ghost use Rattle.std.specs.Prelude.{◌≡◌, ◌<◌, ◌≤◌, ◌↔◌, ◌⊎◌, length, Contains, IsTrue, IfOk, OnOk, MatchOption};
+ghost use Rattle.std.specs.Prelude.{◌≡◌, ◌<◌, ◌≤◌, ◌↔◌, ◌⊎◌, ◌++◌, length, Contains, IsTrue, IfOk, OnOk, MatchOption};
 ghost use Rattle.bit_relations.specs.Relation.{IsMember, IsEvents};
 ghost use Rattle.run_combinations.specs.Rounds.{IsInside, IsMeeting, CanRead, CanArise, WithStores, WithLoads, IsRound, HasDerived, TellsPossible, GainsNext, AreNext, AreOver, HasOver, HasWays, Shows, AreLoads, AreStores};
 ghost use Rattle.run_combinations.specs.Lists.{lists_of};
@@ -9,7 +9,6 @@ ghost use Rattle.run_combinations.specs.Ways.{may_read};
 ghost use Rattle.run_combinations.specs.Ways as ways;
 
 use crate::combination::{Action, Event};
-use crate::orders::joined;
 use bit_relations::{EventSet, MAX_EVENTS};
 use std::alloc::{AllocError, Global};
 use thread_runs::is_same;
@@ -214,6 +213,16 @@ fn stores_of(
         }
     }
     Ok(stores)
+}
+
+/// The front with the rest behind it.
+fn joined(alloc: Global, front: &[u8], rest: &[u8]) -> Result<Vec<u8>, AllocError>
+    ensures { IfOk result (λ v. v.items ≡ front.now ++ rest.now) }
+{
+    let mut whole = Vec::with_capacity(alloc, front.len() + rest.len())?;
+    whole.extend_from_slice(front)?;
+    whole.extend_from_slice(rest)?;
+    Ok(whole)
 }
 
 impl Reading {

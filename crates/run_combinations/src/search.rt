@@ -1,11 +1,12 @@
 //! The combinations of runs that have candidates.
-ghost use Rattle.std.specs.Prelude.{ℕ, ◌≡◌, ◌≤◌, ◌++◌, Option, map, min, length, IfOk, OnOk, MatchOption};
+ghost use Rattle.std.specs.Prelude.{ℕ, ◌≡◌, ◌≤◌, Option, min, length, IsTrue, IfOk, OnOk, MatchOption};
 ghost use Rattle.thread_runs.specs.declared.value.Value.{Value};
 ghost use Rattle.run_combinations.specs.Keys.{HasKey, HasWrites, AreKeys, ThreadsAreKeyed, IsKeyed, IsRead, IsStored, TellsWithin};
 ghost use Rattle.run_combinations.specs.Lists.{lists_of};
 ghost use Rattle.run_combinations.specs.Candidates.{AreSmall};
 ghost use Rattle.run_combinations.specs.Combinations.{combination_lists};
-ghost use Rattle.run_combinations.specs.Search.{runs_lists, combination_with_run, with_run, capped_tally_with, prefix_lists, tally, tally_with, Fits, Judged, IsTooMuch, Tells, combinations, AllFit, HasJoined, Searched, AreTooMuch, start, nothing, all_combinations, location_count};
+ghost use Rattle.run_combinations.specs.Prefixes.{cut_combination};
+ghost use Rattle.run_combinations.specs.Search.{runs_lists, combination_with_run, with_run, capped_tally_with, prefix_lists, tally, Fits, Judged, IsTooMuch, Tells, combinations, AllFit, HasJoined, Searched, AreTooMuch, start, nothing, all_combinations, location_count};
 
 use crate::MAX_CANDIDATES;
 use crate::combination::{Combination, Event};
@@ -99,26 +100,80 @@ fn add_run(made: &mut PrefixRuns, run: usize, part: &Part) -> Result<(), AllocEr
     Ok(())
 }
 
-/// The prefix with one run more.
-fn extended(alloc: Global, prefix: &Prefix, run: usize, part: &Part) -> Result<Prefix, AllocError>
-    ensures made { IfOk result (λ f. prefix_lists f ≡ with_run run part.now (prefix_lists prefix.now)) }
-    ensures keys { IfOk result (λ f. HasJoined prefix.now part.now f) }
+/// Where a prefix ends: how long its lists are, with its sets. It is cut back to this.
+#[derive(Clone, Copy)]
+struct PrefixEnd {
+    events: usize,
+    addr_pairs: usize,
+    data_pairs: usize,
+    ctrl_pairs: usize,
+    ctrlisync_pairs: usize,
+    runs: usize,
+    needs: usize,
+    reads: KeySet,
+    writes: KeySet,
+    is_faulted: bool,
+}
+
+/// Cuts events, dependencies and runs back to where they ended.
+fn cut_runs(made: &mut PrefixRuns, end: &PrefixEnd)
+    ensures { runs_lists made.new ≡ cut_combination end.now (runs_lists made.old) }
 {
-    let mut runs = copied(alloc, &prefix.runs)?;
-    let mut needs = Vec::from_slice(alloc, &prefix.needs)?;
-    add_pairs(&mut needs, &part.links.need_pairs, runs.events.len())?;
-    add_run(&mut runs, run, part)?;
-    let mut reads = prefix.reads;
-    reads.join(&part.reads);
-    let mut writes = prefix.writes;
-    writes.join(&part.writes);
-    Ok(Prefix {
-        runs,
-        needs,
-        reads,
-        writes,
-        is_faulted: prefix.is_faulted || part.is_faulted,
-    })
+    made.events.truncate(end.events);
+    let dependencies = &mut made.dependencies;
+    dependencies.addr_pairs.truncate(end.addr_pairs);
+    dependencies.data_pairs.truncate(end.data_pairs);
+    dependencies.ctrl_pairs.truncate(end.ctrl_pairs);
+    dependencies.ctrlisync_pairs.truncate(end.ctrlisync_pairs);
+    made.runs.truncate(end.runs);
+}
+
+impl Prefix {
+    ghost use Rattle.run_combinations.specs.Prefixes.{IsEndOf, cut_lists};
+
+    /// Where it ends.
+    fn end(&self) -> PrefixEnd
+        ensures { IsEndOf self.now result }
+    {
+        PrefixEnd {
+            events: self.runs.events.len(),
+            addr_pairs: self.runs.dependencies.addr_pairs.len(),
+            data_pairs: self.runs.dependencies.data_pairs.len(),
+            ctrl_pairs: self.runs.dependencies.ctrl_pairs.len(),
+            ctrlisync_pairs: self.runs.dependencies.ctrlisync_pairs.len(),
+            runs: self.runs.runs.len(),
+            needs: self.needs.len(),
+            reads: self.reads,
+            writes: self.writes,
+            is_faulted: self.is_faulted,
+        }
+    }
+
+    /// Adds the run at this index among those of the next thread.
+    fn push(&mut self, run: usize, part: &Part) -> Result<(), AllocError>
+        ensures lists { OnOk result (prefix_lists self.new ≡ with_run run part.now (prefix_lists self.old)) }
+        ensures keys { OnOk result (HasJoined self.old part.now self.new) }
+    {
+        let base = self.runs.events.len();
+        add_pairs(&mut self.needs, &part.links.need_pairs, base)?;
+        add_run(&mut self.runs, run, part)?;
+        self.reads.join(&part.reads);
+        self.writes.join(&part.writes);
+        self.is_faulted = self.is_faulted || part.is_faulted;
+        Ok(())
+    }
+
+    /// Cuts it back to where it ended.
+    fn cut(&mut self, end: &PrefixEnd)
+        ensures lists { prefix_lists self.new ≡ cut_lists end.now (prefix_lists self.old) }
+        ensures keys { (self.new.reads ≡ end.now.reads) × (self.new.writes ≡ end.now.writes) }
+    {
+        cut_runs(&mut self.runs, end);
+        self.needs.truncate(end.needs);
+        self.reads = end.reads;
+        self.writes = end.writes;
+        self.is_faulted = end.is_faulted;
+    }
 }
 
 /// The combination with these ways to read, without its orders.
@@ -141,19 +196,19 @@ impl Found {
     fn keep(
         &mut self,
         alloc: Global,
-        prefix: Prefix,
+        prefix: &Prefix,
         ways: Vec<Vec<u8>>,
         orders: usize,
     ) -> Result<(), AllocError>
-        requires { length prefix.runs.events.items ≤ 128 }
-        ensures { OnOk result (tally self.new ≡ capped_tally_with (prefix_lists prefix) (lists_of ways.items) orders (tally self.old)) }
+        requires { length prefix.now.runs.events.items ≤ 128 }
+        ensures { OnOk result (tally self.new ≡ capped_tally_with (prefix_lists prefix.now) (lists_of ways.items) orders (tally self.old)) }
     {
         if !ways.is_empty() {
             self.count = self.count.saturating_add(ways.len().saturating_mul(orders));
             self.is_faulted = self.is_faulted || prefix.is_faulted;
             if !self.is_faulted {
-                self.combinations
-                    .push(combination(alloc, prefix.runs, ways))?;
+                let runs = copied(alloc, &prefix.runs)?;
+                self.combinations.push(combination(alloc, runs, ways))?;
             }
         }
         Ok(())
@@ -161,9 +216,14 @@ impl Found {
 
     /// Counts the candidates of the runs, and keeps the combination if it has some; `false` where
     /// there are too many.
-    fn judge(&mut self, alloc: Global, locations: usize, prefix: Prefix) -> Result<bool, AllocError>
-        requires { length prefix.runs.events.items ≤ 128 }
-        ensures { Fits (min locations 128) (prefix_lists prefix) → self.old.count ≤ 16384 → IfOk result (λ b. Tells b (Judged (min locations 128) (prefix_lists prefix) (tally self.old) (tally self.new) × (self.new.count ≤ 16384)) (IsTooMuch (min locations 128) (prefix_lists prefix) (tally self.old))) }
+    fn judge(
+        &mut self,
+        alloc: Global,
+        locations: usize,
+        prefix: &Prefix,
+    ) -> Result<bool, AllocError>
+        requires { length prefix.now.runs.events.items ≤ 128 }
+        ensures { Fits (min locations 128) (prefix_lists prefix.now) → self.old.count ≤ 16384 → IfOk result (λ b. Tells b (Judged (min locations 128) (prefix_lists prefix.now) (tally self.old) (tally self.new) × (self.new.count ≤ 16384)) (IsTooMuch (min locations 128) (prefix_lists prefix.now) (tally self.old))) }
     {
         let orders = order_count(&prefix.runs.events, locations).max(1);
         let limit = MAX_CANDIDATES.saturating_sub(self.count) / orders;
@@ -177,17 +237,18 @@ impl Found {
     }
 }
 
-/// Adds the combinations that begin with the prefix and go on with a run of each of the threads;
-/// `false` where there are too many candidates.
+/// Adds the combinations that begin with the prefix and go on with a run of each of the threads, and
+/// leaves the prefix as it was; `false` where there are too many candidates.
 fn search_from(
     alloc: Global,
     locations: usize,
     threads: &[ThreadParts],
-    prefix: Prefix,
+    prefix: &mut Prefix,
     found: &mut Found,
 ) -> Result<bool, AllocError>
-    requires { AreSmall (combinations (prefix_lists prefix) threads.now) }
-    ensures { (key : ℕ → Value → Option (ℕ × ℕ)) → AreKeys key prefix.runs.events.items prefix.reads prefix.writes → ThreadsAreKeyed key threads.now → AllFit (min locations 128) (combinations (prefix_lists prefix) threads.now) → found.old.count ≤ 16384 → IfOk result (λ b. Tells b (Searched (min locations 128) (combinations (prefix_lists prefix) threads.now) (tally found.old) (tally found.new) × (found.new.count ≤ 16384)) (AreTooMuch (min locations 128) (combinations (prefix_lists prefix) threads.now) (tally found.old))) }
+    requires { AreSmall (combinations (prefix_lists prefix.old) threads.now) }
+    ensures found { (key : ℕ → Value → Option (ℕ × ℕ)) → AreKeys key prefix.old.runs.events.items prefix.old.reads prefix.old.writes → ThreadsAreKeyed key threads.now → AllFit (min locations 128) (combinations (prefix_lists prefix.old) threads.now) → found.old.count ≤ 16384 → IfOk result (λ b. Tells b (Searched (min locations 128) (combinations (prefix_lists prefix.old) threads.now) (tally found.old) (tally found.new) × (found.new.count ≤ 16384)) (AreTooMuch (min locations 128) (combinations (prefix_lists prefix.old) threads.now) (tally found.old))) }
+    ensures prefix { IfOk result (λ b. IsTrue b → prefix_lists prefix.new ≡ prefix_lists prefix.old) }
 {
     if threads.is_empty() {
         let is_few = found.judge(alloc, locations, prefix)?;
@@ -196,12 +257,14 @@ fn search_from(
     let thread = &threads[0];
     let others = &threads[1..];
     let later = writes_of(others);
+    let end = prefix.end();
     for (run, part) in thread.parts.iter().enumerate() {
-        if fits(&prefix, part, &later) {
-            let longer = extended(alloc, &prefix, run, part)?;
-            if !search_from(alloc, locations, others, longer, found)? {
+        if fits(prefix, part, &later) {
+            prefix.push(run, part)?;
+            if !search_from(alloc, locations, others, prefix, found)? {
                 return Ok(false);
             }
+            prefix.cut(&end);
         }
     }
     Ok(true)
@@ -231,14 +294,14 @@ pub fn find_combinations(alloc: Global, layout: &Layout) -> Result<Option<Found>
     requires { AreSmall (all_combinations layout.now) }
     ensures { (key : ℕ → Value → Option (ℕ × ℕ)) → IsKeyed key layout.now → AllFit (location_count layout.now) (all_combinations layout.now) → IfOk result (λ o. MatchOption o (AreTooMuch (location_count layout.now) (all_combinations layout.now) nothing) (λ f. Searched (location_count layout.now) (all_combinations layout.now) nothing (tally f) × (f.count ≤ 16384))) }
 {
-    let prefix = first_prefix(alloc, layout)?;
+    let mut prefix = first_prefix(alloc, layout)?;
     let mut found = Found {
         combinations: Vec::new(alloc),
         count: 0,
         is_faulted: false,
     };
     let locations = layout.initial.len();
-    if search_from(alloc, locations, &layout.threads, prefix, &mut found)? {
+    if search_from(alloc, locations, &layout.threads, &mut prefix, &mut found)? {
         Ok(Some(found))
     } else {
         Ok(None)

@@ -1,5 +1,5 @@
 //! All runs of a thread over a list of values.
-ghost use Rattle.std.specs.Prelude.{◌≡◌, ◌++◌, ◌<◌, ◌≤◌, IfOk, OnOk, map, take, [], length, vec_len};
+ghost use Rattle.std.specs.Prelude.{◌≡◌, ◌++◌, ◌<◌, ◌≤◌, IfOk, OnOk, map, [], vec_len};
 ghost use Rattle.std.specs.List.{AllPairs};
 ghost use Rattle.thread_runs.specs.Runs.{IsLess};
 ghost use Rattle.std.specs.List.{flat_map};

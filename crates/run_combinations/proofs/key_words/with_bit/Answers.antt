@@ -1,5 +1,5 @@
 use Rattle.bit_relations.proofs.Bits.{Bit-set}
-use Rattle.run_combinations.proofs.keys.with_bit.Goals as goal
+use Rattle.run_combinations.proofs.key_words.with_bit.Goals as goal
 
 pub returns : goal.returns
 returns c = λ b. Bit-set _ _ b c.requires

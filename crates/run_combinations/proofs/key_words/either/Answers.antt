@@ -1,5 +1,5 @@
 use Rattle.bit_relations.proofs.Bits.{Bit-or}
-use Rattle.run_combinations.proofs.keys.either.Goals as goal
+use Rattle.run_combinations.proofs.key_words.either.Goals as goal
 
 pub returns : goal.returns
 returns c = λ b. Bit-or _ _ b
