@@ -1,7 +1,7 @@
 -- One step of the loop that notes from which loads each event is behind a branch or an `isync`.
-use Rattle.std.proofs.Common.{ℕ, suc, ◌≡◌, ◌<◌, ◌+◌, ◌↔◌, inl, inr, Bool, true, false, List, refl, sym, ap, subst, ◌∙◌, arith, IsTrue, length, set, if◌then◌else◌, add-one, replicate}
+use Rattle.std.proofs.Common.{ℕ, suc, ◌≡◌, ◌<◌, ◌+◌, ◌↔◌, inl, inr, Bool, true, false, List, refl, sym, subst, ◌∙◌, arith, IsTrue, length, set, if◌then◌else◌, add-one}
 use Rattle.std.specs.Int.RustNames.{bit_or}
-use Rattle.std.proofs.lemmas.List.{length-set, length-replicate}
+use Rattle.std.proofs.lemmas.List.{length-set}
 use Rattle.std.proofs.lemmas.Bool.{false≢true, cases_eq}
 use Rattle.thread_runs.specs.declared.instruction.Instruction.{Instruction}
 use Rattle.thread_runs.specs.declared.instruction.Instruction.TheVariants.{Immediate, Move, AddImmediate, Operate, Load, LoadIndexed, Store, StoreIndexed, Compare, CompareImmediate, Branch, Jump, Barrier}
@@ -11,10 +11,11 @@ use Rattle.thread_runs.specs.Machine.{is_load, is_branch}
 use Rattle.dataflow.specs.Chains.{Executed, Place, IsOperand, event_place, is_event, is_plain, is_isync, LoadReaches, IsCtrl}
 use Rattle.bit_relations.specs.Relation.{Bit}
 use Rattle.bit_relations.proofs.Bits.{Bit-zero, Bit-or}
-use Rattle.dataflow.specs.Taints.{IsPlace, AreTaints, AreColumnsOf, IsWithinFile, passes_of, operand_word}
-use Rattle.dataflow.specs.Control.{branched_after, synchronised_after, steered, control_of, control_word}
-use Rattle.dataflow.proofs.TaintSteps.{operand_word-union, taints_first, with_word_long}
-use Rattle.dataflow.proofs.ReachLoop.{Found, union_found, taints_next, columns_first, columns_event, columns_other, place_event, place_other, load_place, no_word}
+use Rattle.dataflow.specs.Taints.{IsPlace, AreTaints, AreColumnsOf, IsWithinFile, IsWrittenBetween, passes_of, operand_word}
+use Rattle.dataflow.specs.Control.{branched_after, synchronised_after, steered, control_of, control_word, clean_control}
+use Rattle.dataflow.proofs.TaintSteps.{operand_word-union, taints_first}
+use Rattle.dataflow.proofs.Cleaning.{no_word, written_first, written_next}
+use Rattle.dataflow.proofs.ReachLoop.{Found, union_found, taints_next, columns_first, columns_event, columns_other, place_event, place_other, load_place}
 
 -- the load reaches the CR0 of a conditional branch before the place
 abbrev pub BehindBranch : Executed → ℕ → ℕ → Type 0
@@ -30,7 +31,7 @@ Has R f n word = (e : ℕ) → Bit word e ↔ Found R f n e
 
 pub record IsSteered (f : Executed) (n : ℕ) (c : Control) : Type 0 where
   pub taints : AreTaints (passes_of false) f n c.taints
-  pub height : length c.taints.registers ≡ 256
+  pub written : IsWrittenBetween f 0 n c.taints
   pub branched : Has BehindBranch f n c.branched
   pub synchronised : Has BehindIsync f n c.synchronised
 
@@ -102,18 +103,18 @@ synchronised_next f n branched word through old e = go (is_isync (f n)) refl
       ]),
     )
 
-pub steered_first : (f : Executed) (c : Control) → c.taints.registers ≡ replicate 256 0 → c.taints.compared ≡ 0 → c.branched ≡ 0 → c.synchronised ≡ 0 → IsSteered f 0 c
-steered_first f c zeros none branched synchronised = record {
-  taints = taints_first (passes_of false) f c.taints (no_word c.taints zeros none);
-  height = ap length zeros ∙ length-replicate {A = ℕ} 256 0;
-  branched = λ e. ((λ bit. absurd (Bit-zero e (subst (λ (w : ℕ). Bit w e) branched bit))), (λ x. let (i, index, y) = x in let (b, lt, br, z) = y in absurd (omega (arith, lt))));
-  synchronised = λ e. ((λ bit. absurd (Bit-zero e (subst (λ (w : ℕ). Bit w e) synchronised bit))), (λ x. let (i, index, y) = x in let (s, lt, sync, z) = y in absurd (omega (arith, lt))));
+steered_first : (f : Executed) → IsSteered f 0 clean_control
+steered_first f = record {
+  taints = taints_first (passes_of false) f clean_control.taints no_word;
+  written = written_first f;
+  branched = λ e. ((λ bit. absurd (Bit-zero e bit)), (λ x. let (i, index, y) = x in let (b, lt, br, z) = y in absurd (omega (arith, lt))));
+  synchronised = λ e. ((λ bit. absurd (Bit-zero e bit)), (λ x. let (i, index, y) = x in let (s, lt, sync, z) = y in absurd (omega (arith, lt))));
 }
 
 steered_next : (f : Executed) (n : ℕ) (c : Control) (index : ℕ) (i : Instruction) → i ≡ f n → IsWithinFile i → (is_load i ≡ true → index < 128) → index ≡ event_place f n → IsSteered f n c → IsSteered f (suc n) (steered i index c)
 steered_next f n c index i same inside fits here x = record {
-  taints = taints_next false f n c.taints index i same inside fits here x.height x.taints;
-  height = with_word_long i _ c.taints ∙ x.height;
+  taints = taints_next false f n c.taints index i same inside fits here x.written.height x.taints;
+  written = written_next f n i _ c.taints same x.written;
   branched = subst (λ (j : Instruction). Has BehindBranch f (suc n) (branched_after j c.taints c.branched)) (sym same)
       (branched_next f n c.taints c.branched (λ a operand. inside.operands a (subst (λ (j : Instruction). IsOperand j a) (sym same) operand)) x.taints x.branched);
   synchronised = subst (λ (j : Instruction). Has BehindIsync f (suc n) (synchronised_after j c.branched c.synchronised)) (sym same)
@@ -132,13 +133,13 @@ pub record IsControlled (synchronised : Bool) (f : Executed) (n : ℕ) (c : Cont
   pub here : index ≡ event_place f n
   pub columns : AreColumnsOf (control_of synchronised) f n words
 
-pub controlled_first : (synchronised : Bool) (f : Executed) (c : Control) (words : List ℕ) → IsSteered f 0 c → length words ≡ 128 → IsControlled synchronised f 0 c words 0
-controlled_first synchronised f c words x width = record {
-  steered = x;
+pub controlled_first : (synchronised : Bool) (f : Executed) (c : Control) (words : List ℕ) → c ≡ clean_control → length words ≡ 128 → IsControlled synchronised f 0 c words 0
+controlled_first synchronised f c words none width = subst (λ (d : Control). IsControlled synchronised f 0 d words 0) (sym none) (record {
+  steered = steered_first f;
   width = width;
   here = refl;
   columns = columns_first (control_of synchronised) f words;
-}
+})
 
 pub controlled_event : (synchronised : Bool) (f : Executed) (n : ℕ) (c : Control) (words : List ℕ) (index : ℕ) (i : Instruction) → i ≡ f n → is_event i ≡ true → event_place f n < 128 → IsWithinFile i
     → IsControlled synchronised f n c words index → IsControlled synchronised f (n + 1) (steered i index c) (set words index (control_word synchronised c)) (index + 1)

@@ -3,6 +3,7 @@ pub mod Walks
 pub mod Inversion
 pub mod DomainLaw
 pub mod TaintSteps
+pub mod Cleaning
 pub mod ReachLoop
 pub mod ControlLoop
 pub mod PairLists

@@ -1,6 +1,6 @@
 -- One step of the loop that notes what reaches each event.
-use Rattle.std.proofs.Common.{ℕ, zero, suc, ◌≡◌, ◌<◌, ◌≤◌, ◌+◌, ◌↔◌, inl, inr, Bool, true, false, List, [], ◌∷◌, refl, sym, ap, subst, ◌∙◌, arith, length, get_or, set, get_or-set_same, get_or-set_other, if◌then◌else◌, add-one, replicate}
-use Rattle.std.proofs.lemmas.List.{length-set, get_or-replicate, length-replicate}
+use Rattle.std.proofs.Common.{ℕ, zero, suc, ◌≡◌, ◌<◌, ◌≤◌, ◌+◌, ◌↔◌, inl, inr, Bool, true, false, List, [], ◌∷◌, refl, sym, ap, subst, ◌∙◌, arith, length, get_or, set, get_or-set_same, get_or-set_other, if◌then◌else◌, add-one}
+use Rattle.std.proofs.lemmas.List.{length-set}
 use Rattle.std.proofs.lemmas.Bool.{false≢true, cases_eq}
 use Rattle.thread_runs.specs.declared.instruction.Instruction.{Instruction}
 use Rattle.thread_runs.specs.declared.instruction.Instruction.TheVariants.{Immediate, Move, AddImmediate, Operate, Load, LoadIndexed, Store, StoreIndexed, Compare, CompareImmediate, Branch, Jump, Barrier}
@@ -8,10 +8,11 @@ use Rattle.thread_runs.specs.declared.instruction.RunStep.{RunStep}
 use Rattle.dataflow.specs.declared.taints.Taints.{Taints}
 use Rattle.thread_runs.specs.Machine.{is_load}
 use Rattle.thread_runs.specs.Runs.{executed, nothing}
-use Rattle.dataflow.specs.Chains.{Executed, Place, Register, Cr0, IsOperand, event_place, is_event, LoadReaches}
-use Rattle.dataflow.specs.Taints.{IsPlace, AreTaints, AreColumns, AreColumnsOf, IsUnion, IsWithinFile, IsStep, word_of, passes_of, reads_of, read_word, noted}
+use Rattle.dataflow.specs.Chains.{Executed, Place, IsOperand, event_place, is_event, LoadReaches}
+use Rattle.dataflow.specs.Taints.{IsPlace, AreTaints, AreColumns, AreColumnsOf, IsUnion, IsWithinFile, IsStep, IsWrittenBetween, clean_taints, passes_of, reads_of, read_word, noted}
 use Rattle.bit_relations.specs.Relation.{Bit}
-use Rattle.dataflow.proofs.TaintSteps.{read_word-union, noted-step, taints_more, taints_first, with_word_long}
+use Rattle.dataflow.proofs.TaintSteps.{read_word-union, noted-step, taints_more, taints_first}
+use Rattle.dataflow.proofs.Cleaning.{no_word, written_first, written_next}
 
 pub same_element : (xs : List RunStep) (k : ℕ) (d e : RunStep) → k < length xs → get_or xs k d ≡ get_or xs k e
 same_element [] k d e lt = absurd (omega arith)
@@ -116,29 +117,25 @@ taints_next narrow f n t index i same inside fits here height old =
 -- what holds in the loop
 pub record IsReached (narrow stored : Bool) (f : Executed) (n : ℕ) (t : Taints) (words : List ℕ) (index : ℕ) : Type 0 where
   pub taints : AreTaints (passes_of narrow) f n t
-  pub height : length t.registers ≡ 256
+  pub written : IsWrittenBetween f 0 n t
   pub width : length words ≡ 128
   pub here : index ≡ event_place f n
   pub columns : AreColumns narrow stored f n words
 
-pub no_word : (t : Taints) → t.registers ≡ replicate 256 0 → t.compared ≡ 0 → (p : Place) → IsPlace p → word_of t p ≡ 0
-no_word t zeros none (Register r) lt = ap (λ (xs : List ℕ). get_or xs r 0) zeros ∙ get_or-replicate 256 r 0 0 lt
-no_word t zeros none Cr0 lt = none
-
-pub reached_first : (narrow stored : Bool) (f : Executed) (t : Taints) (words : List ℕ) → t.registers ≡ replicate 256 0 → t.compared ≡ 0 → length words ≡ 128 → IsReached narrow stored f 0 t words 0
-reached_first narrow stored f t words zeros none width = record {
-  taints = taints_first (passes_of narrow) f t (no_word t zeros none);
-  height = ap length zeros ∙ length-replicate {A = ℕ} 256 0;
+pub reached_first : (narrow stored : Bool) (f : Executed) (t : Taints) (words : List ℕ) → t ≡ clean_taints → length words ≡ 128 → IsReached narrow stored f 0 t words 0
+reached_first narrow stored f t words none width = subst (λ (u : Taints). IsReached narrow stored f 0 u words 0) (sym none) (record {
+  taints = taints_first (passes_of narrow) f clean_taints no_word;
+  written = written_first f;
   width = width;
   here = refl;
   columns = columns_first (LoadReaches (passes_of narrow) (reads_of stored)) f words;
-}
+})
 
 pub reached_event : (narrow stored : Bool) (f : Executed) (n : ℕ) (t : Taints) (words : List ℕ) (index : ℕ) (i : Instruction) → i ≡ f n → is_event i ≡ true → event_place f n < 128 → IsWithinFile i
     → IsReached narrow stored f n t words index → IsReached narrow stored f (n + 1) (noted narrow i index t) (set words index (read_word stored i t)) (index + 1)
 reached_event narrow stored f n t words index i same event lt inside x = rw add-one (record {
-  taints = taints_next narrow f n t index i same inside (λ load. omega (arith, lt, x.here)) x.here x.height x.taints;
-  height = with_word_long i _ t ∙ x.height;
+  taints = taints_next narrow f n t index i same inside (λ load. omega (arith, lt, x.here)) x.here x.written.height x.taints;
+  written = written_next f n i _ t same x.written;
   width = length-set words index (read_word stored i t) ∙ x.width;
   here = omega (arith, x.here, place_event f n (subst (λ (j : Instruction). is_event j ≡ true) same event));
   columns =
@@ -152,8 +149,8 @@ reached_event narrow stored f n t words index i same event lt inside x = rw add-
 pub reached_other : (narrow stored : Bool) (f : Executed) (n : ℕ) (t : Taints) (words : List ℕ) (index : ℕ) (i : Instruction) → i ≡ f n → is_event i ≡ false → IsWithinFile i
     → IsReached narrow stored f n t words index → IsReached narrow stored f (n + 1) (noted narrow i index t) words index
 reached_other narrow stored f n t words index i same event inside x = rw add-one (record {
-  taints = taints_next narrow f n t index i same inside (load_place i index event) x.here x.height x.taints;
-  height = with_word_long i _ t ∙ x.height;
+  taints = taints_next narrow f n t index i same inside (load_place i index event) x.here x.written.height x.taints;
+  written = written_next f n i _ t same x.written;
   width = x.width;
   here = omega (arith, x.here, place_other f n (subst (λ (j : Instruction). is_event j ≡ false) same event));
   columns = columns_other (LoadReaches (passes_of narrow) (reads_of stored)) f n words (subst (λ (j : Instruction). is_event j ≡ false) same event) x.columns;

@@ -1,9 +1,9 @@
 -- What reaches a place, by one instruction more.
-use Rattle.std.proofs.Common.{ℕ, zero, suc, ◌≡◌, ◌<◌, ◌⊎◌, ◌↔◌, inl, inr, Bool, true, false, refl, sym, ap, subst, ◌∙◌, arith, IsTrue, max, length, get_or, set, get_or-set_same, get_or-set_other, if◌then◌else◌}
+use Rattle.std.proofs.Common.{ℕ, zero, suc, ◌≡◌, ◌<◌, ◌⊎◌, ◌↔◌, inl, inr, Bool, true, false, refl, sym, ap, subst, ◌∙◌, arith, IsTrue, length, get_or, set, get_or-set_same, get_or-set_other, if◌then◌else◌}
 use Rattle.std.specs.Int.{bit_at, w128}
 use Rattle.std.specs.Int.RustNames.{bit_or}
 use Rattle.std.proofs.lemmas.List.{length-set}
-use Rattle.std.proofs.lemmas.Nat.Bits.{bit_at_or, bit_at-zero, bit_at-lt, bit_at_set_same, bit_at_set_other}
+use Rattle.std.proofs.lemmas.Nat.Bits.{bit_at-zero, bit_at_set_same, bit_at_set_other}
 use Rattle.thread_runs.specs.declared.instruction.Instruction.{Instruction}
 use Rattle.thread_runs.specs.declared.instruction.Instruction.TheVariants.{Immediate, Move, AddImmediate, Operate, Load, LoadIndexed, Store, StoreIndexed, Compare, CompareImmediate, Branch, Jump, Barrier}
 use Rattle.std.proofs.lemmas.Bool.{false≢true, cases_eq}
@@ -165,7 +165,7 @@ compared_kept : (t : Taints) (w : ℕ) (p : Place) → (p ≡ Cr0 → ⊥) → w
 compared_kept t w (Register r) ne = refl
 compared_kept t w Cr0 ne = absurd (ne refl)
 
-with_word-written : (i : Instruction) (w : ℕ) (t : Taints) (p : Place) → length t.registers ≡ 256 → IsPlace p → IsWritten i p → word_of (with_word i w t) p ≡ w
+pub with_word-written : (i : Instruction) (w : ℕ) (t : Taints) (p : Place) → length t.registers ≡ 256 → IsPlace p → IsWritten i p → word_of (with_word i w t) p ≡ w
 with_word-written (Immediate d n) w t p long within e = register_word t d w p long within e
 with_word-written (Move d a) w t p long within e = register_word t d w p long within e
 with_word-written (AddImmediate d a n) w t p long within e = register_word t d w p long within e
@@ -180,7 +180,7 @@ with_word-written (Branch c l) w t p long within e = absurd e
 with_word-written (Jump l) w t p long within e = absurd e
 with_word-written (Barrier f) w t p long within e = absurd e
 
-with_word-kept : (i : Instruction) (w : ℕ) (t : Taints) (p : Place) → (IsWritten i p → ⊥) → word_of (with_word i w t) p ≡ word_of t p
+pub with_word-kept : (i : Instruction) (w : ℕ) (t : Taints) (p : Place) → (IsWritten i p → ⊥) → word_of (with_word i w t) p ≡ word_of t p
 with_word-kept (Immediate d n) w t p ne = register_kept t d w p ne
 with_word-kept (Move d a) w t p ne = register_kept t d w p ne
 with_word-kept (AddImmediate d a n) w t p ne = register_kept t d w p ne

@@ -3,7 +3,7 @@ use Rattle.std.specs.Prelude.{ℕ, bit_or, Bool, true, false, if◌then◌else�
 use Rattle.thread_runs.specs.declared.instruction.Instruction.{Instruction}
 use Rattle.thread_runs.specs.Machine.{is_branch}
 use Rattle.dataflow.specs.declared.taints.Taints.{Taints}
-use Rattle.dataflow.specs.Taints.{operand_word, noted}
+use Rattle.dataflow.specs.Taints.{operand_word, noted, clean_taints}
 use Rattle.dataflow.specs.declared.pass.Control.{Control}
 use Rattle.dataflow.specs.Chains.{Executed, IsCtrl, IsCtrlIsync, is_isync}
 
@@ -21,6 +21,10 @@ steered i index c = record {
   branched = branched_after i c.taints c.branched;
   synchronised = synchronised_after i c.branched c.synchronised;
 }
+
+-- before the first instruction
+abbrev pub clean_control : Control
+clean_control = record { taints = clean_taints; branched = 0; synchronised = 0 }
 
 abbrev pub control_of : Bool → Executed → ℕ → ℕ → Type 0
 control_of true = IsCtrlIsync

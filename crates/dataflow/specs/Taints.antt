@@ -1,5 +1,5 @@
 -- The loads that reach a place, as bits of a word.
-use Rattle.std.specs.Prelude.{ℕ, ◌≡◌, ◌⊎◌, ◌↔◌, ◌<◌, ◌*◌, ◌%◌, ◌^◌, if◌then◌else◌, slice_set, bit_or, Bool, true, false, List, IsTrue, slice_index}
+use Rattle.std.specs.Prelude.{ℕ, ◌≡◌, ◌⊎◌, ◌↔◌, ◌<◌, ◌≤◌, ◌*◌, ◌%◌, ◌^◌, if◌then◌else◌, slice_set, bit_or, Bool, true, false, List, IsTrue, slice_index, length, replicate}
 use Rattle.thread_runs.specs.declared.instruction.Instruction.{Instruction}
 use Rattle.thread_runs.specs.declared.instruction.Instruction.TheVariants.{Immediate, Move, AddImmediate, Operate, Load, LoadIndexed, Store, StoreIndexed, Compare, CompareImmediate, Branch}
 use Rattle.dataflow.specs.declared.taints.Taints.{Taints}
@@ -14,6 +14,10 @@ TaintOf passes at n p e = (i : ℕ) × IsTrue (is_load (at i)) × (event_place a
 abbrev pub word_of : Taints → Place → ℕ
 word_of t (Register r) = slice_index t.registers r
 word_of t Cr0 = t.compared
+
+-- no load reaches anything
+abbrev pub clean_taints : Taints
+clean_taints = record { registers = replicate 256 0; compared = 0 }
 
 -- the word has the bits of those places that the instruction reads so
 abbrev pub IsUnion : (Instruction → Place → Type 0) → Instruction → Taints → ℕ → Type 0
@@ -69,6 +73,11 @@ noted narrow i index t = with_word i (origin_word narrow i index t) t
 pub record IsStep (narrow : Bool) (i : Instruction) (index : ℕ) (old new : Taints) : Type 0 where
   pub written : (p : Place) → IsPlace p → IsWritten i p → (e : ℕ) → Bit (word_of new p) e ↔ IsOrigin narrow i index old e
   pub kept : (p : Place) → (IsWritten i p → ⊥) → word_of new p ≡ word_of old p
+
+-- a word that is not 0 is that of a place that some instruction writes, from the first index on, before the second
+pub record IsWrittenBetween (at : Executed) (from to : ℕ) (t : Taints) : Type 0 where
+  pub height : length t.registers ≡ 256
+  pub writers : (p : Place) → IsPlace p → (word_of t p ≡ 0) ⊎ ((j : ℕ) × (from ≤ j) × (j < to) × IsWritten (at j) p)
 
 -- the words are those of the loads that reach each place
 abbrev pub AreTaints : (Instruction → Bool) → Executed → ℕ → Taints → Type 0

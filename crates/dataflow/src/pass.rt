@@ -1,7 +1,7 @@
 //! The dependencies of a run.
-ghost use Rattle.std.specs.Prelude.{ℕ, ◌≡◌, ◌<◌, ◌≤◌, ◌↔◌, true, IfOk, IsTrue, All, length, replicate};
+ghost use Rattle.std.specs.Prelude.{ℕ, ◌≡◌, ◌<◌, ◌≤◌, ◌↔◌, true, IfOk, IsTrue, All, length};
 ghost use Rattle.dataflow.specs.Chains as chains;
-ghost use Rattle.dataflow.specs.Control as control;
+ghost use Rattle.dataflow.specs.Control as steering;
 ghost use Rattle.dataflow.specs.Dependencies as found;
 ghost use Rattle.thread_runs.specs.Machine as machine;
 ghost use Rattle.bit_relations.specs.Relation.{Bit};
@@ -10,13 +10,12 @@ ghost use Rattle.dataflow.specs.Within.{IsPairWithin, IsWithin};
 ghost use Rattle.thread_runs.specs.Runs as runs;
 
 use crate::lists::{Dependencies, Links};
-use crate::taints::{Taints, is_event, no_taints, note, operands, reach, registers_fit};
+use crate::taints::{
+    Columns, Taints, clean, is_event, no_taints, note, operands, reach, registers_fit,
+};
 use litmus_values::Fence;
 use std::alloc::{AllocError, Global};
 use thread_runs::{Instruction, Run, RunStep};
-
-/// For each event, the loads that reach it: bits, by their indexes among the events.
-type Columns = [u128; 128];
 
 /// How many of the steps are events.
 fn event_count(steps: &[RunStep]) -> usize
@@ -43,10 +42,7 @@ struct Control {
 
 impl Control {
     fn new() -> Control
-        ensures registers { result.taints.registers ≡ replicate 256 0 }
-        ensures compared { result.taints.compared ≡ 0 }
-        ensures branched { result.branched ≡ 0 }
-        ensures synchronised { result.synchronised ≡ 0 }
+        ensures { result ≡ steering.clean_control }
     {
         Control {
             taints: no_taints(),
@@ -57,7 +53,7 @@ impl Control {
 
     /// The loads that go before an event by control.
     fn word(&self, synchronised: bool) -> u128
-        ensures { result ≡ control.control_word synchronised self.now }
+        ensures { result ≡ steering.control_word synchronised self.now }
     {
         if synchronised {
             self.synchronised
@@ -69,7 +65,7 @@ impl Control {
     /// One instruction more, with its index among the events if it is one.
     fn note(&mut self, instruction: Instruction, index: u32)
         requires { machine.is_load instruction ≡ true → index < 128 }
-        ensures { self.new ≡ control.steered instruction index self.old }
+        ensures { self.new ≡ steering.steered instruction index self.old }
     {
         match instruction {
             Instruction::Branch(_, _) => {
@@ -85,13 +81,18 @@ impl Control {
 }
 
 /// For each event, the loads from which it is behind a conditional branch, or, where
-/// `synchronised`, behind an `isync` that is so.
-fn control_columns(steps: &[RunStep], synchronised: bool) -> Columns
-    requires { chains.event_place (runs.executed steps.now) (length steps.now) ≤ 128 }
-    ensures { taint.AreColumnsOf (control.control_of synchronised) (runs.executed steps.now) (length steps.now) result }
+/// `synchronised`, behind an `isync` that is so. What is in the columns past the events stays.
+fn control_columns(
+    control: &mut Control,
+    columns: &mut Columns,
+    steps: &[RunStep],
+    synchronised: bool,
+)
+    requires few { chains.event_place (runs.executed steps.now) (length steps.now) ≤ 128 }
+    requires clean { control.old ≡ steering.clean_control }
+    ensures columns { taint.AreColumnsOf (steering.control_of synchronised) (runs.executed steps.now) (length steps.now) columns.new }
+    ensures clean { control.new ≡ steering.clean_control }
 {
-    let mut control = Control::new();
-    let mut columns = [0; 128];
     let mut index = 0;
     for step in steps {
         let instruction = step.instruction;
@@ -104,7 +105,9 @@ fn control_columns(steps: &[RunStep], synchronised: bool) -> Columns
             control.note(instruction, index);
         }
     }
-    columns
+    clean(&mut control.taints, steps);
+    control.branched = 0;
+    control.synchronised = 0;
 }
 
 /// Whether the word has the bit of an index.
@@ -154,13 +157,25 @@ pub fn links(alloc: Global, run: &Run) -> Result<Links, AllocError>
     if count > 128 {
         return Ok(no_links(alloc));
     }
+    let mut control = Control::new();
+    let mut columns = [0; 128];
+    reach(&mut control.taints, &mut columns, steps, false, false);
+    let addr_pairs = pairs(alloc, &columns, count)?;
+    reach(&mut control.taints, &mut columns, steps, false, true);
+    let data_pairs = pairs(alloc, &columns, count)?;
+    control_columns(&mut control, &mut columns, steps, false);
+    let ctrl_pairs = pairs(alloc, &columns, count)?;
+    control_columns(&mut control, &mut columns, steps, true);
+    let ctrlisync_pairs = pairs(alloc, &columns, count)?;
+    reach(&mut control.taints, &mut columns, steps, true, true);
+    let need_pairs = pairs(alloc, &columns, count)?;
     Ok(Links {
         dependencies: Dependencies {
-            addr_pairs: pairs(alloc, &reach(steps, false, false), count)?,
-            data_pairs: pairs(alloc, &reach(steps, false, true), count)?,
-            ctrl_pairs: pairs(alloc, &control_columns(steps, false), count)?,
-            ctrlisync_pairs: pairs(alloc, &control_columns(steps, true), count)?,
+            addr_pairs,
+            data_pairs,
+            ctrl_pairs,
+            ctrlisync_pairs,
         },
-        need_pairs: pairs(alloc, &reach(steps, true, true), count)?,
+        need_pairs,
     })
 }

@@ -1,5 +1,5 @@
 //! How loads reach the events of a run, in one pass.
-ghost use Rattle.std.specs.Prelude.{◌≡◌, ◌<◌, ◌≤◌, true, length, replicate};
+ghost use Rattle.std.specs.Prelude.{◌≡◌, ◌<◌, ◌≤◌, true, length};
 ghost use Rattle.dataflow.specs.Chains as chains;
 ghost use Rattle.thread_runs.specs.Machine as machine;
 ghost use Rattle.thread_runs.specs.Runs as runs;
@@ -16,10 +16,12 @@ pub struct Taints {
     pub compared: u128,
 }
 
+/// For each event, the loads that reach it: bits, by their indexes among the events.
+pub type Columns = [u128; 128];
+
 /// No load reaches anything.
 pub fn no_taints() -> Taints
-    ensures registers { result.registers ≡ replicate 256 0 }
-    ensures compared { result.compared ≡ 0 }
+    ensures { result ≡ taint.clean_taints }
 {
     Taints {
         registers: [0; 256],
@@ -85,12 +87,10 @@ fn origin(taints: &Taints, instruction: Instruction, narrow: bool, index: u32) -
     }
 }
 
-/// Notes what the instruction writes.
-pub fn note(taints: &mut Taints, instruction: Instruction, narrow: bool, index: u32)
-    requires { machine.is_load instruction ≡ true → index < 128 }
-    ensures { taints.new ≡ taint.noted narrow instruction index taints.old }
+/// Sets the bits of what the instruction writes.
+fn write(taints: &mut Taints, instruction: Instruction, word: u128)
+    ensures { taints.new ≡ taint.with_word instruction word taints.old }
 {
-    let word = origin(taints, instruction, narrow, index);
     match instruction {
         Instruction::Immediate(d, _)
         | Instruction::Move(d, _)
@@ -100,6 +100,25 @@ pub fn note(taints: &mut Taints, instruction: Instruction, narrow: bool, index: 
         | Instruction::LoadIndexed(d, _, _) => taints.registers[usize::from(d)] = word,
         Instruction::Compare(_, _) | Instruction::CompareImmediate(_, _) => taints.compared = word,
         _ => {}
+    }
+}
+
+/// Notes what the instruction writes.
+pub fn note(taints: &mut Taints, instruction: Instruction, narrow: bool, index: u32)
+    requires { machine.is_load instruction ≡ true → index < 128 }
+    ensures { taints.new ≡ taint.noted narrow instruction index taints.old }
+{
+    let word = origin(taints, instruction, narrow, index);
+    write(taints, instruction, word);
+}
+
+/// Sets back all words, of which only those that one of the steps writes have bits.
+pub fn clean(taints: &mut Taints, steps: &[RunStep])
+    requires { taint.IsWrittenBetween (runs.executed steps.now) 0 (length steps.now) taints.old }
+    ensures { taints.new ≡ taint.clean_taints }
+{
+    for step in steps {
+        write(taints, step.instruction, 0);
     }
 }
 
@@ -160,24 +179,31 @@ pub fn registers_fit(instruction: Instruction)
     }
 }
 
-/// For each event of a run, the loads that reach its address, or what it stores.
-pub fn reach(steps: &[RunStep], narrow: bool, stored: bool) -> [u128; 128]
-    requires { chains.event_place (runs.executed steps.now) (length steps.now) ≤ 128 }
-    ensures { taint.AreColumns narrow stored (runs.executed steps.now) (length steps.now) result }
+/// For each event of a run, the loads that reach its address, or what it stores. What is in the
+/// columns past the events stays.
+pub fn reach(
+    taints: &mut Taints,
+    columns: &mut Columns,
+    steps: &[RunStep],
+    narrow: bool,
+    stored: bool,
+)
+    requires few { chains.event_place (runs.executed steps.now) (length steps.now) ≤ 128 }
+    requires clean { taints.old ≡ taint.clean_taints }
+    ensures columns { taint.AreColumns narrow stored (runs.executed steps.now) (length steps.now) columns.new }
+    ensures clean { taints.new ≡ taint.clean_taints }
 {
-    let mut taints = no_taints();
-    let mut columns = [0; 128];
     let mut index = 0;
     for step in steps {
         let instruction = step.instruction;
         registers_fit(instruction);
         if is_event(instruction) {
-            columns[index as usize] = reads(&taints, instruction, stored);
-            note(&mut taints, instruction, narrow, index);
+            columns[index as usize] = reads(taints, instruction, stored);
+            note(taints, instruction, narrow, index);
             index += 1;
         } else {
-            note(&mut taints, instruction, narrow, index);
+            note(taints, instruction, narrow, index);
         }
     }
-    columns
+    clean(taints, steps);
 }

@@ -3,29 +3,28 @@ use Rattle.thread_runs.specs.Runs.{executed}
 use Rattle.dataflow.specs.Taints.{IsWithinFile}
 use Rattle.dataflow.specs.Chains.{event_place}
 use Rattle.dataflow.proofs.ReachLoop.{instruction_at, below_128}
-use Rattle.dataflow.proofs.ControlLoop.{steered_first, controlled_first, controlled_event, controlled_other, controlled_as}
+use Rattle.dataflow.proofs.ControlLoop.{controlled_first, controlled_event, controlled_other, controlled_as}
 use Rattle.dataflow.proofs.pass.control_columns.Goals as goal
 use Rattle.dataflow.proofs.pass.control_columns.Goals.{then-is_event, else-is_event}
 
 pub loop-step-init : goal.loop-step-init
-loop-step-init c = controlled_first c.args.synchronised (executed c.args.steps.now) c.new-control.result _
-    (steered_first (executed c.args.steps.now) c.new-control.result c.new-control.ensures.registers c.new-control.ensures.compared c.new-control.ensures.branched c.new-control.ensures.synchronised) (search rules)
+loop-step-init c = controlled_first c.args.synchronised (executed c.args.steps.now) c.args.control.now _ c.requires.clean (search rules)
 
 pub bounds-columns-index : goal.bounds-columns-index
 bounds-columns-index c =
-    let lt = below_128 c.args.steps.now c.loop-step.step-index _ (instruction_at c.args.steps.now c.loop-step.step-index _ c.loop-step-test.true) (sym c.is_event.ensures ∙ c.if-is_event.true) c.loop-step-test.true c.requires in
+    let lt = below_128 c.args.steps.now c.loop-step.step-index _ (instruction_at c.args.steps.now c.loop-step.step-index _ c.loop-step-test.true) (sym c.is_event.ensures ∙ c.if-is_event.true) c.loop-step-test.true c.requires.few in
     let here : c.loop-step.index ≡ event_place (executed c.args.steps.now) c.loop-step.step-index = c.loop-step.invariant.here in
     omega (arith, lt, here)
 
 pub note-requires : goal.note-requires
 note-requires c =
-    let lt = below_128 c.args.steps.now c.loop-step.step-index _ (instruction_at c.args.steps.now c.loop-step.step-index _ c.loop-step-test.true) (sym c.is_event.ensures ∙ c.if-is_event.true) c.loop-step-test.true c.requires in
+    let lt = below_128 c.args.steps.now c.loop-step.step-index _ (instruction_at c.args.steps.now c.loop-step.step-index _ c.loop-step-test.true) (sym c.is_event.ensures ∙ c.if-is_event.true) c.loop-step-test.true c.requires.few in
     let here : c.loop-step.index ≡ event_place (executed c.args.steps.now) c.loop-step.step-index = c.loop-step.invariant.here in
     λ load. omega (arith, lt, here)
 
 pub overflow_add-index : goal.overflow_add-index
 overflow_add-index c =
-    let lt = below_128 c.args.steps.now c.loop-step.step-index _ (instruction_at c.args.steps.now c.loop-step.step-index _ c.loop-step-test.true) (sym c.is_event.ensures ∙ c.if-is_event.true) c.loop-step-test.true c.requires in
+    let lt = below_128 c.args.steps.now c.loop-step.step-index _ (instruction_at c.args.steps.now c.loop-step.step-index _ c.loop-step-test.true) (sym c.is_event.ensures ∙ c.if-is_event.true) c.loop-step-test.true c.requires.few in
     let here : c.loop-step.index ≡ event_place (executed c.args.steps.now) c.loop-step.step-index = c.loop-step.invariant.here in
     omega (arith, lt, here)
 
@@ -38,7 +37,7 @@ loop-step-preserved c =
           let event = sym c.is_event.ensures ∙ w.if-is_event.true in
           controlled_as _ _ _ _ _ _ _ _ _ (w.control-is ∙ w.note.ensures) (w.columns-is ∙ ap (λ (v : ℕ). set c.loop-step.columns c.loop-step.index v) w.word.ensures) w.index-is
           (controlled_event c.args.synchronised (executed c.args.steps.now) c.loop-step.step-index c.loop-step.control c.loop-step.columns c.loop-step.index _ same event
-          (below_128 c.args.steps.now c.loop-step.step-index _ same event c.loop-step-test.true c.requires) inside c.loop-step.invariant)
+          (below_128 c.args.steps.now c.loop-step.step-index _ same event c.loop-step-test.true c.requires.few) inside c.loop-step.invariant)
       | else-is_event w ↦
           controlled_as _ _ _ _ _ _ _ _ _ (w.control-is ∙ w.note-else-is_event.ensures) w.columns-is w.index-is
           (controlled_other c.args.synchronised (executed c.args.steps.now) c.loop-step.step-index c.loop-step.control c.loop-step.columns c.loop-step.index _ same (sym c.is_event.ensures ∙ w.if-is_event.false) inside c.loop-step.invariant)

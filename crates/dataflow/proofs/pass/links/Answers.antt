@@ -9,9 +9,9 @@ returns-then-count-gt128-clause-within c = c.no_links.ensures (event_place (exec
 
 pub returns-clause-exact : goal.returns-clause-exact
 returns-clause-exact c = λ few. record {
-  addr = list_of IsAddr _ _ _ _ _ _ (reach_loads is_plain false) c.deref.ensures.value c.deref-2.ensures.value c.event_count-count.ensures c.reach.ensures c.in_ok-pairs.ensures.exact;
-  «data» = list_of IsData _ _ _ _ _ _ (reach_loads is_plain true) c.deref.ensures.value c.deref-3.ensures.value c.event_count-count.ensures c.reach-2.ensures c.in_ok-pairs-2.ensures.exact;
-  ctrl = list_of IsCtrl _ _ _ _ _ _ ctrl_loads c.deref.ensures.value c.deref-4.ensures.value c.event_count-count.ensures c.control_columns.ensures c.in_ok-pairs-3.ensures.exact;
-  ctrlisync = list_of IsCtrlIsync _ _ _ _ _ _ ctrlisync_loads c.deref.ensures.value c.deref-5.ensures.value c.event_count-count.ensures c.control_columns-2.ensures c.in_ok-pairs-4.ensures.exact;
-  need = list_of IsNeed _ _ _ _ _ _ (reach_loads is_narrow true) c.deref.ensures.value c.deref-6.ensures.value c.event_count-count.ensures c.reach-3.ensures c.in_ok-pairs-5.ensures.exact;
+  addr = list_of IsAddr _ _ _ _ _ _ (reach_loads is_plain false) c.deref.ensures.value c.deref-2.ensures.value c.event_count-count.ensures c.reach.ensures.columns c.in_ok-addr_pairs.ensures.exact;
+  «data» = list_of IsData _ _ _ _ _ _ (reach_loads is_plain true) c.deref.ensures.value c.deref-3.ensures.value c.event_count-count.ensures c.reach-2.ensures.columns c.in_ok-data_pairs.ensures.exact;
+  ctrl = list_of IsCtrl _ _ _ _ _ _ ctrl_loads c.deref.ensures.value c.deref-4.ensures.value c.event_count-count.ensures c.control_columns.ensures.columns c.in_ok-ctrl_pairs.ensures.exact;
+  ctrlisync = list_of IsCtrlIsync _ _ _ _ _ _ ctrlisync_loads c.deref.ensures.value c.deref-5.ensures.value c.event_count-count.ensures c.control_columns-2.ensures.columns c.in_ok-ctrlisync_pairs.ensures.exact;
+  need = list_of IsNeed _ _ _ _ _ _ (reach_loads is_narrow true) c.deref.ensures.value c.deref-6.ensures.value c.event_count-count.ensures c.reach-3.ensures.columns c.in_ok-need_pairs.ensures.exact;
 }

@@ -7,23 +7,23 @@ use Rattle.dataflow.proofs.taints.reach.Goals as goal
 use Rattle.dataflow.proofs.taints.reach.Goals.{then-is_event, else-is_event}
 
 pub loop-step-init : goal.loop-step-init
-loop-step-init c = reached_first c.args.narrow c.args.stored (executed c.args.steps.now) c.no_taints-taints.result _ c.no_taints-taints.ensures.registers c.no_taints-taints.ensures.compared (search rules)
+loop-step-init c = reached_first c.args.narrow c.args.stored (executed c.args.steps.now) c.args.taints.now _ c.requires.clean (search rules)
 
 pub bounds-columns-index : goal.bounds-columns-index
 bounds-columns-index c =
-    let lt = below_128 c.args.steps.now c.loop-step.step-index _ (instruction_at c.args.steps.now c.loop-step.step-index _ c.loop-step-test.true) (sym c.is_event.ensures ∙ c.if-is_event.true) c.loop-step-test.true c.requires in
+    let lt = below_128 c.args.steps.now c.loop-step.step-index _ (instruction_at c.args.steps.now c.loop-step.step-index _ c.loop-step-test.true) (sym c.is_event.ensures ∙ c.if-is_event.true) c.loop-step-test.true c.requires.few in
     let here : c.loop-step.index ≡ event_place (executed c.args.steps.now) c.loop-step.step-index = c.loop-step.invariant.here in
     omega (arith, lt, here)
 
 pub note-requires : goal.note-requires
 note-requires c =
-    let lt = below_128 c.args.steps.now c.loop-step.step-index _ (instruction_at c.args.steps.now c.loop-step.step-index _ c.loop-step-test.true) (sym c.is_event.ensures ∙ c.if-is_event.true) c.loop-step-test.true c.requires in
+    let lt = below_128 c.args.steps.now c.loop-step.step-index _ (instruction_at c.args.steps.now c.loop-step.step-index _ c.loop-step-test.true) (sym c.is_event.ensures ∙ c.if-is_event.true) c.loop-step-test.true c.requires.few in
     let here : c.loop-step.index ≡ event_place (executed c.args.steps.now) c.loop-step.step-index = c.loop-step.invariant.here in
     λ load. omega (arith, lt, here)
 
 pub overflow_add-index : goal.overflow_add-index
 overflow_add-index c =
-    let lt = below_128 c.args.steps.now c.loop-step.step-index _ (instruction_at c.args.steps.now c.loop-step.step-index _ c.loop-step-test.true) (sym c.is_event.ensures ∙ c.if-is_event.true) c.loop-step-test.true c.requires in
+    let lt = below_128 c.args.steps.now c.loop-step.step-index _ (instruction_at c.args.steps.now c.loop-step.step-index _ c.loop-step-test.true) (sym c.is_event.ensures ∙ c.if-is_event.true) c.loop-step-test.true c.requires.few in
     let here : c.loop-step.index ≡ event_place (executed c.args.steps.now) c.loop-step.step-index = c.loop-step.invariant.here in
     omega (arith, lt, here)
 
@@ -36,7 +36,7 @@ loop-step-preserved c =
           let event = sym c.is_event.ensures ∙ w.if-is_event.true in
           reached_as _ _ _ _ _ _ _ _ _ _ (w.taints-is ∙ w.note.ensures) (w.columns-is ∙ ap (λ (v : ℕ). set c.loop-step.columns c.loop-step.index v) w.reads.ensures) w.index-is
           (reached_event c.args.narrow c.args.stored (executed c.args.steps.now) c.loop-step.step-index c.loop-step.taints c.loop-step.columns c.loop-step.index _ same event
-          (below_128 c.args.steps.now c.loop-step.step-index _ same event c.loop-step-test.true c.requires) inside c.loop-step.invariant)
+          (below_128 c.args.steps.now c.loop-step.step-index _ same event c.loop-step-test.true c.requires.few) inside c.loop-step.invariant)
       | else-is_event w ↦
           reached_as _ _ _ _ _ _ _ _ _ _ (w.taints-is ∙ w.note-else-is_event.ensures) w.columns-is w.index-is
           (reached_other c.args.narrow c.args.stored (executed c.args.steps.now) c.loop-step.step-index c.loop-step.taints c.loop-step.columns c.loop-step.index _ same (sym c.is_event.ensures ∙ w.if-is_event.false) inside c.loop-step.invariant)
