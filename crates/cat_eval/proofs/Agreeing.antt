@@ -1,7 +1,6 @@
 -- Where the names of an expression stand for the same events and pairs, the expression means the same.
-use Rattle.std.proofs.Common.{ℕ, ◌≡◌, ◌<◌, ◌||◌, List, [], ◌∷◌, length, get_or, Contains, zero, suc, inl, inr, Bool, true, false, IsTrue, arith, refl}
-use Rattle.std.specs.List.{list_any}
-use Rattle.std.proofs.lemmas.List.Elements.{Contains-append_left, Contains-append_right, Contains-append_cases}
+use Rattle.std.proofs.Common.{ℕ, ◌≡◌, ◌<◌, List, [], ◌∷◌, length, get_or, Contains, zero, suc, IsTrue, arith, refl}
+use Rattle.std.proofs.lemmas.List.Elements.{Contains-append_left, Contains-append_right}
 use Rattle.bit_relations.specs.Relation.{Relation}
 use Rattle.cat_values.specs.declared.predefined.Predefined.{Predefined}
 use Rattle.binding_graph.specs.declared.resolved.Body.{Body}
@@ -13,7 +12,7 @@ use Rattle.binding_graph.specs.Trees.{SetTree, SetName, AllEvents, NoEvent, SetB
 use Rattle.cat_eval.specs.Least.{IsLeast, body}
 use Rattle.cat_eval.specs.Meaning.{MeansSet, Means}
 use Rattle.cat_eval.specs.Named.{WithOwn, Of}
-use Rattle.cat_eval.specs.Needed.{source_names, step_names, names_in, bodies_names, source_passes, step_passes}
+use Rattle.cat_eval.specs.Needed.{source_names, step_names, names_in, bodies_names}
 use Rattle.cat_eval.specs.Rising.{AreCodes}
 use Rattle.cat_eval.proofs.Same.{Same, SameSet, same_sets, same_others, same_blend, same_then, same_cross, same_on, same_close, same_turn}
 

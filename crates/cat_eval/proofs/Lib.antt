@@ -1,8 +1,10 @@
 pub mod Agreeing
 pub mod Among
+pub mod Asked
 pub mod Blocks
 pub mod Codes
 pub mod Columns
+pub mod Deciding
 pub mod Entering
 pub mod Evaluated
 pub mod Exact
@@ -13,6 +15,7 @@ pub mod Filling
 pub mod Listed
 pub mod Looking
 pub mod Monotone
+pub mod Naming
 pub mod Slots
 pub mod Repeating
 pub mod Same

@@ -1,9 +1,7 @@
 -- Combinations that differ in values alone have the same predefined sets, and the same relations that do not depend on
 -- what the loads read or on the order of the stores.
-use Rattle.std.proofs.Common.{ℕ, ◌≡◌, ◌<◌, ◌∙◌, ◌&&◌, eqb, true, List, [], ◌∷◌, length, get_or, refl, sym, ap, subst}
-use lib.Pointwise.{pointwise}
+use Rattle.std.proofs.Common.{ℕ, ◌≡◌, ◌<◌, ◌∙◌, List, length, get_or, refl, sym, ap, subst}
 use Rattle.std.specs.Prelude.{slice_get, Some}
-use Rattle.std.proofs.lemmas.Bool.{false≢true, eqb-true, and_parts}
 use Rattle.std.proofs.lemmas.Option.{slice_get-get_or, get_or_from_slice_get}
 use Rattle.cat_values.specs.declared.predefined.Predefined.{Predefined}
 use Rattle.cat_values.specs.declared.predefined.Predefined.TheVariants as names

@@ -19,7 +19,7 @@ use Rattle.cat_eval.specs.Columns.{HasValue}
 use Rattle.cat_eval.specs.Least.{body}
 use Rattle.cat_eval.specs.Meaning.{MeansSet, Means}
 use Rattle.cat_eval.specs.Named.{ColumnEvents, ColumnPairs, InputEvents, InputPairs, EventsIn, PairsOutside, WithOwn, Of}
-use Rattle.cat_eval.specs.OverNames.{IsAnswerOver, AreAnswersOver, IsMeaningOver, HaveValuesOver, AreColumnsOver}
+use Rattle.cat_eval.specs.OverNames.{IsAnswerOver, IsMeaningOver, HaveValuesOver, AreColumnsOver}
 use Rattle.cat_eval.specs.Steady.{HasSame, AreSame, IsSteady, Repeats, EndsWith}
 use Rattle.cat_eval.specs.Values.{Adds, column_len}
 use Rattle.cat_eval.proofs.Agreeing.{Agree, OfSet, OfRelation, set_agrees, relation_agrees, least_agrees}
@@ -27,7 +27,7 @@ use Rattle.cat_eval.proofs.Columns.{get_last, adds_new, columns_more, least_of_n
 use Rattle.cat_eval.proofs.Exact.{unless_same}
 use Rattle.cat_eval.proofs.Growing.{codes_long}
 use Rattle.cat_eval.proofs.Same.{Same, SameSet, changed, changed_set}
-use Rattle.cat_eval.proofs.Visits.{holds_same, empty_same, answers_more}
+use Rattle.cat_eval.proofs.Visits.{holds_same, empty_same}
 
 column_events : (c : Column) (j k n : ℕ) → HasSame c j k → SameSet (ColumnEvents c j n) (ColumnEvents c k n)
 column_events (columns.Sets values) j k n same = λ a. rw same ((λ x. x), (λ x. x))
@@ -81,7 +81,7 @@ module _ (base : Known) (inputs : List (Bor Column)) (j k : ℕ) (same : AreSame
       (every_relation (Agree base.count (EventsIn base inputs j) (EventsIn base inputs k) (WithOwn (PairsOutside base inputs j) own) (WithOwn (PairsOutside base inputs k) own)) (agreed own) t)
 
   -- the answer is the same
-  answer_again : (check : CheckCode) (kind : Kind) (answer : Bool) → IsAnswerOver check inputs base j kind answer → IsAnswerOver check inputs base k kind answer
+  pub answer_again : (check : CheckCode) (kind : Kind) (answer : Bool) → IsAnswerOver check inputs base j kind answer → IsAnswerOver check inputs base k kind answer
   answer_again check kinds.OfSet answer h = λ t code. unless_same check.negated _ _ _ (empty_same _ _ (set_again t)) (h t code)
   answer_again check kinds.OfRelation answer h = λ t code. unless_same check.negated _ _ _ (holds_same check.word _ _ (relation_again (Of base.count []) t)) (h t code)
   answer_again check kinds.OfAny answer h = λ t code. unless_same check.negated _ _ _ (holds_same check.word _ _ (relation_again (Of base.count []) t)) (h t code)
@@ -118,26 +118,8 @@ value_there (columns.Sets values) k lt = let (s, at) = has_one values k lt in (s
 value_there (columns.Relations values) k lt = let (r, at) = has_one values k lt in (record { count = 0; word = 0 }, r, at)
 
 -- how many bases there are where they end with one
-ends_long : (bases : List Known) (base : Known) (ends : EndsWith bases base) → (length bases ≡ length ends.0 + 1) × (slice_get bases (length ends.0) ≡ Some base)
+pub ends_long : (bases : List Known) (base : Known) (ends : EndsWith bases base) → (length bases ≡ length ends.0 + 1) × (slice_get bases (length ends.0) ≡ Some base)
 ends_long bases base ends = (ap length ends.1 ∙ length-append ends.0 (base ∷ []), rw ends.1 (get_last ends.0 base))
-
--- one answer more, that of the last candidate
-pub answers_again : (check : CheckCode) (inputs : List (Bor Column)) (bases : List Known) (answers new : List Bool) (base : Known) (steady : ℕ) → EndsWith bases base → AreAnswersOver check inputs bases answers → IsSteady inputs (length answers) steady → length answers < steady
-    → ((before : List Bool) (answer : Bool) → answers ≡ before ++ answer ∷ [] → new ≡ answers ++ answer ∷ []) → AreAnswersOver check inputs (bases ++ base ∷ []) new
-answers_again check inputs bases answers new base steady ends before held lt more =
-    let (long, at_b) = ends_long bases base ends in
-    let (front, answer, is) = split answers (omega (arith, long, before.0)) in
-    let here : length front ≡ length ends.0 = omega (arith, ap length is, length-append front (answer ∷ []), long, before.0) in
-    let at_a : slice_get answers (length ends.0) ≡ Some answer = subst (λ (n : ℕ). slice_get answers n ≡ Some answer) here (ap (λ (xs : List Bool). slice_get xs (length front)) is ∙ get_last front answer) in
-    let same : AreSame inputs (length ends.0) (length answers) = subst (λ (n : ℕ). AreSame inputs n (length answers)) (omega (arith, long, before.0)) (held (length answers) (omega arith) lt) in
-    subst (λ (xs : List Bool). AreAnswersOver check inputs (bases ++ base ∷ []) xs) (sym (more front answer is)) (answers_more check inputs bases answers base answer before (answer_again base inputs (length ends.0) (length answers) same check check.code.kind answer (before.1 (length ends.0) base answer at_b at_a)))
-  where
-    split : (xs : List Bool) → 0 < length xs → (front : List Bool) × (x : Bool) × (xs ≡ front ++ x ∷ [])
-    split [] some = absurd (omega (arith, some))
-    split (x ∷ []) some = ([], x, refl)
-    split (x ∷ y ∷ ys) some =
-        let (front, z, is) = split (y ∷ ys) (omega arith) in
-        (x ∷ front, z, ap (λ (zs : List Bool). x ∷ zs) is)
 
 -- a group without names
 values_of_none : (inputs : List (Bor Column)) (base : Known) (j k : ℕ) (recursive : Bool) (bodies : List Body) (olds news : List Column) → length bodies ≡ 0 → HaveValuesOver recursive bodies inputs base j olds → HaveValuesOver recursive bodies inputs base k news

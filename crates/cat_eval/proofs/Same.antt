@@ -1,6 +1,6 @@
 -- Operations on sets that have the same members give sets that have the same members.
-use Rattle.std.proofs.Common.{ℕ, ◌↔◌, inl, inr, List, [], ◌∷◌}
-use Rattle.bit_relations.specs.Pairs.{Complement, Composed, Product, On, Path, Plus}
+use Rattle.std.proofs.Common.{ℕ, ◌↔◌, inl, inr}
+use Rattle.bit_relations.specs.Pairs.{Complement, Composed, Product, On}
 use Rattle.bit_relations.specs.Relation.{Relation, IsRelation, Events, IsEvents}
 use Rattle.cat_values.specs.declared.model.Postfix.{Postfix}
 use Rattle.cat_values.specs.declared.model.Postfix.TheVariants as postfix

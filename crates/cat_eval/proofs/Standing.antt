@@ -1,5 +1,5 @@
 -- What is held under a name is what the name stands for in the candidate.
-use Rattle.std.proofs.Common.{ℕ, ◌≡◌, ◌↔◌, ◌⊎◌, List, [], ◌∷◌, Contains, IsTrue, false, inl, inr, arith, refl}
+use Rattle.std.proofs.Common.{ℕ, ◌≡◌, List, [], ◌∷◌, Contains, IsTrue, false, inl, inr, arith, refl}
 use Rattle.std.proofs.lemmas.List.Elements.{Contains-append_right}
 use Rattle.bit_relations.specs.Relation.{Has}
 use Rattle.cat_values.specs.declared.predefined.Predefined.{Predefined}

@@ -1,5 +1,5 @@
 -- One candidate more.
-use Rattle.std.proofs.Common.{ℕ, ◌≡◌, ◌<◌, ◌+◌, ◌↔◌, ◌⊎◌, ◌∙◌, ◌++◌, inl, inr, zero, suc, sym, ap, subst, refl, arith, List, [], ◌∷◌, length, length-append, Bool, true, false, IsTrue}
+use Rattle.std.proofs.Common.{ℕ, ◌≡◌, ◌<◌, ◌+◌, ◌↔◌, ◌⊎◌, ◌∙◌, ◌++◌, inl, inr, zero, suc, sym, ap, refl, arith, List, [], ◌∷◌, length, length-append, Bool, true, false, IsTrue}
 use Rattle.std.specs.Prelude.{Some, slice_get, not}
 use mathlib.Core.Bool.{beq}
 use Rattle.std.proofs.lemmas.Bool.{false≢true}
@@ -103,8 +103,3 @@ no_answers check inputs = (refl, (λ k base answer at_b at_a. absurd (none k bas
   where
     none : (k : ℕ) (base : Known) → slice_get [] k ≡ Some base → ⊥
     none k base e = absurd (omega (arith, get_within [] base k e))
-
--- the same check and inputs, by another name
-pub answers_moved : (c d : Bor CheckCode) (xs ys : Bor (List (Bor Column))) → c ≡ d → xs ≡ ys → (bases : List Known) (answers : List Bool) → AreAnswersOver c.now xs.now bases answers → AreAnswersOver d.now ys.now bases answers
-answers_moved c d xs ys e f bases answers h =
-    subst (λ (x : Bor CheckCode). AreAnswersOver x.now ys.now bases answers) e (subst (λ (y : Bor (List (Bor Column))). AreAnswersOver c.now y.now bases answers) f h)

@@ -3,6 +3,7 @@ pub mod Candidates
 pub mod Checks
 pub mod Columns
 pub mod Executions
+pub mod Kept
 pub mod OverNames
 pub mod Least
 pub mod Meaning

@@ -1,5 +1,5 @@
 -- What the names of an item stand for in one candidate.
-use Rattle.std.specs.Prelude.{ℕ, ◌≡◌, Option, Some, None, List, slice_get}
+use Rattle.std.specs.Prelude.{ℕ, Option, Some, None, List, slice_get}
 use denote.Ref.{Bor}
 use Rattle.bit_relations.specs.Relation.{Relation}
 use Rattle.binding_graph.specs.declared.resolved.Source.{Source}

@@ -1,9 +1,10 @@
 //! Whether a check holds.
 
-ghost use Rattle.std.specs.Prelude.{◌≡◌, ℕ, ◌++◌, ◌∷◌, [], List, Bool, length, IfOk, OnOk};
-ghost use Rattle.cat_eval.specs.Seen.{Known};
-ghost use Rattle.cat_eval.specs.Values.{AnswersOf};
-ghost use Rattle.cat_eval.specs.OverNames.{AreAnswersOver};
+ghost use Rattle.std.specs.Prelude.{◌≡◌, ◌⊎◌, ◌&&◌, List, Bool, false, Some, None, length, unwrap_or, IsTrue, IfOk};
+ghost use Rattle.candidates.specs.Space.{candidates_in};
+ghost use Rattle.cat_eval.specs.Kept.{is_asked_at, AreWhere, KeptAnswersOf, AreAskedOver, IsLastAnswer};
+ghost use Rattle.cat_eval.specs.OverNames.{IsAnswerOver};
+ghost use Rattle.cat_eval.specs.Values.{AnswersOf, AreAnswers};
 ghost use Rattle.cat_eval.specs.Tables.{IsOver};
 ghost use Rattle.cat_eval.specs.Steady.{IsSteady};
 
@@ -24,36 +25,42 @@ use std::alloc::{AllocError, Global};
 struct CheckRun<'a> {
     check: &'a CheckCode,
     inputs: &'a [&'a Column],
+    /// Whether each candidate is kept. Without a list all are.
+    kept: Option<&'a [bool]>,
     answers: Vec<bool>,
+    /// The answer in the last candidate, where it is known.
+    known: Option<bool>,
     /// Up to where the candidates have the inputs of the last one.
     steady: usize,
 }
 
-/// Adds the last answer once more: to no answers nothing.
-fn push_last(answers: &mut Vec<bool>) -> Result<(), AllocError>
-    ensures { OnOk result ((before : List Bool) (answer : Bool) → answers.old.items ≡ before ++ answer ∷ [] → answers.new.items ≡ answers.old.items ++ answer ∷ []) }
+/// Whether the check is asked of a candidate: of those that are kept.
+fn is_asked_at(kept: Option<&[bool]>, candidate: usize) -> bool
+    ensures { result ≡ is_asked_at kept.entry candidate }
 {
-    match answers.last() {
-        Some(answer) => {
-            let answer = *answer;
-            answers.push(answer)?;
-        }
-        None => {}
+    match kept {
+        Some(kept) => kept.get(candidate).copied().unwrap_or(false),
+        None => true,
     }
-    Ok(())
 }
 
-impl Visit for CheckRun<'_> {
-    ghost has_taken = { λ first bases run. (run.check ≡ first.check) × (run.inputs ≡ first.inputs) × AreAnswersOver first.check.now first.inputs.now bases run.answers.items × IsSteady first.inputs.now (length run.answers.items) run.steady };
+/// Whether the check holds, where it is asked.
+fn is_held(asked: bool, known: Option<bool>) -> bool
+    ensures { result ≡ (asked && unwrap_or known false) }
+{
+    asked && known.unwrap_or(false)
+}
 
-    fn visit(&mut self, machine: &mut Machine, base: &Seen, again: bool) -> Result<(), AllocError> {
-        let candidate = self.answers.len();
-        let same = is_as_before(again, candidate, self.steady);
-        self.steady = steady_after(self.inputs, self.steady, candidate);
-        if same {
-            push_last(&mut self.answers)?;
-            return Ok(());
-        }
+impl CheckRun<'_> {
+    /// Whether the check holds in a candidate, evaluated.
+    fn evaluated(
+        &self,
+        machine: &mut Machine,
+        base: &Seen,
+        candidate: usize,
+    ) -> Result<bool, AllocError>
+        ensures { IfOk result (IsAnswerOver self.now.check.now self.now.inputs.now base.now candidate self.now.check.now.code.kind) }
+    {
         let names = Names {
             base,
             inputs: self.inputs,
@@ -62,7 +69,41 @@ impl Visit for CheckRun<'_> {
         };
         machine.run(&self.check.code.steps, &names)?;
         let met = machine.is_as_asked(self.check.code.kind, self.check.word, base.count());
-        self.answers.push(met != self.check.negated)?;
+        Ok(met != self.check.negated)
+    }
+
+    /// Whether the check holds in a candidate, where it is known, as in one that is asked or is the same as the last one.
+    fn known_in(
+        &self,
+        machine: &mut Machine,
+        base: &Seen,
+        candidate: usize,
+        same: bool,
+        asked: bool,
+    ) -> Result<Option<bool>, AllocError>
+        ensures asked { IsTrue asked → IfOk result (λ known. known ≡ None → ⊥) }
+        ensures right { IfOk result (λ known. (answer : Bool) → known ≡ Some answer → (IsTrue same × (self.now.known ≡ Some answer)) ⊎ IsAnswerOver self.now.check.now self.now.inputs.now base.now candidate self.now.check.now.code.kind answer) }
+    {
+        if same && self.known.is_some() {
+            return Ok(self.known);
+        }
+        if asked {
+            return Ok(Some(self.evaluated(machine, base, candidate)?));
+        }
+        Ok(None)
+    }
+}
+
+impl Visit for CheckRun<'_> {
+    ghost has_taken = { λ first bases run. (run.check ≡ first.check) × (run.inputs ≡ first.inputs) × (run.kept ≡ first.kept) × AreAskedOver first.check.now first.inputs.now first.kept bases run.answers.items × IsLastAnswer first.check.now first.inputs.now bases run.known × IsSteady first.inputs.now (length run.answers.items) run.steady };
+
+    fn visit(&mut self, machine: &mut Machine, base: &Seen, again: bool) -> Result<(), AllocError> {
+        let candidate = self.answers.len();
+        let same = is_as_before(again, candidate, self.steady);
+        let asked = is_asked_at(self.kept, candidate);
+        self.known = self.known_in(machine, base, candidate, same, asked)?;
+        self.steady = steady_after(self.inputs, self.steady, candidate);
+        self.answers.push(is_held(asked, self.known))?;
         Ok(())
     }
 }
@@ -95,20 +136,56 @@ impl Evaluator {
         ensures answers { IfOk result (λ v. AnswersOf item.now.role inputs.now space.now v.items) }
     {
         match &item.role {
-            Role::Check(check) => {
-                let needs = Needs::of(alloc, item)?;
-                self.table.need(alloc, &mut self.base, space, &needs.names)?;
-                let named = self.table.named(alloc, &needs.names)?;
-                let mut run = CheckRun {
-                    check,
-                    inputs,
-                    answers: Vec::new(alloc),
-                    steady: 0,
-                };
-                visit_all(&named, space, &mut self.machine, &mut run)?;
-                Ok(run.answers)
-            }
+            Role::Check(check) => self.ask(alloc, item, check, space, inputs, None),
             Role::Group { .. } | Role::Silent => Ok(Vec::new(alloc)),
         }
+    }
+
+    /// As `check`, in the candidates that are kept: of the others it says that the check does not hold.
+    pub fn check_kept(
+        &mut self,
+        alloc: Global,
+        item: &ResolvedItem,
+        space: &Space,
+        inputs: &[&Column],
+        kept: &[bool],
+    ) -> Result<Vec<bool>, AllocError>
+        requires { IsOver self.old space.now }
+        ensures over { IsOver self.new space.now }
+        ensures answers { IfOk result (λ v. KeptAnswersOf kept.now item.now.role inputs.now space.now v.items) }
+    {
+        match &item.role {
+            Role::Check(check) => self.ask(alloc, item, check, space, inputs, Some(kept)),
+            Role::Group { .. } | Role::Silent => Ok(Vec::new(alloc)),
+        }
+    }
+
+    /// Whether a check holds, where candidates are kept.
+    fn ask(
+        &mut self,
+        alloc: Global,
+        item: &ResolvedItem,
+        check: &CheckCode,
+        space: &Space,
+        inputs: &[&Column],
+        kept: Option<&[bool]>,
+    ) -> Result<Vec<bool>, AllocError>
+        requires { IsOver self.old space.now }
+        ensures over { IsOver self.new space.now }
+        ensures answers { item.now.role ≡ Role.Check check.now → IfOk result (λ v. (all : List Bool) × AreAnswers check.now inputs.now (candidates_in space.now.combinations.items) all × AreWhere (is_asked_at kept.entry) all v.items) }
+    {
+        let needs = Needs::of(alloc, item)?;
+        self.table.need(alloc, &mut self.base, space, &needs.names)?;
+        let named = self.table.named(alloc, &needs.names)?;
+        let mut run = CheckRun {
+            check,
+            inputs,
+            kept,
+            answers: Vec::new(alloc),
+            known: None,
+            steady: 0,
+        };
+        visit_all(&named, space, &mut self.machine, &mut run)?;
+        Ok(run.answers)
     }
 }

@@ -1,8 +1,7 @@
 //! The values of the names of a group.
 
-ghost use Rattle.std.specs.Prelude.{◌≡◌, ℕ, ◌<◌, ◌≤◌, List, [], true, false, length, slice_index_or, IfOk, OnOk};
-ghost use Rattle.cat_eval.specs.Seen.{Known};
-ghost use Rattle.bit_relations.specs.Relation.{Relation, Events, IsRelation, IsEvents, no_slot};
+ghost use Rattle.std.specs.Prelude.{◌≡◌, ℕ, ◌<◌, ◌≤◌, List, [], length, slice_index_or, IfOk, OnOk};
+ghost use Rattle.bit_relations.specs.Relation.{Relation, Events, no_slot};
 ghost use Rattle.binding_graph.specs.Trees.{RelTree};
 ghost use Rattle.cat_eval.specs.Candidates.{name_count};
 ghost use Rattle.cat_eval.specs.Columns.{ColumnsOf, HasOwn};

@@ -1,6 +1,6 @@
 //! Which names of a recursive group have to be computed anew.
 
-ghost use Rattle.std.specs.Prelude.{◌≡◌, ℕ, ◌<◌, min, ◌↔◌, ◌⊎◌, length, slice_get, IfSome, IsTrue, Any};
+ghost use Rattle.std.specs.Prelude.{◌≡◌, ℕ, ◌<◌, min, ◌↔◌, ◌⊎◌, slice_get, IfSome, IsTrue};
 ghost use Rattle.cat_eval.specs.Uses.{ShareBit, IsAmong, UsesOne, UsesAny, UsesNear, UsesIn};
 
 use binding_graph::{Body, Resolved, ResolvedItem, Role, Source, Step};

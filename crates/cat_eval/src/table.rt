@@ -1,7 +1,7 @@
 //! The predefined names over the candidates of a space.
 
 ghost use Rattle.std.specs.Prelude.{◌≡◌, ℕ, ◌<◌, ◌++◌, ◌∷◌, ◌⊎◌, [], List, length, slice_index_or, IfOk, OnOk, IsTrue, MatchOption, Contains, false};
-ghost use Rattle.base_env.specs.Known.{Known, IsConsistent};
+ghost use Rattle.base_env.specs.Known.{Known};
 ghost use Rattle.candidates.specs.declared.candidate.Space.{Space};
 ghost use Rattle.candidates.specs.Space.{candidates_in, Candidate};
 ghost use Rattle.cat_values.specs.PredefinedNames.{is_set};

@@ -1,6 +1,6 @@
 //! All candidates of a space, one after another, with what the predefined names of an item stand for.
 
-ghost use Rattle.std.specs.Prelude.{◌≡◌, ℕ, ◌≤◌, ◌*◌, ◌++◌, List, [], ◌∷◌, length, Some, IsTrue, OnOk};
+ghost use Rattle.std.specs.Prelude.{◌≡◌, ◌≤◌, ◌*◌, ◌++◌, List, [], ◌∷◌, length, Some, IsTrue, OnOk};
 ghost use Rattle.candidates.specs.Space.{candidates_in};
 ghost use Rattle.cat_eval.specs.Places.{IsAt};
 ghost use Rattle.cat_eval.specs.Seen.{Known, seen, seen_run, seen_in};

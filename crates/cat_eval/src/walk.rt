@@ -1,10 +1,9 @@
 //! The predefined names of all candidates of a space, one after another.
 
-ghost use Rattle.std.specs.Prelude.{◌≡◌, ℕ, ◌++◌, List, [], ◌∷◌, length, IsTrue, IfOk, IfSome, OnOk, MatchOption};
+ghost use Rattle.std.specs.Prelude.{◌≡◌, ℕ, ◌++◌, List, [], ◌∷◌, IsTrue, IfOk, IfSome, OnOk};
 ghost use Rattle.candidates.specs.Space.{candidates_in};
 ghost use Rattle.base_env.specs.Known.{Known, IsConsistent};
 ghost use Rattle.base_env.specs.Candidate.{IsEntered, IsReading, IsOrdered};
-ghost use Rattle.cat_eval.specs.Alike.{AreAlike};
 ghost use Rattle.cat_eval.specs.Candidates.{reading_so, reading_in};
 ghost use Rattle.cat_eval.specs.Steady.{EndsWith};
 ghost use Rattle.cat_eval.specs.Worlds.{AreHeld, IsReady, AreWorlds};

@@ -1,5 +1,5 @@
 -- From what is said over some space to the outcome of a test.
-use Rattle.std.proofs.Common.{◌≡◌, Bool, List, [], Vec, Global, Bor, map, reverse, Result, Ok, Err, IfOk, sym, ap, ◌∙◌, subst}
+use Rattle.std.proofs.Common.{◌≡◌, Bool, List, Vec, Global, reverse, Result, Ok, Err, IfOk, sym, ap, ◌∙◌, subst}
 use Rattle.std.specs.declared.alloc.AllocError.{AllocError}
 use Rattle.std.proofs.lemmas.Result.{IfOk-weaker}
 use Rattle.cat_values.specs.declared.predefined.TheConstants.{PREDEFINED}
@@ -24,10 +24,10 @@ use Rattle.verdict.specs.Kept.{Flag, of_raised}
 use Rattle.memo_graph.specs.declared.cell.ItemAnswers.{ItemAnswers}
 use Rattle.memo_graph.specs.declared.cell.FlagAnswer.{FlagAnswer}
 use Rattle.memo_graph.specs.Answers.{AreSaid, AreSound}
-use Rattle.memo_graph.specs.Known.{checks_of, of_flags, flags_of}
+use Rattle.memo_graph.specs.Known.{kept_of, of_flags, flags_of, AreKeptIn, AreJudged}
 use Rattle.cat_values.specs.declared.model.ModelText.{ModelText}
 use Rattle.memo_graph.specs.FromScratch.{outermost, clauses_of, IsFaultOf, IsFaultless, AreItemsOf, IsEvaluationOf, IsResultOf, IsFromScratch}
-use Rattle.memo_graph.specs.Cell.{IsSaid, IsEvaluationFrom, IsOutcomeFrom, IsResult, IsCell, IsEvaluationBy, IsEvaluationOver, OfModel}
+use Rattle.memo_graph.specs.Cell.{IsSaid, IsEvaluationFrom, IsResult, IsCell, IsEvaluationBy, IsEvaluationOver, OfModel}
 use Rattle.memo_graph.proofs.Ordered.{resolved_ordered}
 use Rattle.memo_graph.proofs.Rising.{resolved_rising}
 
@@ -56,13 +56,13 @@ by_result items test space checks flags (Refused _) s h = absurd h
 by_result items test space checks flags (Evaluated e) s h = (checks, flags, s, h)
 
 -- from the answers of the model's checks and flags, as they were found and as they are given on
-pub outcome_said : (items : List ResolvedItem) (test : Test) (space : Space) (answers : ItemAnswers) (observed : List Place) (vectors : List (Vec Bool Global)) (found lent : List (Bor (List Bool))) (given : List FlagAnswer) (raised : Vec Raised Global) (flags : List Raised) (r : Result Outcome AllocError) → observed ≡ test.observed.items → vectors ≡ answers.checks.items → map (λ c. c.now) found ≡ map (λ v. v.items) vectors → lent ≡ found → given ≡ answers.flags.items → of_raised raised.items ≡ of_flags given → flags ≡ raised.items
-    → AreSaid space (reverse items) (checks_of answers) (flags_of answers) → IfOk r (λ o. IsOutcome space.locations.items (shown_in space) test.condition.quantifier (formula_of test.condition.proposition) observed (map (λ c. c.now) lent) (of_raised flags) o) → IfOk r (λ o. IsEvaluatedAs (IsEvaluationBy items space test) o.result)
-outcome_said items test space answers observed vectors found lent given raised flags (Ok o) said_is same are lends from gives on said h =
+pub outcome_said : (items : List ResolvedItem) (test : Test) (space : Space) (answers : ItemAnswers) (observed : List Place) (keep : List Bool) (given : List FlagAnswer) (raised : Vec Raised Global) (flags : List Raised) (r : Result Outcome AllocError) → observed ≡ test.observed.items → keep ≡ kept_of answers → given ≡ answers.flags.items → of_raised raised.items ≡ of_flags given → flags ≡ raised.items
+    → AreJudged space (reverse items) (kept_of answers) (flags_of answers) → ((checks : List (List Bool)) → AreKeptIn space checks keep → IfOk r (λ o. IsOutcome space.locations.items (shown_in space) test.condition.quantifier (formula_of test.condition.proposition) observed checks (of_raised flags) o)) → IfOk r (λ o. IsEvaluatedAs (IsEvaluationBy items space test) o.result)
+outcome_said items test space answers observed keep given raised flags (Ok o) said_is same from gives on (checks, said, keeps) f =
     let names : of_raised flags ≡ flags_of answers = ap of_raised on ∙ gives ∙ ap of_flags from in
-    let checks : map (λ c. c.now) lent ≡ checks_of answers = ap (λ (l : List (Bor (List Bool))). map (λ c. c.now) l) lends ∙ are ∙ ap (λ (l : List (Vec Bool Global)). map (λ v. v.items) l) same in
-    by_result items test space (map (λ c. c.now) lent) (of_raised flags) o.result (rw (checks, names) said) (rw said_is at h.result)
-outcome_said items test space answers observed vectors found lent given raised flags (Err e) said_is same are lends from gives on said h = tt
+    let h = f checks (subst (λ (kept : List Bool). AreKeptIn space checks kept) (sym same) keeps) in
+    by_result items test space checks (of_raised flags) o.result (rw names said) (rw said_is at h.result)
+outcome_said items test space answers observed keep given raised flags (Err e) said_is same from gives on judged f = tt
 
 pub said_from : (test : Test) (space : Space) (observed : List Place) (checks : List (List Bool)) (flags : List Flag) (r : Result Outcome AllocError) → observed ≡ test.observed.items → IfOk r (λ o. IsOutcome space.locations.items (shown_in space) test.condition.quantifier (formula_of test.condition.proposition) observed checks flags o) → IfOk r (IsSaid space test)
 said_from test space observed checks flags (Ok o) said_is h = (checks, flags, rw said_is at h)

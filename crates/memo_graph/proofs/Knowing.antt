@@ -1,9 +1,9 @@
 -- On the way through the items of a model.
-use Rattle.std.proofs.Common.{ℕ, ◌≡◌, ◌+◌, ◌<◌, ◌≤◌, ◌⊎◌, inl, inr, zero, suc, List, [], ◌∷◌, ◌++◌, length, map, reverse, take, get_or, Option, Some, None, Bool, true, false, Vec, Global, vec_len, Result, Ok, Err, slice_get, Contains, refl, sym, ap, ◌∙◌, subst, add-one, arith}
+use Rattle.std.proofs.Common.{ℕ, ◌≡◌, ◌+◌, ◌<◌, ◌≤◌, ◌⊎◌, inl, inr, zero, suc, List, [], ◌∷◌, ◌++◌, length, map, reverse, take, get_or, Option, Some, None, Bool, true, false, Vec, Global, vec_len, slice_get, Contains, refl, sym, ap, ◌∙◌, subst, add-one, arith}
 use Rattle.std.proofs.lemmas.List.{take_more, append-nil, map-append, reverse-append, length-reverse, length-take}
 use Rattle.std.proofs.lemmas.Option.{slice_get_within, slice_get_read, slice_get_past, get_or_from_slice_get}
 use Rattle.std.proofs.lemmas.Bool.{cases_order, cases_lt}
-use Rattle.std.specs.Prelude.{OnOk, option_map}
+use Rattle.std.specs.Prelude.{option_map}
 use Rattle.std.specs.Slice.{IsItemAt}
 use Rattle.std.specs.List.{filter_map, cons_option, AllByRecursion}
 use denote.Ref.{Bor}
@@ -16,14 +16,20 @@ use Rattle.binding_graph.specs.declared.resolved.Role.TheVariants as roles
 use Rattle.candidates.specs.declared.candidate.Space.{Space}
 use Rattle.cat_eval.specs.declared.column.Column.{Column}
 use Rattle.memo_graph.specs.declared.cell.ItemAnswers.{ItemAnswers}
-use Rattle.candidates.specs.Space.{candidates_in, Candidate}
+use Rattle.std.proofs.Common.{◌&&◌, slice_index_or}
+use Rattle.std.proofs.Math.Bool.{and-true}
+use Rattle.std.proofs.lemmas.List.{length-map}
+use Rattle.std.proofs.lemmas.List.Folds.{list_all-append}
+use Rattle.candidates.specs.Space.{candidates_in, Candidate, shown_in, shown_of}
+use Rattle.cat_eval.specs.Kept.{AreWhere, KeptAnswersOf, is_kept_at}
+use Rattle.verdict.specs.Kept.{holds_at, is_kept}
 use Rattle.cat_eval.specs.Columns.{AreColumns, ColumnsOf}
 use Rattle.cat_eval.specs.Values.{AnswersOf}
 use Rattle.cat_eval.specs.Candidates.{name_count}
-use Rattle.binding_graph.specs.Reach.{is_check, IsCheckAt, UsesAt, Leads, IsReached, AreReached}
+use Rattle.binding_graph.specs.Reach.{is_check, IsCheckAt, UsesAt, IsReached, AreReached}
 use Rattle.verdict.specs.Kept.{Flag}
 use Rattle.memo_graph.specs.Answers.{IsNamed, AreNamed, HasAnswers, IsValued, IsSaidAs, IsSaidBy, AreSaid, IsBound, AreOrdered, AreLeast, LeastOf, AreRising, IsRising, AreSound}
-use Rattle.memo_graph.specs.Known.{column_in, column_of, AreFound, checks_of, flags_of, ColumnsAt, HasAllColumns, IsAnswered, AreKnown, AreKnownTo}
+use Rattle.memo_graph.specs.Known.{column_in, column_of, AreFound, kept_of, flags_of, ColumnsAt, HasAllColumns, AreKeptIn, AreJudged, IsAnswered, AreKnown, AreKnownTo}
 use Rattle.binding_graph.proofs.Reaching.{leads_more}
 use Rattle.cat_eval.proofs.Columns.{columns_named}
 
@@ -205,7 +211,9 @@ known_more space items indexes n at r old new e le gap checks used ordered known
     let Before : ℕ → List Column → Type 0 = λ j ds. IsValued space (reverse (take at items)) j ds in
     let named : AreNamed Before r.inputs.items given.inputs =
     named_all Before old r.inputs.items given.inputs (all_names space items indexes n at old r.inputs.items known (omega arith) gap used (ordered_at items at r e ordered.0)) given.found in
-    let said = said_later space items n at (checks_of old) (flags_of old) le (omega arith) (λ j from to c. gap j from to (checks j c)) known.said in
+    let (found, were, keeps) = known.said in
+    let said = said_later space items n at found (flags_of old) le (omega arith) (λ j from to c. gap j from to (checks j c)) were in
+    let (more, kept, says) = given.said found keeps in
     let here : ColumnsAt new at (IsValued space (reverse (take (suc at) items)) at) =
     λ d.
     let columns = given.here (omega (arith, known.count)) (known.empty at le lt) d in
@@ -215,7 +223,7 @@ known_more space items indexes n at r old new e le gap checks used ordered known
       count = given.count ∙ known.count;
       values = λ j less is. value_of j less is here (cases_lt j at);
       empty = λ j from to d. subst (λ (v : Vec Column Global). v.items ≡ []) (sym (given.others j (λ same. omega arith) d)) (known.empty j (omega arith) to d);
-      said = rw (rev_suc items at r e) (said_by r.role (AnswersOf r.role given.inputs space) (HasAnswers space Before r) (λ cs fs. (cs ≡ checks_of old) × (fs ≡ flags_of old)) (AreSaid space (reverse (take at items))) (checks_of new) (flags_of new) (λ one h. (given.inputs, named, h)) (λ cs fs same. rw (same.0, same.1) said) given.said);
+      said = (more, rw (rev_suc items at r e) (said_by r.role (AnswersOf r.role given.inputs space) (HasAnswers space Before r) (λ cs fs. (cs ≡ found) × (fs ≡ flags_of old)) (AreSaid space (reverse (take at items))) more (flags_of new) (λ one h. (given.inputs, named, h)) (λ cs fs same. rw (same.0, same.1) said) says), kept);
     }
   where
     value_of : (j : ℕ) → j < suc at → Contains indexes j → ColumnsAt new at (IsValued space (reverse (take (suc at) items)) at) → (j < at) ⊎ (at ≤ j) → ColumnsAt new j (IsValued space (reverse (take (suc j) items)) j)
@@ -223,10 +231,11 @@ known_more space items indexes n at r old new e le gap checks used ordered known
     value_of j less is here (inr after) = let same : at ≡ j = omega arith in subst (λ k. ColumnsAt new k (IsValued space (reverse (take (suc k) items)) k)) same here
 
 -- behind the last of them
-pub known_all : (space : Space) (items : List ResolvedItem) (indexes : List ℕ) (n : ℕ) (a : ItemAnswers) → n ≤ length items → ((k : ℕ) → n ≤ k → k < length items → Contains indexes k → ⊥) → ((k : ℕ) → IsCheckAt items k → Contains indexes k) → AreKnown space items indexes n a → AreSaid space (reverse items) (checks_of a) (flags_of a)
+pub known_all : (space : Space) (items : List ResolvedItem) (indexes : List ℕ) (n : ℕ) (a : ItemAnswers) → n ≤ length items → ((k : ℕ) → n ≤ k → k < length items → Contains indexes k → ⊥) → ((k : ℕ) → IsCheckAt items k → Contains indexes k) → AreKnown space items indexes n a → AreJudged space (reverse items) (kept_of a) (flags_of a)
 known_all space items indexes n a le gap checks known =
-    let all = said_later space items n (length items) (checks_of a) (flags_of a) le (omega arith) (λ j from to c. gap j from to (checks j c)) known.said in
-    rw (take_whole items) at all
+    let (found, were, keeps) = known.said in
+    let all = said_later space items n (length items) found (flags_of a) le (omega arith) (λ j from to c. gap j from to (checks j c)) were in
+    (found, rw (take_whole items) at all, keeps)
 
 -- ---- the items that are reached
 
@@ -245,8 +254,8 @@ same_at (x ∷ xs) (suc i) a b lt = same_at xs i a b (omega arith)
 
 -- ---- along the places
 
-pub known_start : (space : Space) (items : List ResolvedItem) (indexes : List ℕ) (n : ℕ) (a : ItemAnswers) → n ≡ length items → vec_len a.columns ≡ n → ((j : ℕ) → j < n → ColumnsAt a j (λ cs. cs ≡ [])) → checks_of a ≡ [] → flags_of a ≡ [] → AreKnownTo space items indexes 0 a
-known_start space items indexes n a long count empty checks flags = record {
+pub known_start : (space : Space) (items : List ResolvedItem) (indexes : List ℕ) (n : ℕ) (a : ItemAnswers) → n ≡ length items → vec_len a.columns ≡ n → ((j : ℕ) → j < n → ColumnsAt a j (λ cs. cs ≡ [])) → AreKeptIn space [] (kept_of a) → flags_of a ≡ [] → AreKnownTo space items indexes 0 a
+known_start space items indexes n a long count empty kept flags = record {
   number = 0;
   within = omega arith;
   below = λ q d lt. absurd (omega arith);
@@ -255,7 +264,7 @@ known_start space items indexes n a long count empty checks flags = record {
     count = count ∙ long;
     values = λ j lt is. absurd (omega arith);
     empty = λ j from to. empty j (omega arith);
-    said = (checks, flags);
+    said = ([], (refl, flags), kept);
   };
 }
 
@@ -285,7 +294,7 @@ known_next space items indexes p at r old new all ordered lt is e to given =
     below_at q d less (inl before) = omega (arith, to.below q d before, to.above p 0 (omega arith) lt, is 0)
     below_at q d less (inr after) = let same : get_or indexes q d ≡ get_or indexes p d = (let e : q ≡ p = omega arith in ap (λ k. get_or indexes k d) e) in omega (arith, same, is d)
 
-pub known_end : (space : Space) (items : List ResolvedItem) (indexes : List ℕ) (p : ℕ) (a : ItemAnswers) → AreReached items indexes → length indexes ≤ p → AreKnownTo space items indexes p a → AreSaid space (reverse items) (checks_of a) (flags_of a)
+pub known_end : (space : Space) (items : List ResolvedItem) (indexes : List ℕ) (p : ℕ) (a : ItemAnswers) → AreReached items indexes → length indexes ≤ p → AreKnownTo space items indexes p a → AreJudged space (reverse items) (kept_of a) (flags_of a)
 known_end space items indexes p a all le to =
     known_all space items indexes to.number a to.within (λ k from less m. omega (arith, to.below m.0 k (omega (arith, m.1)), m.2)) (reached_check items indexes all) to.known
 
@@ -332,8 +341,68 @@ answered_silent space index r a role =
       count = refl;
       others = λ j other d. refl;
       here = λ lt empty d. silent_given r.role found.0 space (get_or a.columns.items index d).items role (empty d);
-      said = said_silent r.role _ _ _ _ role (refl, refl);
+      said = λ checks kept. (checks, kept, said_silent r.role _ _ _ _ role (refl, refl));
     }
+
+pub answered_group : (space : Space) (index : ℕ) (r : ResolvedItem) (old new : ItemAnswers) (recursive : Bool) (bodies : Vec Body Global) (inputs : List (Bor Column)) (found : List Column) → r.role ≡ roles.Group recursive bodies → AreFound old.columns.items r.inputs.items inputs → ColumnsOf r.role inputs space found → kept_of new ≡ kept_of old → flags_of new ≡ flags_of old → vec_len new.columns ≡ vec_len old.columns
+    → ((j : ℕ) → (j ≡ index → ⊥) → (d : Vec Column Global) → slice_index_or new.columns.items j d ≡ slice_index_or old.columns.items j d) → (index < vec_len old.columns → (d : Vec Column Global) → (slice_index_or new.columns.items index d).items ≡ found) → IsAnswered space index r old new
+answered_group space index r old new recursive bodies inputs found role are columns kept flags count others here = record {
+  inputs = inputs;
+  found = are;
+  count = count;
+  others = others;
+  here = λ lt empty d. subst (λ (cs : List Column). ColumnsOf r.role inputs space cs) (sym (here lt d)) columns;
+  said = λ checks keeps. (checks, rw kept keeps, rw (role, flags) (refl, refl));
+}
+
+-- the candidates that are kept by one check more
+kept_more : (space : Space) (checks : List (List Bool)) (old new all : List Bool) → AreKeptIn space checks old → length all ≡ length (candidates_in space.combinations.items) → AreWhere (is_kept_at old) all new → AreKeptIn space (checks ++ all ∷ []) new
+kept_more space checks old new all kept long given = record {
+  long = given.long ∙ long ∙ sym (length-map (candidates_in space.combinations.items) (shown_of space.registers.items));
+  each = λ k lt. given.each k ∙ ap (λ (b : Bool). b && holds_at k all) (kept.each k lt) ∙ sym (both k);
+}
+  where
+    both : (k : ℕ) → is_kept (checks ++ all ∷ []) k ≡ (is_kept checks k && holds_at k all)
+    both k = list_all-append (λ answers. holds_at k answers) checks (all ∷ []) ∙ ap (λ (b : Bool). is_kept checks k && b) (and-true (holds_at k all))
+
+kept_said : (role : Role) (check : CheckCode) (inputs : List (Bor Column)) (space : Space) (old new : List Bool) (before after : List Flag) → role ≡ roles.Check check → check.flag ≡ None → KeptAnswersOf old role inputs space new → after ≡ before → (checks : List (List Bool)) → AreKeptIn space checks old
+    → (more : List (List Bool)) × AreKeptIn space more new × IsSaidBy role (AnswersOf role inputs space) (λ cs fs. (cs ≡ checks) × (fs ≡ before)) more after
+kept_said role check inputs space old new before after is none h flags checks keeps =
+    let (all, are, given) = rw is at h in
+    (checks ++ all ∷ [], kept_more space checks old new all keeps are.0 given, rw (is, none) (checks, all, refl, are, (refl, flags)))
+
+-- a check
+pub answered_kept : (space : Space) (index : ℕ) (r : ResolvedItem) (check : CheckCode) (old new : ItemAnswers) (inputs : List (Bor Column)) → r.role ≡ roles.Check check → check.flag ≡ None → AreFound old.columns.items r.inputs.items inputs → KeptAnswersOf (kept_of old) r.role inputs space (kept_of new) → new.columns ≡ old.columns → flags_of new ≡ flags_of old → IsAnswered space index r old new
+answered_kept space index r check old new inputs role none found given columns flags = record {
+  inputs = inputs;
+  found = found;
+  count = ap (λ (v : Vec (Vec Column Global) Global). vec_len v) columns;
+  others = λ j other d. ap (λ (v : Vec (Vec Column Global) Global). slice_index_or v.items j d) columns;
+  here = λ lt empty d. rw (role, columns) (empty d);
+  said = kept_said r.role check inputs space (kept_of old) (kept_of new) (flags_of old) (flags_of new) role none given flags;
+}
+
+-- a flag
+pub answered_flag : (space : Space) (index : ℕ) (r : ResolvedItem) (check : CheckCode) (name : List ℕ) (holds : List Bool) (old new : ItemAnswers) (inputs : List (Bor Column)) → r.role ≡ roles.Check check → check.flag ≡ Some name → AreFound old.columns.items r.inputs.items inputs → AnswersOf r.role inputs space holds → new.columns ≡ old.columns → kept_of new ≡ kept_of old → flags_of new ≡ flags_of old ++ (name, holds) ∷ [] → IsAnswered space index r old new
+answered_flag space index r check name holds old new inputs role named found given columns kept flags = record {
+  inputs = inputs;
+  found = found;
+  count = ap (λ (v : Vec (Vec Column Global) Global). vec_len v) columns;
+  others = λ j other d. ap (λ (v : Vec (Vec Column Global) Global). slice_index_or v.items j d) columns;
+  here = λ lt empty d. rw (role, columns) (empty d);
+  said = λ checks keeps. (checks, rw kept keeps, flag_said r.role role given checks);
+}
+  where
+    flag_said : (role : Role) → role ≡ roles.Check check → AnswersOf role inputs space holds → (checks : List (List Bool)) → IsSaidBy role (AnswersOf role inputs space) (λ cs fs. (cs ≡ checks) × (fs ≡ flags_of old)) checks (flags_of new)
+    flag_said role is h checks = let are = rw is at h in rw (is, named) (flags_of old, holds, flags, are, (refl, refl))
+
+-- one check of these answers keeps them
+pub kept_alone : (space : Space) (kept : List Bool) → length kept ≡ length (shown_in space) → AreKeptIn space (kept ∷ []) kept
+kept_alone space kept long = record { long = long; each = λ k lt. sym (and-true (holds_at k kept)) }
+
+-- there is still one answer for each candidate
+pub answered_long : (space : Space) (index : ℕ) (r : ResolvedItem) (old new : ItemAnswers) → IsAnswered space index r old new → length (kept_of old) ≡ length (shown_in space) → length (kept_of new) ≡ length (shown_in space)
+answered_long space index r old new given long = let (more, kept, says) = given.said (kept_of old ∷ []) (kept_alone space (kept_of old) long) in kept.long
 
 found_as : (columns : List (Vec Column Global)) (names used_names : List Input) (i : ℕ) (d : Input) (found all : List (Bor Column)) (one : Option Column) → used_names ≡ names → i < length used_names → AreFound columns (take i names) found → one ≡ column_of columns (get_or used_names i d) → map (λ c. c.now) all ≡ map (λ c. c.now) found ++ cons_option one [] → AreFound columns (take (i + 1) names) all
 found_as columns names used_names i d found all one same lt h is grown =

@@ -1,7 +1,7 @@
 -- Functions put no name of a recursive group where it may not stand: with arguments that hold none their bodies hold none, and
 -- where a parameter stands under no complement its argument may hold one.
 use Rattle.std.proofs.Common.{ℕ, ◌≡◌, ◌≤◌, ◌+◌, zero, suc, List, [], ◌∷◌, ◌++◌, length, map, reverse, Bool, true, false, nat_le, Option, Some, None, Result, Ok, Err, refl, sym, ap, ◌∙◌, subst, arith, get_or}
-use Rattle.std.specs.Prelude.{◌||◌, ◌&&◌, is_some, nat_eq, if◌then◌else◌, slice_get}
+use Rattle.std.specs.Prelude.{◌&&◌, is_some, nat_eq, if◌then◌else◌, slice_get}
 use Rattle.std.specs.List.{AllByRecursion}
 use Rattle.std.proofs.lemmas.Bool.{leb-true, or_left, or_right}
 use Rattle.std.proofs.lemmas.Bool.Decides.{nat_tests}

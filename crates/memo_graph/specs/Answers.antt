@@ -1,6 +1,6 @@
 -- What the items of a model give over the candidates of a space. The items are listed the latest first: an item's number is
 -- the number of those behind it, and it uses names of these alone.
-use Rattle.std.specs.Prelude.{◌≡◌, ℕ, ◌<◌, ◌⊎◌, List, [], ◌∷◌, ◌++◌, length, map, reverse, Bool, true, false, Option, Some, None, slice_get, slice_index_or}
+use Rattle.std.specs.Prelude.{◌≡◌, ℕ, ◌<◌, ◌⊎◌, List, [], ◌∷◌, ◌++◌, length, reverse, Bool, true, false, Option, Some, None, slice_get, slice_index_or}
 use Rattle.std.specs.List.{AllZip, AllByRecursion}
 use denote.Ref.{Bor}
 use Rattle.binding_kinds.specs.declared.scope.Input.{Input}

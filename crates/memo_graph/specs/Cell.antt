@@ -1,6 +1,5 @@
 -- What a test says under a model.
-use Rattle.std.specs.Prelude.{◌≡◌, Bool, List, [], Vec, map, reverse}
-use Rattle.std.specs.declared.alloc.Global.{Global}
+use Rattle.std.specs.Prelude.{◌≡◌, Bool, List, reverse}
 use Rattle.litmus_values.specs.declared.test.Test.{Test}
 use Rattle.litmus_values.specs.Value.{formula_of}
 use Rattle.litmus_printing.specs.Printing.{condition_text}

@@ -6,13 +6,14 @@ use denote.Ref.{Bor}
 use Rattle.binding_kinds.specs.declared.scope.Input.{Input}
 use Rattle.binding_graph.specs.declared.resolved.ResolvedItem.{ResolvedItem}
 use Rattle.binding_graph.specs.Reach.{IsReached}
+use Rattle.candidates.specs.Space.{shown_in}
 use Rattle.candidates.specs.declared.candidate.Space.{Space}
 use Rattle.cat_eval.specs.declared.column.Column.{Column}
 use Rattle.memo_graph.specs.declared.cell.ItemAnswers.{ItemAnswers}
 use Rattle.memo_graph.specs.declared.cell.FlagAnswer.{FlagAnswer}
 use Rattle.cat_eval.specs.Columns.{ColumnsOf}
 use Rattle.cat_eval.specs.Values.{AnswersOf}
-use Rattle.verdict.specs.Kept.{Flag}
+use Rattle.verdict.specs.Kept.{Flag, AreKeptBy}
 use Rattle.memo_graph.specs.Answers.{IsSaidBy, IsValued, AreSaid}
 
 abbrev pub column_in : Option (Vec Column Global) → ℕ → Option Column
@@ -27,8 +28,8 @@ column_of columns name = column_in (slice_get columns name.item) name.position
 abbrev pub AreFound : List (Vec Column Global) → List Input → List (Bor Column) → Type 0
 AreFound columns names found = map (λ c. c.now) found ≡ filter_map (column_of columns) names
 
-abbrev pub checks_of : ItemAnswers → List (List Bool)
-checks_of a = map (λ v. v.items) a.checks.items
+abbrev pub kept_of : ItemAnswers → List Bool
+kept_of a = a.kept.items
 
 abbrev pub of_flags : List FlagAnswer → List Flag
 of_flags flags = map (λ f. (f.name.now, f.holds.items)) flags
@@ -44,6 +45,14 @@ ColumnsAt a index P = (d : Vec Column Global) → P (slice_index_or a.columns.it
 abbrev pub HasAllColumns : Space → List ResolvedItem → ItemAnswers → Type 0
 HasAllColumns space items a = (j : ℕ) → j < length items → IsReached items j → ColumnsAt a j (IsValued space (reverse items) j)
 
+-- on these candidates of a space all of these checks hold
+abbrev pub AreKeptIn : Space → List (List Bool) → List Bool → Type 0
+AreKeptIn space checks kept = AreKeptBy checks (length (shown_in space)) kept
+
+-- on which candidates all checks among the items hold, and the answers of the flags among them
+abbrev pub AreJudged : Space → List ResolvedItem → List Bool → List Flag → Type 0
+AreJudged space rs kept flags = (checks : List (List Bool)) × AreSaid space rs checks flags × AreKeptIn space checks kept
+
 -- what the item at that index gives, from what was known, is known too
 pub record IsAnswered (space : Space) (index : ℕ) (r : ResolvedItem) (old new : ItemAnswers) : Type 0 where
   pub inputs : List (Bor Column)
@@ -51,14 +60,14 @@ pub record IsAnswered (space : Space) (index : ℕ) (r : ResolvedItem) (old new 
   pub count : vec_len new.columns ≡ vec_len old.columns
   pub others : (j : ℕ) → (j ≡ index → ⊥) → (d : Vec Column Global) → slice_index_or new.columns.items j d ≡ slice_index_or old.columns.items j d
   pub here : index < vec_len old.columns → ColumnsAt old index (λ cs. cs ≡ []) → ColumnsAt new index (ColumnsOf r.role inputs space)
-  pub said : IsSaidBy r.role (AnswersOf r.role inputs space) (λ cs fs. (cs ≡ checks_of old) × (fs ≡ flags_of old)) (checks_of new) (flags_of new)
+  pub said : (checks : List (List Bool)) → AreKeptIn space checks (kept_of old) → (more : List (List Bool)) × AreKeptIn space more (kept_of new) × IsSaidBy r.role (AnswersOf r.role inputs space) (λ cs fs. (cs ≡ checks) × (fs ≡ flags_of old)) more (flags_of new)
 
 -- of the items before that number, the columns of those at these indexes are known, and the answers of all
 pub record AreKnown (space : Space) (items : List ResolvedItem) (indexes : List ℕ) (n : ℕ) (a : ItemAnswers) : Type 0 where
   pub count : vec_len a.columns ≡ length items
   pub values : (j : ℕ) → j < n → Contains indexes j → ColumnsAt a j (IsValued space (reverse (take (suc j) items)) j)
   pub empty : (j : ℕ) → n ≤ j → j < length items → ColumnsAt a j (λ cs. cs ≡ [])
-  pub said : AreSaid space (reverse (take n items)) (checks_of a) (flags_of a)
+  pub said : AreJudged space (reverse (take n items)) (kept_of a) (flags_of a)
 
 -- that many of the indexes are behind, which rise
 pub record AreKnownTo (space : Space) (items : List ResolvedItem) (indexes : List ℕ) (p : ℕ) (a : ItemAnswers) : Type 0 where

@@ -1,5 +1,6 @@
 pub mod Answers
 pub mod Known
+pub mod Keeping
 pub mod Cell
 pub mod FromScratch
 pub mod Laws

@@ -1,19 +1,22 @@
 //! A test under a model, from scratch.
 
 ghost use denote.Ref.{Bor};
-ghost use Rattle.std.specs.Prelude.{◌≡◌, ◌<◌, ◌∷◌, ◌++◌, ℕ, [], List, Vec, IfOk, OnOk, map, option_map, reverse, slice_index_or, vec_len};
+ghost use Rattle.std.specs.Prelude.{◌≡◌, ◌<◌, ◌∷◌, ◌++◌, ℕ, [], List, Vec, Some, None, IfOk, OnOk, length, option_map, reverse, slice_index_or, vec_len};
 ghost use Rattle.litmus_values.specs.Value.{formula_of};
 ghost use Rattle.litmus_printing.specs.Printing.{condition_text};
+ghost use Rattle.candidates.specs.Space.{shown_in};
 ghost use Rattle.cat_eval.specs.Columns.{ColumnsOf};
+ghost use Rattle.cat_eval.specs.Kept.{KeptAnswersOf};
 ghost use Rattle.cat_eval.specs.Tables.{IsOver};
 ghost use Rattle.cat_eval.specs.Values.{AnswersOf};
 ghost use Rattle.verdict.specs.Evaluated.{IsEvaluatedAs};
-ghost use Rattle.verdict.specs.Kept.{of_raised};
-ghost use Rattle.memo_graph.specs.Answers.{AreSaid, AreSound};
-ghost use Rattle.memo_graph.specs.Known.{column_of, AreFound, IsAnswered, ColumnsAt, HasAllColumns, of_flags, checks_of, flags_of};
+ghost use Rattle.verdict.specs.Kept.{of_raised, AreKeptBy};
+ghost use Rattle.memo_graph.specs.Answers.{AreSound};
+ghost use Rattle.memo_graph.specs.Known.{column_of, AreFound, IsAnswered, ColumnsAt, HasAllColumns, of_flags, kept_of, flags_of, AreJudged};
 ghost use Rattle.memo_graph.specs.FromScratch.{IsFromScratch};
 ghost use Rattle.memo_graph.specs.Cell.{IsSaid, IsCell, IsEvaluationBy, IsEvaluationOver, OfModel};
 
+use crate::keeping::{Keeping, last_users, let_go_behind};
 use crate::suite::{over_space, space_for};
 use binding_graph::{CheckCode, Input, ResolveFault, Resolved, ResolvedItem, Role, resolve, used};
 use candidates::Space;
@@ -23,7 +26,7 @@ use litmus_printing::print_condition;
 use litmus_values::Test;
 use source_text::Name;
 use std::alloc::{AllocError, Global};
-use verdict::{Outcome, OutcomeResult, Raised, Refusal, outcome};
+use verdict::{Outcome, OutcomeResult, Raised, Refusal, outcome_kept};
 
 /// A flag: its name, and whether its check holds on each candidate.
 #[derive(Drop)]
@@ -39,16 +42,27 @@ pub struct FlagAnswer<'a> {
 pub struct ItemAnswers<'a> {
     /// For each item, the values of its names; none where it is no group or is not used.
     pub columns: Vec<Vec<Column>>,
-    /// For each check, whether it holds in each candidate.
-    pub checks: Vec<Vec<bool>>,
+    /// For each candidate, whether all checks hold there.
+    pub kept: Vec<bool>,
     /// The flags, in the order of the text.
     pub flags: Vec<FlagAnswer<'a>>,
 }
 
-fn no_answers<'a>(alloc: Global, items: usize) -> Result<ItemAnswers<'a>, AllocError>
+// All candidates of a space, as kept.
+fn all_kept(alloc: Global, space: &Space) -> Result<Vec<bool>, AllocError>
+    ensures { IfOk result (λ v. AreKeptBy [] (length (shown_in space.now)) v.items) }
+{
+    vec![in alloc; true; space.len()]
+}
+
+fn no_answers<'a>(
+    alloc: Global,
+    items: usize,
+    kept: Vec<bool>,
+) -> Result<ItemAnswers<'a>, AllocError>
     ensures count { IfOk result (λ a. vec_len a.columns ≡ items) }
     ensures empty { IfOk result (λ a. (j : ℕ) → j < items → ColumnsAt a j (λ cs. cs ≡ [])) }
-    ensures checks { IfOk result (λ a. checks_of a ≡ []) }
+    ensures kept { IfOk result (λ a. kept_of a ≡ kept.items) }
     ensures flags { IfOk result (λ a. flags_of a ≡ []) }
 {
     let mut columns = Vec::with_capacity(alloc, items)?;
@@ -57,7 +71,7 @@ fn no_answers<'a>(alloc: Global, items: usize) -> Result<ItemAnswers<'a>, AllocE
     }
     Ok(ItemAnswers {
         columns,
-        checks: Vec::new(alloc),
+        kept,
         flags: Vec::new(alloc),
     })
 }
@@ -122,15 +136,24 @@ fn check_answers(
     evaluator.check(alloc, item, space, &inputs)
 }
 
-// The answers of one check more.
-fn push_check(checks: &mut Vec<Vec<bool>>, holds: Vec<bool>) -> Result<(), AllocError>
-    ensures { OnOk result (map (λ v. v.items) checks.new.items ≡ map (λ v. v.items) checks.old.items ++ holds.items ∷ []) }
+// Whether a check holds, for each candidate, among those that are kept.
+fn kept_answers(
+    alloc: Global,
+    evaluator: &mut Evaluator,
+    space: &Space,
+    item: &ResolvedItem,
+    columns: &[Vec<Column>],
+    kept: &[bool],
+) -> Result<Vec<bool>, AllocError>
+    requires { IsOver evaluator.old space.now }
+    ensures over { IsOver evaluator.new space.now }
+    ensures found { IfOk result (λ v. (inputs : List (Bor Column)) × AreFound columns.now item.now.inputs.items inputs × KeptAnswersOf kept.now item.now.role inputs space.now v.items) }
 {
-    checks.push(holds)?;
-    Ok(())
+    let inputs = inputs(alloc, columns, item)?;
+    evaluator.check_kept(alloc, item, space, &inputs, kept)
 }
 
-// Those of one flag more.
+// The answers of one flag more.
 fn push_flag<'a>(
     flags: &mut Vec<FlagAnswer<'a>>,
     name: &'a Name,
@@ -139,6 +162,47 @@ fn push_flag<'a>(
     ensures { OnOk result (of_flags flags.new.items ≡ of_flags flags.old.items ++ (name.now, holds.items) ∷ []) }
 {
     flags.push(FlagAnswer { name, holds })?;
+    Ok(())
+}
+
+fn answer_flag<'a>(
+    alloc: Global,
+    evaluator: &mut Evaluator,
+    space: &Space,
+    at: usize,
+    item: &ResolvedItem,
+    name: &'a Name,
+    answers: &mut ItemAnswers<'a>,
+) -> Result<(), AllocError>
+    requires { IsOver evaluator.old space.now }
+    ensures over { IsOver evaluator.new space.now }
+    ensures answered { (check : CheckCode) → item.now.role ≡ Role.Check check → check.flag ≡ Some name.now → OnOk result (IsAnswered space.now at item.now answers.old answers.new) }
+{
+    let holds = check_answers(alloc, evaluator, space, item, &answers.columns)?;
+    push_flag(&mut answers.flags, name, holds)
+}
+
+// A check looks only at the candidates that the checks before it keep.
+fn answer_kept<'a>(
+    alloc: Global,
+    evaluator: &mut Evaluator,
+    space: &Space,
+    at: usize,
+    item: &ResolvedItem,
+    answers: &mut ItemAnswers<'a>,
+) -> Result<(), AllocError>
+    requires { IsOver evaluator.old space.now }
+    ensures over { IsOver evaluator.new space.now }
+    ensures answered { (check : CheckCode) → item.now.role ≡ Role.Check check → check.flag ≡ None → OnOk result (IsAnswered space.now at item.now answers.old answers.new) }
+{
+    answers.kept = kept_answers(
+        alloc,
+        evaluator,
+        space,
+        item,
+        &answers.columns,
+        &answers.kept,
+    )?;
     Ok(())
 }
 
@@ -155,10 +219,9 @@ fn answer_check<'a>(
     ensures over { IsOver evaluator.new space.now }
     ensures answered { item.now.role ≡ Role.Check check.now → OnOk result (IsAnswered space.now at item.now answers.old answers.new) }
 {
-    let holds = check_answers(alloc, evaluator, space, item, &answers.columns)?;
     match &check.flag {
-        Some(name) => push_flag(&mut answers.flags, name, holds),
-        None => push_check(&mut answers.checks, holds),
+        Some(name) => answer_flag(alloc, evaluator, space, at, item, name, answers),
+        None => answer_kept(alloc, evaluator, space, at, item, answers),
     }
 }
 
@@ -201,37 +264,37 @@ pub fn answers<'a>(
     space: &Space,
     resolved: &'a Resolved,
 ) -> Result<ItemAnswers<'a>, AllocError>
-    ensures said { let items = resolved.now.items.items in AreSound items → IfOk result (λ a. AreSaid space.now (reverse items) (checks_of a) (flags_of a)) }
+    ensures said { let items = resolved.now.items.items in AreSound items → IfOk result (λ a. AreJudged space.now (reverse items) (kept_of a) (flags_of a)) }
+    ensures long { IfOk result (λ a. length (kept_of a) ≡ length (shown_in space.now)) }
     ensures columns { let items = resolved.now.items.items in AreSound items → IfOk result (HasAllColumns space.now items) }
 {
     let mut evaluator = Evaluator::new(alloc);
-    answers_by(alloc, &mut evaluator, space, resolved)
+    answers_by(alloc, &mut evaluator, space, resolved, Keeping::All)
 }
 
-/// As `answers`, by an evaluator that has evaluated nothing, or items over this space.
+/// As `answers`, by an evaluator that has evaluated nothing, or items over this space. All columns are there in the end
+/// where all are to be kept.
 fn answers_by<'a>(
     alloc: Global,
     evaluator: &mut Evaluator,
     space: &Space,
     resolved: &'a Resolved,
+    keeping: Keeping,
 ) -> Result<ItemAnswers<'a>, AllocError>
     requires { IsOver evaluator.old space.now }
     ensures over { IsOver evaluator.new space.now }
-    ensures said { let items = resolved.now.items.items in AreSound items → IfOk result (λ a. AreSaid space.now (reverse items) (checks_of a) (flags_of a)) }
-    ensures columns { let items = resolved.now.items.items in AreSound items → IfOk result (HasAllColumns space.now items) }
+    ensures said { let items = resolved.now.items.items in AreSound items → IfOk result (λ a. AreJudged space.now (reverse items) (kept_of a) (flags_of a)) }
+    ensures long { IfOk result (λ a. length (kept_of a) ≡ length (shown_in space.now)) }
+    ensures columns { let items = resolved.now.items.items in keeping ≡ Keeping.All → AreSound items → IfOk result (HasAllColumns space.now items) }
 {
-    let mut answers = no_answers(alloc, resolved.items.len())?;
+    let mut answers = no_answers(alloc, resolved.items.len(), all_kept(alloc, space)?)?;
     let indexes = used(alloc, resolved)?;
+    let last = last_users(alloc, keeping, &resolved.items, &indexes)?;
     evaluator.prepare(alloc, space, &resolved.items, &indexes)?;
     for at in &indexes {
-        answer_item(
-            alloc,
-            evaluator,
-            space,
-            *at,
-            &resolved.items[*at],
-            &mut answers,
-        )?;
+        let item = &resolved.items[*at];
+        answer_item(alloc, evaluator, space, *at, item, &mut answers)?;
+        let_go_behind(alloc, &last, *at, item, &mut answers.columns);
     }
     Ok(answers)
 }
@@ -249,17 +312,6 @@ fn raised<'a>(alloc: Global, flags: &'a [FlagAnswer<'a>]) -> Result<Vec<Raised<'
     Ok(raised)
 }
 
-// The answers of the checks, to look at.
-fn lent<'c>(alloc: Global, checks: &'c [Vec<bool>]) -> Result<Vec<&'c [bool]>, AllocError>
-    ensures { IfOk result (λ v. map (λ c. c.now) v.items ≡ map (λ v. v.items) checks.now) }
-{
-    let mut lent = Vec::with_capacity(alloc, checks.len())?;
-    for check in checks {
-        lent.push(check.as_slice())?;
-    }
-    Ok(lent)
-}
-
 pub(crate) fn evaluated(
     alloc: Global,
     evaluator: &mut Evaluator,
@@ -272,15 +324,14 @@ pub(crate) fn evaluated(
     ensures said { IfOk result (λ o. IsSaid space.now test.now o) }
     ensures answers { AreSound resolved.now.items.items → IfOk result (λ o. IsEvaluatedAs (IsEvaluationBy resolved.now.items.items space.now test.now) o.result) }
 {
-    let found = answers_by(alloc, evaluator, space, resolved)?;
-    let checks = lent(alloc, &found.checks)?;
+    let found = answers_by(alloc, evaluator, space, resolved, Keeping::WhileNeeded)?;
     let flags = raised(alloc, &found.flags)?;
-    outcome(
+    outcome_kept(
         alloc,
         space,
         &test.condition,
         &test.observed,
-        &checks,
+        &found.kept,
         &flags,
     )
 }

@@ -4,6 +4,7 @@
 
 mod cell;
 pub mod fixtures;
+mod keeping;
 pub mod laws;
 mod suite;
 

@@ -1,5 +1,5 @@
 -- What a place and a value of a proposition say of a state.
-use Rattle.std.proofs.Common.{ℕ, Bool, true, false, ◌||◌, cond, Option, Some, None, ◌≡◌, List, [], ◌∷◌, ◌++◌, map, length, get_or, refl, sym, ap, ◌∙◌, ⊎_elim, arith}
+use Rattle.std.proofs.Common.{ℕ, Bool, true, false, ◌||◌, cond, Option, Some, None, ◌≡◌, List, [], ◌∷◌, ◌++◌, map, length, get_or, sym, ap, ◌∙◌, ⊎_elim, arith}
 use Rattle.std.specs.List.{list_any, position, position_or_len, slice_get, cons_option}
 use Rattle.std.specs.Option.{option_map}
 use Rattle.std.proofs.lemmas.Bool.{false≢true, cases_lt, or_left, or_right}

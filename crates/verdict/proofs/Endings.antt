@@ -1,16 +1,15 @@
 -- A candidate ends in the state in which the execution ends that it shows.
 use Rattle.std.proofs.Common.{ℕ, zero, suc, ◌+◌, ◌≡◌, Bool, cond, ◌&&◌, List, [], ◌∷◌, Option, Some, None, Vec, Global, map, drop, refl, sym, ap, ◌∙◌}
 use mathlib.Core.Path.{fun_ext}
-use Rattle.std.specs.Prelude.{slice_get, slice_index_or, replicate, option_and_then}
+use Rattle.std.specs.Prelude.{slice_get, replicate, option_and_then}
 use Rattle.std.specs.Option.{unwrap_or}
-use Rattle.std.specs.List.{zip}
 use Rattle.thread_runs.specs.declared.value.Value.{Value}
 use Rattle.thread_runs.specs.declared.value.Value.TheVariants.{NoValue}
-use Rattle.candidates.specs.Space.{Candidate, Shown, candidates_in, end_at, registers_at, shown_of, shown_in}
+use Rattle.candidates.specs.Space.{Candidate, candidates_in, end_at, registers_at, shown_of, shown_in}
 use Rattle.candidates.specs.declared.candidate.Space.{Space}
 use Rattle.verdict.specs.Counting.{count_kept}
 use Rattle.verdict.specs.Ends as ends
-use Rattle.verdict.specs.Final.{value_shown, final_register, final_value, final_state}
+use Rattle.verdict.specs.Final.{value_shown, final_value, final_state}
 use Rattle.verdict.specs.Kept.{holds_at}
 use Rattle.verdict.specs.Order.{is_state}
 use Rattle.verdict.specs.declared.answer.FinalValue.{FinalValue}

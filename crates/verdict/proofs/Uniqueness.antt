@@ -1,12 +1,11 @@
 -- An outcome is the only one of what it is made from.
-use Rattle.std.proofs.Common.{ℕ, ◌+◌, ◌<◌, Bool, true, false, not, cond, inl, inr, ◌≡◌, List, [], ◌∷◌, length, get_or, map, refl, sym, ap, subst, ◌∙◌, arith}
+use Rattle.std.proofs.Common.{ℕ, ◌<◌, Bool, true, false, cond, inl, inr, ◌≡◌, List, [], ◌∷◌, length, refl, sym, ap, subst, ◌∙◌, arith}
 use Rattle.std.specs.Cmp.{IsEquivalence, IsTotalOrder}
-use Rattle.std.specs.List.{All, Contains, list_any, filter}
+use Rattle.std.specs.List.{All, Contains, filter}
 use Rattle.std.specs.List.Sorted.{IsStrictlySortedBy}
 use Rattle.std.specs.Ordering.{ordering_reverse}
 use Rattle.std.specs.declared.cmp.Ordering.{Ordering}
-use Rattle.std.specs.declared.cmp.Ordering.TheVariants.{Less, Equal, Greater}
-use Rattle.std.proofs.lemmas.Bool.{false≢true}
+use Rattle.std.specs.declared.cmp.Ordering.TheVariants.{Less, Greater}
 use Rattle.std.proofs.lemmas.Cmp.{eq_by_cmp_equiv}
 use Rattle.std.proofs.lemmas.List.Elements.{All-head, All-tail, All-contains}
 use Rattle.std.proofs.lemmas.Map.Keys.{Less-from_sorted}
@@ -17,18 +16,17 @@ use Rattle.litmus_values.specs.Value.{Formula}
 use Rattle.candidates.specs.Space.{Shown}
 use Rattle.candidates.proofs.Elements.{member_cases, member_later}
 use Rattle.candidates.proofs.Sole.{same_rising}
-use Rattle.verdict.specs.Evaluated.{number_that, values_of, IsCounted, Says, IsEvaluation, IsEvaluatedAs, IsOutcome}
+use Rattle.verdict.specs.Evaluated.{number_that, values_of, IsCounted, Says, IsEvaluation, IsEvaluatedAs}
 use Rattle.verdict.specs.Final.{final_value, final_state}
 use Rattle.verdict.specs.Judgement.{observation_of, is_met}
 use Rattle.verdict.specs.Kept.{Flag, kept}
 use Rattle.verdict.specs.Laws.{HasOneOutcome}
 use Rattle.verdict.specs.Order.{place_cmp, state_cmp, is_place, is_state}
-use Rattle.verdict.specs.Shown.{known_places, is_among, AreShown}
+use Rattle.verdict.specs.Shown.{AreShown}
 use Rattle.verdict.specs.Text.{state_text}
 use Rattle.verdict.specs.declared.answer.CountedState.{CountedState}
 use Rattle.verdict.specs.declared.answer.Evaluation.{Evaluation}
 use Rattle.verdict.specs.declared.answer.FinalValue.{FinalValue}
-use Rattle.verdict.specs.declared.answer.Outcome.{Outcome}
 use Rattle.verdict.specs.declared.answer.OutcomeResult.{OutcomeResult}
 use Rattle.verdict.specs.declared.answer.OutcomeResult.TheVariants.{Refused, Evaluated}
 use Rattle.verdict.specs.declared.shown_place.ShownPlace.{ShownPlace}

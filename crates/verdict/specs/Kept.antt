@@ -1,5 +1,5 @@
 -- The candidates that a model keeps, and the names that they raise.
-use Rattle.std.specs.Prelude.{ℕ, Bool, false, not, ◌&&◌, List, [], ◌∷◌, map, filter, slice_index_or}
+use Rattle.std.specs.Prelude.{ℕ, ◌≡◌, ◌<◌, Bool, false, not, ◌&&◌, List, [], ◌∷◌, map, filter, length, slice_index_or}
 use Rattle.std.specs.List.{list_all, list_any, enumerate_from, zip}
 use Rattle.verdict.specs.Names.{is_name}
 use Rattle.verdict.specs.declared.judgement.Raised.{Raised}
@@ -11,6 +11,11 @@ holds_at index answers = slice_index_or answers index false
 -- a candidate is kept if all checks hold on it
 abbrev pub is_kept : List (List Bool) → ℕ → Bool
 is_kept checks index = list_all (λ answers. holds_at index answers) checks
+
+-- of so many candidates those are kept on which all checks hold
+pub record AreKeptBy (checks : List (List Bool)) (count : ℕ) (kept : List Bool) : Type 0 where
+  pub long : length kept ≡ count
+  pub each : (k : ℕ) → k < count → holds_at k kept ≡ is_kept checks k
 
 -- the candidates that are kept, each with its index
 abbrev pub kept : {X : Type 0} → List (List Bool) → List X → List (ℕ × X)

@@ -1,6 +1,6 @@
 //! The final states of the kept candidates.
 
-ghost use Rattle.std.specs.Prelude.{◌≡◌, ℕ, ◌<◌, ◌+◌, ◌-◌, ◌^◌, min, List, map, drop, length, if◌then◌else◌, IfOk, OnOk};
+ghost use Rattle.std.specs.Prelude.{◌≡◌, ◌<◌, ◌+◌, ◌-◌, ◌^◌, min, List, map, drop, length, if◌then◌else◌, IfOk, OnOk};
 ghost use Rattle.run_combinations.specs.Combinations.{candidates_of};
 ghost use Rattle.candidates.specs.Space.{shown_in};
 ghost use Rattle.verdict.specs.Counting.{count_kept, count_column, tally, AreAbove, Counts};

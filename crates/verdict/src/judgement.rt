@@ -1,16 +1,16 @@
 //! From candidates, checks and flags to an outcome.
 
-ghost use Rattle.std.specs.Prelude.{◌≡◌, ℕ, ◌<◌, ◌&&◌, ◌++◌, [], ◌∷◌, false, if◌then◌else◌, IfOk, OnOk, min, ◌-◌, ◌^◌, length, map, vec_len, slice_index_or};
+ghost use Rattle.std.specs.Prelude.{◌≡◌, ℕ, ◌<◌, ◌&&◌, ◌++◌, Bool, List, [], ◌∷◌, false, if◌then◌else◌, IfOk, OnOk, min, ◌-◌, ◌^◌, length, map, vec_len, slice_index_or};
 ghost use Rattle.std.specs.List.{list_any, All};
 ghost use Rattle.std.specs.List.Sorted.{IsStrictlySortedBy};
 ghost use Rattle.candidates.specs.Space.{shown_in};
 ghost use Rattle.litmus_values.specs.Value.{formula_of};
 ghost use Rattle.verdict.specs.Counting.{pairs_of, pairs_in};
-ghost use Rattle.verdict.specs.Kept.{holds_at, is_kept, holds_on_some, of_raised, names_of};
+ghost use Rattle.verdict.specs.Kept.{holds_at, is_kept, AreKeptBy, holds_on_some, of_raised, names_of};
 ghost use Rattle.verdict.specs.Names.{is_name};
 ghost use Rattle.verdict.specs.Evaluated.{values_of, IsWorded, IsEvaluation, IsOutcome};
 ghost use Rattle.verdict.specs.Order.{state_cmp};
-ghost use Rattle.verdict.specs.Judgement.{is_same, total_of, observation_of, is_met, IsOutcomeOf};
+ghost use Rattle.verdict.specs.Judgement.{is_same, total_of, observation_of, is_met, IsJudged, IsOutcomeOf};
 
 use crate::answer::{CountedState, Evaluation, Observation, Outcome, OutcomeResult};
 use crate::final_states::{StateCounts, final_states};
@@ -162,15 +162,15 @@ fn evaluation(
     space: &Space,
     condition: &Condition,
     observed: &[Place],
-    checks: &[&[bool]],
+    kept: &[bool],
     flags: &[Raised],
 ) -> Result<Evaluation, AllocError>
-    ensures { IfOk result (λ e. IsEvaluation space.now.locations.items (shown_in space.now) condition.now.quantifier (formula_of condition.now.proposition) observed.now (map (λ c. c.now) checks.now) (of_raised flags.now) e) }
+    ensures said { (checks : List (List Bool)) → AreKeptBy checks (length (shown_in space.now)) kept.now → IfOk result (λ e. IsEvaluation space.now.locations.items (shown_in space.now) condition.now.quantifier (formula_of condition.now.proposition) observed.now checks (of_raised flags.now) e) }
+    ensures judged { IfOk result (IsJudged condition.now.quantifier) }
 {
-    let kept = kept_candidates(alloc, space.len(), checks)?;
     let places = shown_places(alloc, &space.locations, &condition.proposition, observed)?;
     let formula = formula_over(alloc, &places, &space.locations, &condition.proposition)?;
-    let counts = final_states(alloc, space, &kept, &places)?;
+    let counts = final_states(alloc, space, kept, &places)?;
     let states = counted_states(alloc, &space.locations, &places, &formula, counts)?;
     let positive = total(&states, true);
     let negative = total(&states, false);
@@ -180,7 +180,28 @@ fn evaluation(
         negative,
         observation: observation(positive, negative),
         ok: is_met(condition.quantifier, positive, negative),
-        flags: raised_names(alloc, &kept, flags)?,
+        flags: raised_names(alloc, kept, flags)?,
+    })
+}
+
+/// The outcome of a condition on the candidates that are kept: `kept` tells of each candidate of the space whether all
+/// checks hold there. Each of the `flags` has one answer for each candidate. Errors: out of memory.
+pub fn outcome_kept(
+    alloc: Global,
+    space: &Space,
+    condition: &Condition,
+    observed: &[Place],
+    kept: &[bool],
+    flags: &[Raised],
+) -> Result<Outcome, AllocError>
+    ensures whole { (checks : List (List Bool)) → AreKeptBy checks (length (shown_in space.now)) kept.now → IfOk result (λ o. IsOutcome space.now.locations.items (shown_in space.now) condition.now.quantifier (formula_of condition.now.proposition) observed.now checks (of_raised flags.now) o) }
+    ensures judged { IfOk result (λ o. IsOutcomeOf condition.now.quantifier o) }
+{
+    let found = evaluation(alloc, space, condition, observed, kept, flags)?;
+    Ok(Outcome {
+        kind: condition.quantifier,
+        condition: print_condition(alloc, condition)?,
+        result: OutcomeResult::Evaluated(found),
     })
 }
 
@@ -198,10 +219,6 @@ pub fn outcome(
     ensures whole { IfOk result (λ o. IsOutcome space.now.locations.items (shown_in space.now) condition.now.quantifier (formula_of condition.now.proposition) observed.now (map (λ c. c.now) checks.now) (of_raised flags.now) o) }
     ensures judged { IfOk result (λ o. IsOutcomeOf condition.now.quantifier o) }
 {
-    let found = evaluation(alloc, space, condition, observed, checks, flags)?;
-    Ok(Outcome {
-        kind: condition.quantifier,
-        condition: print_condition(alloc, condition)?,
-        result: OutcomeResult::Evaluated(found),
-    })
+    let kept = kept_candidates(alloc, space.len(), checks)?;
+    outcome_kept(alloc, space, condition, observed, &kept, flags)
 }

@@ -14,4 +14,4 @@ mod state_text;
 pub use answer::{
     CountedState, Evaluation, FinalValue, Observation, Outcome, OutcomeResult, Refusal,
 };
-pub use judgement::{Raised, outcome};
+pub use judgement::{Raised, outcome, outcome_kept};

@@ -1,7 +1,14 @@
+use Rattle.std.proofs.Common.{◌≡◌, length}
+use Rattle.candidates.specs.Space.{shown_in}
 use Rattle.cat_eval.specs.Tables.{IsOver}
 use Rattle.memo_graph.specs.Answers.{AreSound}
-use Rattle.memo_graph.specs.Known.{AreKnownTo}
+use Rattle.memo_graph.specs.Keeping.{AreKeptTo}
+use Rattle.memo_graph.specs.Known.{kept_of}
 use Rattle.memo_graph.proofs.cell.answers_by.Given as goal
 
 abbrev pub invariant-loop-at : goal.invariant-loop-at
-invariant-loop-at l = (AreSound l.resolved.items.items → AreKnownTo l.space l.resolved.items.items l.at-items l.at-index l.answers) × IsOver l.evaluator l.space
+invariant-loop-at l = record {
+  known : AreSound l.resolved.items.items → AreKeptTo l.space l.resolved.items.items l.last l.at-items l.at-index l.answers;
+  over : IsOver l.evaluator l.space;
+  long : length (kept_of l.answers) ≡ length (shown_in l.space);
+}
