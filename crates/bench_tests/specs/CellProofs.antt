@@ -1,23 +1,21 @@
 -- What a sheet owes to a bench of cells.
-use Rattle.std.proofs.Common.{◌≡◌, ◌⊎◌, inl, inr, ℕ, zero, suc, ◌+◌, ◌/◌, ◌%◌, ◌^◌, Bool, true, false, not, ◌==◌, List, [], ◌∷◌, Option, Some, None, is_some, if◌then◌else◌, refl, ap, sym, subst, ◌∙◌, eqb-true, eq-eqb}
-use Rattle.std.specs.List.{AllByRecursion as Each}
+use Rattle.std.proofs.Common.{◌≡◌, ◌⊎◌, inl, inr, ℕ, zero, suc, ◌+◌, ◌/◌, ◌%◌, ◌^◌, Bool, true, false, not, ◌==◌, List, [], ◌∷◌, Option, Some, None, refl, ap, sym, subst, ◌∙◌, eqb-true, eq-eqb}
 use Rattle.memo_core.specs.declared.keys.Node.{Node}
-use Rattle.memo_core.specs.declared.keys.Key.{Key}
 use Rattle.memo_core.specs.declared.keys.Key.TheVariants.{Part, Output}
-use Rattle.memo_core.specs.Graph.{Memo, memo_of, at, stored_at, stamp_in, named_values, IsSettled, IsSettledBy}
-use Rattle.memo_core.specs.Right.{ArePresent, IsSolved, IsSamePart, IsUntouchedBy}
+use Rattle.memo_core.specs.Graph.{Memo, at, stored_at, stamp_in, named_values, IsSettled, IsSettledBy}
+use Rattle.memo_core.specs.Right.{ArePresent, IsSolved, IsUntouchedBy}
 use Rattle.memo_core.specs.Step.{Has}
 use Rattle.memo_core.proofs.Theory.{either}
 use Rattle.memo_core.proofs.Headline.{plain_at}
-use Rattle.cells.specs.Cells.{AreSolved, Carries, IsNeeded, SolvedIsFromScratch, UsedIsNeeded, UnreachedIsUntouched}
+use Rattle.cells.specs.Cells.{AreSolved, Carries, SolvedIsFromScratch, UsedIsNeeded, UnreachedIsUntouched}
 use Rattle.bench_tests.specs.declared.rows.Row.{Row}
 use Rattle.bench_tests.specs.declared.sheet.Sheet.{Sheet}
 use Rattle.bench_tests.specs.declared.sheet.Change.{Change}
 use Rattle.bench_tests.specs.declared.sheet.Change.TheVariants.{Put, Remove, SetBase}
 use Rattle.bench_tests.specs.Rows.{row_of, put_row, without_row}
 use Rattle.bench_tests.specs.declared.sheet.SheetFault.{SheetFault}
-use Rattle.bench_tests.specs.Sheet.{tens, cell_of, cells_of, net_of, makes, holds_number, first_of, keeps_memo, rows_after, base_after, stamp_after, IsChanged, IsRefused}
-use Rattle.bench_tests.specs.SheetCells.{cell_at, verdict_at, IsSum, from_scratch, is_name, reaches}
+use Rattle.bench_tests.specs.Sheet.{tens, cell_of, cells_of, net_of, makes, first_of, keeps_memo, rows_after, stamp_after, IsChanged, IsRefused}
+use Rattle.bench_tests.specs.SheetCells.{cell_at, verdict_at, IsSum, from_scratch, reaches}
 
 abbrev Found : Type 0
 Found = Option (ℕ × ℕ)

@@ -1,5 +1,5 @@
 -- A sheet as texts of cells: the tens of the base are the cell of no name, a row that of its number; no model has a name.
-use Rattle.std.specs.Prelude.{◌≡◌, ℕ, ◌+◌, ◌/◌, ◌%◌, ◌^◌, Bool, true, false, not, ◌==◌, List, [], ◌∷◌, Option, Some, None}
+use Rattle.std.specs.Prelude.{◌≡◌, ℕ, ◌+◌, ◌/◌, ◌%◌, ◌^◌, Bool, false, not, ◌==◌, List, [], ◌∷◌, Option, Some, None}
 use Rattle.memo_core.specs.declared.keys.Node.{Node}
 use Rattle.bench_tests.specs.declared.rows.Row.{Row}
 use Rattle.bench_tests.specs.declared.sheet.Sheet.{Sheet}

@@ -3,20 +3,19 @@
 ghost use Rattle.std.specs.Prelude.{◌≡◌};
 
 use crate::player::edits_of;
-use crate::tables::Size;
+use crate::tables::{Size, each};
 use bench_texts::Edit;
 use bench_workers::{NoGate, with_workers};
-use desk::Accepted;
+use desk::{Accepted, BoardTexts, Desk, Settling};
 use desk_rule::{Naming, Viewer};
-use running_bench::{DeskSeed, RunningDesk, RunningTexts};
+use running_bench::{DeskSeed, RunningTexts};
 use std::alloc::Global;
+use std::io;
 use std::marker::Brand;
 use std::rt::Clock;
 use std::sync::Wait;
-use std::sync::atomic::{AtomicU64, Ordering};
 use std::thread::Threads;
 use std::time::Instant;
-use std::{io, thread};
 use value_store::StoreName;
 
 /// How many tests and models a desk gets.
@@ -25,21 +24,43 @@ const SIZE: Size = Size {
     models: 16,
 };
 
-/// How many workers settle it.
-const WORKERS: [u32; 4] = [0, 1, 2, 4];
-
-/// So many boards are read where nothing changes.
-const READS: u64 = 1_000_000;
-
-/// More jobs than a desk of this program ever has.
-const MOST_JOBS: u64 = 1_000_000;
-
-/// The nanoseconds until each cell was settled, and whether that was answered as it should.
+/// How a desk is settled: by how many workers, and whether boards of it are read meanwhile and afterwards.
 #[derive(Clone, Copy)]
-struct Times {
-    settled: u128,
-    is_well: bool,
+struct Form {
+    workers: u32,
+    is_read: bool,
 }
+
+const FORMS: [Form; 5] = [
+    Form {
+        workers: 0,
+        is_read: false,
+    },
+    Form {
+        workers: 1,
+        is_read: false,
+    },
+    Form {
+        workers: 2,
+        is_read: false,
+    },
+    Form {
+        workers: 4,
+        is_read: false,
+    },
+    Form {
+        workers: 2,
+        is_read: true,
+    },
+];
+
+/// So many boards are read at a time, and so many times where nothing changes.
+const READS: u64 = 100_000;
+
+const AFTERWARDS: u64 = 10;
+
+/// More jobs than a desk of this program ever has, and more turns than it waits for.
+const MOST: u64 = 1_000_000;
 
 /// How many boards were read, and in how many nanoseconds.
 #[derive(Clone, Copy)]
@@ -48,12 +69,25 @@ struct Reads {
     nanos: u128,
 }
 
+const NO_READS: Reads = Reads { count: 0, nanos: 0 };
+
+/// The nanoseconds of the edits, and until each cell was settled; the boards that were read until then, and afterwards; and
+/// whether all was answered as it should.
+#[derive(Clone, Copy)]
+struct Times {
+    edited: u128,
+    settled: u128,
+    beside: Reads,
+    afterwards: Reads,
+    is_well: bool,
+}
+
 /// Makes the edits. False if one of them is not published at once.
-fn make_edits<J: Naming + StoreName, R: Wait + Drop, W: Wait>(
+fn make_edits<J: Naming + StoreName, X: BoardTexts, R: Wait + Drop, W: Wait>(
     rt: &W,
-    desk: &RunningDesk<J, R>,
-    viewer: &mut Viewer<J, RunningTexts>,
-    edits: Vec<Edit>,
+    desk: &Desk<J, X, R>,
+    viewer: &mut Viewer<J, X>,
+    edits: Vec<X::Edit>,
 ) -> bool {
     let mut is_well = true;
     for edit in edits {
@@ -63,12 +97,12 @@ fn make_edits<J: Naming + StoreName, R: Wait + Drop, W: Wait>(
 }
 
 /// Claims, runs and returns jobs until there is none. A job that is refused memory closes the desk.
-fn play<J: Naming + StoreName, R: Wait + Drop, W: Wait>(
+fn play<J: Naming + StoreName, X: BoardTexts, R: Wait + Drop, W: Wait>(
     rt: &W,
     alloc: Global,
-    desk: &RunningDesk<J, R>,
+    desk: &Desk<J, X, R>,
 ) {
-    for _ in 0..MOST_JOBS {
+    for _ in 0..MOST {
         let Ok(Some(job)) = desk.claim(rt) else {
             return;
         };
@@ -80,175 +114,166 @@ fn play<J: Naming + StoreName, R: Wait + Drop, W: Wait>(
     }
 }
 
-/// Waits until each cell is settled; without workers it runs the jobs.
-fn settle<J: Naming + StoreName, R: Wait + Drop, W: Wait + Clock>(
-    rt: &W,
-    alloc: Global,
-    desk: &RunningDesk<J, R>,
-    viewer: Viewer<J, RunningTexts>,
-    has_workers: bool,
-) -> io::Result<Times> {
-    let mut viewer = viewer;
-    let start = Instant::now(rt)?;
-    if !has_workers {
-        play(rt, alloc, desk);
-    }
-    let is_well = desk.settle(rt, &mut viewer).is_ok();
-    let settled = start.elapsed(rt)?.as_nanos();
-    Ok(Times { settled, is_well })
-}
-
 /// Takes a board and leaves it.
-fn read_once<J: Naming + StoreName>(viewer: Viewer<J, RunningTexts>) -> Viewer<J, RunningTexts> {
+fn read_once<J: Naming, X: BoardTexts>(viewer: Viewer<J, X>) -> Viewer<J, X> {
     match viewer.read() {
         Ok(view) => view.leave(),
         Err(viewer) => viewer,
     }
 }
 
-/// Reads boards until it has read so many, or the end is told.
-fn read<J: Naming + StoreName, W: Clock>(
+/// Reads boards, and adds how many and how long it took.
+fn read<J: Naming, X: BoardTexts, W: Clock>(
     rt: &W,
-    viewer: Viewer<J, RunningTexts>,
-    most: u64,
-    ended: &AtomicU64,
-) -> io::Result<Reads> {
+    viewer: Viewer<J, X>,
+    reads: &mut Reads,
+) -> io::Result<Viewer<J, X>> {
     let mut viewer = viewer;
-    let mut count = 0_u64;
     let start = Instant::now(rt)?;
-    for _ in 0..most {
-        if ended.load(Ordering::SeqCst) > 0 {
-            break;
-        }
+    for _ in 0..READS {
         viewer = read_once(viewer);
-        count = count.saturating_add(1);
     }
     let nanos = start.elapsed(rt)?.as_nanos();
-    drop(viewer);
-    Ok(Reads { count, nanos })
+    reads.count = reads.count.saturating_add(READS);
+    reads.nanos = reads.nanos.saturating_add(nanos);
+    Ok(viewer)
 }
 
-/// Reads boards by a viewer of its own until the end is told. None where there is no viewer, or no time.
-fn read_beside<J: Naming + StoreName, R: Wait + Drop, W: Wait + Clock>(
+/// Reads boards until each cell is settled, or a turn is refused.
+fn read_beside<J: Naming + StoreName, X: BoardTexts, R: Wait + Drop, W: Wait + Clock>(
     rt: &W,
-    desk: &RunningDesk<J, R>,
-    ended: &AtomicU64,
-) -> Option<Reads> {
-    let viewer = desk.viewer(rt).ok()?;
-    read(rt, viewer, u64::MAX, ended).ok()
+    desk: &Desk<J, X, R>,
+    author: &mut Viewer<J, X>,
+    reader: Viewer<J, X>,
+    reads: &mut Reads,
+) -> io::Result<Viewer<J, X>> {
+    let mut reader = reader;
+    for _ in 0..MOST {
+        if !matches!(desk.settle_turn(rt, author), Ok(Settling::Waits(_))) {
+            break;
+        }
+        reader = read(rt, reader, reads)?;
+    }
+    Ok(reader)
 }
 
-/// The nanoseconds of one of so many.
-fn each(time: u128, count: u64) -> u128 {
-    time.min(u128::from(u64::MAX)) / u128::from(count.max(1))
+/// Waits until each cell is settled; without workers it runs the jobs.
+fn settle<J: Naming + StoreName, X: BoardTexts, R: Wait + Drop, W: Wait + Clock>(
+    rt: &W,
+    alloc: Global,
+    desk: &Desk<J, X, R>,
+    author: Viewer<J, X>,
+    reader: Viewer<J, X>,
+    form: Form,
+) -> io::Result<Times> {
+    let mut author = author;
+    let mut reader = reader;
+    let mut beside = NO_READS;
+    let mut afterwards = NO_READS;
+    let start = Instant::now(rt)?;
+    if form.workers == 0 {
+        play(rt, alloc, desk);
+    }
+    if form.is_read {
+        reader = read_beside(rt, desk, &mut author, reader, &mut beside)?;
+    }
+    let is_well = desk.settle(rt, &mut author).is_ok();
+    let settled = start.elapsed(rt)?.as_nanos();
+    if form.is_read {
+        for _ in 0..AFTERWARDS {
+            reader = read(rt, reader, &mut afterwards)?;
+        }
+    }
+    drop(reader);
+    Ok(Times {
+        edited: 0,
+        settled,
+        beside,
+        afterwards,
+        is_well,
+    })
 }
 
-fn print_times<R: Print>(rt: &R, workers: u32, times: Times) -> io::Result<()> {
-    let settled = each(times.settled, 1000);
-    let is_well = times.is_well;
-    println!(rt; "{workers} workers: settled after {settled} us, well {is_well}")
-}
-
-fn print_reads<R: Print>(rt: &R, name: &str, reads: Option<Reads>) -> io::Result<()> {
-    let Some(reads) = reads else {
-        return println!(rt; "  {name}: no viewer");
+/// Makes edits at a desk, and settles it. None where it gives no viewer, or a worker does not start.
+fn measure<J, X, R>(
+    rt: &R,
+    desk: &Desk<J, X, R>,
+    edits: Vec<X::Edit>,
+    form: Form,
+) -> io::Result<Option<Times>>
+where
+    R: AllocGlobal + Clock + Wait + Threads + Send + Sync + Drop,
+    J: Naming + StoreName + Send + Sync,
+    X: BoardTexts + Send + Sync,
+    X::Value: Send + Sync,
+    X::Given: Send + Sync,
+    X::Edit: Send + Sync,
+    X::Prepared: Send + Sync,
+    X::Fault: Send + Sync,
+    X::Outcome: Send + Sync,
+    X::Op: Send + Sync,
+    X::Board: Send + Sync,
+{
+    let alloc = rt.alloc();
+    let (Ok(mut author), Ok(reader)) = (desk.viewer(rt), desk.viewer(rt)) else {
+        return Ok(None);
     };
+    let start = Instant::now(rt)?;
+    let is_made = make_edits(rt, desk, &mut author, edits);
+    let edited = start.elapsed(rt)?.as_nanos();
+    let worked = with_workers(
+        rt,
+        alloc,
+        desk,
+        &NoGate,
+        form.workers,
+        || settle(rt, alloc, desk, author, reader, form),
+    );
+    let Ok(worked) = worked else {
+        return Ok(None);
+    };
+    let mut times = worked.answer?;
+    times.edited = edited;
+    times.is_well &= is_made;
+    Ok(Some(times))
+}
+
+fn print_reads<R: Print>(rt: &R, name: &str, reads: Reads) -> io::Result<()> {
     let count = reads.count;
     let nanos = each(reads.nanos, count);
     println!(rt; "  {name}: {count} boards read, {nanos} ns each")
 }
 
-/// Settles a desk, and reads boards of it in another thread until it is settled.
-fn settle_and_read<J, R>(
-    rt: &R,
-    desk: &RunningDesk<J, R>,
-    author: Viewer<J, RunningTexts>,
-) -> (Option<Reads>, io::Result<Times>)
-where
-    R: AllocGlobal + Clock + Wait + Threads + Send + Sync + Drop,
-    J: Naming + StoreName + Send + Sync,
-{
-    let alloc = rt.alloc();
-    let ended = AtomicU64::new(0);
-    let end = &ended;
-    thread::join(
-        rt,
-        move || read_beside(rt, desk, end),
-        || {
-            let times = settle(rt, alloc, desk, author, true);
-            end.store(1, Ordering::SeqCst);
-            times
-        },
-    )
-}
-
-/// Settles a desk by so many workers, and prints how long that takes.
-fn show_workers<R, J>(rt: &R, seed: DeskSeed, edits: Vec<Edit>, workers: u32) -> io::Result<()>
-where
-    R: Print + AllocGlobal + Clock + Wait + Threads + Copy + Send + Sync + Drop,
-    J: Naming + StoreName + Send + Sync,
-    requires book { seed.book.seen.book ≡ J.book }
-    requires values { seed.values.values ≡ J.shelves }
-{
-    let alloc = rt.alloc();
-    let Ok(desk) = seed.desk::<J, R, R>(rt, alloc, *rt) else {
-        return println!(rt; "no desk");
-    };
-    let Ok(mut viewer) = desk.viewer(rt) else {
-        return println!(rt; "no viewer");
-    };
-    let start = Instant::now(rt)?;
-    let is_made = make_edits(rt, &desk, &mut viewer, edits);
-    let edited = each(start.elapsed(rt)?.as_nanos(), 1000);
-    println!(rt; "edits made in {edited} us, well {is_made}")?;
-    let worked = with_workers(
-        rt,
-        alloc,
-        &desk,
-        &NoGate,
-        workers,
-        || settle(rt, alloc, &desk, viewer, workers > 0),
-    );
-    match worked {
-        Ok(worked) => print_times(rt, workers, worked.answer?),
-        Err(_) => println!(rt; "no workers"),
+fn print_times<R: Print>(rt: &R, form: Form, times: Times) -> io::Result<()> {
+    let workers = form.workers;
+    let edited = each(times.edited, 1000);
+    let settled = each(times.settled, 1000);
+    let is_well = times.is_well;
+    println!(rt;
+        "{workers} workers: edits made in {edited} us, settled after {settled} us, well {is_well}"
+    )?;
+    if form.is_read {
+        print_reads(rt, "beside them", times.beside)?;
+        print_reads(rt, "afterwards", times.afterwards)?;
     }
+    Ok(())
 }
 
-/// Settles a desk by two workers while another thread reads its boards, and prints how long a read takes then and afterwards.
-fn show_reads<R, J>(rt: &R, seed: DeskSeed, edits: Vec<Edit>) -> io::Result<()>
+/// Settles a desk, and prints how long that takes.
+fn show_desk<R, J>(rt: &R, seed: DeskSeed, edits: Vec<Edit>, form: Form) -> io::Result<()>
 where
     R: Print + AllocGlobal + Clock + Wait + Threads + Copy + Send + Sync + Drop,
     J: Naming + StoreName + Send + Sync,
     requires book { seed.book.seen.book ≡ J.book }
     requires values { seed.values.values ≡ J.shelves }
 {
-    let alloc = rt.alloc();
-    let Ok(desk) = seed.desk::<J, R, R>(rt, alloc, *rt) else {
+    let Ok(desk) = seed.desk::<J, R, R>(rt, rt.alloc(), *rt) else {
         return println!(rt; "no desk");
     };
-    let (Ok(mut author), Ok(idle)) = (desk.viewer(rt), desk.viewer(rt)) else {
-        return println!(rt; "no viewer");
-    };
-    let is_made = make_edits(rt, &desk, &mut author, edits);
-    println!(rt; "edits made, well {is_made}")?;
-    let worked = with_workers(
-        rt,
-        alloc,
-        &desk,
-        &NoGate,
-        2,
-        || settle_and_read(rt, &desk, author),
-    );
-    let Ok(worked) = worked else {
-        return println!(rt; "no workers");
-    };
-    let (reads, times) = worked.answer;
-    print_times(rt, 2, times?)?;
-    print_reads(rt, "beside them", reads)?;
-    let never = AtomicU64::new(0);
-    let reads = read(rt, idle, READS, &never)?;
-    print_reads(rt, "afterwards", Some(reads))
+    match measure::<J, RunningTexts, R>(rt, &desk, edits, form)? {
+        Some(times) => print_times(rt, form, times),
+        None => println!(rt; "no viewer, or no worker"),
+    }
 }
 
 /// Settles desks by none, one, two and four workers, and then one whose boards are read, and prints the times.
@@ -257,10 +282,9 @@ where
     R: Print + AllocGlobal + Clock + Wait + Threads + Copy + Send + Sync + Drop,
 {
     let alloc = rt.alloc();
-    for workers in WORKERS {
+    for form in FORMS {
         let edits = edits_of(alloc, model, SIZE.models, test, SIZE.tests)?;
-        show_workers::<R, Brand>(rt, DeskSeed::new(alloc)?, edits, workers)?;
+        show_desk::<R, Brand>(rt, DeskSeed::new(alloc)?, edits, form)?;
     }
-    let edits = edits_of(alloc, model, SIZE.models, test, SIZE.tests)?;
-    show_reads::<R, Brand>(rt, DeskSeed::new(alloc)?, edits)
+    Ok(())
 }

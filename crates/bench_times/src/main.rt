@@ -2,34 +2,16 @@
 //! takes beside many nodes, and with the word `workers` how long desks take by their number of workers.
 #![tactic(auto)]
 
-ghost use Rattle.std.specs.Prelude.{◌≡◌};
-
 mod desks;
 mod player;
 mod tables;
 
-use node_values::NodeValue;
 use std::marker::Brand;
 use std::rt::{Clock, Env, Files};
 use std::sync::Wait;
 use std::thread::Threads;
 use std::{env, fs, io};
-use tables::Size;
-use value_store::{Opened, Store, StoreName};
-
-/// Settles a bench of its own of this size, edits it, and prints what that takes.
-fn show<R: Clock + Print + Wait + AllocGlobal, K: StoreName>(
-    rt: &R,
-    opened: Opened<NodeValue>,
-    size: Size,
-    model: &[u8],
-    test: &[u8],
-    is_timed: bool,
-) -> io::Result<()>
-    requires { opened.values ≡ K.shelves }
-{
-    tables::show(rt, opened.named::<K>(), size, model, test, is_timed)
-}
+use value_store::Store;
 
 fn run<R>(rt: &R) -> io::Result<()>
 where
@@ -53,7 +35,7 @@ where
     }
     for size in sizes {
         let opened = Store::new(rt.alloc())?;
-        show::<R, Brand>(rt, opened, *size, &model, &test, is_timed)?;
+        tables::show::<R, Brand>(rt, opened, *size, &model, &test, is_timed)?;
     }
     Ok(())
 }

@@ -1,9 +1,9 @@
-//! Edits a bench of tests and models, and plays its jobs.
+//! The edits of a bench of tests and models, and a bench whose jobs are played.
 
 use bench_texts::Edit;
 use cells::bench::Bench;
+use cells::texts::CellTexts;
 use source_text::put_decimal;
-use stamped_texts::StampedTexts;
 use std::alloc::{AllocError, Global};
 use std::io;
 use std::rt::Clock;
@@ -24,6 +24,22 @@ pub struct Played {
 }
 
 impl Played {
+    fn none() -> Played {
+        Played {
+            jobs: 0,
+            claiming: 0,
+            running: 0,
+            finishing: 0,
+        }
+    }
+
+    fn add(&mut self, other: Played) {
+        self.jobs = self.jobs.saturating_add(other.jobs);
+        self.claiming = self.claiming.saturating_add(other.claiming);
+        self.running = self.running.saturating_add(other.running);
+        self.finishing = self.finishing.saturating_add(other.finishing);
+    }
+
     /// The nanoseconds of all of it.
     pub fn whole(&self) -> u128 {
         self.claiming
@@ -87,10 +103,10 @@ pub fn edits_of(
 }
 
 /// Makes edits on the bench. Answers whether each was accepted.
-pub fn fill<K: StoreName>(
+pub fn fill<K: StoreName, T: CellTexts>(
     alloc: Global,
-    bench: &mut Bench<K, StampedTexts>,
-    edits: Vec<Edit>,
+    bench: &mut Bench<K, T>,
+    edits: Vec<T::Edit>,
 ) -> bool {
     let mut is_accepted = true;
     for edit in edits {
@@ -99,39 +115,43 @@ pub fn fill<K: StoreName>(
     is_accepted
 }
 
-/// Claims, runs and returns jobs until there is none.
-pub fn play<R: Clock + Wait, K: StoreName>(
+/// Claims, runs and returns a job. None where there is none, or a call is refused memory.
+fn play_job<R: Clock + Wait, K: StoreName, T: CellTexts>(
     rt: &R,
     alloc: Global,
-    bench: &mut Bench<K, StampedTexts>,
-) -> io::Result<Played> {
-    let mut played = Played {
-        jobs: 0,
-        claiming: 0,
-        running: 0,
-        finishing: 0,
+    bench: &mut Bench<K, T>,
+) -> io::Result<Option<Played>> {
+    let start = Instant::now(rt)?;
+    let Ok(Some(job)) = bench.claim(alloc) else {
+        return Ok(None);
     };
-    for jobs in 0..MOST_JOBS {
-        played.jobs = jobs;
-        let before = Instant::now(rt)?;
-        let claimed = bench.claim(alloc);
-        let claiming = before.elapsed(rt)?.as_nanos();
-        let Ok(Some(job)) = claimed else {
-            return Ok(played);
-        };
-        let start = Instant::now(rt)?;
-        let result = job.run(rt, alloc);
-        let running = start.elapsed(rt)?.as_nanos();
-        let Ok(done) = result else {
-            return Ok(played);
-        };
-        let end = Instant::now(rt)?;
-        let finish = bench.finish(done);
-        let finishing = end.elapsed(rt)?.as_nanos();
-        drop(finish);
-        played.claiming = played.claiming.saturating_add(claiming);
-        played.running = played.running.saturating_add(running);
-        played.finishing = played.finishing.saturating_add(finishing);
+    let claimed = start.elapsed(rt)?.as_nanos();
+    let Ok(done) = job.run(rt, alloc) else {
+        return Ok(None);
+    };
+    let ran = start.elapsed(rt)?.as_nanos();
+    drop(bench.finish(done));
+    let finished = start.elapsed(rt)?.as_nanos();
+    Ok(Some(Played {
+        jobs: 1,
+        claiming: claimed,
+        running: ran.saturating_sub(claimed),
+        finishing: finished.saturating_sub(ran),
+    }))
+}
+
+/// Plays jobs until there is none.
+pub fn play<R: Clock + Wait, K: StoreName, T: CellTexts>(
+    rt: &R,
+    alloc: Global,
+    bench: &mut Bench<K, T>,
+) -> io::Result<Played> {
+    let mut played = Played::none();
+    for _ in 0..MOST_JOBS {
+        match play_job(rt, alloc, bench)? {
+            Some(job) => played.add(job),
+            None => return Ok(played),
+        }
     }
     Ok(played)
 }

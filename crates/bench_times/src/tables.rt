@@ -1,7 +1,10 @@
 //! What is measured: benches of some sizes, settled, and settled again after an edit.
 
+ghost use Rattle.std.specs.Prelude.{◌≡◌};
+
 use crate::player::{Played, edit_of_dp, edits_of, fill, play};
 use cells::bench::Bench;
+use cells::texts::CellTexts;
 use node_values::NodeValue;
 use stamped_texts::StampedTexts;
 use std::alloc::Global;
@@ -9,7 +12,7 @@ use std::io;
 use std::rt::Clock;
 use std::sync::Wait;
 use std::time::Instant;
-use value_store::{Store, StoreName};
+use value_store::{Opened, Store, StoreName};
 
 /// How many tests and models a bench has.
 #[derive(Clone, Copy)]
@@ -54,9 +57,9 @@ pub const TIMED: &[Size] = &[
     },
 ];
 
-/// The nanoseconds of one job.
-fn each(time: u128, jobs: u64) -> u128 {
-    time.min(u128::from(u64::MAX)) / u128::from(jobs.max(1))
+/// The nanoseconds of one of so many.
+pub fn each(time: u128, count: u64) -> u128 {
+    time.min(u128::from(u64::MAX)) / u128::from(count.max(1))
 }
 
 fn show_times<R: Print>(rt: &R, name: &str, played: Played) -> io::Result<()> {
@@ -68,37 +71,76 @@ fn show_times<R: Print>(rt: &R, name: &str, played: Played) -> io::Result<()> {
     println!(rt; "  {name}: {whole} us; each claim {claim} ns, run {run} ns, finish {finish} ns")
 }
 
-/// Settles a bench of this size, sets the first item of the first model to an equal value, and settles it again.
-pub fn show<R: Clock + Print + Wait + AllocGlobal, K: StoreName>(
+/// What it took to settle a bench, to edit it, and to settle it again.
+#[derive(Clone, Copy)]
+struct Measured {
+    first: Played,
+    editing: u128,
+    second: Played,
+    is_settled: bool,
+}
+
+fn show_measured<R: Print>(
     rt: &R,
-    store: Store<K, NodeValue>,
     size: Size,
-    model: &[u8],
-    test: &[u8],
+    measured: Measured,
     is_timed: bool,
 ) -> io::Result<()> {
-    let alloc = rt.alloc();
-    let mut bench: Bench<K, StampedTexts> = Bench::new(alloc, store)?;
-    let edits = edits_of(alloc, model, size.models, test, size.tests)?;
-    let is_filled = fill(alloc, &mut bench, edits);
-    let first = play(rt, alloc, &mut bench)?;
-    let edit = edit_of_dp(alloc, b"m0", 1)?;
-    let start = Instant::now(rt)?;
-    let is_edited = bench.edit(alloc, edit).is_ok();
-    let editing = each(start.elapsed(rt)?.as_nanos(), 1000);
-    let second = play(rt, alloc, &mut bench)?;
-    let is_settled = is_filled && is_edited && bench.all_settled();
     let tests = size.tests;
     let models = size.models;
-    let from_nothing = first.jobs;
-    let after = second.jobs;
+    let from_nothing = measured.first.jobs;
+    let after = measured.second.jobs;
+    let is_settled = measured.is_settled;
     println!(rt;
         "{tests} tests, {models} models: {from_nothing} jobs, after an edit {after}, settled {is_settled}"
     )?;
     if is_timed {
-        show_times(rt, "from nothing", first)?;
+        let editing = each(measured.editing, 1000);
+        show_times(rt, "from nothing", measured.first)?;
         println!(rt; "  the edit: {editing} us")?;
-        show_times(rt, "after an edit", second)?;
+        show_times(rt, "after an edit", measured.second)?;
     }
     Ok(())
+}
+
+/// Makes edits on a bench over a store and settles it, and then makes one edit more and settles it again.
+fn measure<R: Clock + Wait, K: StoreName, T: CellTexts>(
+    rt: &R,
+    alloc: Global,
+    store: Store<K, T::Value>,
+    edits: Vec<T::Edit>,
+    last: T::Edit,
+) -> io::Result<Measured> {
+    let mut bench: Bench<K, T> = Bench::new(alloc, store)?;
+    let is_filled = fill(alloc, &mut bench, edits);
+    let first = play(rt, alloc, &mut bench)?;
+    let start = Instant::now(rt)?;
+    let is_edited = bench.edit(alloc, last).is_ok();
+    let editing = start.elapsed(rt)?.as_nanos();
+    let second = play(rt, alloc, &mut bench)?;
+    Ok(Measured {
+        first,
+        editing,
+        second,
+        is_settled: is_filled && is_edited && bench.all_settled(),
+    })
+}
+
+/// Settles a bench of this size, sets the first item of the first model to an equal value, and settles it again.
+pub fn show<R: Clock + Print + Wait + AllocGlobal, K: StoreName>(
+    rt: &R,
+    opened: Opened<NodeValue>,
+    size: Size,
+    model: &[u8],
+    test: &[u8],
+    is_timed: bool,
+) -> io::Result<()>
+    requires { opened.values ≡ K.shelves }
+{
+    let alloc = rt.alloc();
+    let edits = edits_of(alloc, model, size.models, test, size.tests)?;
+    let last = edit_of_dp(alloc, b"m0", 1)?;
+    let store = opened.named::<K>();
+    let measured = measure::<R, K, StampedTexts>(rt, alloc, store, edits, last)?;
+    show_measured(rt, size, measured, is_timed)
 }

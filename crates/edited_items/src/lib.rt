@@ -7,8 +7,6 @@ mod held;
 mod items;
 pub mod laws;
 mod raise;
-#[cfg(test)]
-mod tests;
 
 pub use items::{ItemLists, ModelItems, edit_items};
 pub use raise::raise_items;

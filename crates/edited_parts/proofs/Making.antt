@@ -1,7 +1,6 @@
 -- Lists that are made one after another.
-use Rattle.std.proofs.Common.{ℕ, zero, suc, ◌+◌, ◌<◌, ◌≤◌, ◌≡◌, min, inl, inr, List, [], ◌∷◌, ◌++◌, length, map, get_or, take, drop, add-one, append_assoc, Option, Some, None, Bor, refl, sym, ap, subst, ◌∙◌, arith}
+use Rattle.std.proofs.Common.{ℕ, zero, suc, ◌+◌, ◌<◌, ◌≤◌, ◌≡◌, min, inl, inr, List, [], ◌∷◌, ◌++◌, length, map, get_or, take, drop, append_assoc, Option, None, Bor, refl, sym, ap, subst, ◌∙◌, arith}
 use Rattle.std.specs.List.{flat_map, remove}
-use Rattle.std.proofs.Math.Seq.{drop-cons}
 use Rattle.std.proofs.lemmas.Bool.{cases_lt}
 use Rattle.std.proofs.lemmas.List.{append-nil, drop_all, map-append, take_more}
 use Rattle.binding_kinds.specs.declared.fault.ModelFault.{ModelFault}
@@ -10,11 +9,11 @@ use Rattle.bench_texts.specs.declared.model.NamedModel.{NamedModel}
 use Rattle.bench_texts.proofs.Lists.{map-put_at, set-put_at, map-remove}
 use Rattle.bench_nodes.specs.declared.table.ModelRow.{ModelRow}
 use Rattle.model_slots.specs.Slots.{PlainSlot}
-use Rattle.model_slots.specs.Tables.{ModelReading, slots_in, space_slots}
+use Rattle.model_slots.specs.Tables.{ModelReading, slots_in}
 use Rattle.edited_tables.specs.declared.models.HeldModel.{HeldModel}
 use Rattle.edited_items.specs.Items.{ItemFact}
 use Rattle.edited_parts.specs.Edited.{held_models, model_before, rest_of, IsModelMade, AreModelsMade}
-use Rattle.edited_parts.specs.Readings.{reading_of, readings_of, facts_in, all_facts}
+use Rattle.edited_parts.specs.Readings.{readings_of, facts_in, all_facts}
 
 -- ---- lists with an element changed
 

@@ -1,5 +1,5 @@
 -- The parts of the bench after an edit of a model.
-use Rattle.std.proofs.Common.{ℕ, zero, suc, ◌+◌, ◌<◌, ◌≤◌, ◌≡◌, ◌≢◌, ◌⊎◌, inl, inr, List, [], ◌∷◌, ◌++◌, length, map, get_or, Option, Some, None, if◌then◌else◌, ◌==◌, nat_lt, refl, sym, ap, subst, ◌∙◌, eq-eqb, ne_eqb, arith}
+use Rattle.std.proofs.Common.{ℕ, zero, suc, ◌+◌, ◌<◌, ◌≤◌, ◌≡◌, ◌≢◌, ◌⊎◌, inl, inr, List, [], ◌∷◌, ◌++◌, length, map, get_or, Option, None, if◌then◌else◌, ◌==◌, nat_lt, refl, sym, ap, subst, ◌∙◌, eq-eqb, ne_eqb, arith}
 use Rattle.std.specs.Arc.{arc_value}
 use Rattle.std.specs.List.{AllZip, All, AllByRecursion as Each, range_with_len, remove}
 use Rattle.std.proofs.lemmas.Bool.Decides.{eqb_tells, leb_tells}
@@ -27,14 +27,14 @@ use Rattle.bench_nodes.specs.declared.table.ItemRow.{ItemRow}
 use Rattle.bench_nodes.specs.declared.table.ModelRow.{ModelRow}
 use Rattle.bench_nodes.specs.declared.table.Slot.{Slot}
 use Rattle.bench_nodes.specs.declared.table.TestRow.{TestRow}
-use Rattle.bench_nodes.specs.Nodes.{item_stamp, fault_stamp, test_stamp}
+use Rattle.bench_nodes.specs.Nodes.{item_stamp, fault_stamp}
 use Rattle.slot_laws.proofs.Items.{resolved_closed}
 use Rattle.slot_laws.proofs.Reached.{ordered_items}
 use Rattle.model_slots.specs.Slots.{plain, item_history}
 use Rattle.model_slots.specs.Tables.{ModelReading, IsOrderedModel, all_slots}
 use Rattle.stamped_parts.specs.declared.parts.Parts.{Parts}
 use Rattle.stamped_parts.specs.Built.{IsItemRow, IsModelRow, AreTestRows, IsModelIn, IsBuilt}
-use Rattle.stamped_parts.specs.Contents.{PartContent, OfFault, State, state_of, content, item_content, fault_content, fault_part, test_content}
+use Rattle.stamped_parts.specs.Contents.{State, state_of, content, item_content, fault_content, fault_part}
 use Rattle.stamped_parts.specs.States.{IsPartAfter}
 use Rattle.edited_tables.specs.declared.models.HeldModel.{HeldModel}
 use Rattle.edited_tables.specs.Laws.{IsLaterNumber, IsPartNow, WasModelRow}

@@ -1,5 +1,5 @@
 -- The rows of models after an edit of a model.
-use Rattle.std.proofs.Common.{ℕ, zero, suc, ◌+◌, ◌<◌, ◌≤◌, ◌≡◌, ◌≢◌, ◌⊎◌, Bool, true, false, inl, inr, List, [], ◌∷◌, ◌++◌, length, map, Option, Some, None, refl, sym, ap, subst, ◌∙◌, if◌then◌else◌, ◌==◌, eq-eqb, ne_eqb, arith}
+use Rattle.std.proofs.Common.{ℕ, zero, suc, ◌+◌, ◌≡◌, ◌≢◌, ◌⊎◌, inl, inr, List, [], ◌∷◌, ◌++◌, length, map, Option, Some, None, refl, sym, ap, subst, ◌∙◌, if◌then◌else◌, ◌==◌, eq-eqb, ne_eqb, arith}
 use Rattle.std.specs.List.{AllZip, AllByRecursion as Each, remove}
 use Rattle.std.proofs.lemmas.Bool.Decides.{eqb_tells}
 use Rattle.binding_kinds.specs.declared.fault.ModelFault.{ModelFault}
@@ -14,7 +14,7 @@ use Rattle.edited_tables.specs.Laws.{IsLaterNumber, IsPartNow, WasModelRow}
 use Rattle.edited_tables.specs.Models.{fault_by, fault_stamp_by, raised_model}
 use Rattle.edited_tables.specs.Stamps.{next_number, raised}
 use Rattle.edited_tables.proofs.Stamping.{part_now, fault_low, model_stamped}
-use Rattle.edited_parts.specs.Edited.{held_models, model_id, model_before, rest_of, IsModelMade, AreModelsMade}
+use Rattle.edited_parts.specs.Edited.{held_models, model_id, rest_of, IsModelMade, AreModelsMade}
 use Rattle.edited_parts.specs.Owed.{AreApart}
 use Rattle.edited_parts.specs.Readings.{fault_in}
 

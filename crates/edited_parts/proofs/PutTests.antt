@@ -1,5 +1,5 @@
 -- The tests after an edit of a test.
-use Rattle.std.proofs.Common.{ℕ, zero, suc, ◌+◌, ◌<◌, ◌≤◌, ◌≡◌, ◌≢◌, ◌⊎◌, inl, inr, List, [], ◌∷◌, ◌++◌, length, map, take, drop, Option, Some, None, Vec, Global, slice_get, refl, sym, ap, subst, ◌∙◌, eq-eqb, ne_eqb, arith}
+use Rattle.std.proofs.Common.{ℕ, zero, suc, ◌<◌, ◌≤◌, ◌≡◌, ◌≢◌, ◌⊎◌, inl, inr, List, [], ◌∷◌, map, Option, Some, None, Vec, Global, slice_get, refl, sym, subst, ◌∙◌, eq-eqb, ne_eqb, arith}
 use Rattle.std.specs.List.{AllZip, AllByRecursion as Each, remove}
 use Rattle.std.proofs.lemmas.Bool.Decides.{eqb_tells}
 use Rattle.litmus_values.specs.declared.test.Test.{Test}
@@ -8,7 +8,7 @@ use Rattle.bench_texts.specs.BenchTexts.{put_at}
 use Rattle.bench_nodes.specs.declared.table.TestRow.{TestRow}
 use Rattle.bench_nodes.specs.Nodes.{stamp_in, test_stamp}
 use Rattle.stamped_parts.specs.Built.{IsTestRow, AreTestRows}
-use Rattle.stamped_parts.specs.Contents.{PartContent, test_part, test_content}
+use Rattle.stamped_parts.specs.Contents.{test_part, test_content}
 use Rattle.edited_tables.specs.Laws.{IsPartNow, WasTestRow}
 use Rattle.edited_tables.specs.Tests.{TestEntry, held_by, stamp_by}
 use Rattle.edited_tables.proofs.TestRows.{row_stays}

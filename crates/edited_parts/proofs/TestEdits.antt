@@ -1,5 +1,5 @@
 -- The parts of the bench after an edit of a test.
-use Rattle.std.proofs.Common.{ℕ, zero, suc, ◌+◌, ◌<◌, ◌≤◌, ◌≡◌, ◌⊎◌, ◌^◌, ◌-◌, min, inl, inr, List, [], ◌∷◌, length, map, Option, Some, None, Vec, Global, refl, sym, ap, subst, ◌∙◌, arith}
+use Rattle.std.proofs.Common.{ℕ, ◌<◌, ◌≤◌, ◌≡◌, ◌^◌, ◌-◌, inl, inr, List, [], ◌∷◌, length, map, Option, Some, None, Vec, Global, sym, ap, subst, ◌∙◌, arith}
 use Rattle.std.specs.List.{AllZip, AllByRecursion as Each, remove}
 use Rattle.std.proofs.lemmas.Bool.Decides.{eqb_tells}
 use Rattle.litmus_values.specs.declared.test.Test.{Test}
@@ -16,22 +16,21 @@ use Rattle.bench_nodes.specs.declared.table.ItemRow.{ItemRow}
 use Rattle.bench_nodes.specs.declared.table.ModelRow.{ModelRow}
 use Rattle.bench_nodes.specs.declared.table.Slot.{Slot}
 use Rattle.bench_nodes.specs.declared.table.TestRow.{TestRow}
-use Rattle.bench_nodes.specs.Nodes.{item_stamp, fault_stamp, test_stamp, stamp_in}
+use Rattle.bench_nodes.specs.Nodes.{item_stamp, fault_stamp, test_stamp}
 use Rattle.model_slots.specs.Slots.{plain, item_history}
 use Rattle.model_slots.specs.Tables.{ModelReading, Sound, Faulty, all_slots}
 use Rattle.stamped_parts.specs.declared.parts.Parts.{Parts}
-use Rattle.stamped_parts.specs.Built.{IsStamp, IsItemRow, IsModelRow, IsTestRow, AreTestRows, IsModelIn, IsBuilt}
-use Rattle.stamped_parts.specs.Contents.{PartContent, State, state_of, content, item_content, fault_content, test_content, test_part}
+use Rattle.stamped_parts.specs.Built.{IsItemRow, IsModelRow, IsTestRow, AreTestRows, IsModelIn, IsBuilt}
+use Rattle.stamped_parts.specs.Contents.{State, state_of, content, item_content, fault_content, test_content}
 use Rattle.stamped_parts.specs.States.{IsPartAfter}
 use Rattle.edited_tables.specs.Laws.{IsLaterNumber, IsPartNow, IsTestAfter}
 use Rattle.edited_tables.specs.Stamps.{next_number}
-use Rattle.edited_tables.specs.Tests.{TestEntry, held_by, stamp_by}
 use Rattle.edited_tables.proofs.TestRows.{test_stamped, parts_now}
 use Rattle.edited_parts.specs.declared.edited.EditedParts.{EditedParts}
 use Rattle.edited_parts.specs.declared.edited.EditedParts.TheVariants as edited
 use Rattle.edited_parts.specs.Edited.{entry_at, test_id, IsTestMade, AreModelsSame, PutsTest, DropsTest}
 use Rattle.edited_parts.specs.Laws.{IsEdit, IsOfTest}
-use Rattle.edited_parts.specs.Owed.{AreApart, AreNumbered, ArePartsOf}
+use Rattle.edited_parts.specs.Owed.{AreApart, ArePartsOf}
 use Rattle.edited_parts.specs.Readings.{readings_of}
 use Rattle.edited_parts.proofs.PutTests.{entry_was, rows_put, zip_put, parts_put, apart_put, low_put, id_low, rows_removed, zip_removed, parts_removed, apart_removed, low_removed}
 

@@ -6,8 +6,6 @@ mod commit;
 mod edited;
 pub mod laws;
 mod models;
-#[cfg(test)]
-mod parts_tests;
 mod prepare;
 mod slots;
 mod tests;

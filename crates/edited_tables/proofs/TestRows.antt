@@ -1,9 +1,8 @@
 -- Rows of tests after an edit.
-use Rattle.std.proofs.Common.{ℕ, zero, suc, ◌+◌, ◌-◌, ◌<◌, ◌≤◌, ◌≡◌, ◌≢◌, inl, inr, List, [], ◌∷◌, length, map, get_or, Option, Some, None, option_map, slice_get, refl, sym, ap, subst, ◌∙◌, ne_eqb, arith}
+use Rattle.std.proofs.Common.{ℕ, zero, suc, ◌+◌, ◌-◌, ◌<◌, ◌≤◌, ◌≡◌, ◌≢◌, inl, inr, List, [], ◌∷◌, length, map, get_or, Option, Some, None, refl, sym, ap, subst, ◌∙◌, ne_eqb, arith}
 use Rattle.std.specs.List.{AllByRecursion as Each}
 use Rattle.std.proofs.lemmas.Bool.Decides.{leb_tells}
 use Rattle.std.proofs.lemmas.List.{length-map, get_or-map}
-use Rattle.litmus_values.specs.declared.test.Step.{Step}
 use Rattle.litmus_values.specs.declared.test.Test.{Test}
 use Rattle.litmus_values.specs.declared.test.Thread.{Thread}
 use Rattle.litmus_values.specs.Value.{formula_of, steps_of}
@@ -12,8 +11,8 @@ use Rattle.bench_nodes.specs.Nodes.{stamp_in}
 use Rattle.stamped_parts.specs.Built.{IsStamp, IsTestRow}
 use Rattle.stamped_parts.specs.Contents.{PartContent, OfCondition, OfObserved, OfLocations, OfInit, OfThread, test_part}
 use Rattle.edited_tables.specs.Laws.{IsPartNow, WasTestRow, IsTestAfter}
-use Rattle.edited_tables.specs.Stamps.{next_number, raised, IsStampOf}
-use Rattle.edited_tables.specs.Tests.{TestEntry, held_by, stamp_by, thread_at, thread_by, thread_stamp_by, IsRowOf}
+use Rattle.edited_tables.specs.Stamps.{raised, IsStampOf}
+use Rattle.edited_tables.specs.Tests.{TestEntry, held_by, stamp_by, thread_at, thread_by, thread_stamp_by}
 use Rattle.edited_tables.proofs.Stamping.{raised_low, part_now, stamp_now}
 
 -- ---- parts, one by one

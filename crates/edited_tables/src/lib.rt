@@ -7,8 +7,6 @@ pub mod laws;
 mod models;
 mod raise;
 mod rows;
-#[cfg(test)]
-mod tests;
 
 pub use models::{HeldModel, model_row};
 pub use raise::{raise_row, raised, raised_model};

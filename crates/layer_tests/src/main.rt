@@ -1,7 +1,9 @@
 //! Asks the layers under evaluation what the files of cases ask, and prints each line with its answer: the readers and the
-//! printers, the edits of texts, and the semantics of tests. Each part begins with a line that names it.
+//! printers, the edits of texts, the parts of a bench after edits, and the semantics of tests. Each begins with a line that
+//! names it.
 #![tactic(auto)]
 
+mod parts;
 mod readers;
 mod semantics;
 mod texts;
@@ -22,6 +24,8 @@ fn run<R: Files + Print + AllocGlobal>(rt: &R) -> io::Result<()> {
     readers::show_all(rt)?;
     println!(rt; "# Edits of texts")?;
     texts::show_all(rt)?;
+    println!(rt; "# Parts after edits")?;
+    parts::show_all(rt)?;
     println!(rt; "# Semantics of tests")?;
     semantics::show_all(rt)
 }

@@ -1,8 +1,8 @@
 //! Makes the edits that `texts.txt` lists, one a line, and answers what is asked between them: each line is printed with
 //! its answer. The answers that are wanted were written by hand from what each edit is to make.
 
-mod answers;
-mod edits;
+pub mod answers;
+pub mod edits;
 
 use crate::print_answer;
 use bench_texts::{Edit, EditFault, Texts};
