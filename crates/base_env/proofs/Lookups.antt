@@ -1,7 +1,6 @@
 -- Sets and relations that are held by their names.
 use Rattle.std.proofs.Common.{ℕ, zero, suc, ◌≡◌, ◌<◌, ◌+◌, ◌↔◌, List, [], ◌∷◌, length, get_or, set, Contains, inl, inr, arith, refl, ap, get_or-set_other, get_or-set_same}
 use Rattle.std.proofs.lemmas.Bool.{cases_eq}
-use Rattle.std.proofs.lemmas.Option.{slice_get-get_or, get_or_from_slice_get}
 use Rattle.bit_relations.specs.Relation.{Relation, Events, IsRelation, IsEvents}
 use Rattle.cat_values.specs.declared.predefined.Predefined.{Predefined}
 use Rattle.run_combinations.specs.declared.combination.Combination.{Combination}

@@ -7,7 +7,7 @@ use Rattle.run_combinations.specs.declared.combination.Event.{Event}
 use Rattle.run_combinations.specs.declared.combination.Combination.{Combination}
 use Rattle.bit_relations.specs.Pairs.{Identity, Complement, Inter}
 use Rattle.base_env.specs.Events as of
-use Rattle.base_env.specs.Events.{IsRead, IsWrite, IsAccess, IsFence, IsSomeFence, IsInitial, At, Fenced, Listed}
+use Rattle.base_env.specs.Events.{IsRead, IsWrite, IsAccess, IsFence, IsSomeFence, IsInitial, Fenced, Listed}
 
 -- the events of a set
 abbrev pub IsIn : Predefined → Event → Type 0

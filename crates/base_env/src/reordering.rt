@@ -1,5 +1,5 @@
 //! Coherence of one order, made of that of another order which begins alike.
-ghost use Rattle.std.specs.Prelude.{◌≡◌, ℕ, ◌≤◌, ◌<◌, ◌↔◌, ◌⊎◌, Some, List, IsTrue, IfSome, false, length, slice_get};
+ghost use Rattle.std.specs.Prelude.{◌≡◌, ℕ, ◌≤◌, ◌<◌, ◌↔◌, ◌⊎◌, Some, List, IsTrue, IfSome, false, slice_get};
 ghost use Rattle.bit_relations.specs.Relation.{Has, IsRegular, IsRelation, IsEvents, IsMember};
 ghost use Rattle.bit_relations.specs.Pairs.{Minus, Product, Union};
 ghost use Rattle.base_env.specs.Events.{Below, Coherence};

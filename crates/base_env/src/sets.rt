@@ -1,5 +1,5 @@
 //! The predefined sets.
-ghost use Rattle.std.specs.Prelude.{◌≡◌, ◌<◌, ◌≤◌, ◌↔◌, IsTrue, length};
+ghost use Rattle.std.specs.Prelude.{◌<◌, ◌≤◌, ◌↔◌, IsTrue, length};
 ghost use Rattle.bit_relations.specs.Relation.{IsEvents};
 ghost use Rattle.base_env.specs.Events.{At};
 ghost use Rattle.base_env.specs.Names.{IsIn};

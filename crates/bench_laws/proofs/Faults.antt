@@ -1,6 +1,6 @@
 -- Equal items and faults keep their stamps.
-use Rattle.std.proofs.Common.{◌≡◌, ◌≢◌, ◌⊎◌, ℕ, zero, suc, ◌+◌, ◌<◌, ◌≤◌, inl, inr, List, [], ◌∷◌, ◌++◌, length, map, Option, Some, None, nat_lt, if◌then◌else◌, refl, sym, ap, subst, ◌∙◌, eq-eqb, ne_eqb, arith}
-use Rattle.std.specs.List.{AllZip, AllByRecursion as Each, remove}
+use Rattle.std.proofs.Common.{◌≡◌, ◌≢◌, ℕ, zero, suc, ◌+◌, ◌<◌, ◌≤◌, inl, inr, List, [], ◌∷◌, ◌++◌, length, map, Option, Some, None, nat_lt, if◌then◌else◌, refl, sym, ap, subst, ◌∙◌, eq-eqb, ne_eqb, arith}
+use Rattle.std.specs.List.{AllByRecursion as Each, remove}
 use Rattle.std.proofs.lemmas.Bool.Decides.{eqb_tells, leb_tells}
 use Rattle.litmus_values.specs.declared.test.Test.{Test}
 use Rattle.binding_kinds.specs.declared.fault.ModelFault.{ModelFault}
@@ -18,7 +18,7 @@ use Rattle.stamped_parts.specs.declared.parts.Parts.{Parts}
 use Rattle.stamped_parts.specs.Contents.{PartContent, OfRole, state_of, item_content, fault_part, fault_content}
 use Rattle.edited_tables.specs.declared.models.HeldModel.{HeldModel}
 use Rattle.edited_tables.specs.Laws.{IsLaterNumber, WasModelRow}
-use Rattle.edited_tables.specs.Models.{fault_by, fault_stamp_by, raised_model}
+use Rattle.edited_tables.specs.Models.{raised_model}
 use Rattle.edited_tables.specs.Stamps.{next_number, raised, IsStampOf}
 use Rattle.edited_tables.proofs.Stamping.{raised_low, fault_low}
 use Rattle.edited_items.proofs.Histories.{histories_go_on}
@@ -26,7 +26,7 @@ use Rattle.edited_items.proofs.ItemRows.{items_keep_stamps}
 use Rattle.edited_parts.specs.declared.edited.EditedParts.{EditedParts}
 use Rattle.edited_parts.specs.declared.edited.EditedParts.TheVariants as edited
 use Rattle.edited_parts.specs.declared.edited.ModelParts.{ModelParts}
-use Rattle.edited_parts.specs.Edited.{held_models, model_id, rest_of, IsModelMade, AreModelsMade, AreModelsSame, AreModelsAfter, AreModelPartsMade, PutsModels}
+use Rattle.edited_parts.specs.Edited.{held_models, AreModelsMade, AreModelsSame, AreModelsAfter, PutsModels}
 use Rattle.edited_parts.specs.Laws.{IsEdit}
 use Rattle.edited_parts.specs.Owed.{AreApart, ArePartsOf}
 use Rattle.edited_parts.specs.Readings.{fault_in, all_facts}

@@ -1,27 +1,24 @@
 -- The kinds of items after an edit.
-use Rattle.std.proofs.Common.{◌≡◌, ℕ, zero, suc, inl, inr, List, [], ◌∷◌, ◌++◌, length, map, get_or, Option, Some, refl, sym, ap, subst, ◌∙◌, arith}
+use Rattle.std.proofs.Common.{◌≡◌, ℕ, inl, inr, List, [], ◌∷◌, ◌++◌, length, map, get_or, Option, refl, sym, ap, subst, ◌∙◌}
 use Rattle.std.specs.List.{AllByRecursion as Each, range_with_len}
 use Rattle.std.proofs.lemmas.List.FromFn.{fill_by_all}
 use Rattle.litmus_values.specs.declared.test.Test.{Test}
 use Rattle.cat_values.specs.declared.model.Item.{Item}
 use Rattle.binding_graph.specs.declared.resolved.ResolvedItem.{ResolvedItem}
 use Rattle.memo_core.specs.Step.{Has}
-use Rattle.memo_core.specs.declared.keys.Kind.{Kind}
-use Rattle.bench_texts.specs.BenchTexts.{put_at}
 use Rattle.bench_texts.specs.Replacements.{models_with}
 use Rattle.bench_texts.specs.declared.model.NamedModel.{NamedModel}
 use Rattle.bench_texts.specs.declared.replacement.Replacement.{Replacement}
 use Rattle.bench_texts.specs.declared.replacement.Replacement.TheVariants as made
-use Rattle.bench_nodes.specs.declared.table.ItemRow.{ItemRow}
 use Rattle.stamped_parts.specs.declared.parts.Parts.{Parts}
 use Rattle.edited_items.specs.Items.{ItemFact, fact_at, item_facts}
-use Rattle.edited_items.specs.Laws.{AreItemsAfter, IsOfItsKind}
+use Rattle.edited_items.specs.Laws.{AreItemsAfter}
 use Rattle.edited_items.specs.Laws as items
 use Rattle.edited_items.proofs.ItemKinds.{have_kinds}
 use Rattle.edited_parts.specs.declared.edited.EditedParts.{EditedParts}
 use Rattle.edited_parts.specs.declared.edited.EditedParts.TheVariants as edited
 use Rattle.edited_parts.specs.declared.edited.ModelParts.{ModelParts}
-use Rattle.edited_parts.specs.Edited.{AreModelsSame, AreModelsAfter, PutsModels}
+use Rattle.edited_parts.specs.Edited.{AreModelsSame, AreModelsAfter}
 use Rattle.edited_parts.specs.Laws.{IsEdit}
 use Rattle.edited_parts.specs.Owed.{AreApart, item_numbers}
 use Rattle.edited_parts.specs.Readings.{resolved_in, facts_in, all_facts}

@@ -1,7 +1,7 @@
 -- Orderly parts are kept as the laws of cells ask for it.
-use Rattle.std.proofs.Common.{◌≡◌, ℕ, zero, suc, ◌+◌, ◌<◌, ◌&&◌, ◌||◌, ◌==◌, Bool, false, eq-eqb, inl, inr, List, [], ◌∷◌, ◌++◌, length, map, true, get_or, Option, Some, None, slice_get, slice_index_or, All, refl, sym, ap, subst, ◌∙◌, add-zero, zero-add, arith}
+use Rattle.std.proofs.Common.{◌≡◌, ℕ, zero, suc, ◌+◌, ◌<◌, ◌||◌, ◌==◌, Bool, false, eq-eqb, inl, inr, List, [], ◌∷◌, ◌++◌, length, map, true, get_or, Some, slice_get, slice_index_or, All, refl, sym, ap, subst, ◌∙◌, add-zero, zero-add, arith}
 use Rattle.std.specs.Arc.{arc_value}
-use Rattle.std.specs.List.{AllPairs, AllByRecursion as Each, flat_map, range_with_len}
+use Rattle.std.specs.List.{AllPairs, AllByRecursion as Each, range_with_len}
 use Rattle.std.proofs.lemmas.List.Kept.{AllPairs-cons}
 use Rattle.std.proofs.lemmas.List.Elements.{All-cons}
 use Rattle.litmus_values.specs.declared.test.Test.{Test}
@@ -13,7 +13,6 @@ use Rattle.binding_graph.specs.declared.resolved.Role.TheVariants as roles
 use Rattle.memo_core.specs.Step.{Has}
 use Rattle.memo_core.specs.declared.keys.Kind.{Kind}
 use Rattle.memo_core.specs.declared.keys.Kind.TheVariants as kinds
-use Rattle.memo_core.specs.declared.keys.Node.{Node}
 use Rattle.bench_nodes.specs.declared.table.ModelRow.{ModelRow}
 use Rattle.bench_nodes.specs.Nodes.{used}
 use Rattle.bench_nodes.proofs.Laws.{used_test, used_slot}
@@ -26,15 +25,15 @@ use Rattle.model_slots.specs.Slots.{number_at}
 use Rattle.model_slots.specs.Tables.{ModelReading, Sound, Faulty}
 use Rattle.stamped_parts.specs.declared.parts.Parts.{Parts}
 use Rattle.stamped_parts.specs.Contents.{histories, state_of}
-use Rattle.stamped_parts.specs.States.{has_kind, has_model, has_own, keeps}
-use Rattle.edited_items.specs.Items.{ItemFact, fact_at, item_facts, kind_at}
+use Rattle.stamped_parts.specs.States.{has_kind, has_model, has_own}
+use Rattle.edited_items.specs.Items.{ItemFact, fact_at, kind_at}
 use Rattle.edited_items.specs.Laws.{IsOfItsKind, role_kind}
 use Rattle.edited_items.proofs.ItemKinds.{kinds_of_roles}
 use Rattle.edited_parts.specs.Owed.{AreApart, ArePartsOf, item_numbers}
 use Rattle.edited_parts.specs.Readings.{reading_by, reading_of, readings_of, resolved_in, facts_in, all_facts}
 use Rattle.bench_laws.specs.Kept.{IsRead, id_in, numbers_in, AreOther, IsKept}
-use Rattle.bench_laws.proofs.Origin.{HasKind, Origin, IsOfItem, IsOfVerdict, origin, number_there, index_within}
-use Rattle.bench_laws.specs.Left.{AreKindsOf, AreOrderlyParts, AreKept}
+use Rattle.bench_laws.proofs.Origin.{HasKind, Origin, IsOfItem, IsOfVerdict, origin, index_within}
+use Rattle.bench_laws.specs.Left.{AreOrderlyParts, AreKept}
 use Rattle.bench_laws.proofs.Lists.{has_map}
 
 -- ---- lists without equal elements

@@ -1,14 +1,10 @@
 -- A cell that an edit leaves.
-use Rattle.std.proofs.Common.{◌≡◌, ◌≢◌, ℕ, zero, suc, ◌+◌, ◌<◌, ◌≤◌, inl, inr, true, List, [], ◌∷◌, ◌++◌, length, map, Option, Some, None, slice_get, refl, sym, ap, subst, ◌∙◌, ne_eqb, arith}
-use Rattle.std.specs.Arc.{arc_value}
+use Rattle.std.proofs.Common.{◌≡◌, ◌≢◌, ℕ, zero, suc, ◌<◌, inl, inr, List, [], ◌∷◌, length, map, Option, Some, None, slice_get, sym, ap, subst, ◌∙◌, ne_eqb, arith}
 use Rattle.std.proofs.lemmas.List.{length-map}
 use Rattle.litmus_values.specs.declared.test.Test.{Test}
 use Rattle.litmus_values.specs.declared.test.Quantifier.{Quantifier}
-use Rattle.litmus_values.specs.declared.test.Thread.{Thread}
 use Rattle.litmus_values.specs.Value.{Content, Formula, content_of, formula_of, steps_of}
 use Rattle.memo_core.specs.Step.{Has}
-use Rattle.memo_core.specs.declared.keys.Key.{Key}
-use Rattle.memo_core.specs.declared.keys.Key.TheVariants.{Part}
 use Rattle.bench_texts.specs.Replacements.{tests_with, models_with}
 use Rattle.bench_texts.specs.declared.model.NamedModel.{NamedModel}
 use Rattle.bench_texts.specs.declared.reading.Reading.{Reading}
@@ -16,16 +12,13 @@ use Rattle.bench_texts.specs.declared.reading.Reading.TheVariants as readings
 use Rattle.bench_texts.specs.declared.replacement.Replacement.{Replacement}
 use Rattle.bench_nodes.specs.declared.table.ModelRow.{ModelRow}
 use Rattle.bench_nodes.specs.declared.table.TestRow.{TestRow}
-use Rattle.bench_nodes.specs.Nodes.{part_stamp, stamp_in, test_stamp, space_parts, space_keys, has_test, thread_parts}
-use Rattle.model_slots.specs.Tables.{ModelReading}
+use Rattle.bench_nodes.specs.Nodes.{test_stamp, space_parts, space_keys, has_test}
 use Rattle.stamped_parts.specs.declared.parts.Parts.{Parts}
 use Rattle.stamped_parts.specs.Contents.{PartContent, OfCondition, state_of, test_part}
-use Rattle.edited_tables.specs.Tests.{TestEntry}
 use Rattle.edited_parts.specs.declared.edited.EditedParts.{EditedParts}
-use Rattle.edited_parts.specs.Laws.{IsEdit}
 use Rattle.edited_parts.specs.Owed.{AreApart}
 use Rattle.edited_parts.specs.Readings.{reading_by, reading_of, readings_of}
-use Rattle.bench_laws.specs.Cells.{HaveSameCells, KeepsStamp, IsTestLeft, IsLeftFor, LeavesCell}
+use Rattle.bench_laws.specs.Cells.{HaveSameCells, KeepsStamp, IsTestLeft, IsLeftFor}
 use Rattle.bench_laws.specs.Left.{IsOrderlyEdit, CellRows, IsCellOf, IsSameCondition, IsSameFor, IsSameCell, IsLeft, reading_in}
 use Rattle.bench_laws.proofs.Kept.{parts_kept}
 use Rattle.bench_laws.proofs.Faults.{items_left, faults_left, names_left}

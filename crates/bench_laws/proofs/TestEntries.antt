@@ -1,23 +1,19 @@
 -- Tests with their rows and locations, before an edit and after it.
-use Rattle.std.proofs.Common.{◌≡◌, ◌≢◌, ◌⊎◌, ℕ, zero, suc, ◌-◌, ◌<◌, ◌≤◌, inl, inr, Bool, true, List, [], ◌∷◌, length, map, get_or, Option, Some, None, Vec, Global, slice_get, option_map, refl, sym, ap, subst, ◌∙◌, eq-eqb, ne_eqb, arith}
-use Rattle.std.specs.List.{AllZip, AllByRecursion as Each, flat_map, remove}
-use Rattle.std.proofs.lemmas.Bool.Decides.{eqb_tells}
+use Rattle.std.proofs.Common.{◌≡◌, ◌≢◌, ℕ, zero, suc, ◌-◌, inl, inr, true, List, [], ◌∷◌, map, Some, None, Vec, Global, slice_get, refl, sym, ap, subst, eq-eqb, ne_eqb}
+use Rattle.std.specs.List.{AllZip, remove}
 use Rattle.litmus_values.specs.declared.test.Test.{Test}
-use Rattle.litmus_values.specs.declared.test.Thread.{Thread}
 use Rattle.litmus_values.specs.Value.{Content, content_of, formula_of, steps_of}
 use Rattle.ppc_semantics.specs.Lowering.{AreNames, test_names}
 use Rattle.candidates.proofs.OneProgram.{names_one}
 use Rattle.memo_core.specs.Step.{Has}
-use Rattle.memo_core.specs.declared.keys.Key.{Key}
 use Rattle.bench_texts.specs.BenchTexts.{put_at}
 use Rattle.bench_nodes.specs.declared.table.TestRow.{TestRow}
 use Rattle.bench_nodes.specs.Nodes.{stamp_in, test_stamp, space_parts, space_keys, has_test}
 use Rattle.stamped_parts.specs.Built.{IsTestRow, AreTestRows}
-use Rattle.stamped_parts.specs.Contents.{PartContent, test_part, test_content}
+use Rattle.stamped_parts.specs.Contents.{test_part, test_content}
 use Rattle.edited_tables.specs.Tests.{TestEntry}
 use Rattle.edited_parts.specs.Owed.{AreApart}
 use Rattle.edited_parts.proofs.PutTests.{entry_in}
-use Rattle.bench_laws.proofs.Lists.{has_map}
 
 abbrev Names : Type 0
 Names = Vec (List ℕ) Global

@@ -1,6 +1,6 @@
 -- The parts of the bench before an edit and after it (`IsOrderlyEdit`), and what the edit leaves of a cell (`CellsAreLeft`). Read it
 -- after edited_parts' specs/Laws and `Cells`.
-use Rattle.std.specs.Prelude.{◌≡◌, ℕ, List, map, Option, Some, slice_get, All}
+use Rattle.std.specs.Prelude.{◌≡◌, ℕ, List, map, Some, slice_get, All}
 use Rattle.std.specs.List.{AllByRecursion as Each}
 use Rattle.litmus_values.specs.declared.test.Test.{Test}
 use Rattle.litmus_values.specs.Value.{content_of, formula_of}

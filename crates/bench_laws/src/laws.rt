@@ -1,6 +1,6 @@
 //! Laws of states that are built of their tests and models, and of the cells that an edit leaves.
 
-ghost use Rattle.std.specs.Prelude.{◌≡◌, ℕ, List, [], Some};
+ghost use Rattle.std.specs.Prelude.{ℕ, List, [], Some};
 ghost use Rattle.litmus_values.specs.declared.test.Test.{Test};
 ghost use Rattle.memo_core.specs.declared.keys.Node.{Node};
 ghost use Rattle.memo_core.specs.Step.{Has};

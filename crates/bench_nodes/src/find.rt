@@ -1,6 +1,6 @@
 //! What stands in a table, by number.
 
-ghost use Rattle.std.specs.Prelude.{option_map, ◌==◌, IfSome, true, Some, ◌≡◌, ◌-◌, ◌∷◌, ◌+◌, ◌≤◌, ◌<◌, get_or, length, drop, slice_get};
+ghost use Rattle.std.specs.Prelude.{option_map, ◌==◌, IfSome, true, Some, ◌≡◌, ◌-◌, ◌<◌, get_or};
 ghost use Rattle.std.specs.List.{position_or_len};
 ghost use Rattle.memo_core.specs.Names.{kind_number};
 ghost use Rattle.bench_nodes.specs.Places.{is_after, are_rising};

@@ -1,8 +1,8 @@
 //! The calls of a table.
 
-ghost use Rattle.std.specs.Prelude.{◌≡◌, ◌+◌, ◌*◌, ◌<◌, Some, length, option_map, slice_get};
+ghost use Rattle.std.specs.Prelude.{◌≡◌, ◌+◌, ◌*◌, ◌<◌, Some, length, slice_get};
 ghost use Rattle.memo_core.specs.Tests.{has_node};
-ghost use Rattle.bench_nodes.specs.Nodes.{node_of, nodes_at, used_in, key_at, keys_at, row_of, space_parts, space_keys};
+ghost use Rattle.bench_nodes.specs.Nodes.{node_of, used_in, key_at, keys_at, row_of, space_parts, space_keys};
 
 use crate::find::{
     fault_stamp, has_slot, has_test, item_stamp, row_of, slot_keys, test_index, test_stamp,

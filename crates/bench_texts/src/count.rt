@@ -1,6 +1,6 @@
 //! What is computed of items.
 
-ghost use Rattle.std.specs.Prelude.{◌≡◌, ◌+◌, ◌-◌, ◌^◌, min, map};
+ghost use Rattle.std.specs.Prelude.{◌≡◌, ◌-◌, ◌^◌, min, map};
 ghost use Rattle.std.specs.List.{sum_by};
 ghost use Rattle.cat_values.specs.Values.{clause_of};
 ghost use Rattle.bench_texts.specs.Held.{model_of};

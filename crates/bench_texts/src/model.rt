@@ -1,7 +1,7 @@
 //! A model on the bench.
 #![tactic(auto, using(crate::proofs::Numbered::numbered_lemmas))]
 
-ghost use Rattle.std.specs.Prelude.{◌≡◌, ◌==◌, ◌<◌, ◌≤◌, ◌+◌, ◌^◌, IfOk, vec_len, vec_capacity};
+ghost use Rattle.std.specs.Prelude.{◌≡◌, ◌==◌, ◌<◌, ◌≤◌, ◌+◌, ◌^◌, IfOk, vec_len};
 ghost use Rattle.std.specs.List.{position_or_len, range_with_len};
 
 use crate::count::count_items;

@@ -1,6 +1,6 @@
 //! What each edit of an item changes, or why it is refused.
 
-ghost use Rattle.std.specs.Prelude.{◌≡◌, [], ◌∷◌};
+ghost use Rattle.std.specs.Prelude.{◌≡◌};
 
 use crate::change::Change;
 use crate::count::outputs_of;

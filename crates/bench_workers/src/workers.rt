@@ -1,6 +1,6 @@
 //! Workers beside a body.
 
-ghost use Rattle.std.specs.Prelude.{◌≡◌, IfOk, IfSome};
+ghost use Rattle.std.specs.Prelude.{IfOk, IfSome};
 
 use crate::gate::Gate;
 use crate::tally::Tally;

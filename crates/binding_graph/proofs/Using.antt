@@ -1,5 +1,5 @@
 -- What an application uses, one argument after another.
-use Rattle.std.proofs.Common.{ℕ, ◌≡◌, ◌<◌, ◌≤◌, ◌+◌, List, [], length, map, drop, get_or, Vec, Global, refl, sym, ap, ◌∙◌}
+use Rattle.std.proofs.Common.{ℕ, ◌≡◌, ◌<◌, ◌≤◌, ◌+◌, List, length, map, drop, get_or, Vec, Global, sym, ap, ◌∙◌}
 use Rattle.std.proofs.lemmas.List.{drop_all}
 use Rattle.cat_values.specs.declared.model.Expression.{Expression}
 use Rattle.cat_values.specs.declared.model.Expression.TheVariants as expressions

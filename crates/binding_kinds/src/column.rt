@@ -4,7 +4,7 @@ ghost use Rattle.std.specs.Prelude.{◌≡◌, ℕ, ◌<◌, ◌≤◌, ◌^◌,
 ghost use Rattle.cat_values.specs.Values as values;
 ghost use Rattle.binding_kinds.specs.declared.kinds.Kind.{Kind};
 ghost use Rattle.binding_kinds.specs.declared.signature.Signature.{Signature};
-ghost use Rattle.binding_kinds.specs.Value.{Naming, entry_of};
+ghost use Rattle.binding_kinds.specs.Value.{entry_of};
 ghost use Rattle.binding_kinds.specs.Kinds.{found, kind_found};
 ghost use Rattle.binding_kinds.specs.Combinations.{number_of, unknown};
 ghost use Rattle.binding_kinds.specs.Senses.{Sense, IsKept, AreKept};

@@ -1,5 +1,5 @@
 //! Lists of relations, packed.
-ghost use Rattle.std.specs.Prelude.{◌≡◌, ℕ, ◌<◌, ◌≤◌, ◌++◌, ◌∷◌, [], ◌↔◌, length, slice_index_or, IsTrue, OnOk, OnErr};
+ghost use Rattle.std.specs.Prelude.{◌≡◌, ◌<◌, ◌≤◌, ◌++◌, ◌∷◌, [], ◌↔◌, length, slice_index_or, IsTrue, OnOk, OnErr};
 ghost use Rattle.bit_relations.specs.Relation.{no_slot};
 
 use crate::rel::Rel;

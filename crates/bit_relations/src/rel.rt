@@ -1,7 +1,7 @@
 //! Relations between events.
-ghost use Rattle.std.specs.Prelude.{◌≡◌, ℕ, ◌<◌, ◌≤◌, ◌+◌, ◌++◌, ◌↔◌, length, slice_index, IsTrue, OnOk, OnErr};
+ghost use Rattle.std.specs.Prelude.{◌≡◌, ◌<◌, ◌≤◌, ◌+◌, ◌++◌, ◌↔◌, length, IsTrue, OnOk, OnErr};
 ghost use Rattle.bit_relations.specs.Packing.{packed};
-ghost use Rattle.bit_relations.specs.Relation.{Bit, Relation, Has, IsRegular, IsRelation, IsMember};
+ghost use Rattle.bit_relations.specs.Relation.{Relation, Has, IsRegular, IsRelation, IsMember};
 ghost use Rattle.bit_relations.specs.Rows.{Stored, AreStored};
 ghost use Rattle.bit_relations.specs.Pairs.{Added, Identity, Union, Inter, Minus, Composed, Complement, Inverse, Opt, On, Product, Restricted, Plus, Star, IsIrreflexive, IsAcyclic, IsEmpty};
 

@@ -1,5 +1,5 @@
 //! Rows of two words: a column of low words and one of high words.
-ghost use Rattle.std.specs.Prelude.{◌≡◌, ℕ, ◌<◌, ◌≤◌, ◌+◌, ◌*◌, ◌↔◌, ◌⊎◌, length, slice_index, IsTrue};
+ghost use Rattle.std.specs.Prelude.{◌≡◌, ℕ, ◌<◌, ◌≤◌, ◌+◌, ◌*◌, ◌↔◌, length, IsTrue};
 ghost use Rattle.bit_relations.specs.Relation.{Bit, wide, AreColumns};
 ghost use Rattle.bit_relations.specs.Rows.{RowsHave, AreWritten, AllFit, JoinedBelow, Inverted, Through};
 ghost use Rattle.bit_relations.specs.Pairs.{Plus, IsAcyclic};

@@ -1,6 +1,6 @@
 //! Sets of events.
 ghost use Rattle.std.specs.Prelude.{◌≡◌, ℕ, ◌<◌, ◌≤◌, ◌^◌, ◌↔◌, ◌⊎◌, IsTrue};
-ghost use Rattle.bit_relations.specs.Relation.{Bit, Events, IsMember, IsEvents, joined};
+ghost use Rattle.bit_relations.specs.Relation.{Events, IsMember, IsEvents, joined};
 
 use crate::word::{both, either, has_event, in_high, in_low, left_alone, lowest_bits, with_bit};
 use std::marker::Model;

@@ -1,6 +1,6 @@
 //! Columns of words: the words below an end change, the others stay.
-ghost use Rattle.std.specs.Prelude.{◌≡◌, ℕ, ◌<◌, ◌≤◌, ◌+◌, ◌↔◌, ◌⊎◌, length, slice_index, take, IsTrue};
-ghost use Rattle.bit_relations.specs.Relation.{Bit, joined};
+ghost use Rattle.std.specs.Prelude.{◌≡◌, ℕ, ◌<◌, ◌≤◌, ◌+◌, ◌↔◌, length, slice_index, take, IsTrue};
+ghost use Rattle.bit_relations.specs.Relation.{joined};
 ghost use Rattle.bit_relations.specs.Rows.{RowsHave, AllFit, AreWritten, Nothing, WithOwn, Filled, Kept, Turned, Read};
 ghost use Rattle.bit_relations.specs.Pairs.{Added, Union, Inter, Minus};
 

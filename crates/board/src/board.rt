@@ -1,7 +1,6 @@
 //! The board, and what operations make of it.
 
-ghost use Rattle.std.specs.Prelude.{◌≡◌, IfOk, MatchResult, option_map, length, slice_get};
-ghost use Rattle.std.specs.Arc.{arc_value};
+ghost use Rattle.std.specs.Prelude.{◌≡◌, MatchResult, option_map, length, slice_get};
 ghost use Rattle.compare_report.specs.Cells.{cell_of};
 
 use crate::changes::{

@@ -1,17 +1,15 @@
 -- Laws of the list of candidates of a space.
-use Rattle.std.proofs.Common.{inl, inr, drop, drop-cons, add-one, append_assoc, ℕ, suc, ◌≡◌, ◌<◌, ◌≤◌, ◌+◌, ◌*◌, ◌/◌, ◌%◌, ◌↔◌, List, [], ◌∷◌, ◌++◌, map, min, take, length, get_or, refl, sym, ap, subst, ◌∙◌, arith, Vec}
-use Rattle.std.specs.List.{flat_map, zip}
+use Rattle.std.proofs.Common.{inl, inr, drop, drop-cons, add-one, append_assoc, ℕ, suc, ◌≡◌, ◌<◌, ◌≤◌, ◌+◌, ◌/◌, ◌%◌, List, [], ◌∷◌, ◌++◌, map, min, take, length, get_or, refl, sym, ap, subst, ◌∙◌, arith, Vec}
+use Rattle.std.specs.List.{zip}
 use Rattle.std.proofs.lemmas.Slice.Zip.{length-zip}
 use Rattle.std.proofs.lemmas.Bool.{cases_lt}
 use Rattle.std.specs.declared.alloc.Global.{Global}
-use Rattle.std.proofs.Math.Nat.{suc-mul, zero-mul, mul-zero, mul_comm, mod-lt, div-add-mod, div-lt_iff_lt-mul}
-use Rattle.std.proofs.lemmas.List.{length-append, length-map, get_or-map, length-take-le, append-nil, drop_all}
+use Rattle.std.proofs.lemmas.List.{length-map, get_or-map, append-nil, drop_all}
 use Rattle.std.proofs.lemmas.List.Concat.{get_or-flat_map}
 use Rattle.std.proofs.lemmas.List.Folds.{length-flat_map-take}
 use Rattle.std.specs.Prelude.{HoldsAt}
 use Rattle.thread_runs.specs.declared.value.Value.{Value}
-use Rattle.run_combinations.specs.Lists.{lists_of}
-use Rattle.run_combinations.specs.Combinations.{pairs, candidates_of}
+use Rattle.run_combinations.specs.Combinations.{candidates_of}
 use Rattle.candidates.specs.Space.{candidates_in, end_at, registers_at, IsExecution}
 use Rattle.run_combinations.specs.declared.combination.Combination.{Combination}
 use Rattle.candidates.specs.declared.execution.Execution.{Execution}

@@ -34,7 +34,6 @@ use Rattle.run_combinations.specs.declared.search.Found.{Found}
 use Rattle.run_combinations.proofs.Counting.{or_parts, numbers_above}
 use Rattle.run_combinations.proofs.Filters.{IsFiltered-unique}
 use Rattle.run_combinations.proofs.Searching.{going_on, small_front, small_rest}
-use Rattle.candidates.proofs.Small.{layout_small}
 
 -- what was found of combinations, one after another
 pub record Sum (n : ℕ) (bs : List PrefixLists) (t u : Tally) : Type 0 where

@@ -1,5 +1,5 @@
 -- The space of a layout, or why it has none; and the space of a test, or why it has none.
-use Rattle.std.specs.Prelude.{Vec, ℕ, ◌≡◌, ◌<◌, ◌≤◌, ◌+◌, ◌*◌, ◌⊎◌, List, [], ◌∷◌, length, map, true, Option, Result, Ok, Err}
+use Rattle.std.specs.Prelude.{Vec, ℕ, ◌≡◌, ◌⊎◌, List, map, Option, Result, Ok, Err}
 use Rattle.candidates.specs.declared.fault.EvalRefusal.{EvalRefusal}
 use Rattle.candidates.specs.declared.fault.EvalRefusal.TheVariants.{TooManyCandidates, AddressFault}
 use Rattle.std.specs.declared.alloc.Global.{Global}
@@ -17,9 +17,8 @@ use Rattle.litmus_values.specs.declared.test.Test.{Test}
 use Rattle.run_combinations.specs.Keys.{IsKeyed}
 use Rattle.run_combinations.specs.Events.{initial_stores}
 use Rattle.run_combinations.specs.Layouts.{AreServedRuns, IsLaidOut}
-use Rattle.run_combinations.specs.Ways.{AreWays}
-use Rattle.run_combinations.specs.Search.{PrefixLists, all_combinations, location_count}
-use Rattle.run_combinations.specs.Combinations.{CombinationLists, combination_lists, ordered}
+use Rattle.run_combinations.specs.Search.{all_combinations, location_count}
+use Rattle.run_combinations.specs.Combinations.{combination_lists}
 use Rattle.candidates.specs.declared.candidate.Space.{Space}
 use Rattle.run_combinations.specs.declared.layout.Layout.{Layout}
 use Rattle.run_combinations.specs.Candidates.{AreCandidates, AreTooMany, AreFaulted}

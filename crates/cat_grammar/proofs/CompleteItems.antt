@@ -12,11 +12,11 @@ use Rattle.cat_tokens.specs.declared.token.Token.{Token}
 use Rattle.cat_tokens.specs.declared.token.Token.TheVariants as tokens
 use Rattle.cat_values.specs.Value.{Term, Clause, Binding, Function, Checking, Flagging, Showing, Including}
 use Rattle.cat_grammar.specs.Grammar as grammar
-use Rattle.cat_grammar.specs.Grammar.{Tree, spelled, meaning, operators, Limits, IsExpression, Bound, CheckTree, Shown, ItemTree, spelled_rec, spelled_tilde, show_token, spelled_label, spelled_bound, spelled_group, spelled_parameters, spelled_check, spelled_one, spelled_shown, spelled_item, group_meaning, check_meaning, shown_meaning, item_meaning, items_meaning, AreBound, AreShown, has_no_effect, IsItem, AreItems, Title, NoTitle, NameTitle, StringTitle, spelled_title, spelled_items, IsText, Means}
+use Rattle.cat_grammar.specs.Grammar.{Tree, spelled, meaning, operators, Limits, IsExpression, Bound, CheckTree, Shown, ItemTree, spelled_rec, spelled_tilde, show_token, spelled_label, spelled_bound, spelled_group, spelled_parameters, spelled_check, spelled_shown, spelled_item, group_meaning, check_meaning, shown_meaning, item_meaning, items_meaning, AreBound, AreShown, has_no_effect, IsItem, AreItems, Title, NoTitle, NameTitle, StringTitle, spelled_title, spelled_items, IsText, Means}
 use Rattle.cat_grammar.specs.Machine.{Frame, Has, Ends, fold_to, ended, comma_read}
 use Rattle.cat_tokens.specs.Tokens.{rule_of}
 use Rattle.cat_grammar.specs.ItemMachine as items
-use Rattle.cat_grammar.specs.ItemMachine.{Group, Keyword, Named, And, Parameter, AfterParameter, Parameters, Head, BoundHead, FunctionHead, CheckedHead, ShownHead, Part, Start, InLet, AfterFlag, AfterTilde, Label, ShowLabel, AfterShowLabel, AfterInclude, Done, Fault, Here, State, begin_body, begin_check, begin_show, begin_item, excess, unless, end_of, item_or_end, fresh, extended, group_clause, shown_clause, shown_also, finished, at, added, start}
+use Rattle.cat_grammar.specs.ItemMachine.{Group, Keyword, And, Parameter, AfterParameter, Parameters, Head, BoundHead, FunctionHead, CheckedHead, ShownHead, Part, Start, InLet, AfterFlag, AfterTilde, AfterShowLabel, AfterInclude, Done, Fault, Here, State, begin_body, begin_check, begin_show, excess, unless, end_of, item_or_end, fresh, extended, group_clause, shown_clause, shown_also, finished, at, added, start}
 use Rattle.cat_grammar.proofs.Runs.{◌>>=◌, run_over}
 use Rattle.cat_grammar.proofs.Groups.{length-push}
 use Rattle.cat_grammar.proofs.Complete.{pending, BeginsWithCheck, CanFollow, body, from, MayEnd, fold_pending, tree_run}

@@ -16,7 +16,7 @@ use Rattle.cat_values.specs.Value.{Term, Clause, Atom, EmptySet, Join, Mark, Not
 use Rattle.cat_grammar.specs.Grammar.{level, Limits, Begins}
 use Rattle.cat_grammar.specs.Machine.{Frame, InGroup, InSquare, InPrefix, LeftOf, InArguments, Expectation, Wants, HasBrace, HasName, Has, HasStar, HasStarTilde, fold_to, infix_at, ended, closed, square_closed}
 use Rattle.cat_grammar.specs.ItemMachine as items
-use Rattle.cat_grammar.specs.ItemMachine.{Keyword, Named, And, Parameter, AfterParameter, Parameters, Head, BoundHead, FunctionHead, CheckedHead, ShownHead, Part, Start, InLet, AfterFlag, AfterTilde, Body, Label, ShowLabel, AfterShowLabel, AfterInclude, Done, Fault, Here, State, begin_check, excess, unless, end_of, item_or_end, fresh, extended, group_clause, checked, shown_clause, shown_also, labelled, at, added, start}
+use Rattle.cat_grammar.specs.ItemMachine.{Keyword, Named, And, Parameter, AfterParameter, Parameters, Head, BoundHead, FunctionHead, CheckedHead, ShownHead, Part, Start, InLet, AfterFlag, AfterTilde, Body, Label, ShowLabel, AfterShowLabel, AfterInclude, Done, Fault, Here, State, begin_check, excess, unless, end_of, fresh, extended, group_clause, shown_clause, shown_also, labelled, at, start}
 use Rattle.cat_grammar.proofs.Runs.{◌>>=◌, run_over, run_over-append}
 use Rattle.cat_grammar.proofs.Groups.{length-push}
 use Rattle.cat_grammar.proofs.SoundItems.{sound}

@@ -11,7 +11,7 @@ use Rattle.cat_tokens.specs.declared.token.Mark.TheVariants.{Plus, Question, Inv
 use Rattle.cat_tokens.specs.declared.token.Token.{Token}
 use Rattle.cat_tokens.specs.declared.token.Token.TheVariants as tokens
 use Rattle.cat_values.specs.declared.model.Infix.{Infix}
-use Rattle.cat_values.specs.declared.model.Infix.TheVariants.{Union, Sequence, Difference, Intersection, Product}
+use Rattle.cat_values.specs.declared.model.Infix.TheVariants.{Product}
 use Rattle.cat_values.specs.declared.model.Postfix.{Postfix}
 use Rattle.cat_values.specs.declared.model.Postfix.TheVariants as postfix
 use Rattle.cat_values.specs.Value.{Term, Atom, EmptySet, Join, Mark, Not, Apply}

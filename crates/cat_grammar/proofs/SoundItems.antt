@@ -13,11 +13,11 @@ use Rattle.cat_tokens.specs.declared.token.Token.{Token}
 use Rattle.cat_tokens.specs.declared.token.Token.TheVariants as tokens
 use Rattle.cat_values.specs.Value.{Term, Clause, Binding, Function, Checking, Flagging, Showing, Including}
 use Rattle.cat_grammar.specs.Grammar as grammar
-use Rattle.cat_grammar.specs.Grammar.{Tree, spelled, meaning, Limits, IsExpression, Bound, CheckTree, Shown, ItemTree, spelled_rec, spelled_tilde, show_token, spelled_bound, spelled_one, spelled_group, spelled_parameters, spelled_shown, spelled_check, spelled_item, group_meaning, shown_meaning, item_meaning, items_meaning, AreBound, AreShown, has_no_effect, IsItem, AreItems, Title, NoTitle, NameTitle, StringTitle, spelled_title, spelled_items, IsText, Means}
+use Rattle.cat_grammar.specs.Grammar.{Tree, spelled, meaning, Limits, Bound, CheckTree, Shown, ItemTree, spelled_rec, spelled_tilde, show_token, spelled_parameters, spelled_shown, spelled_item, group_meaning, shown_meaning, item_meaning, items_meaning, AreBound, AreShown, has_no_effect, IsItem, AreItems, Title, NoTitle, NameTitle, StringTitle, spelled_title, spelled_items, IsText, Means}
 use Rattle.cat_grammar.specs.Machine.{Frame, Expectation, StepResult, Goes, Ends, EndsTilde, Refuses, expression_step}
 use Rattle.cat_tokens.specs.Tokens.{rule_of}
 use Rattle.cat_grammar.specs.ItemMachine as items
-use Rattle.cat_grammar.specs.ItemMachine.{LetPart, Keyword, Named, And, Parameter, AfterParameter, Parameters, Head, BoundHead, FunctionHead, CheckedHead, ShownHead, Part, InLet, AfterFlag, AfterTilde, Body, Label, ShowLabel, AfterShowLabel, AfterInclude, Done, Fault, Here, Before, State, begin_body, begin_check, begin_item, excess, unless, end_of, item_or_end, after_title, after_tilde, after_flag, fresh, extended, after_keyword, bound_name, parameter_read, after_parameter, after_let_name, after_bound, after_parameters, after_let, checked, shown_also, group_clause, shown_clause, finished, at, added, item_ended, unless_before, item_ended_by_tilde, and_read, label_start, shown_on, after_body, labelled, after_as, after_show_as, after_show_label, after_include, goes_on, step_part, step, start}
+use Rattle.cat_grammar.specs.ItemMachine.{LetPart, Keyword, Named, And, Parameter, AfterParameter, Parameters, Head, BoundHead, FunctionHead, CheckedHead, ShownHead, Part, InLet, AfterFlag, AfterTilde, Body, Label, ShowLabel, AfterShowLabel, AfterInclude, Done, Fault, Here, State, begin_body, begin_check, begin_item, excess, unless, end_of, item_or_end, after_title, after_tilde, after_flag, fresh, extended, after_keyword, bound_name, parameter_read, after_parameter, after_let_name, after_bound, after_parameters, after_let, checked, shown_also, shown_clause, finished, at, added, unless_before, item_ended_by_tilde, and_read, label_start, shown_on, after_body, after_as, after_show_as, after_show_label, after_include, goes_on, step_part, step, start}
 use Rattle.cat_grammar.proofs.Runs.{◌>>=◌, run_over}
 use Rattle.cat_grammar.proofs.Groups.{before_group, before_parameters, before_shown, spelled_group-push, before_group-push, group_meaning-push, length-group_meaning, AreBound-push, spelled_parameters-push, spelled_parameters-comma, spelled_shown-push, spelled_shown-comma, shown_meaning-push, AreShown-push, length-push, spelled_items-push, items_meaning-push, length-items_meaning, AreItems-push}
 use Rattle.cat_grammar.proofs.Sound.{Stands, Ended, ExpressionStands, step_stands}

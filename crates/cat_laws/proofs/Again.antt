@@ -1,5 +1,5 @@
 -- What was read keeps the limits of number when it is printed, and so it is read again.
-use Rattle.std.proofs.Common.{◌≡◌, ℕ, suc, ◌+◌, ◌≤◌, List, [], ◌∷◌, length, refl, ap, subst, arith}
+use Rattle.std.proofs.Common.{◌≡◌, ℕ, ◌+◌, ◌≤◌, List, [], ◌∷◌, length, refl, ap, subst, arith}
 use Rattle.std.specs.Prelude.{map}
 use Rattle.cat_values.specs.Value.{Clause}
 use Rattle.cat_grammar.specs.Grammar as grammar

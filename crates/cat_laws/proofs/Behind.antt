@@ -10,7 +10,7 @@ use Rattle.cat_values.specs.declared.model.Postfix.TheVariants as postfix
 use Rattle.cat_values.specs.Value.{Clause}
 use Rattle.cat_grammar.specs.declared.form.Form.{Form}
 use Rattle.cat_grammar.specs.Grammar as grammar
-use Rattle.cat_grammar.specs.Grammar.{Tree, Trees, Word, Underscore, Zero, Braces, Pair, Post, Prefix, Group, Square, Application, Last, More, infix_token, postfix_token, spelled, spelled_arguments, Limits, Bound, CheckTree, ItemTree, Let, Check, Flag, Show, Include, show_token, spelled_rec, spelled_tilde, spelled_label, spelled_bound, spelled_group, spelled_parameters, spelled_check, spelled_one, spelled_shown, spelled_item, spelled_items, IsItem, AreItems, Title, NoTitle, NameTitle, StringTitle, spelled_title, Means, is_rec_or_and}
+use Rattle.cat_grammar.specs.Grammar.{Tree, Trees, Word, Underscore, Zero, Braces, Pair, Post, Prefix, Group, Square, Application, Last, More, infix_token, postfix_token, spelled, spelled_arguments, Limits, Bound, CheckTree, ItemTree, Let, Check, Flag, Show, Include, show_token, spelled_rec, spelled_tilde, spelled_label, spelled_group, spelled_parameters, spelled_check, spelled_shown, spelled_item, spelled_items, IsItem, AreItems, Title, NoTitle, NameTitle, StringTitle, spelled_title, Means, is_rec_or_and}
 use Rattle.cat_laws.specs.Parts.{IsPath, GoesOn}
 
 abbrev BeginsPath : List Token → Type 0

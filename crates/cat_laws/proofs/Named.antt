@@ -20,7 +20,7 @@ use Rattle.source_text.specs.Letters.{is_letter}
 use Rattle.text_laws.proofs.Runs.{tested}
 use Rattle.cat_grammar.specs.Grammar as grammar
 use Rattle.cat_tokens.specs.Tokens.{TokenAt, tokens_of}
-use Rattle.cat_grammar.specs.Grammar.{Tree, Trees, Word, Underscore, Zero, Braces, Pair, Post, Prefix, Group, Square, Application, Last, More, infix_token, postfix_token, spelled, spelled_arguments, meaning, meanings, Limits, limits, Bound, CheckTree, ItemTree, Let, Check, Flag, Show, Include, show_token, spelled_rec, spelled_tilde, spelled_label, spelled_bound, spelled_group, spelled_parameters, spelled_check, spelled_one, spelled_shown, spelled_item, spelled_items, group_meaning, shown_meaning, item_meaning, items_meaning, IsItem, AreItems, Title, NoTitle, NameTitle, StringTitle, spelled_title, Means}
+use Rattle.cat_grammar.specs.Grammar.{Tree, Trees, Word, Underscore, Zero, Braces, Pair, Post, Prefix, Group, Square, Application, Last, More, infix_token, postfix_token, spelled, spelled_arguments, meaning, meanings, Limits, limits, Bound, CheckTree, ItemTree, Let, Check, Flag, Show, Include, spelled_rec, spelled_tilde, spelled_label, spelled_group, spelled_parameters, spelled_check, spelled_shown, spelled_item, spelled_items, group_meaning, shown_meaning, item_meaning, items_meaning, IsItem, AreItems, Title, NoTitle, NameTitle, StringTitle, spelled_title, Means}
 use Rattle.cat_laws.specs.Written as written
 use Rattle.cat_laws.specs.Written.{IsName, IsTerm, AreTerms, AreOthers, AreNames, IsLabel, AreBindings, IsWritten, AreWritten, IsTextOfItem, IsTextOfModel, ReadsItem, ReadsModel}
 use Rattle.cat_grammar.proofs.Groups.{length-group_meaning}

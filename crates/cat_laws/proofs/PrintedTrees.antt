@@ -7,7 +7,7 @@ use Rattle.cat_values.specs.declared.model.Infix.TheVariants.{Union, Sequence, D
 use Rattle.cat_values.specs.Value as value
 use Rattle.cat_values.specs.Value.{Term, Terms, Atom, AllEvents, EmptyRelation, EmptySet, Join, Mark, Not, On, Apply, NoTerm, OneMore, Checked, Clause, Binding, Checking, Flagging, Showing, Including}
 use Rattle.cat_grammar.specs.Grammar as grammar
-use Rattle.cat_grammar.specs.Grammar.{Tree, Trees, Word, Underscore, Zero, Braces, Pair, Post, Prefix, Group, Square, Application, Last, More, meaning, meanings, left_level, right_level, tightness, IsGrouped, AreGrouped, depth, depths, operators, operators_of, Limits, IsExpression, Bound, CheckTree, ItemTree, Let, Check, Flag, Show, Include, group_meaning, shown_meaning, item_meaning, items_meaning, AreBound, IsItem, AreItems}
+use Rattle.cat_grammar.specs.Grammar.{Tree, Trees, Word, Underscore, Zero, Braces, Pair, Post, Prefix, Group, Square, Application, Last, More, meaning, meanings, right_level, tightness, IsGrouped, AreGrouped, depth, depths, operators, operators_of, Limits, IsExpression, Bound, CheckTree, ItemTree, Let, Check, Flag, Show, Include, group_meaning, shown_meaning, item_meaning, items_meaning, AreBound, IsItem, AreItems}
 use Rattle.cat_printing.specs.Printing.{is_binary, is_compound}
 use Rattle.cat_laws.specs.Written as written
 use Rattle.cat_laws.specs.Written.{IsTerm, AreTerms, AreBindings, IsWritten, AreWritten, one_where, nesting, nestings, joins, joins_of, deepest, most_joins, bodies, name_count, parameter_count, IsWithin, AreWithin}

@@ -3,7 +3,7 @@
 ghost use Rattle.std.specs.Prelude.{◌≡◌, ◌++◌, map, OnOk, IfOk, codes};
 ghost use Rattle.cat_values.specs.Values.{term_of, binding_of, shown_of, check_of, clause_of, clauses_of};
 ghost use Rattle.cat_printing.specs.Printing.{infix_text, postfix_text, is_binary, is_compound, printed_term, label_text, optional_label, word_text, check_text, recursion_text, binding_text, show_text, shown_text, printed_item, printed_model};
-ghost use Rattle.source_text.specs.Joined.{joined, between, bracketed};
+ghost use Rattle.source_text.specs.Joined.{joined, bracketed};
 
 use cat_values::{
     Binding, Check, CheckWord, Expression, Infix, Item, ModelText, Postfix, ShownExpression,

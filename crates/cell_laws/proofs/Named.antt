@@ -1,5 +1,5 @@
 -- Outputs by their names.
-use Rattle.std.proofs.Common.{ℕ, ◌≡◌, zero, suc, inl, inr, List, [], ◌∷◌, length, map, Some, slice_get, refl, sym, ap, ◌∙◌, eqb, eqb-true, arith}
+use Rattle.std.proofs.Common.{ℕ, ◌≡◌, suc, inl, inr, List, [], ◌∷◌, length, map, Some, slice_get, refl, sym, ap, ◌∙◌, eqb, eqb-true, arith}
 use Rattle.std.specs.Prelude.{zip}
 use Rattle.std.proofs.lemmas.Bool.{cases_Bool}
 use Rattle.std.proofs.lemmas.Option.{none-some}

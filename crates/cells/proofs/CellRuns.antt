@@ -5,7 +5,7 @@ use Rattle.memo_core.specs.Graph.{stored_at}
 use Rattle.memo_core.specs.Laws.{IsUsedClosed}
 use Rattle.memo_core.specs.Right.{IsSound}
 use Rattle.memo_core.specs.Run as core
-use Rattle.memo_core.specs.Run.{Bench, Meaning, state_in, counted, Step, Run, IsStart, IsKept, IsFreshFrom, count_unsettled}
+use Rattle.memo_core.specs.Run.{Bench, Meaning, state_in, Run, IsStart, IsKept}
 use Rattle.memo_core.specs.Step.{Has}
 use Rattle.memo_core.specs.Work.{WorkIsBounded, SettledIsDecided, QuietRunIsSettled}
 use Rattle.memo_core.proofs.Runs.{run_right}

@@ -1,8 +1,8 @@
 //! A list of events, one after another.
 
-ghost use Rattle.std.specs.Prelude.{◌≡◌, ◌<◌, ◌≤◌, ◌+◌, ◌++◌, ◌∷◌, [], List, IfOk, OnErr, vec_len, vec_capacity};
+ghost use Rattle.std.specs.Prelude.{◌≡◌, ◌<◌, ◌≤◌, ◌+◌, IfOk, OnErr, vec_len, vec_capacity};
 ghost use Rattle.memo_core.specs.Laws.{meaning};
-ghost use Rattle.cells.specs.Events.{IsAnswered, IsReturned, AreAnswered, IsSameEvent, Answers};
+ghost use Rattle.cells.specs.Events.{IsAnswered, IsSameEvent, Answers};
 ghost use Rattle.cells.specs.Stages.{tasks_in};
 ghost use Rattle.std.specs.List.{AllZip};
 

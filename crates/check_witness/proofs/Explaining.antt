@@ -1,5 +1,5 @@
 -- From the value of an expression to its meaning.
-use Rattle.std.proofs.Common.{ℕ, ◌≡◌, ◌<◌, ◌↔◌, ◌∙◌, List, [], ◌∷◌, length, get_or, Option, Some, None, Bool, false, slice_get, refl, subst, sym, ap, arith}
+use Rattle.std.proofs.Common.{ℕ, ◌≡◌, ◌∙◌, List, [], ◌∷◌, get_or, Option, false, subst, sym, ap, arith}
 use Rattle.std.proofs.lemmas.Option.{get_or_from_slice_get}
 use denote.Ref.{Bor}
 use Rattle.bit_relations.specs.Relation.{Relation, Events, Has, IsMember, IsEvents, IsRelation, no_slot}
@@ -11,7 +11,7 @@ use Rattle.binding_graph.specs.declared.resolved.Code.{Code}
 use Rattle.binding_graph.specs.declared.resolved.Role.{Role}
 use Rattle.binding_graph.specs.declared.resolved.Source.{Source}
 use Rattle.binding_graph.specs.declared.resolved.Step.{Step}
-use Rattle.binding_graph.specs.Trees.{SetTree, RelTree, set_code, rel_code}
+use Rattle.binding_graph.specs.Trees.{SetTree}
 use Rattle.candidates.specs.declared.candidate.Space.{Space}
 use Rattle.candidates.specs.Space.{candidates_in, Candidate}
 use Rattle.cat_eval.specs.declared.column.Column.{Column}

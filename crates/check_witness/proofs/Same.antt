@@ -1,15 +1,15 @@
 -- Relations of the same pairs are broken by the same witnesses.
-use Rattle.std.proofs.Common.{ℕ, ◌≡◌, ◌<◌, ◌≤◌, ◌↔◌, List, [], ◌∷◌, length, Bool, true, false, Option, Some, None, refl, subst, sym}
+use Rattle.std.proofs.Common.{ℕ, ◌≡◌, ◌↔◌, List, [], ◌∷◌, Bool, true, false, Option, Some, None, subst, sym}
 use Rattle.std.specs.Option.{MatchOption}
 use Rattle.bit_relations.specs.Pairs.{Path}
-use Rattle.relation_cycles.specs.Cycles.{IsCycle, IsShortestCycle, IsFirstReflexive, IsLeastPair}
+use Rattle.relation_cycles.specs.Cycles.{IsCycle}
 use Rattle.cat_values.specs.declared.model.CheckWord.{CheckWord}
 use Rattle.cat_values.specs.declared.model.CheckWord.TheVariants as words
-use Rattle.cat_eval.specs.Checks.{Holds, IsEmptySet}
+use Rattle.cat_eval.specs.Checks.{Holds}
 use Rattle.cat_eval.proofs.Same.{Same, SameSet}
 use Rattle.check_witness.specs.declared.witness.Witness.{Witness}
 use Rattle.check_witness.specs.declared.witness.Witness.TheVariants as shown
-use Rattle.check_witness.specs.Witnesses.{IsFirstMember, Breaks, BreaksSet, IsMet, IsExplanation}
+use Rattle.check_witness.specs.Witnesses.{Breaks, BreaksSet, IsExplanation}
 
 pub cycle_map : (R S : ℕ → ℕ → Type 0) → ((a b : ℕ) → R a b → S a b) → (xs : List ℕ) → IsCycle R xs → IsCycle S xs
 cycle_map R S to [] c = c

@@ -1,6 +1,6 @@
 //! The value of an expression in each candidate.
 
-ghost use Rattle.std.specs.Prelude.{◌≡◌, IfOk};
+ghost use Rattle.std.specs.Prelude.{IfOk};
 ghost use Rattle.check_witness.specs.Values.{AreValues, IsGroupOf};
 
 use binding_graph::{Body, Code, ResolvedItem, Role};

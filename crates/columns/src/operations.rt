@@ -1,5 +1,5 @@
 //! Operations on columns, run by run.
-ghost use Rattle.std.specs.Prelude.{◌≡◌, ℕ, ◌+◌, ◌^◌, ◌<◌, ◌≤◌, length, OnOk, OnErr};
+ghost use Rattle.std.specs.Prelude.{ℕ, ◌+◌, ◌^◌, ◌<◌, ◌≤◌, length, OnOk, OnErr};
 ghost use Rattle.bit_relations.specs.Relation.{no_slot};
 ghost use Rattle.columns.specs.Runs.{value_at};
 ghost use Rattle.columns.specs.Operations.{IsJoined, IsTurned, Pushes};

@@ -1,5 +1,5 @@
 //! Operations on columns of sets, run by run.
-ghost use Rattle.std.specs.Prelude.{◌≡◌, ℕ, ◌+◌, ◌-◌, ◌^◌, ◌<◌, ◌≤◌, length, OnOk};
+ghost use Rattle.std.specs.Prelude.{ℕ, ◌+◌, ◌-◌, ◌^◌, ◌<◌, ◌≤◌, length, OnOk};
 ghost use Rattle.bit_relations.specs.Relation.{IsRelation, IsEvents, no_slot};
 ghost use Rattle.columns.specs.Runs.{set_at, no_set};
 ghost use Rattle.columns.specs.Operations.{IsSetJoined, IsRelated, FoundPairs, FoundEvents, Pushes};

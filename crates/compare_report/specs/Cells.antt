@@ -1,5 +1,5 @@
 -- What a cell shows, and how a cell is told on one line: read this first, then Log, Columns and Differences.
-use Rattle.std.specs.Prelude.{ℕ, List, [], ◌∷◌, ◌++◌, Bool, true, false, if◌then◌else◌, decimal, codes, map}
+use Rattle.std.specs.Prelude.{ℕ, List, [], ◌++◌, Bool, true, false, decimal, codes}
 use Rattle.std.specs.List.{flat_map}
 use Rattle.verdict.specs.declared.answer.CountedState.{CountedState}
 use Rattle.verdict.specs.declared.answer.Outcome.{Outcome}

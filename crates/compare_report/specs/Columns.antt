@@ -1,5 +1,5 @@
 -- A table: lines of fields, laid out in columns.
-use Rattle.std.specs.Prelude.{ℕ, zero, suc, ◌-◌, ◌==◌, max, List, [], ◌∷◌, ◌++◌, Bool, true, false, length, map, replicate, slice_index_or, codes}
+use Rattle.std.specs.Prelude.{ℕ, suc, ◌-◌, ◌==◌, max, List, [], ◌∷◌, ◌++◌, Bool, true, false, length, map, replicate, slice_index_or, codes}
 use Rattle.std.specs.List.{flat_map}
 use Rattle.compare_report.specs.declared.table.TestRow.{TestRow}
 use Rattle.compare_report.specs.Cells.{Cell, cell_of, cell_field}

@@ -8,7 +8,6 @@ use Rattle.binding_kinds.specs.Numbers.{number as fault_number}
 use Rattle.candidates.specs.Faults.{number as refusal_number}
 use Rattle.verdict.specs.declared.answer.CountedState.{CountedState}
 use Rattle.verdict.specs.declared.answer.Evaluation.{Evaluation}
-use Rattle.verdict.specs.declared.answer.Outcome.{Outcome}
 use Rattle.verdict.specs.declared.answer.OutcomeResult.{OutcomeResult}
 use Rattle.verdict.specs.declared.answer.OutcomeResult.TheVariants.{Refused, Evaluated}
 use Rattle.verdict.specs.declared.answer.Refusal.{Refusal}

@@ -1,6 +1,6 @@
 //! What a cell shows, as text.
 
-ghost use Rattle.std.specs.Prelude.{◌≡◌, ◌++◌, IfOk, OnOk, codes};
+ghost use Rattle.std.specs.Prelude.{◌≡◌, ◌++◌, IfOk, OnOk};
 ghost use Rattle.std.specs.List.{flat_map};
 ghost use Rattle.compare_report.specs.Cells.{cell_of, result_field, cell_field, cell_log, holds_sign, count_line, result_counts, cell_counts};
 

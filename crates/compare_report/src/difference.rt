@@ -1,6 +1,6 @@
 //! Where two models tell the tests apart.
 
-ghost use Rattle.std.specs.Prelude.{◌≡◌, ◌∷◌, ◌++◌, ◌+◌, ◌<◌, ◌≤◌, [], IfOk, OnOk, IfSome, MatchOption, codes, decimal, filter, length, map};
+ghost use Rattle.std.specs.Prelude.{◌≡◌, ◌∷◌, ◌++◌, ◌+◌, ◌<◌, [], IfOk, OnOk, IfSome, MatchOption, filter, length, map};
 ghost use Rattle.std.specs.List.{flat_map, list_any};
 ghost use Rattle.compare_report.specs.Cells.{cell_of};
 ghost use Rattle.compare_report.specs.Differences.{merged, has_other_count, is_same_refusal, flag_lines, evaluations_differ, results_differ, cells_differ, states_of, pair_of, is_told_apart, shared_line, state_difference, state_differences, pair_line, test_difference, difference_line, difference_of};

@@ -3,7 +3,7 @@
 ghost use Rattle.std.specs.Prelude.{◌≡◌, ℕ, ◌<◌, ◌≤◌, ◌++◌, ◌∷◌, [], IfOk, OnOk, length, map, max, slice_index, replicate};
 ghost use Rattle.std.specs.List.{flat_map};
 ghost use Rattle.compare_report.specs.Cells.{cell_of, cell_field};
-ghost use Rattle.compare_report.specs.Columns.{field_width, column_width, filled, field_text, line_from, columns_text, row_of, head_fields, row_fields, table_of};
+ghost use Rattle.compare_report.specs.Columns.{field_width, column_width, field_text, line_from, row_of, head_fields, row_fields, table_of};
 
 use crate::cell::{Shown, put_cell};
 use source_text::{Name, put_bytes};

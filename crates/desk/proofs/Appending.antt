@@ -1,7 +1,6 @@
 -- Settled cells that are appended.
-use Rattle.std.proofs.Common.{◌≡◌, ℕ, ◌<◌, Bool, true, false, List, [], ◌∷◌, ◌++◌, length, Some, IsSome, IsTrue, MatchResult, refl, ap, sym, ◌∙◌, subst, slice_get, append_assoc}
+use Rattle.std.proofs.Common.{◌≡◌, ℕ, ◌<◌, List, [], ◌∷◌, ◌++◌, length, Some, IsTrue, MatchResult, ap, sym, ◌∙◌, subst, slice_get, append_assoc}
 use Rattle.std.specs.Prelude.{Result, Ok, Err, is_ok, fold}
-use Rattle.std.specs.List.{AllByRecursion as Each}
 use Rattle.std.proofs.lemmas.List.{append-nil}
 use Rattle.memo_core.specs.declared.keys.Node.{Node}
 use Rattle.memo_core.specs.Graph.{Net}

@@ -1,5 +1,5 @@
 -- Cells of which one is settled.
-use Rattle.std.proofs.Common.{◌≡◌, ℕ, zero, suc, ◌<◌, List, [], ◌∷◌, ◌++◌, length, Some, None, IsSome, refl, ap, arith, subst, slice_get}
+use Rattle.std.proofs.Common.{◌≡◌, ℕ, zero, suc, ◌<◌, List, [], ◌∷◌, ◌++◌, length, Some, IsSome, refl, ap, arith, subst, slice_get}
 use Rattle.std.specs.List.{AllByRecursion as Each}
 use Rattle.desk.specs.Boards.{BoardCell, settled_with, with_outcome}
 

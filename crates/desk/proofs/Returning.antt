@@ -1,5 +1,5 @@
 -- A return settles only cells whose verdicts stand on its node, and the other calls settle none.
-use Rattle.std.proofs.Common.{◌≡◌, ◌⊎◌, inl, inr, ℕ, zero, suc, ◌+◌, ◌<◌, ◌≤◌, Bool, true, false, List, [], ◌∷◌, ◌++◌, Option, Some, None, IsSome, refl, ap, sym, ◌∙◌, subst, slice_get, arith}
+use Rattle.std.proofs.Common.{◌≡◌, ◌⊎◌, inl, inr, ℕ, zero, suc, ◌+◌, ◌<◌, ◌≤◌, Bool, true, false, List, [], ◌∷◌, ◌++◌, Option, Some, None, refl, ap, sym, ◌∙◌, subst, slice_get, arith}
 use Rattle.std.specs.Prelude.{option_map, IfSome, IfNone, IsTrue, not, Result, Ok, Err, MatchResult, fold}
 use Rattle.std.specs.List.{AllByRecursion as Each}
 use Rattle.memo_core.specs.declared.keys.Node.{Node}
@@ -10,13 +10,13 @@ use Rattle.memo_core.specs.declared.claims.Finish.{Finish}
 use Rattle.memo_core.specs.declared.claims.Finish.TheVariants.{Unknown, Stale, Same, Stored}
 use Rattle.memo_core.specs.Names.{same_node}
 use Rattle.memo_core.specs.Equality.{same_node_exact}
-use Rattle.memo_core.specs.Graph.{Memo, Net, memo_of, at, stored_at, stamp_at, stamp_in, present_inputs, put_memo, input_nodes, Matches, IsSettledBy, IsSettled}
+use Rattle.memo_core.specs.Graph.{Memo, Net, memo_of, at, stored_at, stamp_in, present_inputs, put_memo, input_nodes, IsSettledBy, IsSettled}
 use Rattle.memo_core.specs.Step.{Has, State, Return, Accepts, Finishes}
-use Rattle.memo_core.specs.Run.{Bench, Meaning, Claim, NoClaim, Returned, Lose, Step, state_in}
+use Rattle.memo_core.specs.Run.{Bench, Meaning, Claim, NoClaim, Returned, Step, state_in}
 use Rattle.memo_core.proofs.Theory.{either, put_other}
 use Rattle.desk_rule.proofs.Showing.{fold_push}
-use Rattle.cells.specs.Cells.{Cells, Carries, IsSettledCell, StandsOn, StandsOnBy}
-use Rattle.desk.specs.Boards.{BoardCell, IsSettledOn, IsListedWithin, HoldsAbove, ArePosted, ArePostedAbove, ArePostedBut, IsKept, AreKept, settled_with, with_outcome}
+use Rattle.cells.specs.Cells.{Cells, Carries, IsSettledCell, StandsOn}
+use Rattle.desk.specs.Boards.{BoardCell, IsSettledOn, HoldsAbove, ArePosted, ArePostedAbove, ArePostedBut, IsKept, AreKept, settled_with, with_outcome}
 use Rattle.desk.specs.declared.answer.Posted.{Posted}
 use Rattle.desk.specs.declared.answer.Posted.TheVariants.{Now, Later}
 use Rattle.desk.specs.Held.{Held, PublishesOr}

@@ -1,5 +1,5 @@
 -- The cells of a board. Read this file first, then Held and Turns.
-use Rattle.std.specs.Prelude.{◌≡◌, ℕ, suc, zero, ◌<◌, ◌≤◌, ◌⊎◌, List, [], ◌∷◌, Option, Some, None, IsSome, slice_get, length}
+use Rattle.std.specs.Prelude.{◌≡◌, ℕ, suc, zero, ◌<◌, ◌≤◌, ◌⊎◌, List, [], ◌∷◌, Option, Some, None, IsSome, slice_get}
 use Rattle.memo_core.specs.Graph.{Net}
 use Rattle.memo_core.specs.Run.{Bench}
 use Rattle.memo_core.specs.declared.keys.Node.{Node}

@@ -1,5 +1,5 @@
 -- Settled cells that are appended. Read after Boards.
-use Rattle.std.specs.Prelude.{◌≡◌, ℕ, List, ◌++◌, Some, IsSome, slice_get, length}
+use Rattle.std.specs.Prelude.{◌≡◌, ℕ, List, ◌++◌, Some, IsSome, slice_get}
 use Rattle.std.specs.List.{AllByRecursion as Each}
 use Rattle.desk_rule.specs.Histories.{Pressed}
 use Rattle.memo_core.specs.Graph.{Net}

@@ -1,6 +1,6 @@
 //! Refusals for memory in a row.
 
-ghost use Rattle.std.specs.Prelude.{◌≡◌, true, min, suc};
+ghost use Rattle.std.specs.Prelude.{◌≡◌};
 
 /// So many refusals in a row are too many.
 pub const MOST_REFUSALS: u32 = 16;

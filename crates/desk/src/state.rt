@@ -1,6 +1,6 @@
 //! What lies under the lock. Each change of it is a method here.
 
-ghost use Rattle.std.specs.Prelude.{◌≡◌, ◌≢◌, ◌↔◌, ◌+◌, ◌≤◌, ◌<◌, [], ℕ, true, false, length, fold, IsTrue, IfOk, OnOk, OnErr, Ok, Err, IfErr, IfSome, IfNone, leb};
+ghost use Rattle.std.specs.Prelude.{◌≡◌, ◌≢◌, ◌↔◌, ◌+◌, ◌≤◌, ◌<◌, [], true, false, length, fold, IsTrue, IfOk, OnOk, OnErr, Ok, Err, IfErr, IfSome, IfNone, leb};
 ghost use mathlib.Core.List.{IsPrefix};
 ghost use Rattle.memo_core.specs.Laws.{meaning};
 ghost use Rattle.memo_core.specs.Run.{Claim as Claimed, NoClaim, Returned, Lose as Lost, Renew as Renewed, Refused, Step};

@@ -1,6 +1,6 @@
 -- From one choice to another.
-use Rattle.std.proofs.Common.{◌≡◌, Bool, true, false, List, [], ◌++◌, refl, ap, sym, ◌∙◌, subst, MatchBool, MatchResult}
-use Rattle.std.specs.Prelude.{Result, Ok, Err, is_ok, fold}
+use Rattle.std.proofs.Common.{◌≡◌, Bool, true, false, List, [], ◌++◌, ap, sym, ◌∙◌, MatchBool, MatchResult}
+use Rattle.std.specs.Prelude.{Result, Ok, Err, is_ok}
 use Rattle.std.proofs.lemmas.List.{append-nil}
 use mathlib.Core.List.{IsPrefix}
 use Rattle.desk_rule.specs.Histories.{latest}

@@ -1,5 +1,5 @@
 -- Numbers below ten that add up, for tests.
-use Rattle.std.specs.Prelude.{ℕ, ◌<◌, ◌+◌, ◌%◌, ◌^◌, List, [], ◌∷◌}
+use Rattle.std.specs.Prelude.{◌<◌, ◌+◌, ◌%◌, ◌^◌, List, [], ◌∷◌}
 use Rattle.desk_tests.specs.declared.sums.Sum.{Sum}
 use Rattle.desk_tests.specs.declared.sums.Addend.{Addend}
 

@@ -1,5 +1,5 @@
 -- Columns and answers of an item are one.
-use Rattle.std.proofs.Common.{ℕ, ◌≡◌, ◌<◌, ◌↔◌, zero, suc, List, [], ◌∷◌, length, Bool, true, false, IsTrue, Option, Some, Bor, get_or, refl, sym, ap, ◌∙◌, subst, arith}
+use Rattle.std.proofs.Common.{ℕ, ◌≡◌, ◌<◌, ◌↔◌, zero, suc, List, [], ◌∷◌, length, Bool, true, false, IsTrue, Option, Some, Bor, get_or, refl, sym, ◌∙◌, subst, arith}
 use Rattle.std.specs.Prelude.{slice_get, slice_index_or}
 use Rattle.std.specs.List.{AllByRecursion}
 use Rattle.std.proofs.lemmas.List.{ext_get_or}
@@ -24,7 +24,6 @@ use Rattle.cat_eval.specs.Columns.{HaveValues, HasValue, AreColumns}
 use Rattle.cat_eval.specs.Executions.{events_of, EventsAt, PairsAt}
 use Rattle.cat_eval.specs.Least.{IsLeast, AreMonotone}
 use Rattle.cat_eval.specs.Named.{PairsFound}
-use Rattle.cat_eval.specs.Rising.{AreCodes}
 use Rattle.cat_eval.specs.Values.{IsAnswer, IsFor, IsMeant, column_len}
 use Rattle.memo_graph.proofs.Sole.{one_least}
 use Rattle.evaluation_laws.specs.Laws.{HasTree, AreCoded, HasOneColumns, HasOneAnswers}

@@ -1,5 +1,5 @@
 -- The text of a drawing, for `dot` of Graphviz: `put_drawing` cites the last definition.
-use Rattle.std.specs.Prelude.{ℕ, List, [], ◌∷◌, ◌++◌, ◌==◌, ◌||◌, Bool, true, Option, Some, None, if◌then◌else◌, decimal, codes}
+use Rattle.std.specs.Prelude.{ℕ, List, [], ◌∷◌, ◌++◌, ◌==◌, ◌||◌, true, Option, Some, None, if◌then◌else◌, decimal, codes}
 use Rattle.std.specs.List.{flat_map}
 use Rattle.thread_runs.specs.declared.instruction.Instruction.{Instruction}
 use Rattle.reason_text.specs.Events.{event_name, action_text, instruction_text}

@@ -1,6 +1,6 @@
 //! The events that are drawn.
 
-ghost use Rattle.std.specs.Prelude.{◌≡◌, ◌≤◌, ◌↔◌, IsTrue, length};
+ghost use Rattle.std.specs.Prelude.{◌≤◌, ◌↔◌, IsTrue, length};
 ghost use Rattle.std.specs.List.{Contains};
 ghost use Rattle.bit_relations.specs.Relation.{IsEvents};
 ghost use Rattle.execution_graph.specs.Drawn.{IsDrawnEvent, IsReadIfInitial};

@@ -1,8 +1,6 @@
 -- The steps of a tree, read from the last, give its factors.
-use Rattle.std.proofs.Common.{ℕ, ◌≡◌, ◌∙◌, ◌++◌, List, [], ◌∷◌, reverse, map, Bool, true, false, refl, sym, ap, append_assoc}
+use Rattle.std.proofs.Common.{◌≡◌, ◌∙◌, ◌++◌, List, [], ◌∷◌, reverse, map, Bool, true, false, refl, sym, ap, append_assoc}
 use Rattle.std.proofs.lemmas.List.{append-nil, map-append, reverse-append}
-use Rattle.binding_graph.specs.declared.resolved.Blend.{Blend}
-use Rattle.binding_graph.specs.declared.resolved.Source.{Source}
 use Rattle.binding_graph.specs.declared.resolved.Step.{Step}
 use Rattle.binding_graph.specs.declared.resolved.Step.TheVariants as steps
 use Rattle.binding_graph.specs.Trees.{SetTree, SetName, AllEvents, NoEvent, SetBlend, SetNot, RelTree, RelName, NoPair, RelBlend, Then, Cross, OnSet, Close, RelNot, set_code, rel_code}
@@ -11,8 +9,8 @@ use Rattle.cat_values.specs.declared.model.Postfix.TheVariants as postfix
 use Rattle.factor_walks.specs.declared.factor.Factor.{Factor}
 use Rattle.factor_walks.specs.declared.factor.Repeats.{Repeats}
 use Rattle.factor_walks.specs.declared.factor.Repeats.TheVariants as repeats
-use Rattle.factor_walks.specs.Factors.{Part, factors_of, repeats_of, repeated, tree_part, part_of, AreFactors}
-use Rattle.factor_walks.specs.Scanning.{without_next, next_twice, next_inside, pending_after, is_next_factor, makes_relation, last_of, with_step, with_last, with_relation, parts_after, pending_from, parts_from}
+use Rattle.factor_walks.specs.Factors.{Part, factors_of, tree_part, part_of, AreFactors}
+use Rattle.factor_walks.specs.Scanning.{without_next, next_twice, next_inside, makes_relation, with_step, with_last, pending_from, parts_from}
 
 set_pending : (s : SetTree) (rest : List Step) → pending_from (set_code s rest) ≡ pending_from rest
 set_pending (SetName source) rest = refl

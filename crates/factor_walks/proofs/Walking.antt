@@ -1,5 +1,5 @@
 -- A walk goes on.
-use Rattle.std.proofs.Common.{ℕ, ◌≡◌, ◌∙◌, ◌++◌, List, [], ◌∷◌, refl, sym, subst}
+use Rattle.std.proofs.Common.{ℕ, ◌++◌, List, [], ◌∷◌, refl, sym, subst}
 use Rattle.bit_relations.specs.Relation.{Has}
 use Rattle.factor_walks.specs.declared.run.Link.{Link}
 use Rattle.factor_walks.specs.Walks.{IsRun, IsWalk}

@@ -2,7 +2,7 @@
 
 ghost use Rattle.std.specs.Prelude.{◌≡◌, [], IfOk, OnOk, reverse};
 ghost use Rattle.factor_walks.specs.Factors.{AreFactors, part_of, parts_in};
-ghost use Rattle.factor_walks.specs.Scanning.{is_next_factor, last_of, makes_relation, next_inside, next_twice, parts_after, pending_after, with_last, with_relation, with_step, without_next};
+ghost use Rattle.factor_walks.specs.Scanning.{is_next_factor, last_of, makes_relation, next_inside, next_twice, parts_after, pending_after, with_last, with_step, without_next};
 
 use binding_graph::Step;
 use cat_values::Postfix;

@@ -2,7 +2,7 @@
 
 ghost use Rattle.std.specs.Prelude.{◌≡◌, ◌≤◌, ◌++◌, OnOk, length, map};
 ghost use Rattle.std.specs.List.{position_or_len};
-ghost use Rattle.fault_lines.specs.Lines.{shown_byte, blank_below, is_word_byte, ends_word, found_length, quoted, found};
+ghost use Rattle.fault_lines.specs.Lines.{shown_byte, blank_below, is_word_byte, ends_word, quoted, found};
 
 use source_text::{is_digit, is_letter, put_bytes};
 use std::alloc::AllocError;

@@ -1,6 +1,6 @@
 //! The lines of a refused text.
 
-ghost use Rattle.std.specs.Prelude.{◌≡◌, ◌++◌, OnOk, drop, take};
+ghost use Rattle.std.specs.Prelude.{◌≡◌, ◌++◌, OnOk};
 ghost use Rattle.fault_lines.specs.Lines.{line_before, line_behind, picture, rule_said, what_is_found, fault_lines};
 
 use crate::found::{MOST_SHOWN, put_blanks, put_found, put_shown};

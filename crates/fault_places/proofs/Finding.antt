@@ -1,5 +1,5 @@
 -- What is found is the first fault of the model.
-use Rattle.std.proofs.Common.{◌≡◌, ℕ, ◌+◌, List, [], map, reverse, Option, Some, None, Result, Ok, Err, IfOk, sym, ap, ◌∙◌, subst, arith}
+use Rattle.std.proofs.Common.{◌≡◌, List, [], map, reverse, Option, Some, None, Result, Ok, Err, IfOk, sym, ap, ◌∙◌, subst, arith}
 use Rattle.std.specs.Prelude.{option_map}
 use Rattle.cat_values.specs.declared.predefined.TheConstants.{PREDEFINED}
 use Rattle.binding_kinds.specs.declared.function.Function.{Function}
@@ -8,7 +8,7 @@ use Rattle.binding_kinds.specs.Outermost.{naming_of}
 use Rattle.binding_kinds.specs.Value.{Naming, Clause, entry_of}
 use Rattle.binding_kinds.specs.Senses.{Sense, AreKept}
 use Rattle.fault_places.specs.declared.place.ItemFault.{ItemFault}
-use Rattle.fault_places.specs.Found.{outermost, IsPlace, IsFound}
+use Rattle.fault_places.specs.Found.{outermost, IsFound}
 use Rattle.fault_places.specs.Search.{PlacedFault, placed_fault_of, first_fault_in_items}
 use Rattle.fault_places.proofs.Signing.{IsPlaced, ArePlaced, items_are_placed}
 

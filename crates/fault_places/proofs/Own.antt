@@ -1,6 +1,6 @@
 -- The fault of an application itself.
-use Rattle.std.proofs.Common.{ℕ, suc, ◌≡◌, ◌<◌, ◌≤◌, ◌+◌, ◌*◌, List, [], ◌∷◌, length, map, drop, get_or, length-drop, Bool, true, false, Option, Some, None, Result, Ok, Err, refl, sym, ap, ◌∙◌, arith}
-use Rattle.std.specs.Prelude.{if◌then◌else◌, nat_lt, not, min}
+use Rattle.std.proofs.Common.{ℕ, ◌≡◌, ◌<◌, ◌≤◌, ◌+◌, ◌*◌, List, length, map, drop, get_or, length-drop, Bool, Option, Some, None, Result, Ok, sym, ap, ◌∙◌, arith}
+use Rattle.std.specs.Prelude.{if◌then◌else◌, not, min}
 use Rattle.std.proofs.lemmas.Bool.{lt-ltb, le-ltb}
 use Rattle.cat_values.specs.declared.model.Expression.{Expression}
 use Rattle.cat_values.specs.Value.{Terms, gathered}
@@ -13,7 +13,7 @@ use Rattle.binding_kinds.specs.declared.signature.Signature.{Signature}
 use Rattle.binding_kinds.specs.Combinations.{digit, number_of, unknown}
 use Rattle.binding_kinds.specs.Value.{Naming}
 use Rattle.binding_kinds.specs.Verdict.{or_else, unless}
-use Rattle.binding_kinds.specs.Senses.{Sense, IsKept, IsAlike, size_with, size_applied, sizes_in, kind_in, kinds_in, fault_applied}
+use Rattle.binding_kinds.specs.Senses.{Sense, IsKept, IsAlike, size_with, size_applied, kind_in, kinds_in, fault_applied}
 use Rattle.binding_kinds.proofs.Applications.{below_table, next, long_kinds, count_arguments, or_none}
 
 own_large : (s : Sense) (sizes : List ℕ) (kinds : List Kind) (size : ℕ) → IsAlike size (size_with s sizes) → 4096 < size → fault_applied (Ok s) sizes kinds None ≡ Some faults.TooLarge

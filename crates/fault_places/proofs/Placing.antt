@@ -1,12 +1,12 @@
 -- Items that are looked at one after another.
-use Rattle.std.proofs.Common.{ℕ, suc, ◌≡◌, ◌<◌, ◌≤◌, ◌+◌, List, [], ◌∷◌, length, map, drop, reverse, get_or, Option, Some, None, refl, sym, ap, ◌∙◌, add-one}
+use Rattle.std.proofs.Common.{ℕ, suc, ◌≡◌, ◌<◌, ◌≤◌, ◌+◌, List, ◌∷◌, length, map, drop, reverse, get_or, Option, Some, None, sym, ap, ◌∙◌, add-one}
 use Rattle.std.specs.Prelude.{option_map}
 use Rattle.std.proofs.lemmas.List.{drop_all}
 use Rattle.std.proofs.Math.Seq.{drop-cons}
 use Rattle.cat_values.specs.declared.model.Item.{Item}
 use Rattle.binding_kinds.specs.declared.function.Function.{Function}
 use Rattle.binding_kinds.specs.declared.scope.Entry.{Entry}
-use Rattle.binding_kinds.specs.Value.{Naming, Clause, entry_of, clause_of}
+use Rattle.binding_kinds.specs.Value.{Naming, entry_of, clause_of}
 use Rattle.binding_kinds.specs.Senses.{Sense, AreKept}
 use Rattle.binding_kinds.specs.Faults.{extended, senses_after}
 use Rattle.fault_places.specs.declared.place.SignFault.{SignFault}

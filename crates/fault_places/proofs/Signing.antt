@@ -1,5 +1,5 @@
 -- What is looked for is the first fault, and the sign that it stands at.
-use Rattle.std.proofs.Common.{ℕ, zero, suc, ◌≡◌, ◌<◌, ◌≤◌, ◌+◌, ◌⊎◌, inl, inr, List, [], ◌∷◌, ◌++◌, length, reverse, Bool, true, false, ◌&&◌, ◌||◌, IsTrue, IsFalse, Option, Some, None, Result, Ok, Err, refl, arith, sym, ap, ◌∙◌, rules, length-append}
+use Rattle.std.proofs.Common.{ℕ, zero, suc, ◌≡◌, ◌<◌, ◌≤◌, ◌+◌, ◌⊎◌, inl, inr, List, [], ◌∷◌, ◌++◌, length, reverse, Bool, true, false, ◌&&◌, ◌||◌, IsTrue, Option, Some, None, Result, Ok, Err, refl, arith, sym, ap, ◌∙◌, rules, length-append}
 use Rattle.std.specs.Prelude.{if◌then◌else◌, nat_lt, not, slice_get, slice_index_or, codes}
 use Rattle.std.proofs.lemmas.Bool.{cases_lt, lt-ltb, ltb-true}
 use Rattle.cat_values.specs.Value.{Term, Terms, Atom, AllEvents, EmptyRelation, EmptySet, Join, Mark, Not, On, Apply, NoTerm, OneMore}
@@ -12,7 +12,7 @@ use Rattle.binding_kinds.specs.Value.{Naming, Bound, Clause, Group, Check, Mute,
 use Rattle.binding_kinds.specs.Kinds.{found, takes, is_relation, is_set, is_turned, takes_body}
 use Rattle.binding_kinds.specs.Meanings.{parameter_of}
 use Rattle.binding_kinds.specs.Senses.{Sense, size_with, sense_of, count_of, sizes_in, kind_in, kinds_in, under_of, fault_applied}
-use Rattle.binding_kinds.specs.Faults.{width, widths, IsAmong, IsFaultOfApplication, IsFaultAt, IsFaultAmong, IsFaultOfBinding, IsFaultIn, IsFaultOfParameter, IsFaultOfParameters, IsFaultInside, IsFaultApplied, IsFaultOfBody, IsFaultOfBodies, IsFaultOfItem, IsFault, IsFirst, IsNoLater, FirstFault, HasNoFault, with_own, extended, senses_after}
+use Rattle.binding_kinds.specs.Faults.{width, widths, IsAmong, IsFaultOfApplication, IsFaultAt, IsFaultAmong, IsFaultOfBinding, IsFaultIn, IsFaultOfParameter, IsFaultOfParameters, IsFaultInside, IsFaultApplied, IsFaultOfBody, IsFaultOfBodies, IsFaultOfItem, IsFirst, IsNoLater, FirstFault, HasNoFault, with_own, extended, senses_after}
 use Rattle.binding_kinds.specs.Verdict.{or_else, unless, is_seen, is_of_set, of_parameter}
 use Rattle.binding_kinds.specs.First.{of_binding, of_inside, of_applied}
 use Rattle.binding_kinds.proofs.First.{Judges, tested, named, inside}

@@ -1,12 +1,12 @@
 -- Faults that are looked for one after another.
-use Rattle.std.proofs.Common.{ℕ, zero, suc, ◌≡◌, ◌<◌, ◌≤◌, ◌+◌, ◌||◌, List, [], ◌∷◌, length, map, drop, take, reverse, get_or, Bool, false, Option, Some, None, Result, Ok, Err, Vec, Global, refl, sym, ap, ◌∙◌, arith, add-one}
+use Rattle.std.proofs.Common.{ℕ, suc, ◌≡◌, ◌<◌, ◌≤◌, ◌+◌, ◌||◌, List, ◌∷◌, length, map, drop, take, reverse, get_or, Bool, false, Option, Some, None, Result, Vec, Global, refl, sym, ap, ◌∙◌, add-one}
 use Rattle.std.specs.Prelude.{min}
 use Rattle.std.proofs.lemmas.List.{drop_all}
 use Rattle.std.proofs.Math.Seq.{drop-cons}
 use Rattle.cat_values.specs.declared.model.Binding.{Binding}
 use Rattle.cat_values.specs.declared.model.Expression.{Expression}
 use Rattle.cat_values.specs.declared.model.Expression.TheVariants as expressions
-use Rattle.cat_values.specs.Value.{Term, Terms, Apply, OneMore, gathered}
+use Rattle.cat_values.specs.Value.{Terms, Apply, gathered}
 use Rattle.cat_values.specs.Values.{term_of}
 use Rattle.cat_values.proofs.Arguments.{applied_term}
 use Rattle.binding_kinds.specs.declared.fault.ModelFault.{ModelFault}
@@ -16,7 +16,7 @@ use Rattle.binding_kinds.specs.Meanings.{parameter_of}
 use Rattle.binding_kinds.specs.Value.{Naming, Bound, bound_of}
 use Rattle.binding_kinds.specs.Verdict.{of_parameter}
 use Rattle.binding_kinds.specs.First.{of_binding, of_applied}
-use Rattle.binding_kinds.specs.Senses.{Sense, IsAlike, sense_of, count_of, size_in, sizes_in, size_applied, kinds_in, under_of, fault_applied}
+use Rattle.binding_kinds.specs.Senses.{Sense, IsAlike, sense_of, size_in, sizes_in, size_applied, kinds_in, under_of, fault_applied}
 use Rattle.binding_kinds.proofs.Applications.{next, count_arguments}
 use Rattle.binding_kinds.proofs.Scopes.{rev_more, rev_next}
 use Rattle.fault_places.specs.Search.{SignedFault, signed_fault, or_later, first_fault_in, first_fault_among, first_fault_in_group, first_fault_in_parameters, first_fault_in_body, first_fault_in_bodies}

@@ -1,8 +1,7 @@
 -- What is found of the first fault of a model. `first_fault` cites it.
-use Rattle.std.specs.Prelude.{◌≡◌, ℕ, List, [], map, reverse, slice_get, slice_index_or, Option, Some, None}
-use Rattle.cat_values.specs.declared.model.Item.{Item}
+use Rattle.std.specs.Prelude.{◌≡◌, List, [], map, reverse, slice_get, slice_index_or, Option, Some, None}
 use Rattle.cat_values.specs.declared.predefined.TheConstants.{PREDEFINED}
-use Rattle.binding_kinds.specs.Value.{Naming, Clause, Mute, clause_of}
+use Rattle.binding_kinds.specs.Value.{Naming, Clause, Mute}
 use Rattle.binding_kinds.specs.Outermost.{naming_of}
 use Rattle.binding_kinds.specs.Faults.{HasNoFault, FirstFault}
 use Rattle.fault_places.specs.declared.place.ItemFault.{ItemFault}

@@ -1,6 +1,6 @@
 //! The names that an item adds, and its first fault.
 
-ghost use Rattle.std.specs.Prelude.{◌≡◌, [], None, IfOk, OnOk, List, reverse, map, length, take, option_map, false};
+ghost use Rattle.std.specs.Prelude.{◌≡◌, [], None, IfOk, OnOk, List, reverse, map, length, option_map, false};
 ghost use Rattle.cat_values.specs.Values.{term_of};
 ghost use Rattle.binding_kinds.specs.Value.{Defined, entry_of, bound_of, clause_of};
 ghost use Rattle.binding_kinds.specs.Kinds.{takes_body};

@@ -3,8 +3,6 @@
 ghost use Rattle.std.specs.Prelude.{◌≡◌, ◌||◌, List, reverse, map, option_map};
 ghost use Rattle.cat_values.specs.Values.{term_of};
 ghost use Rattle.binding_kinds.specs.Value.{entry_of};
-ghost use Rattle.binding_kinds.specs.Kinds.{found};
-ghost use Rattle.binding_kinds.specs.Verdict.{of_name};
 ghost use Rattle.binding_kinds.specs.Senses.{Sense, AreKept, kind_in};
 ghost use Rattle.fault_places.specs.Search.{signed_fault_of, signed_fault, first_fault_in};
 

@@ -1,8 +1,7 @@
 -- Expressions whose names stand for the same have the same form and kind.
-use Rattle.std.proofs.Common.{ℕ, ◌≡◌, ◌+◌, ◌*◌, zero, suc, List, [], ◌∷◌, length, reverse, Bool, true, false, Option, Some, None, Result, Ok, Err, get_or, refl, sym, ap, ◌∙◌, subst, arith}
-use Rattle.std.specs.Prelude.{nat_lt, nat_eq, slice_get, if◌then◌else◌}
+use Rattle.std.proofs.Common.{ℕ, ◌≡◌, ◌+◌, ◌*◌, zero, suc, List, [], ◌∷◌, length, reverse, Option, Some, None, Result, Ok, Err, get_or, refl, sym, ap, ◌∙◌, subst}
+use Rattle.std.specs.Prelude.{nat_lt, nat_eq, if◌then◌else◌}
 use Rattle.std.specs.List.{AllZip}
-use Rattle.std.proofs.lemmas.Bool.Decides.{nat_tests}
 use Rattle.cat_values.specs.Value.{Term, Terms, Atom, AllEvents, EmptyRelation, EmptySet, Join, Mark, Not, On, Apply, NoTerm, OneMore}
 use Rattle.binding_kinds.specs.declared.fault.ModelFault.{ModelFault}
 use Rattle.binding_kinds.specs.declared.fault.ModelFault.TheVariants as faults
@@ -15,7 +14,7 @@ use Rattle.binding_kinds.specs.Value.{Naming}
 use Rattle.binding_kinds.specs.Kinds.{found, kind_found, joined, marked, narrowed}
 use Rattle.binding_kinds.specs.Meanings.{parameter_of}
 use Rattle.binding_kinds.specs.Formula.{Formula, Value, Parameter, Everything, NoPairs, NoEvents, Joined, Marked, Complement, Identity, filled, constant_of, factor_of}
-use Rattle.binding_kinds.specs.Senses.{Sense, sense_of, sense_of_binder, with_arity, size_of_arguments, size_with, size_applied, kind_applied, size_in, sizes_in, kind_in, kinds_in, count_of}
+use Rattle.binding_kinds.specs.Senses.{Sense, sense_of, size_of_arguments, size_with, size_applied, kind_applied, size_in, sizes_in, kind_in, kinds_in, count_of}
 use Rattle.binding_kinds.specs.Functions.{sense_seen, bound_formula, named_formula, applied_formula, formula_in, formulas_in}
 use Rattle.item_laws.specs.Laws.{Scope, Pairing, IsSameBinder, IsSameFound, IsSameName, IsSameUnless, IsSameFormula, IsSameSense, IsSameFunction, HasSameNames, HaveSameNames}
 use Rattle.binding_kinds.proofs.Applications.{long_kinds, found_arity}

@@ -22,7 +22,7 @@ use Rattle.litmus_grammar.specs.declared.parts.TextKind.TheVariants as kinds
 use Rattle.litmus_grammar.specs.Grammar.{Listed, EntryTree, spelled_entry, spelled_end, spelled_others, spelled_init, members, AreEntries, IsInitText}
 use Rattle.litmus_grammar.specs.InitMachine as init
 use Rattle.litmus_grammar.specs.TextMachine as text
-use Rattle.litmus_grammar.specs.TextMachine.{Part, Draft, Next, State, Ran, with_offset, and_then, stepped, part_step, nothing, start, run}
+use Rattle.litmus_grammar.specs.TextMachine.{Part, Draft, Next, State, part_step, nothing, start, run}
 use Rattle.litmus_grammar.specs.Texts.{IsStart, IsWhole, BreaksOff, IsBrokenOff}
 use Rattle.litmus_grammar.proofs.Bodies.{IsRows, IsName, header_at, header_begins, any_header, rows_at, name_step, names_led, rows_led}
 use Rattle.litmus_grammar.proofs.Ends.{ends_done}

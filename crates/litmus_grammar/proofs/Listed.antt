@@ -26,7 +26,7 @@ use Rattle.litmus_grammar.specs.declared.parts.ItemExpectation.TheVariants as it
 use Rattle.litmus_grammar.specs.declared.parts.TextKind.TheVariants as kinds
 use Rattle.litmus_grammar.specs.Grammar.{Listed, spelled_others, members, spelled_observed, AreItems, IsLocationsText}
 use Rattle.litmus_grammar.specs.TextMachine as text
-use Rattle.litmus_grammar.specs.TextMachine.{Part, Draft, Next, State, Ran, with_offset, and_then, stepped, part_step, with_place, nothing, start, run, rule_at, item_result}
+use Rattle.litmus_grammar.specs.TextMachine.{Part, Draft, Next, State, with_offset, and_then, stepped, part_step, with_place, nothing, start, run, rule_at, item_result}
 use Rattle.litmus_grammar.proofs.Conditions.{tail_stays, tail_says}
 use Rattle.litmus_grammar.proofs.Lists.{closing, list_whole}
 use Rattle.litmus_grammar.proofs.Outcomes.{Reading}

@@ -1,5 +1,5 @@
 -- What a tree spells before some tokens is what it spells alone, and these.
-use Rattle.std.proofs.Common.{◌≡◌, ℕ, zero, suc, ◌+◌, Bool, true, false, List, [], ◌∷◌, ◌++◌, Option, Some, None, refl, ap, ◌∙◌, append_assoc}
+use Rattle.std.proofs.Common.{◌≡◌, ℕ, zero, suc, ◌+◌, Bool, true, false, List, [], ◌∷◌, ◌++◌, Option, Some, None, refl, ap, ◌∙◌}
 use Rattle.std.specs.Prelude.{codes}
 use Rattle.litmus_tokens.specs.declared.token.Token.{Token}
 use Rattle.litmus_tokens.specs.declared.token.Token.TheVariants as tokens
@@ -8,9 +8,9 @@ use Rattle.litmus_tokens.specs.Words.{column_name}
 use Rattle.litmus_values.specs.declared.test.Quantifier.{Quantifier}
 use Rattle.litmus_values.specs.declared.test.Quantifier.TheVariants.{Exists, NotExists, Forall}
 use Rattle.litmus_conditions.specs.Grammar.{PlaceTree, Location, Register, ValueTree, Number, Address, FormulaTree, Word, Atom, Prefix, Pair, Group, spelled_place, spelled_value, prefix_token, connective_token, spelled, spelled_quantifier}
-use Rattle.litmus_table.specs.Grammar.{InstructionTree, CellTree, RowTree, ThreadTree, spelled_label, spelled_instruction, spelled_cell, spelled_cells, spelled_rows, spelled_steps, spelled_thread, spelled_names}
+use Rattle.litmus_table.specs.Grammar.{CellTree, RowTree, ThreadTree, spelled_cell, spelled_cells, spelled_rows, spelled_steps, spelled_thread, spelled_names}
 use Rattle.litmus_grammar.specs.Grammar.{Listed, EntryTree, spelled_entry, spelled_end, spelled_others, spelled_listed, spelled_init, spelled_items, spelled_condition}
-use Rattle.litmus_table.proofs.Complete.{label-append, cell-append, cells-append}
+use Rattle.litmus_table.proofs.Complete.{cell-append, cells-append}
 
 pub rows-append : (rs : List RowTree) (xs ys : List Token) → spelled_rows rs xs ++ ys ≡ spelled_rows rs (xs ++ ys)
 rows-append [] xs ys = refl

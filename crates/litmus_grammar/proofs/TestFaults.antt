@@ -23,13 +23,13 @@ use Rattle.litmus_grammar.specs.declared.parts.TextKind.TheVariants as kinds
 use Rattle.litmus_grammar.specs.Grammar.{Listed, EntryTree, spelled_entry, spelled_others, spelled_listed, spelled_init, members, AreEntries, IsInitText, spelled_text, spelled_keylines}
 use Rattle.litmus_grammar.specs.InitMachine as init
 use Rattle.litmus_grammar.specs.TextMachine as text
-use Rattle.litmus_grammar.specs.TextMachine.{Part, Draft, Next, State, Ran, with_offset, and_then, stepped, part_step, start, run, rule_at}
+use Rattle.litmus_grammar.specs.TextMachine.{Part, Draft, Next, State, with_offset, and_then, stepped, part_step, start, run, rule_at}
 use Rattle.litmus_grammar.specs.Texts.{is_init, spelled_colon, IsBrokenOff, IsWhole, BreaksOff}
 use Rattle.litmus_grammar.proofs.Blocks.{IsBody, Opened, IsOne, IsBroken, brace_at, block_at, block_begins, body_of}
 use Rattle.litmus_grammar.proofs.Bodies.{any_header}
 use Rattle.litmus_grammar.proofs.Conditions.{tail_says}
 use Rattle.litmus_grammar.proofs.Heads.{magic, IsHeaded, any_body, test_of, keylines-append}
-use Rattle.litmus_grammar.proofs.Outcomes.{not_both, stopped, stopped_is}
+use Rattle.litmus_grammar.proofs.Outcomes.{not_both, stopped_is}
 use Rattle.litmus_grammar.proofs.Passing.{test_at}
 use Rattle.litmus_grammar.proofs.Runs.{tokens_of-append, went, run_one}
 use Rattle.litmus_grammar.proofs.Spelled.{init-append}

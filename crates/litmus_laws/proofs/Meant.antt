@@ -11,7 +11,7 @@ use Rattle.litmus_values.specs.declared.test.Quantifier.{Quantifier}
 use Rattle.litmus_values.specs.declared.test.Quantifier.TheVariants.{Exists, NotExists, Forall}
 use Rattle.litmus_values.specs.Value.{Formula}
 use Rattle.litmus_conditions.specs.Grammar as grammar
-use Rattle.litmus_conditions.specs.Grammar.{limits, PlaceTree, Location, Register, ValueTree, Number, Address, spelled_place, spelled_value, place_meaning, value_meaning, HasThread, FormulaTree, Word, Atom, Prefix, Pair, Group, connective_token, prefix_token, spelled, spelled_quantifier, meaning, HasAtoms}
+use Rattle.litmus_conditions.specs.Grammar.{limits, PlaceTree, Location, Register, ValueTree, Number, Address, spelled_place, spelled_value, place_meaning, value_meaning, HasThread, FormulaTree, Word, Atom, Prefix, Pair, Group, prefix_token, spelled, spelled_quantifier, meaning, HasAtoms}
 use Rattle.litmus_grammar.specs.Texts.{ReadsCondition}
 use Rattle.litmus_laws.specs.Written.{IsNumber, IsValue, IsPlace, IsFormula, IsTextOfCondition}
 use Rattle.litmus_laws.proofs.Tokens.{AllFine, tokens_fine, all_fine}

@@ -23,9 +23,9 @@ use Rattle.litmus_table.specs.declared.opcode.Opcode.TheVariants as opcodes
 use Rattle.litmus_table.specs.declared.opcode.Want.{Want}
 use Rattle.litmus_table.specs.declared.opcode.Want.TheVariants as wants
 use Rattle.litmus_table.specs.Words as words
-use Rattle.litmus_table.specs.Words.{opcode_of, data_form, fits, all_fit, is_label, takes, registers, immediate, data_meaning, branch_meaning, instruction_meaning}
+use Rattle.litmus_table.specs.Words.{data_form, fits, all_fit, is_label, takes, registers, immediate, data_meaning, branch_meaning, instruction_meaning}
 use Rattle.litmus_table.specs.Grammar as grammar
-use Rattle.litmus_table.specs.Grammar.{InstructionTree, CellTree, RowTree, IsOperation, AreCells, AreRows, spelled_label, spelled_instruction, spelled_cell, spelled_cells, spelled_rows, label_steps, operation_steps, instruction_steps, cell_steps, cells_steps, nth_cell, column, columns_meaning}
+use Rattle.litmus_table.specs.Grammar.{InstructionTree, CellTree, RowTree, AreCells, AreRows, spelled_label, spelled_instruction, spelled_cell, spelled_cells, spelled_rows, label_steps, operation_steps, instruction_steps, cell_steps, cells_steps, nth_cell, column, columns_meaning}
 use Rattle.litmus_table.specs.Late.{Late, or_else, Note, Defines, Branches, branch_notes, instruction_notes, label_notes, nth_notes, column_notes, columns_notes, is_in, defined, late_notes, first_late}
 use Rattle.litmus_printing.specs.Printing.{register_text}
 use Rattle.litmus_laws.specs.Written.{IsWord, IsNumber, IsBase, IsInstruction, AreSteps, target, labels, IsBelow, AreLabelled, AreThreads}

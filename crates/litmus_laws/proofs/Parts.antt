@@ -23,7 +23,7 @@ use Rattle.litmus_table.specs.declared.opcode.Opcode.{Opcode}
 use Rattle.litmus_table.specs.declared.opcode.Opcode.TheVariants as opcodes
 use Rattle.litmus_table.specs.declared.opcode.Want.{Want}
 use Rattle.litmus_table.specs.declared.opcode.Want.TheVariants as wants
-use Rattle.litmus_table.specs.Words.{opcode_of, computing_of, accessing_of, fence_of, branch_of, fits, all_fit, data_form, is_label, takes}
+use Rattle.litmus_table.specs.Words.{opcode_of, fits, all_fit, data_form, is_label, takes}
 use Rattle.litmus_table.specs.Grammar.{InstructionTree, CellTree, RowTree, ThreadTree, spelled_steps, spelled_thread, spelled_label, spelled_instruction, spelled_cells, spelled_rows, spelled_names, spelled_header, IsInstruction, AreCells, AreRows}
 use Rattle.litmus_grammar.specs.Grammar.{Listed, EntryTree, TestTree, spelled_entry, spelled_end, spelled_others, spelled_listed, spelled_init, spelled_observed, spelled_text, spelled_keylines, spelled_test, IsTest, IsInitText, IsThreadText, IsLocationsText}
 use Rattle.litmus_grammar.specs.Texts.{IsStart}

@@ -2,7 +2,7 @@
 
 ghost use Rattle.std.specs.Prelude.{◌≡◌, IfOk};
 ghost use Rattle.litmus_conditions.specs.PlaceMachine.{value_read};
-ghost use Rattle.litmus_grammar.specs.InitMachine.{start, location_key, register_key, added, added_if, token_key, word_key, open_read, entry_read, place_read, place_result, equals_read, with_entry, valued, behind, step, lacks_thread, missing};
+ghost use Rattle.litmus_grammar.specs.InitMachine.{start, location_key, register_key, added, added_if, token_key, word_key, entry_read, place_read, valued, step, lacks_thread, missing};
 ghost use Rattle.litmus_parts.specs.InitReading.{block_of, Adds, Steps};
 
 use litmus_conditions::{

@@ -14,11 +14,11 @@ use Rattle.litmus_ppc.specs.declared.fault.LitmusFault.TheVariants as faults
 use Rattle.litmus_grammar.specs.declared.parts.TextKind.TheVariants as kinds
 use Rattle.litmus_grammar.specs.Grammar.{members, entry_meaning, TestTree, test_meaning, IsTestText}
 use Rattle.litmus_grammar.specs.InitMachine.{missing}
-use Rattle.litmus_grammar.specs.TextMachine.{Draft, State, Ran, threads_in, run, start, first_stage}
+use Rattle.litmus_grammar.specs.TextMachine.{State, Ran, threads_in, run, start, first_stage}
 use Rattle.litmus_grammar.specs.TextMachine as text
 use Rattle.litmus_ppc.specs.TextReading.{FailsAt, test_of}
 use Rattle.litmus_grammar.specs.Texts as texts
-use Rattle.litmus_grammar.specs.Texts.{ReadsTest, IsTestFault, IsWhole, late_entries, late_test, before_entries, before_rows}
+use Rattle.litmus_grammar.specs.Texts.{ReadsTest, IsTestFault, IsWhole, late_entries, before_entries, before_rows}
 use Rattle.litmus_ppc.specs.Faults.{IsTooLong, IsMemory, IsMissingFound, IsLateFound, IsFaultOf}
 use Rattle.litmus_grammar.proofs.Bodies.{length-meaning, length-steps}
 use Rattle.litmus_grammar.proofs.Bounds.{is_short}

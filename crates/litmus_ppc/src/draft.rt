@@ -1,6 +1,6 @@
 //! The draft of a test.
 
-ghost use Rattle.std.specs.Prelude.{◌≡◌, ℕ, length, IfOk};
+ghost use Rattle.std.specs.Prelude.{◌≡◌, IfOk};
 ghost use Rattle.litmus_conditions.specs.ConditionMachine.{proposition_step};
 ghost use Rattle.litmus_conditions.specs.Grammar.{limits};
 ghost use Rattle.litmus_conditions.specs.PlaceMachine.{place_step};

@@ -6,7 +6,7 @@ use Rattle.std.proofs.lemmas.Bool.{and_parts}
 use Rattle.litmus_tokens.specs.declared.token.Token.{Token}
 use Rattle.litmus_tokens.specs.declared.token.Token.TheVariants as tokens
 use Rattle.litmus_tokens.specs.Texts as texts
-use Rattle.litmus_tokens.specs.Texts.{tokens_of, StandsAt}
+use Rattle.litmus_tokens.specs.Texts.{StandsAt}
 use Rattle.litmus_values.specs.declared.instruction.BranchCondition.{BranchCondition}
 use Rattle.litmus_values.specs.declared.instruction.Instruction.{Instruction}
 use Rattle.litmus_values.specs.declared.instruction.Instruction.TheVariants as instructions

@@ -8,7 +8,7 @@ use Rattle.litmus_tokens.specs.Faults.{Begins}
 use Rattle.litmus_values.specs.declared.test.Step.{Step}
 use Rattle.litmus_table.specs.Grammar.{spelled_rows, spelled_thread, columns_meaning, cells_steps, column}
 use Rattle.litmus_table.specs.Late.{column_notes, columns_notes}
-use Rattle.litmus_table.specs.Machine.{ThreadSteps, fresh, State, widened, step, is_row_start}
+use Rattle.litmus_table.specs.Machine.{ThreadSteps, fresh, State, widened, step}
 use Rattle.litmus_table.specs.Machine as machine
 use Rattle.litmus_table.specs.Laws.{IsTable, IsThread, then_on, run, columns, Takes, TakesRows, TakesCells, AreNoted}
 use Rattle.litmus_table.proofs.Cells.{stand}

@@ -1,7 +1,7 @@
 //! Reads the table of threads.
 
 ghost use Rattle.std.specs.Prelude.{◌≡◌, ◌≤◌, ℕ, List, map, length, IfOk, OnOk, Some};
-ghost use Rattle.litmus_table.specs.Machine.{start, noted, put_at, is_last, ended, operation, begins, cell, operand, target_read, finished, goes_on, step, expected_step, widened, named, is_begin, is_row_start, can_end, wanted, rule_of_word, separator_rule, rule_at};
+ghost use Rattle.litmus_table.specs.Machine.{start, put_at, is_last, ended, operation, begins, cell, operand, target_read, finished, step, expected_step, widened, named, is_begin, is_row_start, can_end, wanted, rule_of_word, separator_rule, rule_at};
 ghost use Rattle.litmus_tokens.specs.Texts.{TokenAt};
 ghost use Rattle.litmus_table.specs.Checks.{IsFoundAt};
 ghost use Rattle.litmus_table.specs.Late.{Note, first_late};

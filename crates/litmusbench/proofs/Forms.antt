@@ -1,5 +1,5 @@
 -- What words ask for.
-use Rattle.std.proofs.Common.{◌≡◌, ℕ, ◌+◌, ◌-◌, ◌<◌, ◌≤◌, ◌&&◌, List, [], ◌∷◌, zero, suc, length, get_or, take, drop, Bool, true, false, Option, Some, None, ltb, refl, sym, ap, ◌∙◌, arith, length-drop, codes}
+use Rattle.std.proofs.Common.{◌≡◌, ℕ, ◌+◌, ◌-◌, ◌<◌, ◌≤◌, ◌&&◌, List, [], ◌∷◌, suc, length, get_or, take, drop, Bool, true, false, Option, Some, None, ltb, refl, sym, ap, ◌∙◌, arith, length-drop, codes}
 use Rattle.std.proofs.lemmas.Grind.{common_steps}
 use Rattle.std.proofs.lemmas.List.{take_all, take-map, drop-map, length-map}
 use Rattle.std.proofs.lemmas.List.Sums.{position_or_len_is}
@@ -8,7 +8,7 @@ use denote.Ref.{Bor}
 use Rattle.litmusbench.specs.Forms.{Asked, Table, texts_of, is_word, is_path, are_paths, dashes, word_at, asked_if, table_of, paths_of, options_of, has_option, why_with, why_of, watch_with, watch_of, is_workers, draw_by, draw_of, by_command, asked_in}
 use Rattle.std.specs.Prelude.{if◌then◌else◌}
 use Rattle.session_script.specs.Words.{number_of}
-use Rattle.std.proofs.lemmas.Bool.{and_from, and_right}
+use Rattle.std.proofs.lemmas.Bool.{and_from}
 
 count : (words : List (Bor (List ℕ))) → length (texts_of words) ≡ length words
 count words = length-map words (λ w. w.now)

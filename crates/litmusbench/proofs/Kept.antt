@@ -3,7 +3,7 @@ use Rattle.std.proofs.Common.{◌≡◌, ℕ, zero, suc, ◌+◌, ◌-◌, ◌<�
 use Rattle.std.proofs.lemmas.Bool.{cases_order}
 use Rattle.std.proofs.lemmas.List.{take_all, length-take-le, length-drop, take-take, get_or-take}
 use Rattle.litmus_grammar.specs.Texts as tests
-use Rattle.litmus_grammar.specs.Texts.{ReadsTest, IsTestFault}
+use Rattle.litmus_grammar.specs.Texts.{IsTestFault}
 use Rattle.litmus_tokens.specs.declared.rule.LitmusRule.{LitmusRule}
 use Rattle.cat_grammar.specs.declared.form.Form.TheVariants.{Model}
 use Rattle.cat_tokens.specs.declared.rule.CatRule.{CatRule}

@@ -1,7 +1,7 @@
 //! What the words of a command line ask for.
 
 ghost use Rattle.std.specs.Prelude.{◌≡◌, ◌≤◌, ◌+◌, Some, None, IfOk, OnErr, length, option_map};
-ghost use Rattle.litmusbench.specs.Forms.{texts_of, asked_by, is_word, is_path, are_paths, dashes, word_at, eval_of, table_of, diff_of, why_of, session_with, session_in, session_of_three, session_of, paths_of, options_of, has_option, count_of, why_with, watch_with, watch_of, drawn_of, draw_with, draw_of_two, draw_of_three, draw_by, draw_of, text_of, by_command, asked_in};
+ghost use Rattle.litmusbench.specs.Forms.{texts_of, asked_by, is_path, are_paths, dashes, word_at, eval_of, table_of, diff_of, why_of, session_with, session_in, session_of_three, session_of, paths_of, options_of, has_option, count_of, why_with, watch_with, watch_of, drawn_of, draw_with, draw_of_two, draw_of_three, draw_by, draw_of, text_of, by_command, asked_in};
 
 use clap::error::ErrorKind;
 use clap::{Arg, ArgAction, Command, Error};

@@ -1,6 +1,6 @@
 //! What people are told of a model that has a fault.
 
-ghost use Rattle.std.specs.Prelude.{◌≡◌, IfOk};
+ghost use Rattle.std.specs.Prelude.{IfOk};
 ghost use Rattle.litmusbench.specs.Told.{IsFaultTold};
 
 use crate::file::TextFile;

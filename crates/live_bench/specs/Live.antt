@@ -1,5 +1,4 @@
 -- What the texts of the bench mean to the laws of cells.
-use Rattle.std.specs.Prelude.{Bool}
 use Rattle.memo_core.specs.Laws.{meaning}
 use Rattle.memo_core.specs.Run.{Meaning}
 use Rattle.node_values.specs.Givens.{GivenContent}

@@ -1,5 +1,5 @@
 -- An edit of own texts, by whether it is refused.
-use Rattle.std.proofs.Common.{◌≡◌, ℕ, ◌<◌, ◌-◌, ◌+◌, ◌^◌, arith, List, [], true, false, Bool, ap, sym, subst, ◌∙◌}
+use Rattle.std.proofs.Common.{◌≡◌, ℕ, ◌<◌, ◌-◌, ◌+◌, ◌^◌, arith, List, [], true, false, ap, sym, subst, ◌∙◌}
 use Rattle.bench_texts.specs.BenchTexts.{BenchTexts}
 use Rattle.bench_texts.specs.declared.edit.Edit as code
 use Rattle.bench_texts.specs.Edits.{Edit, Applies, edit_of}

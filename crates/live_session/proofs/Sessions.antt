@@ -1,5 +1,5 @@
 -- A script that is answered command by command.
-use Rattle.std.proofs.Common.{◌≡◌, ◌≢◌, ℕ, ◌+◌, ◌≤◌, List, [], ◌∷◌, ◌++◌, length, take, Bool, false, ◌||◌, ◌⊎◌, inl, inr, Option, Some, None, Result, Ok, Err, IfSome, refl, sym, ap, ◌∙◌, subst, append_assoc, arith}
+use Rattle.std.proofs.Common.{◌≡◌, ◌≢◌, ℕ, ◌+◌, ◌≤◌, List, [], ◌∷◌, ◌++◌, length, take, Bool, false, ◌||◌, inl, inr, Option, Some, None, Err, IfSome, refl, sym, ap, ◌∙◌, subst, append_assoc, arith}
 use Rattle.std.proofs.lemmas.List.{append-nil}
 use Rattle.std.specs.Io.KnownBytes.{prepend_known, Keeps, Appends}
 use Rattle.session_script.specs.declared.command.Command.{Command}
@@ -10,7 +10,7 @@ use Rattle.session_answers.specs.Sessions.{IsOutput, Nothing, OneMore, no_texts}
 use Rattle.litmusbench.specs.declared.fault.SessionFault.{SessionFault}
 use Rattle.litmusbench.specs.declared.fault.SessionFault.TheVariants as faults
 use Rattle.session_edits.specs.Answer.{Said}
-use Rattle.live_session.specs.Sessions.{IsBegun, IsWhole, IsFront, IsCutOff, IsSession, IsReplied, IsReplyStopped, IsTurnFault}
+use Rattle.live_session.specs.Sessions.{IsWhole, IsFront, IsSession, IsReplied, IsReplyStopped, IsTurnFault}
 use Rattle.litmusbench.specs.Answer.{IsReadFault}
 use Rattle.litmusbench.proofs.Joined.{appends_joined}
 use Rattle.live_session.specs.Faults.{IsOwnFault}

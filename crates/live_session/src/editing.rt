@@ -1,6 +1,6 @@
 //! Edits of a session.
 
-ghost use Rattle.std.specs.Prelude.{◌≡◌, ℕ, IfOk, IfErr, OnOk};
+ghost use Rattle.std.specs.Prelude.{ℕ, IfOk, IfErr, OnOk};
 ghost use Rattle.bench_texts.specs.Edits.{edit_of};
 ghost use Rattle.bench_texts.specs.Held.{texts_of};
 ghost use Rattle.session_edits.specs.Edits.{IsEdited};

@@ -1,6 +1,6 @@
 //! A claim's inputs, and a return's values, against the present ones.
 
-ghost use Rattle.std.specs.Prelude.{◌≡◌, length};
+ghost use Rattle.std.specs.Prelude.{◌≡◌};
 ghost use Rattle.memo_core.specs.Graph.{at, present_inputs};
 ghost use Rattle.memo_core.specs.Views.{as_memos, shown_values};
 ghost use Rattle.memo_core.specs.Tests.{all_hold, same_keys};

@@ -1,6 +1,6 @@
 //! Marks: which nodes are settled, kept up by following users. It takes no memory.
 
-ghost use Rattle.std.specs.Prelude.{◌≡◌, ℕ, IsTrue, IsFalse, length, ◌≤◌, ◌∷◌, [], List, Bool, true, false};
+ghost use Rattle.std.specs.Prelude.{◌≡◌, IsTrue, IsFalse, length, ◌≤◌, ◌∷◌, [], List, true, false};
 ghost use Rattle.indexmap.specs.IndexMap.{spare};
 ghost use Rattle.memo_core.specs.declared.keys.Node.{Node as NodeRecord};
 ghost use Rattle.memo_core.specs.Views.{as_memos};

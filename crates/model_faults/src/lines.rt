@@ -4,9 +4,6 @@ ghost use Rattle.std.specs.Prelude.{◌≡◌, ◌++◌, ◌<◌, ◌^◌, ◌-�
 ghost use Rattle.binding_kinds.specs.Value.{clause_of as kind_clause};
 ghost use Rattle.fault_places.specs.Found.{IsPlace};
 ghost use Rattle.cat_values.specs.Values.{clause_of};
-ghost use Rattle.binding_kinds.specs.Numbers.{number as fault_number};
-ghost use Rattle.fault_lines.specs.Words.{rule_words as rule_in_words};
-ghost use Rattle.fault_lines.specs.Lines.{rule_said};
 ghost use Rattle.model_faults.specs.Told.{item_number, fault_told, IsTold};
 
 use cat_printing::print_item;

@@ -1,6 +1,6 @@
 //! What a node gives.
 
-ghost use Rattle.std.specs.Prelude.{◌≡◌, ◌∷◌, [], List, IfOk, map, option_map};
+ghost use Rattle.std.specs.Prelude.{◌≡◌, ◌∷◌, [], IfOk, map, option_map};
 ghost use Rattle.litmus_values.specs.Value.{formula_of};
 ghost use Rattle.candidates.specs.declared.fault.EvalRefusal.{EvalRefusal};
 ghost use Rattle.verdict.specs.declared.answer.Outcome.{Outcome};
@@ -10,8 +10,8 @@ ghost use Rattle.node_values.specs.Items.{role_content};
 ghost use Rattle.node_values.specs.Makes.{IsSpaceValue, IsMadeBy, HasColumns, HasAnswers, checks_among, flags_among, IsVerdict, IsVerdictOver, refused, Makes};
 ghost use Rattle.node_values.specs.Parts.{HasParts};
 ghost use Rattle.node_values.specs.Spaces.{space_content, no_executions};
-ghost use Rattle.node_values.specs.Values.{NodeContent, OfColumn, OfOutcome, first_space, space_of, refusal_of, columns_of, answers_of};
-ghost use Rattle.node_values.specs.Views.{value_content, given_content, space_parts, verdict_parts, fault_parts};
+ghost use Rattle.node_values.specs.Values.{OfColumn, first_space, space_of, refusal_of, columns_of, answers_of};
+ghost use Rattle.node_values.specs.Views.{given_content, space_parts, verdict_parts};
 
 use crate::given::{FaultParts, Given, GivenParts, SpaceParts, VerdictParts};
 use crate::value::NodeValue;

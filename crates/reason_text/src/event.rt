@@ -1,6 +1,6 @@
 //! Events on lines.
 
-ghost use Rattle.std.specs.Prelude.{◌≡◌, ◌++◌, OnOk, codes};
+ghost use Rattle.std.specs.Prelude.{◌≡◌, ◌++◌, OnOk};
 ghost use Rattle.std.specs.List.{flat_map};
 ghost use Rattle.litmus_printing.specs.Printing.{fence_text};
 ghost use Rattle.verdict.specs.Final.{value_shown};

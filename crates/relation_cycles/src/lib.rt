@@ -3,9 +3,9 @@
 //! Paths are searched breadth first over rows of bits, from all events at once. Definitions: specs/Cycles.
 #![tactic(auto)]
 
-ghost use Rattle.std.specs.Prelude.{◌≡◌, ℕ, ◌<◌, ◌≤◌, ◌+◌, length, slice_index_or, IfOk, MatchOption};
+ghost use Rattle.std.specs.Prelude.{◌≡◌, ℕ, ◌<◌, ◌≤◌, ◌+◌, length, IfOk, MatchOption};
 ghost use Rattle.bit_relations.specs.Pairs.{Composed, Plus, IsAcyclic, IsEmpty, IsIrreflexive};
-ghost use Rattle.bit_relations.specs.Relation.{Has, IsRegular, IsRelation, no_slot};
+ghost use Rattle.bit_relations.specs.Relation.{Has, IsRegular, IsRelation};
 ghost use Rattle.relation_cycles.specs.Cycles.{IsPathFrom, IsShortestPath, IsShortestCycle, IsShortestThrough, IsReachableIn, AreLevels, IsWhole, IsFirstReflexive, IsLeastPair};
 
 use bit_relations::Rel;

@@ -7,13 +7,12 @@ use Rattle.std.proofs.lemmas.Option.{none-some}
 use Rattle.litmus_values.specs.declared.test.Test.{Test}
 use Rattle.litmus_values.specs.Value.{Content, content_of}
 use Rattle.verdict.specs.declared.answer.Outcome.{Outcome}
-use Rattle.memo_graph.specs.FromScratch.{IsFromScratch}
 use Rattle.bench_nodes.proofs.Lists.{get_left, get_right}
 use Rattle.bench_texts.specs.declared.model.NamedModel.{NamedModel}
 use Rattle.bench_texts.specs.BenchTexts.{PlainModel, test_index, model_index}
 use Rattle.bench_texts.specs.Held.{texts_of, model_of}
 use Rattle.compare_report.specs.Cells.{Cell, Settled}
-use Rattle.desk.specs.Boards.{BoardCell, AreSettled, IsSettledOn}
+use Rattle.desk.specs.Boards.{BoardCell, AreSettled}
 use Rattle.board.specs.declared.operation.BoardOp.{BoardOp}
 use Rattle.board.specs.Contents.{RowContent, ColumnContent, BoardContent, row_index, column_index, cell_at, cells_of, shown_cell, shown}
 use Rattle.board.specs.Operations.{no_board, board_after}
@@ -24,9 +23,9 @@ use Rattle.stamped_texts.specs.Texts.{IsSound}
 use Rattle.stamped_texts.specs.Cells.{from_scratch, scratch_by, test_of, model_of as model_in}
 use Rattle.stamped_texts.specs.CellProofs.{stands_there, tests_apart, models_apart}
 use Rattle.running_bench.specs.Cells.{cell_with, row_cells, all_cells, IsCountable, board_cells}
-use Rattle.running_bench.specs.Listing.{are_all, all_get, row_length, outcome_at, row_cell, cell_of_row}
+use Rattle.running_bench.specs.Listing.{are_all, all_get, outcome_at, row_cell, cell_of_row}
 use Rattle.running_bench.specs.Texts.{AreAfter, IsHistory}
-use Rattle.view_laws.specs.Results.{test_named, model_named, HasBoth, IsResultIn, IsRightCell}
+use Rattle.view_laws.specs.Results.{test_named, model_named, IsResultIn, IsRightCell}
 use Rattle.running_views.specs.Posted.{ShowsEachResult, SettledIsShown, PostedIsShown}
 use Rattle.view_laws.proofs.Names.{found, found_alike, there_alike, same_name, below}
 use Rattle.view_laws.proofs.Rights.{one_result, right_cell}

@@ -1,6 +1,6 @@
 //! The answers to questions.
 
-ghost use Rattle.std.specs.Prelude.{◌≡◌, ◌∷◌, [], ℕ, List, IfOk, Some, map, option_map};
+ghost use Rattle.std.specs.Prelude.{◌≡◌, IfOk, Some, map, option_map};
 ghost use Rattle.litmus_values.specs.Value.{content_of};
 ghost use Rattle.bench_texts.specs.Held.{model_of, texts_of};
 ghost use Rattle.session_answers.specs.Cells.{test_named, model_named, models_named};

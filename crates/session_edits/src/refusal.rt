@@ -1,8 +1,8 @@
 //! The lines of refusals.
 
-ghost use Rattle.std.specs.Prelude.{◌≡◌, ◌++◌, ◌∷◌, [], OnOk, IfOk, codes, decimal};
+ghost use Rattle.std.specs.Prelude.{◌≡◌, ◌++◌, ◌∷◌, OnOk, IfOk, codes, decimal};
 ghost use Rattle.session_edits.specs.Answer.{refusal_line, refused_line, denied};
-ghost use Rattle.session_edits.specs.Faults.{test_line, model_line, fault_line, bench_line, IsAnswer};
+ghost use Rattle.session_edits.specs.Faults.{test_line, model_line, fault_line, IsAnswer};
 
 use crate::answer::Answer;
 use bench_texts::EditFault;

@@ -1,16 +1,16 @@
 -- Models that say the same give a test the same outcomes.
-use Rattle.std.proofs.Common.{◌≡◌, ℕ, List, [], ◌∷◌, map, Option, Some, None, refl, sym, ap, ◌∙◌, subst}
+use Rattle.std.proofs.Common.{◌≡◌, ℕ, List, [], ◌∷◌, map, Some, None, refl, sym, ap, ◌∙◌, subst}
 use Rattle.std.proofs.lemmas.Simd.{map-map}
 use Rattle.std.specs.List.{AllZip}
 use Rattle.litmus_values.specs.declared.test.Test.{Test}
-use Rattle.litmus_values.specs.Value.{Content, content_of}
+use Rattle.litmus_values.specs.Value.{Content}
 use Rattle.cat_values.specs.declared.model.Item as code_item
 use Rattle.cat_values.specs.declared.model.Item.TheVariants as items
 use Rattle.cat_values.specs.declared.model.ModelText.{ModelText}
 use Rattle.cat_values.specs.Value as said
 use Rattle.cat_values.specs.Value.{Term}
 use Rattle.cat_values.specs.Values as values
-use Rattle.binding_kinds.specs.Value.{Bound, Clause, Group, Check, Mute, Defined, bound_of, clause_of}
+use Rattle.binding_kinds.specs.Value.{Bound, Clause, Group, Check, Mute, Defined, clause_of}
 use Rattle.binding_kinds.specs.Faults.{HasNoFault, FirstFault}
 use Rattle.binding_graph.specs.declared.resolved.ResolvedItem.{ResolvedItem}
 use Rattle.binding_graph.specs.Resolved.{AreResolved, IsLabelled, IsLabelledAs, AreLabelled}
@@ -22,7 +22,6 @@ use Rattle.memo_graph.specs.FromScratch.{outermost, IsResultOf, IsFromScratch}
 use Rattle.bench_texts.specs.BenchTexts.{PlainModel}
 use Rattle.evaluation_laws.proofs.Saying.{one_outcome}
 use Rattle.slice_laws.proofs.Tests.{equal_tests}
-use Rattle.session_answers.specs.Cells.{IsOutcome}
 use Rattle.session_laws.specs.Laws.{HasOneOutcome}
 
 -- ---- what an item binds and checks, from what it says

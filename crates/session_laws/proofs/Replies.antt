@@ -10,8 +10,8 @@ use Rattle.bench_texts.specs.BenchTexts.{BenchTexts, PlainModel}
 use Rattle.session_edits.specs.Answer.{Said, told}
 use Rattle.session_edits.specs.declared.request.Question.{Question}
 use Rattle.session_edits.specs.declared.request.Question.TheVariants as questions
-use Rattle.session_answers.specs.Cells.{test_named, model_named, models_named, IsOutcome, IsCell, IsRow}
-use Rattle.session_answers.specs.Questions.{IsItems, IsLog, IsCounts, AreRows, IsTable, IsDifference, IsReply}
+use Rattle.session_answers.specs.Cells.{test_named, model_named, models_named, IsCell, IsRow}
+use Rattle.session_answers.specs.Questions.{IsItems, IsLog, IsCounts, AreRows, IsTable, IsDifference}
 use Rattle.session_answers.specs.Rows.{pair_in}
 use Rattle.session_laws.specs.Laws.{HasOneReply}
 use Rattle.session_laws.proofs.Models.{one_outcome_said}

@@ -1,7 +1,6 @@
 //! Settled cells of a board as rows of a table, and as pairs of cells.
 
 ghost use Rattle.std.specs.Prelude.{◌≡◌, IfOk, IfSome, All, Some, map, slice_get, slice_index_or};
-ghost use Rattle.std.specs.List.{AllZip};
 ghost use Rattle.litmus_values.specs.Value.{content_of};
 ghost use Rattle.bench_texts.specs.Held.{texts_of};
 ghost use Rattle.compare_report.specs.Cells.{cell_of, NoCell};

@@ -1,6 +1,6 @@
 //! The names of relations that a model shows.
 
-ghost use Rattle.std.specs.Prelude.{◌≡◌, [], IfOk, filter, map};
+ghost use Rattle.std.specs.Prelude.{◌≡◌, IfOk, filter, map};
 ghost use Rattle.std.specs.Option.{option_map};
 ghost use Rattle.cat_values.specs.Values.{clause_of, clauses_of, shown_of};
 ghost use Rattle.shown_relations.specs.Shown.{after_clause, after_name, after_named, after_show, is_other, name_of, names_shown};

@@ -1,6 +1,6 @@
 //! The items over which a shown relation has its value.
 
-ghost use Rattle.std.specs.Prelude.{◌≡◌, ◌≤◌, IfOk, MatchOption, None, filter, length, map, slice_get};
+ghost use Rattle.std.specs.Prelude.{◌≡◌, IfOk, MatchOption, None, filter, map, slice_get};
 ghost use Rattle.std.specs.Option.{option_map};
 ghost use Rattle.cat_values.specs.Values.{clause_of, clauses_of, shown_of, term_of};
 ghost use Rattle.shown_relations.specs.Shown.{IsTextFor, body_at, body_of, check_on, is_binding};

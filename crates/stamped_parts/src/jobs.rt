@@ -1,6 +1,6 @@
 //! Jobs, as the memo core runs them.
 
-ghost use Rattle.std.specs.Prelude.{◌≡◌, ℕ, ◌<◌, ◌≤◌, ◌∷◌, ◌++◌, [], IfOk, List, length, map, slice_index};
+ghost use Rattle.std.specs.Prelude.{◌≡◌, ◌<◌, ◌≤◌, ◌∷◌, ◌++◌, [], IfOk, List, length, map, slice_index};
 ghost use Rattle.std.specs.List.{zip};
 ghost use Rattle.memo_core.specs.declared.keys.Key.{Key};
 ghost use Rattle.memo_core.specs.declared.keys.Node.{Node};

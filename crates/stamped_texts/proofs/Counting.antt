@@ -1,13 +1,13 @@
 -- How many nodes are used after an edit.
-use Rattle.std.proofs.Common.{◌≡◌, ℕ, zero, suc, ◌+◌, ◌*◌, ◌≤◌, List, [], ◌∷◌, length, remove, subst, sym, ap, ◌∙◌, arith}
+use Rattle.std.proofs.Common.{◌≡◌, ℕ, zero, suc, ◌+◌, ◌*◌, ◌≤◌, List, [], ◌∷◌, length, remove, subst, sym, ap, arith}
 use Rattle.std.proofs.lemmas.Nat.{mul-le}
-use Rattle.bench_nodes.specs.Nodes.{used, used_in}
+use Rattle.bench_nodes.specs.Nodes.{used}
 use Rattle.bench_nodes.proofs.Lists.{length-used_in}
 use Rattle.bench_texts.specs.BenchTexts.{put_at}
 use Rattle.stamped_parts.specs.declared.parts.Parts.{Parts}
 use Rattle.edited_parts.specs.declared.edited.EditedParts.{EditedParts}
 use Rattle.edited_parts.specs.declared.edited.EditedParts.TheVariants as edited
-use Rattle.edited_parts.specs.Edited.{Changes, Commits}
+use Rattle.edited_parts.specs.Edited.{Commits}
 use Rattle.stamped_texts.specs.Edited.{most_used}
 
 few_put : {A : Type 0} (xs : List A) (i : ℕ) (y : A) → length (put_at i y xs) ≤ length xs + 1

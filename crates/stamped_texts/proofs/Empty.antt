@@ -1,11 +1,10 @@
 -- Texts without tests and models.
-use Rattle.std.proofs.Common.{◌≡◌, ℕ, ◌<◌, ◌==◌, Bool, true, false, if◌then◌else◌, List, [], ◌∷◌, length, map, Vec, refl, sym, ap, subst, ◌∙◌}
+use Rattle.std.proofs.Common.{◌≡◌, ℕ, ◌==◌, Bool, true, false, if◌then◌else◌, List, [], ◌∷◌, length, map, Vec, refl, sym, ap, subst}
 use Rattle.std.specs.declared.alloc.Global.{Global}
 use Rattle.std.specs.List.{AllZip}
 use Rattle.litmus_values.specs.Value.{content_of}
 use Rattle.litmus_values.specs.declared.test.Test.{Test}
 use Rattle.ppc_semantics.specs.Lowering.{AreNames, test_names}
-use Rattle.memo_core.specs.Step.{Has}
 use Rattle.bench_texts.specs.declared.model.NamedModel.{NamedModel}
 use Rattle.bench_texts.specs.BenchTexts.{BenchTexts}
 use Rattle.bench_texts.specs.Held.{model_of, texts_of, AreRead}
@@ -16,12 +15,12 @@ use Rattle.bench_nodes.specs.Nodes.{item_stamp, fault_stamp, test_stamp, part_st
 use Rattle.stamped_parts.specs.declared.parts.Parts.{Parts}
 use Rattle.stamped_parts.specs.Built.{AreTestRows, IsBuilt}
 use Rattle.stamped_parts.specs.Contents as contents
-use Rattle.edited_parts.specs.Owed.{AreApart, AreNumbered, ArePartsOf, item_numbers}
+use Rattle.edited_parts.specs.Owed.{AreNumbered, ArePartsOf}
 use Rattle.edited_parts.specs.Readings.{readings_of}
 use Rattle.orderly_texts.specs.Orderly.{IsOrderly}
 use Rattle.bench_laws.specs.Left.{AreKindsOf}
 use Rattle.stamped_texts.specs.declared.texts.StampedTexts.{StampedTexts}
-use Rattle.stamped_texts.specs.Texts.{IsSound, net_of}
+use Rattle.stamped_texts.specs.Texts.{IsSound}
 
 abbrev pub empty_texts : BenchTexts
 empty_texts = record { tests = []; models = []; next = 1 }

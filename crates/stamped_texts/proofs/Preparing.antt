@@ -1,5 +1,5 @@
 -- Texts that are the same after an edit is prepared, wherever they lie in memory.
-use Rattle.std.proofs.Common.{◌≡◌, ℕ, ◌≤◌, Bool, true, false, ◌||◌, if◌then◌else◌, Option, Some, None, List, length, map, refl, subst, sym, ap, ◌∙◌}
+use Rattle.std.proofs.Common.{◌≡◌, ℕ, Bool, true, false, ◌||◌, if◌then◌else◌, Option, Some, None, List, length, map, refl, subst, sym, ap, ◌∙◌}
 use Rattle.std.specs.List.{AllZip, AllByRecursion as Each}
 use Rattle.litmus_values.specs.declared.test.Test.{Test}
 use Rattle.ppc_semantics.specs.Lowering.{AreNames, test_names}
@@ -7,9 +7,8 @@ use Rattle.bench_texts.specs.BenchTexts.{BenchTexts}
 use Rattle.bench_texts.specs.declared.model.NamedModel.{NamedModel}
 use Rattle.bench_texts.specs.declared.fault.EditFault.{EditFault}
 use Rattle.bench_texts.specs.declared.fault.EditFault.TheVariants as faults
-use Rattle.bench_texts.specs.Edits.{Edit, Applies, limit_fault}
+use Rattle.bench_texts.specs.Edits.{Edit, Applies}
 use Rattle.bench_texts.specs.Limits.{is_full, is_spent}
-use Rattle.bench_texts.specs.Held.{texts_of, AreRead}
 use Rattle.memo_core.specs.declared.keys.Kind.{Kind}
 use Rattle.bench_nodes.specs.declared.table.ItemRow.{ItemRow}
 use Rattle.bench_nodes.specs.declared.table.ModelRow.{ModelRow}
@@ -21,7 +20,7 @@ use Rattle.stamped_parts.specs.States.{IsSameState}
 use Rattle.stamped_parts.proofs.Same as states
 use Rattle.edited_items.specs.Laws.{IsOfItsKind}
 use Rattle.edited_parts.specs.Edited.{AreTestsSame, AreModelsSame}
-use Rattle.edited_parts.specs.Owed.{AreNumbered, ArePartsOf, item_numbers}
+use Rattle.edited_parts.specs.Owed.{AreNumbered, ArePartsOf}
 use Rattle.edited_parts.specs.Readings.{readings_of, all_facts}
 use Rattle.bench_laws.specs.Left.{AreKindsOf}
 use Rattle.orderly_texts.specs.Orderly.{IsOrderly}

@@ -1,5 +1,5 @@
 -- What texts with stamps owe to a bench of cells.
-use Rattle.std.proofs.Common.{◌≡◌, ◌≢◌, ℕ, zero, suc, ◌+◌, ◌<◌, Bool, true, false, inl, inr, List, [], ◌∷◌, length, map, Option, Some, None, slice_get, All, refl, sym, ap, subst, ◌∙◌, arith}
+use Rattle.std.proofs.Common.{◌≡◌, ℕ, zero, suc, ◌+◌, Bool, true, false, inl, inr, List, [], ◌∷◌, length, map, Option, Some, None, slice_get, All, refl, sym, ap, subst, ◌∙◌, arith}
 use Rattle.std.specs.declared.alloc.Global.{Global}
 use Rattle.std.specs.Prelude.{Vec}
 use Rattle.std.specs.Arc.{arc_value}
@@ -9,7 +9,6 @@ use Rattle.std.specs.Str.{bytes_eq}
 use Rattle.std.proofs.lemmas.Slice.Eq.{bytes_eq-Decides}
 use Rattle.litmus_values.specs.declared.test.Test.{Test}
 use Rattle.litmus_values.specs.Value.{Content, content_of}
-use Rattle.verdict.specs.declared.answer.Outcome.{Outcome}
 use Rattle.memo_core.specs.declared.keys.Node.{Node}
 use Rattle.memo_core.specs.Step.{Has}
 use Rattle.memo_core.proofs.Theory.{either}
@@ -20,8 +19,7 @@ use Rattle.bench_nodes.proofs.Laws.{used_test}
 use Rattle.model_slots.specs.Tables.{ModelReading, Sound, Faulty}
 use Rattle.node_values.specs.Values.{outcome_in}
 use Rattle.stamped_parts.specs.Built.{AreTestRows}
-use Rattle.stamped_parts.specs.States.{makes, net_in}
-use Rattle.memo_graph.specs.FromScratch.{IsFromScratch}
+use Rattle.stamped_parts.specs.States.{makes}
 use Rattle.cells.specs.Cells.{SolvedIsFromScratch, UsedIsNeeded}
 use Rattle.bench_texts.specs.declared.edit.Edit.{Edit as Code}
 use Rattle.bench_texts.specs.declared.fault.EditFault.{EditFault}

@@ -1,11 +1,10 @@
 -- To prepare an edit and to put it in place is to make it.
-use Rattle.std.proofs.Common.{◌≡◌, ℕ, zero, suc, ◌<◌, ◌^◌, List, [], ◌∷◌, ◌++◌, length, map, false, All, refl, sym, ap, subst, ◌∙◌, arith}
-use Rattle.std.specs.List.{flat_map, remove}
+use Rattle.std.proofs.Common.{◌≡◌, ℕ, ◌<◌, List, [], ◌∷◌, ◌++◌, length, map, false, All, refl, sym, ap, subst, ◌∙◌, arith}
+use Rattle.std.specs.List.{remove}
 use Rattle.litmus_values.specs.declared.test.Test.{Test}
 use Rattle.cat_values.specs.declared.model.Item.{Item}
 use Rattle.bench_texts.specs.declared.edit.Edit.{Edit}
 use Rattle.bench_texts.specs.declared.model.NamedModel.{NamedModel}
-use Rattle.bench_texts.specs.declared.replacement.Replacement.{Replacement}
 use Rattle.bench_texts.specs.BenchTexts.{BenchTexts, put_at, items_of}
 use Rattle.bench_texts.specs.Edits.{edit_of, Applies}
 use Rattle.bench_texts.specs.Held.{model_of, texts_of, IsRead, AreRead}
@@ -20,7 +19,7 @@ use Rattle.edited_items.specs.Items.{raised_item}
 use Rattle.edited_parts.specs.declared.edited.EditedParts.{EditedParts}
 use Rattle.edited_parts.specs.declared.edited.EditedParts.TheVariants as edited
 use Rattle.edited_parts.proofs.ModelEdits.{edits_keep, edits_go_on}
-use Rattle.edited_parts.specs.Edited.{AreTestsSame, AreModelsSame, PutsTest, DropsTest, PutsModels, Changes, Commits}
+use Rattle.edited_parts.specs.Edited.{AreTestsSame, AreModelsSame, Changes}
 use Rattle.edited_parts.specs.Laws.{IsEdit, EditsKeepParts, EditsGoOn}
 use Rattle.edited_parts.specs.Owed.{ArePartsOf, item_numbers}
 use Rattle.edited_parts.specs.Owed as owed
@@ -28,9 +27,9 @@ use Rattle.bench_laws.specs.Left.{AreKindsOf}
 use Rattle.bench_laws.proofs.ItemKinds.{kinds_after}
 use Rattle.stamped_texts.specs.declared.texts.StampedTexts.{StampedTexts}
 use Rattle.stamped_texts.specs.declared.texts.PreparedEdit.{PreparedEdit}
-use Rattle.orderly_texts.specs.Orderly.{AreApart, numbers_of, all_numbers, IsOrderly}
+use Rattle.orderly_texts.specs.Orderly.{AreApart, all_numbers, IsOrderly}
 use Rattle.stamped_texts.specs.Texts.{state_of, IsSound}
-use Rattle.stamped_texts.specs.Edited.{IsSame, IsPrepared, IsCommitted, IsPartsEdit, IsEdited}
+use Rattle.stamped_texts.specs.Edited.{IsPrepared, IsCommitted, IsPartsEdit, IsEdited}
 use Rattle.stamped_texts.specs.Laws.{valid_of}
 use Rattle.orderly_texts.proofs.Orderly.{applied_orderly}
 

@@ -1,14 +1,11 @@
 -- What texts with stamps owe to the memo core.
-use Rattle.std.proofs.Common.{◌≡◌, ℕ, refl, arith}
+use Rattle.std.proofs.Common.{ℕ, refl, arith}
 use Rattle.std.specs.List.{AllByRecursion as Each}
-use Rattle.memo_core.specs.declared.keys.Node.{Node}
-use Rattle.memo_core.specs.Graph.{Net}
 use Rattle.memo_core.specs.Right.{PartsGoOn}
 use Rattle.memo_core.specs.Laws.{GivenStays, IsUsedClosed, AreUsers, Falls}
 use Rattle.memo_core.specs.Right as core
-use Rattle.bench_nodes.specs.Nodes.{used, users, rank, inputs}
+use Rattle.bench_nodes.specs.Nodes.{used, users, rank}
 use Rattle.bench_nodes.proofs.Laws as nodes
-use Rattle.node_values.specs.Givens.{GivenContent}
 use Rattle.stamped_parts.specs.States as states
 use Rattle.stamped_parts.specs.States.{given, is_given, makes}
 use Rattle.stamped_parts.proofs.Built.{built_valid}
@@ -16,9 +13,8 @@ use Rattle.stamped_parts.proofs.Keeping as keeping
 use Rattle.stamped_texts.specs.declared.texts.StampedTexts.{StampedTexts}
 use Rattle.edited_parts.specs.Readings.{readings_of}
 use Rattle.stamped_texts.specs.Texts.{state_of, IsSound, IsSince, net_of, IsThere}
-use Rattle.stamped_texts.specs.Edited.{IsSame, IsPrepared, IsReady, IsCommitted, IsEdited}
+use Rattle.stamped_texts.specs.Edited.{IsEdited}
 use Rattle.bench_texts.specs.declared.edit.Edit.{Edit}
-use Rattle.stamped_texts.specs.declared.texts.PreparedEdit.{PreparedEdit}
 
 pub valid_of : (t : StampedTexts) → IsSound t → states.IsValid (state_of t)
 valid_of t sound = built_valid (state_of t) (readings_of t.parts.table.models.items t.texts.models.items) (sound.parts_are).built

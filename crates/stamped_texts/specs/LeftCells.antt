@@ -1,5 +1,5 @@
 -- An edit that leaves the slice of a cell as it is touches nothing that its verdict stands on.
-use Rattle.std.proofs.Common.{◌≡◌, ℕ, Bool, false, List, map, Option, Some, None, slice_get, refl, sym, ap, subst, ◌∙◌}
+use Rattle.std.proofs.Common.{◌≡◌, ℕ, List, Option, Some, None, slice_get, refl, sym, ap, subst, ◌∙◌}
 use Rattle.litmus_values.specs.declared.test.Test.{Test}
 use Rattle.litmus_values.specs.declared.test.Quantifier.{Quantifier}
 use Rattle.litmus_values.specs.Value.{Content, Formula, content_of}
@@ -14,12 +14,11 @@ use Rattle.bench_texts.specs.declared.reading.Reading.{Reading}
 use Rattle.bench_texts.specs.declared.reading.Reading.TheVariants as readings
 use Rattle.bench_texts.specs.declared.replacement.Replacement.{Replacement}
 use Rattle.bench_texts.specs.BenchTexts.{PlainModel, test_index, model_index}
-use Rattle.bench_texts.specs.Held.{texts_of, IsRead}
+use Rattle.bench_texts.specs.Held.{texts_of}
 use Rattle.bench_texts.specs.Held as held
 use Rattle.bench_texts.specs.Replacements.{tests_with, models_with}
 use Rattle.bench_slices.specs.Reach.{cell_slice}
 use Rattle.bench_slices.specs.Slices.{Slice, OfFault, OfItems, slice, slice_by}
-use Rattle.model_slots.specs.Tables.{ModelReading}
 use Rattle.stamped_parts.specs.Contents.{state_of}
 use Rattle.stamped_parts.specs.States.{keeps}
 use Rattle.stamped_parts.specs.declared.parts.Parts.{Parts}

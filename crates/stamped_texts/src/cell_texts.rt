@@ -1,6 +1,6 @@
 //! Tests and models as texts of cells.
 
-ghost use Rattle.std.specs.Prelude.{◌≡◌, slice_get, option_map, IfOk};
+ghost use Rattle.std.specs.Prelude.{◌≡◌, IfOk};
 ghost use Rattle.bench_texts.specs.Edits.{edit_of};
 
 use crate::texts::StampedTexts;

@@ -1,5 +1,5 @@
 -- The steps of a tree, read from the last, give the names that it is a union of.
-use Rattle.std.proofs.Common.{ℕ, ◌≡◌, ◌∙◌, ◌++◌, List, [], ◌∷◌, length, drop, reverse, get_or, Bool, true, false, refl, sym, ap, arith}
+use Rattle.std.proofs.Common.{◌≡◌, ◌∙◌, ◌++◌, List, [], ◌∷◌, Bool, true, false, refl, sym, ap}
 use Rattle.std.proofs.lemmas.List.{append-nil}
 use Rattle.std.proofs.Common.{append_assoc}
 use Rattle.binding_graph.specs.declared.resolved.Blend.{Blend}
@@ -9,7 +9,7 @@ use Rattle.binding_graph.specs.declared.resolved.Step.{Step}
 use Rattle.binding_graph.specs.declared.resolved.Step.TheVariants as steps
 use Rattle.binding_graph.specs.Trees.{SetTree, SetName, AllEvents, NoEvent, SetBlend, SetNot, RelTree, RelName, NoPair, RelBlend, Then, Cross, OnSet, Close, RelNot, set_code, rel_code}
 use Rattle.step_labels.specs.Operands.{union_names, IsUnionOf}
-use Rattle.step_labels.specs.Scanning.{without_next, next_twice, next_inside, open_after, name_at, source_where, is_operand, open_from, names_from}
+use Rattle.step_labels.specs.Scanning.{without_next, next_twice, next_inside, source_where, is_operand, open_from, names_from}
 use Rattle.std.specs.List.{cons_option}
 
 set_open : (s : SetTree) (rest : List Step) → open_from (set_code s rest) ≡ open_from rest

@@ -2,7 +2,7 @@
 
 ghost use Rattle.std.specs.Prelude.{◌≡◌, IfOk, option_map};
 ghost use Rattle.std.specs.List.{filter_map};
-ghost use Rattle.step_labels.specs.Inside.{body_at, names_in, names_in_body, names_inside, relation_in};
+ghost use Rattle.step_labels.specs.Inside.{body_at, names_in, names_inside, relation_in};
 ghost use Rattle.step_labels.specs.Operands.{AreEarlier};
 
 use crate::unions::{ModelName, earlier_names};

@@ -1,5 +1,5 @@
 -- Each text means one thing.
-use Rattle.std.proofs.Common.{◌≡◌, ℕ, ◌+◌, ◌<◌, ◌≤◌, List, length, Result, Ok, Err, refl, sym, ap, ◌∙◌, arith}
+use Rattle.std.proofs.Common.{◌≡◌, ℕ, ◌+◌, ◌<◌, List, length, Result, Ok, Err, refl, sym, ap, ◌∙◌, arith}
 use Rattle.cat_tokens.specs.declared.rule.CatRule.{CatRule}
 use Rattle.cat_tokens.specs.Lexer.{lexed as cat_lexed}
 use Rattle.cat_grammar.specs.declared.form.Form.{Form}
@@ -9,7 +9,6 @@ use Rattle.cat_grammar.specs.Running.{run as cat_run, items_of}
 use Rattle.cat_grammar.proofs.Outcomes.{fault_found, items_only, no_fault}
 use Rattle.cat_syntax.specs.Reads.{Reads}
 use Rattle.cat_values.specs.Value.{Clause}
-use Rattle.litmus_tokens.specs.declared.rule.LitmusRule.{LitmusRule}
 use Rattle.litmus_tokens.specs.Texts.{lexed}
 use Rattle.litmus_values.specs.declared.test.InitEntry.{InitEntry}
 use Rattle.litmus_values.specs.declared.test.Place.{Place}
@@ -18,7 +17,7 @@ use Rattle.litmus_values.specs.declared.test.Quantifier.{Quantifier}
 use Rattle.litmus_values.specs.Value.{Content, Formula}
 use Rattle.litmus_grammar.specs.declared.parts.TextKind.{TextKind}
 use Rattle.litmus_grammar.specs.declared.parts.TextKind.TheVariants as kinds
-use Rattle.litmus_grammar.specs.TextMachine.{State, Ran, run, start, first_stage}
+use Rattle.litmus_grammar.specs.TextMachine.{Ran, run, start, first_stage}
 use Rattle.litmus_grammar.specs.Texts.{ReadsTest, ReadsInit, ReadsThread, ReadsCondition, ReadsLocations}
 use Rattle.litmus_grammar.proofs.Bodies.{length-meaning}
 use Rattle.litmus_grammar.proofs.Heads.{few_of}

@@ -1,6 +1,6 @@
 //! Tokens of a store, and the name that ties them to it.
 
-ghost use Rattle.std.specs.Prelude.{◌≡◌, [], ◌∷◌};
+ghost use Rattle.std.specs.Prelude.{◌≡◌, []};
 ghost use Rattle.boxcar.specs.Table.{Shelves, Shows};
 ghost use Rattle.value_store.specs.Tokens.{Shown, shown_coded};
 

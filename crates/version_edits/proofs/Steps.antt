@@ -1,8 +1,7 @@
 -- Lists that are new before an index and old from there on, after one change more.
-use Rattle.std.proofs.Common.{◌≡◌, ℕ, zero, suc, ◌+◌, ◌-◌, ◌<◌, ◌≤◌, List, [], ◌∷◌, ◌++◌, add-one, length, take, drop, refl, ap, arith, ◌∙◌}
+use Rattle.std.proofs.Common.{◌≡◌, ℕ, zero, suc, ◌+◌, ◌-◌, ◌<◌, ◌≤◌, List, [], ◌∷◌, ◌++◌, length, take, drop, refl, ap, arith}
 use Rattle.cat_values.specs.Value.{Clause}
 use Rattle.version_edits.specs.declared.items.ItemChange.{ItemChange}
-use Rattle.version_edits.specs.declared.items.ItemChange.TheVariants.{Set, Insert, Remove}
 use Rattle.litmus_values.specs.Value.{Content}
 use Rattle.version_edits.specs.declared.parts.TestPart.{TestPart}
 use Rattle.version_edits.specs.Parts.{put, all_put}

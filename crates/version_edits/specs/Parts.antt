@@ -1,5 +1,5 @@
 -- What changed parts make of a test.
-use Rattle.std.specs.Prelude.{◌≡◌, ℕ, List, [], ◌∷◌, length}
+use Rattle.std.specs.Prelude.{◌≡◌, List, [], ◌∷◌, length}
 use Rattle.litmus_values.specs.declared.test.Step.{Step}
 use Rattle.litmus_values.specs.Value.{Content}
 use Rattle.bench_texts.specs.BenchTexts.{with_init, with_condition, with_observed}

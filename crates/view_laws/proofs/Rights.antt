@@ -1,5 +1,5 @@
 -- After legal operations each cell is right for the texts after them.
-use Rattle.std.proofs.Common.{◌≡◌, ℕ, ◌<◌, ◌≤◌, inl, inr, List, length, map, Option, Some, None, refl, sym, ap, ◌∙◌, subst, arith}
+use Rattle.std.proofs.Common.{◌≡◌, ℕ, inl, inr, List, length, Option, Some, None, refl, sym, ap, ◌∙◌, subst, arith}
 use Rattle.std.specs.Prelude.{slice_get}
 use Rattle.litmus_values.specs.declared.test.Test.{Test}
 use Rattle.verdict.specs.declared.answer.Outcome.{Outcome}
@@ -14,7 +14,7 @@ use Rattle.board.specs.Operations.{no_board, board_after}
 use Rattle.board.specs.Legal.{Held, nothing_held, IsLegal, IsRightAt, texts_after}
 use Rattle.board.proofs.Legal.{legal_is_right}
 use Rattle.board.proofs.Names.{IsNamed, names_from}
-use Rattle.view_laws.specs.Results.{test_named, model_named, HasBoth, IsResultIn, IsRightCell}
+use Rattle.view_laws.specs.Results.{HasBoth, IsResultIn, IsRightCell}
 use Rattle.view_laws.proofs.Names.{found, found_alike, none_alike, there_alike, below, past, none_past}
 use Rattle.view_laws.proofs.Widths.{AreWide, wide_at, wide_from}
 

@@ -1,10 +1,9 @@
 -- Each row of a board has as many cells as there are models.
-use Rattle.std.proofs.Common.{◌≡◌, ℕ, zero, suc, ◌+◌, List, [], ◌∷◌, ◌++◌, length, map, Option, Some, None, Bool, true, false, refl, sym, ap, ◌∙◌, subst, arith}
+use Rattle.std.proofs.Common.{◌≡◌, ℕ, zero, suc, ◌+◌, List, [], ◌∷◌, ◌++◌, length, map, Some, None, Bool, true, false, refl, sym, ap, ◌∙◌, subst, arith}
 use Rattle.std.specs.Prelude.{slice_get, remove, fold, if◌then◌else◌, nat_lt}
 use Rattle.std.specs.Arc.{arc_value}
 use Rattle.std.proofs.lemmas.Option.{none-some}
 use Rattle.std.proofs.lemmas.List.{length-append, length-map}
-use Rattle.verdict.specs.declared.answer.Outcome.{Outcome}
 use Rattle.bench_texts.specs.BenchTexts.{changed_at}
 use Rattle.bench_texts.proofs.Lists.{length-changed_at}
 use Rattle.board.specs.declared.operation.BoardOp.{BoardOp}

@@ -1,4 +1,4 @@
-use Rattle.std.proofs.Common.{◌≡◌, List, [], reverse, map, take, vec_len}
+use Rattle.std.proofs.Common.{◌≡◌, List, reverse, map, take, vec_len}
 use Rattle.binding_kinds.specs.Value.{entry_of}
 use Rattle.binding_kinds.specs.Senses.{Sense, AreKept}
 use Rattle.binding_kinds.specs.Fits.{AreKnown, AreSound}

@@ -1,4 +1,4 @@
-use Rattle.std.proofs.Common.{◌≡◌, take}
+use Rattle.std.proofs.Common.{take}
 use Rattle.std.specs.List.{AllZip}
 use Rattle.cells.specs.Events.{IsSameEvent}
 use Rattle.cells.proofs.run.copy_events.Given as goal

@@ -1,4 +1,3 @@
-use Rattle.std.proofs.Common.{subst}
 use Rattle.std.proofs.lemmas.Result.{IfOk-weaker}
 use Rattle.check_witness.proofs.Explaining.{relation_refused, set_refused}
 use Rattle.check_witness.proofs.witness.refusal_of.Goals as goal

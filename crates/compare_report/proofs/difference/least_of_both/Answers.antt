@@ -1,4 +1,4 @@
-use Rattle.std.proofs.Common.{rules, ◌≡◌, get_or}
+use Rattle.std.proofs.Common.{rules, ◌≡◌}
 use Rattle.verdict.specs.Order.{state_cmp}
 use Rattle.compare_report.proofs.Merging.{order_is, first_is_less, states_are_equal, second_is_less}
 use Rattle.compare_report.proofs.difference.least_of_both.Goals as goal

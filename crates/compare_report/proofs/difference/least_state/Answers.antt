@@ -1,4 +1,4 @@
-use Rattle.std.proofs.Common.{rules, ◌≡◌, ◌<◌, length, arith}
+use Rattle.std.proofs.Common.{rules, arith}
 use Rattle.std.proofs.lemmas.Grind.{common_steps}
 use Rattle.compare_report.proofs.Merging.{none_left, only_first, only_second}
 use Rattle.compare_report.proofs.difference.least_state.Goals as goal

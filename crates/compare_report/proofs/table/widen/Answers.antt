@@ -1,5 +1,4 @@
-use Rattle.std.proofs.Common.{rules, get_or, arith}
-use Rattle.std.proofs.lemmas.Grind.{common_steps}
+use Rattle.std.proofs.Common.{rules, get_or}
 use Rattle.compare_report.proofs.Widths.{field_more}
 use Rattle.compare_report.proofs.table.widen.Goals as goal
 

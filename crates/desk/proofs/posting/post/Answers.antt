@@ -1,8 +1,7 @@
-use Rattle.std.proofs.Common.{◌≡◌, ◌<◌, ℕ, length, IsTrue, IfOk, IfSome, fold, List, sym, ap, ◌∙◌, subst, slice_get, Some}
+use Rattle.std.proofs.Common.{length, IsTrue, fold, subst}
 use Rattle.std.specs.Prelude.{is_ok}
 use Rattle.cells.specs.Cells.{cells as cells_of}
-use Rattle.desk.specs.Boards.{with_outcome}
-use Rattle.desk.specs.Posts.{IsPosted, SettlesRight, Posts}
+use Rattle.desk.specs.Posts.{IsPosted, SettlesRight}
 use Rattle.desk.proofs.Outcomes.{get_below}
 use Rattle.desk.proofs.Appending.{posts_one, posted_here, posted_kept, count_one}
 use Rattle.desk.proofs.Returning.{keeps_one}

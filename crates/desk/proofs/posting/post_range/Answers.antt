@@ -1,4 +1,4 @@
-use Rattle.std.proofs.Common.{◌≡◌, ◌<◌, ◌≤◌, ℕ, length, fold, refl, arith, below_more}
+use Rattle.std.proofs.Common.{length, fold, refl, arith, below_more}
 use Rattle.desk.proofs.Appending.{posts_then}
 use Rattle.desk.proofs.Returning.{keeps_then}
 use Rattle.desk.proofs.posting.post_range.Goals as goal

@@ -1,4 +1,4 @@
-use Rattle.std.proofs.Common.{◌≡◌, ◌≤◌, ◌<◌, ℕ, fold, length, arith, sym, ◌∙◌}
+use Rattle.std.proofs.Common.{◌≡◌, fold, length, arith, sym, ◌∙◌}
 use Rattle.cells.specs.Cells.{cells as cells_of}
 use Rattle.desk.proofs.Appending.{all_posted}
 use Rattle.desk.proofs.posting.post_settled.Goals as goal

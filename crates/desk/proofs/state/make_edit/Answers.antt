@@ -1,4 +1,4 @@
-use Rattle.std.proofs.Common.{◌≡◌, ◌≤◌, ◌<◌, ◌+◌, ◌∷◌, ◌++◌, [], ℕ, List, sym, ap, ◌∙◌, subst, arith, refl}
+use Rattle.std.proofs.Common.{◌<◌, ◌+◌, sym, subst, arith}
 use Rattle.desk.proofs.state.make_edit.Goals as goal
 
 pub edit_told-requires : goal.edit_told-requires

@@ -1,5 +1,5 @@
-use Rattle.std.proofs.Common.{ℕ, ◌≡◌, ◌∙◌, drop, reverse, subst, sym, arith}
-use Rattle.factor_walks.specs.Factors.{parts_in, AreFactors}
+use Rattle.std.proofs.Common.{ℕ, ◌≡◌, drop, reverse, subst, arith}
+use Rattle.factor_walks.specs.Factors.{parts_in}
 use Rattle.factor_walks.specs.Scanning.{parts_from}
 use Rattle.factor_walks.proofs.Scanned.{factors_are}
 use Rattle.factor_walks.proofs.factor.factors.Goals as goal

@@ -1,12 +1,10 @@
-use Rattle.std.proofs.Common.{ℕ, ◌≡◌, ◌≤◌, ◌<◌, ◌+◌, ◌∙◌, List, [], ◌∷◌, ◌++◌, length, get_or, take, map, refl, ap, sym, subst, arith}
+use Rattle.std.proofs.Common.{ℕ, ◌≡◌, ◌<◌, ◌+◌, ◌∙◌, List, [], ◌∷◌, ◌++◌, length, get_or, take, map, ap, sym, subst, arith}
 use Rattle.std.specs.List.{All}
 use Rattle.std.proofs.lemmas.List.{take_all, take_more, map-append}
 use Rattle.std.proofs.lemmas.List.Elements.{All-push}
-use Rattle.binding_graph.specs.declared.resolved.Step.{Step}
-use Rattle.binding_graph.specs.Trees.{RelTree, rel_code}
 use Rattle.factor_walks.specs.declared.factor.Factor.{Factor}
 use Rattle.factor_walks.specs.declared.value.FactorValues.{FactorValues}
-use Rattle.factor_walks.specs.Factors.{Part, part_of, factors_of, tree_part, AreFactors}
+use Rattle.factor_walks.specs.Factors.{Part, part_of}
 use Rattle.factor_walks.specs.Values.{value_part, IsValued}
 use Rattle.factor_walks.proofs.value.factor_values.Goals as goal
 

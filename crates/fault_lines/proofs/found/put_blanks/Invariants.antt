@@ -1,6 +1,5 @@
-use Rattle.std.proofs.Common.{◌≡◌, ◌≤◌, ◌++◌, not, min, OnOk, length, map, take, ℕ, ◌+◌, ◌-◌, ◌*◌, ◌<◌}
-use Rattle.std.specs.List.{position_or_len}
-use Rattle.fault_lines.specs.Lines.{shown_byte, blank_below, is_word_byte}
+use Rattle.std.proofs.Common.{◌≡◌, ◌++◌, map, take, ◌+◌, ◌-◌}
+use Rattle.fault_lines.specs.Lines.{blank_below}
 use Rattle.fault_lines.proofs.found.put_blanks.Given as goal
 
 abbrev pub invariant-loop-byte : goal.invariant-loop-byte

@@ -1,4 +1,4 @@
-use Rattle.std.proofs.Common.{◌≡◌, ℕ, ◌+◌, ◌-◌, ◌<◌, ◌≤◌, length, map, reverse, drop, sym, ap, ◌∙◌, arith}
+use Rattle.std.proofs.Common.{◌≡◌, ℕ, ◌+◌, ◌-◌, map, reverse, drop, ap, ◌∙◌, arith}
 use Rattle.cat_values.specs.Value.{gathered}
 use Rattle.cat_values.specs.Values.{term_of}
 use Rattle.binding_kinds.specs.Value.{entry_of}

@@ -1,4 +1,4 @@
-use Rattle.std.proofs.Common.{◌≡◌, ℕ, ◌<◌, List, sym, ◌∙◌, ap, reverse, map, arith, length}
+use Rattle.std.proofs.Common.{ℕ, List, ◌∙◌, ap, reverse, map, arith}
 use Rattle.binding_kinds.specs.Value.{entry_of}
 use Rattle.fault_places.specs.Search.{signed_fault}
 use Rattle.fault_places.proofs.Spread.{body_application, next_body, all_bodies}

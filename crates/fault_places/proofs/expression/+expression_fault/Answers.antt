@@ -1,5 +1,4 @@
-use Rattle.std.proofs.Common.{◌≡◌, ℕ, Bool, ◌<◌, List, sym, ◌∙◌, ap, reverse, map, arith, length}
-use Rattle.cat_values.specs.declared.model.Expression.{Expression}
+use Rattle.std.proofs.Common.{◌≡◌, ℕ, ◌<◌, List, ◌∙◌, ap, reverse, map, arith, length}
 use Rattle.binding_kinds.specs.Value.{entry_of}
 use Rattle.binding_kinds.specs.Kinds.{found}
 use Rattle.binding_kinds.specs.Senses.{sense_of, under_of}

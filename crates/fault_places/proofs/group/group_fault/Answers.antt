@@ -1,4 +1,4 @@
-use Rattle.std.proofs.Common.{◌≡◌, ℕ, ◌<◌, List, sym, ◌∙◌, ap, reverse, map, arith, length, Option}
+use Rattle.std.proofs.Common.{ℕ, List, ◌∙◌, ap, reverse, map, arith, Option}
 use Rattle.binding_kinds.specs.Value.{entry_of}
 use Rattle.std.specs.Prelude.{option_map}
 use Rattle.fault_places.specs.Search.{SignedFault, signed_fault_of, signed_fault, or_later}

@@ -1,4 +1,4 @@
-use Rattle.std.proofs.Common.{◌≡◌, ℕ, ◌<◌, List, sym, ◌∙◌, ap, arith, length}
+use Rattle.std.proofs.Common.{ℕ, List, ◌∙◌, ap, arith}
 use Rattle.fault_places.specs.Search.{signed_fault}
 use Rattle.fault_places.proofs.Spread.{next_parameter, all_parameters}
 use Rattle.fault_places.proofs.group.parameters_fault.Goals as goal

@@ -1,4 +1,4 @@
-use Rattle.std.proofs.Common.{◌≡◌, List, reverse, map}
+use Rattle.std.proofs.Common.{List, reverse, map}
 use Rattle.binding_kinds.specs.Value.{entry_of}
 use Rattle.binding_kinds.specs.Senses.{Sense, AreKept}
 use Rattle.fault_places.proofs.Placing.{AreSearched}

@@ -1,4 +1,4 @@
-use Rattle.std.proofs.Common.{rules, ◌≡◌, ◌+◌, ◌<◌, ◌∙◌, ◌||◌, Bool, ℕ, ap, refl, subst, Option, Some, None, IfSome}
+use Rattle.std.proofs.Common.{rules, ◌+◌, ◌<◌, ◌∙◌, ◌||◌, Bool, ℕ, ap, refl, subst, Option, IfSome}
 use Rattle.std.proofs.lemmas.Result.{err_from_is_err_and}
 use Rattle.session_script.specs.Reading.{waiting_in, left_to, turns_of, work_of, IsNext}
 use Rattle.session_script.specs.declared.command.Command.{Command}

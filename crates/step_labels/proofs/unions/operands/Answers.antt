@@ -1,4 +1,3 @@
-use Rattle.std.proofs.Common.{sym, subst}
 use Rattle.std.proofs.lemmas.Result.{IfOk-weaker}
 use Rattle.step_labels.proofs.Earlier.{earlier_all}
 use Rattle.step_labels.proofs.unions.operands.Goals as goal

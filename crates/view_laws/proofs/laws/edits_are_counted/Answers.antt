@@ -1,6 +1,3 @@
-use Rattle.std.proofs.Common.{◌≡◌, ℕ, ◌+◌, ◌≤◌, ap, ◌∙◌, arith, subst}
-use Rattle.std.specs.Prelude.{min}
-use Rattle.board.specs.Operations.{no_board}
 use Rattle.board.specs.Legal.{nothing_held}
 use Rattle.view_laws.proofs.Counts.{counted, numbered, apart_from}
 use Rattle.view_laws.proofs.laws.edits_are_counted.Goals as goal

@@ -1,4 +1,4 @@
-use Rattle.std.proofs.Common.{◌≡◌, ◌+◌, ◌≤◌, List, [], length, refl, sym, subst, vec_len, vec_capacity, arith, rules}
+use Rattle.std.proofs.Common.{◌≡◌, List, [], length, refl, sym, subst, arith, rules}
 use Rattle.memo_core.specs.Laws.{meaning}
 use Rattle.cells.specs.Stages.{tasks_in}
 use Rattle.cells.specs.declared.events.Event.{Event}

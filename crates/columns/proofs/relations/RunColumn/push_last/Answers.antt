@@ -1,4 +1,4 @@
-use Rattle.std.proofs.Common.{◌≡◌, ◌<◌, ◌+◌, ◌∙◌, length, arith}
+use Rattle.std.proofs.Common.{◌≡◌, ◌<◌, ◌∙◌, length, arith}
 use Rattle.bit_relations.specs.Relation.{no_slot}
 use Rattle.columns.proofs.Expanding.{longer, end_read, last_told}
 use Rattle.columns.proofs.relations.RunColumn.push_last.Goals as goal

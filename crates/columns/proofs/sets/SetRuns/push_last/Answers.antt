@@ -1,4 +1,4 @@
-use Rattle.std.proofs.Common.{◌≡◌, ◌<◌, ◌+◌, ◌∙◌, length, arith}
+use Rattle.std.proofs.Common.{◌≡◌, ◌<◌, ◌∙◌, length, arith}
 use Rattle.columns.specs.Runs.{no_set}
 use Rattle.columns.proofs.Expanding.{longer, end_read, last_told}
 use Rattle.columns.proofs.sets.SetRuns.push_last.Goals as goal

@@ -1,6 +1,6 @@
-use Rattle.std.proofs.Common.{◌≡◌, fold, refl, sym, ◌∙◌, subst}
+use Rattle.std.proofs.Common.{fold, refl, sym, ◌∙◌, subst}
 use Rattle.cells.specs.Cells.{cells as cells_of}
-use Rattle.desk.specs.Boards.{ArePosted, ArePostedBut}
+use Rattle.desk.specs.Boards.{ArePostedBut}
 use Rattle.desk.specs.Held.{Held}
 use Rattle.desk.proofs.Returning.{posted_all}
 use Rattle.desk.proofs.state.DeskState.catch_up_above.Goals as goal

@@ -1,4 +1,4 @@
-use Rattle.std.proofs.Common.{◌≡◌, ◌≤◌, arith, fold}
+use Rattle.std.proofs.Common.{◌≤◌, arith, fold}
 use Rattle.memo_core.specs.Laws.{meaning}
 use Rattle.cells.specs.Cells.{cells as cells_of}
 use Rattle.desk.proofs.Returning.{given_or_none, posted_claimed, posted_idle, later_claimed, later_idle}

@@ -1,4 +1,4 @@
-use Rattle.std.proofs.Common.{◌≤◌, ap, subst, arith, length, List}
+use Rattle.std.proofs.Common.{◌≤◌, ap, subst, arith, length}
 use Rattle.std.proofs.lemmas.Bool.Decides.{nat_tests}
 use mathlib.Core.List.{IsPrefix}
 use Rattle.desk_rule.proofs.Fronts.{prefix_shorter}

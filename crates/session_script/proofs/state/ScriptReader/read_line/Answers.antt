@@ -1,6 +1,6 @@
 use Rattle.std.proofs.Common.{rules, arith}
 use Rattle.std.proofs.lemmas.Grind.{common_steps}
-use Rattle.session_script.specs.Reading.{waiting_in, left_to, turns_of, work_of, IsPaid}
+use Rattle.session_script.specs.Reading.{waiting_in, left_to, turns_of}
 use Rattle.session_script.proofs.Steps.{line_ended_if, part_is_open, line_goes_on, line_is_unbroken, line_is_last, paid_after}
 use Rattle.session_script.proofs.state.ScriptReader.read_line.Goals as goal
 
