@@ -10,7 +10,7 @@ ghost use Rattle.base_env.specs.Environment.{HasFacts, IsEnvironment};
 
 use crate::names::Base;
 use bit_relations::{EventSet, Rel};
-use candidates::{Combination, Execution};
+use candidates::{Combination, Execution, StoreOrders};
 use cat_values::Predefined;
 use std::alloc::{AllocError, Global};
 
@@ -106,7 +106,7 @@ fn combination(alloc: Global, execution: &Execution) -> Result<Combination, Allo
         dependencies: execution.dependencies.copied(alloc)?,
         runs: Vec::new(alloc),
         sources: Vec::new(alloc),
-        orders: Vec::new(alloc),
+        orders: StoreOrders::none(alloc),
     })
 }
 

@@ -20,7 +20,7 @@ use Rattle.candidates.proofs.Listing.{IsListed, AreListed, no_more, one_more, no
 use Rattle.run_combinations.specs.Candidates.{HasFault as HasFaultAmong}
 use Rattle.run_combinations.specs.Events.{initial_stores, has_store}
 use Rattle.candidates.specs.Executions.{Execution, HasFault, IsDependency, product, events}
-use Rattle.run_combinations.specs.Lists.{lists_of, tuples}
+use Rattle.run_combinations.specs.Lists.{tuples}
 use Rattle.candidates.specs.Listed.{Shows, ArePairs}
 use Rattle.candidates.proofs.RisingPairs.{pairs_rise}
 use Rattle.dataflow.specs.Chains.{IsPairBefore}
@@ -250,7 +250,7 @@ module _ (n : ℕ) (initial : List Value) (threads : List Thread) (V : List Valu
   candidates_are : n ≡ length initial → (b : PrefixLists) (rs : List Run) → IsListed n initial threads V ts b rs → (c : Combination) (ways : List (List ℕ)) → combination_lists c ≡ ordered n (record b.combination { sources = ways }) → candidates_of c ≡ pairs ways (map flat (orders_of_runs n initial threads V ts rs))
   unfolding candidates_of
   candidates_are e b rs i c ways eq =
-      ap (λ (l : List (List ℕ)). pairs l (lists_of c.orders.items)) (ap (λ (x : CombinationLists). x.sources) eq)
+      ap (λ (l : List (List ℕ)). pairs l c.orders) (ap (λ (x : CombinationLists). x.sources) eq)
       ∙ ap (λ (l : List (List ℕ)). pairs ways l) (ap (λ (x : CombinationLists). x.orders) eq ∙ sym (orders_are n initial threads V ts e b rs i))
 
   pub all_shown : n ≡ length initial → (bs : List PrefixLists) (ss : List CombinationLists) (xs : List Execution) (cs : List Combination) → map combination_lists cs ≡ ss → AreListed n initial threads V ts bs ss xs → AllZip (AreShown initial registers) xs (candidates_in cs)

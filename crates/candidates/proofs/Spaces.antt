@@ -45,16 +45,16 @@ found_there threads cs i left place e x lt is inside at holds d =
     there : get_or (candidates_in cs) place d ≡ (get_or cs i e, get_or (candidates_of (get_or cs i e)) left d.1)
     there = ap (λ (n : ℕ). get_or (candidates_in cs) n d) (sym at) ∙ candidate_in cs i left e d.1 d lt k
 
-pub candidate_there : (threads : List (Vec (List Value) Global)) (c : Combination) (p n : ℕ) (v w : Vec ℕ Global) (x : Execution) → n ≡ length c.orders.items → p < length (candidates_of c) → v ≡ get_or c.sources.items (p / n) v → w ≡ get_or c.orders.items (p % n) w → IsExecution threads c (v.items, w.items) x → HoldsAt (λ t. IsExecution threads c t x) (candidates_of c) p
+pub candidate_there : (threads : List (Vec (List Value) Global)) (c : Combination) (p n : ℕ) (v : Vec ℕ Global) (w : List ℕ) (x : Execution) → n ≡ length c.orders → p < length (candidates_of c) → v ≡ get_or c.sources.items (p / n) v → w ≡ get_or c.orders (p % n) [] → IsExecution threads c (v.items, w) x → HoldsAt (λ t. IsExecution threads c t x) (candidates_of c) p
 candidate_there threads c p n v w x is lt source order holds d =
     subst (λ (t : List ℕ × List ℕ). IsExecution threads c t x) (sym there) holds
   where
-    there : get_or (candidates_of c) p d ≡ (v.items, w.items)
+    there : get_or (candidates_of c) p d ≡ (v.items, w)
     there =
-        candidate_at c p d v w (has_orders c p lt) ((has_index c p (has_orders c p lt)).1 lt)
-        ∙ sym (ap (λ (k : ℕ). ((get_or c.sources.items (p / k) v).items, (get_or c.orders.items (p % k) w).items)) is)
-        ∙ sym (ap (λ (u : Vec ℕ Global). (u.items, (get_or c.orders.items (p % n) w).items)) source)
-        ∙ sym (ap (λ (u : Vec ℕ Global). (v.items, u.items)) order)
+        candidate_at c p d v (has_orders c p lt) ((has_index c p (has_orders c p lt)).1 lt)
+        ∙ sym (ap (λ (k : ℕ). ((get_or c.sources.items (p / k) v).items, get_or c.orders (p % k) [])) is)
+        ∙ sym (ap (λ (u : Vec ℕ Global). (u.items, get_or c.orders (p % n) [])) source)
+        ∙ sym (ap (λ (l : List ℕ). (v.items, l)) order)
 
 -- the registers of one thread more
 pub ends_on : (threads : List (Vec (List Value) Global)) (runs : List ℕ) (i : ℕ) (t : Vec (List Value) Global) → i < length threads → i < length runs → t ≡ get_or threads i t → registers_at (drop i threads) (drop i runs) ≡ end_at t.items (get_or runs i 0) ∷ registers_at (drop (i + 1) threads) (drop (i + 1) runs)

@@ -43,7 +43,7 @@ fn execution_of(
 {
     let orders = combination.orders.len();
     let sources = &combination.sources[index / orders];
-    let order = &combination.orders[index % orders];
+    let order = combination.orders.order(index % orders);
     Ok(Execution {
         events: Vec::from_slice(alloc, &combination.events)?,
         dependencies: combination.dependencies.copied(alloc)?,

@@ -29,7 +29,7 @@ pub use execution::Execution;
 pub use fault::{EvalRefusal, SpaceFault};
 use litmus_values::Test;
 use ppc_semantics::{domain_of, program};
-pub use run_combinations::{Action, Combination, Event, MAX_CANDIDATES};
+pub use run_combinations::{Action, Combination, Event, MAX_CANDIDATES, StoreOrders};
 use run_combinations::{Layout, find_combinations, registers, with_orders};
 use std::alloc::{AllocError, Global};
 

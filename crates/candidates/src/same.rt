@@ -155,7 +155,7 @@ impl<'a> Candidates<'a> {
                 let chosen = Chosen {
                     combination,
                     sources: &combination.sources[self.source],
-                    order: &combination.orders[self.order],
+                    order: combination.orders.order(self.order),
                 };
                 self.order += 1;
                 if self.order == combination.orders.len() {

@@ -43,9 +43,9 @@ worlds_more names reads orders (b ∷ bs) more [] others h k = absurd h
 worlds_more names reads orders (b ∷ bs) more (c ∷ cs) others h k = (h.0, worlds_more names reads orders bs more cs others h.1 k)
 
 -- one item of a list further
-pub map_step : {X Y : Type 0} (f : X → Y) (xs : List X) (i : ℕ) (x : X) → i < length xs → x ≡ get_or xs i x → map f (take (i + 1) xs) ≡ map f (take i xs) ++ f x ∷ []
-map_step f xs i x lt is =
-    let grown : take (i + 1) xs ≡ take i xs ++ x ∷ [] = rw (add-one i) (take-suc xs i x lt ∙ ap (λ y. take i xs ++ y ∷ []) (sym is)) in
+pub map_step : {X Y : Type 0} (f : X → Y) (xs : List X) (i : ℕ) (x d : X) → i < length xs → x ≡ get_or xs i d → map f (take (i + 1) xs) ≡ map f (take i xs) ++ f x ∷ []
+map_step f xs i x d lt is =
+    let grown : take (i + 1) xs ≡ take i xs ++ x ∷ [] = rw (add-one i) (take-suc xs i d lt ∙ ap (λ y. take i xs ++ y ∷ []) (sym is)) in
     ap (map f) grown ∙ map-append f (take i xs) (x ∷ [])
 
 pub flat_step : {X Y : Type 0} (f : X → List Y) (xs : List X) (i : ℕ) (x : X) → i < length xs → x ≡ get_or xs i x → flat_map f (take (i + 1) xs) ≡ flat_map f (take i xs) ++ f x
@@ -57,20 +57,20 @@ flat_step f xs i x lt is =
     one f x = append-nil (f x)
 
 -- the candidates in the order of the loops are those of the space
-so_listed : (c : Combination) (sources : List ℕ) (orders : List (Vec ℕ Global)) → reading_so c sources orders ≡ map (λ t. (c, t)) (map (λ y. (sources, y)) (lists_of orders))
+so_listed : (c : Combination) (sources : List ℕ) (orders : List (List ℕ)) → reading_so c sources orders ≡ map (λ t. (c, t)) (map (λ y. (sources, y)) orders)
 so_listed c sources [] = refl
-so_listed c sources (o ∷ os) = ap (λ (rest : List Candidate). (c, (sources, o.items)) ∷ rest) (so_listed c sources os)
+so_listed c sources (o ∷ os) = ap (λ (rest : List Candidate). (c, (sources, o)) ∷ rest) (so_listed c sources os)
 
-ways_listed : (c : Combination) (ways orders : List (Vec ℕ Global)) → flat_map (λ s. reading_so c s.items orders) ways ≡ map (λ t. (c, t)) (pairs (lists_of ways) (lists_of orders))
+ways_listed : (c : Combination) (ways : List (Vec ℕ Global)) (orders : List (List ℕ)) → flat_map (λ s. reading_so c s.items orders) ways ≡ map (λ t. (c, t)) (pairs (lists_of ways) orders)
 ways_listed c [] orders = refl
 ways_listed c (w ∷ ws) orders =
     ap (λ (front : List Candidate). front ++ flat_map (λ s. reading_so c s.items orders) ws) (so_listed c w.items orders)
-    ∙ ap (λ (back : List Candidate). map (λ t. (c, t)) (map (λ y. (w.items, y)) (lists_of orders)) ++ back) (ways_listed c ws orders)
-    ∙ sym (map-append (λ t. (c, t)) (map (λ y. (w.items, y)) (lists_of orders)) (pairs (lists_of ws) (lists_of orders)))
+    ∙ ap (λ (back : List Candidate). map (λ t. (c, t)) (map (λ y. (w.items, y)) orders) ++ back) (ways_listed c ws orders)
+    ∙ sym (map-append (λ t. (c, t)) (map (λ y. (w.items, y)) orders) (pairs (lists_of ws) orders))
 
 in_listed : (c : Combination) → reading_in c c.sources.items ≡ map (λ t. (c, t)) (candidates_of c)
 unfolding candidates_of
-in_listed c = ways_listed c c.sources.items c.orders.items
+in_listed c = ways_listed c c.sources.items c.orders
 
 pub listed : (cs : List Combination) → of_combinations cs ≡ candidates_in cs
 listed [] = refl

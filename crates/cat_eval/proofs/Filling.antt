@@ -17,6 +17,7 @@ use Rattle.cat_eval.specs.Columns.{HasValue}
 use Rattle.cat_eval.specs.Executions.{events_of}
 use Rattle.cat_eval.specs.Needs.{AreSuited}
 use Rattle.cat_eval.specs.Seen.{PairsFound}
+use Rattle.cat_eval.specs.Reordered.{HoldsSame}
 use Rattle.cat_eval.specs.Steady.{EndsWith, Repeats}
 use Rattle.cat_eval.specs.Tables.{StandsFor, IsColumnOf, IsBlock, IsHeld, IsFilled, AreFilled, entry_names, kind_for}
 use Rattle.cat_eval.specs.Values.{Adds, IsFor, column_len}
@@ -45,14 +46,14 @@ filled_more old new bases base s r name adds held before = record {
       ]);
 }
 
--- the last value once more
-pub filled_again : (old new : Entry) (bases : List Known) (base : Known) → new.name ≡ old.name → EndsWith bases base → Repeats old.column new.column → IsFilled old bases → IsFilled new (bases ++ base ∷ [])
-filled_again old new bases base name ends repeats before =
-    let long : length bases ≡ length ends.0 + 1 = ap length ends.1 ∙ length-append ends.0 (base ∷ []) in
-    let at : slice_get bases (length ends.0) ≡ Some base = rw ends.1 (get_last ends.0 base) in
-    let (s, r, has, held) = before.values (length ends.0) base at in
+-- the last value once more, where it is that of the next base too
+pub filled_again : (old new : Entry) (bases : List Known) (end base : Known) → new.name ≡ old.name → EndsWith bases end → HoldsSame old.name end base → Repeats old.column new.column → IsFilled old bases → IsFilled new (bases ++ base ∷ [])
+filled_again old new bases end base name ends same repeats before =
+    let long : length bases ≡ length ends.0 + 1 = ap length ends.1 ∙ length-append ends.0 (end ∷ []) in
+    let at : slice_get bases (length ends.0) ≡ Some end = rw ends.1 (get_last ends.0 end) in
+    let (s, r, has, held) = before.values (length ends.0) end at in
     let last : column_len old.column - 1 ≡ length ends.0 = omega (arith, before.long, long) in
-    filled_more old new bases base s r name (repeats s r (subst (λ (n : ℕ). HasValue old.column n s r) (sym last) has)) held before
+    filled_more old new bases base s r name (repeats s r (subst (λ (n : ℕ). HasValue old.column n s r) (sym last) has)) (same s r held) before
 
 -- before the first candidate
 pub filled_none : (entry : Entry) → IsFor (kind_for (is_set entry.name)) entry.column → column_len entry.column ≡ 0 → IsFilled entry []

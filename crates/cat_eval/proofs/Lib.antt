@@ -17,6 +17,7 @@ pub mod Looking
 pub mod Monotone
 pub mod Naming
 pub mod Slots
+pub mod Reordering
 pub mod Repeating
 pub mod Same
 pub mod Seeing

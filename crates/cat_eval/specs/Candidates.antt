@@ -8,12 +8,12 @@ use Rattle.binding_graph.specs.declared.resolved.Role.{Role}
 use Rattle.binding_graph.specs.declared.resolved.Role.TheVariants as roles
 
 -- the candidates of a combination that read so, one for each order
-abbrev pub reading_so : Combination → List ℕ → List (Vec ℕ Global) → List Candidate
-reading_so combination sources orders = map (λ order. (combination, (sources, order.items))) orders
+abbrev pub reading_so : Combination → List ℕ → List (List ℕ) → List Candidate
+reading_so combination sources orders = map (λ order. (combination, (sources, order))) orders
 
 -- those that read in one of these ways
 abbrev pub reading_in : Combination → List (Vec ℕ Global) → List Candidate
-reading_in combination ways = flat_map (λ sources. reading_so combination sources.items combination.orders.items) ways
+reading_in combination ways = flat_map (λ sources. reading_so combination sources.items combination.orders) ways
 
 -- those of combinations after one another
 abbrev pub of_combinations : List Combination → List Candidate

@@ -11,6 +11,7 @@ pub mod Named
 pub mod Needed
 pub mod Needs
 pub mod Places
+pub mod Reordered
 pub mod Rising
 pub mod Running
 pub mod Seen

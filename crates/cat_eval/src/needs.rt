@@ -37,7 +37,7 @@ fn changes_with_reads(name: Predefined) -> bool
 }
 
 /// Whether a name changes with the order of the stores.
-fn changes_with_orders(name: Predefined) -> bool
+pub(crate) fn changes_with_orders(name: Predefined) -> bool
     ensures { result ≡ changes_with_orders name }
 {
     matches!(

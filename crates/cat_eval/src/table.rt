@@ -6,12 +6,14 @@ ghost use Rattle.candidates.specs.declared.candidate.Space.{Space};
 ghost use Rattle.candidates.specs.Space.{candidates_in, Candidate};
 ghost use Rattle.cat_values.specs.PredefinedNames.{is_set};
 ghost use Rattle.cat_eval.specs.Needs.{AreSuited, is_changing_name};
+ghost use Rattle.cat_eval.specs.Needed.{changes_with_orders};
+ghost use Rattle.cat_eval.specs.Reordered.{EndsReordered, HoldsSame};
 ghost use Rattle.cat_eval.specs.Steady.{EndsWith};
 ghost use Rattle.cat_eval.specs.Tables.{IsColumnOf, IsBlock, AreBlocks, HasName, AreColumnsFor, AreFilled, IsFilled, entry_names, column_names, kind_for};
 ghost use Rattle.cat_eval.specs.Values.{IsFor, column_len};
 
 use crate::column::Column;
-use crate::needs::Needs;
+use crate::needs::{Needs, changes_with_orders};
 use crate::seen::NamedColumn;
 use crate::walk::{Enter, enter_space};
 use base_env::Base;
@@ -56,18 +58,35 @@ fn push_value(entry: &mut Entry, base: &Base, made: &mut Rel) -> Result<(), Allo
 /// Gives a name its last value once more.
 fn push_again(entry: &mut Entry) -> Result<(), AllocError>
     ensures name { entry.new.name ≡ entry.old.name }
-    ensures filled { OnOk result ((bases : List Known) (base : Known) → EndsWith bases base → IsFilled entry.old bases → IsFilled entry.new (bases ++ base ∷ [])) }
+    ensures filled { OnOk result ((bases : List Known) (last base : Known) → EndsWith bases last → HoldsSame entry.old.name last base → IsFilled entry.old bases → IsFilled entry.new (bases ++ base ∷ [])) }
 {
     entry.column.push_last()?;
     Ok(())
 }
 
-/// Adds the value of a name: where the candidate is as the one before, the same again.
-fn fill(entry: &mut Entry, base: &Base, again: bool, made: &mut Rel) -> Result<(), AllocError>
-    ensures name { entry.new.name ≡ entry.old.name }
-    ensures filled { OnOk result ((bases : List Known) → (IsTrue again → EndsWith bases base.now) → IsFilled entry.old bases → IsFilled entry.new (bases ++ base.now ∷ [])) }
+/// Whether a name has the value of the candidate before: all names have it again, or those that do not change with the
+/// order of the stores.
+fn is_kept(name: Predefined, again: bool, reordered: bool) -> bool
+    ensures { IsTrue result → IsTrue again ⊎ (IsTrue reordered × (changes_with_orders name ≡ false)) }
 {
     if again {
+        return true;
+    }
+    reordered && !changes_with_orders(name)
+}
+
+/// Adds the value of a name: where it is that of the candidate before, the same again.
+fn fill(
+    entry: &mut Entry,
+    base: &Base,
+    again: bool,
+    reordered: bool,
+    made: &mut Rel,
+) -> Result<(), AllocError>
+    ensures name { entry.new.name ≡ entry.old.name }
+    ensures filled { OnOk result ((bases : List Known) → (IsTrue again → EndsWith bases base.now) → (IsTrue reordered → EndsReordered bases base.now) → IsFilled entry.old bases → IsFilled entry.new (bases ++ base.now ∷ [])) }
+{
+    if is_kept(entry.name, again, reordered) {
         push_again(entry)
     } else {
         push_value(entry, base, made)
@@ -80,23 +99,31 @@ fn fill_at(
     index: usize,
     base: &Base,
     again: bool,
+    reordered: bool,
     made: &mut Rel,
 ) -> Result<(), AllocError>
     requires { index < length entries.old.items }
     ensures long { length entries.new.items ≡ length entries.old.items }
     ensures others { (j : ℕ) → (j ≡ index → ⊥) → (d : Entry) → slice_index_or entries.new.items j d ≡ slice_index_or entries.old.items j d }
     ensures name { (d : Entry) → (slice_index_or entries.new.items index d).name ≡ (slice_index_or entries.old.items index d).name }
-    ensures filled { OnOk result ((bases : List Known) → (IsTrue again → EndsWith bases base.now) → (d : Entry) → IsFilled (slice_index_or entries.old.items index d) bases → IsFilled (slice_index_or entries.new.items index d) (bases ++ base.now ∷ [])) }
+    ensures filled { OnOk result ((bases : List Known) → (IsTrue again → EndsWith bases base.now) → (IsTrue reordered → EndsReordered bases base.now) → (d : Entry) → IsFilled (slice_index_or entries.old.items index d) bases → IsFilled (slice_index_or entries.new.items index d) (bases ++ base.now ∷ [])) }
 {
-    fill(&mut entries[index], base, again, made)
+    fill(&mut entries[index], base, again, reordered, made)
 }
 
 impl Enter for NameRun {
     ghost has_taken = { λ first bases run. (entry_names run.entries.items ≡ entry_names first.entries.items) × AreFilled run.entries.items bases };
 
-    fn enter(&mut self, base: &Base, again: bool) -> Result<(), AllocError> {
+    fn enter(&mut self, base: &Base, again: bool, reordered: bool) -> Result<(), AllocError> {
         for index in 0..self.entries.len() {
-            fill_at(&mut self.entries, index, base, again, &mut self.made)?;
+            fill_at(
+                &mut self.entries,
+                index,
+                base,
+                again,
+                reordered,
+                &mut self.made,
+            )?;
         }
         Ok(())
     }

@@ -98,7 +98,7 @@ fn visit_combination<V: Visit>(
     place: &mut Place,
     visitor: &mut V,
 ) -> Result<(), AllocError>
-    ensures { (first : _) (bases : List Known) → IsAt named.now place.old bases → V.has_taken first bases visitor.old → OnOk result (let run = seen_run named.now (length bases) (length combination.now.events.items) (length combination.now.sources.items * length combination.now.orders.items) in IsAt named.now place.new (bases ++ run) × V.has_taken first (bases ++ run) visitor.new) }
+    ensures { (first : _) (bases : List Known) → IsAt named.now place.old bases → V.has_taken first bases visitor.old → OnOk result (let run = seen_run named.now (length bases) (length combination.now.events.items) (length combination.now.sources.items * length combination.now.orders) in IsAt named.now place.new (bases ++ run) × V.has_taken first (bases ++ run) visitor.new) }
 {
     let count = combination.events.len();
     let many = combination.orders.len();

@@ -6,6 +6,7 @@ ghost use Rattle.base_env.specs.Known.{Known, IsConsistent};
 ghost use Rattle.base_env.specs.Candidate.{IsEntered, IsReading, IsOrdered};
 ghost use Rattle.cat_eval.specs.Candidates.{reading_so, reading_in};
 ghost use Rattle.cat_eval.specs.Steady.{EndsWith};
+ghost use Rattle.cat_eval.specs.Reordered.{IsReordered, EndsReordered};
 ghost use Rattle.cat_eval.specs.Worlds.{AreHeld, IsReady, AreWorlds};
 
 use crate::needs::Needs;
@@ -20,9 +21,10 @@ pub(crate) trait Enter {
     /// another.
     ghost has_taken: { Self → List Known → Self → Type 0 };
 
-    /// Takes the next candidate, of which the predefined names are given, and whether they are those of the one before.
-    fn enter(&mut self, base: &Base, again: bool) -> Result<(), AllocError>
-        ensures { (first : _) (bases : List Known) → (IsTrue again → EndsWith bases base.now) → has_taken first bases self.old → OnOk result (has_taken first (bases ++ base.now ∷ []) self.new) };
+    /// Takes the next candidate, of which the predefined names are given, and whether they are those of the one before:
+    /// `again` all of them, `reordered` those that do not change with the order of the stores.
+    fn enter(&mut self, base: &Base, again: bool, reordered: bool) -> Result<(), AllocError>
+        ensures { (first : _) (bases : List Known) → (IsTrue again → EndsWith bases base.now) → (IsTrue reordered → EndsReordered bases base.now) → has_taken first bases self.old → OnOk result (has_taken first (bases ++ base.now ∷ []) self.new) };
 }
 
 /// Goes over to an order of the stores, from a previous one where it is given.
@@ -51,6 +53,7 @@ fn go_to_order(
     again: bool,
 ) -> bool
     ensures kept { IsTrue result → IsTrue again × (base.new ≡ base.old) }
+    ensures reordered { IsReordered base.old base.new }
     ensures ready { IsReady needs.now.names.items base.old combination.now → IsReady needs.now.names.items base.new combination.now }
     ensures reading { (sources : List ℕ) → IsReading base.old combination.now sources → IsReading base.new combination.now sources }
     ensures ordered { IsTrue needs.now.orders → IfSome previous.entry (λ earlier. IsOrdered base.old combination.now earlier.now) → IsOrdered base.new combination.now order.now }
@@ -113,14 +116,15 @@ fn enter_orders<V: Enter>(
 ) -> Result<bool, AllocError>
     requires { IsReady needs.now.names.items base.old combination.now }
     ensures ready { IsReady needs.now.names.items base.new combination.now }
-    ensures worlds { (sources : List ℕ) → (IsTrue needs.now.reads → IsReading base.old combination.now sources) → (first : _) (bases : List Known) → (IsTrue again → EndsWith bases base.old) → V.has_taken first bases visitor.old → IfOk result (λ ends. (more : List Known) × AreWorlds needs.now.names.items needs.now.reads needs.now.orders more (reading_so combination.now sources combination.now.orders.items) × V.has_taken first (bases ++ more) visitor.new × (IsTrue ends → EndsWith (bases ++ more) base.new)) }
+    ensures worlds { (sources : List ℕ) → (IsTrue needs.now.reads → IsReading base.old combination.now sources) → (first : _) (bases : List Known) → (IsTrue again → EndsWith bases base.old) → V.has_taken first bases visitor.old → IfOk result (λ ends. (more : List Known) × AreWorlds needs.now.names.items needs.now.reads needs.now.orders more (reading_so combination.now sources combination.now.orders) × V.has_taken first (bases ++ more) visitor.new × (IsTrue ends → EndsWith (bases ++ more) base.new)) }
 {
     let mut again = again;
     let mut previous: Option<&[u8]> = None;
-    for order in &combination.orders {
+    for index in 0..combination.orders.len() {
+        let order = combination.orders.order(index);
         let same = go_to_order(needs, base, combination, previous, order, again);
         previous = Some(order);
-        visitor.enter(base, same)?;
+        visitor.enter(base, same, again)?;
         again = true;
     }
     Ok(again)

@@ -1,11 +1,10 @@
 -- Laws of orders that are found by a front that grows.
-use Rattle.std.proofs.Common.{Vec, ℕ, zero, suc, ◌≡◌, ◌+◌, ◌-◌, ◌<◌, ◌≤◌, take, List, [], ◌∷◌, ◌++◌, map, filter, drop, replicate, length, not, refl, sym, subst, ap, ◌∙◌, append-nil, arith}
-use Rattle.std.specs.List.{flat_map}
-use Rattle.std.specs.declared.alloc.Global.{Global}
+use Rattle.std.proofs.Common.{ℕ, zero, suc, ◌≡◌, ◌+◌, ◌-◌, ◌<◌, ◌≤◌, take, List, [], ◌∷◌, ◌++◌, map, filter, drop, replicate, length, not, refl, sym, subst, ap, ◌∙◌, append-nil, arith}
+use Rattle.std.specs.List.{concat, flat_map}
 use Rattle.std.proofs.lemmas.List.{append_assoc, take_all}
 use Rattle.std.proofs.lemmas.List.Folds.{flat_map-map}
 use Rattle.thread_runs.proofs.RunList.{flat_map_same, flat_map-flat_map}
-use Rattle.run_combinations.specs.Lists.{lists_of, joined_with, tuples, IsFiltered, none, kept}
+use Rattle.run_combinations.specs.Lists.{joined_with, tuples, IsFiltered, none, kept}
 use Rattle.run_combinations.specs.Events.{has_store, AreDistinct}
 use Rattle.run_combinations.specs.Orders.{with_new, stores_of, orders_of, all_orders}
 use Rattle.run_combinations.specs.Growing.{with_new_from, rows_from, store_lists, all_stores, orders_from}
@@ -97,32 +96,23 @@ orders_are_all events (suc n) =
     ∙ ap (λ (l : List (List ℕ)). flat_map (location_from (n, stores_of events n)) l) (orders_are_all events n)
     ∙ flat_map_same (location_from (n, stores_of events n)) (joined_with (orders_of n (stores_of events n))) (all_orders events n) (λ g. location_orders n (stores_of events n) g)
 
-pub orders_found : (events : List Event) (n : ℕ) (none_yet : List (Vec ℕ Global)) (stores slice : List LocationStores) (front : List ℕ) (found : List (List ℕ)) → none_yet ≡ [] → front ≡ [] → slice ≡ stores → store_lists stores ≡ all_stores events n → found ≡ lists_of none_yet ++ orders_from (store_lists slice) front → found ≡ all_orders events n
-orders_found events n none_yet stores slice front found o f s h e =
-    e
-    ∙ ap (λ (l : List (Vec ℕ Global)). lists_of l ++ orders_from (store_lists slice) front) o
-    ∙ ap (λ (l : List ℕ). orders_from (store_lists slice) l) f
-    ∙ ap (λ (l : List LocationStores). orders_from (store_lists l) []) s
-    ∙ ap (λ (l : List (ℕ × List ℕ)). orders_from l []) h
-    ∙ orders_are_all events n
-
 -- after the last of the stores that may come next
-pub rows_done : (later : List (ℕ × List ℕ)) (stores : List ℕ) (begin left i : ℕ) (front : List ℕ) (found before : List (List ℕ)) → 0 < left → length stores ≤ i → found ≡ before ++ flat_map (rows_on later stores begin (left - 1)) (with_new_from begin (take i stores) front) → found ≡ before ++ flat_map (orders_from later) (rows_from stores begin left front)
+pub rows_done : (later : List (ℕ × List ℕ)) (stores : List ℕ) (begin left i : ℕ) (front found before : List ℕ) → 0 < left → length stores ≤ i → found ≡ before ++ concat (flat_map (rows_on later stores begin (left - 1)) (with_new_from begin (take i stores) front)) → found ≡ before ++ concat (flat_map (orders_from later) (rows_from stores begin left front))
 rows_done later stores begin zero i front found before some end e = absurd (omega (arith, some))
 rows_done later stores begin (suc k) i front found before some end e =
     let n : suc k - 1 ≡ k = omega arith in
     e
-    ∙ ap (λ (m : ℕ). before ++ flat_map (rows_on later stores begin m) (with_new_from begin (take i stores) front)) n
-    ∙ ap (λ (l : List ℕ). before ++ flat_map (rows_on later stores begin k) (with_new_from begin l front)) (take_all i stores end)
-    ∙ ap (λ (l : List (List ℕ)). before ++ l) (sym (flat_map-flat_map (orders_from later) (rows_from stores begin k) (with_new_from begin stores front)))
+    ∙ ap (λ (m : ℕ). before ++ concat (flat_map (rows_on later stores begin m) (with_new_from begin (take i stores) front))) n
+    ∙ ap (λ (l : List ℕ). before ++ concat (flat_map (rows_on later stores begin k) (with_new_from begin l front))) (take_all i stores end)
+    ∙ ap (λ (l : List (List ℕ)). before ++ concat l) (sym (flat_map-flat_map (orders_from later) (rows_from stores begin k) (with_new_from begin stores front)))
 
 -- one location more, and those behind it
-pub location_found : (locations later : List LocationStores) (s : LocationStores) (slice : List ℕ) (begin left : ℕ) (front longer : List ℕ) (found before : List (List ℕ)) → locations ≡ s ∷ later → slice ≡ s.others.items → begin ≡ length front → left ≡ length s.others.items → longer ≡ front ++ s.initial ∷ [] → found ≡ before ++ flat_map (orders_from (store_lists later)) (rows_from slice begin left longer) → found ≡ before ++ orders_from (store_lists locations) front
+pub location_found : (locations later : List LocationStores) (s : LocationStores) (slice : List ℕ) (begin left : ℕ) (front longer found before : List ℕ) → locations ≡ s ∷ later → slice ≡ s.others.items → begin ≡ length front → left ≡ length s.others.items → longer ≡ front ++ s.initial ∷ [] → found ≡ before ++ concat (flat_map (orders_from (store_lists later)) (rows_from slice begin left longer)) → found ≡ before ++ concat (orders_from (store_lists locations) front)
 location_found locations later s slice begin left front longer found before split same b l more e =
-    let Behind : List (List ℕ) → List (List ℕ) = λ rows. before ++ flat_map (orders_from (store_lists later)) rows in
+    let Behind : List (List ℕ) → List ℕ = λ rows. before ++ concat (flat_map (orders_from (store_lists later)) rows) in
     e
     ∙ ap (λ (us : List ℕ). Behind (rows_from us begin left longer)) same
     ∙ ap (λ (n : ℕ). Behind (rows_from s.others.items n left longer)) b
     ∙ ap (λ (n : ℕ). Behind (rows_from s.others.items (length front) n longer)) l
     ∙ ap (λ (us : List ℕ). Behind (rows_from s.others.items (length front) (length s.others.items) us)) more
-    ∙ ap (λ (ls : List LocationStores). before ++ orders_from (store_lists ls) front) (sym split)
+    ∙ ap (λ (ls : List LocationStores). before ++ concat (orders_from (store_lists ls) front)) (sym split)

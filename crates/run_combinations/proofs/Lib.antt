@@ -6,6 +6,7 @@ pub mod Deriving
 pub mod Extending
 pub mod Filters
 pub mod Finding
+pub mod Flat
 pub mod Fronts
 pub mod Gathering
 pub mod Judging

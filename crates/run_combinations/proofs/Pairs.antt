@@ -44,37 +44,33 @@ get_or-pairs {X} {Y} xs ys p x y d some lt =
         omega (arith, b, q, c)
 
 -- how many candidates a combination has
-pub length-candidates : (c : Combination) → length (candidates_of c) ≡ length c.sources.items * length c.orders.items
+pub length-candidates : (c : Combination) → length (candidates_of c) ≡ length c.sources.items * length c.orders
 unfolding candidates_of
 length-candidates c =
     let s : length (lists_of c.sources.items) ≡ length c.sources.items = length-map c.sources.items (λ v. v.items) in
-    let o : length (lists_of c.orders.items) ≡ length c.orders.items = length-map c.orders.items (λ v. v.items) in
-    length-pairs (lists_of c.sources.items) (lists_of c.orders.items) ∙ ap (λ (n : ℕ). n * length (lists_of c.orders.items)) s ∙ ap (λ (n : ℕ). length c.sources.items * n) o
+    length-pairs (lists_of c.sources.items) c.orders ∙ ap (λ (n : ℕ). n * length c.orders) s
 
-pub has_none : (c : Combination) (p : ℕ) → length c.orders.items ≡ 0 → p < length (candidates_of c) → ⊥
+pub has_none : (c : Combination) (p : ℕ) → length c.orders ≡ 0 → p < length (candidates_of c) → ⊥
 has_none c p none lt =
-    let e : length (candidates_of c) ≡ length c.sources.items * length c.orders.items = length-candidates c in
+    let e : length (candidates_of c) ≡ length c.sources.items * length c.orders = length-candidates c in
     let z : length c.sources.items * 0 ≡ 0 = mul-zero (length c.sources.items) in
-    let f : length c.sources.items * length c.orders.items ≡ length c.sources.items * 0 = ap (λ (n : ℕ). length c.sources.items * n) none in
+    let f : length c.sources.items * length c.orders ≡ length c.sources.items * 0 = ap (λ (n : ℕ). length c.sources.items * n) none in
     omega arith
 
-pub has_index : (c : Combination) (p : ℕ) → 0 < length c.orders.items → (p / length c.orders.items < length c.sources.items) ↔ (p < length (candidates_of c))
-has_index c p some = subst (λ (n : ℕ). (p / length c.orders.items < length c.sources.items) ↔ (p < n)) (sym (length-candidates c)) (div-lt_iff_lt-mul some)
+pub has_index : (c : Combination) (p : ℕ) → 0 < length c.orders → (p / length c.orders < length c.sources.items) ↔ (p < length (candidates_of c))
+has_index c p some = subst (λ (n : ℕ). (p / length c.orders < length c.sources.items) ↔ (p < n)) (sym (length-candidates c)) (div-lt_iff_lt-mul some)
 
 -- the candidate at an index
-pub candidate_at : (c : Combination) (p : ℕ) (d : List ℕ × List ℕ) (v w : Vec ℕ Global) → 0 < length c.orders.items → p / length c.orders.items < length c.sources.items → get_or (candidates_of c) p d ≡ ((get_or c.sources.items (p / length c.orders.items) v).items, (get_or c.orders.items (p % length c.orders.items) w).items)
+pub candidate_at : (c : Combination) (p : ℕ) (d : List ℕ × List ℕ) (v : Vec ℕ Global) → 0 < length c.orders → p / length c.orders < length c.sources.items → get_or (candidates_of c) p d ≡ ((get_or c.sources.items (p / length c.orders) v).items, get_or c.orders (p % length c.orders) [])
 unfolding candidates_of
-candidate_at c p d v w some lt =
-    let o : length (lists_of c.orders.items) ≡ length c.orders.items = length-map c.orders.items (λ v. v.items) in
+candidate_at c p d v some lt =
     let s : length (lists_of c.sources.items) ≡ length c.sources.items = length-map c.sources.items (λ v. v.items) in
-    get_or-pairs (lists_of c.sources.items) (lists_of c.orders.items) p v.items w.items d (subst (λ (n : ℕ). 0 < n) (sym o) some) (subst (λ (n : ℕ). p / n < length (lists_of c.sources.items)) (sym o) (subst (λ (n : ℕ). p / length c.orders.items < n) (sym s) lt))
-    ∙ ap (λ (n : ℕ). (get_or (lists_of c.sources.items) (p / n) v.items, get_or (lists_of c.orders.items) (p % n) w.items)) o
-    ∙ ap (λ (l : List ℕ). (l, get_or (lists_of c.orders.items) (p % length c.orders.items) w.items)) (get_or-map (λ (u : Vec ℕ Global). u.items) c.sources.items (p / length c.orders.items) v v.items lt)
-    ∙ ap (λ (l : List ℕ). ((get_or c.sources.items (p / length c.orders.items) v).items, l)) (get_or-map (λ (u : Vec ℕ Global). u.items) c.orders.items (p % length c.orders.items) w w.items (mod-lt p some))
+    get_or-pairs (lists_of c.sources.items) c.orders p v.items [] d some (subst (λ (n : ℕ). p / length c.orders < n) (sym s) lt)
+    ∙ ap (λ (l : List ℕ). (l, get_or c.orders (p % length c.orders) [])) (get_or-map (λ (u : Vec ℕ Global). u.items) c.sources.items (p / length c.orders) v v.items lt)
 
 -- where there is a candidate there are orders
-pub has_orders : (c : Combination) (p : ℕ) → p < length (candidates_of c) → 0 < length c.orders.items
-has_orders c p lt = elim (cases_lt 0 (length c.orders.items)) [
+pub has_orders : (c : Combination) (p : ℕ) → p < length (candidates_of c) → 0 < length c.orders
+has_orders c p lt = elim (cases_lt 0 (length c.orders)) [
   | inl some ↦ some
   | inr few ↦ absurd (has_none c p (omega (arith, few)) lt)
 ]

@@ -13,7 +13,7 @@ pairs xs ys = flat_map (λ x. map (λ y. (x, y)) ys) xs
 
 -- the candidates of a combination: each way to read with each order of the stores
 unfoldable pub candidates_of : Combination → List (List ℕ × List ℕ)
-candidates_of c = pairs (lists_of c.sources.items) (lists_of c.orders.items)
+candidates_of c = pairs (lists_of c.sources.items) c.orders
 
 -- a combination as plain data
 pub record CombinationLists : Type 0 where
@@ -29,7 +29,7 @@ combination_lists c = record {
   dependencies = dependency_lists c.dependencies;
   runs = c.runs.items;
   sources = lists_of c.sources.items;
-  orders = lists_of c.orders.items;
+  orders = c.orders;
 }
 
 -- the combination with the orders of its stores, of the first locations

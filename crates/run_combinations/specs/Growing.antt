@@ -1,5 +1,5 @@
 -- The orders that begin with a front, as they are found: the front is pushed onto, and cut back. Read `Orders` first.
-use Rattle.std.specs.Prelude.{ℕ, zero, suc, List, [], ◌∷◌, ◌++◌, map, filter, drop, length, not}
+use Rattle.std.specs.Prelude.{ℕ, zero, suc, ◌+◌, List, [], ◌∷◌, ◌++◌, map, filter, drop, length, not}
 use Rattle.std.specs.List.{flat_map}
 use Rattle.run_combinations.specs.Events.{has_store}
 use Rattle.run_combinations.specs.Orders.{stores_of}
@@ -23,6 +23,11 @@ store_lists locations = map (λ s. (s.initial, s.others.items)) locations
 abbrev pub all_stores : List Event → ℕ → List (ℕ × List ℕ)
 all_stores events zero = []
 all_stores events (suc n) = all_stores events n ++ (n, stores_of events n) ∷ []
+
+-- how many stores these locations have
+abbrev pub width_of : List (ℕ × List ℕ) → ℕ
+width_of [] = 0
+width_of (s ∷ later) = 1 + length s.1 + width_of later
 
 -- the orders that begin with the front and go on with the stores of these locations
 abbrev pub orders_from : List (ℕ × List ℕ) → List ℕ → List (List ℕ)

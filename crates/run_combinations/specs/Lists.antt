@@ -1,11 +1,16 @@
 -- Lists of lists, and the members of a list of which a fact holds.
-use Rattle.std.specs.Prelude.{ℕ, List, [], ◌∷◌, ◌++◌, map, Vec}
+use Rattle.std.specs.Prelude.{ℕ, zero, suc, List, [], ◌∷◌, ◌++◌, map, take, drop, Vec}
 use Rattle.std.specs.List.{flat_map}
 use Rattle.std.specs.declared.alloc.Global.{Global}
 
 -- the lists in vectors
 abbrev pub lists_of : List (Vec ℕ Global) → List (List ℕ)
 lists_of vs = map (λ v. v.items) vs
+
+-- so many lists of a width, which stand one after another in one
+abbrev pub rows_in : ℕ → ℕ → List ℕ → List (List ℕ)
+rows_in width zero xs = []
+rows_in width (suc count) xs = take width xs ∷ rows_in width count (drop width xs)
 
 -- the tuples that begin so and take one choice of each further list, in lexicographic order
 abbrev pub tuples : List ℕ → List (List ℕ) → List (List ℕ)

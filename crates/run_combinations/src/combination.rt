@@ -1,6 +1,7 @@
 //! Combinations of runs, with what makes candidates of them.
 ghost use Rattle.std.specs.Prelude.{◌≡◌, ◌-◌, ◌^◌, ◌<◌, ◌≤◌, ◌↔◌, min, length, IsTrue};
 
+use crate::store_orders::StoreOrders;
 use dataflow::Dependencies;
 use litmus_values::Fence;
 use ppc_semantics::Value;
@@ -39,9 +40,9 @@ pub struct Combination {
     pub runs: Vec<usize>,
     /// Each a way to read: for each load in event order, the number of the store that it reads.
     pub sources: Vec<Vec<u8>>,
-    /// Each an order of the stores: those of each location after one another, locations in order,
-    /// the initial store first.
-    pub orders: Vec<Vec<u8>>,
+    /// The orders of the stores: in each, those of each location after one another, locations in
+    /// order, the initial store first.
+    pub orders: StoreOrders,
     /// There are at most 128 events.
     pub ghost few: { length events.items ≤ 128 },
 }

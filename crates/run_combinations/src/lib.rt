@@ -13,12 +13,14 @@ mod orders;
 mod part;
 mod reading;
 mod search;
+mod store_orders;
 
 pub use combination::{Action, Combination, Event};
 pub use layout::{Layout, ThreadParts, registers};
 pub use orders::with_orders;
 pub use part::Part;
 pub use search::{Found, find_combinations};
+pub use store_orders::StoreOrders;
 pub use thread_runs::is_same;
 
 /// The greatest number of candidates that a test may have.

@@ -1,15 +1,15 @@
 //! The orders of the stores of a combination of runs.
 ghost use Rattle.std.specs.Prelude.{◌≡◌, ◌≤◌, ◌-◌, ◌^◌, ◌++◌, length, drop, map, min, IfOk, OnOk};
-ghost use Rattle.std.specs.List.{flat_map};
+ghost use Rattle.std.specs.List.{concat, flat_map};
 ghost use Rattle.run_combinations.specs.Events as event_lists;
 ghost use Rattle.run_combinations.specs.Growing.{store_lists, rows_from, orders_from};
 ghost use Rattle.run_combinations.specs.Growing as growing;
-ghost use Rattle.run_combinations.specs.Lists.{lists_of};
 ghost use Rattle.run_combinations.specs.Orders.{is_thread_store, stores_of, all_orders, AreApart};
 ghost use Rattle.run_combinations.specs.Orders as definitions;
 ghost use Rattle.run_combinations.specs.Combinations.{combination_lists, ordered};
 
 use crate::combination::{Action, Combination, Event};
+use crate::store_orders::StoreOrders;
 use bit_relations::MAX_EVENTS;
 use std::alloc::{AllocError, Global};
 
@@ -82,24 +82,23 @@ fn has_store(front: &[u8], begin: usize, store: u8) -> bool
 /// Adds the orders that begin with the front and go on with the stores of these locations.
 #[cycle(growing)]
 fn add_orders(
-    alloc: Global,
     locations: &[LocationStores],
     front: &mut Vec<u8>,
-    found: &mut Vec<Vec<u8>>,
+    found: &mut Vec<u8>,
 ) -> Result<(), AllocError>
     ensures front { OnOk result (front.new.items ≡ front.old.items) }
-    ensures found { OnOk result (lists_of found.new.items ≡ lists_of found.old.items ++ orders_from (store_lists locations.now) front.old.items) }
+    ensures found { OnOk result (found.new.items ≡ found.old.items ++ concat (orders_from (store_lists locations.now) front.old.items)) }
 {
     match locations.split_first() {
         None => {
-            found.push(Vec::from_slice(alloc, front)?)?;
+            found.extend_from_slice(front)?;
             Ok(())
         }
         Some((location, later)) => {
             let begin = front.len();
             front.push(location.initial)?;
             let left = location.others.len();
-            add_rows(alloc, &location.others, later, left, begin, front, found)?;
+            add_rows(&location.others, later, left, begin, front, found)?;
             front.pop();
             Ok(())
         }
@@ -110,42 +109,61 @@ fn add_orders(
 /// so many of its stores by threads are left out, and go on with these and the later locations.
 #[cycle(growing)]
 fn add_rows(
-    alloc: Global,
     others: &[u8],
     later: &[LocationStores],
     left: usize,
     begin: usize,
     front: &mut Vec<u8>,
-    found: &mut Vec<Vec<u8>>,
+    found: &mut Vec<u8>,
 ) -> Result<(), AllocError>
     requires { begin ≤ length front.old.items }
     ensures front { OnOk result (front.new.items ≡ front.old.items) }
-    ensures found { OnOk result (lists_of found.new.items ≡ lists_of found.old.items ++ flat_map (orders_from (store_lists later.now)) (rows_from others.now begin left front.old.items)) }
+    ensures found { OnOk result (found.new.items ≡ found.old.items ++ concat (flat_map (orders_from (store_lists later.now)) (rows_from others.now begin left front.old.items))) }
 {
     if left == 0 {
-        add_orders(alloc, later, front, found)?;
+        add_orders(later, front, found)?;
         return Ok(());
     }
     for store in others {
         if !has_store(front, begin, *store) {
             front.push(*store)?;
-            add_rows(alloc, others, later, left - 1, begin, front, found)?;
+            add_rows(others, later, left - 1, begin, front, found)?;
             front.pop();
         }
     }
     Ok(())
 }
 
+/// How many stores these locations have, or the greatest number where that is less.
+fn width_of(locations: &[LocationStores]) -> usize
+    ensures { result ≡ min (growing.width_of (store_lists locations.now)) (2 ^ 64 - 1) }
+{
+    let mut width = 0usize;
+    for location in locations {
+        width = width
+            .saturating_add(location.others.len())
+            .saturating_add(1);
+    }
+    width
+}
+
 /// The orders of all stores, in lexicographic order: those of each location after one another,
 /// the initial store first.
-fn orders(alloc: Global, events: &[Event], locations: usize) -> Result<Vec<Vec<u8>>, AllocError>
-    ensures { IfOk result (λ v. lists_of v.items ≡ all_orders events.now (min locations 128)) }
+fn orders(alloc: Global, events: &[Event], locations: usize) -> Result<StoreOrders, AllocError>
+    ensures { IfOk result (λ v. v ≡ all_orders events.now (min locations 128)) }
 {
-    let stores = all_stores(alloc, events, locations)?;
-    let mut front = Vec::with_capacity(alloc, events.len())?;
-    let mut orders = Vec::new(alloc);
-    add_orders(alloc, &stores, &mut front, &mut orders)?;
-    Ok(orders)
+    let locations = all_stores(alloc, events, locations)?;
+    let width = width_of(&locations);
+    let mut front = Vec::with_capacity(alloc, width)?;
+    let mut stores = Vec::new(alloc);
+    add_orders(&locations, &mut front, &mut stores)?;
+    // With no location there is one order, of no store.
+    let count = stores.len().checked_div(width).unwrap_or(1);
+    Ok(StoreOrders {
+        stores,
+        width,
+        count,
+    })
 }
 
 /// In how many orders so many stores can stand, or the greatest number where that is less.

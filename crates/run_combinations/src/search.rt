@@ -15,6 +15,7 @@ use crate::layout::{Layout, ThreadParts};
 use crate::orders::order_count;
 use crate::part::Part;
 use crate::reading::Reading;
+use crate::store_orders::StoreOrders;
 use dataflow::{Dependencies, add_pairs};
 use std::alloc::{AllocError, Global};
 
@@ -186,7 +187,7 @@ fn combination(alloc: Global, made: PrefixRuns, ways: Vec<Vec<u8>>) -> Combinati
         dependencies: made.dependencies,
         runs: made.runs,
         sources: ways,
-        orders: Vec::new(alloc),
+        orders: StoreOrders::none(alloc),
     }
 }
 

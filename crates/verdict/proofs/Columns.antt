@@ -1,5 +1,5 @@
 -- Counting kept candidates by rows and by columns.
-use Rattle.std.proofs.Common.{ℕ, suc, ◌+◌, ◌-◌, ◌<◌, ◌≤◌, Bool, true, false, ◌&&◌, cond, ◌≡◌, List, [], ◌∷◌, ◌++◌, Vec, Global, length, get_or, map, take, drop, refl, sym, ap, ◌∙◌, arith, zero-add, min, ⊎_elim}
+use Rattle.std.proofs.Common.{ℕ, suc, ◌+◌, ◌-◌, ◌<◌, ◌≤◌, Bool, true, false, ◌&&◌, cond, ◌≡◌, List, [], ◌∷◌, ◌++◌, length, get_or, map, take, drop, refl, sym, ap, ◌∙◌, arith, zero-add, min, ⊎_elim}
 use Rattle.std.proofs.lemmas.List.{take_more, append-nil, length-map, length-take-le, length-append, get_or-drop, drop-drop, drop_all}
 use Rattle.std.proofs.lemmas.Bool.{cases_lt}
 use Rattle.std.proofs.lemmas.List.Concat.{flat_map-append}
@@ -22,15 +22,12 @@ column_none ways i width column rest past =
     let e : ways - i ≡ 0 = omega arith in
     ap (λ (n : ℕ). count_column n width column rest) e
 
-abbrev Order : Type 0
-Order = Vec ℕ Global
-
 -- what the orders that pass have in their columns
-unfoldable pub by_orders : (Order → Bool) → ℕ → ℕ → ℕ → List Bool → List Order → ℕ
+unfoldable pub by_orders : (List ℕ → Bool) → ℕ → ℕ → ℕ → List Bool → List (List ℕ) → ℕ
 by_orders test rows width k kept [] = 0
 by_orders test rows width k kept (o ∷ os) = cond (test o) (count_column rows width k kept) 0 + by_orders test rows width (k + 1) kept os
 
-by_orders_push : (test : Order → Bool) (rows width k : ℕ) (kept : List Bool) (os : List Order) (o : Order) → by_orders test rows width k kept (os ++ o ∷ []) ≡ by_orders test rows width k kept os + cond (test o) (count_column rows width (k + length os) kept) 0
+by_orders_push : (test : List ℕ → Bool) (rows width k : ℕ) (kept : List Bool) (os : List (List ℕ)) (o : List ℕ) → by_orders test rows width k kept (os ++ o ∷ []) ≡ by_orders test rows width k kept os + cond (test o) (count_column rows width (k + length os) kept) 0
 unfolding by_orders
 by_orders_push test rows width k kept [] o =
     let e : k + 0 ≡ k = omega arith in
@@ -42,15 +39,15 @@ by_orders_push test rows width k kept (p ∷ os) o =
     let h : by_orders test rows width (k + 1) kept (os ++ o ∷ []) ≡ by_orders test rows width (k + 1) kept os + cond (test o) (count_column rows width ((k + 1) + length os) kept) 0 = by_orders_push test rows width (k + 1) kept os o in
     omega arith
 
-pub one_order_more : (test : Order → Bool) (rows width : ℕ) (kept : List Bool) (os : List Order) (i : ℕ) (o : Order) → i < length os → o ≡ get_or os i o → by_orders test rows width 0 kept (take (i + 1) os) ≡ by_orders test rows width 0 kept (take i os) + cond (test o) (count_column rows width i kept) 0
-one_order_more test rows width kept os i o lt is =
+pub one_order_more : (test : List ℕ → Bool) (rows width : ℕ) (kept : List Bool) (os : List (List ℕ)) (i : ℕ) (o d : List ℕ) → i < length os → o ≡ get_or os i d → by_orders test rows width 0 kept (take (i + 1) os) ≡ by_orders test rows width 0 kept (take i os) + cond (test o) (count_column rows width i kept) 0
+one_order_more test rows width kept os i o d lt is =
     let e : 0 + length (take i os) ≡ i = omega (arith, length-take-le i os (omega arith)) in
-    ap (by_orders test rows width 0 kept) (take_more os i o lt ∙ ap (λ (x : Order). take i os ++ x ∷ []) (sym is))
+    ap (by_orders test rows width 0 kept) (take_more os i d lt ∙ ap (λ (x : List ℕ). take i os ++ x ∷ []) (sym is))
     ∙ by_orders_push test rows width 0 kept (take i os) o
     ∙ ap (λ (n : ℕ). by_orders test rows width 0 kept (take i os) + cond (test o) (count_column rows width n kept) 0) e
 
 -- one row
-row : (Order → Bool) → ℕ → List Bool → List Order → ℕ
+row : (List ℕ → Bool) → ℕ → List Bool → List (List ℕ) → ℕ
 row test k kept [] = 0
 row test k kept (o ∷ os) = cond (test o) (cond (holds_at k kept) 1 0) 0 + row test (k + 1) kept os
 
@@ -58,14 +55,14 @@ spread : (b : Bool) (bit col more rest : ℕ) → cond b (bit + col) 0 + (more +
 spread true bit col more rest = omega arith
 spread false bit col more rest = omega arith
 
-first_row : (test : Order → Bool) (rows width k : ℕ) (kept : List Bool) (os : List Order) → by_orders test (suc rows) width k kept os ≡ row test k kept os + by_orders test rows width k (drop width kept) os
+first_row : (test : List ℕ → Bool) (rows width k : ℕ) (kept : List Bool) (os : List (List ℕ)) → by_orders test (suc rows) width k kept os ≡ row test k kept os + by_orders test rows width k (drop width kept) os
 unfolding by_orders row count_column
 first_row test rows width k kept [] = refl
 first_row test rows width k kept (o ∷ os) =
     ap (λ (n : ℕ). cond (test o) (cond (holds_at k kept) 1 0 + count_column rows width k (drop width kept)) 0 + n) (first_row test rows width (k + 1) kept os)
     ∙ spread (test o) (cond (holds_at k kept) 1 0) (count_column rows width k (drop width kept)) (row test (k + 1) kept os) (by_orders test rows width (k + 1) (drop width kept) os)
 
-no_row : (test : Order → Bool) (width k : ℕ) (kept : List Bool) (os : List Order) → by_orders test 0 width k kept os ≡ 0
+no_row : (test : List ℕ → Bool) (width k : ℕ) (kept : List Bool) (os : List (List ℕ)) → by_orders test 0 width k kept os ≡ 0
 unfolding by_orders count_column
 no_row test width k kept [] = refl
 no_row test width k kept (o ∷ os) =
@@ -82,14 +79,14 @@ swapped true false = refl
 swapped false true = refl
 swapped false false = refl
 
-row_kept : (test : List ℕ → Bool) (x : List ℕ) (k : ℕ) (kept : List Bool) (os : List Order) → row (λ o. test o.items) k kept os ≡ count_kept (λ (t : List ℕ × List ℕ). test t.1) (drop k kept) (map (λ y. (x, y)) (lists_of os))
+row_kept : (test : List ℕ → Bool) (x : List ℕ) (k : ℕ) (kept : List Bool) (os : List (List ℕ)) → row test k kept os ≡ count_kept (λ (t : List ℕ × List ℕ). test t.1) (drop k kept) (map (λ y. (x, y)) os)
 unfolding row count_kept bit
 row_kept test x k kept [] = refl
 row_kept test x k kept (o ∷ os) =
-    ap (λ (n : ℕ). cond (test o.items) (cond (holds_at k kept) 1 0) 0 + n)
-    (row_kept test x (k + 1) kept os ∙ ap (λ (l : List Bool). count_kept (λ (t : List ℕ × List ℕ). test t.1) l (map (λ y. (x, y)) (lists_of os))) next)
-    ∙ ap (λ (n : ℕ). n + count_kept (λ (t : List ℕ × List ℕ). test t.1) (drop 1 (drop k kept)) (map (λ y. (x, y)) (lists_of os)))
-    (swapped (holds_at k kept) (test o.items) ∙ ap (λ (b : Bool). bit (b && test o.items)) here)
+    ap (λ (n : ℕ). cond (test o) (cond (holds_at k kept) 1 0) 0 + n)
+    (row_kept test x (k + 1) kept os ∙ ap (λ (l : List Bool). count_kept (λ (t : List ℕ × List ℕ). test t.1) l (map (λ y. (x, y)) os)) next)
+    ∙ ap (λ (n : ℕ). n + count_kept (λ (t : List ℕ × List ℕ). test t.1) (drop 1 (drop k kept)) (map (λ y. (x, y)) os))
+    (swapped (holds_at k kept) (test o) ∙ ap (λ (b : Bool). bit (b && test o)) here)
   where
     next : drop (k + 1) kept ≡ drop 1 (drop k kept)
     next = sym (drop-drop 1 k kept)
@@ -113,26 +110,26 @@ count_kept-map f test kept [] = refl
 count_kept-map f test kept (x ∷ xs) = ap (λ (n : ℕ). cond (holds_at 0 kept && test (f x)) 1 0 + n) (count_kept-map f test (drop 1 kept) xs)
 
 -- rows of a width, and columns
-pairs_kept : (test : List ℕ → Bool) (kept : List Bool) (xs : List (List ℕ)) (os : List Order) → count_kept (λ (t : List ℕ × List ℕ). test t.1) kept (pairs xs (lists_of os)) ≡ by_orders (λ o. test o.items) (length xs) (length os) 0 kept os
-pairs_kept test kept [] os = unfold count_kept in sym (no_row (λ o. test o.items) (length os) 0 kept os)
+pairs_kept : (test : List ℕ → Bool) (kept : List Bool) (xs os : List (List ℕ)) → count_kept (λ (t : List ℕ × List ℕ). test t.1) kept (pairs xs os) ≡ by_orders test (length xs) (length os) 0 kept os
+pairs_kept test kept [] os = unfold count_kept in sym (no_row test (length os) 0 kept os)
 pairs_kept test kept (x ∷ xs) os =
-    count_kept-append (λ (t : List ℕ × List ℕ). test t.1) kept (map (λ y. (x, y)) (lists_of os)) (pairs xs (lists_of os))
-    ∙ ap (λ (n : ℕ). n + count_kept (λ (t : List ℕ × List ℕ). test t.1) (drop (length {A = List ℕ × List ℕ} (map (λ y. (x, y)) (lists_of os))) kept) (pairs xs (lists_of os))) (sym (row_kept test x 0 kept os))
-    ∙ ap (λ (n : ℕ). row (λ o. test o.items) 0 kept os + count_kept (λ (t : List ℕ × List ℕ). test t.1) (drop n kept) (pairs xs (lists_of os))) wide
-    ∙ ap (λ (n : ℕ). row (λ o. test o.items) 0 kept os + n) (pairs_kept test (drop (length os) kept) xs os)
-    ∙ sym (first_row (λ o. test o.items) (length xs) (length os) 0 kept os)
+    count_kept-append (λ (t : List ℕ × List ℕ). test t.1) kept (map (λ y. (x, y)) os) (pairs xs os)
+    ∙ ap (λ (n : ℕ). n + count_kept (λ (t : List ℕ × List ℕ). test t.1) (drop (length {A = List ℕ × List ℕ} (map (λ y. (x, y)) os)) kept) (pairs xs os)) (sym (row_kept test x 0 kept os))
+    ∙ ap (λ (n : ℕ). row test 0 kept os + count_kept (λ (t : List ℕ × List ℕ). test t.1) (drop n kept) (pairs xs os)) wide
+    ∙ ap (λ (n : ℕ). row test 0 kept os + n) (pairs_kept test (drop (length os) kept) xs os)
+    ∙ sym (first_row test (length xs) (length os) 0 kept os)
   where
-    wide : length {A = List ℕ × List ℕ} (map (λ y. (x, y)) (lists_of os)) ≡ length os
-    wide = length-map (lists_of os) (λ y. (x, y)) ∙ length-map os (λ v. v.items)
+    wide : length {A = List ℕ × List ℕ} (map (λ y. (x, y)) os) ≡ length os
+    wide = length-map os (λ y. (x, y))
 
 -- the candidates of a combination, by their orders
-pub combination_kept : (test : List ℕ → Bool) (kept : List Bool) (c : Combination) → count_kept (λ (t : List ℕ × List ℕ). test t.1) kept (candidates_of c) ≡ by_orders (λ o. test o.items) (length c.sources.items) (length c.orders.items) 0 kept c.orders.items
+pub combination_kept : (test : List ℕ → Bool) (kept : List Bool) (c : Combination) → count_kept (λ (t : List ℕ × List ℕ). test t.1) kept (candidates_of c) ≡ by_orders test (length c.sources.items) (length c.orders) 0 kept c.orders
 unfolding candidates_of
 combination_kept test kept c =
-    pairs_kept test kept (lists_of c.sources.items) c.orders.items
-    ∙ ap (λ (n : ℕ). by_orders (λ o. test o.items) n (length c.orders.items) 0 kept c.orders.items) (length-map c.sources.items (λ v. v.items))
+    pairs_kept test kept (lists_of c.sources.items) c.orders
+    ∙ ap (λ (n : ℕ). by_orders test n (length c.orders) 0 kept c.orders) (length-map c.sources.items (λ v. v.items))
 
-pub none_yet : (test : Order → Bool) (rows width : ℕ) (kept : List Bool) → by_orders test rows width 0 kept [] ≡ 0
+pub none_yet : (test : List ℕ → Bool) (rows width : ℕ) (kept : List Bool) → by_orders test rows width 0 kept [] ≡ 0
 unfolding by_orders
 none_yet test rows width kept = refl
 

@@ -173,7 +173,8 @@ fn count_combination(
 {
     let ways = combination.sources.len();
     let orders = combination.orders.len();
-    for (k, order) in combination.orders.iter().enumerate() {
+    for k in 0..orders {
+        let order = combination.orders.order(k);
         let found = kept_with_order(kept, ways, orders, k);
         count_order(alloc, space, combination, order, places, found, counts)?;
     }

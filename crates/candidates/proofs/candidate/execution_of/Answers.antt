@@ -1,4 +1,4 @@
-use Rattle.std.proofs.Common.{◌≡◌, ◌<◌, ◌/◌, ◌%◌, length, arith, rules, ◌∙◌}
+use Rattle.std.proofs.Common.{◌≡◌, ◌<◌, ◌/◌, length, arith, rules, ◌∙◌}
 use Rattle.std.proofs.Math.Nat.{mod-lt}
 use Rattle.run_combinations.proofs.Pairs.{has_orders, has_index}
 use Rattle.candidates.proofs.Spaces.{candidate_there}
@@ -7,33 +7,32 @@ use Rattle.candidates.proofs.candidate.execution_of.Goals as goal
 pub nonzero_div-index : goal.nonzero_div-index
 nonzero_div-index c =
     let some = has_orders c.args.combination.now c.args.index c.requires in
-    omega (arith, some, c.args.combination.now.orders.ok.0)
+    omega (arith, some)
 
 pub index-sources-requires : goal.index-sources-requires
 index-sources-requires c =
-    let orders : c.len-orders.result ≡ length c.args.combination.now.orders.items = omega (arith, c.args.combination.now.orders.ok.0) in
+    let orders : c.len-orders.result ≡ length c.args.combination.now.orders = omega arith in
     let lt : c.args.index / c.len-orders.result < length c.args.combination.now.sources.items = rw orders ((has_index c.args.combination.now c.args.index (has_orders c.args.combination.now c.args.index c.requires)).1 c.requires) in
     omega (arith, lt, c.args.combination.now.sources.ok.0)
 
 pub nonzero_rem-index : goal.nonzero_rem-index
 nonzero_rem-index c =
     let some = has_orders c.args.combination.now c.args.index c.requires in
-    omega (arith, some, c.args.combination.now.orders.ok.0)
+    omega (arith, some)
 
-pub index-order-requires : goal.index-order-requires
-index-order-requires c =
-    let orders : c.len-orders.result ≡ length c.args.combination.now.orders.items = omega (arith, c.args.combination.now.orders.ok.0) in
-    let lt : c.args.index % c.len-orders.result < length c.args.combination.now.orders.items = rw orders (mod-lt c.args.index (has_orders c.args.combination.now c.args.index c.requires)) in
-    omega (arith, lt, c.args.combination.now.orders.ok.0)
+pub order-order-requires : goal.order-order-requires
+order-order-requires c =
+    let orders : c.len-orders.result ≡ length c.args.combination.now.orders = omega arith in
+    rw orders (mod-lt c.args.index (has_orders c.args.combination.now c.args.index c.requires))
 
 pub returns : goal.returns
 returns c =
-    candidate_there c.args.registers.now c.args.combination.now c.args.index c.len-orders.result c.index-sources.result.now c.index-order.result.now _
-    (omega (arith, c.args.combination.now.orders.ok.0)) c.requires c.index-sources.ensures c.index-order.ensures
+    candidate_there c.args.registers.now c.args.combination.now c.args.index c.len-orders.result c.index-sources.result.now c.order-order.result.now _
+    (omega arith) c.requires c.index-sources.ensures c.order-order.ensures
     (record {
       events = c.in_ok-from_slice.ensures.items ∙ c.deref.ensures.value;
       dependencies = c.in_ok-copied.ensures;
       sources = c.in_ok-from_slice-2.ensures.items ∙ c.deref-2.ensures.value;
-      order = c.in_ok-from_slice-3.ensures.items ∙ c.deref-3.ensures.value;
+      order = c.in_ok-from_slice-3.ensures.items;
       registers = search rules;
     })

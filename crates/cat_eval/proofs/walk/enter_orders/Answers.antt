@@ -5,33 +5,33 @@ use Rattle.cat_eval.specs.Worlds.{IsWorld}
 use Rattle.cat_eval.proofs.Entering.{worlds_more, map_step}
 use Rattle.cat_eval.proofs.walk.enter_orders.Goals as goal
 
-pub loop-order-preserved : goal.loop-order-preserved
-loop-order-preserved g c =
+pub loop-index-preserved : goal.loop-index-preserved
+loop-index-preserved g c =
     let combination = c.args.combination.now in
     let needs = c.args.needs.now in
-    let before = c.loop-order.invariant in
+    let before = c.loop-index.invariant in
     let base = c.go_to_order-same.new.base in (
       c.go_to_order-same.ensures.ready before.0,
       (λ sources held. c.go_to_order-same.ensures.reading sources (before.1 sources held)),
       (λ sources reading first bases ends given.
           let (more, worlds, was, last) = before.2 sources reading first bases ends given in
-          let world : IsWorld needs.names.items needs.reads needs.orders base (combination, (sources, c.order-item.result.items)) = record {
+          let world : IsWorld needs.names.items needs.reads needs.orders base (combination, (sources, c.order-order.result.now)) = record {
             ready = c.go_to_order-same.ensures.ready before.0;
             reading = λ reads. c.go_to_order-same.ensures.reading sources (before.1 sources (reading reads));
-            ordered = λ orders. rw c.deref.ensures.value at (c.go_to_order-same.ensures.ordered orders (before.3 orders));
+            ordered = λ orders. c.go_to_order-same.ensures.ordered orders (before.3 orders);
           } in (
             more ++ base ∷ [],
-            rw (map_step {Y = Candidate} (λ order. (combination, (sources, order.items))) combination.orders.items c.loop-order.order-index c.order-item.result (rw c.deref-order-items.ensures.value at c.loop-order-test.true) (rw c.deref-order-items.ensures.value at c.order-item.is))
+            rw (map_step {Y = Candidate} (λ order. (combination, (sources, order))) combination.orders c.loop-index.index c.order-order.result.now [] (rw c.len-index-end.ensures at c.loop-index-test.true) c.order-order.ensures)
                 (worlds_more needs.names.items needs.reads needs.orders more (base ∷ []) _ _ worlds (world, tt)),
-            rw (append_assoc bases more (base ∷ [])) at (c.in_ok-enter.ensures first (bases ++ more) (λ is. rw (c.go_to_order-same.ensures.kept is).1 (last (c.go_to_order-same.ensures.kept is).0)) was),
+            rw (append_assoc bases more (base ∷ [])) at (c.in_ok-enter.ensures first (bases ++ more) (λ is. rw (c.go_to_order-same.ensures.kept is).1 (last (c.go_to_order-same.ensures.kept is).0)) (λ is. (c.loop-index.base, last is, c.go_to_order-same.ensures.reordered)) was),
             (λ _. (bases ++ more, sym (append_assoc bases more (base ∷ [])))),
           )),
-      (λ orders. rw c.deref-in-loop-order.ensures.value (rw c.deref.ensures.value at (c.go_to_order-same.ensures.ordered orders (before.3 orders)))),
+      (λ orders. c.go_to_order-same.ensures.ordered orders (before.3 orders)),
     )
 
 pub returns-clause-worlds : goal.returns-clause-worlds
 returns-clause-worlds g c = λ sources reading first bases ends given.
-    let index = c.loop-order.order-index in
-    let orders = c.args.combination.now.orders.items in
-    let whole : take index orders ≡ orders = take_all index orders (omega (arith, c.loop-order-test.false, c.deref-order-items.ensures.len)) in
-    rw whole at (c.loop-order.invariant.2 sources reading first bases ends given)
+    let index = c.loop-index.index in
+    let orders = c.args.combination.now.orders in
+    let whole : take index orders ≡ orders = take_all index orders (omega (arith, c.loop-index-test.false, c.len-index-end.ensures)) in
+    rw whole at (c.loop-index.invariant.2 sources reading first bases ends given)

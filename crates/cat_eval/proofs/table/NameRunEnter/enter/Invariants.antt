@@ -2,6 +2,7 @@ use Rattle.std.proofs.Common.{ℕ, ◌≡◌, ◌<◌, ◌≤◌, ◌++◌, ◌�
 use Rattle.std.specs.Prelude.{IsTrue}
 use Rattle.base_env.specs.Known.{Known}
 use Rattle.cat_eval.specs.declared.table.Entry.{Entry}
+use Rattle.cat_eval.specs.Reordered.{EndsReordered}
 use Rattle.cat_eval.specs.Steady.{EndsWith}
 use Rattle.cat_eval.specs.Tables.{IsFilled, AreFilled}
 use Rattle.cat_eval.proofs.table.NameRunEnter.enter.Given as goal
@@ -11,4 +12,4 @@ invariant-loop-index l =
     (length l.self.entries.items ≡ length l.initial.self.entries.items)
     × ((j : ℕ) (d : Entry) → (slice_index_or l.self.entries.items j d).name ≡ (slice_index_or l.initial.self.entries.items j d).name)
     × ((j : ℕ) → l.index ≤ j → (d : Entry) → slice_index_or l.self.entries.items j d ≡ slice_index_or l.initial.self.entries.items j d)
-    × ((bases : List Known) → (IsTrue l.again → EndsWith bases l.base) → AreFilled l.initial.self.entries.items bases → (j : ℕ) → j < l.index → (d : Entry) → IsFilled (slice_index_or l.self.entries.items j d) (bases ++ l.base ∷ []))
+    × ((bases : List Known) → (IsTrue l.again → EndsWith bases l.base) → (IsTrue l.reordered → EndsReordered bases l.base) → AreFilled l.initial.self.entries.items bases → (j : ℕ) → j < l.index → (d : Entry) → IsFilled (slice_index_or l.self.entries.items j d) (bases ++ l.base ∷ []))
