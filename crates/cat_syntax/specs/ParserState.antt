@@ -18,7 +18,7 @@ part_with o (parts.Body h) = machine.Body (head_of h) (stack_of o.frames.items) 
 part_with o p = part_of p
 
 abbrev pub state_of : Parser → State
-state_of p = record { items = clauses_of p.items.items; part = part_with p.open p.part }
+state_of p = record { items = clauses_of p.items.items; part = part_with p.expression p.part }
 
 abbrev pub AreSteps : Result (Unit {0}) StepError → Parser → Result State Fault → Type 0
 AreSteps (Ok _) p made = made ≡ Ok (state_of p)

@@ -344,7 +344,7 @@ pub struct Parser {
     items: Vec<Item>,
     part: Part,
     // The expression of the item, where the reader stands in one.
-    open: OpenExpression,
+    expression: OpenExpression,
 }
 
 impl Parser {
@@ -366,7 +366,7 @@ impl Parser {
             form,
             items: Vec::new(alloc),
             part,
-            open: OpenExpression::new(alloc),
+            expression: OpenExpression::new(alloc),
         }
     }
 
@@ -379,7 +379,7 @@ impl Parser {
         if !self.part.is_body() {
             return self.part_step(token);
         }
-        match self.open.step(self.alloc, &token)? {
+        match self.expression.step(self.alloc, &token)? {
             ExpressionStep::Goes => Ok(()),
             ExpressionStep::Ends => self.body_ended(token),
             ExpressionStep::EndsTilde(word) => self.body_ended_by_tilde(word),
@@ -393,22 +393,22 @@ impl Parser {
     {
         let part = mem::replace(&mut self.part, Part::Done);
         self.part = part_after(self.alloc, self.form, &mut self.items, part, token)?;
-        self.open.restart();
+        self.expression.restart();
         Ok(())
     }
 
     // A token after an item's expression.
     fn body_ended(&mut self, token: Token) -> Result<(), StepError>
         ensures steps { (h : Head) → IsBody h self.old.part → AreSteps result self.new
-            (after_body limits self.old.form (clauses_of self.old.items.items) (head_of h) (whole_of self.old.open.expected) token) }
+            (after_body limits self.old.form (clauses_of self.old.items.items) (head_of h) (whole_of self.old.expression.expected) token) }
         ensures form { self.new.form ≡ self.old.form }
     {
         let part = mem::replace(&mut self.part, Part::Done);
         match part {
             Part::Body(head) => {
-                let body = self.open.take_whole();
+                let body = self.expression.take_whole();
                 self.part = body_read(self.alloc, self.form, &mut self.items, head, body, token)?;
-                self.open.restart();
+                self.expression.restart();
                 Ok(())
             }
             _ => Err(StepError::Refused(token.rule())),
@@ -418,15 +418,15 @@ impl Parser {
     // The `~` of the next item and its check word, after an item's expression.
     fn body_ended_by_tilde(&mut self, word: CheckWord) -> Result<(), StepError>
         ensures steps { (h : Head) → IsBody h self.old.part → AreSteps result self.new
-            (item_ended_by_tilde limits self.old.form (clauses_of self.old.items.items) (head_of h) (whole_of self.old.open.expected) word) }
+            (item_ended_by_tilde limits self.old.form (clauses_of self.old.items.items) (head_of h) (whole_of self.old.expression.expected) word) }
         ensures form { self.new.form ≡ self.old.form }
     {
         let part = mem::replace(&mut self.part, Part::Done);
         match part {
             Part::Body(head) => {
-                let body = self.open.take_whole();
+                let body = self.expression.take_whole();
                 self.part = item_ended_by_tilde(self.form, &mut self.items, head, body, word)?;
-                self.open.restart();
+                self.expression.restart();
                 Ok(())
             }
             _ => Err(StepError::Refused(CatRule::Syntax)),
