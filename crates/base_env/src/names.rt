@@ -81,7 +81,7 @@ fn shared_for(name: Predefined) -> Option<Predefined>
 fn sets_of(alloc: Global, names: &[Predefined]) -> Result<Vec<Named>, AllocError>
     ensures { IfOk result (λ sets. set_names sets.items ≡ filter is_set names.now) }
 {
-    let mut sets = Vec::new(alloc);
+    let mut sets = Vec::with_capacity(alloc, names.len())?;
     for name in names {
         if name.is_set() {
             sets.push(Named {
@@ -124,7 +124,7 @@ fn make_room(shared: &mut Vec<Shared>, name: Predefined) -> Result<(), AllocErro
 fn shared_of(alloc: Global, names: &[Predefined]) -> Result<Vec<Shared>, AllocError>
     ensures { IfOk result (λ shared. AreCovered (shared_names shared.items) names.now) }
 {
-    let mut shared = Vec::new(alloc);
+    let mut shared = Vec::with_capacity(alloc, names.len())?;
     for name in names {
         if !name.is_set() {
             match shared_for(*name) {

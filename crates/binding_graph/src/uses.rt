@@ -28,15 +28,18 @@ pub struct Uses {
 }
 
 /// Makes a table so long that it has that index.
-#[tactic(auto, using(crate::proofs::Indexed::more_none))]
+#[tactic(auto, using(crate::proofs::Indexed::widened))]
 fn widen<T: Copy>(table: &mut Vec<T>, index: usize, none: T) -> Result<(), AllocError>
     ensures same { OnOk result ((i : ℕ) → get_or table.new.items i none ≡ get_or table.old.items i none) }
     ensures long { OnOk result (index < vec_len table.new) }
 {
-    while table.len() <= index {
-        table.push(none)?;
+    if index < table.len() {
+        return Ok(());
     }
-    Ok(())
+    let Some(long) = index.checked_add(1) else {
+        return Err(AllocError);
+    };
+    table.resize(long, none)
 }
 
 impl Uses {
@@ -254,7 +257,7 @@ impl Uses {
 pub fn inputs_of_values(alloc: Global, values: &[Used]) -> Result<Vec<Input>, AllocError>
     ensures { IfOk result (λ v. v.items ≡ map (λ u. u.input) values.now) }
 {
-    let mut inputs = Vec::new(alloc);
+    let mut inputs = Vec::with_capacity(alloc, values.len())?;
     for value in values {
         inputs.push(value.input)?;
     }

@@ -1,6 +1,7 @@
 -- Lists that are gone through from the front, and seen from the back.
-use Rattle.std.proofs.Common.{ℕ, ◌≡◌, ◌<◌, ◌≤◌, ◌+◌, ◌-◌, List, [], ◌∷◌, ◌++◌, length, map, reverse, take, get_or, slice_index, bytes_eq, false, inl, inr, refl, ap, subst, arith}
+use Rattle.std.proofs.Common.{ℕ, ◌≡◌, ◌<◌, ◌≤◌, ◌+◌, ◌-◌, List, [], ◌∷◌, ◌++◌, length, map, reverse, take, get_or, bytes_eq, false, inl, inr, refl, ap, sym, ◌∙◌, subst, arith}
 use Rattle.std.proofs.lemmas.Bool.{cases_Bool}
+use Rattle.source_text.specs.Names.{key_of}
 use Rattle.std.proofs.lemmas.List.{take_more, reverse-append, map-append}
 use Rattle.std.proofs.lemmas.Slice.Eq.{bytes_eq-Decides}
 
@@ -16,10 +17,10 @@ rev_less f xs n d more few =
     let next : n - 1 + 1 ≡ n = omega (arith, more) in
     subst (λ m. reverse (map f (take m xs)) ≡ f (get_or xs (n - 1) d) ∷ reverse (map f (take (n - 1) xs))) next (rev_more f xs (n - 1) d (omega (arith, more, few)))
 
--- texts that begin with different bytes are not the same
-pub heads_apart : (xs ys : List ℕ) → (slice_index xs 0 ≡ slice_index ys 0 → ⊥) → bytes_eq xs ys ≡ false
-heads_apart xs ys apart = elim (cases_Bool (bytes_eq xs ys)) [
-  | inl same ↦ absurd (apart (ap (λ zs. slice_index zs 0) ((bytes_eq-Decides xs ys).0 same)))
+-- names with different keys are not the same
+pub keys_apart : (xs ys : List ℕ) (n : ℕ) → (key_of xs ≡ n → ⊥) → n ≡ key_of ys → bytes_eq xs ys ≡ false
+keys_apart xs ys n apart is = elim (cases_Bool (bytes_eq xs ys)) [
+  | inl same ↦ absurd (apart (ap key_of ((bytes_eq-Decides xs ys).0 same) ∙ sym is))
   | inr other ↦ other
 ]
 

@@ -1,6 +1,7 @@
 //! What names stand for.
 
-ghost use Rattle.std.specs.Prelude.{◌≡◌, [], reverse, map, bytes_eq, false, IfOk, IsTrue};
+ghost use Rattle.std.specs.Prelude.{◌≡◌, [], reverse, map, bytes_eq, IfOk};
+ghost use Rattle.source_text.specs.Names.{key_of};
 ghost use Rattle.binding_kinds.specs.Value.{entry_of};
 ghost use Rattle.binding_kinds.specs.Kinds.{found, kind_found};
 ghost use Rattle.binding_kinds.specs.Outermost.{kind_of_predefined, naming_of};
@@ -72,29 +73,15 @@ pub struct Scope {
     pub functions: Vec<Function>,
 }
 
-/// Whether two texts begin with different bytes.
-#[tactic(auto, using(crate::proofs::Scopes::heads_apart))]
-fn begin_apart(left: &[u8], right: &[u8]) -> bool
-    ensures { IsTrue result → bytes_eq left.now right.now ≡ false }
+/// Whether two names are the same, the key of the second of which is given: most are told apart by it.
+#[tactic(auto, using(crate::proofs::Scopes::keys_apart))]
+fn is_keyed(one: &Name, other: &Name, key: u64) -> bool
+    ensures { key ≡ key_of other.now → result ≡ bytes_eq one.now other.now }
 {
-    if left.is_empty() || right.is_empty() {
+    if one.key() != key {
         return false;
     }
-    left[0] != right[0]
-}
-
-/// Whether a name is spelled so: most are told apart by their lengths or by their first bytes.
-fn is_spelled(name: &Name, bytes: &[u8]) -> bool
-    ensures { result ≡ bytes_eq name.now bytes.now }
-{
-    let own = name.as_bytes();
-    if begin_apart(own, bytes) {
-        false
-    } else if own.len() == bytes.len() {
-        own == bytes
-    } else {
-        false
-    }
+    one.as_bytes() == other.as_bytes()
 }
 
 /// The last entry of that name.
@@ -102,11 +89,12 @@ fn is_spelled(name: &Name, bytes: &[u8]) -> bool
 pub fn find(entries: &[Entry], name: &Name) -> Option<Found>
     ensures { result ≡ found (reverse (map entry_of entries.now)) name.now }
 {
+    let key = name.key();
     let mut end = entries.len();
     'names: while 0 < end {
         end -= 1;
         let entry = &entries[end];
-        if is_spelled(&entry.name, name.as_bytes()) {
+        if is_keyed(&entry.name, name, key) {
             return Some(Found {
                 slot: end,
                 kind: entry.kind,

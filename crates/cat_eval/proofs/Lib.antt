@@ -1,7 +1,9 @@
 pub mod Agreeing
 pub mod Among
 pub mod Asked
+pub mod Asking
 pub mod Blocks
+pub mod Bodies
 pub mod Codes
 pub mod Columns
 pub mod Deciding
@@ -10,8 +12,10 @@ pub mod Evaluated
 pub mod Exact
 pub mod Growing
 pub mod Grown
+pub mod Leaves
 pub mod Likeness
 pub mod Filling
+pub mod Linking
 pub mod Listed
 pub mod Looking
 pub mod Monotone
@@ -23,6 +27,8 @@ pub mod Same
 pub mod Seeing
 pub mod Standing
 pub mod Stacks
+pub mod Taking
 pub mod Steps
 pub mod Turns
 pub mod Visits
+pub mod Written

@@ -3,7 +3,9 @@ pub mod Candidates
 pub mod Checks
 pub mod Columns
 pub mod Executions
+pub mod Keeping
 pub mod Kept
+pub mod Linked
 pub mod OverNames
 pub mod Least
 pub mod Meaning
@@ -13,6 +15,7 @@ pub mod Needs
 pub mod Places
 pub mod Reordered
 pub mod Rising
+pub mod Runs
 pub mod Running
 pub mod Seen
 pub mod Steady

@@ -4,8 +4,6 @@ use Rattle.std.specs.Int.{bit_at}
 use Rattle.binding_graph.specs.declared.resolved.Step.{Step}
 use Rattle.binding_graph.specs.declared.resolved.Step.TheVariants as steps
 use Rattle.binding_graph.specs.declared.resolved.Body.{Body}
-use Rattle.binding_graph.specs.declared.resolved.Role.{Role}
-use Rattle.binding_graph.specs.declared.resolved.Role.TheVariants as roles
 use Rattle.binding_graph.specs.declared.resolved.Source.{Source}
 use Rattle.binding_graph.specs.declared.resolved.Source.TheVariants as sources
 
@@ -50,9 +48,3 @@ UsesAt names bodies position = (body : Body) × (position < length bodies) × (s
 -- this body, or one whose name shares the bit of its name, uses one of these names
 abbrev pub UsesNear : ℕ → List Body → ℕ → Type 0
 UsesNear names bodies position = (other : ℕ) × ShareBit other position × UsesAt names bodies other
-
--- likewise in an item, for names of its own group
-abbrev pub UsesIn : ℕ → Role → ℕ → Type 0
-UsesIn names (roles.Group recursive bodies) position = UsesNear names bodies.items position
-UsesIn names (roles.Check check) position = ⊥
-UsesIn names roles.Silent position = ⊥

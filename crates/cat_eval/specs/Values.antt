@@ -1,5 +1,5 @@
 -- The answers of a check, candidate by candidate.
-use Rattle.std.specs.Prelude.{ℕ, ◌≡◌, ◌↔◌, Bool, true, false, IsTrue, List, [], ◌∷◌, ◌++◌, length, Some, slice_get}
+use Rattle.std.specs.Prelude.{ℕ, ◌≡◌, ◌↔◌, Bool, true, false, IsTrue, List, [], ◌∷◌, ◌++◌, length, replicate, Some, slice_get}
 use denote.Ref.{Bor}
 use Rattle.binding_kinds.specs.declared.kinds.Kind.{Kind}
 use Rattle.binding_kinds.specs.declared.kinds.Kind.TheVariants as kinds
@@ -54,6 +54,13 @@ Adds (columns.Sets xs) (columns.Sets ys) s r = ys ≡ xs ++ s ∷ []
 Adds (columns.Sets xs) (columns.Relations ys) s r = ⊥
 Adds (columns.Relations xs) (columns.Sets ys) s r = ⊥
 Adds (columns.Relations xs) (columns.Relations ys) s r = ys ≡ xs ++ r ∷ []
+
+-- it has so many values more, all the same: of the two the one of its kind
+abbrev pub AddsRun : Column → Column → ℕ → Events → Relation → Type 0
+AddsRun (columns.Sets xs) (columns.Sets ys) m s r = ys ≡ xs ++ replicate m s
+AddsRun (columns.Sets xs) (columns.Relations ys) m s r = ⊥
+AddsRun (columns.Relations xs) (columns.Sets ys) m s r = ⊥
+AddsRun (columns.Relations xs) (columns.Relations ys) m s r = ys ≡ xs ++ replicate m r
 
 -- a column for values of this kind
 abbrev pub IsFor : Kind → Column → Type 0

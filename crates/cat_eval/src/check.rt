@@ -5,20 +5,26 @@ ghost use Rattle.candidates.specs.Space.{candidates_in};
 ghost use Rattle.cat_eval.specs.Kept.{is_asked_at, AreWhere, KeptAnswersOf, AreAskedOver, IsLastAnswer};
 ghost use Rattle.cat_eval.specs.OverNames.{IsAnswerOver};
 ghost use Rattle.cat_eval.specs.Values.{AnswersOf, AreAnswers};
+ghost use Rattle.cat_eval.specs.Seen.{seen_in};
 ghost use Rattle.cat_eval.specs.Tables.{IsOver};
 ghost use Rattle.cat_eval.specs.Steady.{IsSteady};
 
+use crate::asked_run::AskedRun;
 use crate::column::Column;
 use crate::evaluator::Evaluator;
+use crate::keeper::Keeper;
 use crate::machine::Machine;
 use crate::names::Names;
 use crate::needs::Needs;
-use crate::seen::Seen;
+use crate::runs::{has_many, visit_runs};
+use crate::seen::{NamedColumn, Seen};
 use crate::steady::{is_as_before, steady_after};
 use crate::visit::{Visit, visit_all};
 use binding_graph::{CheckCode, ResolvedItem, Role};
+use bit_relations::Rel;
 use candidates::Space;
 use std::alloc::{AllocError, Global};
+use std::mem;
 
 /// A check on its way through the candidates.
 #[derive(Drop)]
@@ -35,7 +41,7 @@ struct CheckRun<'a> {
 }
 
 /// Whether the check is asked of a candidate: of those that are kept.
-fn is_asked_at(kept: Option<&[bool]>, candidate: usize) -> bool
+pub(crate) fn is_asked_at(kept: Option<&[bool]>, candidate: usize) -> bool
     ensures { result ≡ is_asked_at kept.entry candidate }
 {
     match kept {
@@ -45,7 +51,7 @@ fn is_asked_at(kept: Option<&[bool]>, candidate: usize) -> bool
 }
 
 /// Whether the check holds, where it is asked.
-fn is_held(asked: bool, known: Option<bool>) -> bool
+pub(crate) fn is_held(asked: bool, known: Option<bool>) -> bool
     ensures { result ≡ (asked && unwrap_or known false) }
 {
     asked && known.unwrap_or(false)
@@ -106,6 +112,36 @@ impl Visit for CheckRun<'_> {
         self.answers.push(is_held(asked, self.known))?;
         Ok(())
     }
+}
+
+/// Whether a check holds, where candidates are kept.
+fn asked_answers<'a>(
+    alloc: Global,
+    check: &'a CheckCode,
+    inputs: &'a [&'a Column],
+    kept: Option<&'a [bool]>,
+    named: &[NamedColumn],
+    space: &Space,
+    slots: &mut Vec<Rel>,
+) -> Result<Vec<bool>, AllocError>
+    ensures { IfOk result (λ v. AreAskedOver check.now inputs.now kept.entry (seen_in named.now 0 (candidates_in space.now.combinations.items)) v.items) }
+{
+    let relations = mem::replace(slots, Vec::new(alloc));
+    let keeper = Keeper::of(alloc, &check.code.steps, relations)?;
+    let mut run = AskedRun {
+        check,
+        inputs,
+        kept,
+        keeper,
+        answers: Vec::new(alloc),
+        known: None,
+        until: 0,
+    };
+    visit_runs(named, space, &mut run)?;
+    let answers = run.answers;
+    let keeper = run.keeper;
+    *slots = keeper.relations;
+    Ok(answers)
 }
 
 /// Whether a check or flag holds, for each candidate of a space. `inputs` are the values of the
@@ -177,6 +213,11 @@ impl Evaluator {
         let needs = Needs::of(alloc, item)?;
         self.table.need(alloc, &mut self.base, space, &needs.names)?;
         let named = self.table.named(alloc, &needs.names)?;
+        if has_many(space) {
+            let slots = &mut self.slots;
+            let answers = asked_answers(alloc, check, inputs, kept, &named, space, slots)?;
+            return Ok(answers);
+        }
         let mut run = CheckRun {
             check,
             inputs,

@@ -1,10 +1,10 @@
 //! The value of a name over a list of candidates.
 
-ghost use Rattle.std.specs.Prelude.{◌≡◌, ◌<◌, ◌≤◌, ◌↔◌, ℕ, slice_get, IsTrue, OnOk};
+ghost use Rattle.std.specs.Prelude.{◌≡◌, ◌+◌, ◌-◌, ◌^◌, ◌<◌, ◌≤◌, ◌↔◌, ℕ, slice_get, IsTrue, OnOk};
 ghost use Rattle.bit_relations.specs.Relation.{IsRelation, IsEvents};
 ghost use Rattle.base_env.specs.Known.{EventsFound};
 ghost use Rattle.binding_kinds.specs.declared.kinds.Kind.TheVariants as kinds;
-ghost use Rattle.cat_eval.specs.Values.{Adds, IsFor, column_len};
+ghost use Rattle.cat_eval.specs.Values.{Adds, AddsRun, IsFor, column_len};
 ghost use Rattle.cat_eval.specs.Named.{ColumnEvents, ColumnPairs, PairsFound};
 ghost use Rattle.cat_eval.specs.Steady.{HasSame, Repeats};
 
@@ -98,6 +98,54 @@ impl Column {
         }
     }
 
+    /// The set of a candidate of so many events, empty where there is none, and up to where the candidates behind it have
+    /// the same.
+    pub(crate) fn read_set(&self, candidate: usize, count: usize) -> (EventSet, usize)
+        requires few { count ≤ 128 }
+        requires more { candidate + 1 < 2 ^ 64 }
+        ensures after { candidate < result.1 }
+        ensures value { (k : ℕ) → candidate ≤ k → k < result.1 → IsEvents result.0 count (ColumnEvents self.now k count) }
+    {
+        match self {
+            Column::Sets(values) => read_events(values, candidate, count),
+            Column::Relations(_) => (EventSet::empty(count), usize::MAX),
+        }
+    }
+
+    /// Makes `target` the relation of a candidate of so many events, empty where there is none, and answers up to where
+    /// the candidates behind it have the same.
+    pub(crate) fn read_relation(&self, candidate: usize, count: usize, target: &mut Rel) -> usize
+        requires few { count ≤ 128 }
+        requires more { candidate + 1 < 2 ^ 64 }
+        ensures after { candidate < result }
+        ensures value { (k : ℕ) → candidate ≤ k → k < result → IsRelation target.new count (ColumnPairs self.now k count) }
+    {
+        match self {
+            Column::Sets(_) => {
+                target.clear(count);
+                usize::MAX
+            }
+            Column::Relations(values) => read_pairs(values, candidate, count, target),
+        }
+    }
+
+    /// Adds the value of the next candidates, up to an end, of which the one of its kind counts.
+    pub(crate) fn push_run(
+        &mut self,
+        set: &EventSet,
+        relation: &Rel,
+        end: usize,
+    ) -> Result<(), AllocError>
+        requires { column_len self.old < end }
+        ensures { OnOk result (AddsRun self.old self.new (end - column_len self.old) set.now relation.now) }
+    {
+        match self {
+            Column::Sets(values) => values.push_run(set, end)?,
+            Column::Relations(values) => values.push_run(relation, end)?,
+        }
+        Ok(())
+    }
+
     /// Adds the value of the next candidate, of which the one of its kind counts.
     pub(crate) fn push(&mut self, set: &EventSet, relation: &Rel) -> Result<(), AllocError>
         ensures { OnOk result (Adds self.old self.new set.now relation.now) }
@@ -158,4 +206,39 @@ fn write_found(values: &RunColumn, candidate: usize, count: usize, target: &mut 
         }
     }
     target.clear(count);
+}
+
+/// The set of a candidate: the empty one where there is none of so many events.
+fn read_events(values: &SetRuns, candidate: usize, count: usize) -> (EventSet, usize)
+    requires few { count ≤ 128 }
+    requires more { candidate + 1 < 2 ^ 64 }
+    ensures after { candidate < result.1 }
+    ensures value { (k : ℕ) → candidate ≤ k → k < result.1 → IsEvents result.0 count (EventsFound (slice_get values.now k) count) }
+{
+    if values.len() <= candidate {
+        return (EventSet::empty(count), usize::MAX);
+    }
+    let (value, end) = values.read(&mut Cursor::new(), candidate);
+    if value.count() != count {
+        return (EventSet::empty(count), end);
+    }
+    (value, end)
+}
+
+/// Writes the relation of a candidate to `target`: the empty one where there is none of so many events.
+fn read_pairs(values: &RunColumn, candidate: usize, count: usize, target: &mut Rel) -> usize
+    requires few { count ≤ 128 }
+    requires more { candidate + 1 < 2 ^ 64 }
+    ensures after { candidate < result }
+    ensures value { (k : ℕ) → candidate ≤ k → k < result → IsRelation target.new count (PairsFound (slice_get values.now k) count) }
+{
+    if values.len() <= candidate {
+        target.clear(count);
+        return usize::MAX;
+    }
+    let end = values.read(&mut Cursor::new(), candidate, target);
+    if target.count() != count {
+        target.clear(count);
+    }
+    end
 }

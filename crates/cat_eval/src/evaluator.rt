@@ -8,6 +8,7 @@ use crate::needs::Needs;
 use crate::table::Table;
 use base_env::Base;
 use binding_graph::ResolvedItem;
+use bit_relations::Rel;
 use candidates::Space;
 use std::alloc::{AllocError, Global};
 
@@ -18,6 +19,8 @@ pub struct Evaluator {
     pub(crate) base: Base,
     pub(crate) table: Table,
     pub(crate) machine: Machine,
+    /// Relations whose memory is used again.
+    pub(crate) slots: Vec<Rel>,
 }
 
 impl Evaluator {
@@ -29,6 +32,7 @@ impl Evaluator {
             base: Base::empty(alloc),
             table: Table::new(alloc),
             machine: Machine::new(alloc),
+            slots: Vec::new(alloc),
         }
     }
 

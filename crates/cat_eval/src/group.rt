@@ -1,6 +1,6 @@
 //! The values of the names of a group.
 
-ghost use Rattle.std.specs.Prelude.{◌≡◌, ℕ, ◌<◌, ◌≤◌, List, [], length, slice_index_or, IfOk, OnOk};
+ghost use Rattle.std.specs.Prelude.{◌≡◌, ℕ, ◌<◌, ◌≤◌, List, [], length, slice_index_or, false, IsTrue, IfOk, OnOk};
 ghost use Rattle.bit_relations.specs.Relation.{Relation, Events, no_slot};
 ghost use Rattle.binding_graph.specs.Trees.{RelTree};
 ghost use Rattle.cat_eval.specs.Candidates.{name_count};
@@ -9,15 +9,21 @@ ghost use Rattle.cat_eval.specs.OverNames.{AreColumnsOver, IsMeaningOver};
 ghost use Rattle.cat_eval.specs.Least.{IsLeast, AreMonotone};
 ghost use Rattle.cat_eval.specs.Named.{EventsIn, PairsOutside};
 ghost use Rattle.cat_eval.specs.Rising.{AreCodes};
+ghost use Rattle.cat_eval.specs.Runs.{IsBodyColumn};
+ghost use Rattle.cat_eval.specs.Seen.{seen_in};
 ghost use Rattle.cat_eval.specs.Tables.{IsOver};
+ghost use Rattle.candidates.specs.Space.{candidates_in};
 ghost use Rattle.cat_eval.specs.Steady.{IsSteady, Repeats};
 ghost use Rattle.cat_eval.specs.Values.{Adds, IsFor, column_len};
 
+use crate::body_run::BodyRun;
 use crate::column::Column;
 use crate::evaluator::Evaluator;
+use crate::keeper::Keeper;
 use crate::machine::Machine;
 use crate::needs::Needs;
-use crate::seen::Seen;
+use crate::runs::{has_many, visit_runs};
+use crate::seen::{NamedColumn, Seen};
 use crate::solver::Solver;
 use crate::steady::{is_as_before, steady_after};
 use crate::visit::{Visit, visit_all};
@@ -25,6 +31,7 @@ use binding_graph::{Body, Kind, ResolvedItem, Role};
 use bit_relations::{EventSet, Rel};
 use candidates::Space;
 use std::alloc::{AllocError, Global};
+use std::mem;
 
 /// A group on its way through the candidates.
 #[derive(Drop)]
@@ -186,7 +193,7 @@ impl Visit for GroupRun<'_> {
 fn columns_of(alloc: Global, bodies: &[Body]) -> Result<Vec<Column>, AllocError>
     ensures { IfOk result (λ v. (length v.items ≡ length bodies.now) × ((j : ℕ) → j < length bodies.now → (b : Body) (c : Column) → IsFor (slice_index_or bodies.now j b).code.kind (slice_index_or v.items j c) × (column_len (slice_index_or v.items j c) ≡ 0))) }
 {
-    let mut columns = Vec::new(alloc);
+    let mut columns = Vec::with_capacity(alloc, bodies.len())?;
     for body in bodies {
         columns.push(column_for(alloc, body.code.kind))?;
     }
@@ -214,6 +221,58 @@ fn solver_of(alloc: Global, recursive: bool, bodies: &[Body]) -> Result<Solver, 
     } else {
         Ok(Solver::new(alloc))
     }
+}
+
+/// Whether the steps of a group's bodies keep their values: in a space of many candidates, where the group is not recursive.
+fn keeps_steps(recursive: bool, space: &Space) -> bool
+    ensures { IsTrue result → recursive ≡ false }
+{
+    !recursive && has_many(space)
+}
+
+/// The values of a body, which uses no name of its own group.
+fn body_column<'a>(
+    alloc: Global,
+    body: &'a Body,
+    inputs: &'a [&'a Column],
+    named: &[NamedColumn],
+    space: &Space,
+    slots: &mut Vec<Rel>,
+) -> Result<Column, AllocError>
+    ensures { IfOk result (λ c. IsBodyColumn body.now inputs.now (seen_in named.now 0 (candidates_in space.now.combinations.items)) c) }
+{
+    let relations = mem::replace(slots, Vec::new(alloc));
+    let keeper = Keeper::of(alloc, &body.code.steps, relations)?;
+    let mut run = BodyRun {
+        body,
+        inputs,
+        keeper,
+        column: column_for(alloc, body.code.kind),
+        until: 0,
+    };
+    visit_runs(named, space, &mut run)?;
+    let column = run.column;
+    let keeper = run.keeper;
+    *slots = keeper.relations;
+    Ok(column)
+}
+
+/// The values of bodies, which use no name of their own group.
+fn plain_columns(
+    alloc: Global,
+    bodies: &[Body],
+    inputs: &[&Column],
+    named: &[NamedColumn],
+    space: &Space,
+    slots: &mut Vec<Rel>,
+) -> Result<Vec<Column>, AllocError>
+    ensures { IfOk result (λ v. AreColumnsOver false bodies.now inputs.now (seen_in named.now 0 (candidates_in space.now.combinations.items)) v.items) }
+{
+    let mut columns = Vec::with_capacity(alloc, bodies.len())?;
+    for body in bodies {
+        columns.push(body_column(alloc, body, inputs, named, space, slots)?)?;
+    }
+    Ok(columns)
 }
 
 /// The value of each name of a group, for each candidate of a space. `inputs` are the values of
@@ -251,6 +310,17 @@ impl Evaluator {
                 let needs = Needs::of(alloc, item)?;
                 self.table.need(alloc, &mut self.base, space, &needs.names)?;
                 let named = self.table.named(alloc, &needs.names)?;
+                if keeps_steps(*recursive, space) {
+                    let columns = plain_columns(
+                        alloc,
+                        bodies,
+                        inputs,
+                        &named,
+                        space,
+                        &mut self.slots,
+                    )?;
+                    return Ok(columns);
+                }
                 let mut run = GroupRun {
                     bodies,
                     inputs,

@@ -4,17 +4,23 @@
 //! Herding Cats, TOPLAS 36(2), 2014, and of the herd7 manual, chapter on cat.
 #![tactic(auto)]
 
+mod asked_run;
+mod body_run;
 mod check;
 mod column;
 mod evaluator;
 mod group;
+mod keeper;
+mod link;
 mod machine;
 mod names;
 mod needs;
-pub mod rounds;
+mod rounds;
+mod runs;
 mod seen;
 mod shape;
 mod solver;
+mod spread;
 mod stack;
 mod steady;
 mod table;

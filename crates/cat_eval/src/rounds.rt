@@ -1,9 +1,9 @@
 //! Which names of a recursive group have to be computed anew.
 
-ghost use Rattle.std.specs.Prelude.{◌≡◌, ℕ, ◌<◌, min, ◌↔◌, ◌⊎◌, slice_get, IfSome, IsTrue};
-ghost use Rattle.cat_eval.specs.Uses.{ShareBit, IsAmong, UsesOne, UsesAny, UsesNear, UsesIn};
+ghost use Rattle.std.specs.Prelude.{◌≡◌, ℕ, ◌<◌, min, ◌↔◌, ◌⊎◌, IsTrue};
+ghost use Rattle.cat_eval.specs.Uses.{ShareBit, IsAmong, UsesOne, UsesAny, UsesNear};
 
-use binding_graph::{Body, Resolved, ResolvedItem, Role, Source, Step};
+use binding_graph::{Body, Source, Step};
 
 /// The bit of the name at a position: the 64th name of a group and those behind it share the last.
 fn bit_of(position: usize) -> usize
@@ -68,26 +68,4 @@ pub(crate) fn next_among(bodies: &[Body], grew: u64) -> u64
         }
     }
     names
-}
-
-/// The names of an item, a `let rec`, whose bodies use a name that grew: the bit of a name is
-/// that of its position in the group, from 0, and those from 63 on share one. Takes no memory.
-pub fn next_of(item: &ResolvedItem, grew: u64) -> u64
-    ensures { (k : ℕ) → IsAmong result k ↔ UsesIn grew item.now.role k }
-{
-    match &item.role {
-        Role::Group { bodies, .. } => next_among(bodies, grew),
-        Role::Check(_) => 0,
-        Role::Silent => 0,
-    }
-}
-
-/// The same for an item of a model, by its index. Takes no memory.
-pub fn next(resolved: &Resolved, item: usize, grew: u64) -> u64
-    ensures { IfSome (slice_get resolved.now.items.items item) (λ found. (k : ℕ) → IsAmong result k ↔ UsesIn grew found.role k) }
-{
-    match resolved.items.get(item) {
-        Some(found) => next_of(found, grew),
-        None => 0,
-    }
 }

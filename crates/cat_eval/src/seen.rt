@@ -40,7 +40,7 @@ impl<'a> Model for Seen<'a> {
 }
 
 /// The column of a name, if it is one of these.
-fn column_of<'c>(named: &[NamedColumn<'c>], name: Predefined) -> Option<&'c Column>
+pub(crate) fn column_of<'c>(named: &[NamedColumn<'c>], name: Predefined) -> Option<&'c Column>
     ensures events { (k n a : ℕ) → InputEvents result k n a ↔ EventsAmong (map (value_at k) named.now) name n a }
     ensures pairs { (k n a b : ℕ) → InputPairs result k n a b ↔ PairsAmong (map (value_at k) named.now) name n a b }
 {

@@ -1,5 +1,6 @@
--- Where the bytes of a name are. No public clause cites this file.
-use Rattle.std.specs.Prelude.{ℕ, ◌≤◌, List, take}
+-- Where the bytes of a name are, which no public clause speaks of, and the key of a name, which `Name::key` answers.
+use Rattle.std.specs.Prelude.{ℕ, ◌≤◌, ◌≡◌, List, [], ◌∷◌, take, length, min, slice_index}
+use Rattle.std.specs.Int.{from_le_bytes, w64}
 use Rattle.source_text.specs.declared.name.Bytes.{Bytes}
 use Rattle.source_text.specs.declared.name.Bytes.TheVariants.{Short, Long}
 
@@ -7,7 +8,15 @@ abbrev pub bytes_of : Bytes → List ℕ
 bytes_of (Short n bytes) = take n bytes
 bytes_of (Long v) = v.value.items
 
--- no more bytes are in place than fit
+-- no more bytes are in place than fit, and zeros behind them
 abbrev pub IsSound : Bytes → Type 0
-IsSound (Short n bytes) = n ≤ 14
+IsSound (Short n bytes) = (n ≤ 14) × ((i : ℕ) → n ≤ i → slice_index bytes i ≡ 0)
 IsSound (Long v) = Unit {0}
+
+-- the length, as far as a byte tells it, and the first seven bytes, zeros behind the last one
+unfoldable pub key_bytes : List ℕ → List ℕ
+key_bytes name = min (length name) 255 ∷ slice_index name 0 ∷ slice_index name 1 ∷ slice_index name 2 ∷ slice_index name 3 ∷ slice_index name 4 ∷ slice_index name 5 ∷ slice_index name 6 ∷ []
+
+-- the same as one number
+unfoldable pub key_of : List ℕ → ℕ
+key_of name = from_le_bytes w64 (key_bytes name)

@@ -1,5 +1,9 @@
 //! Names, as a text spells them.
 
+ghost use Rattle.std.specs.Prelude.{◌≡◌};
+ghost use Rattle.source_text.specs.Names.{key_of};
+
+use crate::letters::byte_at;
 use std::alloc::{AllocError, Global};
 use std::marker::Model;
 
@@ -35,8 +39,25 @@ impl Model for Name {
     ghost invariant = { λ n. IsSound n.bytes };
 }
 
+// The key of a name with these bytes.
+fn key_of(bytes: &[u8]) -> u64
+    ensures { result ≡ key_of bytes.now }
+{
+    u64::from_le_bytes([
+        bytes.len().min(255) as u8,
+        byte_at(bytes, 0),
+        byte_at(bytes, 1),
+        byte_at(bytes, 2),
+        byte_at(bytes, 3),
+        byte_at(bytes, 4),
+        byte_at(bytes, 5),
+        byte_at(bytes, 6),
+    ])
+}
+
 impl Name {
     ghost use Rattle.std.specs.Prelude.{◌≡◌, ◌↔◌, IfOk, IsTrue};
+    ghost use Rattle.source_text.specs.Names.{key_of};
 
     /// The name with these bytes. Errors: out of memory.
     pub fn new(alloc: Global, text: &[u8]) -> Result<Name, AllocError>
@@ -62,6 +83,18 @@ impl Name {
         match &self.bytes {
             Bytes::Short(length, short) => &short[..usize::from(*length)],
             Bytes::Long(long) => long.as_slice(),
+        }
+    }
+
+    /// The length and the first bytes of the name as one number: names with different keys are different.
+    pub fn key(&self) -> u64
+        ensures { result ≡ key_of self.now }
+    {
+        match &self.bytes {
+            Bytes::Short(length, short) => u64::from_le_bytes([
+                *length, short[0], short[1], short[2], short[3], short[4], short[5], short[6],
+            ]),
+            Bytes::Long(long) => key_of(long.as_slice()),
         }
     }
 

@@ -1,4 +1,4 @@
-use Rattle.std.proofs.Common.{List, [], refl, subst, arith}
+use Rattle.std.proofs.Common.{◌≡◌, false, List, [], refl, subst, arith}
 use Rattle.binding_graph.specs.declared.resolved.Body.{Body}
 use Rattle.candidates.specs.Space.{candidates_in}
 use Rattle.cat_eval.specs.Columns.{HasOwn}
@@ -35,3 +35,27 @@ returns-in_ok-visit_all-in-Group-clause-long c =
 
 pub returns-in_ok-visit_all-in-Group-clause-over : goal.returns-in_ok-visit_all-in-Group-clause-over
 returns-in_ok-visit_all-in-Group-clause-over c = c.need.ensures.right c.requires
+
+pub returns-then-keeps_steps-clause-values : goal.returns-then-keeps_steps-clause-values
+returns-then-keeps_steps-clause-values c =
+    let recursive = c.in-Group.recursive in
+    let bodies = c.in-Group.bodies.items in
+    let inputs = c.args.inputs.now in
+    let candidates = candidates_in c.args.space.now.combinations.items in
+    let needs = c.in_ok-needs-in-Group.needs in
+    let named = c.in_ok-named-in-Group.named.items in
+    let plain : recursive ≡ false = c.keeps_steps.ensures c.if-keeps_steps.true in
+    let needed : AreListed needs.names.items (bodies_names bodies) = rw c.in-Group.is at c.in_ok-needs-in-Group.ensures.names in
+    let listed : AreListed (column_names named) (bodies_names bodies) = λ name inside. c.in_ok-named-in-Group.ensures.all name (rw c.deref-in-Group.ensures.value (needed name inside)) (c.in_ok-need-in-Group.ensures.there name (rw c.deref.ensures.value (needed name inside))) in
+    let right = c.in_ok-named-in-Group.ensures.columns candidates (c.need.ensures.right c.requires) in
+    let made = c.in_ok-columns-in-Group.columns.items in
+    let over : AreColumnsOver false c.deref-then-keeps_steps.result.now inputs (seen_in named 0 candidates) made = rw c.deref-then-keeps_steps-2.ensures.value at c.in_ok-columns-in-Group.ensures in
+    let columns = subst (λ (bs : List Body). AreColumnsOver false bs inputs (seen_in named 0 candidates) made) c.deref-then-keeps_steps.ensures.value over in
+    rw (c.in-Group.is, plain) (columns_exact false bodies inputs named candidates _ right listed columns)
+
+pub returns-then-keeps_steps-clause-long : goal.returns-then-keeps_steps-clause-long
+returns-then-keeps_steps-clause-long c =
+    columns_named c.args.item.now.role c.args.inputs.now c.args.space.now _ (returns-then-keeps_steps-clause-values c)
+
+pub returns-then-keeps_steps-clause-over : goal.returns-then-keeps_steps-clause-over
+returns-then-keeps_steps-clause-over c = c.need.ensures.right c.requires

@@ -1,0 +1,39 @@
+use Rattle.std.proofs.Common.{ℕ, ◌≡◌, ◌+◌, ◌*◌, ◌++◌, ◌∙◌, List, length, take, sym, ap, arith, rules}
+use Rattle.std.specs.Prelude.{map}
+use Rattle.std.proofs.lemmas.List.{take_all}
+use Rattle.run_combinations.specs.Combinations.{candidates_of}
+use Rattle.run_combinations.proofs.Pairs.{length-candidates}
+use Rattle.candidates.specs.Space.{candidates_in, Candidate}
+use Rattle.cat_eval.specs.Seen.{Known, seen_in, seen_run}
+use Rattle.cat_eval.proofs.Entering.{flat_step}
+use Rattle.cat_eval.proofs.Seeing.{first_append, in_run, in_long}
+use Rattle.cat_eval.proofs.runs.visit_runs.Goals as goal
+
+pub loop-combination-init : goal.loop-combination-init
+loop-combination-init g c = λ given. given
+
+pub loop-combination-preserved : goal.loop-combination-preserved
+loop-combination-preserved g c = λ given.
+    let named = c.args.named.now in
+    let combinations = c.args.space.now.combinations.items in
+    let index = c.loop-combination.combination-index in
+    let one = c.combination-item.result in
+    let so_far = candidates_in (take index combinations) in
+    let before = c.loop-combination.invariant given in
+    let next = c.in_ok-visit_run.ensures c.args.visitor.now (seen_in named 0 so_far) before in
+    let many : length (candidates_of one) ≡ length one.sources.items * length one.orders = length-candidates one in
+    let grown : candidates_in (take (index + 1) combinations) ≡ so_far ++ map (λ t. (one, t)) (candidates_of one) =
+    flat_step {Y = Candidate} (λ x. map (λ t. (x, t)) (candidates_of x)) combinations index one (rw c.deref-combination-items.ensures.value at c.loop-combination-test.true) (rw c.deref-combination-items.ensures.value at c.combination-item.is) in
+    let seen_so : seen_in named 0 (candidates_in (take (index + 1) combinations)) ≡ seen_in named 0 so_far ++ seen_run named (length (seen_in named 0 so_far)) (length one.events.items) (length one.sources.items * length one.orders) =
+    ap (seen_in named 0) grown ∙ first_append named so_far (map (λ t. (one, t)) (candidates_of one))
+    ∙ ap (λ (ks : List Known). seen_in named 0 so_far ++ ks) (in_run named (length so_far) one (candidates_of one) ∙ ap (λ (m : ℕ). seen_run named (length so_far) (length one.events.items) m) many ∙ ap (λ (k : ℕ). seen_run named k (length one.events.items) (length one.sources.items * length one.orders)) (sym (in_long named 0 so_far))) in
+    let events : c.len-count.result ≡ length one.events.items = omega (arith, c.len-count.ensures, one.events.ok.0) in
+    let product : c.in-Some.many ≡ length one.sources.items * length one.orders = search rules in
+    rw (seen_so, ← events, ← product) next
+
+pub returns : goal.returns
+returns g c = λ given.
+    let index = c.loop-combination.combination-index in
+    let combinations = c.args.space.now.combinations.items in
+    let whole : take index combinations ≡ combinations = take_all index combinations (omega (arith, c.loop-combination-test.false, c.deref-combination-items.ensures.len)) in
+    rw whole at (c.loop-combination.invariant given)
