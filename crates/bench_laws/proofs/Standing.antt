@@ -57,10 +57,6 @@ name_of_item [] k h = absurd h
 name_of_item (n ∷ ns) k (inl e) = (n, inl refl, e)
 name_of_item (n ∷ ns) k (inr h) = let r = name_of_item ns k h in (r.0, inr r.1, r.2)
 
-pub space_among : (histories : ℕ → List (List ℕ)) (numbers : List ℕ) (items : List ResolvedItem) (own : ℕ) (r : ResolvedItem) → Has (item_keys histories numbers items own r) space_key
-space_among histories numbers items own r =
-    has_behind (slots.Item own ∷ map (function_key numbers) r.functions.items) (space_key ∷ map (name_key histories numbers items) r.inputs.items) space_key (inl refl)
-
 pub name_among : (histories : ℕ → List (List ℕ)) (numbers : List ℕ) (items : List ResolvedItem) (own : ℕ) (r : ResolvedItem) (name : Input) → Has r.inputs.items name → Has (item_keys histories numbers items own r) (name_key histories numbers items name)
 name_among histories numbers items own r name h =
     has_behind (slots.Item own ∷ map (function_key numbers) r.functions.items) (space_key ∷ map (name_key histories numbers items) r.inputs.items) (name_key histories numbers items name) (inr (has_map (name_key histories numbers items) r.inputs.items name h))

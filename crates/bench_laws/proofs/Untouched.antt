@@ -75,9 +75,6 @@ module _ (s t : State) (test : ℕ) where
 
   -- ---- the space of a test
 
-  space_under : (l : List Key) → Each (IsSamePart (net_in s) (net_in t)) l → input_nodes l ≡ [] → (d : ℕ) → Each (Untouched d) (input_nodes l)
-  space_under l h none d = rw none tt
-
   module _ (left : IsTestLeft s t test) where
     threads_left : (id part : ℕ) (stamps : List ℕ) → id ≡ test → 1 < part → Each (IsSamePart (net_in s) (net_in t)) (thread_parts id part stamps ++ Part 4 id ∷ [])
     threads_left id part [] e big = (subst (λ (k : ℕ). KeepsStamp s t 4 k) (sym e) (left.stamps 4 (omega arith)), tt)

@@ -13,10 +13,6 @@ use Rattle.bench_nodes.specs.Slots.{is_slot, has_slot, is_output_of, uses}
 use Rattle.bench_nodes.specs.Places.{are_apart, name_of, user_names, user_lists, put_at, with_user}
 use Rattle.bench_nodes.proofs.Lookups.{some_is, slot_is, not_true, has_placed, turned}
 
-or_is : (a b : Bool) → (if a then true else b) ≡ a || b
-or_is true b = refl
-or_is false b = refl
-
 -- ---- inputs
 
 pub uses_more : (kind : Kind) (of : ℕ) (ks : List SlotKey) (k : SlotKey) → uses kind of (ks ++ k ∷ []) ≡ uses kind of ks || is_output_of kind of k

@@ -89,10 +89,6 @@ held_at f P xs i x b e h = subst (λ y. P (f y)) (sym e) (get_or-map-held f P xs
 abbrev pub IsSearched : {A B : Type 0} (p : B → Bool) (f : A → B) → List A → ℕ → Type 0
 IsSearched p f xs i = position_or_len p (map f xs) ≡ i + position_or_len p (map f (drop i xs))
 
--- what holds at the index of an element holds of it
-pub held_plain : {A : Type 0} (P : A → Type 0) → (xs : List A) (i : ℕ) (x : A) → x ≡ get_or xs i x → HoldsAt P xs i → P x
-held_plain P xs i x e h = subst P (sym e) (h x)
-
 -- an element in the place of another is that other one changed
 pub put_at-changed : {A B : Type 0} (f : A → B) (g : B → B) → (xs : List A) (i : ℕ) (x : A) (y : B) → i < length xs → x ≡ get_or xs i x → y ≡ g (f x) → put_at i y (map f xs) ≡ changed_at i g (map f xs)
 put_at-changed f g [] i x y b e h = grind arith

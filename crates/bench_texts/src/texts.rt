@@ -5,7 +5,7 @@ use crate::model::NamedModel;
 use litmus_values::Test;
 use std::alloc::Global;
 
-/// The tests and the models of the bench, in their order. Each name stands once.
+/// The tests and the models of the bench, in their order. After any edits each name stands once.
 pub struct Texts {
     pub(crate) tests: Vec<Test>,
     pub(crate) models: Vec<NamedModel>,

@@ -26,9 +26,6 @@ use Rattle.bench_texts.specs.Replacements.{printed_by}
 nowhere : {A : Type 0} (x : A) → Contains [] x → ⊥
 nowhere x c = omega (arith, c.1)
 
-pub none_listed : (h : Held) (whole : Bool) (r : Replacement) → ListsAmong h whole r [] []
-none_listed h whole r = record { inside = λ c i. absurd (nowhere c i); kept = λ c i. absurd (nowhere c i); listed = λ c i. absurd (nowhere c i) }
-
 module _ (h : Held) (whole : Bool) (r : Replacement) (line cells : List CellIndex) (l : ListsAmong h whole r line cells) (c : CellIndex) where
   pub one_listed : IsReached h whole r c.test c.model → ListsAmong h whole r (line ++ c ∷ []) (cells ++ c ∷ [])
   one_listed is = record {

@@ -85,10 +85,6 @@ pub popped_takes : (l : ℕ) (items rest : List code_frame.Frame) (f g : code_fr
 popped_takes l items rest f g h e is =
     sym (ap (λ (x : code_frame.Frame). takes_operand l (frame_of x ∷ [])) is) ∙ sym (taken_alone l f (stack_of rest)) ∙ sym (ap (λ (fs : List code_frame.Frame). takes_operand l (stack_of fs)) e ∙ ap (takes_operand l) (stack_of-push rest f)) ∙ h
 
-pub none_takes : (l : ℕ) (items : List code_frame.Frame) → takes_operand l (stack_of items) ≡ true → length items ≡ 0 → ⊥
-none_takes l [] h e = cc
-none_takes l (f ∷ fs) h e = absurd (omega arith)
-
 -- an operand that no frame takes stays
 pub fold_stays : (l : ℕ) (fs : List machine.Frame) (v : Term) → takes_operand l fs ≡ false → machine.fold_to l fs v ≡ (fs, v)
 fold_stays l [] v h = refl

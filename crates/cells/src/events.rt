@@ -29,5 +29,6 @@ pub enum Reply<F> {
     Returned(Result<Finish, RunFault>),
     /// Whether the claim was out.
     Lost(bool),
+    /// All that was computed is forgotten.
     Renewed,
 }

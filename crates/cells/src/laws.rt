@@ -18,10 +18,11 @@ pub fn untouched<T: CellTexts>()
     ensures { UnreachedCellStays (meaning T.net T.is_valid T.since T.makes T.keeps T.edited) (cells T.verdict_of T.outcome_in T.from_scratch T.reaches) }
 {}
 
-/// Only what some cell needs is given out, and nothing twice at once. An accepted return of a node with settled inputs
-/// lowers the number of unsettled used nodes. Claims, returns, losses and refused calls unsettle no node, and of the claims
-/// that such a list gives no more returns are accepted than it settles used nodes: after an edit, no more than it opened.
-/// Where no claim is given and none is out, every cell is settled.
+/// Only what some cell needs is given out, and no two claims that are out are of one node with the same inputs and stamps. An
+/// accepted return of a node with settled inputs lowers the number of unsettled used nodes. Claims, returns, losses and
+/// refused calls unsettle no node, and of the claims that such a list gives no more returns are accepted than it settles used
+/// nodes: after an edit, no more than were open before it or stand on what it touches. Where no claim is given and none is
+/// out, every cell is settled.
 pub fn exact_work<T: CellTexts>()
     ensures needed { OnlyNeededIsGiven (meaning T.net T.is_valid T.since T.makes T.keeps T.edited) (cells T.verdict_of T.outcome_in T.from_scratch T.reaches) }
     ensures apart { NoneIsOutTwice (meaning T.net T.is_valid T.since T.makes T.keeps T.edited) }

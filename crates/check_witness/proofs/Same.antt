@@ -1,6 +1,5 @@
 -- Relations of the same pairs are broken by the same witnesses.
 use Rattle.std.proofs.Common.{ℕ, ◌≡◌, ◌↔◌, List, [], ◌∷◌, Bool, true, false, Option, Some, None, subst, sym}
-use Rattle.std.specs.Option.{MatchOption}
 use Rattle.bit_relations.specs.Pairs.{Path}
 use Rattle.relation_cycles.specs.Cycles.{IsCycle}
 use Rattle.cat_values.specs.declared.model.CheckWord.{CheckWord}
@@ -83,11 +82,6 @@ explanation_same false A B P Q same to None h = same.0 h
 explanation_same false A B P Q same to (Some w) h = to w h
 explanation_same true A B P Q same to None h = λ b. h (same.1 b)
 explanation_same true A B P Q same to (Some w) h = (same.0 h.0, h.1)
-
--- what is found of a check that is not negated
-pub explains_plainly : (negated : Bool) (A : Type 0) (P : Witness → Type 0) (found : Option Witness) → negated ≡ false → MatchOption found A P → IsExplanation negated A P found
-explains_plainly negated A P None e h = subst (λ (b : Bool). IsExplanation b A P None) (sym e) h
-explains_plainly negated A P (Some w) e h = subst (λ (b : Bool). IsExplanation b A P (Some w)) (sym e) h
 
 -- and of one that is
 pub explains_met : (negated : Bool) (A : Type 0) (P : Witness → Type 0) → negated ≡ true → A → IsExplanation negated A P (Some shown.Met)

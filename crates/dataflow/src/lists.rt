@@ -23,6 +23,7 @@ pub struct Dependencies {
 /// The dependencies of a run; the number of an event is its index in the run's list of events.
 #[derive(Debug, Drop)]
 pub struct Links {
+    /// The address, data and control dependencies.
     pub dependencies: Dependencies,
     /// As data, by chains through no exclusive or or difference of a register with itself.
     pub need_pairs: Vec<(usize, usize)>,

@@ -1,29 +1,17 @@
 -- Settled cells that are appended.
-use Rattle.std.proofs.Common.{◌≡◌, ℕ, ◌<◌, List, [], ◌∷◌, ◌++◌, length, Some, IsTrue, MatchResult, ap, sym, ◌∙◌, subst, slice_get, append_assoc}
+use Rattle.std.proofs.Common.{◌≡◌, ℕ, List, [], ◌∷◌, ◌++◌, length, Some, IsTrue, MatchResult, ap, sym, ◌∙◌, subst, slice_get, append_assoc}
 use Rattle.std.specs.Prelude.{Result, Ok, Err, is_ok, fold}
 use Rattle.std.proofs.lemmas.List.{append-nil}
-use Rattle.memo_core.specs.declared.keys.Node.{Node}
 use Rattle.memo_core.specs.Graph.{Net}
 use Rattle.memo_core.specs.Run.{Bench}
 use Rattle.cells.specs.Cells.{Cells, IsSettledCell}
 use Rattle.desk_rule.specs.Histories.{Pressed}
 use Rattle.desk_rule.proofs.Showing.{fold_push}
-use Rattle.desk.specs.Boards.{BoardCell, with_outcome, ArePosted}
+use Rattle.desk.specs.Boards.{BoardCell, with_outcome}
 use Rattle.desk.specs.Posts.{IsPosted, Posts}
-use Rattle.desk.proofs.Outcomes.{length_with, settled_here, settled_kept, each_append, below_get}
+use Rattle.desk.proofs.Outcomes.{length_with, settled_here, settled_kept, each_append}
 
 module _ {T O : Type 0} (is_settle : O → Type 0) (are_after : T → List O → Type 0) (last_number : List O → ℕ) (count : List O → ℕ) (t : T) where
-  pub posts_none : (a b : Pressed O) → b ≡ a → are_after t a.all → Posts is_settle are_after last_number count t a b
-  posts_none a b same after = record {
-    more = [];
-    are_settles = tt;
-    all = ap (λ (p : Pressed O). p.all) same ∙ sym (append-nil a.all);
-    published = ap (λ (p : Pressed O). p.published) same;
-    after = subst (λ (p : Pressed O). are_after t p.all) (sym same) after;
-    number = ap (λ (p : Pressed O). last_number p.all) same;
-    cells = ap (λ (p : Pressed O). count p.all) same;
-  }
-
   pub posts_then : (a b c : Pressed O) → Posts is_settle are_after last_number count t a b → Posts is_settle are_after last_number count t b c → Posts is_settle are_after last_number count t a c
   posts_then a b c p q = record {
     more = p.more ++ q.more;
@@ -81,13 +69,3 @@ module _ {T E V G O B P : Type 0} (net : T → Net G) (of : Cells T E V O) (benc
       settled_kept (λ test model. (q : O) × IsSettledCell net of bench test model q) (shown old) i k o (λ d f u. posted d u.0 f u.1) c
       (subst (λ (l : List (BoardCell O)). slice_get l k ≡ Some c) (ap shown is ∙ shown_one old op i o made) e) (p, s)
   posted_kept (Err x) old new op i o is made k posted c p e s = subst (λ (l : List P). IsPosted net of bench (shown l) k) (sym is) posted c p e s
-
-  -- where each cell of the board is posted, and each of the texts is one of the board, every settled cell is
-  pub all_posted : (ops : List P) (count : ℕ) → count ≡ length (shown ops) → ((k : ℕ) → k < count → IsPosted net of bench (shown ops) k)
-      → ((test model : List ℕ) (n : Node) → of.verdict_of bench.texts test model ≡ Some n → (index : ℕ) × (c : BoardCell O) × (slice_get (shown ops) index ≡ Some c) × (c.test ≡ test) × (c.model ≡ model))
-      → ArePosted net of bench (shown ops)
-  all_posted ops count is posted known test model o s =
-      let k = known test model s.verdict s.is in
-      let lt : k.0 < count = rw is (below_get (shown ops) k.0 k.1 k.2) in
-      let here : IsSettledCell net of bench k.1.test k.1.model o = rw (k.3, k.4) s in
-      record { index = k.0; cell = k.1; there = k.2; test_is = k.3; model_is = k.4; settled = posted k.0 lt k.1 o k.2 here }

@@ -1,4 +1,6 @@
--- Why an edit is refused.
+-- Why an edit is refused, and that an open desk does not say that it is closed.
+use Rattle.std.proofs.Common.{◌≡◌, ◌↔◌, Bool, true, false}
+use Rattle.std.specs.Prelude.{Result, Ok, Err}
 use Rattle.desk.specs.declared.fault.DeskFault.{DeskFault}
 use Rattle.desk.specs.declared.fault.DeskFault.TheVariants as faults
 use Rattle.desk.specs.Held.{IsRefusedBy}
@@ -10,3 +12,19 @@ refused_more refuses is_ahead (faults.Claim fault) h = h
 refused_more refuses is_ahead faults.OutOfMemory h = h
 refused_more refuses is_ahead faults.Closed h = h
 refused_more refuses is_ahead faults.NoSeat h = absurd h
+
+pub never : true ≡ false → ⊥
+never e = cc
+
+-- where it is open, what is not that answer is right
+pub other_closed : {A F : Type 0} (r : Result A (DeskFault F)) (b : Bool) → (r ≡ Err faults.Closed → ⊥) → b ≡ false → (r ≡ Err faults.Closed) ↔ (b ≡ true)
+other_closed r b other off = (λ e. absurd (other e), λ on. absurd (both b on off))
+  where
+    both : (b : Bool) → b ≡ true → b ≡ false → ⊥
+    both b on off = cc
+
+pub not_ok : {A F : Type 0} (a : A) → (let r : Result A (DeskFault F) = Ok a in r ≡ Err faults.Closed) → ⊥
+not_ok a e = cc
+
+pub not_seat : {A F : Type 0} → (let r : Result A (DeskFault F) = Err faults.NoSeat in r ≡ Err faults.Closed) → ⊥
+not_seat e = cc

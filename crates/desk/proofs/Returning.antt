@@ -1,6 +1,6 @@
 -- A return settles only cells whose verdicts stand on its node, and the other calls settle none.
 use Rattle.std.proofs.Common.{◌≡◌, ◌⊎◌, inl, inr, ℕ, zero, suc, ◌+◌, ◌<◌, ◌≤◌, Bool, true, false, List, [], ◌∷◌, ◌++◌, Option, Some, None, refl, ap, sym, ◌∙◌, subst, slice_get, arith}
-use Rattle.std.specs.Prelude.{option_map, IfSome, IfNone, IsTrue, not, Result, Ok, Err, MatchResult, fold}
+use Rattle.std.specs.Prelude.{option_map, IfSome, IfNone, length, IsTrue, not, Result, Ok, Err, MatchResult, fold}
 use Rattle.std.specs.List.{AllByRecursion as Each}
 use Rattle.memo_core.specs.declared.keys.Node.{Node}
 use Rattle.memo_core.specs.declared.keys.Key.{Key}
@@ -16,11 +16,12 @@ use Rattle.memo_core.specs.Run.{Bench, Meaning, Claim, NoClaim, Returned, Step, 
 use Rattle.memo_core.proofs.Theory.{either, put_other}
 use Rattle.desk_rule.proofs.Showing.{fold_push}
 use Rattle.cells.specs.Cells.{Cells, Carries, IsSettledCell, StandsOn}
-use Rattle.desk.specs.Boards.{BoardCell, IsSettledOn, HoldsAbove, ArePosted, ArePostedAbove, ArePostedBut, IsKept, AreKept, settled_with, with_outcome}
+use Rattle.desk.specs.Boards.{BoardCell, IsSettledOn, IsListedWithin, HoldsFor, ArePosted, ArePostedAbove, ArePostedFor, ArePostedBut, IsKept, AreKept, settled_with, with_outcome}
 use Rattle.desk.specs.declared.answer.Posted.{Posted}
 use Rattle.desk.specs.declared.answer.Posted.TheVariants.{Now, Later}
-use Rattle.desk.specs.Held.{Held, PublishesOr}
+use Rattle.desk.specs.Held.{Held, held, Appends, PublishesOr}
 use Rattle.desk.specs.Posts.{IsPosted}
+use Rattle.desk.proofs.Outcomes.{below_get}
 
 -- ---- one memo more
 
@@ -168,16 +169,35 @@ module _ {T E V G O : Type 0} (net : T → Net G) (of : Cells T E V O) where
     | inr stands ↦ above test model o s stands
   ]
 
-  -- where each cell of the range is posted, and the range holds those whose verdicts stand on the node
-  pub above_posted : (bench : Bench T V) (node : Node) (old new : List (BoardCell O)) (first end : ℕ) → HoldsAbove (net bench.texts) (of.verdict_of bench.texts) node old first end
-      → AreKept old new → ((k : ℕ) → first ≤ k → k < end → IsPosted net of bench new k) → ArePostedAbove net of bench node new
-  above_posted bench node old new first end holds keeps posted test model o s stands =
-      let k = holds test model s.verdict s.is stands in
+  -- where none but these was left, all are posted
+  pub posted_for : (bench : Bench T V) (above : Option Node) (old new : List (BoardCell O)) → IfSome above (λ node. ArePostedBut net of bench node old) → AreKept old new → ArePostedFor net of bench above new → ArePosted net of bench new
+  posted_for bench None old new rest keeps posted = posted
+  posted_for bench (Some node) old new rest keeps posted = posted_all bench node old new rest keeps posted
+
+  -- a cell of the range is posted where each of the range is
+  listed_posted : (bench : Bench T V) (old new : List (BoardCell O)) (first end : ℕ) → AreKept old new → ((k : ℕ) → first ≤ k → k < end → IsPosted net of bench new k)
+      → (test model : List ℕ) (o : O) → IsListedWithin old first end test model → IsSettledCell net of bench test model o → IsSettledOn new test model
+  listed_posted bench old new first end keeps posted test model o k s =
       let d = keeps k.index k.cell k.there in
       let test_is : d.0.test ≡ test = d.2.test ∙ k.test_is in
       let model_is : d.0.model ≡ model = d.2.model ∙ k.model_is in
       let here : IsSettledCell net of bench d.0.test d.0.model o = rw (test_is, model_is) s in
       record { index = k.index; cell = d.0; there = d.1; test_is = test_is; model_is = model_is; settled = posted k.index k.from_first k.before_end d.0 o d.1 here }
+
+  -- so it is for all whose verdicts stand on the node, or for each cell, where the range holds these
+  pub for_posted : (bench : Bench T V) (above : Option Node) (old new : List (BoardCell O)) (first end : ℕ) → HoldsFor (net bench.texts) (of.verdict_of bench.texts) above old first end
+      → AreKept old new → ((k : ℕ) → first ≤ k → k < end → IsPosted net of bench new k) → ArePostedFor net of bench above new
+  for_posted bench None old new first end holds keeps posted = λ test model o s. listed_posted bench old new first end keeps posted test model o (holds test model s.verdict s.is) s
+  for_posted bench (Some node) old new first end holds keeps posted = λ test model o s stands. listed_posted bench old new first end keeps posted test model o (holds test model s.verdict s.is stands) s
+
+-- a cell of the board is within all of it
+pub known_within : {O : Type 0} (cells : List (BoardCell O)) (end : ℕ) (test model : List ℕ) → end ≡ length cells
+    → (index : ℕ) × (c : BoardCell O) × (slice_get cells index ≡ Some c) × (c.test ≡ test) × (c.model ≡ model) → IsListedWithin cells 0 end test model
+known_within cells end test model is k =
+    let lt : k.0 < length cells = below_get cells k.0 k.1 k.2 in
+    record { index = k.0; from_first = omega arith; before_end = omega arith; cell = k.1; there = k.2; test_is = k.3; model_is = k.4 }
+
+-- where something is owed nothing is said of what is posted
 
 module _ {T E V G O : Type 0} (means : Meaning T E V G) (of : Cells T E V O) (old new : Bench T V) (cells : List (BoardCell O)) where
   pub posted_claimed : (number : ℕ) (n : Node) (given : G) (keys : List Key) (values : List V) → Step means old (Claim number n given keys values) new → ArePosted means.net of old cells → ArePosted means.net of new cells
@@ -217,3 +237,10 @@ was_so false e = cc
 pub publishes_same : {T V O : Type 0} (P : Bench T V → List O → Type 0) (a b new : Held T V O) (r : Posted) → a.published ≡ b.published → PublishesOr P a new r → PublishesOr P b new r
 publishes_same P a b new Now e h = h
 publishes_same P a b new Later e h = h ∙ e
+
+-- operations that settle cells were appended under the lock
+pub appends_of : {T V O : Type 0} (is_settle : O → Type 0) (inside old : Held T V O) (more : List O) → inside ≡ old → Each is_settle more → (bench : Bench T V) (all published : List O)
+    → all ≡ inside.all ++ more → Appends is_settle old.all old (held bench all published inside.spare inside.closed)
+appends_of is_settle inside old more same each bench all published e =
+    subst (λ (h : Held _ _ _). Appends is_settle h.all h (held bench all published inside.spare inside.closed)) same
+    (record { settles = more; are_settles = each; all = e; spare = refl; closed = refl })

@@ -55,10 +55,21 @@ abbrev pub HoldsAbove : {G O : Type 0} → Net G → (List ℕ → List ℕ → 
 HoldsAbove net verdict_of node cells first end =
     (test model : List ℕ) (verdict : Node) → verdict_of test model ≡ Some verdict → StandsOn net verdict node → IsListedWithin cells first end test model
 
+-- so it is for each cell, where no node is given
+abbrev pub HoldsFor : {G O : Type 0} → Net G → (List ℕ → List ℕ → Option Node) → Option Node → List (BoardCell O) → (first end : ℕ) → Type 0
+HoldsFor net verdict_of None cells first end =
+    (test model : List ℕ) (verdict : Node) → verdict_of test model ≡ Some verdict → IsListedWithin cells first end test model
+HoldsFor net verdict_of (Some node) cells first end = HoldsAbove net verdict_of node cells first end
+
 -- each cell whose verdict stands on the node, and that is settled on the bench, is settled among these
 abbrev pub ArePostedAbove : {T E V G O : Type 0} → (T → Net G) → Cells T E V O → Bench T V → Node → List (BoardCell O) → Type 0
 ArePostedAbove {T} {E} {V} {G} {O} net of bench node cells =
     (test model : List ℕ) (o : O) (s : IsSettledCell net of bench test model o) → StandsOn (net bench.texts) s.verdict node → IsSettledOn cells test model
+
+-- so it is for each cell, where no node is given
+abbrev pub ArePostedFor : {T E V G O : Type 0} → (T → Net G) → Cells T E V O → Bench T V → Option Node → List (BoardCell O) → Type 0
+ArePostedFor net of bench None cells = ArePosted net of bench cells
+ArePostedFor net of bench (Some node) cells = ArePostedAbove net of bench node cells
 
 -- each cell that is settled on the bench is settled among these, or its verdict stands on the node
 abbrev pub ArePostedBut : {T E V G O : Type 0} → (T → Net G) → Cells T E V O → Bench T V → Node → List (BoardCell O) → Type 0

@@ -3,7 +3,7 @@
 use memo_core::claims::Finish;
 
 /// What becomes of an edit that is accepted, with its number.
-#[derive(Clone, Copy, Debug, PartialEq, Eq)]
+#[derive(Clone, Copy)]
 pub enum Accepted {
     /// It is published, and the viewer was told.
     Now(u64),
@@ -12,7 +12,7 @@ pub enum Accepted {
 }
 
 /// What becomes of the cells that are settled.
-#[derive(Clone, Copy, Debug, PartialEq, Eq)]
+#[derive(Clone, Copy)]
 pub enum Posted {
     /// They are published.
     Now,
@@ -21,7 +21,7 @@ pub enum Posted {
 }
 
 /// What a turn of settling comes to.
-#[derive(Clone, Copy, Debug, PartialEq, Eq)]
+#[derive(Clone, Copy)]
 pub enum Settling {
     /// Each cell is settled and published, and the viewer was told.
     Done,

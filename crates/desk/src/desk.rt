@@ -73,7 +73,8 @@ impl<J: Naming + StoreName, X: BoardTexts, R: Wait + Drop> Desk<J, X, R> {
         }
     }
 
-    /// Makes an edit, publishes it and tells this viewer.
+    /// Makes an edit, publishes it and tells this viewer. Errors: K1, K2 if the viewer has seen more than this desk has, the
+    /// bench's refusals, want of memory.
     pub fn edit<W: Wait>(
         &self,
         rt: &W,
@@ -90,7 +91,7 @@ impl<J: Naming + StoreName, X: BoardTexts, R: Wait + Drop> Desk<J, X, R> {
         answer
     }
 
-    /// Gives out a job, if there is any work.
+    /// Gives out a job, if there is any work. Errors: K1, B1, want of memory.
     pub fn claim<W: Wait>(&self, rt: &W) -> Result<Option<Job<J, X>>, DeskFault<X::Fault>> {
         let mut state = self.lock(rt);
         let changes = state.change_count();
@@ -113,7 +114,7 @@ impl<J: Naming + StoreName, X: BoardTexts, R: Wait + Drop> Desk<J, X, R> {
         unreachable!()
     }
 
-    /// Takes a return.
+    /// Takes a return. Errors: K1.
     pub fn finish<W: Wait>(&self, rt: &W, done: Done<J, X>) -> Result<Taken, DeskFault<X::Fault>> {
         let mut state = self.lock(rt);
         let changes = state.change_count();
@@ -122,7 +123,7 @@ impl<J: Naming + StoreName, X: BoardTexts, R: Wait + Drop> Desk<J, X, R> {
         answer
     }
 
-    /// Closes a claim, and says whether it was out.
+    /// Closes a claim, and says whether it was out. Errors: K1.
     pub fn lose<W: Wait>(&self, rt: &W, claim: u64) -> Result<bool, DeskFault<X::Fault>> {
         let mut state = self.lock(rt);
         let changes = state.change_count();
@@ -131,7 +132,7 @@ impl<J: Naming + StoreName, X: BoardTexts, R: Wait + Drop> Desk<J, X, R> {
         answer
     }
 
-    /// Forgets all that was computed, and closes every claim.
+    /// Forgets all that was computed, and closes every claim. Errors: K1.
     pub fn renew<W: Wait>(&self, rt: &W) -> Result<(), DeskFault<X::Fault>> {
         let mut state = self.lock(rt);
         let changes = state.change_count();
@@ -140,7 +141,7 @@ impl<J: Naming + StoreName, X: BoardTexts, R: Wait + Drop> Desk<J, X, R> {
         answer
     }
 
-    /// From now on each call is refused.
+    /// From now on each call is refused. Errors: K1, if it was closed.
     pub fn close<W: Wait>(&self, rt: &W) -> Result<(), DeskFault<X::Fault>> {
         let answer = self.lock(rt).close();
         self.work.notify_all();
@@ -148,7 +149,7 @@ impl<J: Naming + StoreName, X: BoardTexts, R: Wait + Drop> Desk<J, X, R> {
         answer
     }
 
-    /// One of the viewers, which is not given again. It has seen nothing.
+    /// One of the viewers, which is not given again. It has seen nothing. Errors: K1, and K2 where none is left.
     pub fn viewer<W: Wait>(&self, rt: &W) -> Result<Viewer<J, X>, DeskFault<X::Fault>>
         ensures { IfOk result (λ v. v ≡ []) }
     {

@@ -21,7 +21,7 @@ pub enum DeskFault<F> {
     /// K1: the desk is closed.
     #[error("the desk is closed")]
     Closed,
-    /// K2: no viewer is left to give.
+    /// K2: no viewer is left to give, or the viewer has seen more than the desk has.
     #[error("no viewer is left")]
     NoSeat,
 }

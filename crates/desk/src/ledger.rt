@@ -3,10 +3,10 @@
 ghost use Rattle.std.specs.Prelude.{◌≡◌, IsTrue, MatchBool, fold, length};
 ghost use mathlib.Core.List.{IsPrefix};
 ghost use Rattle.cells.specs.Cells.{cells as cells_of};
-ghost use Rattle.desk.specs.Boards.{AreKept, ArePosted, ArePostedAbove, AreSettled};
+ghost use Rattle.desk.specs.Boards.{AreKept, ArePostedFor, AreSettled};
 ghost use Rattle.desk.specs.Posts.{Posts};
 
-use crate::posting::{is_settled, post_above, post_settled};
+use crate::posting::{is_settled, post_settled};
 use crate::texts::BoardTexts;
 use cells::bench::Bench;
 use desk_rule::{Entry, Front, Naming, Plate, Press, Viewer};
@@ -58,30 +58,21 @@ impl<J: Naming, X: BoardTexts> Ledger<J, X> {
         self.press.publish(rt)
     }
 
-    /// Appends the cells that are settled on the bench, as far as it can. True where none is left.
-    pub(crate) fn post<K: StoreName>(&mut self, alloc: Global, bench: &Bench<K, X>) -> bool
-        requires valid { X.is_valid bench.now.texts }
-        requires after { X.are_after bench.now.texts self.old.all }
-        ensures posts { Posts X.is_settle X.are_after X.last_number (λ ops. length (X.cells (fold X.after X.none ops))) bench.now.texts self.old self.new }
-        ensures posted { IsTrue result → ArePosted X.net (cells_of X.verdict_of X.outcome_in X.from_scratch X.reaches) bench.now (X.cells (fold X.after X.none self.new.all)) }
-    {
-        post_settled(alloc, bench, &mut self.press)
-    }
-
-    /// Appends those of them whose verdicts stand on a node. True where none of these is left.
-    pub(crate) fn post_above<K: StoreName>(
+    /// Appends the cells that are settled on the bench, as far as it can: those whose verdicts stand on a node, or all where none
+    /// is given. True where none of these is left.
+    pub(crate) fn post<K: StoreName>(
         &mut self,
         alloc: Global,
         bench: &Bench<K, X>,
-        node: Node,
+        above: Option<Node>,
     ) -> bool
         requires valid { X.is_valid bench.now.texts }
         requires after { X.are_after bench.now.texts self.old.all }
         ensures posts { Posts X.is_settle X.are_after X.last_number (λ ops. length (X.cells (fold X.after X.none ops))) bench.now.texts self.old self.new }
-        ensures posted { IsTrue result → ArePostedAbove X.net (cells_of X.verdict_of X.outcome_in X.from_scratch X.reaches) bench.now node (X.cells (fold X.after X.none self.new.all)) }
+        ensures posted { IsTrue result → ArePostedFor X.net (cells_of X.verdict_of X.outcome_in X.from_scratch X.reaches) bench.now above (X.cells (fold X.after X.none self.new.all)) }
         ensures stays { AreKept (X.cells (fold X.after X.none self.old.all)) (X.cells (fold X.after X.none self.new.all)) }
     {
-        post_above(alloc, bench, &mut self.press, node)
+        post_settled(alloc, bench, &mut self.press, above)
     }
 
     /// Whether each cell of the board after all operations is settled.

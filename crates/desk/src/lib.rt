@@ -8,6 +8,7 @@ mod ledger;
 mod posting;
 mod refusals;
 mod state;
+mod taking;
 mod texts;
 
 pub use answer::{Accepted, Posted, Settling, Taken};

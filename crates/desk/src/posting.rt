@@ -1,8 +1,8 @@
 //! Appends the cells that are settled on the bench and open on the board.
 
-ghost use Rattle.std.specs.Prelude.{◌≡◌, ◌<◌, ◌≤◌, ℕ, length, IsTrue, IfOk, IfSome, IfNone, fold};
+ghost use Rattle.std.specs.Prelude.{◌<◌, ◌≤◌, ℕ, length, IsTrue, IfOk, IfSome, IfNone, fold};
 ghost use Rattle.cells.specs.Cells.{cells as cells_of};
-ghost use Rattle.desk.specs.Boards.{AreKept, ArePosted, ArePostedAbove, AreSettled, HoldsAbove};
+ghost use Rattle.desk.specs.Boards.{AreKept, ArePostedFor, AreSettled, HoldsFor};
 ghost use Rattle.desk.specs.Posts.{IsPosted, SettlesRight, Posts};
 
 use crate::texts::{BoardTexts, CellRange};
@@ -61,16 +61,6 @@ fn post<J: Naming, K: StoreName, X: BoardTexts>(
     }
 }
 
-// How many cells the board after all operations has. None where memory for that board was refused.
-fn cell_count<J: Naming, X: BoardTexts>(press: &Press<J, X>) -> Option<usize>
-    ensures { IfSome result (λ n. n ≡ length (X.cells (fold X.after X.none press.now.all))) }
-{
-    match press.board() {
-        Some(board) => Some(X::cell_count(board)),
-        None => None,
-    }
-}
-
 // Appends such cells at a range of indexes, as far as it can. True where none is left there.
 fn post_range<J: Naming, K: StoreName, X: BoardTexts>(
     alloc: Global,
@@ -93,56 +83,46 @@ fn post_range<J: Naming, K: StoreName, X: BoardTexts>(
     true
 }
 
-/// Appends all such cells, as far as it can. True where none is left.
-pub(crate) fn post_settled<J: Naming, K: StoreName, X: BoardTexts>(
-    alloc: Global,
-    bench: &Bench<K, X>,
-    press: &mut Press<J, X>,
-) -> bool
-    requires valid { X.is_valid bench.now.texts }
-    requires after { X.are_after bench.now.texts press.old.all }
-    ensures posts { Posts X.is_settle X.are_after X.last_number (λ ops. length (X.cells (fold X.after X.none ops))) bench.now.texts press.old press.new }
-    ensures posted { IsTrue result → ArePosted X.net (cells_of X.verdict_of X.outcome_in X.from_scratch X.reaches) bench.now (X.cells (fold X.after X.none press.new.all)) }
-{
-    press.catch_up();
-    let Some(end) = cell_count(press) else {
-        return false;
-    };
-    post_range(alloc, bench, press, CellRange { first: 0, end })
-}
-
-// Where the cells stand whose verdicts stand on a node. None where memory for the board was refused.
-fn range_above<J: Naming, K: StoreName, X: BoardTexts>(
+// Where the cells stand whose verdicts stand on a node, or all cells where none is given. None where memory for the board was
+// refused.
+fn range_for<J: Naming, K: StoreName, X: BoardTexts>(
     bench: &Bench<K, X>,
     press: &Press<J, X>,
-    node: Node,
+    above: Option<Node>,
 ) -> Option<CellRange>
     requires valid { X.is_valid bench.now.texts }
     requires after { X.are_after bench.now.texts press.now.all }
     ensures end { IfSome result (λ r. r.end ≤ length (X.cells (fold X.after X.none press.now.all))) }
-    ensures holds { IfSome result (λ r. HoldsAbove (X.net bench.now.texts) (X.verdict_of bench.now.texts) node (X.cells (fold X.after X.none press.now.all)) r.first r.end) }
+    ensures holds { IfSome result (λ r. HoldsFor (X.net bench.now.texts) (X.verdict_of bench.now.texts) above (X.cells (fold X.after X.none press.now.all)) r.first r.end) }
 {
-    match press.board() {
-        Some(board) => Some(bench.texts().cells_above(board, node)),
-        None => None,
+    let Some(board) = press.board() else {
+        return None;
+    };
+    match above {
+        Some(node) => Some(bench.texts().cells_above(board, node)),
+        None => Some(CellRange {
+            first: 0,
+            end: X::cell_count(board),
+        }),
     }
 }
 
-/// Appends those whose verdicts stand on a node, as far as it can. True where none of them is left.
-pub(crate) fn post_above<J: Naming, K: StoreName, X: BoardTexts>(
+/// Appends such cells, those whose verdicts stand on a node or all where none is given, as far as it can. True where none of them
+/// is left.
+pub(crate) fn post_settled<J: Naming, K: StoreName, X: BoardTexts>(
     alloc: Global,
     bench: &Bench<K, X>,
     press: &mut Press<J, X>,
-    node: Node,
+    above: Option<Node>,
 ) -> bool
     requires valid { X.is_valid bench.now.texts }
     requires after { X.are_after bench.now.texts press.old.all }
     ensures posts { Posts X.is_settle X.are_after X.last_number (λ ops. length (X.cells (fold X.after X.none ops))) bench.now.texts press.old press.new }
-    ensures posted { IsTrue result → ArePostedAbove X.net (cells_of X.verdict_of X.outcome_in X.from_scratch X.reaches) bench.now node (X.cells (fold X.after X.none press.new.all)) }
+    ensures posted { IsTrue result → ArePostedFor X.net (cells_of X.verdict_of X.outcome_in X.from_scratch X.reaches) bench.now above (X.cells (fold X.after X.none press.new.all)) }
     ensures stays { AreKept (X.cells (fold X.after X.none press.old.all)) (X.cells (fold X.after X.none press.new.all)) }
 {
     press.catch_up();
-    let Some(range) = range_above(bench, press, node) else {
+    let Some(range) = range_for(bench, press, above) else {
         return false;
     };
     post_range(alloc, bench, press, range)

@@ -11,6 +11,7 @@ ghost use Rattle.desk.specs.Held.{IsMade, IsRefusedBy, IsClaimRefusedBy};
 use crate::answer::{Accepted, Posted, Settling, Taken};
 use crate::fault::DeskFault;
 use crate::ledger::Ledger;
+use crate::taking::take;
 use crate::texts::BoardTexts;
 use cells::bench::Bench;
 use cells::job::{Done, Job};
@@ -154,45 +155,26 @@ impl<J: Naming + StoreName, X: BoardTexts, R: Wait + Drop> DeskState<J, X, R> {
         }
         self.owes = true;
         let number = make_edit(self.alloc, &mut self.bench, &mut self.ledger, edit)?;
-        self.owes = !self.ledger.post(self.alloc, &self.bench);
+        self.owes = !self.ledger.post(self.alloc, &self.bench, None);
         if !self.ledger.publish(rt) {
             self.owes = true;
             return Ok(Accepted::Later(number));
         }
-        self.ledger.tell_all(me);
+        me.tell(self.ledger.front());
         Ok(Accepted::Now(number))
     }
 
-    // Appends the cells that are settled, and publishes.
+    // Appends the cells that are settled, and publishes. Where a node is given, all are posted but those whose verdicts stand on it.
     #[tactic(auto, using(crate::proofs::Growing::prefix_same, crate::proofs::Growing::grown_from))]
-    fn catch_up<W: Wait>(&mut self, rt: &W) -> Posted
+    fn catch_up<W: Wait>(&mut self, rt: &W, above: Option<Node>) -> Posted
+        requires rest { IfSome above (λ node. ArePostedBut X.net (cells_of X.verdict_of X.outcome_in X.from_scratch X.reaches) self.old.bench node (X.cells (fold X.after X.none self.old.all))) }
         ensures bench { self.new.bench ≡ self.old.bench }
         ensures appends { Appends X.is_settle self.old.all self.old self.new }
         ensures grows { IsPrefix self.old.published self.new.published }
         ensures posted { PublishesOr (λ bench ops. ArePosted X.net (cells_of X.verdict_of X.outcome_in X.from_scratch X.reaches) bench (X.cells (fold X.after X.none ops))) self.old self.new result }
     {
         self.owes = true;
-        if !self.ledger.post(self.alloc, &self.bench) {
-            return Posted::Later;
-        }
-        if !self.ledger.publish(rt) {
-            return Posted::Later;
-        }
-        self.owes = false;
-        Posted::Now
-    }
-
-    // Appends the cells that are settled, where all are posted but those whose verdicts stand on a node, and publishes.
-    #[tactic(auto, using(crate::proofs::Growing::prefix_same, crate::proofs::Growing::grown_from))]
-    fn catch_up_above<W: Wait>(&mut self, rt: &W, node: Node) -> Posted
-        requires rest { ArePostedBut X.net (cells_of X.verdict_of X.outcome_in X.from_scratch X.reaches) self.old.bench node (X.cells (fold X.after X.none self.old.all)) }
-        ensures bench { self.new.bench ≡ self.old.bench }
-        ensures appends { Appends X.is_settle self.old.all self.old self.new }
-        ensures grows { IsPrefix self.old.published self.new.published }
-        ensures posted { PublishesOr (λ bench ops. ArePosted X.net (cells_of X.verdict_of X.outcome_in X.from_scratch X.reaches) bench (X.cells (fold X.after X.none ops))) self.old self.new result }
-    {
-        self.owes = true;
-        if !self.ledger.post_above(self.alloc, &self.bench, node) {
+        if !self.ledger.post(self.alloc, &self.bench, above) {
             return Posted::Later;
         }
         if !self.ledger.publish(rt) {
@@ -210,7 +192,7 @@ impl<J: Naming + StoreName, X: BoardTexts, R: Wait + Drop> DeskState<J, X, R> {
         ensures grows { IsPrefix self.old.published self.new.published }
     {
         if self.owes {
-            let _posted = self.catch_up(rt);
+            let _posted = self.catch_up(rt, None);
         }
     }
 
@@ -273,13 +255,8 @@ impl<J: Naming + StoreName, X: BoardTexts, R: Wait + Drop> DeskState<J, X, R> {
         }
         let owed = self.owes;
         self.owes = true;
-        let node = done.node();
-        let finish = self.bench.finish(done);
-        let posted = if owed {
-            self.catch_up(rt)
-        } else {
-            self.catch_up_above(rt, node)
-        };
+        let (finish, above) = take(&mut self.bench, &self.ledger, owed, done);
+        let posted = self.catch_up(rt, above);
         Ok(Taken { finish, posted })
     }
 

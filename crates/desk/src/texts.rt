@@ -21,7 +21,9 @@ pub struct CellNames<'a> {
 /// Indexes of cells: from the first on, below the end.
 #[derive(Clone, Copy)]
 pub struct CellRange {
+    /// The first index.
     pub first: usize,
+    /// The index behind the last.
     pub end: usize,
 }
 

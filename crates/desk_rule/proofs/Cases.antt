@@ -1,16 +1,9 @@
 -- From one choice to another.
-use Rattle.std.proofs.Common.{◌≡◌, Bool, true, false, List, [], ◌++◌, ap, sym, ◌∙◌, MatchBool, MatchResult}
-use Rattle.std.specs.Prelude.{Result, Ok, Err, is_ok}
+use Rattle.std.proofs.Common.{◌≡◌, Bool, true, false, List, [], ◌++◌, ap, sym, ◌∙◌, MatchBool}
 use Rattle.std.proofs.lemmas.List.{append-nil}
 use mathlib.Core.List.{IsPrefix}
 use Rattle.desk_rule.specs.Histories.{latest}
 use Rattle.desk_rule.proofs.Fronts.{prefix_self}
-
-pub by_ok : {V E : Type 0} (r : Result V E) (P Q : Type 0) → MatchResult r (λ _. P) (λ _. Q) → (b : Bool) → b ≡ is_ok r → MatchBool b P Q
-by_ok (Ok v) P Q h true e = h
-by_ok (Ok v) P Q h false e = absurd cc
-by_ok (Err v) P Q h true e = absurd cc
-by_ok (Err v) P Q h false e = h
 
 -- what is shown after a turn, with what still waits, is all that was appended
 pub turned : {O : Type 0} (b : Bool) (shown old all : List O) (waits handed queue : List (List O))

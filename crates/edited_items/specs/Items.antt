@@ -4,7 +4,7 @@ use denote.Ref.{Bor}
 use Rattle.std.specs.Arc.{arc_value}
 use Rattle.std.specs.declared.alloc.Global.{Global}
 use Rattle.std.specs.declared.sync.Arc.{Arc}
-use Rattle.std.specs.List.{range_with_len, flat_map}
+use Rattle.std.specs.List.{range_with_len}
 use Rattle.memo_core.specs.declared.keys.Kind.{Kind}
 use Rattle.memo_core.specs.declared.keys.Kind.TheVariants as kinds
 use Rattle.cat_values.specs.declared.model.Item.{Item}
@@ -61,10 +61,6 @@ resolved_items m = option_map (λ (r : Bor (Arc Resolved Global)). (arc_value r.
 
 abbrev pub facts_of : ModelItems → List ItemFact
 facts_of m = item_facts m.numbers.now m.items.now (resolved_items m)
-
--- of the items of all models
-abbrev pub facts_of_all : List ModelItems → List ItemFact
-facts_of_all models = flat_map facts_of models
 
 -- ---- rows
 

@@ -7,7 +7,7 @@ ghost use Rattle.node_values.specs.Items.{RoleContent};
 ghost use Rattle.stamped_parts.specs.Contents.{role_part};
 ghost use Rattle.edited_tables.specs.Stamps.{IsStampOf};
 ghost use Rattle.edited_items.specs.Held.{held_part};
-ghost use Rattle.edited_items.specs.Items.{node_kind, read_role, held_after, facts_of_all, AreListsOf};
+ghost use Rattle.edited_items.specs.Items.{node_kind, read_role, held_after};
 
 use crate::held::{HeldItem, held_item};
 use bench_nodes::ItemRow;
@@ -120,7 +120,7 @@ impl ModelItems<'_> {
 
 impl ItemLists {
     ghost use Rattle.std.specs.Prelude.{◌<◌, length};
-    ghost use Rattle.edited_items.specs.Items.{ItemFact, fact_at, facts_of, facts_of_all, resolved_items, AreListsOf};
+    ghost use Rattle.edited_items.specs.Items.{ItemFact, fact_at, facts_of, resolved_items, AreListsOf};
 
     /// No items.
     pub fn new(alloc: Global) -> ItemLists
@@ -173,21 +173,4 @@ impl ItemLists {
         }
         Ok(())
     }
-}
-
-/// The items of these models after an edit, over the parts before it, where `fresh` stands for the stamp of what
-/// changed. Errors: want of memory.
-pub fn edit_items(
-    alloc: Global,
-    fresh: u64,
-    before: &Parts,
-    models: &[ModelItems],
-) -> Result<ItemLists, AllocError>
-    ensures { IfOk result (AreListsOf fresh before.now (facts_of_all models.now)) }
-{
-    let mut lists = ItemLists::new(alloc);
-    for model in models {
-        lists.add_model(alloc, fresh, before, model)?;
-    }
-    Ok(lists)
 }

@@ -8,5 +8,5 @@ mod items;
 pub mod laws;
 mod raise;
 
-pub use items::{ItemLists, ModelItems, edit_items};
+pub use items::{ItemLists, ModelItems};
 pub use raise::raise_items;

@@ -104,7 +104,7 @@ pub record IsLateFault (IsText : List Token → Type 0) (start : Stage)
   pub rule_is : found.rule ≡ rule
   pub stands : StandsAt (lexed start bytes) found.before offset
 
--- the fault of bytes: too long, else where they stop to begin a text, else the first of the later checks
+-- the fault of bytes: too long, else at the first token that no text could have there, else the first of the later checks
 pub data IsFaultAt (IsText : List Token → Type 0) (start : Stage) (late : (ts : List Token) → IsText ts → Option Late)
     (bytes : List ℕ) (rule : LitmusRule) (offset : ℕ) : Type 0 where
   IsTooLong : most_bytes < length bytes → rule ≡ rules.TooLong → offset ≡ most_bytes → IsFaultAt IsText start late bytes rule offset

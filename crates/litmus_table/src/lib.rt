@@ -9,4 +9,5 @@ mod operand;
 mod table;
 
 pub use late::LateFault;
+pub use opcode::{DataOpcode, Opcode, Want};
 pub use table::Table;

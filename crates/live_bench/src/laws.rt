@@ -25,10 +25,11 @@ pub fn unreached_cells_stay()
     cells::laws::untouched::<StampedTexts>();
 }
 
-/// Only what some cell needs is given out, and nothing twice at once. An accepted return of a node with settled inputs lowers
-/// the number of unsettled used nodes. Claims, returns, losses and refused calls unsettle no node, and of the claims that a
-/// list of them gives no more returns are accepted than it settles used nodes: after an edit, no more than it opened. Where no
-/// claim is given and none is out, every cell is settled.
+/// Only what some cell needs is given out, and no two claims that are out are of one node with the same inputs and stamps. An
+/// accepted return of a node with settled inputs lowers the number of unsettled used nodes. Claims, returns, losses and
+/// refused calls unsettle no node, and of the claims that a list of them gives no more returns are accepted than it settles
+/// used nodes: after an edit, no more than were open before it or stand on what it touches. Where no claim is given and none
+/// is out, every cell is settled.
 pub fn work_is_exact()
     ensures needed { OnlyNeededIsGiven live_meaning live_cells }
     ensures apart { NoneIsOutTwice live_meaning }

@@ -10,12 +10,7 @@ use Rattle.running_bench.specs.Texts.{no_contents}
 use Rattle.session_views.specs.Knowing.{KnowsOwn, HasOwnEdit}
 use Rattle.live_session.specs.Ready.{IsReady}
 
--- a refused edit leaves the texts
-pub refused_leaves : (t after : BenchTexts) (e : Edit) (said : Said) → IsEdited t e said after → said.refused ≡ true → after ≡ t
-refused_leaves t after e said (IsAccepted applies is) refused = let wrong : false ≡ true = sym (ap (λ (s : Said). s.refused) is) ∙ refused in absurd cc
-refused_leaves t after e said (IsRefused fault answer refuses is same) refused = same
-
--- another one makes them
+-- an edit that is accepted makes them
 pub accepted_applies : (t after : BenchTexts) (e : Edit) (said : Said) → IsEdited t e said after → said.refused ≡ false → Applies t false e after
 accepted_applies t after e said (IsAccepted applies is) accepted = applies
 accepted_applies t after e said (IsRefused fault answer refuses is same) accepted = let wrong : true ≡ false = sym (ap (λ (s : Said). s.refused) is) ∙ accepted in absurd cc
@@ -30,10 +25,6 @@ abbrev pub EditsAreKnown : BenchTexts → Type 0
 EditsAreKnown t =
     (e : code.Edit) (number : ℕ) (seen later : List BoardOp) (made : ℕ) (new : BenchTexts)
     → KnowsOwn seen made t → HasOwnEdit e number seen later → Applies t false (edit_of e) new → KnowsOwn later (made + 1) new
-
-pub knows_refused : (seen : List BoardOp) (made : ℕ) (t after : BenchTexts) (e : Edit) (said : Said)
-    → KnowsOwn seen made t → IsEdited t e said after → said.refused ≡ true → KnowsOwn seen made after
-knows_refused seen made t after e said k edited refused = subst (λ (x : BenchTexts). KnowsOwn seen made x) (sym (refused_leaves t after e said edited refused)) k
 
 pub knows_texts : (seen : List BoardOp) (t : BenchTexts) → KnowsOwn [] 0 no_contents → seen ≡ [] → t ≡ no_contents → KnowsOwn seen 0 t
 knows_texts seen t k nothing none =

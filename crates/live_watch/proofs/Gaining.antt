@@ -3,7 +3,6 @@ use Rattle.std.proofs.Common.{◌≡◌, ℕ, List, [], ◌∷◌, ◌++◌, Opt
 use Rattle.std.proofs.KnownBytes.{Appends-nil, Appends-trans}
 use Rattle.std.specs.Io.KnownBytes.{Appends}
 use Rattle.board.specs.declared.operation.BoardOp.{BoardOp}
-use Rattle.live_watch.specs.declared.watched.WatchedTest.{WatchedTest}
 use Rattle.live_watch.specs.Lines.{IsAnswer}
 use Rattle.live_watch.specs.Runs.{AreAnswers, NoAnswer, OneMore, HasAnswers, IsBegun, IsRun}
 
@@ -16,19 +15,19 @@ pub gains_none : (lasts : List (List ℕ)) (a : Option (List ℕ)) → HasAnswer
 gains_none lasts a = record { text = []; answers = NoAnswer lasts; gains = Appends-nil a }
 
 -- one line was
-pub gains_one : (path : List ℕ) (ops : List BoardOp) (tests : List WatchedTest) (lasts nows : List (List ℕ)) (said : List ℕ) (a b : Option (List ℕ))
-    → IsAnswer path ops tests lasts nows said → Appends a b said → HasAnswers lasts nows a b
-gains_one path ops tests lasts nows said a b answer gained = record {
+pub gains_one : (path : List ℕ) (ops : List BoardOp) (names : List (Option (List ℕ))) (lasts nows : List (List ℕ)) (said : List ℕ) (a b : Option (List ℕ))
+    → IsAnswer path ops names lasts nows said → Appends a b said → HasAnswers lasts nows a b
+gains_one path ops names lasts nows said a b answer gained = record {
   text = [] ++ said;
-  answers = OneMore lasts lasts nows [] said path ops tests (NoAnswer lasts) answer;
+  answers = OneMore lasts lasts nows [] said path ops names (NoAnswer lasts) answer;
   gains = gained;
 }
 
 joined : (lasts middle nows : List (List ℕ)) (x y : List ℕ) → AreAnswers lasts middle x → AreAnswers middle nows y → AreAnswers lasts nows (x ++ y)
 joined lasts middle nows x y first (NoAnswer same) = subst (λ (text : List ℕ). AreAnswers lasts middle text) (sym (append_none x)) first
-joined lasts middle nows x y first (OneMore from through to text said path ops tests before answer) =
+joined lasts middle nows x y first (OneMore from through to text said path ops names before answer) =
     subst (λ (all : List ℕ). AreAnswers lasts nows all) (append_assoc x text said)
-    (OneMore lasts through nows (x ++ text) said path ops tests (joined lasts middle through x text first before) answer)
+    (OneMore lasts through nows (x ++ text) said path ops names (joined lasts middle through x text first before) answer)
 
 pub gains_joined : (lasts middle nows : List (List ℕ)) (a b c : Option (List ℕ)) → HasAnswers lasts middle a b → HasAnswers middle nows b c → HasAnswers lasts nows a c
 gains_joined lasts middle nows a b c x y = record {
@@ -38,13 +37,13 @@ gains_joined lasts middle nows a b c x y = record {
 }
 
 -- the beginning of a run, and the answers after it
-pub run_of : (lasts firsts nows : List (List ℕ)) (ops : List BoardOp) (tests : List WatchedTest) (first : List ℕ) (a b c : Option (List ℕ))
-    → IsBegun lasts firsts ops tests first → Appends a b first → HasAnswers firsts nows b c → IsRun lasts a c
-run_of lasts firsts nows ops tests first a b c begun gained more = record {
+pub run_of : (lasts firsts nows : List (List ℕ)) (ops : List BoardOp) (names : List (Option (List ℕ))) (first : List ℕ) (a b c : Option (List ℕ))
+    → IsBegun lasts firsts ops names first → Appends a b first → HasAnswers firsts nows b c → IsRun lasts a c
+run_of lasts firsts nows ops names first a b c begun gained more = record {
   firsts = firsts;
   nows = nows;
   ops = ops;
-  tests = tests;
+  names = names;
   first = first;
   begun = begun;
   text = more.text;

@@ -55,20 +55,18 @@ abbrev pub line_by : List BoardOp → Option (List ℕ) → List ℕ
 line_by ops None = []
 line_by ops (Some name) = line_of ops name
 
-abbrev pub line_now : List BoardOp → WatchedTest → List ℕ
-line_now ops test = line_by ops test.name
-
 -- the cell of the test that a file holds is closed
 abbrev pub IsClosedBy : List BoardOp → Option (List ℕ) → Type 0
 IsClosedBy ops None = Unit {0}
 IsClosedBy ops (Some name) = IsClosed ops name
 
-abbrev pub IsClosedNow : List BoardOp → WatchedTest → Type 0
-IsClosedNow ops test = IsClosedBy ops test.name
+-- the line of each file, by the names of the tests that the files hold, in the order of the files
+abbrev pub lines_now : List BoardOp → List (Option (List ℕ)) → List (List ℕ)
+lines_now ops names = map (line_by ops) names
 
--- the line of each file, in the order of the files
-abbrev pub lines_now : List BoardOp → List WatchedTest → List (List ℕ)
-lines_now ops tests = map (line_now ops) tests
+-- the names of the tests that the files hold
+abbrev pub names_of : List WatchedTest → List (Option (List ℕ))
+names_of tests = map (λ test. test.name) tests
 
 -- ---- the lines that are written
 
@@ -85,9 +83,9 @@ abbrev pub jobs_line : ℕ → List ℕ
 jobs_line jobs = codes "jobs " ++ decimal jobs ++ 10 ∷ []
 
 -- These are the lines of the files after these operations. The cell of each test is closed, and right for the texts after them.
-pub record AreShown (ops : List BoardOp) (tests : List WatchedTest) (lines : List (List ℕ)) : Type 0 where
-  pub are : lines ≡ lines_now ops tests
-  pub closed : Each (IsClosedNow ops) tests
+pub record AreShown (ops : List BoardOp) (names : List (Option (List ℕ))) (lines : List (List ℕ)) : Type 0 where
+  pub are : lines ≡ lines_now ops names
+  pub closed : Each (IsClosedBy ops) names
   pub right : ShowsRightCells ops
   pub legal : IsLegal ops
 
@@ -100,6 +98,11 @@ pub record AreWritten (lasts nows : List (List ℕ)) (before after : List ℕ) :
 abbrev pub SaysRefused : (path before after : List ℕ) → Type 0
 SaysRefused path before after = (fault : EditFault) × (after ≡ before ++ path ++ codes ": " ++ fault_line fault)
 
+-- The lines that say of some files why their texts are refused, one behind another.
+pub data AreTold : List ℕ → Type 0 where
+  NoneTold : AreTold []
+  OneTold : (path before after : List ℕ) → AreTold before → SaysRefused path before after → AreTold after
+
 -- the line that says of the file of this path why its text is refused, or that it cannot be read or is not watched
 pub data IsTold (path text : List ℕ) : Type 0 where
   IsRefused : (fault : EditFault) → text ≡ path ++ codes ": " ++ fault_line fault → IsTold path text
@@ -108,13 +111,13 @@ pub data IsTold (path text : List ℕ) : Type 0 where
 
 -- What is answered to a line of the source: the lines that changed and the number of jobs, where a version was accepted; else
 -- what is said of the file, and the line of each file is kept.
-abbrev pub IsAnswer : List ℕ → List BoardOp → List WatchedTest → (lasts nows : List (List ℕ)) → List ℕ → Type 0
-IsAnswer path ops tests lasts nows text =
-    (AreShown ops tests nows × AreWritten lasts nows [] text) ⊎ (IsTold path text × (nows ≡ lasts))
+abbrev pub IsAnswer : List ℕ → List BoardOp → List (Option (List ℕ)) → (lasts nows : List (List ℕ)) → List ℕ → Type 0
+IsAnswer path ops names lasts nows text =
+    (AreShown ops names nows × AreWritten lasts nows [] text) ⊎ (IsTold path text × (nows ≡ lasts))
 
 -- so it is for the lines that are kept of a run
 abbrev pub IsReply : List ℕ → (lasts nows : Vec (Vec ℕ Global) Global) → List BoardOp → Vec WatchedTest Global → List ℕ → Type 0
-IsReply path lasts nows ops tests text = IsAnswer path ops tests.items (lists_of lasts.items) (lists_of nows.items) text
+IsReply path lasts nows ops tests text = IsAnswer path ops (names_of tests.items) (lists_of lasts.items) (lists_of nows.items) text
 
 -- the text gained the lines that changed, and the number of jobs
 abbrev pub AreGained : (lasts nows : Vec (Vec ℕ Global) Global) → (before after : List ℕ) → Type 0

@@ -4,7 +4,7 @@ ghost use Rattle.std.specs.Prelude.{◌≡◌, ◌≢◌, ◌+◌, ◌-◌, ◌<
 ghost use Rattle.std.specs.Prelude.{IfOk, OnOk, OnErr, Ok, Err};
 ghost use Rattle.session_edits.specs.Faults.{fault_line};
 ghost use Rattle.std.specs.Io.KnownBytes.{Appends};
-ghost use Rattle.live_watch.specs.Lines.{lists_of, AreShown, AreGained, SaysRefused, IsReply};
+ghost use Rattle.live_watch.specs.Lines.{lists_of, names_of, AreShown, AreGained, SaysRefused, AreTold, IsReply};
 ghost use Rattle.live_watch.specs.Runs.{Gains, Begins, IsRun};
 
 use crate::lines::put_answer;
@@ -155,7 +155,7 @@ impl<'a, 'd, J: Naming + StoreName, R: Wait + Drop> Run<'a, 'd, J, R> {
         text: &mut Vec<u8>,
     ) -> Result<(), SessionFault>
         ensures fault { OnErr result (result ≡ Err SessionFault.Memory) }
-        ensures shown { OnOk result (AreShown self.new.watched.viewer self.new.watched.tests.items (lists_of self.new.lines.items)) }
+        ensures shown { OnOk result (AreShown self.new.watched.viewer (names_of self.new.watched.tests.items) (lists_of self.new.lines.items)) }
         ensures written { OnOk result (AreGained self.old.lines self.new.lines text.old.items text.new.items) }
     {
         let (jobs, lines) = self.watched.settled_lines(rt, alloc, &self.hands)?;
@@ -164,7 +164,7 @@ impl<'a, 'd, J: Naming + StoreName, R: Wait + Drop> Run<'a, 'd, J, R> {
         Ok(())
     }
 
-    // Takes the first version of a file.
+    // Takes the first version of a file, and tells it where it is refused.
     fn begin_file<W: Wait, V: Versions>(
         &mut self,
         rt: &W,
@@ -176,6 +176,7 @@ impl<'a, 'd, J: Naming + StoreName, R: Wait + Drop> Run<'a, 'd, J, R> {
     ) -> Result<(), SessionFault>
         ensures fault { result ≢ Err SessionFault.Write }
         ensures lines { self.new.lines ≡ self.old.lines }
+        ensures told { OnOk result (AreTold text.old.items → AreTold text.new.items) }
     {
         match versions.version(alloc, path) {
             Version::Text(version) => {

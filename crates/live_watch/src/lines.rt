@@ -4,8 +4,8 @@ ghost use Rattle.std.specs.Prelude.{◌≡◌, ◌++◌, [], get_or, IfOk, OnOk,
 ghost use Rattle.std.specs.List.{AllByRecursion as Each};
 ghost use Rattle.compare_report.specs.Cells.{cell_of};
 ghost use Rattle.board.specs.Legal.{IsLegal};
-ghost use Rattle.live_watch.specs.Lines.{model_name, test_table, behind_line, IsTestLine, lists_of, line_now, lines_now};
-ghost use Rattle.live_watch.specs.Lines.{IsClosedNow, AreShown, changed_line, changed_lines, jobs_line, AreWritten};
+ghost use Rattle.live_watch.specs.Lines.{model_name, test_table, behind_line, IsTestLine, lists_of, line_by, lines_now, names_of};
+ghost use Rattle.live_watch.specs.Lines.{IsClosedBy, AreShown, changed_line, changed_lines, jobs_line, AreWritten};
 
 use crate::watched::{Watched, WatchedTest};
 use compare_report::{Shown as Cell, TestRow, table_text};
@@ -77,8 +77,8 @@ fn line_now<J: Naming>(
     test: &WatchedTest<'_>,
 ) -> Result<Option<Vec<u8>>, AllocError>
     requires { IsLegal view.now }
-    ensures line { IfOk result (λ o. IfSome o (λ v. v.items ≡ line_now view.now test.now)) }
-    ensures closed { IfOk result (λ o. IfSome o (λ v. IsClosedNow view.now test.now)) }
+    ensures line { IfOk result (λ o. IfSome o (λ v. v.items ≡ line_by view.now test.now.name)) }
+    ensures closed { IfOk result (λ o. IfSome o (λ v. IsClosedBy view.now test.now.name)) }
 {
     match &test.name {
         Some(name) => test_line(alloc, view, name.as_bytes()),
@@ -93,8 +93,8 @@ fn lines_now<J: Naming>(
     tests: &[WatchedTest<'_>],
 ) -> Result<Option<Vec<Vec<u8>>>, AllocError>
     requires { IsLegal view.now }
-    ensures lines { IfOk result (λ o. IfSome o (λ v. lists_of v.items ≡ lines_now view.now tests.now)) }
-    ensures closed { IfOk result (λ o. IfSome o (λ v. Each (IsClosedNow view.now) tests.now)) }
+    ensures lines { IfOk result (λ o. IfSome o (λ v. lists_of v.items ≡ lines_now view.now (names_of tests.now))) }
+    ensures closed { IfOk result (λ o. IfSome o (λ v. Each (IsClosedBy view.now) (names_of tests.now))) }
 {
     let mut lines = Vec::with_capacity(alloc, tests.len())?;
     for test in tests {
@@ -122,7 +122,7 @@ fn read_board<'p, 'a, J: Naming>(
     Viewer<J, RunningTexts>,
     Result<Option<Vec<Vec<u8>>>, AllocError>,
 )
-    ensures { IfOk result.1 (λ o. IfSome o (λ v. AreShown result.0 asked.entry.tests.now (lists_of v.items))) }
+    ensures { IfOk result.1 (λ o. IfSome o (λ v. AreShown result.0 (names_of asked.entry.tests.now) (lists_of v.items))) }
 {
     match newest_view(viewer) {
         Ok(view) => {
@@ -192,7 +192,7 @@ pub fn put_answer(
 impl<'a, 'd, J: Naming + StoreName, R: Wait + Drop> Watched<'a, 'd, J, R> {
     /// The lines of all files, from the board that was published last, or none where a cell is open. Errors: out of memory.
     pub fn lines_now(&mut self, alloc: Global) -> Result<Option<Vec<Vec<u8>>>, AllocError>
-        ensures { IfOk result (λ o. IfSome o (λ v. AreShown self.new.viewer self.new.tests.items (lists_of v.items))) }
+        ensures { IfOk result (λ o. IfSome o (λ v. AreShown self.new.viewer (names_of self.new.tests.items) (lists_of v.items))) }
     {
         let tests = self.tests.as_slice();
         replace_with(&mut self.viewer, Asked { alloc, tests }, read_board)

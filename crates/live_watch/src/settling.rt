@@ -5,7 +5,7 @@ ghost use Rattle.board.specs.Operations.{board_after};
 ghost use Rattle.desk.specs.Boards.{AreSettled};
 ghost use Rattle.running_bench.specs.Cells.{board_cells};
 ghost use Rattle.running_bench.specs.Texts.{IsHistory};
-ghost use Rattle.live_watch.specs.Lines.{lists_of, AreShown};
+ghost use Rattle.live_watch.specs.Lines.{lists_of, names_of, AreShown};
 
 use crate::turnstile::RunningTurnstile;
 use crate::watched::Watched;
@@ -118,7 +118,7 @@ impl<'a, 'd, J: Naming + StoreName, R: Wait + Drop> Watched<'a, 'd, J, R> {
         alloc: Global,
         hands: &Hands<'d, J, R>,
     ) -> Result<(u64, Vec<Vec<u8>>), SessionFault>
-        ensures lines { IfOk result (λ r. AreShown self.new.viewer self.new.tests.items (lists_of r.1.items)) }
+        ensures lines { IfOk result (λ r. AreShown self.new.viewer (names_of self.new.tests.items) (lists_of r.1.items)) }
         ensures fault { OnErr result (result ≡ Err SessionFault.Memory) }
     {
         let mut jobs: u64 = 0;

@@ -8,7 +8,10 @@ use Rattle.memo_core.specs.declared.keys.Output.{Output as Made}
 use Rattle.memo_core.specs.Graph.{Memo, Net, memo_of, output_at, stored_at, stamp_in, named_values, put_memo, IsRestamped, AreAsNow}
 use Rattle.memo_core.specs.Right.{IsRight}
 use Rattle.memo_core.specs.Tests.{holds_value, stamped_output, stamped_outputs, changed_names, outputs_of}
-use Rattle.memo_core.specs.Step.{OpenClaim, open_claim, open_claims, return_of, IsCurrent, IsJudged, Accepts, names_stamped}
+use Rattle.memo_core.specs.declared.claims.Finish.{Finish}
+use Rattle.memo_core.specs.declared.claims.Finish.TheVariants.{Unknown, Stale, Same, Stored}
+use Rattle.memo_bench.specs.Clauses.{TellsNames}
+use Rattle.memo_core.specs.Step.{OpenClaim, State, Return, open_claim, open_claims, return_of, IsCurrent, IsJudged, Accepts, Finishes, names_stamped}
 use Rattle.memo_core.proofs.Counted.{as_now_present}
 use Rattle.memo_core.proofs.Headline.{at_low, store_right}
 use Rattle.std.specs.Ordering.{nat_cmp}
@@ -99,6 +102,12 @@ module _ {V G : Type 0} (same : V → V → Bool) (exact : (a b : V) → (same a
     where
       some_out : (c d : OpenClaim) → Some c ≡ Some d → c ≡ d
       some_out c d h = cc
+
+pub finishes : {V G : Type 0} (old new : State V G) (r : Return V G) (names : List ℕ) (f : Finish) → TellsNames names f → (a : Accepts old r new) → names ≡ names_stamped (old.taken + 1) a.outputs → Finishes old r f new
+finishes old new r names Same t a e = (a, sym e ∙ t)
+finishes old new r names (Stored told) t a e = (a, t.0 ∙ e, λ h. t.1 (sym t.0 ∙ h))
+finishes old new r names Unknown t a e = absurd t
+finishes old new r names (Stale stamp) t a e = absurd t
 
 pub no_items : (xs : List ℕ) → length xs ≡ 0 → xs ≡ []
 no_items [] h = refl

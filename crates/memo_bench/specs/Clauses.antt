@@ -1,5 +1,5 @@
 -- What the clauses of `Graph`, `Job` and `Done` say, in the words of Graph, Right, Step, Run and Marks.
-use Rattle.std.specs.Prelude.{◌≡◌, List, [], Some, option_map}
+use Rattle.std.specs.Prelude.{◌≡◌, ◌≢◌, ℕ, List, [], Some, option_map}
 use Rattle.value_store.specs.Tokens.{Shown}
 use Rattle.value_store.specs.declared.token.StoreName.{Ghosts as NameGhosts}
 use Rattle.memo_core.specs.declared.texts.Texts.{Ghosts}
@@ -11,7 +11,9 @@ use Rattle.memo_bench.specs.declared.job.Done.{Done}
 use Rattle.memo_core.specs.Graph.{at, memo_of, named_values, IsSettled}
 use Rattle.memo_core.specs.Right.{Making, ArePresent, IsRight, IsCounted, IsMadeNow}
 use Rattle.memo_core.specs.Views.{as_memos, shown_outputs, shown_values}
-use Rattle.memo_core.specs.Step.{State, Return, state, return_of, Gives, open_claims, AreNumbered}
+use Rattle.memo_core.specs.declared.claims.Finish.{Finish}
+use Rattle.memo_core.specs.declared.claims.Finish.TheVariants.{Unknown, Stale, Same, Stored}
+use Rattle.memo_core.specs.Step.{State, Return, state, return_of, Gives, Finishes, open_claims, AreNumbered}
 use Rattle.memo_core.specs.Run.{Bench, IsFreshFrom, Refuses}
 use Rattle.memo_core.specs.Laws.{meaning}
 use Rattle.memo_core.specs.Marks.{IsMarkedTo}
@@ -69,3 +71,18 @@ module _ {K T V G E P F : Type 0} where
   -- the return's outputs are what running its node makes of what it was given and of its values
   abbrev pub IsComputed : Making V G → Done K T V G E P F → Type 0
   IsComputed makes d = makes d.node d.given d.keys.items (shown_values d.values.items) (named_values (shown_outputs d.outputs.items))
+
+module _ {K T V G E P F : Type 0} {k : NameGhosts K} {t : Ghosts T V G E P F} where
+  -- the return was taken, so answered, and what holds between calls holds again
+  pub record IsTaken (old : Graph K T V G E P F k t) (d : Done K T V G E P F) (finish : Finish) (new : Graph K T V G E P F k t) : Type 0 where
+    pub right : HasRightMemos new
+    pub fresh : HasFreshClaims new
+    pub marks : IsMarked new
+    pub step : Finishes (state_of old) (return_from d) finish (state_of new)
+
+-- these are the names that the answer to an accepted return tells
+abbrev pub TellsNames : List ℕ → Finish → Type 0
+TellsNames names Same = names ≡ []
+TellsNames names (Stored told) = (told.items ≡ names) × (names ≢ [])
+TellsNames names Unknown = ⊥
+TellsNames names (Stale stamp) = ⊥

@@ -7,11 +7,11 @@ ghost use Rattle.memo_bench.specs.Clauses.{state_of, HasRightMemos, HasFreshClai
 ghost use Rattle.memo_bench.specs.Told.{IsTold, OnNone};
 
 use crate::graph::{Graph, LAST};
-use crate::job::Job;
+use crate::job::{Job, job_of};
 use crate::marks::{are_used_marked, is_marked, note_lost, settle_all};
-use crate::stores::drop_gone;
+use crate::stores::{drop_gone, open_claim};
 use crate::witness::{Nobody, Witness};
-use crate::work::{current_inputs, earlier_tokens, find_node, hold_all, present_keys};
+use crate::work::{current_inputs, find_node};
 use indexmap::IndexMap;
 use memo_core::claims::{Claim, ClaimFault};
 use memo_core::keys::{Node, Output};
@@ -140,42 +140,23 @@ impl<K: StoreName, T: Texts> Graph<K, T> {
         if self.taken >= LAST {
             return Err(ClaimFault::Spent);
         }
-        let memos = &self.memos;
-        let claims = &self.claims;
         let node = match find_node(
             &self.texts,
-            memos,
-            claims,
+            &self.memos,
+            &self.claims,
             &mut self.waiting,
             &mut self.next,
         ) {
             None => return Ok(None),
             Some(node) => node,
         };
-        let keys = present_keys(alloc, &self.texts, node)?;
-        let inputs = current_inputs(alloc, &self.texts, memos, node)?;
-        let values = match hold_all(alloc, &self.texts, memos, node)? {
-            Some(values) => values,
-            None => unreachable!(),
-        };
-        let given = self.texts.give(alloc, node)?;
-        let before = earlier_tokens(alloc, memos, node)?;
-        let store = Arc::try_clone(&self.store)?;
-        self.memos.reserve(self.claims.len() + 1)?;
         let number = self.taken + 1;
-        let _ = self.claims.insert(number, Claim { node, inputs })?;
-        let open = self.claims.len();
-        prove!(open < 0x8000_0000_0000_0000);
+        let job = job_of(alloc, &self.texts, &self.memos, &self.store, node, number)?;
+        let inputs = current_inputs(alloc, &self.texts, &self.memos, node)?;
+        let claim = Claim { node, inputs };
+        open_claim(&mut self.memos, &mut self.claims, number, claim)?;
         self.taken = number;
-        Ok(Some(Job {
-            claim: number,
-            node,
-            given,
-            keys,
-            values,
-            before,
-            store,
-        }))
+        Ok(Some(job))
     }
 
     /// Closes a claim.

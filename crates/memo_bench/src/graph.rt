@@ -18,8 +18,11 @@ pub const LAST: u64 = 0x8000_0000_0000_0000;
 /// claim and each accepted return takes the next number.
 #[derive(Drop)]
 pub struct Graph<K: StoreName, T: Texts> {
+    /// The texts.
     pub texts: T,
+    /// What is kept of each node that was computed.
     pub memos: Memos<Token<K, T::Value>>,
+    /// The claims that are out.
     pub claims: OpenClaims,
     /// How many numbers are taken.
     pub taken: u64,

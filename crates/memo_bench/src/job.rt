@@ -1,12 +1,18 @@
 //! What is handed out to be computed, and what comes back.
 
-ghost use Rattle.std.specs.Prelude.{◌≡◌, ◌≤◌, IfOk, IfErr, length, vec_len, vec_capacity};
+ghost use Rattle.std.specs.Prelude.{◌≡◌, ◌≢◌, ◌≤◌, true, Some, None, IfOk, IfErr, length, vec_len, vec_capacity};
 ghost use Rattle.std.specs.List.{AllByRecursion as Each};
-ghost use Rattle.memo_core.specs.Views.{KeepsToken};
+ghost use Rattle.memo_core.specs.Graph.{at, named_values};
+ghost use Rattle.memo_core.specs.Tests.{values_at};
+ghost use Rattle.memo_core.specs.Views.{as_memos, shown_values, shown_outputs, KeepsToken};
 ghost use Rattle.memo_bench.specs.Clauses.{IsComputed, IsOfJob, return_from};
 
-use crate::work::{copy_keys, copy_outputs, copy_values, put_all, run_node};
+use crate::work::{
+    copy_keys, copy_outputs, copy_values, earlier_tokens, present_keys, present_values, put_all,
+    run_node,
+};
 use memo_core::keys::{Key, Node, Output};
+use memo_core::table::Memos;
 use memo_core::texts::Texts;
 use std::alloc::{AllocError, Global};
 use std::sync::{Arc, Wait};
@@ -17,10 +23,13 @@ use value_store::{Store, StoreFault, StoreName, Token};
 pub struct Job<K: StoreName, T: Texts> {
     /// The number of its claim.
     pub claim: u64,
+    /// The node.
     pub node: Node,
     /// What its node's texts gave.
     pub given: T::Given,
+    /// The inputs of the node.
     pub keys: Vec<Key>,
+    /// The values of the outputs among them, in order.
     pub values: Vec<Token<K, T::Value>>,
     /// What the node had, so that an equal value is not stored again.
     pub before: Vec<Output<Token<K, T::Value>>>,
@@ -32,17 +41,80 @@ pub struct Job<K: StoreName, T: Texts> {
 pub struct Done<K: StoreName, T: Texts> {
     /// The number of its claim.
     pub claim: u64,
+    /// The node.
     pub node: Node,
     /// What its node's texts gave.
     pub given: T::Given,
+    /// The inputs of the node.
     pub keys: Vec<Key>,
+    /// The values of the outputs among them, in order.
     pub values: Vec<Token<K, T::Value>>,
+    /// What was computed.
     pub outputs: Vec<Output<Token<K, T::Value>>>,
     /// Empty, with room for the name of each output.
     pub names: Vec<u64>,
 }
 
+/// The job of a node under a number, with what it is given now and the present values of its inputs. Errors: want of memory.
+pub(crate) fn job_of<K: StoreName, T: Texts>(
+    alloc: Global,
+    texts: &T,
+    memos: &Memos<Token<K, T::Value>>,
+    store: &Arc<Store<K, T::Value>, Global>,
+    node: Node,
+    claim: u64,
+) -> Result<Job<K, T>, AllocError>
+    requires there { T.is_there texts.now node }
+    requires values { values_at (at (as_memos memos.now.entries)) ((T.net texts.now).inputs node) ≢ None }
+    ensures claim { IfOk result (λ job. (job.claim ≡ claim) × (job.node ≡ node)) }
+    ensures given { IfOk result (λ job. (T.net texts.now).gives node job.given ≡ true) }
+    ensures keys { IfOk result (λ job. job.keys.items ≡ (T.net texts.now).inputs node) }
+    ensures values { IfOk result (λ job. Some (shown_values job.values.items) ≡ values_at (at (as_memos memos.now.entries)) ((T.net texts.now).inputs node)) }
+{
+    let keys = present_keys(alloc, texts, node)?;
+    let values = present_values(alloc, texts, memos, node)?;
+    let given = texts.give(alloc, node)?;
+    let before = earlier_tokens(alloc, memos, node)?;
+    let store = Arc::try_clone(store)?;
+    Ok(Job {
+        claim,
+        node,
+        given,
+        keys,
+        values,
+        before,
+        store,
+    })
+}
+
+// Outputs, and an empty list with room for their names.
+type Results<K, V> = (Vec<Output<Token<K, V>>>, Vec<u64>);
+
 impl<K: StoreName, T: Texts> Job<K, T> {
+    // The node's outputs in the store, with room for their names. Errors: want of memory, a full store.
+    fn results<R: Wait>(&self, rt: &R, alloc: Global) -> Result<Results<K, T::Value>, StoreFault>
+        ensures computed { IfOk result (λ r. T.makes self.now.node self.now.given self.now.keys.items (shown_values self.now.values.items) (named_values (shown_outputs r.0.items))) }
+        ensures kept { IfOk result (λ r. Each (λ o. KeepsToken self.now.before.items o.name o.value) r.0.items) }
+        ensures empty { IfOk result (λ r. vec_len r.1 ≡ 0) }
+        ensures room { IfOk result (λ r. length r.0.items ≤ vec_capacity r.1) }
+    {
+        let Ok(made) = run_node::<K, T>(
+            alloc,
+            &self.store,
+            self.node,
+            &self.given,
+            self.keys.as_slice(),
+            self.values.as_slice(),
+        ) else {
+            return Err(StoreFault::OutOfMemory);
+        };
+        let outputs = put_all::<R, K, T>(rt, alloc, &self.store, self.before.as_slice(), made)?;
+        match Vec::with_capacity(alloc, outputs.len()) {
+            Ok(names) => Ok((outputs, names)),
+            Err(_) => Err(StoreFault::OutOfMemory),
+        }
+    }
+
     /// Computes the node's outputs and puts those that are new or changed into the store, with room
     /// for their names. Where memory is refused or the store is full, the job comes back as it was;
     /// what was already put stays in the store. It may wait while another thread grows the store.
@@ -54,26 +126,9 @@ impl<K: StoreName, T: Texts> Job<K, T> {
         ensures room { IfOk result (λ done. length done.outputs.items ≤ vec_capacity done.names) }
         ensures err { IfErr result (λ refusal. refusal.0 ≡ self) }
     {
-        let made = run_node::<K, T>(
-            alloc,
-            &self.store,
-            self.node,
-            &self.given,
-            self.keys.as_slice(),
-            self.values.as_slice(),
-        );
-        let made = match made {
-            Ok(made) => made,
-            Err(_) => return Err((self, StoreFault::OutOfMemory)),
-        };
-        let put = put_all::<R, K, T>(rt, alloc, &self.store, self.before.as_slice(), made);
-        let outputs = match put {
-            Ok(outputs) => outputs,
+        let (outputs, names) = match self.results(rt, alloc) {
+            Ok(results) => results,
             Err(fault) => return Err((self, fault)),
-        };
-        let names = match Vec::with_capacity(alloc, outputs.len()) {
-            Ok(names) => names,
-            Err(_) => return Err((self, StoreFault::OutOfMemory)),
         };
         let Job {
             claim,

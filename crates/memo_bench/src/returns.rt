@@ -2,7 +2,7 @@
 
 ghost use Rattle.std.specs.Prelude.{◌≡◌, ◌≤◌, length, vec_len, vec_capacity};
 ghost use Rattle.memo_core.specs.Step.{IsJudged, Finishes};
-ghost use Rattle.memo_bench.specs.Clauses.{state_of, return_from, IsComputed, HasRightMemos, HasFreshClaims, IsMarked};
+ghost use Rattle.memo_bench.specs.Clauses.{state_of, return_from, IsComputed, HasRightMemos, HasFreshClaims, IsMarked, IsTaken, TellsNames};
 
 use crate::finds::{first_stale, keys_are, values_are};
 use crate::graph::Graph;
@@ -14,6 +14,17 @@ use memo_core::keys::is_same_node;
 use memo_core::table::{Kept, are_present};
 use memo_core::texts::Texts;
 use value_store::StoreName;
+
+/// What an accepted return comes to, by the names of its outputs that are new or changed.
+fn finish_of(names: Vec<u64>) -> Finish
+    ensures { TellsNames names.items result }
+{
+    if names.is_empty() {
+        Finish::Same
+    } else {
+        Finish::Stored(names)
+    }
+}
 
 impl<K: StoreName, T: Texts> Graph<K, T> {
     /// What a return is, before anything is done.
@@ -59,10 +70,7 @@ impl<K: StoreName, T: Texts> Graph<K, T> {
         requires room { length done.outputs.items ≤ vec_capacity done.names }
         requires due { IsJudged (state_of self.old) (return_from done) Judgement.Due }
         ensures texts { self.new.texts ≡ self.old.texts }
-        ensures right { HasRightMemos self.new }
-        ensures fresh { HasFreshClaims self.new }
-        ensures marks { IsMarked self.new }
-        ensures step { Finishes (state_of self.old) (return_from done) result (state_of self.new) }
+        ensures taken { IsTaken self.old done result self.new }
     {
         let claim = match self.claims.remove(&done.claim) {
             Some(claim) => claim,
@@ -95,11 +103,7 @@ impl<K: StoreName, T: Texts> Graph<K, T> {
         };
         store_memo(&mut self.memos, node, kept);
         settle(&self.texts, &mut self.memos, &mut self.waiting, node);
-        if names.is_empty() {
-            Finish::Same
-        } else {
-            Finish::Stored(names)
-        }
+        finish_of(names)
     }
 
     /// Takes a return, by the first case that holds. It takes no memory.

@@ -1,7 +1,9 @@
 //! Memos are stored and dropped, and outputs get their stamps.
 
-ghost use Rattle.std.specs.Prelude.{◌≡◌, ◌+◌, ◌<◌, ◌≤◌, ◌++◌, ◌∷◌, [], false, filter, if◌then◌else◌, length, vec_len, vec_capacity};
+ghost use Rattle.std.specs.Prelude.{◌≡◌, ◌+◌, ◌<◌, ◌≤◌, ◌^◌, OnOk, OnErr, IfErr, ◌++◌, false, filter, if◌then◌else◌, length, vec_len, vec_capacity};
 ghost use Rattle.indexmap.specs.IndexMap.{spare};
+ghost use Rattle.std.specs.BTreeMap.{insert_entry};
+ghost use Rattle.std.specs.Ordering.{nat_cmp};
 ghost use Rattle.memo_core.specs.declared.keys.Node.{Node as NodeRecord};
 ghost use Rattle.memo_core.specs.Names.{same_node};
 ghost use Rattle.memo_core.specs.Marks.{mark_of, without_mark};
@@ -9,8 +11,10 @@ ghost use Rattle.memo_core.specs.Graph.{put_memo, memo_of, output_at};
 ghost use Rattle.memo_core.specs.Views.{as_memo, as_memos, shown_outputs, shown_output};
 ghost use Rattle.memo_core.specs.Tests.{holds_value, stamped_output, name_if_changed, stamped_outputs, changed_names, outputs_of};
 
+use crate::work::outputs_in;
+use memo_core::claims::{Claim, ClaimFault, OpenClaims};
 use memo_core::keys::{Node, Output};
-use memo_core::table::{Kept, Memos, find, is_equal, output_stamp, output_token};
+use memo_core::table::{Kept, Memos, is_equal, output_stamp, output_token};
 use memo_core::texts::Texts;
 use value_store::{Store, StoreName, Token};
 
@@ -55,7 +59,7 @@ fn restamp_one<K: StoreName, T: Texts>(
 }
 
 /// Stamps the outputs of a return: one that was there with this value keeps its stamp, any other gets the number, and
-/// its name is name_if_changed.
+/// its name is noted.
 fn restamp<K: StoreName, T: Texts>(
     store: &Store<K, T::Value>,
     old: &[Output<Token<K, T::Value>>],
@@ -73,58 +77,8 @@ fn restamp<K: StoreName, T: Texts>(
     }
 }
 
-/// Stamps and notes one output that was not there.
-fn restamp_new_one<V>(number: u64, output: &mut Output<V>, names: &mut Vec<u64>)
-    requires { vec_len names.old < vec_capacity names.old }
-    ensures output { output.new ≡ record output.old { stamp = number } }
-    ensures names { names.new.items ≡ names.old.items ++ output.old.name ∷ [] }
-    ensures len { vec_len names.new ≤ vec_len names.old + 1 }
-    ensures capacity { vec_capacity names.old ≤ vec_capacity names.new }
-{
-    output.stamp = number;
-    match names.push(output.name) {
-        Ok(()) => {}
-        Err(_) => unreachable!(),
-    }
-}
-
-/// The same where nothing was there.
-fn restamp_new<K: StoreName, T: Texts>(
-    number: u64,
-    outputs: &mut [Output<Token<K, T::Value>>],
-    names: &mut Vec<u64>,
-)
-    requires empty { vec_len names.old ≡ 0 }
-    requires room { length outputs.old ≤ vec_capacity names.old }
-    ensures outputs { shown_outputs outputs.new ≡ stamped_outputs T.same [] number (shown_outputs outputs.old) }
-    ensures names { names.new.items ≡ changed_names T.same [] (shown_outputs outputs.old) }
-{
-    for i in 0..outputs.len() {
-        restamp_new_one(number, &mut outputs[i], names);
-    }
-}
-
-/// The same over what is stored of a node.
-fn restamp_over<K: StoreName, T: Texts>(
-    store: &Store<K, T::Value>,
-    memos: &Memos<Token<K, T::Value>>,
-    node: Node,
-    number: u64,
-    outputs: &mut [Output<Token<K, T::Value>>],
-    names: &mut Vec<u64>,
-)
-    requires empty { vec_len names.old ≡ 0 }
-    requires room { length outputs.old ≤ vec_capacity names.old }
-    ensures outputs { shown_outputs outputs.new ≡ stamped_outputs T.same (outputs_of (memo_of node (as_memos memos.now.entries))) number (shown_outputs outputs.old) }
-    ensures names { names.new.items ≡ changed_names T.same (outputs_of (memo_of node (as_memos memos.now.entries))) (shown_outputs outputs.old) }
-{
-    match find(memos, node) {
-        Some(kept) => restamp::<K, T>(store, kept.outputs.as_slice(), number, outputs, names),
-        None => restamp_new::<K, T>(number, outputs, names),
-    }
-}
-
-/// The same for a vector of outputs.
+/// Stamps a vector of outputs over what is kept of a node: one that was there with this value keeps its stamp, any other gets
+/// the number, and its name is noted.
 pub fn restamp_all<K: StoreName, T: Texts>(
     store: &Store<K, T::Value>,
     memos: &Memos<Token<K, T::Value>>,
@@ -138,7 +92,8 @@ pub fn restamp_all<K: StoreName, T: Texts>(
     ensures outputs { shown_outputs outputs.new.items ≡ stamped_outputs T.same (outputs_of (memo_of node (as_memos memos.now.entries))) number (shown_outputs outputs.old.items) }
     ensures names { names.new.items ≡ changed_names T.same (outputs_of (memo_of node (as_memos memos.now.entries))) (shown_outputs outputs.old.items) }
 {
-    restamp_over::<K, T>(store, memos, node, number, outputs.as_mut_slice(), names);
+    let old = outputs_in(memos, node);
+    restamp::<K, T>(store, old, number, outputs.as_mut_slice(), names);
 }
 
 /// Puts a memo in the place of the node's earlier one, or adds it, for which there is room.
@@ -156,6 +111,29 @@ pub fn store_memo<K: StoreName, V: Drop>(
         Ok(_) => {}
         Err(_) => unreachable!(),
     }
+}
+
+/// Opens a claim under a number, and makes room for what its return keeps. Errors: want of memory, and then nothing is opened.
+pub fn open_claim<K: StoreName, V: Drop>(
+    memos: &mut Memos<Token<K, V>>,
+    claims: &mut OpenClaims,
+    number: u64,
+    claim: Claim,
+) -> Result<(), ClaimFault>
+    requires small { length claims.old.entries < 2 ^ 63 }
+    requires room { length claims.old.entries ≤ spare memos.old }
+    ensures memos { memos.new.entries ≡ memos.old.entries }
+    ensures opened { OnOk result (claims.new.entries ≡ insert_entry nat_cmp claims.old.entries number claim) }
+    ensures room { length claims.new.entries ≤ spare memos.new }
+    ensures small { length claims.new.entries < 2 ^ 63 }
+    ensures fault { IfErr result (λ fault. fault ≡ ClaimFault.OutOfMemory) }
+    ensures err { OnErr result (claims.new.entries ≡ claims.old.entries) }
+{
+    memos.reserve(claims.len() + 1)?;
+    let _ = claims.insert(number, claim)?;
+    let open = claims.len();
+    prove!(open < 0x8000_0000_0000_0000);
+    Ok(())
 }
 
 /// Drops the memos of nodes that the texts don't keep, and takes every mark away.

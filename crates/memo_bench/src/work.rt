@@ -1,6 +1,6 @@
 //! Which node has work, what its job holds, and how it runs.
 
-ghost use Rattle.std.specs.Prelude.{◌≡◌, ◌≤◌, [], true, length, IfOk, IfSome, IfNone, option_map};
+ghost use Rattle.std.specs.Prelude.{◌≡◌, ◌≢◌, ◌≤◌, [], true, Some, None, length, IfOk, IfSome, IfNone, option_map};
 ghost use Rattle.memo_core.specs.Graph.{at, named_values, memo_of, present_inputs};
 ghost use Rattle.memo_core.specs.Views.{as_memos, shown_outputs, shown_values, KeepsToken};
 ghost use Rattle.std.specs.List.{AllByRecursion as Each};
@@ -180,7 +180,7 @@ pub fn current_inputs<K: StoreName, T: Texts>(
 }
 
 /// What shows the values of the outputs among a node's inputs, if all have values.
-pub fn hold_all<K: StoreName, T: Texts>(
+fn hold_all<K: StoreName, T: Texts>(
     alloc: Global,
     texts: &T,
     memos: &Memos<Token<K, T::Value>>,
@@ -202,6 +202,32 @@ pub fn hold_all<K: StoreName, T: Texts>(
     Ok(Some(values))
 }
 
+/// What shows the values of the outputs among a node's inputs, which all have values.
+pub fn present_values<K: StoreName, T: Texts>(
+    alloc: Global,
+    texts: &T,
+    memos: &Memos<Token<K, T::Value>>,
+    node: Node,
+) -> Result<Vec<Token<K, T::Value>>, AllocError>
+    requires { values_at (at (as_memos memos.now.entries)) ((T.net texts.now).inputs node) ≢ None }
+    ensures { IfOk result (λ values. Some (shown_values values.items) ≡ values_at (at (as_memos memos.now.entries)) ((T.net texts.now).inputs node)) }
+{
+    match hold_all(alloc, texts, memos, node)? {
+        Some(values) => Ok(values),
+        None => unreachable!(),
+    }
+}
+
+/// What is kept of a node's outputs.
+pub fn outputs_in<K: StoreName, V>(memos: &Memos<Token<K, V>>, node: Node) -> &[Output<Token<K, V>>]
+    ensures { shown_outputs result.now ≡ outputs_of (memo_of node (as_memos memos.now.entries)) }
+{
+    match stored_outputs(memos, node) {
+        Some(outputs) => outputs,
+        None => &[],
+    }
+}
+
 /// The node's outputs as they are kept, so that a value that did not change is not stored again.
 pub fn earlier_tokens<K: StoreName, V>(
     alloc: Global,
@@ -210,10 +236,7 @@ pub fn earlier_tokens<K: StoreName, V>(
 ) -> Result<Vec<Output<Token<K, V>>>, AllocError>
     ensures { IfOk result (λ kept. shown_outputs kept.items ≡ outputs_of (memo_of node (as_memos memos.now.entries))) }
 {
-    match stored_outputs(memos, node) {
-        Some(outputs) => copy_outputs(alloc, outputs),
-        None => Ok(Vec::new(alloc)),
-    }
+    copy_outputs(alloc, outputs_in(memos, node))
 }
 
 /// What a node's run makes of what a job was given and holds.

@@ -344,17 +344,6 @@ answered_silent space index r a role =
       said = λ checks kept. (checks, kept, said_silent r.role _ _ _ _ role (refl, refl));
     }
 
-pub answered_group : (space : Space) (index : ℕ) (r : ResolvedItem) (old new : ItemAnswers) (recursive : Bool) (bodies : Vec Body Global) (inputs : List (Bor Column)) (found : List Column) → r.role ≡ roles.Group recursive bodies → AreFound old.columns.items r.inputs.items inputs → ColumnsOf r.role inputs space found → kept_of new ≡ kept_of old → flags_of new ≡ flags_of old → vec_len new.columns ≡ vec_len old.columns
-    → ((j : ℕ) → (j ≡ index → ⊥) → (d : Vec Column Global) → slice_index_or new.columns.items j d ≡ slice_index_or old.columns.items j d) → (index < vec_len old.columns → (d : Vec Column Global) → (slice_index_or new.columns.items index d).items ≡ found) → IsAnswered space index r old new
-answered_group space index r old new recursive bodies inputs found role are columns kept flags count others here = record {
-  inputs = inputs;
-  found = are;
-  count = count;
-  others = others;
-  here = λ lt empty d. subst (λ (cs : List Column). ColumnsOf r.role inputs space cs) (sym (here lt d)) columns;
-  said = λ checks keeps. (checks, rw kept keeps, rw (role, flags) (refl, refl));
-}
-
 -- the candidates that are kept by one check more
 kept_more : (space : Space) (checks : List (List Bool)) (old new all : List Bool) → AreKeptIn space checks old → length all ≡ length (candidates_in space.combinations.items) → AreWhere (is_kept_at old) all new → AreKeptIn space (checks ++ all ∷ []) new
 kept_more space checks old new all kept long given = record {
@@ -381,20 +370,6 @@ answered_kept space index r check old new inputs role none found given columns f
   here = λ lt empty d. rw (role, columns) (empty d);
   said = kept_said r.role check inputs space (kept_of old) (kept_of new) (flags_of old) (flags_of new) role none given flags;
 }
-
--- a flag
-pub answered_flag : (space : Space) (index : ℕ) (r : ResolvedItem) (check : CheckCode) (name : List ℕ) (holds : List Bool) (old new : ItemAnswers) (inputs : List (Bor Column)) → r.role ≡ roles.Check check → check.flag ≡ Some name → AreFound old.columns.items r.inputs.items inputs → AnswersOf r.role inputs space holds → new.columns ≡ old.columns → kept_of new ≡ kept_of old → flags_of new ≡ flags_of old ++ (name, holds) ∷ [] → IsAnswered space index r old new
-answered_flag space index r check name holds old new inputs role named found given columns kept flags = record {
-  inputs = inputs;
-  found = found;
-  count = ap (λ (v : Vec (Vec Column Global) Global). vec_len v) columns;
-  others = λ j other d. ap (λ (v : Vec (Vec Column Global) Global). slice_index_or v.items j d) columns;
-  here = λ lt empty d. rw (role, columns) (empty d);
-  said = λ checks keeps. (checks, rw kept keeps, flag_said r.role role given checks);
-}
-  where
-    flag_said : (role : Role) → role ≡ roles.Check check → AnswersOf role inputs space holds → (checks : List (List Bool)) → IsSaidBy role (AnswersOf role inputs space) (λ cs fs. (cs ≡ checks) × (fs ≡ flags_of old)) checks (flags_of new)
-    flag_said role is h checks = let are = rw is at h in rw (is, named) (flags_of old, holds, flags, are, (refl, refl))
 
 -- one check of these answers keeps them
 pub kept_alone : (space : Space) (kept : List Bool) → length kept ≡ length (shown_in space) → AreKeptIn space (kept ∷ []) kept

@@ -52,8 +52,7 @@ IsEvaluationBy items space test e =
 abbrev pub IsEvaluationOver : List ResolvedItem → Test → Evaluation → Type 0
 IsEvaluationOver items test e = (space : Space) × ListsExecutions test space × IsEvaluationBy items space test e
 
--- what is said of the model is this: the first case where it is its fault that is answered, and else the second, and of an
--- evaluation the third too
+-- P for a fault of the model, otherwise Q, and R of an evaluation too
 abbrev pub OfModel : (ModelFault → Type 0) → Type 0 → (Evaluation → Type 0) → OutcomeResult → Type 0
 OfModel P Q R (Refused (refusals.Model k)) = P k
 OfModel P Q R (Refused (refusals.Space r)) = Q

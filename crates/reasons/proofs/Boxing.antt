@@ -1,5 +1,5 @@
 -- The boxes of a drawing, as they are listed.
-use Rattle.std.proofs.Common.{ℕ, ◌≡◌, ◌<◌, ◌⊎◌, ◌+◌, ◌↔◌, ◌∙◌, inl, inr, List, [], ◌∷◌, ◌++◌, length, get_or, refl, sym, ap, subst, arith}
+use Rattle.std.proofs.Common.{ℕ, ◌≡◌, ◌<◌, ◌⊎◌, ◌+◌, ◌↔◌, ◌∙◌, inl, inr, List, [], ◌∷◌, ◌++◌, length, get_or, sym, ap, subst, arith}
 use Rattle.std.specs.Prelude.{Bool, IsTrue, None, Some, Option, slice_get, slice_index_or}
 use Rattle.std.specs.List.{All, AllPairs, Contains}
 use Rattle.std.proofs.lemmas.Bool.{cases_eq}
@@ -22,13 +22,6 @@ pub record BoxesBelow (scene : Scene) (P : ℕ → Type 0) (i : ℕ) (boxes : Li
 
 none_in : (n : ℕ) → Contains (let ns : List ℕ = [] in ns) n → ⊥
 none_in n here = let (k, lt, same) = here in absurd (omega (arith, lt))
-
-pub none_boxed : (scene : Scene) (P : ℕ → Type 0) → BoxesBelow scene P 0 []
-none_boxed scene P = record {
-  rising = λ i j d lt inside. absurd (omega (arith, inside));
-  each = λ k d lt. absurd (omega (arith, lt));
-  exact = λ n. ((λ here. absurd (none_in n here)), (λ x. absurd (omega (arith, x.0))));
-}
 
 pub one_boxed : (scene : Scene) (P : ℕ → Type 0) (i : ℕ) (boxes : List ToldEvent) (b : ToldEvent) → P i → b.number ≡ i → slice_get scene.events i ≡ Some b.event → b.instruction ≡ slice_index_or scene.instructions i None
     → BoxesBelow scene P i boxes → BoxesBelow scene P (i + 1) (boxes ++ b ∷ [])
@@ -86,12 +79,6 @@ pub boxed_within : (events : List Event) (D : ℕ → Type 0) (thread : Option �
 boxed_within events D thread n x = let (here, drawn) = x in let (e, is, own) = here in slice_get_within events n e is
 
 -- ---- clusters
-
-pub no_cluster : (scene : Scene) (D : ℕ → Type 0) → AreClusters scene D 0 []
-no_cluster scene D = record {
-  count = refl;
-  each = λ t c is. let lt : t < 0 = slice_get_within [] t c is in absurd (omega (arith, lt));
-}
 
 pub cluster_more : (scene : Scene) (D : ℕ → Type 0) (i : ℕ) (cs : List Cluster) (c : Cluster) → IsCluster scene D i c → AreClusters scene D i cs → AreClusters scene D (i + 1) (cs ++ c ∷ [])
 cluster_more scene D i cs c here old = record {

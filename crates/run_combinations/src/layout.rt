@@ -23,6 +23,7 @@ use thread_runs::{held_values, served_runs_of};
 /// The runs of a thread that may be part of a candidate.
 #[derive(Drop)]
 pub struct ThreadParts {
+    /// The runs.
     pub parts: Vec<Part>,
     /// The locations and values that some of them stores.
     pub writes: KeySet,
@@ -37,6 +38,7 @@ pub struct Layout {
     pub initial: Vec<Event>,
     /// The locations and values that the initial stores store.
     pub initial_writes: KeySet,
+    /// The runs of each thread.
     pub threads: Vec<ThreadParts>,
 }
 

@@ -18,13 +18,17 @@ use std::alloc::{AllocError, Global};
 pub struct Part {
     /// The index of the run among the runs of its thread.
     pub run: usize,
+    /// Its events, in program order.
     pub events: Vec<Event>,
+    /// Its dependencies.
     pub links: Links,
     /// The locations and values that its loads read.
     pub reads: KeySet,
     /// The locations and values that its stores store.
     pub writes: KeySet,
+    /// What the registers hold at its end.
     pub registers: [Value; 32],
+    /// Whether it stopped at a fault.
     pub is_faulted: bool,
 }
 

@@ -37,14 +37,8 @@ test_field_sync = search (name.the_sync, proposition.crosses, crosses, sendable)
 pub test_sync : IsSync Test.the_row
 test_sync = search (name.the_sync, proposition.crosses, crosses, sendable) depth 100 fits 20000
 
-item_field_send : IsSend (Item.the_field).row
-item_field_send = search (expression.crosses, crosses, sendable) depth 100 fits 20000
-
 pub item_send : IsSend Item.the_row
 item_send = search (expression.crosses, crosses, sendable) depth 100 fits 20000
-
-item_field_sync : IsSync (Item.the_field).row
-item_field_sync = search (expression.crosses, crosses, sendable) depth 100 fits 20000
 
 pub item_sync : IsSync Item.the_row
 item_sync = search (expression.crosses, crosses, sendable) depth 100 fits 20000
@@ -64,38 +58,20 @@ model_sync = search (item_sync, reading.the_field_sync, crosses, sendable) depth
 replacement_field_send : IsSend (Replacement.the_field).row
 replacement_field_send = search (test_field_send, model_field_send, crosses, sendable) depth 100 fits 20000
 
-pub replacement_send : IsSend Replacement.the_row
-replacement_send = search (test_field_send, model_field_send, crosses, sendable) depth 100 fits 20000
-
 replacement_field_sync : IsSync (Replacement.the_field).row
 replacement_field_sync = search (test_field_sync, model_field_sync, crosses, sendable) depth 100 fits 20000
-
-pub replacement_sync : IsSync Replacement.the_row
-replacement_sync = search (test_field_sync, model_field_sync, crosses, sendable) depth 100 fits 20000
 
 prepared_field_send : IsSend (Prepared.the_field).row
 prepared_field_send = search (replacement_field_send, crosses, sendable) depth 100 fits 20000
 
-pub prepared_send : IsSend Prepared.the_row
-prepared_send = search (replacement_field_send, crosses, sendable) depth 100 fits 20000
-
 prepared_field_sync : IsSync (Prepared.the_field).row
 prepared_field_sync = search (replacement_field_sync, crosses, sendable) depth 100 fits 20000
-
-pub prepared_sync : IsSync Prepared.the_row
-prepared_sync = search (replacement_field_sync, crosses, sendable) depth 100 fits 20000
 
 texts_field_send : IsSend (Texts.the_field).row
 texts_field_send = search (test_send, model_send, crosses, sendable) depth 100 fits 20000
 
-pub texts_send : IsSend Texts.the_row
-texts_send = search (test_send, model_send, crosses, sendable) depth 100 fits 20000
-
 texts_field_sync : IsSync (Texts.the_field).row
 texts_field_sync = search (test_sync, model_sync, crosses, sendable) depth 100 fits 20000
-
-pub texts_sync : IsSync Texts.the_row
-texts_sync = search (test_sync, model_sync, crosses, sendable) depth 100 fits 20000
 
 pub given_send : IsSend Given.the_row
 given_send = search (proposition.crosses, shared.the_field_send, shared.the_field_sync, space.the_field_send, space.the_field_sync, crosses, sendable) depth 100 fits 20000
@@ -112,14 +88,8 @@ edit_sync = search (prepared_field_sync, edited.the_field_sync, crosses, sendabl
 stamped_field_send : IsSend (StampedTexts.the_field).row
 stamped_field_send = search (texts_field_send, parts.the_field_send, crosses, sendable) depth 100 fits 20000
 
-pub stamped_send : IsSend StampedTexts.the_row
-stamped_send = search (texts_field_send, parts.the_field_send, crosses, sendable) depth 100 fits 20000
-
 stamped_field_sync : IsSync (StampedTexts.the_field).row
 stamped_field_sync = search (texts_field_sync, parts.the_field_sync, crosses, sendable) depth 100 fits 20000
-
-pub stamped_sync : IsSync StampedTexts.the_row
-stamped_sync = search (texts_field_sync, parts.the_field_sync, crosses, sendable) depth 100 fits 20000
 
 pub running_send : IsSend RunningTexts.the_row
 running_send = search (stamped_field_send, crosses, sendable) depth 100 fits 20000

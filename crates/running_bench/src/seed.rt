@@ -20,7 +20,9 @@ pub type RunningDesk<J, R> = Desk<J, RunningTexts, R>;
 
 /// An empty history and an empty store, which have no name yet. The caller picks a name that stands for both.
 pub struct DeskSeed {
+    /// The history.
     pub book: Opened<BoardOp>,
+    /// The store.
     pub values: OpenedStore<NodeValue>,
 }
 

@@ -6,4 +6,4 @@
 pub mod laws;
 mod view;
 
-pub use view::{edit_count_in, items_in, newest_view, result_in};
+pub use view::{edit_count_in, newest_view, result_in};

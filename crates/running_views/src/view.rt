@@ -1,14 +1,14 @@
 //! What a viewer of the running bench takes, and asks of its view.
 
-ghost use Rattle.std.specs.Prelude.{◌≡◌, ◌≤◌, IfOk, IfErr, option_map};
+ghost use Rattle.std.specs.Prelude.{◌≡◌, ◌≤◌, IfOk, IfErr};
 ghost use mathlib.Core.List.{IsPrefix};
 ghost use Rattle.compare_report.specs.Cells.{cell_of};
-ghost use Rattle.board.specs.Contents.{shown, items_of};
+ghost use Rattle.board.specs.Contents.{shown};
 ghost use Rattle.board.specs.Operations.{board_after};
 ghost use Rattle.board.specs.Legal.{IsLegal, texts_after, last_number};
 ghost use Rattle.view_laws.specs.Results.{IsRightCell, ShowsRightCells};
 ghost use Rattle.view_laws.specs.Edits.{edit_count};
-ghost use Rattle.view_laws.specs.Items.{printed_in, ShowsRightItems};
+ghost use Rattle.view_laws.specs.Items.{ShowsRightItems};
 ghost use Rattle.running_bench.specs.Texts.{AreEditsMade};
 
 use compare_report::Shown;
@@ -52,17 +52,6 @@ pub fn result_in<'v, J: Naming>(
 {
     cells_are_right();
     view.board().show(test, model)
-}
-
-/// The items of the model of this name in the texts after the operations of a view, with their numbers, one on each line; none
-/// where the texts lack the model. It takes no memory.
-pub fn items_in<'v, J: Naming>(view: &'v View<J, RunningTexts>, model: &[u8]) -> Option<&'v [u8]>
-    requires legal { IsLegal view.now }
-    ensures shown { option_map (λ b. b.now) result ≡ items_of (board_after view.now) model.now }
-    ensures right { option_map (λ b. b.now) result ≡ printed_in (texts_after view.now) model.now }
-{
-    items_are_right();
-    view.board().items(model)
 }
 
 /// How many edits there are among the operations of a view: no more than the number of the last.

@@ -1,30 +1,18 @@
 //! The outcomes of tests under models, each as if it were evaluated from nothing.
 
 ghost use denote.Ref.{Bor};
-ghost use Rattle.std.specs.Prelude.{◌≡◌, List, IfOk, map};
+ghost use Rattle.std.specs.Prelude.{List, IfOk};
 ghost use Rattle.std.specs.List.{AllZip};
-ghost use Rattle.litmus_values.specs.Value.{content_of};
-ghost use Rattle.bench_texts.specs.Held.{model_of};
 ghost use Rattle.memo_graph.specs.Suites.{AreResolvedAs};
-ghost use Rattle.session_answers.specs.Cells.{IsOutcome, IsRow};
-ghost use Rattle.session_answers.specs.Rows.{HasOutcomes, row_said};
+ghost use Rattle.session_answers.specs.Rows.{HasOutcomes};
 
-use crate::progress::{NoProgress, Progress, ProgressListener};
+use crate::progress::{Progress, ProgressListener};
 use crate::rows::TestOutcomes;
-use bench_texts::NamedModel;
 use binding_graph::{ModelFault, Resolved};
 use cat_values::ModelText;
 use litmus_values::Test;
-use memo_graph::{eval_cell, eval_row, resolved_models};
+use memo_graph::{eval_row, resolved_models};
 use std::alloc::{AllocError, Global};
-use verdict::Outcome;
-
-/// The outcome of the test under the model. Errors: out of memory.
-pub fn outcome_of(alloc: Global, test: &Test, model: &NamedModel) -> Result<Outcome, AllocError>
-    ensures { IfOk result (IsOutcome (content_of test.now) (model_of model.now)) }
-{
-    eval_cell(alloc, test, model.text())
-}
 
 fn outcomes_of(
     alloc: Global,
@@ -81,29 +69,4 @@ pub fn test_outcomes<L: ProgressListener>(
     let rows = each_test(alloc, tests, &resolved, listener);
     listener.hear_end();
     rows
-}
-
-fn model_texts<'m>(
-    alloc: Global,
-    models: &[&'m NamedModel],
-) -> Result<Vec<&'m ModelText>, AllocError>
-    ensures { IfOk result (λ v. map (λ t. t.now) v.items ≡ map (λ m. m.now.text) models.now) }
-{
-    let mut texts = Vec::with_capacity(alloc, models.len())?;
-    for model in models {
-        texts.push(model.text())?;
-    }
-    Ok(texts)
-}
-
-/// The outcomes of each test under the models. Errors: out of memory.
-pub fn all_outcomes(
-    alloc: Global,
-    tests: &[Test],
-    models: &[&NamedModel],
-) -> Result<Vec<TestOutcomes>, AllocError>
-    ensures { IfOk result (λ v. AllZip (IsRow (map (λ m. model_of m.now) models.now)) (map content_of tests.now) (map row_said v.items)) }
-{
-    let texts = model_texts(alloc, models)?;
-    test_outcomes(alloc, tests, &texts, &mut NoProgress)
 }

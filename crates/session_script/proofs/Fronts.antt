@@ -1,11 +1,11 @@
 -- The first bytes of a source.
-use Rattle.std.proofs.Common.{◌≡◌, ℕ, ◌+◌, ◌-◌, ◌<◌, ◌≤◌, ◌⊎◌, inl, inr, List, [], ◌++◌, length, take, min, Option, Some, None, Result, Ok, Err, OnOk, IfSome, sym, ap, ◌∙◌, subst, refl, arith, append_assoc}
+use Rattle.std.proofs.Common.{◌≡◌, ℕ, ◌+◌, ◌-◌, ◌<◌, ◌≤◌, ◌⊎◌, inl, inr, List, [], ◌++◌, length, take, min, Option, Some, None, Result, Ok, Err, OnOk, sym, ap, ◌∙◌, subst, refl, arith, append_assoc}
 use Rattle.std.proofs.lemmas.Bool.{cases_order}
 use Rattle.std.proofs.lemmas.Grind.{common_steps}
-use Rattle.std.proofs.lemmas.List.{append-nil, take_all, take_min, length-take, length-take-le, length-append, take-take, take-append-le}
+use Rattle.std.proofs.lemmas.List.{take_all, take_min, length-take, length-take-le, length-append, take-take, take-append-le}
 use Rattle.std.proofs.Math.Seq.{take-append-add}
 use Rattle.std.specs.Prelude.{if◌then◌else◌, is_ok}
-use Rattle.std.specs.Io.KnownBytes.{Consumes, IsAtEnd}
+use Rattle.std.specs.Io.KnownBytes.{Consumes}
 
 -- of the bytes that were left at first, some are read, one at least a turn, and the first of them are kept
 abbrev pub HasRead : ℕ → Option (List ℕ) → Option (List ℕ) → List ℕ → ℕ → Type 0
@@ -54,23 +54,6 @@ read_on most (Some all) (Some left) (Some rest) kept more turns (bytes, whole, f
 
 pub is_kept : (most : ℕ) (first left : Option (List ℕ)) (kept wanted : List ℕ) (turns : ℕ) → kept ≡ wanted → HasRead most first left wanted turns → HasRead most first left kept turns
 is_kept most first left kept wanted turns e h = subst (λ (l : List ℕ). HasRead most first left l turns) (sym e) h
-
--- at the end all is read
-pub read_to_end : (most : ℕ) (first left : Option (List ℕ)) (kept : List ℕ) (turns : ℕ) → HasRead most first left kept turns → IsAtEnd left → IfSome first (λ all. kept ≡ take most all)
-read_to_end most None left kept turns h e = tt
-read_to_end most (Some all) None kept turns h e = absurd h
-read_to_end most (Some all) (Some left) kept turns (bytes, whole, front, count) e =
-    let same : all ≡ bytes = whole ∙ ap (λ (l : List ℕ). bytes ++ l) e ∙ append-nil bytes in
-    front ∙ ap (λ (l : List ℕ). take most l) (sym same)
-
--- so many bytes were there
-pub read_so_many : (most : ℕ) (first left : Option (List ℕ)) (kept : List ℕ) (turns n : ℕ) → HasRead most first left kept turns → n ≤ turns → IfSome first (λ all. n ≤ length all)
-read_so_many most None left kept turns n h k = tt
-read_so_many most (Some all) None kept turns n h k = absurd h
-read_so_many most (Some all) (Some left) kept turns n (bytes, whole, front, count) k =
-    let len = length-append bytes left in
-    let same = ap (λ (l : List ℕ). length l) whole in
-    omega arith
 
 pub front_is_short : (kept : List ℕ) (most : ℕ) (bytes : List ℕ) → kept ≡ take most bytes → length kept ≤ most
 front_is_short kept most bytes h =

@@ -5,7 +5,7 @@ use Rattle.std.specs.declared.alloc.Global.{Global}
 use Rattle.std.specs.declared.vec.Vec.{Vec}
 use Rattle.std.specs.Io.KnownBytes.{prepend_known, Consumes, IsAtEnd}
 use Rattle.std.specs.List.{position_or_len}
-use Rattle.std.proofs.lemmas.List.{take_all, length-drop, length-append, drop-drop, append-nil}
+use Rattle.std.proofs.lemmas.List.{take_all, length-drop, drop-drop, append-nil}
 use Rattle.source_text.specs.Layout.{is_line_end}
 use Rattle.session_script.specs.Lines.{lines_of, IsUnbroken, without_return}
 use Rattle.session_script.specs.Reading.{IsPart, IsPaid, IsLine, HasText, IsSaid, IsNext}
@@ -97,19 +97,9 @@ line_is_last (Some whole) (Some left) line h end unbroken some =
     let all_of : whole ≡ line = h ∙ ap (λ (l : List ℕ). line ++ l) end ∙ append-nil line in
     ap (λ (l : List ℕ). lines_of l) all_of ∙ whole_line line some unbroken ∙ ap (λ (l : List ℕ). line ∷ lines_of l) (sym end)
 
-pub no_line : (first left : Option (List ℕ)) (line : List ℕ) → Consumes first left line → IsAtEnd left → line ≡ [] → IsLine first left None
-no_line None left line h end empty = tt
-no_line (Some whole) None line h end empty = absurd h
-no_line (Some whole) (Some left) line h end empty =
-    let all_of : whole ≡ [] = h ∙ ap (λ (l : List ℕ). l ++ left) empty ∙ end in
-    (ap (λ (l : List ℕ). lines_of l) all_of, ap (λ (l : List ℕ). lines_of l) end)
-
 pub at_end : (waiting : List ℕ) (source : Option (List ℕ)) → waiting ≡ [] → IsAtEnd source → IsAtEnd (prepend_known waiting source)
 at_end waiting None e h = tt
 at_end waiting (Some left) e h = ap (λ (l : List ℕ). l ++ left) e ∙ h
-
-pub given_so : (old new : Option (List ℕ)) (given waiting : List ℕ) → Consumes old new given → waiting ≡ given → Consumes old new waiting
-given_so old new given waiting h e = subst (λ (l : List ℕ). Consumes old new l) (sym e) h
 
 pub nothing_read : (left : Option (List ℕ)) (line : List ℕ) → line ≡ [] → Consumes left left line
 nothing_read None line e = tt
@@ -185,13 +175,6 @@ pub no_command : (left : Option (List ℕ)) (words : List (List ℕ)) → None �
 no_command None words e = tt
 no_command (Some bytes) words e = ap (λ (o : Option Request). said_by o ++ commands_from (stage_behind o) (lines_of bytes)) (sym e)
 
-alone_said : (r : Request) (bytes : List ℕ) (text : List ℕ) → has_text r ≡ false → text ≡ [] → said_by (Some r) ++ commands_from (stage_behind (Some r)) (lines_of bytes) ≡ Asked r text ∷ commands_of bytes
-alone_said r bytes text e f = rw e (ap (λ (l : List ℕ). Asked r l ∷ commands_of bytes) (sym f))
-
-pub without_text : (left : Option (List ℕ)) (words : List (List ℕ)) (r : Request) (text : List ℕ) → Some r ≡ request_of words → has_text r ≡ false → text ≡ [] → IsSaid left left words (Asked r text)
-without_text None words r text e f g = tt
-without_text (Some bytes) words r text e f g = ap (λ (o : Option Request). said_by o ++ commands_from (stage_behind o) (lines_of bytes)) (sym e) ∙ alone_said r bytes text f g
-
 text_said : (r : Request) (bytes : List ℕ) → has_text r ≡ true → said_by (Some r) ++ commands_from (stage_behind (Some r)) (lines_of bytes) ≡ commands_from (Within r []) (lines_of bytes)
 text_said r bytes e = rw e refl
 
@@ -210,22 +193,8 @@ AreSame None now = Unit {0}
 AreSame (Some first) None = ⊥
 AreSame (Some first) (Some now) = commands_of first ≡ commands_of now
 
-pub same_at_first : (left : Option (List ℕ)) → AreSame left left
-same_at_first None = tt
-same_at_first (Some bytes) = refl
-
-skipped_line : (line : List ℕ) (lines : List (List ℕ)) → is_skipped line ≡ true → commands_from Between (line ∷ lines) ≡ commands_from Between lines
-skipped_line line lines e = rw e refl
-
 line_said : (line : List ℕ) (lines : List (List ℕ)) → is_skipped line ≡ false → commands_from Between (line ∷ lines) ≡ said_by (request_of (words_of line)) ++ commands_from (stage_behind (request_of (words_of line))) lines
 line_said line lines e = rw e refl
-
-pub line_skipped : (first now next : Option (List ℕ)) (line : List ℕ) (words : List (List ℕ)) → AreSame first now → IsLine now next (Some line) → words ≡ words_of line → skips line words ≡ true → AreSame first next
-line_skipped None now next line words h read w e = tt
-line_skipped (Some first) None next line words h read w e = absurd h
-line_skipped (Some first) (Some now) None line words h read w e = absurd read
-line_skipped (Some first) (Some now) (Some next) line words h read w e =
-    h ∙ ap (λ (ls : List (List ℕ)). commands_from Between ls) read ∙ skipped_line line (lines_of next) (ap (λ (ws : List (List ℕ)). skips line ws) (sym w) ∙ e)
 
 pub line_answered : (first now next last : Option (List ℕ)) (line : List ℕ) (words : List (List ℕ)) (c : Command) → AreSame first now → IsLine now next (Some line) → words ≡ words_of line → skips line words ≡ false → IsSaid next last words c → IsNext first last (Some c)
 line_answered None now next last line words c h read w e said = tt
@@ -235,13 +204,6 @@ line_answered (Some first) (Some now) (Some next) None line words c h read w e s
 line_answered (Some first) (Some now) (Some next) (Some last) line words c h read w e said =
     h ∙ ap (λ (ls : List (List ℕ)). commands_from Between ls) read ∙ line_said line (lines_of next) (ap (λ (ws : List (List ℕ)). skips line ws) (sym w) ∙ e)
     ∙ ap (λ (ws : List (List ℕ)). said_by (request_of ws) ++ commands_from (stage_behind (request_of ws)) (lines_of next)) (sym w) ∙ said
-
-pub script_ended : (first now next : Option (List ℕ)) → AreSame first now → IsLine now next None → IsNext first next None
-script_ended None now next h read = tt
-script_ended (Some first) None next h read = absurd h
-script_ended (Some first) (Some now) None h read = absurd read
-script_ended (Some first) (Some now) (Some next) h read =
-    (h ∙ ap (λ (ls : List (List ℕ)). commands_from Between ls) read.0, ap (λ (ls : List (List ℕ)). commands_from Between ls) read.1)
 
 -- ---- turns
 
@@ -267,18 +229,3 @@ paid_to_end turns mid (Some first) (Some between) h k = omega arith
 pub no_turn : (turns : ℕ) (left : Option (List ℕ)) → turns ≡ 0 → IfSome left (λ all. turns ≤ length all)
 no_turn turns None e = tt
 no_turn turns (Some all) e = omega arith
-
--- a read that gave some bytes took one turn
-pub paid_by : (turns now : ℕ) (old new : Option (List ℕ)) (given : List ℕ) → Consumes old new given → now + 1 ≡ turns → 0 < length given → IsPaid turns now old new
-paid_by turns now None new given h e some = tt
-paid_by turns now (Some old) None given h e some = absurd h
-paid_by turns now (Some old) (Some new) given h e some =
-    let sizes : length old ≡ length given + length new = ap (λ (l : List ℕ). length l) h ∙ length-append given new in
-    omega arith
-
-pub paid_nothing : (turns now : ℕ) (old new : Option (List ℕ)) (given : List ℕ) → Consumes old new given → now ≡ turns → IsPaid turns now old new
-paid_nothing turns now None new given h e = tt
-paid_nothing turns now (Some old) None given h e = absurd h
-paid_nothing turns now (Some old) (Some new) given h e =
-    let sizes : length old ≡ length given + length new = ap (λ (l : List ℕ). length l) h ∙ length-append given new in
-    omega arith

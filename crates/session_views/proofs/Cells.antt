@@ -21,11 +21,6 @@ get_mapped f [] i x e = absurd cc
 get_mapped f (y ∷ xs) zero x e = let same : y ≡ x = (cc) in ap (λ z. Some (f z)) same
 get_mapped f (y ∷ xs) (suc i) x e = get_mapped f xs i x e
 
-get_none : {A B : Type 0} (f : A → B) (xs : List A) (i : ℕ) → slice_get xs i ≡ None → slice_get (map f xs) i ≡ None
-get_none f [] i e = refl
-get_none f (y ∷ xs) zero e = absurd cc
-get_none f (y ∷ xs) (suc i) e = get_none f xs i e
-
 some_is : {A : Type 0} (x y : A) → Some x ≡ Some y → x ≡ y
 some_is x y e = cc
 
@@ -62,6 +57,3 @@ settled_cell (Some (Some p)) o e = let same : o ≡ p = (cc) in ap (λ (q : Outc
 -- what is there at an index, as plain texts
 pub plain_at : {A B : Type 0} (f : A → B) (xs : List A) (ys : List B) (i : ℕ) (x : A) → map f xs ≡ ys → slice_get xs i ≡ Some x → slice_get ys i ≡ Some (f x)
 plain_at f xs ys i x e there = ap (λ (l : List _). slice_get l i) (sym e) ∙ get_mapped f xs i x there
-
-pub none_mapped : {A B : Type 0} (f : A → B) (xs : List A) (ys : List B) (i : ℕ) → map f xs ≡ ys → slice_get xs i ≡ None → slice_get ys i ≡ None
-none_mapped f xs ys i e there = ap (λ (l : List _). slice_get l i) (sym e) ∙ get_none f xs i there

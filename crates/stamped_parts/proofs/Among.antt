@@ -1,5 +1,5 @@
 -- Parts and flags among the inputs of a node.
-use Rattle.std.proofs.Common.{ℕ, ◌+◌, ◌<◌, ◌≡◌, ◌↔◌, ◌==◌, ◌&&◌, ◌||◌, Bool, true, false, if◌then◌else◌, List, [], ◌∷◌, ◌++◌, drop, get_or, length, Option, Some, None, refl, ap, sym, ◌∙◌}
+use Rattle.std.proofs.Common.{ℕ, ◌+◌, ◌<◌, ◌≡◌, ◌==◌, ◌&&◌, ◌||◌, Bool, true, false, if◌then◌else◌, List, [], ◌∷◌, ◌++◌, drop, get_or, length, Option, Some, None, refl, ap, ◌∙◌}
 use Rattle.std.proofs.lemmas.Option.{slice_get_read}
 use Rattle.memo_core.specs.declared.keys.Key.{Key}
 use Rattle.memo_core.specs.declared.keys.Key.TheVariants.{Part, Output}
@@ -55,24 +55,3 @@ flags_more s all (Output n x) ks = by_kind n.kind
 
 abbrev pub flags_of : State → ℕ → List SlotKey → List SlotKey → List (Option (List ℕ))
 flags_of s test all ks = flags_read s (keys_at test all) (keys_at test ks)
-
-pub flags_step : (s : State) (test : ℕ) (all ks : List SlotKey) (i : ℕ) (k : SlotKey) → i < length ks → k ≡ get_or ks i k → flags_of s test all (drop i ks) ≡ flag_at s (keys_at test all) (key_at test k) ++ flags_of s test all (drop (i + 1) ks)
-flags_step s test all ks i k lt at = ap (flags_of s test all) (drop_get ks i k (slice_get_read ks (length ks) i k refl lt at)) ∙ flags_more s (keys_at test all) (key_at test k) (keys_at test (drop (i + 1) ks))
-
--- ---- two lists, element by element
-
-module _ {X : Type 0} (x y : X) (xs ys rest left whole all : List X) (more : rest ≡ x ∷ xs) (less : left ≡ y ∷ ys) (same : (rest ≡ left) ↔ (whole ≡ all)) where
-  heads : x ∷ xs ≡ y ∷ ys → x ≡ y
-  heads e = cc
-
-  tails : x ∷ xs ≡ y ∷ ys → xs ≡ ys
-  tails e = cc
-
-  pub same_head : x ≡ y → ((xs ≡ ys) ↔ (whole ≡ all))
-  same_head e = (
-    (λ f. same.0 (more ∙ (let both : x ∷ xs ≡ y ∷ ys = cc in both) ∙ sym less)),
-    (λ f. tails (sym more ∙ same.1 f ∙ less)),
-  )
-
-  pub other_head : (x ≡ y → ⊥) → whole ≡ all → ⊥
-  other_head h f = h (heads (sym more ∙ same.1 f ∙ less))

@@ -16,6 +16,7 @@ pub const MAX_VALUES: usize = 1_048_576;
 /// An empty store that has no name yet. A caller picks the name whose shelves are these.
 #[derive(Drop)]
 pub struct Opened<V> {
+    /// The shelves.
     pub values: Shelf<V>,
     /// How many values it takes.
     pub limit: usize,

@@ -15,3 +15,4 @@ pub use answer::{
     CountedState, Evaluation, FinalValue, Observation, Outcome, OutcomeResult, Refusal,
 };
 pub use judgement::{Raised, outcome, outcome_kept};
+pub use shown_place::ShownPlace;

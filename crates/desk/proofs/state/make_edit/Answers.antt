@@ -1,4 +1,5 @@
-use Rattle.std.proofs.Common.{◌<◌, ◌+◌, sym, subst, arith}
+use Rattle.std.proofs.Common.{◌<◌, ◌+◌, ap, sym, subst, arith}
+use Rattle.desk_rule.specs.Histories.{Pressed}
 use Rattle.desk.proofs.state.make_edit.Goals as goal
 
 pub edit_told-requires : goal.edit_told-requires
@@ -35,3 +36,9 @@ returns-in-Ok-Some-clause-made g c =
       is = g.met.X.BoardTexts.edit_named c.args.bench.now.texts told.ready c.args.edit told.prepared c.in-Ok-Some.number a.op c.args.ledger.now.all c.requires.valid c.requires.after told.prepares_it a.announced;
       list = a.all;
     }
+
+pub returns-then-wants_memory-clause-published : goal.returns-then-wants_memory-clause-published
+returns-then-wants_memory-clause-published g c = ap (λ (l : Pressed _). l.published) c.in-Err.ensures.unseen
+
+pub returns-else-wants_memory-clause-published : goal.returns-else-wants_memory-clause-published
+returns-else-wants_memory-clause-published g c = ap (λ (l : Pressed _). l.published) c.in-Err.ensures.unseen

@@ -1,5 +1,8 @@
-use Rattle.std.proofs.Common.{refl}
+use Rattle.std.proofs.Common.{List, [], ◌∷◌, ◌++◌, refl, ap, sym, ◌∙◌, subst}
+use mathlib.Core.List.{IsPrefix}
+use Rattle.desk.specs.Held.{Held}
 use Rattle.desk.proofs.Growing.{begins_edit}
+use Rattle.desk.proofs.Refusing.{never, not_ok, not_seat, other_closed}
 use Rattle.desk.proofs.Returning.{was_so}
 use Rattle.desk.proofs.state.DeskState.edit.Goals as goal
 
@@ -10,9 +13,52 @@ invariant_of-self-2 g c =
     let made = c.in_ok-number.ensures in
     (made.valid, rw p.all q.posts.after, rw (p.all, q.posts.number) made.last, λ owes. rw p.all (q.posted (was_so c.post.result owes)))
 
-pub tell_all-requires : goal.tell_all-requires
-tell_all-requires g c =
+pub returns-clause-published : goal.returns-clause-published
+returns-clause-published g c =
+    let p = c.if-not-publish.ensures in
     let made = c.in_ok-number.ensures.made in
     let posts = c.post.ensures.posts in
     let behind = rw c.front.ensures.front at (c.if-not-is_behind.ensures.begins refl) in
-    record { begins = rw c.if-not-publish.ensures.all (begins_edit _ _ made.op _ posts.more _ behind made.list posts.all) }
+    let begins : IsPrefix c.args.me.now c.front-2.result.now = rw (c.front-2.ensures.front, p.all) (begins_edit _ _ made.op _ posts.more _ behind made.list posts.all) in
+    (p.published ∙ sym p.all, c.tell.ensures.told begins ∙ c.front-2.ensures.front)
+
+pub returns-clause-told : goal.returns-clause-told
+returns-clause-told g c =
+    let p = c.if-not-publish.ensures in
+    let made = c.in_ok-number.ensures.made in
+    let posts = c.post.ensures.posts in
+    let behind = rw c.front.ensures.front at (c.if-not-is_behind.ensures.begins refl) in
+    let begins : IsPrefix c.args.me.now c.front-2.result.now = rw (c.front-2.ensures.front, p.all) (begins_edit _ _ made.op _ posts.more _ behind made.list posts.all) in
+    let told = c.tell.ensures.told begins ∙ c.front-2.ensures.front in
+    record {
+      between = behind.0;
+      op = made.op;
+      is = subst (λ (l : List _). g.X.BoardTexts.is_edit l made.op c.args.edit c.in_ok-number.number) (sym behind.1) made.is;
+      settles = posts.more;
+      are_settles = posts.are_settles;
+      list = told ∙ (p.all ∙ (posts.all ∙ ap (λ (l : List _). l ++ posts.more) (made.list ∙ ap (λ (l : List _). l ++ made.op ∷ []) (sym behind.1))));
+      legal = rw told c.front-2.ensures.legal;
+    }
+
+pub invariant_of-self : goal.invariant_of-self
+invariant_of-self g c = let made = c.make_edit.ensures in (made.valid, made.after, made.last, λ owes. absurd (never owes))
+
+pub invariant_of-self-then-not-publish : goal.invariant_of-self-then-not-publish
+invariant_of-self-then-not-publish g c =
+    let p = c.if-not-publish.ensures in
+    let posts = c.post.ensures.posts in
+    let made = c.in_ok-number.ensures in
+    (made.valid, rw p.all posts.after, rw (p.all, posts.number) made.last, λ owes. absurd (never owes))
+
+pub returns-then-not-publish-clause-published : goal.returns-then-not-publish-clause-published
+returns-then-not-publish-clause-published g c =
+    (c.if-not-publish.ensures.published ∙ (c.post.ensures.posts.published ∙ (c.in_ok-number.ensures.published ∙ ap (λ (h : Held _ _ _). h.published) c.self.view_is)), refl)
+
+pub returns-then-not-is_behind-clause-closed : goal.returns-then-not-is_behind-clause-closed
+returns-then-not-is_behind-clause-closed g c = other_closed _ _ not_seat (sym (ap (λ (h : Held _ _ _). h.closed) c.self.view_is) ∙ c.if-self.false)
+
+pub returns-then-not-publish-clause-closed : goal.returns-then-not-publish-clause-closed
+returns-then-not-publish-clause-closed g c = other_closed _ _ (not_ok _) (sym (ap (λ (h : Held _ _ _). h.closed) c.self.view_is) ∙ c.if-self.false)
+
+pub returns-clause-closed : goal.returns-clause-closed
+returns-clause-closed g c = other_closed _ _ (not_ok _) (sym (ap (λ (h : Held _ _ _). h.closed) c.self.view_is) ∙ c.if-self.false)

@@ -38,6 +38,12 @@ returns-in-Err-clause-right g c =
     let t = g.T.Texts in
     (c.prepare.ensures.valid c.requires.right.0, right_kept (IsCounted t.since t.net t.makes s.texts) (IsCounted t.since t.net t.makes c.prepare.new.self) (λ n is vs os k. counted_later t.is_valid t.since t.net t.makes s.texts c.prepare.new.self (λ w f. c.prepare.ensures.since w f) n is vs os k) (t.net s.texts) (t.net c.prepare.new.self) c.prepare.ensures.net (as_memos s.memos.entries) s.taken c.requires.right.1)
 
+pub returns-then-not-tell-clause-right : goal.returns-then-not-tell-clause-right
+returns-then-not-tell-clause-right g c =
+    let s = c.args.self.now in
+    let t = g.T.Texts in
+    (c.prepare.ensures.valid c.requires.right.0, right_kept (IsCounted t.since t.net t.makes s.texts) (IsCounted t.since t.net t.makes c.prepare.new.self) (λ n is vs os k. counted_later t.is_valid t.since t.net t.makes s.texts c.prepare.new.self (λ w f. c.prepare.ensures.since w f) n is vs os k) (t.net s.texts) (t.net c.prepare.new.self) c.prepare.ensures.net (as_memos s.memos.entries) s.taken c.requires.right.1)
+
 pub returns-clause-fresh : goal.returns-clause-fresh
 returns-clause-fresh g c =
     let s = c.args.self.now in
@@ -59,3 +65,6 @@ pub returns-in-Err-clause-since : goal.returns-in-Err-clause-since
 returns-in-Err-clause-since g c =
     let s = c.args.self.now in
     c.prepare.ensures.since s.texts (g.met.T.Texts.since_same s.texts c.requires.right.0)
+
+pub returns-then-not-tell-clause-marks : goal.returns-then-not-tell-clause-marks
+returns-then-not-tell-clause-marks g c = rw c.prepare.ensures.net c.requires.marks

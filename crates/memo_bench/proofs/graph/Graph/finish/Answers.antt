@@ -15,3 +15,15 @@ pub returns-in-Late-clause-fresh : goal.returns-in-Late-clause-fresh
 returns-in-Late-clause-fresh g c =
     let s = c.args.self.now in
     rw (c.remove.ensures.entries, closed c.args.done.claim s.claims.entries) (fresh_closed (as_memos s.memos.entries) c.args.done.claim (open_claims s.claims.entries) c.requires.fresh.0, numbered_closed s.taken c.args.done.claim (open_claims s.claims.entries) c.requires.fresh.1)
+
+pub returns-in-Due-clause-right : goal.returns-in-Due-clause-right
+returns-in-Due-clause-right g c = c.accept.ensures.taken.right
+
+pub returns-in-Due-clause-fresh : goal.returns-in-Due-clause-fresh
+returns-in-Due-clause-fresh g c = c.accept.ensures.taken.fresh
+
+pub returns-in-Due-clause-marks : goal.returns-in-Due-clause-marks
+returns-in-Due-clause-marks g c = c.accept.ensures.taken.marks
+
+pub returns-in-Due-clause-step : goal.returns-in-Due-clause-step
+returns-in-Due-clause-step g c = c.accept.ensures.taken.step

@@ -1,5 +1,0 @@
-use Rattle.session_answers.proofs.Named.{rows_said}
-use Rattle.session_answers.proofs.outcomes.all_outcomes.Goals as goal
-
-pub returns : goal.returns
-returns c = rows_said c.args.tests.now c.args.models.now c.deref.result.now c.test_outcomes.result (rw c.deref.ensures.value c.in_ok-texts.ensures) c.test_outcomes.ensures
