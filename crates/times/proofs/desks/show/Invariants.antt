@@ -1,4 +1,4 @@
-use Rattle.bench_times.proofs.desks.show.Given as goal
+use Rattle.times.proofs.desks.show.Given as goal
 
 abbrev pub ghosts-show_desk-J-Naming : goal.ghosts-show_desk-J-Naming
 ghosts-show_desk-J-Naming g a = record { book = a.seed.book.seen.book }

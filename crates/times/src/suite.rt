@@ -1,5 +1,7 @@
 //! How long a cell takes where many tests are evaluated under many models.
 
+ghost use Rattle.std.specs.Prelude.{◌≤◌, length};
+
 use crate::timing::{Work, forget_memory, show_memory, show_microseconds, time_of};
 use cat_syntax::{ModelText, read_model};
 use litmus_ppc::{Test, read_test};
@@ -9,7 +11,7 @@ use std::rt::{Clock, Files};
 use std::{fs, io};
 
 /// The word between the models and the tests.
-pub const OVER: &str = "over";
+const OVER: &str = "over";
 
 /// All tests under all models.
 #[derive(Drop)]
@@ -99,7 +101,7 @@ fn show_time<R: Files + Clock + Print + AllocGlobal>(
 }
 
 /// Prints how long a cell takes of these tests under these models, evaluated together and one by one.
-pub fn show<R: Files + Clock + Print + AllocGlobal>(
+fn show<R: Files + Clock + Print + AllocGlobal>(
     rt: &R,
     model_paths: &[String],
     test_paths: &[String],
@@ -115,4 +117,26 @@ pub fn show<R: Files + Clock + Print + AllocGlobal>(
     show_time(rt, "together", &suite)?;
     suite.is_by_cells = true;
     show_time(rt, "one by one", &suite)
+}
+
+/// The index of a word among the words, or how many they are where it is not among them.
+fn index_of(words: &[String], word: &str) -> usize
+    ensures { result ≤ length words.now }
+{
+    for index in 0..words.len() {
+        if words[index].as_str() == word {
+            return index;
+        }
+    }
+    words.len()
+}
+
+/// Prints how long a cell of a suite takes: the models stand before the word `over`, the tests behind it.
+pub fn show_all<R: Files + Clock + Print + AllocGlobal>(
+    rt: &R,
+    words: &[String],
+) -> io::Result<()> {
+    let index = index_of(words, OVER);
+    let tests = words.get(index + 1..).unwrap_or(&[]);
+    show(rt, &words[..index], tests)
 }

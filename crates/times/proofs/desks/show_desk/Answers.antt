@@ -1,6 +1,6 @@
 -- What crosses to the workers holds no thread's own.
 use Rattle.running_bench.proofs.Crossings.{bench_crosses}
-use Rattle.bench_times.proofs.desks.show_desk.Goals as goal
+use Rattle.times.proofs.desks.show_desk.Goals as goal
 
 pub measure-requires-send-X : goal.measure-requires-send-X
 measure-requires-send-X g c κs within = search bench_crosses depth 100 fits 20000

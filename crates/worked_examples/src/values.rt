@@ -1,6 +1,6 @@
 //! Values of names and answers to checks, as `cat_eval` finds them over the candidates of a small test.
 
-use crate::put_bool;
+use crate::cases::put_bool;
 use binding_graph::{Resolved, ResolvedItem, resolve};
 use bit_relations::{EventSet, Rel};
 use candidates::{Space, space};

@@ -1,6 +1,6 @@
 //! Outcomes as `verdict` finds them, under answers to checks and flags that the question gives.
 
-use crate::put_bool;
+use crate::cases::put_bool;
 use candidates::space;
 use litmus_ppc::{Name, Test, read_test};
 use source_text::{put_bytes, put_decimal};
