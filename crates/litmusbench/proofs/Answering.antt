@@ -24,8 +24,8 @@ use Rattle.litmusbench.specs.declared.fault.EvalFault.{EvalFault}
 use Rattle.litmusbench.specs.declared.fault.EvalFault.TheVariants as eval_faults
 use Rattle.cat_values.specs.declared.model.ModelText.{ModelText}
 use Rattle.verdict.specs.declared.answer.Outcome.{Outcome}
-use Rattle.litmusbench.specs.declared.fault.SessionFault.{SessionFault}
-use Rattle.litmusbench.specs.declared.fault.SessionFault.TheVariants as faults
+use Rattle.command_line.specs.declared.fault.SessionFault.{SessionFault}
+use Rattle.command_line.specs.declared.fault.SessionFault.TheVariants as faults
 use Rattle.litmusbench.specs.declared.stream.Answer.{Answer}
 use Rattle.memo_graph.specs.FromScratch.{IsFromScratch}
 use Rattle.litmusbench.specs.Whys.{IsWhyAnswer}

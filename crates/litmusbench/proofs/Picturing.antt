@@ -1,7 +1,7 @@
 -- What is drawn of two texts.
 use Rattle.std.proofs.Common.{◌≡◌, ℕ, List, Bool, true, Result, Ok, Err, IfOk, sym, subst}
 use Rattle.std.specs.declared.alloc.AllocError.{AllocError}
-use Rattle.litmusbench.specs.declared.form.Drawn.{Drawn}
+use Rattle.command_line.specs.declared.form.Drawn.{Drawn}
 use Rattle.litmusbench.specs.declared.stream.Answer.{Answer}
 use Rattle.litmusbench.specs.Answer.{IsAnswer}
 use Rattle.litmusbench.specs.Pictures.{IsPictureAnswer}

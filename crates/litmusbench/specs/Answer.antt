@@ -17,12 +17,12 @@ use Rattle.verdict.specs.declared.answer.Outcome.{Outcome}
 use Rattle.memo_graph.specs.FromScratch.{IsFromScratch}
 use Rattle.litmusbench.specs.declared.fault.EvalFault.{EvalFault}
 use Rattle.litmusbench.specs.declared.fault.EvalFault.TheVariants as eval_faults
-use Rattle.litmusbench.specs.declared.fault.SessionFault.{SessionFault}
-use Rattle.litmusbench.specs.declared.fault.SessionFault.TheVariants as session_faults
+use Rattle.command_line.specs.declared.fault.SessionFault.{SessionFault}
+use Rattle.command_line.specs.declared.fault.SessionFault.TheVariants as session_faults
 use Rattle.litmusbench.specs.Cut.{IsCut}
 use Rattle.compare_report.specs.Log.{log_of}
 use Rattle.session_edits.specs.Answer.{refused_line}
-use Rattle.litmusbench.specs.Written.{WritesFront}
+use Rattle.session_script.specs.Written.{WritesFront}
 
 -- ---- what a test that was read says under a model that was read
 

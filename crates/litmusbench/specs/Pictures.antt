@@ -11,12 +11,12 @@ use Rattle.cat_syntax.specs.Reads.{Reads}
 use Rattle.reasons.specs.declared.drawing.Wanted.{Wanted}
 use Rattle.reasons.specs.declared.drawing.Wanted.TheVariants as wanteds
 use Rattle.reasons.specs.Drawings.{IsDrawn}
-use Rattle.litmusbench.specs.declared.fault.SessionFault.{SessionFault}
-use Rattle.litmusbench.specs.declared.fault.SessionFault.TheVariants as session_faults
-use Rattle.litmusbench.specs.declared.form.Drawn.{Drawn}
-use Rattle.litmusbench.specs.declared.form.Drawn.TheVariants as drawns
+use Rattle.command_line.specs.declared.fault.SessionFault.{SessionFault}
+use Rattle.command_line.specs.declared.fault.SessionFault.TheVariants as session_faults
+use Rattle.command_line.specs.declared.form.Drawn.{Drawn}
+use Rattle.command_line.specs.declared.form.Drawn.TheVariants as drawns
 use Rattle.litmusbench.specs.Answer.{IsAnswer}
-use Rattle.litmusbench.specs.Written.{WritesFront}
+use Rattle.session_script.specs.Written.{WritesFront}
 
 -- the executions that a word of the command line asks for
 abbrev pub wanted : Drawn → Wanted

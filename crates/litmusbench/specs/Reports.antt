@@ -1,5 +1,6 @@
 -- What is said of files of models and files of tests. A file whose text is refused is told, and the others go on.
-use Rattle.std.specs.Prelude.{◌≡◌, ℕ, List, [], ◌∷◌, ◌++◌, map}
+use Rattle.std.specs.Prelude.{◌≡◌, ℕ, ◌+◌, ◌⊎◌, List, [], ◌∷◌, ◌++◌, map, Option}
+use Rattle.std.specs.Io.KnownBytes.{Keeps}
 use Rattle.std.specs.List.{AllZip}
 use Rattle.cat_grammar.specs.declared.form.Form.TheVariants.{Model}
 use Rattle.cat_syntax.specs.Reads.{Reads}
@@ -101,3 +102,9 @@ pub record IsDifference (model_files test_files : List TextFile) (text faults : 
   pub rows : List Row
   pub read : AreRead model_files test_files models rows faults
   pub text_is : text ≡ difference_under models rows
+
+-- One call failed and none followed it: one to the faults' sink, before the text was written, or else one to the text's. These are
+-- the failed calls of the text's sink before and after, those of the faults' sink, and the bytes of the text's sink.
+abbrev pub IsStopped : (text_old text_new faults_old faults_new : ℕ) → (old new : Option (List ℕ)) → Type 0
+IsStopped text_old text_new faults_old faults_new old new =
+    ((faults_new ≡ faults_old + 1) × (text_new ≡ text_old) × Keeps old new) ⊎ ((faults_new ≡ faults_old) × (text_new ≡ text_old + 1))

@@ -10,10 +10,10 @@ use Rattle.cat_grammar.specs.declared.form.Form.TheVariants.{Model}
 use Rattle.cat_syntax.specs.Reads.{Reads}
 use Rattle.reasons.specs.declared.answer.Asked.{Asked}
 use Rattle.reasons.specs.Whys.{IsWhy}
-use Rattle.litmusbench.specs.declared.fault.SessionFault.{SessionFault}
-use Rattle.litmusbench.specs.declared.fault.SessionFault.TheVariants as session_faults
+use Rattle.command_line.specs.declared.fault.SessionFault.{SessionFault}
+use Rattle.command_line.specs.declared.fault.SessionFault.TheVariants as session_faults
 use Rattle.litmusbench.specs.Answer.{IsAnswer}
-use Rattle.litmusbench.specs.Written.{WritesFront}
+use Rattle.session_script.specs.Written.{WritesFront}
 
 -- what is said of the test and the model that the two texts mean
 pub record IsWhyOf (asked : Asked) (model test text : List ℕ) : Type 0 where

@@ -4,30 +4,28 @@
 mod cut;
 mod fault;
 mod file;
-mod form;
 pub mod laws;
 mod listening;
 mod progress;
 mod reading;
 mod report;
-mod sink;
-mod status;
 mod stream;
 mod texts;
 mod told;
 
-pub use fault::{EvalFault, SessionFault};
+pub use command_line::{Drawn, Form, RunEnd, SessionFault, exit_status, form_of};
+pub use fault::EvalFault;
 pub use file::TextFile;
-pub use form::{Drawn, Form, form_of};
 pub use listening::{AnswerListener, NoListener, RefusalTeller};
 pub use progress::ProgressTeller;
 pub use reading::{NamedModel, refusal_lines};
 pub use reasons::Asked;
 pub use report::{Report, difference_report, table_report, write_report};
 pub use session_answers::{NoProgress, Progress, ProgressListener};
-pub use session_script::{ByteSource, CallFailed, MemorySource, OfRead, ReadFault, read_front};
-pub use sink::{ByteSink, MemorySink, OfWrite, write_whole};
-pub use status::{RunEnd, exit_status};
+pub use session_script::{
+    ByteSink, ByteSource, CallFailed, MemorySink, MemorySource, OfRead, OfWrite, ReadFault,
+    read_front, write_whole,
+};
 pub use stream::{eval_stream, read_text, write_answer, write_drawings, write_why};
 pub use texts::{draw_report, eval, why_report};
 pub use told::model_fault;

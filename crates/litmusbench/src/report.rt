@@ -5,17 +5,17 @@ ghost use Rattle.std.specs.List.{AllZip};
 ghost use Rattle.std.specs.Io.KnownBytes.{Appends};
 ghost use Rattle.compare_report.specs.Columns.{table_of};
 ghost use Rattle.session_answers.specs.Rows.{row_said};
-ghost use Rattle.litmusbench.specs.Reports.{IsRow, AreRead, names_of, IsTable, difference_under, IsDifference};
-ghost use Rattle.litmusbench.specs.Written.{WritesFront, IsStopped};
+ghost use Rattle.litmusbench.specs.Reports.{IsRow, AreRead, names_of, IsTable, difference_under, IsDifference, IsStopped};
+ghost use Rattle.session_script.specs.Written.{WritesFront};
 
-use crate::fault::SessionFault;
 use crate::file::TextFile;
 use crate::reading::{NamedModel, read_models, read_tests};
-use crate::sink::{ByteSink, write_whole};
 use cat_syntax::ModelText;
+use command_line::SessionFault;
 use compare_report::{difference_text, table_text};
 use litmus_ppc::{Name, Test};
 use session_answers::{ProgressListener, TestOutcomes, test_outcomes, test_pairs, test_rows};
+use session_script::{ByteSink, write_whole};
 use std::alloc::{AllocError, Global};
 
 /// What is said of files of models and tests.

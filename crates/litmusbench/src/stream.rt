@@ -7,14 +7,13 @@ ghost use Rattle.litmusbench.specs.Whys.{IsWhyAnswer, IsWhyWritten};
 ghost use Rattle.session_edits.specs.Answer.{refused_line};
 
 use crate::cut::cut_at_dot;
-use crate::fault::{EvalFault, SessionFault};
-use crate::form::Drawn;
+use crate::fault::EvalFault;
 use crate::listening::AnswerListener;
-use crate::sink::{ByteSink, write_whole};
 use crate::texts::{draw_report, eval, why_report};
+use command_line::{Drawn, SessionFault};
 use reasons::Asked;
 use session_edits::put_refusal;
-use session_script::{ByteSource, ReadFault, read_front};
+use session_script::{ByteSink, ByteSource, ReadFault, read_front, write_whole};
 use std::alloc::{AllocError, Global};
 
 // What is printed, and whether a text was refused.

@@ -12,8 +12,8 @@ ghost use Rattle.litmusbench.specs.Answer.{IsLogOf, IsLog, IsRefusal, IsOfModel,
 ghost use Rattle.litmusbench.specs.Whys.{IsWhyOf};
 
 use crate::fault::EvalFault;
-use crate::form::Drawn;
 use cat_syntax::{CatFault, ModelText, read_model};
+use command_line::Drawn;
 use compare_report::outcome_log;
 use litmus_ppc::{LitmusFault, Test, read_test};
 use memo_graph::eval_cell;

@@ -7,12 +7,12 @@ use Rattle.session_script.specs.Commands.{commands_of}
 use Rattle.session_script.specs.Reading.{IsNext, IsPaid}
 use Rattle.bench_texts.specs.BenchTexts.{BenchTexts}
 use Rattle.session_answers.specs.Sessions.{IsOutput, Nothing, OneMore, no_texts}
-use Rattle.litmusbench.specs.declared.fault.SessionFault.{SessionFault}
-use Rattle.litmusbench.specs.declared.fault.SessionFault.TheVariants as faults
+use Rattle.command_line.specs.declared.fault.SessionFault.{SessionFault}
+use Rattle.command_line.specs.declared.fault.SessionFault.TheVariants as faults
 use Rattle.session_edits.specs.Answer.{Said}
 use Rattle.live_session.specs.Sessions.{IsWhole, IsFront, IsSession, IsReplied, IsReplyStopped, IsTurnFault}
 use Rattle.litmusbench.specs.Answer.{IsReadFault}
-use Rattle.litmusbench.proofs.Joined.{appends_joined}
+use Rattle.session_script.proofs.Joined.{appends_joined}
 use Rattle.live_session.specs.Faults.{IsOwnFault}
 
 -- of the bytes that were left at first these commands are read, and those bytes are left now

@@ -1,6 +1,6 @@
 -- The faults of a session that come of its desk, or of want of memory.
-use Rattle.litmusbench.specs.declared.fault.SessionFault.{SessionFault}
-use Rattle.litmusbench.specs.declared.fault.SessionFault.TheVariants as faults
+use Rattle.command_line.specs.declared.fault.SessionFault.{SessionFault}
+use Rattle.command_line.specs.declared.fault.SessionFault.TheVariants as faults
 
 abbrev pub IsOwnFault : SessionFault → Type 0
 IsOwnFault faults.Memory = Unit {0}

@@ -6,9 +6,9 @@ use Rattle.session_script.specs.Commands.{commands_of}
 use Rattle.bench_texts.specs.BenchTexts.{BenchTexts}
 use Rattle.session_edits.specs.Answer.{Said}
 use Rattle.session_answers.specs.Sessions.{IsAnswered, IsOutput}
-use Rattle.litmusbench.specs.declared.fault.SessionFault.{SessionFault}
-use Rattle.litmusbench.specs.declared.fault.SessionFault.TheVariants as faults
-use Rattle.litmusbench.specs.Written.{WritesFront}
+use Rattle.command_line.specs.declared.fault.SessionFault.{SessionFault}
+use Rattle.command_line.specs.declared.fault.SessionFault.TheVariants as faults
+use Rattle.session_script.specs.Written.{WritesFront}
 
 -- The script, of which these bytes are left, where they are known, begins with some commands of this output, and goes on with
 -- the others.

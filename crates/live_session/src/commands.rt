@@ -6,7 +6,7 @@ ghost use Rattle.session_script.specs.Reading.{left_to, turns_of, work_of, IsNex
 ghost use Rattle.bench_texts.specs.Held.{texts_of};
 ghost use Rattle.session_answers.specs.Sessions.{no_texts};
 ghost use Rattle.litmusbench.specs.Answer.{IsReadFault};
-ghost use Rattle.litmusbench.specs.Written.{WritesFront};
+ghost use Rattle.session_script.specs.Written.{WritesFront};
 ghost use Rattle.live_session.specs.Ready.{IsReady};
 ghost use Rattle.live_session.specs.Sessions.{IsSession, IsReplied, IsReplyStopped, IsTurnFault};
 
@@ -14,7 +14,7 @@ use crate::reply::{Replied, reply};
 use crate::state::Session;
 use bench_texts::Texts;
 use desk_rule::Naming;
-use litmusbench::{AnswerListener, ByteSink, ByteSource, ReadFault, SessionFault, write_whole};
+use litmusbench::{AnswerListener, ByteSink, ByteSource, ReadFault, SessionFault};
 use running_bench::RunningDesk;
 use session_edits::Answer;
 use session_script::{Command, Request, ScriptReader, ScriptText};
@@ -104,7 +104,7 @@ fn write_answer<K: ByteSink, L: AnswerListener>(
     ensures same { OnOk result (K.failed_calls sink.new ≡ K.failed_calls sink.old) }
     ensures fault { OnErr result (result ≡ Err SessionFault.Write) }
 {
-    if write_whole(sink, answer.text()).is_err() {
+    if answer.write_to(sink).is_err() {
         return Err(SessionFault::Write);
     }
     listener.hear(text, answer.text());

@@ -1,6 +1,6 @@
 -- How watching ends. Read after Runs.
 use Rattle.std.specs.Prelude.{◌≡◌, ◌≢◌, ◌+◌, ℕ, List, [], Option, Bool, Result, Err, OnOk}
-use Rattle.litmusbench.specs.declared.fault.SessionFault.{SessionFault}
+use Rattle.command_line.specs.declared.fault.SessionFault.{SessionFault}
 use Rattle.live_watch.specs.declared.start.Ended.{Ended}
 use Rattle.live_watch.specs.Runs.{IsRun}
 

@@ -1,5 +1,6 @@
 //! What a session says to a command.
 
+use session_script::{ByteSink, CallFailed, write_whole};
 use std::alloc::{AllocError, Global};
 use std::marker::Model;
 
@@ -19,7 +20,9 @@ impl Model for Answer {
 }
 
 impl Answer {
-    ghost use Rattle.std.specs.Prelude.{◌≡◌, IfOk, codes};
+    ghost use Rattle.std.specs.Prelude.{◌≡◌, ◌+◌, ◌-◌, ◌<◌, ◌^◌, IfOk, OnOk, OnErr, codes};
+    ghost use Rattle.std.specs.Io.KnownBytes.{Appends};
+    ghost use Rattle.session_script.specs.Written.{WritesFront};
     ghost use Rattle.session_edits.specs.Answer.{told, denied};
 
     /// What is told.
@@ -61,5 +64,16 @@ impl Answer {
         ensures { result ≡ self.now.refused }
     {
         self.is_refused
+    }
+
+    /// Writes its bytes. After an `Err` the sink holds a front of them.
+    pub fn write_to<S: ByteSink>(&self, sink: &mut S) -> Result<(), CallFailed>
+        requires { S.failed_calls sink.old < 2 ^ 64 - 1 }
+        ensures ok { OnOk result (Appends (S.contents sink.old) (S.contents sink.new) self.now.text) }
+        ensures front { WritesFront (S.contents sink.old) (S.contents sink.new) self.now.text }
+        ensures err { OnErr result (S.failed_calls sink.new ≡ S.failed_calls sink.old + 1) }
+        ensures same { OnOk result (S.failed_calls sink.new ≡ S.failed_calls sink.old) }
+    {
+        write_whole(sink, &self.text)
     }
 }

@@ -1,4 +1,5 @@
 pub mod Broken
 pub mod Fronts
+pub mod Joined
 pub mod Parted
 pub mod Steps

@@ -4,3 +4,4 @@ pub mod Reading
 pub mod Requests
 pub mod Rules
 pub mod Words
+pub mod Written

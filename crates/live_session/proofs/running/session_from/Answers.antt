@@ -1,4 +1,4 @@
-use Rattle.litmusbench.specs.declared.fault.SessionFault.TheVariants as faults
+use Rattle.command_line.specs.declared.fault.SessionFault.TheVariants as faults
 use Rattle.live_session.proofs.Sessions.{not_begun}
 use Rattle.live_session.proofs.running.session_from.Goals as goal
 

@@ -1,0 +1,598 @@
+//! What the words of a command line ask for.
+
+ghost use Rattle.std.specs.Prelude.{◌≡◌, ◌≤◌, ◌+◌, Some, None, IfOk, OnErr, length, option_map};
+ghost use Rattle.command_line.specs.Forms.{texts_of, asked_by, is_path, are_paths, dashes, word_at, eval_of, table_of, diff_of, why_of, session_with, session_in, session_of_three, session_of, paths_of, options_of, has_option, count_of, why_with, watch_with, watch_of, drawn_of, draw_with, draw_of_two, draw_of_three, draw_by, draw_of, text_of, by_command, asked_in};
+
+use clap::error::ErrorKind;
+use clap::{Arg, ArgAction, Command, Error};
+use session_script::number_of;
+use std::alloc::{AllocError, Global};
+
+const ABOUT: &str =
+    "Says which final states a memory model allows a litmus test to end in. With no \
+    words, standard input holds the model, a line that is exactly `.`, and the test.";
+
+const AFTER: &str =
+    "What was asked for goes to standard output. Exit status: 0 done, 1 a text or a \
+    command was refused, 2 usage or help, 3 a fault of reading, writing or memory. A path that begins with `-` \
+    is written `./-..`.\n\nExample: pipitsolder table sc.cat power.cat -- MP.litmus CoWR.litmus";
+
+const VERSION: &str = "0.1.0";
+
+const SESSION_AFTER: &str =
+    "Commands with a text, which ends in a line that is exactly `.`: test, model M, init T, \
+    thread T K, cond T, locations T, item M N, insert M N. Without: remove M N, drop test T, drop model M, \
+    items M, show T M, counts T M, table M .., diff M M.\n\nExample: printf 'model sc\\nacyclic \
+    po|rf|fr|co\\n.\\nitems sc\\n' | pipitsolder session\n\
+    Example: pipitsolder session script.txt --workers 4";
+
+/// The most workers.
+const MOST_WORKERS: u64 = 32;
+
+/// The most pictures, and how many there are at most where no number is asked for.
+const MOST_PICTURES: u64 = 64;
+
+const USUAL_PICTURES: u64 = 16;
+
+/// Which executions are drawn.
+#[derive(Clone, Copy, Debug, PartialEq, Eq)]
+pub enum Drawn {
+    /// Those that the model keeps and that have what the test asks for.
+    Shown,
+    /// Those that the model forbids and that have what the test asks for.
+    Forbidden,
+    /// All, kept or forbidden.
+    All,
+}
+
+/// What the program is asked to do.
+#[derive(Clone, Copy, Debug, PartialEq, Eq)]
+pub enum Form<'a> {
+    /// A model and a test stand on standard input, with a line `.` between them.
+    Stream,
+    /// A model and a test stand in two files.
+    Eval {
+        model: &'a str,
+        test: &'a str,
+    },
+    /// The tests of some files in a table, under the models of others.
+    Table {
+        models: &'a [&'a str],
+        tests: &'a [&'a str],
+    },
+    /// Where the models of two files tell the tests of others apart.
+    Diff {
+        models: &'a [&'a str],
+        tests: &'a [&'a str],
+    },
+    /// A script stands in a file, or on standard input: its commands are answered one after another, with so many workers.
+    Session {
+        script: Option<&'a str>,
+        workers: u64,
+    },
+    /// Why the model of a file forbids what the test of another asks for, or why it forbids one
+    /// execution; and in depth.
+    Why {
+        model: &'a str,
+        test: &'a str,
+        is_forbidden: bool,
+        is_deep: bool,
+    },
+    /// The tests of some files under the model of another, again whenever a file changes, with so many workers.
+    Watch {
+        model: &'a str,
+        tests: &'a [&'a str],
+        workers: u64,
+    },
+    /// Pictures of executions of the test of a file under the model of another, so many at most.
+    Draw {
+        model: &'a str,
+        test: &'a str,
+        drawn: Drawn,
+        most: u64,
+    },
+}
+
+fn is_path(word: &str) -> bool
+    ensures { result ≡ is_path word.now }
+{
+    let bytes = word.as_bytes();
+    !(bytes.len() > 1 && bytes[0] == b'-')
+}
+
+fn are_paths(words: &[&str]) -> bool
+    ensures { result ≡ are_paths (texts_of words.now) }
+{
+    for i in 0..words.len() {
+        if !is_path(word_at(words, i)) {
+            return false;
+        }
+    }
+    true
+}
+
+// Where the first `--` is, or the number of words.
+fn dashes(words: &[&str]) -> usize
+    ensures value { result ≡ dashes (texts_of words.now) }
+    ensures within { result ≤ length words.now }
+{
+    for i in 0..words.len() {
+        if word_at(words, i) == "--" {
+            return i;
+        }
+    }
+    words.len()
+}
+
+// The word of this index, or the empty word.
+fn word_at<'w, 'a>(words: &'w [&'a str], index: usize) -> &'a str
+    ensures { result.now ≡ word_at (texts_of words.now) index }
+{
+    match words.get(index) {
+        Some(word) => *word,
+        None => "",
+    }
+}
+
+fn eval_form<'a>(words: &'a [&'a str]) -> Option<Form<'a>>
+    ensures { option_map asked_by result ≡ eval_of (texts_of words.now) }
+{
+    if words.len() == 2 && are_paths(words) {
+        return Some(Form::Eval {
+            model: word_at(words, 0),
+            test: word_at(words, 1),
+        });
+    }
+    None
+}
+
+fn table_form<'a>(words: &'a [&'a str]) -> Option<Form<'a>>
+    ensures { option_map asked_by result ≡ table_of (texts_of words.now) (dashes (texts_of words.now)) }
+{
+    let split = dashes(words);
+    if split == 0 || words.len() - split < 2 {
+        return None;
+    }
+    let models = &words[..split];
+    if are_paths(models) {
+        return Some(Form::Table {
+            models,
+            tests: &words[split + 1..],
+        });
+    }
+    None
+}
+
+fn diff_form<'a>(words: &'a [&'a str]) -> Option<Form<'a>>
+    ensures { option_map asked_by result ≡ diff_of (texts_of words.now) }
+{
+    if words.len() > 2 && are_paths(words) {
+        return Some(Form::Diff {
+            models: &words[..2],
+            tests: &words[2..],
+        });
+    }
+    None
+}
+
+fn session_with<'a>(script: Option<&'a str>, workers: Option<u64>) -> Option<Form<'a>>
+    ensures { option_map asked_by result ≡ session_with (text_of script.entry) workers }
+{
+    match workers {
+        Some(workers) if workers <= MOST_WORKERS => Some(Form::Session { script, workers }),
+        _ => None,
+    }
+}
+
+fn session_in<'a>(script: &'a str, workers: Option<u64>) -> Option<Form<'a>>
+    ensures { option_map asked_by result ≡ session_in script.now workers }
+{
+    if is_path(script) {
+        return session_with(Some(script), workers);
+    }
+    None
+}
+
+fn session_of_three<'a>(words: &'a [&'a str]) -> Option<Form<'a>>
+    ensures { option_map asked_by result ≡ session_of_three (texts_of words.now) }
+{
+    let first = word_at(words, 0);
+    let second = word_at(words, 1);
+    let third = word_at(words, 2);
+    if first == "--workers" {
+        session_in(third, number_of(second.as_bytes()))
+    } else if second == "--workers" {
+        session_in(first, number_of(third.as_bytes()))
+    } else {
+        None
+    }
+}
+
+fn session_form<'a>(words: &'a [&'a str]) -> Option<Form<'a>>
+    ensures { option_map asked_by result ≡ session_of (texts_of words.now) }
+{
+    if words.len() == 0 {
+        let script = None;
+        return Some(Form::Session { script, workers: 0 });
+    }
+    let first = word_at(words, 0);
+    if words.len() == 1 {
+        return session_in(first, Some(0));
+    }
+    if words.len() == 2 {
+        if first == "--workers" {
+            return session_with(None, number_of(word_at(words, 1).as_bytes()));
+        }
+        return None;
+    }
+    if words.len() == 3 {
+        return session_of_three(words);
+    }
+    None
+}
+
+// The first two words, or the last two where the first word is an option.
+fn paths_of<'w, 'a>(words: &'w [&'a str]) -> &'w [&'a str]
+    requires { 2 ≤ length words.now }
+    ensures { texts_of result.now ≡ paths_of (texts_of words.now) }
+{
+    if is_path(word_at(words, 0)) {
+        &words[..2]
+    } else {
+        &words[words.len() - 2..]
+    }
+}
+
+// The words behind these, or before them.
+fn options_of<'w, 'a>(words: &'w [&'a str]) -> &'w [&'a str]
+    requires { 2 ≤ length words.now }
+    ensures { texts_of result.now ≡ options_of (texts_of words.now) }
+{
+    if is_path(word_at(words, 0)) {
+        &words[2..]
+    } else {
+        &words[..words.len() - 2]
+    }
+}
+
+// Whether one of two options is this one.
+fn has_option(options: &[&str], option: &str) -> bool
+    ensures { result ≡ has_option (texts_of options.now) option.now }
+{
+    word_at(options, 0) == option || word_at(options, 1) == option
+}
+
+fn count_of(first: bool, second: bool) -> usize
+    ensures { result ≡ count_of first second }
+{
+    match (first, second) {
+        (true, true) => 2,
+        (false, false) => 0,
+        _ => 1,
+    }
+}
+
+fn why_with<'a>(
+    paths: &[&'a str],
+    count: usize,
+    is_forbidden: bool,
+    is_deep: bool,
+) -> Option<Form<'a>>
+    ensures { option_map asked_by result ≡ why_with (texts_of paths.now) count is_forbidden is_deep }
+{
+    if are_paths(paths) && count == count_of(is_forbidden, is_deep) {
+        let model = word_at(paths, 0);
+        let test = word_at(paths, 1);
+        return Some(Form::Why {
+            model,
+            test,
+            is_forbidden,
+            is_deep,
+        });
+    }
+    None
+}
+
+fn why_form<'a>(words: &'a [&'a str]) -> Option<Form<'a>>
+    ensures { option_map asked_by result ≡ why_of (texts_of words.now) }
+{
+    if words.len() < 2 {
+        return None;
+    }
+    let options = options_of(words);
+    let is_forbidden = has_option(options, "--forbidden");
+    let is_deep = has_option(options, "--deep");
+    why_with(paths_of(words), options.len(), is_forbidden, is_deep)
+}
+
+fn watch_with<'a>(words: &'a [&'a str], workers: Option<u64>) -> Option<Form<'a>>
+    ensures { option_map asked_by result ≡ watch_with (texts_of words.now) workers }
+{
+    match workers {
+        Some(workers) if words.len() > 1 && are_paths(words) && MOST_WORKERS >= workers => {
+            let model = word_at(words, 0);
+            let tests = &words[1..];
+            Some(Form::Watch {
+                model,
+                tests,
+                workers,
+            })
+        }
+        _ => None,
+    }
+}
+
+fn watch_form<'a>(words: &'a [&'a str]) -> Option<Form<'a>>
+    ensures { option_map asked_by result ≡ watch_of (texts_of words.now) }
+{
+    if word_at(words, 0) != "--workers" {
+        return watch_with(words, Some(0));
+    }
+    if words.len() < 2 {
+        return None;
+    }
+    watch_with(&words[2..], number_of(word_at(words, 1).as_bytes()))
+}
+
+fn drawn_of(word: &str) -> Option<Drawn>
+    ensures { result ≡ drawn_of word.now }
+{
+    if word == "--shown" {
+        Some(Drawn::Shown)
+    } else if word == "--forbidden" {
+        Some(Drawn::Forbidden)
+    } else if word == "--all" {
+        Some(Drawn::All)
+    } else {
+        None
+    }
+}
+
+fn draw_with<'a>(paths: &[&'a str], drawn: Option<Drawn>, most: Option<u64>) -> Option<Form<'a>>
+    ensures { option_map asked_by result ≡ draw_with (texts_of paths.now) drawn most }
+{
+    match (drawn, most) {
+        (Some(drawn), Some(most)) => {
+            if are_paths(paths) && 1 <= most && most <= MOST_PICTURES {
+                let model = word_at(paths, 0);
+                let test = word_at(paths, 1);
+                return Some(Form::Draw {
+                    model,
+                    test,
+                    drawn,
+                    most,
+                });
+            }
+            None
+        }
+        _ => None,
+    }
+}
+
+fn draw_of_two<'a>(paths: &[&'a str], options: &[&str]) -> Option<Form<'a>>
+    ensures { option_map asked_by result ≡ draw_of_two (texts_of paths.now) (texts_of options.now) }
+{
+    if word_at(options, 0) == "--most" {
+        let most = number_of(word_at(options, 1).as_bytes());
+        return draw_with(paths, Some(Drawn::Shown), most);
+    }
+    None
+}
+
+fn draw_of_three<'a>(paths: &[&'a str], options: &[&str]) -> Option<Form<'a>>
+    ensures { option_map asked_by result ≡ draw_of_three (texts_of paths.now) (texts_of options.now) }
+{
+    let first = word_at(options, 0);
+    let second = word_at(options, 1);
+    let third = word_at(options, 2);
+    if first == "--most" {
+        draw_with(paths, drawn_of(third), number_of(second.as_bytes()))
+    } else if second == "--most" {
+        draw_with(paths, drawn_of(first), number_of(third.as_bytes()))
+    } else {
+        None
+    }
+}
+
+fn draw_by<'a>(paths: &[&'a str], options: &[&str]) -> Option<Form<'a>>
+    ensures { option_map asked_by result ≡ draw_by (texts_of paths.now) (texts_of options.now) }
+{
+    if options.len() == 0 {
+        draw_with(paths, Some(Drawn::Shown), Some(USUAL_PICTURES))
+    } else if options.len() == 1 {
+        draw_with(paths, drawn_of(word_at(options, 0)), Some(USUAL_PICTURES))
+    } else if options.len() == 2 {
+        draw_of_two(paths, options)
+    } else if options.len() == 3 {
+        draw_of_three(paths, options)
+    } else {
+        None
+    }
+}
+
+fn draw_form<'a>(words: &'a [&'a str]) -> Option<Form<'a>>
+    ensures { option_map asked_by result ≡ draw_of (texts_of words.now) }
+{
+    if words.len() < 2 {
+        return None;
+    }
+    draw_by(paths_of(words), options_of(words))
+}
+
+fn command_form<'a>(command: &str, words: &'a [&'a str]) -> Option<Form<'a>>
+    ensures { option_map asked_by result ≡ by_command command.now (texts_of words.now) }
+{
+    if command == "eval" {
+        eval_form(words)
+    } else if command == "table" {
+        table_form(words)
+    } else if command == "diff" {
+        diff_form(words)
+    } else if command == "session" {
+        session_form(words)
+    } else if command == "why" {
+        why_form(words)
+    } else if command == "watch" {
+        watch_form(words)
+    } else if command == "draw" {
+        draw_form(words)
+    } else {
+        None
+    }
+}
+
+fn form_in<'a>(words: &'a [&'a str]) -> Option<Form<'a>>
+    ensures { option_map asked_by result ≡ asked_in (texts_of words.now) }
+{
+    if words.len() < 2 {
+        return Some(Form::Stream);
+    }
+    command_form(word_at(words, 1), &words[2..])
+}
+
+fn path<'a>(alloc: Global, name: &'static str, help: &'static str) -> Arg<'a> {
+    Arg::new(alloc, name)
+        .help(help)
+        .required(true)
+        .action(ArgAction::Set)
+}
+
+fn eval_command<'a>(alloc: Global) -> Result<Command<'a>, AllocError> {
+    let model = path(
+        alloc,
+        "MODEL",
+        "A file that holds a model in the cat language",
+    );
+    let test = path(
+        alloc,
+        "TEST",
+        "A file that holds a litmus test for Power (PPC)",
+    );
+    Command::new(alloc, "eval")
+        .about("The same, with the model and the test in two files")
+        .arg(model)?
+        .arg(test)
+}
+
+fn table_command<'a>(alloc: Global) -> Result<Command<'a>, AllocError> {
+    let models = path(alloc, "MODEL", "Files of models").num_args(1..);
+    let tests = path(alloc, "TEST", "Files of tests, behind `--`")
+        .num_args(1..)
+        .last(true);
+    Command::new(alloc, "table")
+        .about("A table of the tests of some files under the models of others")
+        .arg(models)?
+        .arg(tests)
+}
+
+fn diff_command<'a>(alloc: Global) -> Result<Command<'a>, AllocError> {
+    let first = path(alloc, "FIRST", "The file of a model");
+    let second = path(alloc, "SECOND", "The file of another model");
+    let tests = path(alloc, "TEST", "Files of tests").num_args(1..);
+    Command::new(alloc, "diff")
+        .about("Which tests two models tell apart, and by which final states")
+        .arg(first)?
+        .arg(second)?
+        .arg(tests)
+}
+
+fn session_command<'a>(alloc: Global) -> Result<Command<'a>, AllocError> {
+    let workers = Arg::new(alloc, "N")
+        .long("workers")
+        .help("How many threads run the jobs, 0 to 32: 0 is the program itself")
+        .action(ArgAction::Set);
+    let script = Arg::new(alloc, "SCRIPT")
+        .help("The file of a script, in place of standard input")
+        .action(ArgAction::Set);
+    Command::new(alloc, "session")
+        .about("Answers the commands of a script: edits of tests and models, and questions")
+        .after_help(SESSION_AFTER)
+        .arg(script)?
+        .arg(workers)
+}
+
+fn why_command<'a>(alloc: Global) -> Result<Command<'a>, AllocError> {
+    let model = path(alloc, "MODEL", "The file of a model");
+    let test = path(alloc, "TEST", "The file of a test");
+    Command::new(alloc, "why")
+        .about(
+            "Why a model forbids what a test asks for, or an execution that it keeps; with --forbidden both, with --deep each name with the name inside it",
+        )
+        .arg(model)?
+        .arg(test)
+}
+
+fn draw_command<'a>(alloc: Global) -> Result<Command<'a>, AllocError> {
+    let model = path(alloc, "MODEL", "The file of a model");
+    let test = path(alloc, "TEST", "The file of a test");
+    let most = Arg::new(alloc, "N")
+        .long("most")
+        .help("At most so many drawings, 1 to 64: otherwise 16")
+        .action(ArgAction::Set);
+    Command::new(alloc, "draw")
+        .about(
+            "Drawings of executions for dot: those kept that have what the test asks for (--shown), those forbidden (--forbidden), or all (--all)",
+        )
+        .arg(model)?
+        .arg(test)?
+        .arg(most)
+}
+
+fn watch_command<'a>(alloc: Global) -> Result<Command<'a>, AllocError> {
+    let model = path(alloc, "MODEL", "The file of a model");
+    let tests = path(alloc, "TEST", "Files of tests").num_args(1..);
+    let workers = Arg::new(alloc, "N")
+        .long("workers")
+        .help("How many threads run the jobs, 0 to 32, before the files: 0 is the program itself")
+        .action(ArgAction::Set);
+    Command::new(alloc, "watch")
+        .about(
+            "Some tests under a model, and what changes with each later version of a file that standard input names",
+        )
+        .arg(model)?
+        .arg(tests)?
+        .arg(workers)
+}
+
+fn program<'a>(alloc: Global) -> Result<Command<'a>, AllocError> {
+    Command::new(alloc, "pipitsolder")
+        .about(ABOUT)
+        .after_help(AFTER)
+        .version(VERSION)
+        .subcommand(eval_command(alloc)?)?
+        .subcommand(table_command(alloc)?)?
+        .subcommand(diff_command(alloc)?)?
+        .subcommand(session_command(alloc)?)?
+        .subcommand(why_command(alloc)?)?
+        .subcommand(draw_command(alloc)?)?
+        .subcommand(watch_command(alloc)?)
+}
+
+// What clap says of words that have no form. It takes a few such words, as `eval -- A B`.
+fn refusal<'a>(alloc: Global, words: &'a [&'a str]) -> Result<Error, AllocError> {
+    let mut program = program(alloc)?;
+    match program.try_get_matches_from_mut(words) {
+        Ok(_) => program.error(ErrorKind::UnknownArgument, "no form has these words"),
+        Err(error) => Ok(error),
+    }
+}
+
+fn usage<'a>(alloc: Global, words: &'a [&'a str]) -> Error {
+    match refusal(alloc, words) {
+        Ok(error) => error,
+        Err(error) => Error::from(error),
+    }
+}
+
+/// The form that these words have, the program's own name first. Errors: clap's usage, help or
+/// version, for words that have no form.
+pub fn form_of<'a>(alloc: Global, words: &'a [&'a str]) -> Result<Form<'a>, Error>
+    // A form is answered just where the words have one, and it is that one.
+    ensures form { IfOk result (λ f. asked_in (texts_of words.now) ≡ Some (asked_by f)) }
+    ensures none { OnErr result (asked_in (texts_of words.now) ≡ None) }
+{
+    match form_in(words) {
+        Some(form) => Ok(form),
+        None => Err(usage(alloc, words)),
+    }
+}

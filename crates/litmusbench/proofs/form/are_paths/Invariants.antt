@@ -1,7 +1,0 @@
-use Rattle.std.proofs.Common.{◌≡◌, ℕ, ◌<◌, true}
-use Rattle.litmusbench.specs.Forms.{texts_of, is_path, word_at}
-use Rattle.litmusbench.proofs.form.are_paths.Given as goal
-
--- the words before are paths
-abbrev pub invariant-loop-i : goal.invariant-loop-i
-invariant-loop-i l = (k : ℕ) → k < l.i → is_path (word_at (texts_of l.words) k) ≡ true
