@@ -1,50 +1,54 @@
 //! Jobs that were claimed, until they are returned.
 
-use cells::job::{Done, Job};
-use cells::texts::CellTexts;
+use crate::played::PlayedJob;
 use std::alloc::{AllocError, Global};
 use std::sync::Wait;
-use value_store::{StoreFault, StoreName};
+use value_store::StoreFault;
 
 /// A job that waits, or what it made.
 #[derive(Drop)]
-pub enum Stage<K: StoreName, T: CellTexts> {
-    Waiting(Job<K, T>),
-    Made(Done<K, T>),
+pub enum Stage<P: PlayedJob> {
+    Waiting(P),
+    Made(P::Done),
 }
 
-impl<K: StoreName, T: CellTexts> Stage<K, T> {
+impl<P: PlayedJob> Stage<P> {
     pub fn claim_number(&self) -> u64 {
         match self {
             Stage::Waiting(job) => job.claim_number(),
-            Stage::Made(done) => done.claim_number(),
+            Stage::Made(done) => P::claim_of(done),
         }
     }
 }
 
 /// The index of the job of a claim, if it is among these.
-fn index_of<K: StoreName, T: CellTexts>(jobs: &[Stage<K, T>], claim: u64) -> Option<usize> {
-    jobs.iter().position(|stage| stage.claim_number() == claim)
+fn index_of<P: PlayedJob>(jobs: &[Stage<P>], claim: u64) -> Option<usize> {
+    for (index, stage) in jobs.iter().enumerate() {
+        if stage.claim_number() == claim {
+            return Some(index);
+        }
+    }
+    None
 }
 
 /// Keeps what was made, and hands out the same once more.
-fn keep<K: StoreName, T: CellTexts>(
+fn keep<P: PlayedJob>(
     alloc: Global,
-    jobs: &mut Vec<Stage<K, T>>,
-    done: Done<K, T>,
-) -> Result<Done<K, T>, AllocError> {
-    let copy = done.copy(alloc)?;
+    jobs: &mut Vec<Stage<P>>,
+    done: P::Done,
+) -> Result<P::Done, AllocError> {
+    let copy = P::copy(alloc, &done)?;
     jobs.push(Stage::Made(done))?;
     Ok(copy)
 }
 
 /// What the job of a claim made, once more each time: it is run when it is first asked for. None for a claim that was not given.
-pub fn made<R: Wait, K: StoreName, T: CellTexts>(
-    rt: &R,
+pub fn made<W: Wait, P: PlayedJob>(
+    rt: &W,
     alloc: Global,
-    jobs: &mut Vec<Stage<K, T>>,
+    jobs: &mut Vec<Stage<P>>,
     claim: u64,
-) -> Result<Option<Result<Done<K, T>, StoreFault>>, AllocError> {
+) -> Result<Option<Result<P::Done, StoreFault>>, AllocError> {
     let stage = match index_of(jobs.as_slice(), claim) {
         Some(index) if index < jobs.len() => jobs.remove(index),
         _ => return Ok(None),
@@ -59,5 +63,5 @@ pub fn made<R: Wait, K: StoreName, T: CellTexts>(
             }
         },
     };
-    Ok(Some(Ok(keep(alloc, jobs, done)?)))
+    Ok(Some(Ok(keep::<P>(alloc, jobs, done)?)))
 }

@@ -2,8 +2,11 @@
 //! hand, a walk by events that are drawn, and desks whose author, workers and viewers are threads of their own.
 #![tactic(auto)]
 
+mod claimed;
+mod edits;
 mod jobs;
 mod meeting;
+mod played;
 mod rows;
 mod stress;
 mod walk;

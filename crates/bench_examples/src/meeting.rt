@@ -4,12 +4,13 @@ ghost use Rattle.std.specs.Prelude.{◌≡◌};
 
 mod gate;
 
+use crate::played::PlayedDesk;
 use bench_texts::Edit;
 use bench_workers::{Tally, with_workers};
 use desk::Accepted;
-use desk_rule::{Naming, Viewer};
+use desk_rule::Naming;
 use gate::{Held, Meeting};
-use running_bench::{DeskSeed, RunningDesk, RunningTexts};
+use running_bench::{DeskSeed, RunningDesk};
 use source_text::{put_bytes, put_decimal};
 use std::alloc::{AllocError, Global};
 use std::io;
@@ -35,40 +36,56 @@ fn put_small(alloc: Global, number: u64) -> Result<Edit, AllocError> {
     Ok(Edit::PutTest { text })
 }
 
-/// What is put on the desk: so many small tests, MP if it is wanted, and a model.
-fn edits_of(alloc: Global, small: u64, with_mp: bool) -> Result<Vec<Edit>, AllocError> {
-    let mut edits = Vec::new(alloc);
-    if with_mp {
+/// What is put on the desk: MP if it is wanted, so many small tests, and a model.
+#[derive(Clone, Copy)]
+struct Puts {
+    with_mp: bool,
+    small: u64,
+}
+
+/// The edit of a number: 0 is MP, the small tests begin at 1, and what follows is the model.
+fn edit_at(alloc: Global, puts: Puts, number: u64) -> Result<Edit, AllocError> {
+    if number == 0 {
         let text = Vec::from_slice(alloc, MP)?;
-        edits.push(Edit::PutTest { text })?;
+        return Ok(Edit::PutTest { text });
     }
-    for number in 0..small {
-        edits.push(put_small(alloc, number)?)?;
+    if number <= puts.small {
+        return put_small(alloc, number);
     }
-    edits.push(Edit::PutModel {
+    Ok(Edit::PutModel {
         model: Vec::from_slice(alloc, b"sc")?,
         text: Vec::from_slice(alloc, SC)?,
-    })?;
-    Ok(edits)
+    })
+}
+
+/// Makes the edit of a number. False if it is not published at once, or the desk refuses.
+fn put<D: PlayedDesk, W: Wait>(
+    rt: &W,
+    alloc: Global,
+    desk: &D,
+    viewer: &mut D::Viewer,
+    puts: Puts,
+    number: u64,
+) -> Result<bool, AllocError> {
+    let edit = edit_at(alloc, puts, number)?;
+    Ok(matches!(desk.edit(rt, viewer, edit), Ok(Accepted::Now(_))))
 }
 
 /// Makes the edits and waits until each cell is settled. False if one of them is not published at once, or the desk refuses.
-fn settle<J, R>(
-    rt: &R,
-    desk: &RunningDesk<J, R>,
-    viewer: Viewer<J, RunningTexts>,
-    edits: Vec<Edit>,
-) -> bool
-where
-    J: Naming + StoreName,
-    R: Wait + Drop,
-{
+fn settle<D: PlayedDesk, W: Wait>(
+    rt: &W,
+    alloc: Global,
+    desk: &D,
+    viewer: D::Viewer,
+    puts: Puts,
+) -> Result<bool, AllocError> {
     let mut viewer = viewer;
     let mut is_well = true;
-    for edit in edits {
-        is_well &= matches!(desk.edit(rt, &mut viewer, edit), Ok(Accepted::Now(_)));
+    let first = if puts.with_mp { 0 } else { 1 };
+    for number in first..=puts.small.saturating_add(1) {
+        is_well &= put(rt, alloc, desk, &mut viewer, puts, number)?;
     }
-    desk.settle(rt, &mut viewer).is_ok() && is_well
+    Ok(desk.settle(rt, &mut viewer).is_ok() && is_well)
 }
 
 fn print_tally<R: Print>(rt: &R, workers: u32, tally: &Tally, is_well: bool) -> io::Result<()> {
@@ -84,38 +101,59 @@ fn print_tally<R: Print>(rt: &R, workers: u32, tally: &Tally, is_well: bool) -> 
 }
 
 /// Settles a desk by so many workers under a gate.
-fn meet<R, J>(rt: &R, seed: DeskSeed, edits: Vec<Edit>, workers: u32, held: Held) -> io::Result<()>
+fn meet<R, J>(
+    rt: &R,
+    desk: &RunningDesk<J, R>,
+    puts: Puts,
+    workers: u32,
+    held: Held,
+) -> io::Result<()>
 where
-    R: Print + AllocGlobal + Wait + Threads + Copy + Send + Sync + Drop,
+    R: Print + AllocGlobal + Wait + Threads + Send + Sync + Drop,
     J: Naming + StoreName + Send + Sync,
-    requires book { seed.book.seen.book ≡ J.book }
-    requires values { seed.values.values ≡ J.shelves }
 {
-    let alloc = rt.alloc();
-    let Ok(desk) = seed.desk::<J, R, R>(rt, alloc, *rt) else {
-        return println!(rt; "no desk");
-    };
     let Ok(viewer) = desk.viewer(rt) else {
         return println!(rt; "no viewer");
     };
+    let alloc = rt.alloc();
     let gate = Meeting::new(held);
     let worked = with_workers(
         rt,
         alloc,
-        &desk,
+        desk,
         &gate,
         workers,
-        || settle(rt, &desk, viewer, edits),
+        || settle(rt, alloc, desk, viewer, puts),
     );
     match worked {
         Ok(worked) => print_tally(
             rt,
             workers,
             &worked.tally,
-            worked.answer && !gate.is_missed(rt),
+            worked.answer? && !gate.is_missed(rt),
         ),
         Err(_) => println!(rt; "no workers"),
     }
+}
+
+/// Settles a new desk by so many workers under a gate.
+fn meet_at_desk<R, J>(
+    rt: &R,
+    seed: DeskSeed,
+    puts: Puts,
+    workers: u32,
+    held: Held,
+) -> io::Result<()>
+where
+    R: Print + AllocGlobal + Wait + Threads + Copy + Send + Sync + Drop,
+    J: Naming + StoreName + Send + Sync,
+    requires book { seed.book.seen.book ≡ J.book }
+    requires values { seed.values.values ≡ J.shelves }
+{
+    let Ok(desk) = seed.desk::<J, R, R>(rt, rt.alloc(), *rt) else {
+        return println!(rt; "no desk");
+    };
+    meet(rt, &desk, puts, workers, held)
 }
 
 /// Two workers, of which the first waits until the second has ended a job; and 32 that wait until all have begun one.
@@ -124,11 +162,13 @@ where
     R: Print + AllocGlobal + Wait + Threads + Copy + Send + Sync + Drop,
 {
     let alloc = rt.alloc();
-    let two = edits_of(alloc, 1, true)?;
-    meet::<R, Brand>(
+    meet_at_desk::<R, Brand>(
         rt,
         DeskSeed::new(alloc)?,
-        two,
+        Puts {
+            with_mp: true,
+            small: 1,
+        },
         2,
         Held {
             first: 1,
@@ -136,11 +176,13 @@ where
             until_ended: 1,
         },
     )?;
-    let many = edits_of(alloc, 32, false)?;
-    meet::<R, Brand>(
+    meet_at_desk::<R, Brand>(
         rt,
         DeskSeed::new(alloc)?,
-        many,
+        Puts {
+            with_mp: false,
+            small: 32,
+        },
         32,
         Held {
             first: 32,

@@ -5,17 +5,17 @@ ghost use Rattle.std.specs.Prelude.{◌≡◌};
 mod bench_play;
 mod count;
 mod desk_play;
-mod edits;
 mod question;
 mod replies;
 mod threads;
 
+use crate::played::PlayedBench;
 use bench_play::BenchPlay;
 use cells::bench::Bench;
 use desk_play::DeskPlay;
 use desk_rule::Naming;
 use node_values::NodeValue;
-use running_bench::DeskSeed;
+use running_bench::{DeskSeed, RunningDesk};
 use stamped_texts::StampedTexts;
 use std::alloc::Global;
 use std::marker::Brand;
@@ -48,7 +48,23 @@ fn fresh_of(line: &str) -> Option<Fresh> {
     Some(Fresh::Bench(limit_of(words)))
 }
 
-/// Plays the lines of one bench over a store.
+/// Plays the lines of one bench.
+fn play_lines_of_bench<R: Print + Wait, B: PlayedBench>(
+    rt: &R,
+    alloc: Global,
+    bench: B,
+    lines: &[&str],
+) -> io::Result<()> {
+    let mut play = BenchPlay::new(alloc, bench);
+    for line in lines {
+        println!(rt; "{line}")?;
+        let answer = play.answer_line(rt, alloc, line)?;
+        rt.print(answer)?;
+    }
+    Ok(())
+}
+
+/// Plays the lines of one bench of tests and models over a store.
 fn play_bench<R: Print + Wait, K: StoreName>(
     rt: &R,
     alloc: Global,
@@ -58,16 +74,30 @@ fn play_bench<R: Print + Wait, K: StoreName>(
     requires { opened.values ≡ K.shelves }
 {
     let bench = Bench::<K, StampedTexts>::new(alloc, opened.named::<K>())?;
-    let mut play = BenchPlay::<K>::new(alloc, bench);
+    play_lines_of_bench(rt, alloc, bench, lines)
+}
+
+/// Plays the lines of one desk.
+fn play_lines_of_desk<R, J>(
+    rt: &R,
+    alloc: Global,
+    desk: &RunningDesk<J, R>,
+    lines: &[&str],
+) -> io::Result<()>
+where
+    R: Print + Wait + Threads + Send + Sync + Drop,
+    J: Naming + StoreName + Send + Sync,
+{
+    let mut play = DeskPlay::<RunningDesk<J, R>>::new(alloc);
     for line in lines {
         println!(rt; "{line}")?;
-        let answer = play.answer_line(rt, alloc, line)?;
+        let answer = play.answer_line(rt, alloc, desk, line)?;
         rt.print(answer)?;
     }
     Ok(())
 }
 
-/// Plays the lines of one desk.
+/// Plays the lines of one desk of tests and models.
 fn play_desk<R, J>(rt: &R, alloc: Global, seed: DeskSeed, lines: &[&str]) -> io::Result<()>
 where
     R: Print + Wait + Threads + Copy + Send + Sync + Drop,
@@ -78,13 +108,7 @@ where
     let Ok(desk) = seed.desk::<J, R, R>(rt, alloc, *rt) else {
         return println!(rt; "no desk");
     };
-    let mut play = DeskPlay::<J, R>::new(alloc, desk);
-    for line in lines {
-        println!(rt; "{line}")?;
-        let answer = play.answer_line(rt, alloc, line)?;
-        rt.print(answer)?;
-    }
-    Ok(())
+    play_lines_of_desk(rt, alloc, &desk, lines)
 }
 
 /// Plays the lines of one list.

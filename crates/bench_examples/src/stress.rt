@@ -10,10 +10,9 @@ mod plan;
 mod sight;
 mod watch;
 
-use author::Author;
 use bench_workers::{NoGate, with_workers};
 use desk_rule::{Naming, Viewer};
-use plan::{EDITS, Plan, Step};
+use plan::{EDITS, Plan};
 use running_bench::{DeskSeed, RunningDesk, RunningTexts};
 use std::marker::Brand;
 use std::rt::Clock;
@@ -32,11 +31,10 @@ fn play_beside<R, J>(
     rt: &R,
     desk: &RunningDesk<J, R>,
     viewer: Viewer<J, RunningTexts>,
-    steps: Vec<Step>,
     shared: &Shared,
 )
 where
-    R: AllocGlobal + Clock + Wait + Threads + Copy + Send + Sync + Drop,
+    R: AllocGlobal + Clock + Wait + Threads + Send + Sync + Drop,
     J: Naming + StoreName + Send + Sync,
 {
     let alloc = rt.alloc();
@@ -48,52 +46,38 @@ where
                 shared.add(1);
             }
         }
-        let mut author = Author::new(alloc);
-        author.write(rt, alloc, desk, viewer, &shared.plan, steps);
-        shared.add(author.faults());
+        shared.add(author::write(rt, alloc, desk, viewer, &shared.plan));
         shared.end();
     });
 }
 
 /// Plays the author beside the viewers, and tells how many faults were found.
-fn play<R, J>(
-    rt: &R,
-    desk: &RunningDesk<J, R>,
-    viewer: Viewer<J, RunningTexts>,
-    plan: Plan,
-    steps: Vec<Step>,
-) -> u64
+fn play<R, J>(rt: &R, desk: &RunningDesk<J, R>, viewer: Viewer<J, RunningTexts>, plan: Plan) -> u64
 where
-    R: AllocGlobal + Clock + Wait + Threads + Copy + Send + Sync + Drop,
+    R: AllocGlobal + Clock + Wait + Threads + Send + Sync + Drop,
     J: Naming + StoreName + Send + Sync,
 {
     let shared = Shared::new(plan);
-    play_beside(rt, desk, viewer, steps, &shared);
+    play_beside(rt, desk, viewer, &shared);
     shared.faults()
 }
 
-/// Plays the plan at a desk, and prints how many faults were found.
-fn play_plan<R, J>(rt: &R, seed: DeskSeed, plan: Plan, steps: Vec<Step>) -> io::Result<()>
+/// Plays the plan beside the workers of a desk, and prints how many faults were found.
+fn play_plan<R, J>(rt: &R, desk: &RunningDesk<J, R>, plan: Plan) -> io::Result<()>
 where
-    R: Print + AllocGlobal + Clock + Wait + Threads + Copy + Send + Sync + Drop,
+    R: Print + AllocGlobal + Clock + Wait + Threads + Send + Sync + Drop,
     J: Naming + StoreName + Send + Sync,
-    requires book { seed.book.seen.book ≡ J.book }
-    requires values { seed.values.values ≡ J.shelves }
 {
-    let alloc = rt.alloc();
-    let Ok(desk) = seed.desk::<J, R, R>(rt, alloc, *rt) else {
-        return println!(rt; "no desk");
-    };
     let Ok(viewer) = desk.viewer(rt) else {
         return println!(rt; "no viewer");
     };
     let worked = with_workers(
         rt,
-        alloc,
-        &desk,
+        rt.alloc(),
+        desk,
         &NoGate,
         WORKERS,
-        || play(rt, &desk, viewer, plan, steps),
+        || play(rt, desk, viewer, plan),
     );
     match worked {
         Ok(worked) => {
@@ -104,12 +88,26 @@ where
     }
 }
 
+/// Plays the plan at a new desk.
+fn play_at_desk<R, J>(rt: &R, seed: DeskSeed, plan: Plan) -> io::Result<()>
+where
+    R: Print + AllocGlobal + Clock + Wait + Threads + Copy + Send + Sync + Drop,
+    J: Naming + StoreName + Send + Sync,
+    requires book { seed.book.seen.book ≡ J.book }
+    requires values { seed.values.values ≡ J.shelves }
+{
+    let Ok(desk) = seed.desk::<J, R, R>(rt, rt.alloc(), *rt) else {
+        return println!(rt; "no desk");
+    };
+    play_plan(rt, &desk, plan)
+}
+
 /// Plays the plan, and prints how many faults were found.
 pub fn show<R>(rt: &R) -> io::Result<()>
 where
     R: Print + AllocGlobal + Clock + Wait + Threads + Copy + Send + Sync + Drop,
 {
     let alloc = rt.alloc();
-    let (plan, steps) = plan::planned(alloc)?;
-    play_plan::<R, Brand>(rt, DeskSeed::new(alloc)?, plan, steps)
+    let plan = plan::planned(alloc)?;
+    play_at_desk::<R, Brand>(rt, DeskSeed::new(alloc)?, plan)
 }

@@ -7,6 +7,7 @@ pub mod draw;
 pub mod mirror;
 mod steps;
 
+use crate::played::PlayedBench;
 use cells::bench::Bench;
 use node_values::NodeValue;
 use stamped_texts::StampedTexts;
@@ -19,15 +20,9 @@ use value_store::{Opened, Store, StoreName};
 
 const EVENTS: u32 = 10_000;
 
-fn walk_over<R: Print + Wait, K: StoreName>(
-    rt: &R,
-    alloc: Global,
-    opened: Opened<NodeValue>,
-) -> io::Result<()>
-    requires { opened.values ≡ K.shelves }
-{
-    let bench = Bench::<K, StampedTexts>::new(alloc, opened.named::<K>())?;
-    let mut walk = Walk::<K>::new(alloc, bench)?;
+/// Walks over a bench, and prints how many cells differed.
+fn walk_over<R: Print + Wait, B: PlayedBench>(rt: &R, alloc: Global, bench: B) -> io::Result<()> {
+    let mut walk = Walk::new(alloc, bench)?;
     for _ in 0..EVENTS {
         walk.step(rt, alloc)?;
     }
@@ -35,8 +30,22 @@ fn walk_over<R: Print + Wait, K: StoreName>(
     println!(rt; "{EVENTS} events, {differing} cells that differ")
 }
 
-/// Walks, and prints how many cells differed.
+fn walk_over_texts<R: Print + Wait, K: StoreName>(
+    rt: &R,
+    alloc: Global,
+    opened: Opened<NodeValue>,
+) -> io::Result<()>
+    requires { opened.values ≡ K.shelves }
+{
+    walk_over(
+        rt,
+        alloc,
+        Bench::<K, StampedTexts>::new(alloc, opened.named::<K>())?,
+    )
+}
+
+/// Walks over a bench of tests and models.
 pub fn show<R: Print + AllocGlobal + Wait>(rt: &R) -> io::Result<()> {
     let alloc = rt.alloc();
-    walk_over::<R, Brand>(rt, alloc, Store::new(alloc)?)
+    walk_over_texts::<R, Brand>(rt, alloc, Store::new(alloc)?)
 }

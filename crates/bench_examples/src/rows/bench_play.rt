@@ -1,25 +1,138 @@
 //! A bench with the jobs that were claimed, and what is answered to a line.
 
-use crate::jobs::{Stage, made};
+use crate::claimed::ClaimedBench;
+use crate::edits;
+use crate::played::PlayedBench;
 use crate::rows::count::Count;
-use crate::rows::edits;
-use crate::rows::question::{Question, edit_of, event_of, question_of};
+use crate::rows::question::{Question, edit_of, events_of, question_of};
 use crate::rows::replies::{
     put_cell, put_claimed, put_edited, put_finish, put_lost, put_reply, put_run_fault, told,
 };
-use bench_texts::Edit;
-use cells::bench::Bench;
-use cells::events::Event;
+use bench_texts::{Edit, EditFault};
+use cells::events::Reply;
 use cells::shown::Shown;
 use compare_report::{Shown as Cell, counts_text};
 use memo_core::claims::Finish;
 use source_text::{put_bytes, put_decimal};
-use stamped_texts::StampedTexts;
 use std::alloc::{AllocError, Global};
 use std::sync::Wait;
 use test_cases::text_of;
-use value_store::StoreName;
+use value_store::StoreFault;
 use verdict::{Outcome, OutcomeResult};
+
+/// What a line asks of a bench.
+#[derive(Clone, Copy)]
+enum Asked {
+    List,
+    End,
+    Settle,
+    Jobs,
+    Show,
+    Counts,
+    States,
+    Claim,
+    Return,
+    Lose,
+    Renew,
+    Many,
+    Edit,
+}
+
+/// What the first word of a line asks for: an edit, if it is no other word.
+fn asked_of(verb: &str) -> Asked {
+    match verb {
+        "list" => Asked::List,
+        "end" => Asked::End,
+        "settle" => Asked::Settle,
+        "jobs" => Asked::Jobs,
+        "show" => Asked::Show,
+        "counts" => Asked::Counts,
+        "states" => Asked::States,
+        "claim" => Asked::Claim,
+        "return" => Asked::Return,
+        "lose" => Asked::Lose,
+        "renew" => Asked::Renew,
+        "tests" => Asked::Many,
+        "models" => Asked::Many,
+        _ => Asked::Edit,
+    }
+}
+
+/// One of many small edits.
+fn small_edit(
+    alloc: Global,
+    question: &Question<'_>,
+    number: u64,
+    text: &[u8],
+) -> Result<Edit, AllocError> {
+    match question.verb {
+        "tests" => edits::small_test(alloc, number),
+        _ => edits::small_model(alloc, number, text),
+    }
+}
+
+/// Appends replies, each with a line feed behind it.
+fn put_replies(answer: &mut Vec<u8>, replies: &[Reply<EditFault>]) -> Result<(), AllocError> {
+    for reply in replies {
+        put_reply(answer, reply)?;
+        put_bytes(answer, b"\n")?;
+    }
+    Ok(())
+}
+
+/// What becomes of a return: none for a job that is not kept.
+type Returned = Option<Result<Finish, StoreFault>>;
+
+/// Appends what became of a return.
+fn put_return(answer: &mut Vec<u8>, returned: Returned) -> Result<(), AllocError> {
+    match returned {
+        Some(Ok(finish)) => put_finish(answer, &finish),
+        Some(Err(fault)) => put_run_fault(answer, &fault),
+        None => put_finish(answer, &Finish::Unknown),
+    }
+}
+
+/// Counts what became of a return, and appends it, if each is told.
+fn note_return(
+    answer: &mut Vec<u8>,
+    count: &mut Count,
+    returned: Returned,
+    each: bool,
+) -> Result<(), AllocError> {
+    let Some(Ok(finish)) = returned else {
+        count.note_other();
+        return Ok(());
+    };
+    count.note(&finish);
+    if each {
+        put_finish(answer, &finish)?;
+        put_bytes(answer, b"\n")?;
+    }
+    Ok(())
+}
+
+/// Appends the counts of a cell.
+fn put_counts(alloc: Global, answer: &mut Vec<u8>, cell: Cell<'_>) -> Result<(), AllocError> {
+    match cell {
+        Cell::Settled(outcome) => {
+            put_bytes(answer, &counts_text(alloc, Cell::Settled(outcome))?)
+        }
+        Cell::Open => put_bytes(answer, b"open"),
+        Cell::NoCell => put_bytes(answer, b"no cell"),
+    }
+}
+
+/// Appends the number of states of a cell.
+fn put_states(answer: &mut Vec<u8>, cell: Cell<'_>) -> Result<(), AllocError> {
+    match cell {
+        Cell::Settled(outcome) => match &outcome.result {
+            OutcomeResult::Evaluated(found) => put_decimal(answer, found.states.len() as u64),
+            OutcomeResult::Refused(_) => put_bytes(answer, b"refused"),
+        },
+        Cell::Open => put_bytes(answer, b"open"),
+        Cell::NoCell => put_bytes(answer, b"no cell"),
+    }
+}
 
 /// What a bench shows of a cell, as a board says it.
 fn cell_of(shown: Shown<'_, Outcome>) -> Cell<'_> {
@@ -30,145 +143,121 @@ fn cell_of(shown: Shown<'_, Outcome>) -> Cell<'_> {
     }
 }
 
-/// A bench with the jobs that were claimed, and the list of events that is being written, if one is.
+/// A bench with the jobs that were claimed, and the list of questions that is being written, if one is.
 #[derive(Drop)]
-pub struct BenchPlay<K: StoreName> {
-    bench: Bench<K, StampedTexts>,
-    jobs: Vec<Stage<K, StampedTexts>>,
-    events: Option<Vec<Event<Edit>>>,
+pub struct BenchPlay<'a, B: PlayedBench> {
+    claimed: ClaimedBench<B>,
+    list: Option<Vec<Question<'a>>>,
 }
 
-impl<K: StoreName> BenchPlay<K> {
-    pub fn new(alloc: Global, bench: Bench<K, StampedTexts>) -> Self {
+impl<'a, B: PlayedBench> BenchPlay<'a, B> {
+    /// No job was claimed.
+    pub fn new(alloc: Global, bench: B) -> Self {
         BenchPlay {
-            bench,
-            jobs: Vec::new(alloc),
-            events: None,
-        }
-    }
-
-    /// Runs a job and returns what it made.
-    fn play_job<R: Wait>(
-        &mut self,
-        rt: &R,
-        alloc: Global,
-        claim: u64,
-    ) -> Result<Option<Finish>, AllocError> {
-        match made(rt, alloc, &mut self.jobs, claim)? {
-            Some(Ok(done)) => Ok(Some(self.bench.finish(done))),
-            _ => Ok(None),
+            claimed: ClaimedBench::new(alloc, bench),
+            list: None,
         }
     }
 
     /// Claims, runs and returns until there is no work, with each answer.
-    fn settle<R: Wait>(
+    fn settle<W: Wait>(
         &mut self,
-        rt: &R,
+        rt: &W,
         alloc: Global,
         answer: &mut Vec<u8>,
         each: bool,
     ) -> Result<(), AllocError> {
         let mut count = Count::new();
         for _ in 0..100_000_u32 {
-            let claimed = self.bench.claim(alloc);
-            let Ok(Some(job)) = claimed else {
+            let Ok(Some(claim)) = self.claimed.claim(alloc)? else {
                 break;
             };
-            let claim = job.claim_number();
-            self.jobs.push(Stage::Waiting(job))?;
-            match self.play_job(rt, alloc, claim)? {
-                Some(finish) => {
-                    count.note(&finish);
-                    if each {
-                        put_finish(answer, &finish)?;
-                        put_bytes(answer, b"\n")?;
-                    }
-                }
-                None => count.note_other(),
-            }
+            let returned = self.claimed.offer(rt, alloc, claim)?;
+            note_return(answer, &mut count, returned, each)?;
         }
         count.put(answer)
     }
 
-    fn cell(&self, test: &str, model: &str) -> Cell<'_> {
-        cell_of(self.bench.shown(test.as_bytes(), model.as_bytes()))
+    fn cell(&self, question: &Question<'_>) -> Cell<'_> {
+        cell_of(
+            self.claimed
+                .bench
+                .shown(question.name.as_bytes(), question.last.as_bytes()),
+        )
     }
 
-    fn counts(
-        &self,
+    /// Plays the events that a list of questions asks for, and answers with the replies. False if it is refused memory.
+    fn play_events<W: Wait>(
+        &mut self,
+        rt: &W,
         alloc: Global,
         answer: &mut Vec<u8>,
-        test: &str,
-        model: &str,
-    ) -> Result<(), AllocError> {
-        match self.cell(test, model) {
-            Cell::Settled(outcome) => put_bytes(
-                answer,
-                &counts_text(alloc, Cell::Settled(outcome))?,
-            ),
-            Cell::Open => put_bytes(answer, b"open"),
-            Cell::NoCell => put_bytes(answer, b"no cell"),
-        }
-    }
-
-    /// The number of states of a cell.
-    fn states(&self, answer: &mut Vec<u8>, test: &str, model: &str) -> Result<(), AllocError> {
-        match self.cell(test, model) {
-            Cell::Settled(outcome) => match &outcome.result {
-                OutcomeResult::Evaluated(found) => put_decimal(answer, found.states.len() as u64),
-                OutcomeResult::Refused(_) => put_bytes(answer, b"refused"),
-            },
-            Cell::Open => put_bytes(answer, b"open"),
-            Cell::NoCell => put_bytes(answer, b"no cell"),
-        }
-    }
-
-    fn claim(&mut self, alloc: Global, answer: &mut Vec<u8>) -> Result<(), AllocError> {
-        match self.bench.claim(alloc) {
-            Ok(Some(job)) => {
-                put_claimed(answer, &Ok(Some(job.claim_number())))?;
-                self.jobs.push(Stage::Waiting(job))?;
-                Ok(())
+        list: &[Question<'_>],
+    ) -> Result<bool, AllocError> {
+        let events = events_of(alloc, list)?;
+        match self.claimed.bench.run_events(rt, alloc, &events) {
+            Ok(replies) => {
+                put_replies(answer, &replies)?;
+                Ok(true)
             }
-            Ok(None) => put_claimed(answer, &Ok(None)),
-            Err(fault) => put_claimed(answer, &Err(fault)),
+            Err(_) => Ok(false),
         }
     }
 
-    fn offer<R: Wait>(
+    /// Plays the list that was written. It is kept if it is refused memory.
+    fn play_list<W: Wait>(
         &mut self,
-        rt: &R,
+        rt: &W,
+        alloc: Global,
+        answer: &mut Vec<u8>,
+    ) -> Result<(), AllocError> {
+        let Some(list) = self.list.take() else {
+            return Ok(());
+        };
+        if self.play_events(rt, alloc, answer, &list)? {
+            return Ok(());
+        }
+        self.list = Some(list);
+        put_bytes(answer, b"out of memory")
+    }
+
+    /// Makes the edit of a question.
+    fn edit(
+        &mut self,
+        alloc: Global,
+        answer: &mut Vec<u8>,
+        question: &Question<'_>,
+    ) -> Result<(), AllocError> {
+        let edit = edit_of(alloc, question)?;
+        put_edited(answer, &self.claimed.bench.edit(alloc, edit))
+    }
+
+    /// Claims a job.
+    fn claim(&mut self, alloc: Global, answer: &mut Vec<u8>) -> Result<(), AllocError> {
+        put_claimed(answer, &self.claimed.claim(alloc)?)
+    }
+
+    /// Returns what the job of a claim made.
+    fn offer<W: Wait>(
+        &mut self,
+        rt: &W,
         alloc: Global,
         answer: &mut Vec<u8>,
         claim: u64,
     ) -> Result<(), AllocError> {
-        match made(rt, alloc, &mut self.jobs, claim)? {
-            Some(Ok(done)) => put_finish(answer, &self.bench.finish(done)),
-            Some(Err(fault)) => put_run_fault(answer, &fault),
-            None => put_finish(answer, &Finish::Unknown),
-        }
+        put_return(answer, self.claimed.offer(rt, alloc, claim)?)
     }
 
-    /// Plays the list of events that was written, and answers with the replies.
-    fn play_list<R: Wait>(
+    /// Makes one of many small edits.
+    fn put_small(
         &mut self,
-        rt: &R,
         alloc: Global,
-        answer: &mut Vec<u8>,
-    ) -> Result<(), AllocError> {
-        let events = match self.events.take() {
-            Some(events) => events,
-            None => return Ok(()),
-        };
-        let Ok(replies) = self.bench.run_events(rt, alloc, &events) else {
-            self.events = Some(events);
-            return put_bytes(answer, b"out of memory");
-        };
-        for reply in &replies {
-            put_reply(answer, reply)?;
-            put_bytes(answer, b"\n")?;
-        }
-        Ok(())
+        question: &Question<'_>,
+        number: u64,
+        text: &[u8],
+    ) -> Result<Result<u64, EditFault>, AllocError> {
+        let edit = small_edit(alloc, question, number, text)?;
+        Ok(self.claimed.bench.edit(alloc, edit))
     }
 
     /// Makes so many small edits, and answers as the last is answered.
@@ -181,57 +270,46 @@ impl<K: StoreName> BenchPlay<K> {
         let text = text_of(alloc, question.written)?;
         let mut last = Ok(0);
         for number in 0..question.number {
-            let edit = match question.verb {
-                "tests" => edits::small_test(alloc, number)?,
-                _ => edits::small_model(alloc, number, &text)?,
-            };
-            last = self.bench.edit(alloc, edit);
+            last = self.put_small(alloc, question, number, &text)?;
         }
         put_edited(answer, &last)
     }
 
     /// What is answered to a question.
-    fn answer<R: Wait>(
+    fn answer<W: Wait>(
         &mut self,
-        rt: &R,
+        rt: &W,
         alloc: Global,
         answer: &mut Vec<u8>,
         question: &Question<'_>,
     ) -> Result<(), AllocError> {
-        match question.verb {
-            "list" => {
-                self.events = Some(Vec::new(alloc));
+        match asked_of(question.verb) {
+            Asked::List => {
+                self.list = Some(Vec::new(alloc));
                 Ok(())
             }
-            "end" => self.play_list(rt, alloc, answer),
-            "settle" => self.settle(rt, alloc, answer, false),
-            "jobs" => self.settle(rt, alloc, answer, true),
-            "show" => {
-                let cell = self.cell(question.name, question.last);
-                put_cell(alloc, answer, question.name, cell)
-            }
-            "counts" => self.counts(alloc, answer, question.name, question.last),
-            "states" => self.states(answer, question.name, question.last),
-            "claim" => self.claim(alloc, answer),
-            "return" => self.offer(rt, alloc, answer, question.number),
-            "lose" => put_lost(answer, self.bench.lose(question.number)),
-            "renew" => {
-                self.bench.renew();
+            Asked::End => self.play_list(rt, alloc, answer),
+            Asked::Settle => self.settle(rt, alloc, answer, false),
+            Asked::Jobs => self.settle(rt, alloc, answer, true),
+            Asked::Show => put_cell(alloc, answer, question.name, self.cell(question)),
+            Asked::Counts => put_counts(alloc, answer, self.cell(question)),
+            Asked::States => put_states(answer, self.cell(question)),
+            Asked::Claim => self.claim(alloc, answer),
+            Asked::Return => self.offer(rt, alloc, answer, question.number),
+            Asked::Lose => put_lost(answer, self.claimed.bench.lose(question.number)),
+            Asked::Renew => {
+                self.claimed.bench.renew();
                 put_bytes(answer, b"renewed")
             }
-            "tests" => self.put_many(alloc, answer, question),
-            "models" => self.put_many(alloc, answer, question),
-            _ => {
-                let edit = edit_of(alloc, question)?;
-                put_edited(answer, &self.bench.edit(alloc, edit))
-            }
+            Asked::Many => self.put_many(alloc, answer, question),
+            Asked::Edit => self.edit(alloc, answer, question),
         }
     }
 
     /// What is answered to a question. Where memory was refused, this is told, and the question is asked once more.
-    fn answer_again<R: Wait>(
+    fn answer_again<W: Wait>(
         &mut self,
-        rt: &R,
+        rt: &W,
         alloc: Global,
         answer: &mut Vec<u8>,
         question: &Question<'_>,
@@ -244,21 +322,30 @@ impl<K: StoreName> BenchPlay<K> {
         self.answer(rt, alloc, answer, question)
     }
 
+    /// Adds a question to the list that is being written. False if none is, or the question ends it.
+    fn is_written(&mut self, question: &Question<'a>) -> Result<bool, AllocError> {
+        let Some(list) = &mut self.list else {
+            return Ok(false);
+        };
+        if question.verb == "end" {
+            return Ok(false);
+        }
+        list.push(*question)?;
+        Ok(true)
+    }
+
     /// What is answered to a line, with a line feed behind it: nothing where the line is one of a list of events.
-    pub fn answer_line<R: Wait>(
+    pub fn answer_line<W: Wait>(
         &mut self,
-        rt: &R,
+        rt: &W,
         alloc: Global,
-        line: &str,
+        line: &'a str,
     ) -> Result<String, AllocError> {
         let question = question_of(line);
-        let mut answer = Vec::new(alloc);
-        if question.verb != "end" {
-            if let Some(events) = &mut self.events {
-                events.push(event_of(alloc, &question)?)?;
-                return String::from_str(alloc, "");
-            }
+        if self.is_written(&question)? {
+            return String::from_str(alloc, "");
         }
+        let mut answer = Vec::new(alloc);
         self.answer_again(rt, alloc, &mut answer, &question)?;
         told(alloc, answer, question.is_quiet)
     }

@@ -1,45 +1,98 @@
-//! A desk with its viewers and the jobs that were claimed, and what is answered to a line.
+//! The viewers of a desk and the jobs that were claimed of it, and what is answered to a line.
 
 use crate::jobs::{Stage, made};
+use crate::played::{PlayedDesk, PlayedJob, Refusal};
 use crate::rows::count::Count;
 use crate::rows::question::{Question, edit_of, question_of};
 use crate::rows::replies::{
     put_accepted, put_board, put_claimed, put_desk_fault, put_finish, put_lost, put_run_fault,
     put_taken, put_tally, told,
 };
-use crate::rows::threads;
-use bench_texts::EditFault;
-use bench_workers::NoGate;
-use cells::job::Job;
-use desk::DeskFault;
-use desk_rule::{Naming, Viewer};
+use crate::rows::threads::{finish, finish_twice, lose};
+use desk::Taken;
+use desk_rule::Naming;
 use memo_core::claims::Finish;
-use running_bench::{RunningDesk, RunningTexts};
+use running_bench::RunningDesk;
 use source_text::{put_bytes, put_decimal};
 use std::alloc::{AllocError, Global};
 use std::sync::Wait;
 use std::thread::Threads;
 use value_store::StoreName;
 
-/// A desk, its viewers in the order in which they were given, and the jobs that were claimed.
+/// What a line asks of a desk.
+#[derive(Clone, Copy)]
+enum Asked {
+    Viewer,
+    Viewers,
+    Settle,
+    Show,
+    Claim,
+    Jobs,
+    Work,
+    Return,
+    Twice,
+    Lose,
+    Renew,
+    Close,
+    Edit,
+}
+
+/// What the first word of a line asks for: an edit, if it is no other word.
+fn asked_of(verb: &str) -> Asked {
+    match verb {
+        "viewer" => Asked::Viewer,
+        "viewers" => Asked::Viewers,
+        "settle" => Asked::Settle,
+        "show" => Asked::Show,
+        "claim" => Asked::Claim,
+        "jobs" => Asked::Jobs,
+        "work" => Asked::Work,
+        "return" => Asked::Return,
+        "twice" => Asked::Twice,
+        "lose" => Asked::Lose,
+        "renew" => Asked::Renew,
+        "close" => Asked::Close,
+        _ => Asked::Edit,
+    }
+}
+
+/// What becomes of a return.
+type Returned = Result<Taken, Refusal>;
+
+/// Whether a return is answered as that of a claim that was not out.
+fn is_unknown(returned: &Returned) -> bool {
+    match returned {
+        Ok(taken) => matches!(&taken.finish, Finish::Unknown),
+        Err(_) => false,
+    }
+}
+
+/// Appends what became of two returns at once. The return that is taken is told first.
+fn put_both(answer: &mut Vec<u8>, first: &Returned, second: &Returned) -> Result<(), AllocError> {
+    let is_turned = is_unknown(first);
+    put_taken(answer, if is_turned { second } else { first })?;
+    put_bytes(answer, b" and ")?;
+    put_taken(answer, if is_turned { first } else { second })
+}
+
+/// The viewers of a desk, in the order in which they were given, and the jobs that were claimed.
 #[derive(Drop)]
-pub struct DeskPlay<J: Naming + StoreName, R: Wait + Drop> {
-    desk: RunningDesk<J, R>,
-    viewers: Vec<Option<Viewer<J, RunningTexts>>>,
-    jobs: Vec<Stage<J, RunningTexts>>,
+pub struct DeskPlay<D: PlayedDesk> {
+    viewers: Vec<Option<D::Viewer>>,
+    jobs: Vec<Stage<D::Job>>,
 }
 
 /// What a viewer sees of a cell, and the viewer again.
-fn look<J: Naming + StoreName>(
+fn look<D: PlayedDesk>(
     alloc: Global,
-    viewer: Viewer<J, RunningTexts>,
+    viewer: D::Viewer,
     answer: &mut Vec<u8>,
     question: &Question<'_>,
-) -> (Viewer<J, RunningTexts>, Result<(), AllocError>) {
-    match viewer.read() {
+) -> (D::Viewer, Result<(), AllocError>) {
+    match D::read(viewer) {
         Ok(view) => {
-            let put = put_board(alloc, answer, view.board(), question.name, question.last);
-            (view.leave(), put)
+            let put = put_board(alloc, answer, D::board(&view), question.name, question.last);
+            (D::leave(view), put)
         }
         Err(viewer) => (viewer, put_bytes(answer, b"no view")),
     }
@@ -49,7 +102,7 @@ fn look<J: Naming + StoreName>(
 fn put_made(
     answer: &mut Vec<u8>,
     word: &[u8],
-    called: Result<(), DeskFault<EditFault>>,
+    called: Result<(), Refusal>,
 ) -> Result<(), AllocError> {
     match called {
         Ok(()) => put_bytes(answer, word),
@@ -57,10 +110,45 @@ fn put_made(
     }
 }
 
-impl<J: Naming + StoreName + Send + Sync, R: Wait + Drop + Send + Sync> DeskPlay<J, R> {
-    pub fn new(alloc: Global, desk: RunningDesk<J, R>) -> Self {
+/// Says whether a claim was out, or why the call is refused.
+fn put_closed(answer: &mut Vec<u8>, lost: Result<bool, Refusal>) -> Result<(), AllocError> {
+    match lost {
+        Ok(lost) => put_lost(answer, lost),
+        Err(fault) => put_desk_fault(answer, &fault),
+    }
+}
+
+/// Runs a job and returns what it made. None where one of them is refused.
+fn play_job<D: PlayedDesk, W: Wait>(
+    rt: &W,
+    alloc: Global,
+    desk: &D,
+    job: D::Job,
+) -> Option<Finish> {
+    let done = job.run(rt, alloc).ok()?;
+    let taken = desk.finish(rt, done).ok()?;
+    Some(taken.finish)
+}
+
+/// Claims, runs and returns until there is no work.
+fn play_jobs<D: PlayedDesk, W: Wait>(rt: &W, alloc: Global, desk: &D) -> Count {
+    let mut count = Count::new();
+    for _ in 0..100_000_u32 {
+        let Ok(Some(job)) = desk.claim(rt) else {
+            break;
+        };
+        match play_job(rt, alloc, desk, job) {
+            Some(finish) => count.note(&finish),
+            None => count.note_other(),
+        }
+    }
+    count
+}
+
+impl<D: PlayedDesk> DeskPlay<D> {
+    /// No viewers and no jobs.
+    pub fn new(alloc: Global) -> Self {
         DeskPlay {
-            desk,
             viewers: Vec::new(alloc),
             jobs: Vec::new(alloc),
         }
@@ -70,11 +158,12 @@ impl<J: Naming + StoreName + Send + Sync, R: Wait + Drop + Send + Sync> DeskPlay
     fn take_viewers<W: Wait>(
         &mut self,
         rt: &W,
+        desk: &D,
         answer: &mut Vec<u8>,
         count: u64,
     ) -> Result<(), AllocError> {
         for _ in 0..count {
-            match self.desk.viewer(rt) {
+            match desk.give_viewer(rt) {
                 Ok(viewer) => self.viewers.push(Some(viewer))?,
                 Err(fault) => return put_desk_fault(answer, &fault),
             }
@@ -87,14 +176,14 @@ impl<J: Naming + StoreName + Send + Sync, R: Wait + Drop + Send + Sync> DeskPlay
         &mut self,
         rt: &W,
         alloc: Global,
+        desk: &D,
         answer: &mut Vec<u8>,
         question: &Question<'_>,
     ) -> Result<(), AllocError> {
-        let edit = edit_of(alloc, question)?;
         let Some(Some(viewer)) = self.viewers.get_mut(question.viewer) else {
             return put_bytes(answer, b"no viewer");
         };
-        match self.desk.edit(rt, viewer, edit) {
+        match desk.edit(rt, viewer, edit_of(alloc, question)?) {
             Ok(accepted) => put_accepted(answer, accepted),
             Err(fault) => put_desk_fault(answer, &fault),
         }
@@ -103,14 +192,14 @@ impl<J: Naming + StoreName + Send + Sync, R: Wait + Drop + Send + Sync> DeskPlay
     fn settle<W: Wait>(
         &mut self,
         rt: &W,
+        desk: &D,
         answer: &mut Vec<u8>,
         viewer: usize,
     ) -> Result<(), AllocError> {
         let Some(Some(viewer)) = self.viewers.get_mut(viewer) else {
             return put_bytes(answer, b"no viewer");
         };
-        let settled = self.desk.settle(rt, viewer);
-        put_made(answer, b"settled", settled)
+        put_made(answer, b"settled", desk.settle(rt, viewer))
     }
 
     fn show(
@@ -125,13 +214,13 @@ impl<J: Naming + StoreName + Send + Sync, R: Wait + Drop + Send + Sync> DeskPlay
         let Some(viewer) = slot.take() else {
             return put_bytes(answer, b"no viewer");
         };
-        let (viewer, put) = look(alloc, viewer, answer, question);
+        let (viewer, put) = look::<D>(alloc, viewer, answer, question);
         *slot = Some(viewer);
         put
     }
 
-    fn claim<W: Wait>(&mut self, rt: &W, answer: &mut Vec<u8>) -> Result<(), AllocError> {
-        match self.desk.claim(rt) {
+    fn claim<W: Wait>(&mut self, rt: &W, desk: &D, answer: &mut Vec<u8>) -> Result<(), AllocError> {
+        match desk.claim(rt) {
             Ok(Some(job)) => {
                 put_claimed(answer, &Ok(Some(job.claim_number())))?;
                 self.jobs.push(Stage::Waiting(job))?;
@@ -142,93 +231,65 @@ impl<J: Naming + StoreName + Send + Sync, R: Wait + Drop + Send + Sync> DeskPlay
         }
     }
 
-    /// Runs a job and returns what it made. None where one of them is refused.
-    fn play_job<W: Wait>(
-        &self,
+    /// What is answered to a question that no thread of its own takes up.
+    fn answer_here<W: Wait>(
+        &mut self,
         rt: &W,
         alloc: Global,
-        job: Job<J, RunningTexts>,
-    ) -> Option<Finish> {
-        let done = job.run(rt, alloc).ok()?;
-        let taken = self.desk.finish(rt, done).ok()?;
-        Some(taken.finish)
-    }
-
-    /// Claims, runs and returns until there is no work.
-    fn play_jobs<W: Wait>(
-        &self,
-        rt: &W,
-        alloc: Global,
+        desk: &D,
         answer: &mut Vec<u8>,
+        question: &Question<'_>,
     ) -> Result<(), AllocError> {
-        let mut count = Count::new();
-        for _ in 0..100_000_u32 {
-            let Ok(Some(job)) = self.desk.claim(rt) else {
-                break;
-            };
-            match self.play_job(rt, alloc, job) {
-                Some(finish) => count.note(&finish),
-                None => count.note_other(),
-            }
+        match asked_of(question.verb) {
+            Asked::Viewer => self.take_viewers(rt, desk, answer, 1),
+            Asked::Viewers => self.take_viewers(rt, desk, answer, question.number),
+            Asked::Settle => self.settle(rt, desk, answer, question.viewer),
+            Asked::Show => self.show(alloc, answer, question),
+            Asked::Claim => self.claim(rt, desk, answer),
+            Asked::Jobs => play_jobs(rt, alloc, desk).put(answer),
+            Asked::Work => put_tally(answer, &desk.work(rt, alloc)),
+            Asked::Renew => put_made(answer, b"renewed", desk.renew(rt)),
+            Asked::Close => put_made(answer, b"closed", desk.close(rt)),
+            _ => self.edit(rt, alloc, desk, answer, question),
         }
-        count.put(answer)
     }
+}
 
-    /// Works until the desk is closed, and tells what became of the jobs.
-    fn work<W: Wait>(&self, rt: &W, alloc: Global, answer: &mut Vec<u8>) -> Result<(), AllocError> {
-        let tally = bench_workers::work(rt, alloc, &self.desk, &NoGate);
-        put_tally(answer, &tally)
-    }
-
+impl<J, R> DeskPlay<RunningDesk<J, R>>
+where
+    J: Naming + StoreName + Send + Sync,
+    R: Wait + Drop + Send + Sync,
+{
     /// Returns what the job of a claim made, by a thread of its own.
     fn offer<W: Wait + Threads + Sync>(
         &mut self,
         rt: &W,
         alloc: Global,
+        desk: &RunningDesk<J, R>,
         answer: &mut Vec<u8>,
         claim: u64,
     ) -> Result<(), AllocError> {
         match made(rt, alloc, &mut self.jobs, claim)? {
-            Some(Ok(done)) => put_taken(answer, &threads::finish(rt, alloc, &self.desk, &done)),
+            Some(Ok(done)) => put_taken(answer, &finish(rt, alloc, desk, &done)),
             Some(Err(fault)) => put_run_fault(answer, &fault),
             None => put_finish(answer, &Finish::Unknown),
         }
     }
 
-    /// Returns what the job of a claim made twice at once, by two threads. The return that is taken is told first.
+    /// Returns what the job of a claim made twice at once, by two threads.
     fn offer_twice<W: Wait + Threads + Sync>(
         &mut self,
         rt: &W,
         alloc: Global,
+        desk: &RunningDesk<J, R>,
         answer: &mut Vec<u8>,
         claim: u64,
     ) -> Result<(), AllocError> {
         let Some(Ok(done)) = made(rt, alloc, &mut self.jobs, claim)? else {
             return put_bytes(answer, b"no returns");
         };
-        let (first, second) = threads::finish_twice(rt, alloc, &self.desk, &done);
-        let is_turned = matches!(&first, Ok(taken) if matches!(&taken.finish, Finish::Unknown));
-        let (taken, other) = if is_turned {
-            (second, first)
-        } else {
-            (first, second)
-        };
-        put_taken(answer, &taken)?;
-        put_bytes(answer, b" and ")?;
-        put_taken(answer, &other)
-    }
-
-    /// Closes a claim, by a thread of its own.
-    fn lose<W: Wait + Threads + Sync>(
-        &self,
-        rt: &W,
-        answer: &mut Vec<u8>,
-        claim: u64,
-    ) -> Result<(), AllocError> {
-        match threads::lose(rt, &self.desk, claim) {
-            Ok(lost) => put_lost(answer, lost),
-            Err(fault) => put_desk_fault(answer, &fault),
-        }
+        let (first, second) = finish_twice(rt, alloc, desk, &done);
+        put_both(answer, &first, &second)
     }
 
     /// What is answered to a question.
@@ -236,23 +297,15 @@ impl<J: Naming + StoreName + Send + Sync, R: Wait + Drop + Send + Sync> DeskPlay
         &mut self,
         rt: &W,
         alloc: Global,
+        desk: &RunningDesk<J, R>,
         answer: &mut Vec<u8>,
         question: &Question<'_>,
     ) -> Result<(), AllocError> {
-        match question.verb {
-            "viewer" => self.take_viewers(rt, answer, 1),
-            "viewers" => self.take_viewers(rt, answer, question.number),
-            "settle" => self.settle(rt, answer, question.viewer),
-            "show" => self.show(alloc, answer, question),
-            "claim" => self.claim(rt, answer),
-            "jobs" => self.play_jobs(rt, alloc, answer),
-            "work" => self.work(rt, alloc, answer),
-            "return" => self.offer(rt, alloc, answer, question.number),
-            "twice" => self.offer_twice(rt, alloc, answer, question.number),
-            "lose" => self.lose(rt, answer, question.number),
-            "renew" => put_made(answer, b"renewed", self.desk.renew(rt)),
-            "close" => put_made(answer, b"closed", self.desk.close(rt)),
-            _ => self.edit(rt, alloc, answer, question),
+        match asked_of(question.verb) {
+            Asked::Return => self.offer(rt, alloc, desk, answer, question.number),
+            Asked::Twice => self.offer_twice(rt, alloc, desk, answer, question.number),
+            Asked::Lose => put_closed(answer, lose(rt, desk, question.number)),
+            _ => self.answer_here(rt, alloc, desk, answer, question),
         }
     }
 
@@ -261,11 +314,12 @@ impl<J: Naming + StoreName + Send + Sync, R: Wait + Drop + Send + Sync> DeskPlay
         &mut self,
         rt: &W,
         alloc: Global,
+        desk: &RunningDesk<J, R>,
         line: &str,
     ) -> Result<String, AllocError> {
         let question = question_of(line);
         let mut answer = Vec::new(alloc);
-        self.answer(rt, alloc, &mut answer, &question)?;
+        self.answer(rt, alloc, desk, &mut answer, &question)?;
         told(alloc, answer, question.is_quiet)
     }
 }

@@ -1,6 +1,6 @@
 //! Questions, as lines write them.
 
-use crate::rows::edits;
+use crate::edits;
 use bench_texts::Edit;
 use cells::events::Event;
 use std::alloc::{AllocError, Global};
@@ -58,11 +58,17 @@ pub fn question_of(line: &str) -> Question<'_> {
 /// The edit that a question asks for.
 pub fn edit_of(alloc: Global, question: &Question<'_>) -> Result<Edit, AllocError> {
     let text = text_of(alloc, question.written)?;
-    edits::named(alloc, question.verb, question.name, question.number, text)
+    edits::named(
+        alloc,
+        question.verb,
+        question.name.as_bytes(),
+        question.number,
+        text,
+    )
 }
 
 /// The event that a question asks for.
-pub fn event_of(alloc: Global, question: &Question<'_>) -> Result<Event<Edit>, AllocError> {
+fn event_of(alloc: Global, question: &Question<'_>) -> Result<Event<Edit>, AllocError> {
     match question.verb {
         "claim" => Ok(Event::Claim),
         "return" => Ok(Event::Return(question.number)),
@@ -70,4 +76,16 @@ pub fn event_of(alloc: Global, question: &Question<'_>) -> Result<Event<Edit>, A
         "renew" => Ok(Event::Renew),
         _ => Ok(Event::Edit(edit_of(alloc, question)?)),
     }
+}
+
+/// The events that questions ask for.
+pub fn events_of(
+    alloc: Global,
+    questions: &[Question<'_>],
+) -> Result<Vec<Event<Edit>>, AllocError> {
+    let mut events = Vec::new(alloc);
+    for question in questions {
+        events.push(event_of(alloc, question)?)?;
+    }
+    Ok(events)
 }

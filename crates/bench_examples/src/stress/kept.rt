@@ -1,49 +1,42 @@
 //! Jobs that the author takes, and loses, returns twice or returns late.
 
+use crate::played::{PlayedDesk, PlayedJob};
 use crate::walk::draw::Draw;
-use cells::job::{Done, Job};
-use desk_rule::Naming;
 use memo_core::claims::Finish;
-use running_bench::{RunningDesk, RunningTexts};
 use std::alloc::Global;
 use std::sync::Wait;
-use value_store::StoreName;
 
 /// No more jobs than these are kept to be returned late.
 const MOST_KEPT: usize = 8;
 
 /// A job that is kept, and whether its claim was closed since.
 #[derive(Drop)]
-struct Late<J: Naming + StoreName> {
-    job: Job<J, RunningTexts>,
+struct Late<P: PlayedJob> {
+    job: P,
     is_closed: bool,
 }
 
 /// The jobs that are kept, the oldest first, and how many answers of the desk were wrong.
 #[derive(Drop)]
-pub struct Kept<J: Naming + StoreName> {
-    jobs: Vec<Late<J>>,
+pub struct Kept<D: PlayedDesk> {
+    jobs: Vec<Late<D::Job>>,
     draw: Draw,
     faults: u64,
 }
 
 /// Closes the claim of a job that was refused memory, so that nobody waits for it.
-fn give_back<J: Naming + StoreName, R: Wait + Drop, W: Wait>(
-    rt: &W,
-    desk: &RunningDesk<J, R>,
-    claim: u64,
-) -> bool {
+fn give_back<D: PlayedDesk, W: Wait>(rt: &W, desk: &D, claim: u64) -> bool {
     let _was_out = desk.lose(rt, claim).is_ok();
     false
 }
 
 /// Runs a job. None where memory is refused; then its claim is closed.
-fn run<J: Naming + StoreName, R: Wait + Drop, W: Wait>(
+fn run<D: PlayedDesk, W: Wait>(
     rt: &W,
     alloc: Global,
-    desk: &RunningDesk<J, R>,
-    job: Job<J, RunningTexts>,
-) -> Option<Done<J, RunningTexts>> {
+    desk: &D,
+    job: D::Job,
+) -> Option<<D::Job as PlayedJob>::Done> {
     match job.run(rt, alloc) {
         Ok(done) => Some(done),
         Err((job, _fault)) => {
@@ -54,10 +47,10 @@ fn run<J: Naming + StoreName, R: Wait + Drop, W: Wait>(
 }
 
 /// Whether a return is answered as it must be: as that of a claim that was not out if it was closed, and otherwise as another.
-fn is_answered<J: Naming + StoreName, R: Wait + Drop, W: Wait>(
+fn is_answered<D: PlayedDesk, W: Wait>(
     rt: &W,
-    desk: &RunningDesk<J, R>,
-    done: Done<J, RunningTexts>,
+    desk: &D,
+    done: <D::Job as PlayedJob>::Done,
     is_closed: bool,
 ) -> bool {
     match desk.finish(rt, done) {
@@ -67,12 +60,7 @@ fn is_answered<J: Naming + StoreName, R: Wait + Drop, W: Wait>(
 }
 
 /// Loses a job, and returns it all the same.
-fn lose<J: Naming + StoreName, R: Wait + Drop, W: Wait>(
-    rt: &W,
-    alloc: Global,
-    desk: &RunningDesk<J, R>,
-    job: Job<J, RunningTexts>,
-) -> bool {
+fn lose<D: PlayedDesk, W: Wait>(rt: &W, alloc: Global, desk: &D, job: D::Job) -> bool {
     let was_out = matches!(desk.lose(rt, job.claim_number()), Ok(true));
     match run(rt, alloc, desk, job) {
         Some(done) => is_answered(rt, desk, done, true) && was_out,
@@ -81,23 +69,18 @@ fn lose<J: Naming + StoreName, R: Wait + Drop, W: Wait>(
 }
 
 /// Returns a job twice.
-fn return_twice<J: Naming + StoreName, R: Wait + Drop, W: Wait>(
-    rt: &W,
-    alloc: Global,
-    desk: &RunningDesk<J, R>,
-    job: Job<J, RunningTexts>,
-) -> bool {
+fn return_twice<D: PlayedDesk, W: Wait>(rt: &W, alloc: Global, desk: &D, job: D::Job) -> bool {
     let Some(done) = run(rt, alloc, desk, job) else {
         return false;
     };
-    let Ok(copy) = done.copy(alloc) else {
-        return give_back(rt, desk, done.claim_number());
+    let Ok(copy) = <D::Job as PlayedJob>::copy(alloc, &done) else {
+        return give_back(rt, desk, <D::Job as PlayedJob>::claim_of(&done));
     };
     let is_first_well = is_answered(rt, desk, done, false);
     is_answered(rt, desk, copy, true) && is_first_well
 }
 
-impl<J: Naming + StoreName> Kept<J> {
+impl<D: PlayedDesk> Kept<D> {
     /// No jobs.
     pub fn new(alloc: Global) -> Self {
         Kept {
@@ -119,12 +102,7 @@ impl<J: Naming + StoreName> Kept<J> {
     }
 
     /// Returns the oldest job that is kept, if there is one.
-    fn return_oldest<R: Wait + Drop, W: Wait>(
-        &mut self,
-        rt: &W,
-        alloc: Global,
-        desk: &RunningDesk<J, R>,
-    ) {
+    fn return_oldest<W: Wait>(&mut self, rt: &W, alloc: Global, desk: &D) {
         if self.jobs.is_empty() {
             return;
         }
@@ -137,25 +115,14 @@ impl<J: Naming + StoreName> Kept<J> {
     }
 
     /// Returns all jobs that are kept.
-    pub fn return_all<R: Wait + Drop, W: Wait>(
-        &mut self,
-        rt: &W,
-        alloc: Global,
-        desk: &RunningDesk<J, R>,
-    ) {
+    pub fn return_all<W: Wait>(&mut self, rt: &W, alloc: Global, desk: &D) {
         for _ in 0..=MOST_KEPT {
             self.return_oldest(rt, alloc, desk);
         }
     }
 
     /// Keeps a job, and returns the oldest where there are too many. False where memory is refused; then its claim is closed.
-    fn keep<R: Wait + Drop, W: Wait>(
-        &mut self,
-        rt: &W,
-        alloc: Global,
-        desk: &RunningDesk<J, R>,
-        job: Job<J, RunningTexts>,
-    ) -> bool {
+    fn keep<W: Wait>(&mut self, rt: &W, alloc: Global, desk: &D, job: D::Job) -> bool {
         if self.jobs.len() >= MOST_KEPT {
             self.return_oldest(rt, alloc, desk);
         }
@@ -171,7 +138,7 @@ impl<J: Naming + StoreName> Kept<J> {
     }
 
     /// Closes every claim.
-    fn renew<R: Wait + Drop, W: Wait>(&mut self, rt: &W, desk: &RunningDesk<J, R>) {
+    fn renew<W: Wait>(&mut self, rt: &W, desk: &D) {
         self.note(desk.renew(rt).is_ok());
         for late in &mut self.jobs {
             late.is_closed = true;
@@ -179,12 +146,7 @@ impl<J: Naming + StoreName> Kept<J> {
     }
 
     /// Takes a job, if there is one, and loses it, returns it twice or keeps it; now and then it closes every claim.
-    pub fn meddle<R: Wait + Drop, W: Wait>(
-        &mut self,
-        rt: &W,
-        alloc: Global,
-        desk: &RunningDesk<J, R>,
-    ) {
+    pub fn meddle<W: Wait>(&mut self, rt: &W, alloc: Global, desk: &D) {
         if self.draw.below(50) == 0 {
             self.renew(rt, desk);
         }

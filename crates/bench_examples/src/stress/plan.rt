@@ -1,8 +1,7 @@
 //! What the author does, and what each cell shows after it.
 
-use crate::walk::draw::{self, Draw};
+use crate::walk::draw::{Draw, Drawn, draw_edit};
 use crate::walk::mirror::{Logs, Mirror};
-use bench_texts::Edit;
 use std::alloc::{AllocError, Global};
 use std::sync::Arc;
 
@@ -13,19 +12,25 @@ pub const EDITS: usize = 500;
 const MOST_DRAWN: u32 = 100_000;
 
 /// An edit, and whether it is accepted.
-#[derive(Drop)]
+#[derive(Clone, Copy)]
 pub struct Step {
-    pub edit: Edit,
+    pub drawn: Drawn,
     pub is_accepted: bool,
 }
 
-/// The logs of the cells, evaluated from nothing, after each number of edits.
+/// The edits in order, and the logs of the cells, evaluated from nothing, after each number of edits that are accepted.
 #[derive(Drop)]
 pub struct Plan {
+    steps: Vec<Step>,
     logs: Vec<Arc<Logs, Global>>,
 }
 
 impl Plan {
+    /// The edits in order.
+    pub fn steps(&self) -> &[Step] {
+        &self.steps
+    }
+
     /// The logs after so many edits.
     pub fn after(&self, edits: u64) -> Option<&Logs> {
         match usize::try_from(edits) {
@@ -36,7 +41,7 @@ impl Plan {
 }
 
 /// Draws edits until so many are accepted, and evaluates the cells after each.
-pub fn planned(alloc: Global) -> Result<(Plan, Vec<Step>), AllocError> {
+pub fn planned(alloc: Global) -> Result<Plan, AllocError> {
     let mut draw = Draw::new(17);
     let mut mirror = Mirror::new(alloc)?;
     let mut logs = Vec::new(alloc);
@@ -46,12 +51,12 @@ pub fn planned(alloc: Global) -> Result<(Plan, Vec<Step>), AllocError> {
         if logs.len() > EDITS {
             break;
         }
-        let edit = draw::edit(alloc, &mut draw, &mirror)?;
-        let is_accepted = mirror.edit(alloc, &edit)?;
+        let drawn = draw_edit(&mut draw, &mirror);
+        let is_accepted = mirror.edit(alloc, &drawn)?;
         if is_accepted {
             logs.push(Arc::try_clone(mirror.logs())?)?;
         }
-        steps.push(Step { edit, is_accepted })?;
+        steps.push(Step { drawn, is_accepted })?;
     }
-    Ok((Plan { logs }, steps))
+    Ok(Plan { steps, logs })
 }

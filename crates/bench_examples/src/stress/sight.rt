@@ -2,10 +2,10 @@
 
 use crate::stress::plan::Plan;
 use crate::walk::draw;
+use crate::walk::mirror::is_wanted;
 use board::Board;
-use compare_report::{Shown, outcome_log};
+use compare_report::Shown;
 use std::alloc::{AllocError, Global};
-use verdict::Outcome;
 
 /// How many edits were seen, and which cells were settled after them.
 #[derive(Drop)]
@@ -14,20 +14,6 @@ pub struct Sight {
     settled: Vec<bool>,
     open: u64,
     faults: u64,
-}
-
-/// Whether an outcome is the one that evaluating from nothing gives.
-fn is_right(
-    alloc: Global,
-    test: &[u8],
-    outcome: &Outcome,
-    wanted: Option<&[u8]>,
-) -> Result<bool, AllocError> {
-    let log = outcome_log(alloc, test, outcome)?;
-    match wanted {
-        Some(bytes) => Ok(bytes == log.as_slice()),
-        None => Ok(false),
-    }
 }
 
 impl Sight {
@@ -113,7 +99,7 @@ impl Sight {
                 Ok(false)
             }
             Shown::Settled(outcome) => {
-                let is_right = is_right(alloc, test, outcome, wanted)?;
+                let is_right = is_wanted(alloc, test, outcome, wanted)?;
                 self.note(!is_right);
                 Ok(true)
             }

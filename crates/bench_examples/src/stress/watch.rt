@@ -1,16 +1,14 @@
 //! A viewer, in a thread of its own.
 
+use crate::played::PlayedDesk;
 use crate::stress::plan::{EDITS, Plan};
 use crate::stress::sight::Sight;
-use desk_rule::{Naming, Viewer};
-use running_bench::{RunningDesk, RunningTexts};
 use std::alloc::Global;
 use std::rt::Clock;
 use std::sync::Wait;
 use std::sync::atomic::{AtomicU64, Ordering};
 use std::thread;
 use std::time::Duration;
-use value_store::StoreName;
 
 /// So many microseconds a viewer rests between two boards.
 const REST: u64 = 200;
@@ -53,17 +51,17 @@ impl Shared {
 }
 
 /// Looks at the board that was published last, and gives the viewer back. No board or no memory is a fault.
-pub fn look<J: Naming + StoreName>(
+pub fn look<D: PlayedDesk>(
     alloc: Global,
-    viewer: Viewer<J, RunningTexts>,
+    viewer: D::Viewer,
     plan: &Plan,
     sight: &mut Sight,
-) -> Viewer<J, RunningTexts> {
-    match viewer.read() {
+) -> D::Viewer {
+    match D::read(viewer) {
         Ok(view) => {
-            let is_refused = sight.look(alloc, plan, view.board()).is_err();
+            let is_refused = sight.look(alloc, plan, D::board(&view)).is_err();
             sight.note(is_refused);
-            view.leave()
+            D::leave(view)
         }
         Err(viewer) => {
             sight.note(true);
@@ -74,13 +72,14 @@ pub fn look<J: Naming + StoreName>(
 
 /// Looks at boards until the author has ended, and then once more: that board has all edits, and no cell is open. No viewer is a fault. Every other
 /// viewer also asks the desk now and then whether all is settled, which tells it what is published.
-pub fn watch<J, R, W>(rt: &W, alloc: Global, desk: &RunningDesk<J, R>, asks: bool, shared: &Shared)
-where
-    J: Naming + StoreName,
-    R: Wait + Drop,
-    W: Wait + Clock,
-{
-    let Ok(mut viewer) = desk.viewer(rt) else {
+pub fn watch<D: PlayedDesk, W: Wait + Clock>(
+    rt: &W,
+    alloc: Global,
+    desk: &D,
+    asks: bool,
+    shared: &Shared,
+) {
+    let Ok(mut viewer) = desk.give_viewer(rt) else {
         return shared.add(1);
     };
     let mut sight = Sight::new(alloc);
@@ -89,7 +88,7 @@ where
         if asks && turn % 16 == 0 {
             sight.note(desk.settle_turn(rt, &mut viewer).is_err());
         }
-        viewer = look(alloc, viewer, &shared.plan, &mut sight);
+        viewer = look::<D>(alloc, viewer, &shared.plan, &mut sight);
         if is_last {
             break;
         }

@@ -1,5 +1,6 @@
 //! Numbers and edits that are drawn from a seed.
 
+use crate::edits;
 use crate::walk::mirror::Mirror;
 use bench_texts::Edit;
 use std::alloc::{AllocError, Global};
@@ -65,62 +66,67 @@ fn pick(draw: &mut Draw, texts: &[&'static [u8]]) -> &'static [u8] {
     }
 }
 
-fn copied(alloc: Global, bytes: &[u8]) -> Result<Vec<u8>, AllocError> {
-    Vec::from_slice(alloc, bytes)
-}
-
 /// The names of the tests and of the models that edits are drawn of.
 pub fn names() -> (&'static [&'static [u8]], &'static [&'static [u8]]) {
     (&NAMES, &MODEL_NAMES)
 }
 
-/// An edit that is drawn.
-pub fn edit(alloc: Global, draw: &mut Draw, mirror: &Mirror) -> Result<Edit, AllocError> {
+/// An edit that is drawn: its word, with the name, the number and the text that it takes.
+#[derive(Clone, Copy)]
+pub struct Drawn {
+    verb: &'static str,
+    name: &'static [u8],
+    number: u64,
+    text: &'static [u8],
+}
+
+impl Drawn {
+    /// The edit.
+    pub fn edit(&self, alloc: Global) -> Result<Edit, AllocError> {
+        let text = Vec::from_slice(alloc, self.text)?;
+        edits::named(alloc, self.verb, self.name, self.number, text)
+    }
+}
+
+/// An edit in words.
+fn in_words(verb: &'static str, name: &'static [u8], number: u64, text: &'static [u8]) -> Drawn {
+    Drawn {
+        verb,
+        name,
+        number,
+        text,
+    }
+}
+
+/// Draws one of the rarer edits of a model or a test.
+fn draw_rare(draw: &mut Draw, model: &'static [u8]) -> Drawn {
+    match draw.below(8) {
+        0 => in_words("drop-test", pick(draw, &NAMES), 0, b""),
+        1 => in_words("drop-model", model, 0, b""),
+        _ => in_words("locations", pick(draw, &NAMES), 0, b"locations [0:r1; x;]"),
+    }
+}
+
+/// Draws an edit.
+pub fn draw_edit(draw: &mut Draw, mirror: &Mirror) -> Drawn {
     let model = pick(draw, &MODEL_NAMES);
     let number = draw.below(1000);
     let item = mirror.item_number(model, number);
     match draw.below(12) {
-        0 => Ok(Edit::PutTest {
-            text: copied(alloc, pick(draw, &TESTS))?,
-        }),
-        1 => Ok(Edit::PutModel {
-            model: copied(alloc, model)?,
-            text: copied(alloc, pick(draw, &MODELS))?,
-        }),
-        2 => Ok(Edit::SetThread {
-            test: copied(alloc, pick(draw, &NAMES))?,
-            thread: draw.below(3) as usize,
-            text: copied(alloc, pick(draw, &THREADS))?,
-        }),
-        3 => Ok(Edit::SetCond {
-            test: copied(alloc, pick(draw, &NAMES))?,
-            text: copied(alloc, pick(draw, &CONDITIONS))?,
-        }),
-        4 => match draw.below(8) {
-            0 => Ok(Edit::DropTest {
-                test: copied(alloc, pick(draw, &NAMES))?,
-            }),
-            1 => Ok(Edit::DropModel {
-                model: copied(alloc, model)?,
-            }),
-            _ => Ok(Edit::SetLocations {
-                test: copied(alloc, pick(draw, &NAMES))?,
-                text: copied(alloc, b"locations [0:r1; x;]")?,
-            }),
-        },
-        5 => Ok(Edit::InsertItem {
-            model: copied(alloc, model)?,
-            before: item,
-            text: copied(alloc, pick(draw, &ITEMS))?,
-        }),
-        6 => Ok(Edit::RemoveItem {
-            model: copied(alloc, model)?,
-            item: item,
-        }),
-        _ => Ok(Edit::SetItem {
-            model: copied(alloc, model)?,
-            item: item,
-            text: copied(alloc, pick(draw, &ITEMS))?,
-        }),
+        0 => in_words("test", b"", 0, pick(draw, &TESTS)),
+        1 => in_words("model", model, 0, pick(draw, &MODELS)),
+        2 => {
+            let test = pick(draw, &NAMES);
+            let thread = draw.below(3);
+            in_words("thread", test, thread, pick(draw, &THREADS))
+        }
+        3 => {
+            let test = pick(draw, &NAMES);
+            in_words("condition", test, 0, pick(draw, &CONDITIONS))
+        }
+        4 => draw_rare(draw, model),
+        5 => in_words("insert", model, item, pick(draw, &ITEMS)),
+        6 => in_words("remove", model, item, b""),
+        _ => in_words("item", model, item, pick(draw, &ITEMS)),
     }
 }

@@ -1,10 +1,12 @@
 //! The same texts beside a bench or a desk, with what evaluating them from nothing gives.
 
+use crate::walk::draw::Drawn;
 use bench_texts::{Edit, Texts};
 use compare_report::outcome_log;
 use memo_graph::eval_cell;
 use std::alloc::{AllocError, Global};
 use std::sync::Arc;
+use verdict::Outcome;
 
 /// The log of a cell, by the names of its test and its model.
 #[derive(Drop)]
@@ -48,6 +50,20 @@ impl Logs {
     }
 }
 
+/// Whether the log of an outcome of a test is the one that is wanted, if one is.
+pub fn is_wanted(
+    alloc: Global,
+    test: &[u8],
+    outcome: &Outcome,
+    wanted: Option<&[u8]>,
+) -> Result<bool, AllocError> {
+    let log = outcome_log(alloc, test, outcome)?;
+    match wanted {
+        Some(bytes) => Ok(bytes == log.as_slice()),
+        None => Ok(false),
+    }
+}
+
 /// The texts, with the logs of their cells.
 #[derive(Drop)]
 pub struct Mirror {
@@ -63,8 +79,13 @@ impl Mirror {
         Ok(Mirror { texts, logs })
     }
 
-    /// Makes an edit, and says whether it is accepted.
-    pub fn edit(&mut self, alloc: Global, edit: &Edit) -> Result<bool, AllocError> {
+    /// Makes an edit that was drawn, and says whether it is accepted.
+    pub fn edit(&mut self, alloc: Global, drawn: &Drawn) -> Result<bool, AllocError> {
+        let edit = drawn.edit(alloc)?;
+        self.make(alloc, &edit)
+    }
+
+    fn make(&mut self, alloc: Global, edit: &Edit) -> Result<bool, AllocError> {
         match self.texts.prepare(alloc, edit, false) {
             Ok(prepared) => {
                 self.texts.commit(prepared);

@@ -1,35 +1,45 @@
 //! One event after another, each compared with the evaluation from nothing.
 
-use crate::jobs::{Stage, made};
+use crate::claimed::ClaimedBench;
+use crate::played::PlayedBench;
 use crate::walk::draw::{self, Draw};
-use crate::walk::mirror::Mirror;
-use cells::bench::Bench;
+use crate::walk::mirror::{Mirror, is_wanted};
 use cells::shown::Shown;
-use compare_report::outcome_log;
-use stamped_texts::StampedTexts;
 use std::alloc::{AllocError, Global};
 use std::sync::Wait;
-use value_store::StoreName;
+use verdict::Outcome;
 
 const KEPT_JOBS: usize = 40;
 
-/// A bench, its mirror, the jobs that were claimed, and how many cells differed.
+/// Whether what is shown of a cell of a test is not the log that is wanted of it, if it is there.
+fn is_other(
+    alloc: Global,
+    test: &[u8],
+    shown: Shown<'_, Outcome>,
+    wanted: Option<&[u8]>,
+) -> Result<bool, AllocError> {
+    match shown {
+        Shown::NoCell => Ok(wanted.is_some()),
+        Shown::Open => Ok(wanted.is_none()),
+        Shown::Settled(outcome) => Ok(!is_wanted(alloc, test, outcome, wanted)?),
+    }
+}
+
+/// A bench with the jobs that were claimed, its mirror, and how many cells differed.
 #[derive(Drop)]
-pub struct Walk<K: StoreName> {
-    bench: Bench<K, StampedTexts>,
+pub struct Walk<B: PlayedBench> {
+    claimed: ClaimedBench<B>,
     mirror: Mirror,
-    jobs: Vec<Stage<K, StampedTexts>>,
     draw: Draw,
     differing: u64,
 }
 
-impl<K: StoreName> Walk<K> {
-    /// A walk that begins at this bench. Errors: want of memory.
-    pub fn new(alloc: Global, bench: Bench<K, StampedTexts>) -> Result<Self, AllocError> {
+impl<B: PlayedBench> Walk<B> {
+    /// A walk over this bench. Errors: want of memory.
+    pub fn new(alloc: Global, bench: B) -> Result<Self, AllocError> {
         Ok(Walk {
-            bench,
             mirror: Mirror::new(alloc)?,
-            jobs: Vec::new(alloc),
+            claimed: ClaimedBench::new(alloc, bench),
             draw: Draw::new(2026),
             differing: 0,
         })
@@ -47,47 +57,46 @@ impl<K: StoreName> Walk<K> {
     }
 
     fn edit(&mut self, alloc: Global) -> Result<(), AllocError> {
-        let edit = draw::edit(alloc, &mut self.draw, &self.mirror)?;
-        let wanted = self.mirror.edit(alloc, &edit)?;
-        let accepted = self.bench.edit(alloc, edit).is_ok();
+        let drawn = draw::draw_edit(&mut self.draw, &self.mirror);
+        let wanted = self.mirror.edit(alloc, &drawn)?;
+        let accepted = self.claimed.bench.edit(alloc, drawn.edit(alloc)?).is_ok();
         self.count(wanted != accepted);
         Ok(())
     }
 
     fn claim(&mut self, alloc: Global) -> Result<(), AllocError> {
-        if let Ok(Some(job)) = self.bench.claim(alloc) {
-            self.jobs.push(Stage::Waiting(job))?;
-            if self.jobs.len() > KEPT_JOBS {
-                let _oldest = self.jobs.remove(0);
-            }
+        let _claimed = self.claimed.claim(alloc)?;
+        if self.claimed.job_count() > KEPT_JOBS {
+            self.claimed.forget_first();
         }
         Ok(())
     }
 
+    /// The claim of a job that is drawn.
     fn claim_number(&mut self) -> u64 {
-        let index = self.draw.below(self.jobs.len() as u64) as usize;
-        match self.jobs.get(index) {
-            Some(stage) => stage.claim_number(),
-            None => 0,
-        }
+        let index = self.draw.below(self.claimed.job_count() as u64) as usize;
+        self.claimed.claim_at(index)
+    }
+
+    fn lose(&mut self) {
+        let claim = self.claim_number();
+        let _was_out = self.claimed.bench.lose(claim);
+    }
+
+    fn offer<W: Wait>(&mut self, rt: &W, alloc: Global) -> Result<(), AllocError> {
+        let claim = self.claim_number();
+        let _answer = self.claimed.offer(rt, alloc, claim)?;
+        Ok(())
     }
 
     /// One event, and what every cell shows after it.
-    pub fn step<R: Wait>(&mut self, rt: &R, alloc: Global) -> Result<(), AllocError> {
+    pub fn step<W: Wait>(&mut self, rt: &W, alloc: Global) -> Result<(), AllocError> {
         match self.draw.below(40) {
-            0 => self.bench.renew(),
-            1 => {
-                let claim = self.claim_number();
-                let _was_out = self.bench.lose(claim);
-            }
+            0 => self.claimed.bench.renew(),
+            1 => self.lose(),
             2..=7 => self.edit(alloc)?,
             8..=23 => self.claim(alloc)?,
-            _ => {
-                let claim = self.claim_number();
-                if let Some(Ok(done)) = made(rt, alloc, &mut self.jobs, claim)? {
-                    let _answer = self.bench.finish(done);
-                }
-            }
+            _ => self.offer(rt, alloc)?,
         }
         self.compare(alloc)
     }
@@ -106,16 +115,6 @@ impl<K: StoreName> Walk<K> {
     /// Whether a cell shows what it should not.
     fn differs(&self, alloc: Global, test: &[u8], model: &[u8]) -> Result<bool, AllocError> {
         let wanted = self.mirror.logs().of_cell(test, model);
-        match self.bench.shown(test, model) {
-            Shown::NoCell => Ok(wanted.is_some()),
-            Shown::Open => Ok(wanted.is_none()),
-            Shown::Settled(outcome) => {
-                let log = outcome_log(alloc, test, outcome)?;
-                match wanted {
-                    Some(bytes) => Ok(bytes != log.as_slice()),
-                    None => Ok(true),
-                }
-            }
-        }
+        is_other(alloc, test, self.claimed.bench.shown(test, model), wanted)
     }
 }

@@ -8,11 +8,11 @@ use std::alloc::{AllocError, Global};
 pub fn named(
     alloc: Global,
     verb: &str,
-    name: &str,
+    name: &[u8],
     number: u64,
     text: Vec<u8>,
 ) -> Result<Edit, AllocError> {
-    let named = Vec::from_slice(alloc, name.as_bytes())?;
+    let named = Vec::from_slice(alloc, name)?;
     match verb {
         "test" => Ok(Edit::PutTest { text }),
         "drop-test" => Ok(Edit::DropTest { test: named }),
