@@ -6,10 +6,8 @@ use Rattle.std.proofs.lemmas.List.{append-nil, take_more, take_all, map-append, 
 use Rattle.std.proofs.lemmas.List.Sums.{sum_by-append}
 use Rattle.std.proofs.lemmas.Bool.{ltb-true}
 use Rattle.cat_values.specs.declared.model.Expression.{Expression}
-use Rattle.cat_values.specs.declared.model.Expression.TheVariants as expressions
 use Rattle.cat_values.specs.Values.{term_of}
 use Rattle.cat_values.specs.Value.{Term, Terms, Atom, AllEvents, EmptyRelation, EmptySet, Join, Mark, Not, On, Apply, NoTerm, OneMore, gathered}
-use Rattle.cat_values.proofs.Arguments.{applied_term}
 use Rattle.binding_kinds.specs.declared.scope.Found.{Found}
 use Rattle.binding_kinds.specs.declared.scope.Binder.{Binder}
 use Rattle.binding_kinds.specs.declared.scope.Binder.TheVariants as binders
@@ -72,8 +70,6 @@ too_long t u whole h same over long = record { some = h.some; fits = λ e. absur
     at_flag : (b : Bool) → t.is_oversized ≡ b → 4096 < length whole
     at_flag true e = h.large e
     at_flag false e = let l = ap length (h.fits e) in omega (arith, l, long)
-
--- ---- names
 
 -- ---- bodies
 
@@ -223,29 +219,26 @@ more_arguments ss names ps xs i e made new one lt is new_is inv h =
     ap (argument_pieces ss names ps) (take_more xs i e lt) ∙ (map-append (λ (x : Expression). pieces_in ss names ps (term_of x)) (take i xs) (get_or xs i e ∷ []) ∙ ap (λ (x : Expression). argument_pieces ss names ps (take i xs) ++ pieces_in ss names ps (term_of x) ∷ []) (sym is)) in
     rw (new_is, t) (zip_push made (argument_pieces ss names ps (take i xs)) one (pieces_in ss names ps (term_of e)) inv h)
 
+-- behind the last argument
+pub all_arguments : (ss : List Sense) (names : List Naming) (ps : List (List ℕ)) (xs : List Expression) (i : ℕ) (made : List Template) → length xs ≤ i → AllZip IsTemplate made (argument_pieces ss names ps (take i xs)) → AllZip IsTemplate made (argument_pieces ss names ps xs)
+all_arguments ss names ps xs i made past h = rw (take_all i xs past) at h
+
 -- an application whose arguments are made
-pub applied_pieces : (ss : List Sense) (names : List Naming) (ps : List (List ℕ)) (e : Expression) (n : List ℕ) (args : Vec Expression Global) (count : ℕ) (s : Sense) → e ≡ expressions.Applied n args → count ≡ length args.items → sense_seen ss names ps count n ≡ Some s
-    → pieces_with (argument_pieces ss names ps args.items) (postfix s.formula) ≡ pieces_in ss names ps (term_of e)
-applied_pieces ss names ps e n args count s is count_is sense_is =
-    let ts = gathered (map term_of args.items) in
-    let t : term_of e ≡ Apply n ts = ap term_of is ∙ applied_term n args in
-    let w : sense_seen ss names ps (count_of ts) n ≡ Some s = ap (λ (m : ℕ). sense_seen ss names ps m n) (count_arguments args.items ∙ sym count_is) ∙ sense_is in
-    ap (λ (l : List (List Piece)). pieces_with l (postfix s.formula)) (listed ss names ps args.items)
+applied_pieces : (ss : List Sense) (names : List Naming) (ps : List (List ℕ)) (n : List ℕ) (xs : List Expression) (s : Sense) → sense_seen ss names ps (length xs) n ≡ Some s
+    → pieces_with (argument_pieces ss names ps xs) (postfix s.formula) ≡ pieces_in ss names ps (Apply n (gathered (map term_of xs)))
+applied_pieces ss names ps n xs s sense_is =
+    let ts = gathered (map term_of xs) in
+    let w : sense_seen ss names ps (count_of ts) n ≡ Some s = ap (λ (m : ℕ). sense_seen ss names ps m n) (count_arguments xs) ∙ sense_is in
+    ap (λ (l : List (List Piece)). pieces_with l (postfix s.formula)) (listed ss names ps xs)
     ∙ (filled_postfix (formulas_in ss names ps ts) s.formula
-    ∙ (ap (λ (o : Option Sense). postfix (applied_formula o (formulas_in ss names ps ts))) (sym w) ∙ ap (pieces_in ss names ps) (sym t)))
+    ∙ ap (λ (o : Option Sense). postfix (applied_formula o (formulas_in ss names ps ts))) (sym w))
 
-pub applied_large : (ss : List Sense) (names : List Naming) (ps : List (List ℕ)) (e : Expression) (n : List ℕ) (args : Vec Expression Global) → e ≡ expressions.Applied n args → 4096 < length (pieces_in ss names ps (term_of e)) → HasLarge ss names ps (term_of e)
-applied_large ss names ps e n args is lt =
-    let t : term_of e ≡ Apply n (gathered (map term_of args.items)) = ap term_of is ∙ applied_term n args in
-    rw t (rw t at lt)
-
-pub unfit_pieces : (ss : List Sense) (names : List Naming) (ps : List (List ℕ)) (e : Expression) (n : List ℕ) (args : Vec Expression Global) (count : ℕ) → e ≡ expressions.Applied n args → count ≡ length args.items → sense_seen ss names ps count n ≡ None
-    → pieces.NoPairs ∷ [] ≡ pieces_in ss names ps (term_of e)
-unfit_pieces ss names ps e n args count is count_is sense_is =
-    let ts = gathered (map term_of args.items) in
-    let t : term_of e ≡ Apply n ts = ap term_of is ∙ applied_term n args in
-    let w : sense_seen ss names ps (count_of ts) n ≡ None = ap (λ (m : ℕ). sense_seen ss names ps m n) (count_arguments args.items ∙ sym count_is) ∙ sense_is in
-    ap (λ (o : Option Sense). postfix (applied_formula o (formulas_in ss names ps ts))) (sym w) ∙ ap (pieces_in ss names ps) (sym t)
+pub unfit_pieces : (ss : List Sense) (names : List Naming) (ps : List (List ℕ)) (n : List ℕ) (xs : List Expression) → sense_seen ss names ps (length xs) n ≡ None
+    → pieces.NoPairs ∷ [] ≡ pieces_in ss names ps (Apply n (gathered (map term_of xs)))
+unfit_pieces ss names ps n xs sense_is =
+    let ts = gathered (map term_of xs) in
+    let w : sense_seen ss names ps (count_of ts) n ≡ None = ap (λ (m : ℕ). sense_seen ss names ps m n) (count_arguments xs) ∙ sense_is in
+    ap (λ (o : Option Sense). postfix (applied_formula o (formulas_in ss names ps ts))) (sym w)
 
 -- a large part makes the whole large
 pub large_whole : (ss : List Sense) (names : List Naming) (ps : List (List ℕ)) (t : Term) → HasLarge ss names ps t → 4096 < length (pieces_in ss names ps t)
@@ -274,24 +267,20 @@ on_ok_as (Err e) P Q to p = tt
 
 -- ---- functions
 
-same_function : (fs : List Function) (i : ℕ) (f g : Function) → slice_get fs i ≡ Some f → slice_get fs i ≡ Some g → f ≡ g
-same_function fs i f g e d = let h : Some f ≡ Some g = sym e ∙ d in cc
-
-pub put_large : (fs : List Function) (i : ℕ) (f g : Function) (s : Sense) (old new : Template) (ts : List Template) (ws : List (List Piece)) → slice_get fs i ≡ Some f → slice_get fs i ≡ Some g → IsKept f s → AllZip IsTemplate ts ws → g.is_oversized ≡ true → new.is_oversized ≡ true
+pub put_large : (f : Function) (s : Sense) (old new : Template) (ts : List Template) (ws : List (List Piece)) → IsKept f s → AllZip IsTemplate ts ws → f.is_oversized ≡ true → new.is_oversized ≡ true
     → IsGrown old new (pieces_with ws (postfix s.formula)) (4096 < length (pieces_with ws (postfix s.formula)))
-put_large fs i f g s old new ts ws e d kept all over new_over = record {
+put_large f s old new ts ws kept all over new_over = record {
   fits = λ b. absurd (let bad : true ≡ false = sym new_over ∙ b in cc);
   large = λ b.
-      let h = kept.large (ap (λ (x : Function). x.is_oversized) (same_function fs i f g e d) ∙ over) in
+      let h = kept.large over in
       let n = no_shorter ts ws (postfix s.formula) all in
       inr (omega (arith, h, n));
 }
 
-pub put_whole : {T E : Type 0} (fs : List Function) (i : ℕ) (f g : Function) (s : Sense) (old new : Template) (r : Result T E) (ws : List (List Piece)) (body : List Piece) → slice_get fs i ≡ Some f → slice_get fs i ≡ Some g → IsKept f s → g.is_oversized ≡ false → body ≡ g.template.items
+pub put_whole : {T E : Type 0} (f : Function) (s : Sense) (old new : Template) (r : Result T E) (ws : List (List Piece)) (body : List Piece) → IsKept f s → f.is_oversized ≡ false → body ≡ f.template.items
     → OnOk r (IsGrown old new (pieces_with ws body) (4096 < length (pieces_with ws body))) → OnOk r (IsGrown old new (pieces_with ws (postfix s.formula)) (4096 < length (pieces_with ws (postfix s.formula))))
-put_whole fs i f g s old new r ws body e d kept fits body_is h =
-    let same = same_function fs i f g e d in
-    let is : body ≡ postfix s.formula = body_is ∙ (ap (λ (x : Function). x.template.items) (sym same) ∙ kept.template (ap (λ (x : Function). x.is_oversized) same ∙ fits)) in
+put_whole f s old new r ws body kept fits body_is h =
+    let is : body ≡ postfix s.formula = body_is ∙ kept.template fits in
     rw is at h
 
 -- ---- what is kept
@@ -389,15 +378,13 @@ mutual
   formulas_within ss names ps (OneMore a others) = (formula_within ss names ps a, formulas_within ss names ps others)
 
 -- an application whose arguments are all made
-pub put_applied : {T E : Type 0} (ss : List Sense) (names : List Naming) (ps : List (List ℕ)) (e : Expression) (n : List ℕ) (args : Vec Expression Global) (count : ℕ) (s : Sense) (old new : Template) (r : Result T E) (xs : List Expression) (i : ℕ) (made given : List Template)
-    → e ≡ expressions.Applied n args → count ≡ length args.items → sense_seen ss names ps count n ≡ Some s → xs ≡ args.items → length xs ≤ i → given ≡ made → AllZip IsTemplate made (argument_pieces ss names ps (take i xs))
-    → ((ws : List (List Piece)) → AllZip IsTemplate given ws → OnOk r (IsGrown old new (pieces_with ws (postfix s.formula)) (4096 < length (pieces_with ws (postfix s.formula)))))
-    → OnOk r (IsGrown old new (pieces_in ss names ps (term_of e)) (HasLarge ss names ps (term_of e)))
-put_applied ss names ps e n args count s old new r xs i made given is count_is sense_is items past same inv put =
-    let whole : take i xs ≡ args.items = take_all i xs past ∙ items in
-    let all : AllZip IsTemplate given (argument_pieces ss names ps args.items) = rw (same, sym whole) inv in
-    let are = applied_pieces ss names ps e n args count s is count_is sense_is in
-    on_ok_as r _ _ (λ g. grown_as old new _ _ _ _ are (λ l. applied_large ss names ps e n args is (rw (sym are) l)) g) (put (argument_pieces ss names ps args.items) all)
+pub put_applied : (ss : List Sense) (names : List Naming) (ps : List (List ℕ)) (n : List ℕ) (xs : List Expression) (s : Sense) (old new : Template) (made : List Template)
+    → sense_seen ss names ps (length xs) n ≡ Some s → AllZip IsTemplate made (argument_pieces ss names ps xs)
+    → ((ws : List (List Piece)) → AllZip IsTemplate made ws → IsGrown old new (pieces_with ws (postfix s.formula)) (4096 < length (pieces_with ws (postfix s.formula))))
+    → IsGrown old new (pieces_in ss names ps (Apply n (gathered (map term_of xs)))) (HasLarge ss names ps (Apply n (gathered (map term_of xs))))
+put_applied ss names ps n xs s old new made sense_is all put =
+    let are = applied_pieces ss names ps n xs s sense_is in
+    grown_as old new _ _ _ _ are (λ l. rw are at l) (put (argument_pieces ss names ps xs) all)
 
 -- where nothing is too large, a new template has the whole list
 pub whole_pieces : (old new : Template) (more : List Piece) (L : Type 0) → (L → ⊥) → old.pieces.items ≡ [] → old.is_oversized ≡ false → IsGrown old new more L → new.pieces.items ≡ more

@@ -9,39 +9,28 @@ ghost use Rattle.binding_functions.specs.Templates.{pieces_in, IsTemplate};
 
 use crate::complements::complemented;
 use crate::template::Template;
-use binding_kinds::{Function, MAX_SIZE, Sight, Used, count_parts, signatures};
+use binding_kinds::{Function, Sight, Used, count_parts, signatures};
 use cat_values::Expression;
 use std::alloc::{AllocError, Global};
 
-/// The body with the functions that it applies put in. Errors: want of memory.
-fn body_template(alloc: Global, sight: &Sight, body: &Expression) -> Result<Template, AllocError>
-    ensures { let names = reverse (map entry_of sight.now.entries.now) in (senses : List Sense) → AreKept sight.now.functions.now senses → IfOk result (λ t. IsTemplate t (pieces_in senses names sight.now.parameters.now (term_of body.now))) }
-{
-    let mut whole = Template::new(alloc);
-    whole.put_term(alloc, sight, body)?;
-    if whole.pieces.len() > MAX_SIZE {
-        whole.is_oversized = true;
-    }
-    Ok(whole)
-}
-
-/// What is kept of the function of that item, whose parameters the body sees: what its body uses
-/// and applies is known. Errors: want of memory.
+/// What is kept of the function of that item, whose parameters the body sees: the body with the
+/// functions that it applies put in is known, and what it uses and applies. Errors: want of memory.
 pub fn function_of(
     alloc: Global,
     sight: &Sight,
     item: usize,
     body: &Expression,
+    template: Template,
     values: Vec<Used>,
     functions: Vec<usize>,
 ) -> Result<Function, AllocError>
     ensures given { IfOk result (λ f. (f.item ≡ item) × (f.arity ≡ length sight.now.parameters.now) × (f.values ≡ values) × (f.functions ≡ functions)) }
-    ensures kept { let names = reverse (map entry_of sight.now.entries.now) in (senses : List Sense) → AreKept sight.now.functions.now senses → length sight.now.parameters.now ≤ 8 → IfOk result (λ f. IsKept f (sense_of_function senses names sight.now.parameters.now (term_of body.now))) }
+    ensures kept { let names = reverse (map entry_of sight.now.entries.now) in (senses : List Sense) → AreKept sight.now.functions.now senses → IsTemplate template (pieces_in senses names sight.now.parameters.now (term_of body.now)) → length sight.now.parameters.now ≤ 8 → IfOk result (λ f. IsKept f (sense_of_function senses names sight.now.parameters.now (term_of body.now))) }
 {
     let Template {
         pieces,
         is_oversized,
-    } = body_template(alloc, sight, body)?;
+    } = template.bounded();
     let (constant, factors) = count_parts(&pieces);
     Ok(Function {
         item,

@@ -1,20 +1,13 @@
 //! Expressions in postfix order, with the functions that they apply put in.
 
-ghost use Rattle.std.specs.Prelude.{◌≡◌, ◌<◌, ◌+◌, ◌||◌, nat_lt, List, [], ◌∷◌, Some, false, length, map, reverse, slice_get, OnOk};
+ghost use Rattle.std.specs.Prelude.{◌≡◌, ◌<◌, ◌+◌, ◌||◌, nat_lt, List, [], ◌∷◌, None, false, length, OnOk};
 ghost use Rattle.std.specs.List.{AllZip};
-ghost use Rattle.cat_values.specs.Values.{term_of};
-ghost use Rattle.binding_kinds.specs.declared.function.Function.{Function};
-ghost use Rattle.binding_kinds.specs.Value.{entry_of};
-ghost use Rattle.binding_kinds.specs.Kinds.{found};
-ghost use Rattle.binding_kinds.specs.Meanings.{parameter_of};
 ghost use Rattle.binding_kinds.specs.Formula.{postfix};
-ghost use Rattle.binding_kinds.specs.Senses.{Sense, IsKept, AreKept};
+ghost use Rattle.binding_kinds.specs.Senses.{Sense, IsKept};
 ghost use Rattle.binding_kinds.specs.Functions.{named_formula};
-ghost use Rattle.binding_functions.specs.Templates.{pieces_in, HasLarge, piece_with, pieces_with, IsTemplate, IsGrown};
+ghost use Rattle.binding_functions.specs.Templates.{piece_with, pieces_with, IsTemplate, IsGrown};
 
-use binding_kinds::{Function, MAX_SIZE, Meaning, Piece, Sight};
-use cat_values::Expression;
-use source_text::Name;
+use binding_kinds::{Binder, Found, Function, MAX_SIZE, Piece};
 use std::alloc::{AllocError, Global};
 
 /// An expression in postfix order, with the functions that it applies put in.
@@ -38,20 +31,26 @@ impl Template {
         }
     }
 
-    fn put(&mut self, piece: Piece) -> Result<(), AllocError>
+    /// Appends a piece. Errors: want of memory.
+    pub fn put(&mut self, piece: Piece) -> Result<(), AllocError>
         ensures { OnOk result (IsGrown self.old self.new (piece ∷ []) ⊥) }
     {
         self.pieces.push(piece)?;
         Ok(())
     }
 
-    fn put_name(&mut self, sight: &Sight, name: &Name) -> Result<(), AllocError>
-        ensures { OnOk result (IsGrown self.old self.new (postfix (named_formula (parameter_of (reverse sight.now.parameters.now) name.now) (found (reverse (map entry_of sight.now.entries.now)) name.now))) ⊥) }
+    /// Appends a name without arguments that is no parameter and was looked for. One that is unbound,
+    /// or a function, stands as the empty relation. Errors: want of memory.
+    pub fn put_name(&mut self, found: Option<Found>) -> Result<(), AllocError>
+        ensures { OnOk result (IsGrown self.old self.new (postfix (named_formula None found)) ⊥) }
     {
-        match sight.value(name) {
-            Err(_) => self.put(Piece::NoPairs),
-            Ok(Meaning::Parameter(index)) => self.put(Piece::Parameter(index)),
-            Ok(Meaning::Value(found)) => self.put(Piece::Value(found)),
+        match found {
+            None => self.put(Piece::NoPairs),
+            Some(found) => match found.binder {
+                Binder::Predefined(_) => self.put(Piece::Value(found)),
+                Binder::Bound(_) => self.put(Piece::Value(found)),
+                Binder::Applicable(_) => self.put(Piece::NoPairs),
+            },
         }
     }
 
@@ -111,68 +110,31 @@ impl Template {
         Ok(())
     }
 
-    /// Appends what the function makes of the arguments.
-    fn put_function(
+    /// Appends what the function makes of the arguments. Errors: want of memory.
+    pub fn put_function(
         &mut self,
-        sight: &Sight,
-        function: usize,
+        function: &Function,
         arguments: &[Template],
     ) -> Result<(), AllocError>
-        ensures { (one : Function) (s : Sense) (wholes : List (List Piece)) → slice_get sight.now.functions.now function ≡ Some one → IsKept one s → AllZip IsTemplate arguments.now wholes → OnOk result (IsGrown self.old self.new (pieces_with wholes (postfix s.formula)) (4096 < length (pieces_with wholes (postfix s.formula)))) }
+        ensures { (s : Sense) (wholes : List (List Piece)) → IsKept function.now s → AllZip IsTemplate arguments.now wholes → OnOk result (IsGrown self.old self.new (pieces_with wholes (postfix s.formula)) (4096 < length (pieces_with wholes (postfix s.formula)))) }
     {
-        let Some(one) = sight.functions.get(function) else {
-            return Ok(());
-        };
-        if one.is_oversized {
+        if function.is_oversized {
             self.is_oversized = true;
             return Ok(());
         }
-        self.put_body(&one.template, arguments)
+        self.put_body(&function.template, arguments)
     }
 
-    /// Appends an expression. What has a fault stands as the empty relation. Errors: want of memory.
-    pub fn put_term(
-        &mut self,
-        alloc: Global,
-        sight: &Sight,
-        term: &Expression,
-    ) -> Result<(), AllocError>
-        ensures { let names = reverse (map entry_of sight.now.entries.now) in (senses : List Sense) → AreKept sight.now.functions.now senses → OnOk result (IsGrown self.old self.new (pieces_in senses names sight.now.parameters.now (term_of term.now)) (HasLarge senses names sight.now.parameters.now (term_of term.now))) }
+    /// The same, marked where it is longer than an application may be.
+    pub(crate) fn bounded(self) -> Template
+        ensures { (whole : List Piece) → IsTemplate self whole → IsTemplate result whole }
     {
-        match term {
-            Expression::Named(name) => self.put_name(sight, name),
-            Expression::Everything => self.put(Piece::Everything),
-            Expression::NoPairs => self.put(Piece::NoPairs),
-            Expression::NoEvents => self.put(Piece::NoEvents),
-            Expression::Joined(op, left, right) => {
-                self.put_term(alloc, sight, left)?;
-                self.put_term(alloc, sight, right)?;
-                self.put(Piece::Joined(*op))
-            }
-            Expression::Marked(op, operand) => {
-                self.put_term(alloc, sight, operand)?;
-                self.put(Piece::Marked(*op))
-            }
-            Expression::Complement(operand) => {
-                self.put_term(alloc, sight, operand)?;
-                self.put(Piece::Complement)
-            }
-            Expression::Identity(operand) => {
-                self.put_term(alloc, sight, operand)?;
-                self.put(Piece::Identity)
-            }
-            Expression::Applied(name, arguments) => match sight.function(name, arguments.len()) {
-                Err(_) => self.put(Piece::NoPairs),
-                Ok(function) => {
-                    let mut made = Vec::new(alloc);
-                    for argument in arguments {
-                        let mut one = Template::new(alloc);
-                        one.put_term(alloc, sight, argument)?;
-                        made.push(one)?;
-                    }
-                    self.put_function(sight, function, &made)
-                }
-            },
+        if self.pieces.len() <= MAX_SIZE {
+            return self;
+        }
+        Template {
+            pieces: self.pieces,
+            is_oversized: true,
         }
     }
 }

@@ -1,7 +1,7 @@
 -- One function more.
 use Rattle.std.specs.Prelude.{slice_get, option_map}
 use Rattle.std.proofs.lemmas.Option.{slice_get-map}
-use Rattle.std.proofs.Common.{ℕ, ◌≡◌, ◌≤◌, ◌+◌, ◌-◌, ◌∙◌, Some, length-append, List, [], ◌∷◌, ◌++◌, length, map, reverse, take, Result, Ok, Err, IfOk, refl, ap, sym, arith, length-take}
+use Rattle.std.proofs.Common.{ℕ, ◌≡◌, ◌+◌, ◌-◌, ◌∙◌, Some, length-append, List, [], ◌∷◌, ◌++◌, length, map, reverse, refl, ap, sym, arith}
 use Rattle.std.proofs.lemmas.List.{map-append, length-map, length-reverse, reverse-reverse}
 use Rattle.binding_kinds.specs.declared.kinds.Kind.TheVariants.{OfAny}
 use Rattle.binding_kinds.specs.declared.function.Function.{Function}
@@ -25,26 +25,19 @@ named_more es new e fs ss n kept count is kind binder = rw (is, rev_push entry_o
 pub functions_more : (fs new : List Function) (ss : List Sense) (f : Function) (s : Sense) → AreKept fs ss → new ≡ fs ++ f ∷ [] → IsKept f s → AreKept new (ss ++ s ∷ [])
 functions_more fs new ss f s kept is one = rw is (kept_more fs ss f s kept one)
 
+pub usages_more : (fs new : List Function) (f : Function) (u : Usage) → new ≡ fs ++ f ∷ [] → usage_of f ≡ u → map usage_of new ≡ map usage_of fs ++ u ∷ []
+usages_more fs new f u is usage = rw (is, map-append usage_of fs (f ∷ []), usage) refl
+
 -- what it uses and applies is what its body does
-pub usages_more : (fs new : List Function) (f : Function) (names : List Naming) (item : ℕ) (ps : List (List ℕ)) (body : Term) → new ≡ fs ++ f ∷ [] → f.item ≡ item → f.arity ≡ length ps
-    → reverse f.values.items ≡ with_values (map usage_of fs) names ps (length names) body [] → reverse f.functions.items ≡ with_functions (map usage_of fs) names ps body []
-    → map usage_of new ≡ map usage_of fs ++ usage_of_function (map usage_of fs) names item ps body ∷ []
-usages_more fs new f names item ps body is number arity values functions =
-    let v : f.values.items ≡ reverse (with_values (map usage_of fs) names ps (length names) body []) = sym (reverse-reverse f.values.items) ∙ ap reverse values in
-    let a : f.functions.items ≡ reverse (with_functions (map usage_of fs) names ps body []) = sym (reverse-reverse f.functions.items) ∙ ap reverse functions in
-    rw (is, map-append usage_of fs (f ∷ []), number, arity, v, a) refl
+pub usage_made : (us : List Usage) (names : List Naming) (f : Function) (item : ℕ) (ps : List (List ℕ)) (body : Term) (from : ℕ) (values : List Used) (functions : List ℕ) → from ≡ length names → f.item ≡ item → f.arity ≡ length ps → f.values.items ≡ values → f.functions.items ≡ functions
+    → reverse values ≡ with_values us names ps from body [] → reverse functions ≡ with_functions us names ps body [] → usage_of f ≡ usage_of_function us names item ps body
+usage_made us names f item ps body from values functions at number arity v a used called =
+    let v_is : f.values.items ≡ reverse (with_values us names ps (length names) body []) = v ∙ (sym (reverse-reverse values) ∙ ap reverse (rw at at used)) in
+    let a_is : f.functions.items ≡ reverse (with_functions us names ps body []) = a ∙ (sym (reverse-reverse functions) ∙ ap reverse called) in
+    rw (number, arity, v_is, a_is) refl
 
-pub usages_declared : (gs hs new : List Function) (es ts : List Entry) (f : Function) (item : ℕ) (ps : List (List ℕ)) (body : Term) (from : ℕ) (old after : List Used) (before applied : List ℕ) → hs ≡ gs → ts ≡ es → from ≡ length es → old ≡ [] → before ≡ [] → new ≡ gs ++ f ∷ [] → f.item ≡ item → f.arity ≡ length ps
-    → f.values.items ≡ after → f.functions.items ≡ applied → reverse after ≡ with_values (map usage_of hs) (reverse (map entry_of ts)) ps from body (reverse old) → reverse applied ≡ with_functions (map usage_of hs) (reverse (map entry_of ts)) ps body (reverse before)
-    → map usage_of new ≡ map usage_of gs ++ usage_of_function (map usage_of gs) (reverse (map entry_of es)) item ps body ∷ []
-usages_declared gs hs new es ts f item ps body from old after before applied g e at none unapplied is number arity v a values functions =
-    let count : length (reverse (map entry_of es)) ≡ length es = rw (length-reverse, length-map) refl in
-    let used : reverse after ≡ with_values (map usage_of gs) (reverse (map entry_of es)) ps (length es) body [] = rw (g, e, at, none) at values in
-    let called : reverse applied ≡ with_functions (map usage_of gs) (reverse (map entry_of es)) ps body [] = rw (g, e, unapplied) at functions in
-    usages_more gs new f (reverse (map entry_of es)) item ps body is number arity (rw (v, count) used) (rw a called)
-
-pub count_seen : (es : List Entry) (from : ℕ) → from ≤ length es → length (reverse (map entry_of (take from es))) ≡ from
-count_seen es from le = rw (length-reverse, length-map) (omega (arith, le, length-take from es))
+pub count_names : (es : List Entry) → length (reverse (map entry_of es)) ≡ length es
+count_names es = rw (length-reverse, length-map) refl
 
 at_end : (us : List Usage) (u : Usage) → slice_get (us ++ u ∷ []) (length us) ≡ Some u
 at_end [] u = refl
@@ -60,12 +53,12 @@ last_usage fs f us u e is =
     cc
 
 -- the item of the latest function
-pub function_resolved : {E : Type 0} (ss : List Sense) (us : List Usage) (names own : List Naming) (from item : ℕ) (n : List ℕ) (ps : List (List ℕ)) (b : Term) (fs : List Function) (done : Result ResolvedItem E) → length names ≡ from → map usage_of fs ≡ usages_after us names item (Defined n ps b)
-    → IfOk done (λ r. r.role ≡ roles.Silent)
-    → ((vs : List Usage) (u : Usage) → map usage_of fs ≡ vs ++ u ∷ [] → IfOk done (λ r. r.inputs.items ≡ map (λ (v : Used). v.input) u.values))
-    → ((vs : List Usage) (u : Usage) → map usage_of fs ≡ vs ++ u ∷ [] → IfOk done (λ r. r.functions.items ≡ u.functions))
-    → IfOk done (λ r. IsResolvedIn ss us names own from (Defined n ps b) r)
-function_resolved ss us names own from item n ps b fs (Ok r) count is role inputs functions =
+pub function_resolved : (ss : List Sense) (us : List Usage) (names own : List Naming) (from item : ℕ) (n : List ℕ) (ps : List (List ℕ)) (b : Term) (fs : List Function) (r : ResolvedItem) → length names ≡ from → map usage_of fs ≡ usages_after us names item (Defined n ps b)
+    → r.role ≡ roles.Silent
+    → ((vs : List Usage) (u : Usage) → map usage_of fs ≡ vs ++ u ∷ [] → r.inputs.items ≡ map (λ (v : Used). v.input) u.values)
+    → ((vs : List Usage) (u : Usage) → map usage_of fs ≡ vs ++ u ∷ [] → r.functions.items ≡ u.functions)
+    → IsResolvedIn ss us names own from (Defined n ps b) r
+function_resolved ss us names own from item n ps b fs r count is role inputs functions =
     let u = usage_of_function us names item ps b in (
       role,
       record {
@@ -73,4 +66,3 @@ function_resolved ss us names own from item n ps b fs (Ok r) count is role input
         functions = functions us u is;
       },
     )
-function_resolved ss us names own from item n ps b fs (Err e) count is role inputs functions = tt

@@ -2,9 +2,9 @@ pub mod Grown
 pub mod Indexed
 pub mod Meant
 pub mod Sights
-pub mod Using
+pub mod Walks
 pub mod Lowered
-pub mod Bodies
+pub mod Groups
 pub mod Declared
 pub mod Done
 pub mod Answered

@@ -2,6 +2,7 @@ pub mod Trees
 pub mod Inputs
 pub mod Usages
 pub mod Meaning
+pub mod Readings
 pub mod Lowering
 pub mod Resolved
 pub mod Contents

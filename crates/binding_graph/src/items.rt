@@ -1,31 +1,30 @@
-//! The items of a model, one after another.
+//! The items of a model, one after another, each read once.
 
-ghost use Rattle.std.specs.Prelude.{◌≡◌, ℕ, ◌+◌, ◌≤◌, [], ◌∷◌, ◌++◌, List, None, Some, true, false, vec_len, IfOk, OnOk, MatchResult, reverse, map, length, take};
+ghost use Rattle.std.specs.Prelude.{◌≡◌, ◌+◌, [], ◌∷◌, ◌++◌, List, None, Some, vec_len, IfOk, OnOk, MatchResult, reverse, map, length, true, false};
 ghost use Rattle.cat_values.specs.Values.{term_of};
-ghost use Rattle.binding_kinds.specs.Value.{entry_of, clause_of, bound_of};
+ghost use Rattle.binding_kinds.specs.Value.{Group, Defined, entry_of, clause_of, bound_of};
 ghost use Rattle.binding_kinds.specs.Senses.{Sense, AreKept};
-ghost use Rattle.binding_kinds.specs.Faults.{HasNoFault, FirstFault};
-ghost use Rattle.binding_kinds.specs.First.{first};
-ghost use Rattle.binding_kinds.specs.Fits.{AreSound, IsFit, AreFit, IsFitClause, AreKnown};
+ghost use Rattle.binding_kinds.specs.Faults.{HasNoFault, FirstFault, with_own, with_all, extended, senses_after};
+ghost use Rattle.binding_kinds.specs.First.{first, first_of_item};
+ghost use Rattle.binding_kinds.specs.Fits.{AreSound, AreKnown};
 ghost use Rattle.binding_kinds.specs.Outermost.{naming_of};
 ghost use Rattle.binding_graph.specs.Refusals.{IfRefused};
-ghost use Rattle.binding_graph.specs.Inputs.{IsIndexed};
-ghost use Rattle.binding_graph.specs.Usages.{Usage, IsListed, usage_of, usages_after, with_values, with_functions, with_all_values, with_all_functions};
-ghost use Rattle.binding_graph.specs.Meaning.{IsCode};
-ghost use Rattle.binding_graph.specs.Resolved.{AreBodies, IsGroup, IsCheck, IsResolvedIn, AreResolved, IsLabelled, IsLabelledAs, AreLabelled};
+ghost use Rattle.binding_graph.specs.Usages.{Usage, usage_of, usages_after};
+ghost use Rattle.binding_graph.specs.Readings.{fault_of};
+ghost use Rattle.binding_graph.specs.Resolved.{IsResolvedIn, AreResolved, IsLabelledAs, AreLabelled};
 
-use crate::declare::item_fault;
+use crate::bodies::{group_item, read_bodies, read_check};
+use crate::declare::{declare_all, declare_function, declare_own};
 use crate::fault::ResolveFault;
-use crate::lower::lower;
-use crate::resolved::{Body, CheckCode, Code, Resolved, ResolvedItem, Role};
+use crate::resolved::{Resolved, ResolvedItem, Role};
 use crate::uses::{Uses, inputs_of_values};
-use binding_functions::Template;
 use binding_kinds::{ModelFault, Scope, Sight};
-use cat_values::{Binding, Check, Expression, Item, ModelText, PREDEFINED};
+use cat_values::{Binding, Expression, Item, ModelText, PREDEFINED};
 use source_text::Name;
 use std::alloc::{AllocError, Global};
 
-/// Resolves a model.
+/// Resolves a model. A name of a group or a check is looked up once. A name of the body of a function
+/// is looked up again for the first fault of the body, its complements, and the kinds that it makes.
 ///
 /// The fault that is answered is the first by item and then by index; at one index
 /// the order is M1, M4, M6, M7, M3, M2, M5. Errors: the first fault of the model, by item and then
@@ -70,13 +69,10 @@ fn find_items(
 {
     let mut resolved = Vec::new(alloc);
     for (index, item) in items.iter().enumerate() {
-        let from = scope.entries.len();
-        let fault = item_fault(alloc, scope, index, item)?;
-        if fault.is_some() {
-            return Ok((resolved, fault));
+        match read_item(alloc, scope, index, item)? {
+            Err(fault) => return Ok((resolved, Some(fault))),
+            Ok(one) => push_item(&mut resolved, one)?,
         }
-        let one = lower_item(alloc, scope, from, item)?;
-        push_item(&mut resolved, one)?;
     }
     Ok((resolved, None))
 }
@@ -107,43 +103,124 @@ fn push_item(items: &mut Vec<ResolvedItem>, item: ResolvedItem) -> Result<(), Al
     Ok(())
 }
 
-fn silent(alloc: Global) -> ResolvedItem
-    ensures role { result.role ≡ Role.Silent }
-    ensures inputs { result.inputs.items ≡ [] }
-    ensures functions { result.functions.items ≡ [] }
+/// Reads an item and adds its names, or finds its first fault.
+fn read_item(
+    alloc: Global,
+    scope: &mut Scope,
+    index: usize,
+    item: &Item,
+) -> Result<Result<ResolvedItem, ModelFault>, AllocError>
+    ensures fault { let names = reverse (map entry_of scope.old.entries.items) in (senses : List Sense) → AreKept scope.old.functions.items senses → IfOk result (λ r. fault_of r ≡ first_of_item senses names index (clause_of item.now)) }
+    ensures names { let names = reverse (map entry_of scope.old.entries.items) in (senses : List Sense) → AreKept scope.old.functions.items senses → IfOk result (λ r. IfOk r (λ x. reverse (map entry_of scope.new.entries.items) ≡ extended senses names index (clause_of item.now))) }
+    ensures functions { let names = reverse (map entry_of scope.old.entries.items) in (senses : List Sense) → AreKept scope.old.functions.items senses → IfOk result (λ r. IfOk r (λ x. AreKept scope.new.functions.items (senses_after senses names (clause_of item.now)))) }
+    ensures usages { let names = reverse (map entry_of scope.old.entries.items) in IfOk result (λ r. IfOk r (λ x. map usage_of scope.new.functions.items ≡ usages_after (map usage_of scope.old.functions.items) names index (clause_of item.now))) }
+    ensures resolved { let us = map usage_of scope.old.functions.items in let names = reverse (map entry_of scope.old.entries.items) in (senses : List Sense) → AreKept scope.old.functions.items senses → AreSound senses → AreKnown names → IfOk result (λ r. IfOk r (λ x. IsResolvedIn senses us names (extended senses names index (clause_of item.now)) (length names) (clause_of item.now) x)) }
+    ensures label { IfOk result (λ r. IfOk r (λ x. IsLabelledAs item.now x)) }
 {
-    ResolvedItem {
-        role: Role::Silent,
-        inputs: Vec::new(alloc),
-        functions: Vec::new(alloc),
+    match item {
+        Item::Let {
+            recursive: true,
+            group,
+        } => read_recursive(alloc, scope, index, group),
+        Item::Let {
+            recursive: false,
+            group,
+        } => read_plain(alloc, scope, index, group),
+        Item::Check { check, .. } => {
+            read_check(alloc, &sight_of(scope, scope.entries.len()), check, None)
+        }
+        Item::Flag { check, label } => {
+            let flag = copied_label(alloc, label)?;
+            read_check(alloc, &sight_of(scope, scope.entries.len()), check, flag)
+        }
+        Item::Function {
+            name,
+            parameters,
+            body,
+        } => read_defined(alloc, scope, index, name, parameters, body),
+        Item::Show { .. } => Ok(Ok(silent(alloc))),
+        Item::Include(_) => Ok(Ok(silent(alloc))),
     }
 }
 
-fn copied_label(alloc: Global, label: &Name) -> Result<Option<Name>, AllocError>
-    ensures { IfOk result (λ o. o ≡ Some label.now) }
+/// What groups and checks see: the names of the item itself begin at that slot.
+fn sight_of(scope: &Scope, from: usize) -> Sight<'_>
+    ensures entries { result.entries.now ≡ scope.now.entries.items }
+    ensures functions { result.functions.now ≡ scope.now.functions.items }
+    ensures parameters { result.parameters.now ≡ [] }
+    ensures from { result.from ≡ from }
 {
-    Ok(Some(label.copied(alloc)?))
+    Sight {
+        entries: &scope.entries,
+        functions: &scope.functions,
+        parameters: &[],
+        from,
+    }
 }
 
-/// An item without fault, whose names are added: before it there were so many.
-fn lower_item(
+/// Reads a group whose bodies see the names before it, and then adds its names.
+fn read_plain(
     alloc: Global,
-    scope: &Scope,
-    from: usize,
-    item: &Item,
-) -> Result<ResolvedItem, AllocError>
-    ensures resolved { let names = reverse (map entry_of (take from scope.now.entries.items)) in let own = reverse (map entry_of scope.now.entries.items) in (senses : List Sense) (us : List Usage) (at : ℕ) → AreKept scope.now.functions.items senses → AreSound senses → map usage_of scope.now.functions.items ≡ usages_after us names at (clause_of item.now) → from ≤ vec_len scope.now.entries → IsFitClause senses names own (clause_of item.now) → IfOk result (λ r. IsResolvedIn senses us names own from (clause_of item.now) r) }
-    ensures label { IfOk result (λ r. IsLabelledAs item.now r) }
+    scope: &mut Scope,
+    index: usize,
+    group: &[Binding],
+) -> Result<Result<ResolvedItem, ModelFault>, AllocError>
+    ensures fault { let names = reverse (map entry_of scope.old.entries.items) in (senses : List Sense) → AreKept scope.old.functions.items senses → IfOk result (λ r. fault_of r ≡ first_of_item senses names index (Group false (map bound_of group.now))) }
+    ensures names { let names = reverse (map entry_of scope.old.entries.items) in (senses : List Sense) → AreKept scope.old.functions.items senses → IfOk result (λ r. IfOk r (λ x. reverse (map entry_of scope.new.entries.items) ≡ with_all senses names names index 0 (map bound_of group.now))) }
+    ensures functions { OnOk result (scope.new.functions.items ≡ scope.old.functions.items) }
+    ensures item { let us = map usage_of scope.old.functions.items in let names = reverse (map entry_of scope.old.entries.items) in (senses : List Sense) → AreKept scope.old.functions.items senses → AreSound senses → AreKnown names → IfOk result (λ r. IfOk r (λ x. IsResolvedIn senses us names (extended senses names index (Group false (map bound_of group.now))) (length names) (Group false (map bound_of group.now)) x)) }
 {
-    match item {
-        Item::Let { recursive, group } => lower_group(alloc, scope, from, *recursive, group),
-        Item::Check { check, .. } => lower_check(alloc, scope, from, check, None),
-        Item::Flag { check, label } => {
-            lower_check(alloc, scope, from, check, copied_label(alloc, label)?)
+    let sight = sight_of(scope, scope.entries.len());
+    let mut uses = Uses::new(alloc);
+    match read_bodies(alloc, &sight, false, group, &mut uses)? {
+        Err(fault) => Ok(Err(fault)),
+        Ok(bodies) => {
+            declare_all(alloc, &mut scope.entries, index, &bodies)?;
+            Ok(Ok(group_item(alloc, false, bodies, uses)?))
         }
-        Item::Function { .. } => lower_function(alloc, scope),
-        Item::Show { .. } => Ok(silent(alloc)),
-        Item::Include(_) => Ok(silent(alloc)),
+    }
+}
+
+/// Adds the names of a recursive group, and then reads it.
+fn read_recursive(
+    alloc: Global,
+    scope: &mut Scope,
+    index: usize,
+    group: &[Binding],
+) -> Result<Result<ResolvedItem, ModelFault>, AllocError>
+    ensures fault { let names = reverse (map entry_of scope.old.entries.items) in (senses : List Sense) → AreKept scope.old.functions.items senses → IfOk result (λ r. fault_of r ≡ first_of_item senses names index (Group true (map bound_of group.now))) }
+    ensures names { let names = reverse (map entry_of scope.old.entries.items) in OnOk result (reverse (map entry_of scope.new.entries.items) ≡ with_own names index 0 (map bound_of group.now)) }
+    ensures functions { OnOk result (scope.new.functions.items ≡ scope.old.functions.items) }
+    ensures item { let us = map usage_of scope.old.functions.items in let names = reverse (map entry_of scope.old.entries.items) in (senses : List Sense) → AreKept scope.old.functions.items senses → AreSound senses → AreKnown names → IfOk result (λ r. IfOk r (λ x. IsResolvedIn senses us names (extended senses names index (Group true (map bound_of group.now))) (length names) (Group true (map bound_of group.now)) x)) }
+{
+    let from = scope.entries.len();
+    declare_own(alloc, &mut scope.entries, index, group)?;
+    let sight = sight_of(scope, from);
+    let mut uses = Uses::new(alloc);
+    match read_bodies(alloc, &sight, true, group, &mut uses)? {
+        Err(fault) => Ok(Err(fault)),
+        Ok(bodies) => Ok(Ok(group_item(alloc, true, bodies, uses)?)),
+    }
+}
+
+/// Adds a function, and answers what it uses, or finds its first fault.
+fn read_defined(
+    alloc: Global,
+    scope: &mut Scope,
+    index: usize,
+    name: &Name,
+    parameters: &[Name],
+    body: &Expression,
+) -> Result<Result<ResolvedItem, ModelFault>, AllocError>
+    ensures fault { let names = reverse (map entry_of scope.old.entries.items) in (senses : List Sense) → AreKept scope.old.functions.items senses → IfOk result (λ r. fault_of r ≡ first_of_item senses names index (Defined name.now parameters.now (term_of body.now))) }
+    ensures names { let names = reverse (map entry_of scope.old.entries.items) in (senses : List Sense) → AreKept scope.old.functions.items senses → IfOk result (λ r. IfOk r (λ x. reverse (map entry_of scope.new.entries.items) ≡ extended senses names index (Defined name.now parameters.now (term_of body.now)))) }
+    ensures functions { let names = reverse (map entry_of scope.old.entries.items) in (senses : List Sense) → AreKept scope.old.functions.items senses → IfOk result (λ r. IfOk r (λ x. AreKept scope.new.functions.items (senses_after senses names (Defined name.now parameters.now (term_of body.now))))) }
+    ensures usages { let names = reverse (map entry_of scope.old.entries.items) in IfOk result (λ r. IfOk r (λ x. map usage_of scope.new.functions.items ≡ usages_after (map usage_of scope.old.functions.items) names index (Defined name.now parameters.now (term_of body.now)))) }
+    ensures resolved { let us = map usage_of scope.old.functions.items in let names = reverse (map entry_of scope.old.entries.items) in (senses : List Sense) → IfOk result (λ r. IfOk r (λ x. IsResolvedIn senses us names (extended senses names index (Defined name.now parameters.now (term_of body.now))) (length names) (Defined name.now parameters.now (term_of body.now)) x)) }
+{
+    match declare_function(alloc, scope, index, name, parameters, body)? {
+        Some(fault) => Ok(Err(fault)),
+        None => Ok(Ok(lower_function(alloc, scope)?)),
     }
 }
 
@@ -171,113 +248,20 @@ fn lower_function(alloc: Global, scope: &Scope) -> Result<ResolvedItem, AllocErr
     }
 }
 
-/// The names that a body sees of which the item's own begin at that slot.
-fn sight_of(scope: &Scope, from: usize, recursive: bool) -> Sight<'_>
-    ensures all { recursive ≡ true → result.entries.now ≡ scope.now.entries.items }
-    ensures before { recursive ≡ false → from ≤ vec_len scope.now.entries → result.entries.now ≡ take from scope.now.entries.items }
-    ensures functions { result.functions.now ≡ scope.now.functions.items }
-    ensures parameters { result.parameters.now ≡ [] }
-    ensures from { result.from ≡ from }
+fn silent(alloc: Global) -> ResolvedItem
+    ensures role { result.role ≡ Role.Silent }
+    ensures inputs { result.inputs.items ≡ [] }
+    ensures functions { result.functions.items ≡ [] }
 {
-    let all = scope.entries.as_slice();
-    Sight {
-        entries: if recursive || from > all.len() {
-            all
-        } else {
-            &all[..from]
-        },
-        functions: &scope.functions,
-        parameters: &[],
-        from,
+    ResolvedItem {
+        role: Role::Silent,
+        inputs: Vec::new(alloc),
+        functions: Vec::new(alloc),
     }
 }
 
-/// The steps of an expression.
-fn code_of(
-    alloc: Global,
-    sight: &Sight,
-    term: &Expression,
-    uses: &mut Uses,
-) -> Result<Code, AllocError>
-    ensures code { (senses : List Sense) → AreKept sight.now.functions.now senses → AreSound senses → sight.now.parameters.now ≡ [] → IsIndexed uses.old.indexes.items uses.old.values.items → IsFit senses (reverse (map entry_of sight.now.entries.now)) (term_of term.now) → IfOk result (λ c. IsCode senses (reverse (map entry_of sight.now.entries.now)) (reverse uses.new.values.items) sight.now.from (term_of term.now) c) }
-    ensures values { let us = map usage_of sight.now.functions.now in let names = reverse (map entry_of sight.now.entries.now) in IsIndexed uses.old.indexes.items uses.old.values.items → OnOk result (reverse uses.new.values.items ≡ with_values us names sight.now.parameters.now sight.now.from (term_of term.now) (reverse uses.old.values.items)) }
-    ensures functions { let us = map usage_of sight.now.functions.now in let names = reverse (map entry_of sight.now.entries.now) in IsListed uses.old.applied.items uses.old.functions.items → OnOk result (reverse uses.new.functions.items ≡ with_functions us names sight.now.parameters.now (term_of term.now) (reverse uses.old.functions.items)) }
-    ensures indexed { IsIndexed uses.old.indexes.items uses.old.values.items → OnOk result (IsIndexed uses.new.indexes.items uses.new.values.items) }
-    ensures listed { IsListed uses.old.applied.items uses.old.functions.items → OnOk result (IsListed uses.new.applied.items uses.new.functions.items) }
+fn copied_label(alloc: Global, label: &Name) -> Result<Option<Name>, AllocError>
+    ensures { IfOk result (λ o. o ≡ Some label.now) }
 {
-    uses.add_term(sight, term)?;
-    let mut template = Template::new(alloc);
-    template.put_term(alloc, sight, term)?;
-    lower(alloc, uses, sight.from, &template.pieces)
-}
-
-/// The steps of the bodies of a group.
-fn lower_bodies(
-    alloc: Global,
-    sight: &Sight,
-    group: &[Binding],
-    uses: &mut Uses,
-) -> Result<Vec<Body>, AllocError>
-    ensures bodies { let us = map usage_of sight.now.functions.now in let names = reverse (map entry_of sight.now.entries.now) in (senses : List Sense) → AreKept sight.now.functions.now senses → AreSound senses → sight.now.parameters.now ≡ [] → AreFit senses names (map bound_of group.now) → IsIndexed uses.old.indexes.items uses.old.values.items → IfOk result (λ v. AreBodies senses us names sight.now.from (reverse uses.old.values.items) (map bound_of group.now) v.items) }
-    ensures values { let us = map usage_of sight.now.functions.now in let names = reverse (map entry_of sight.now.entries.now) in sight.now.parameters.now ≡ [] → IsIndexed uses.old.indexes.items uses.old.values.items → OnOk result (reverse uses.new.values.items ≡ with_all_values us names sight.now.from (map bound_of group.now) (reverse uses.old.values.items)) }
-    ensures functions { let us = map usage_of sight.now.functions.now in let names = reverse (map entry_of sight.now.entries.now) in sight.now.parameters.now ≡ [] → IsListed uses.old.applied.items uses.old.functions.items → OnOk result (reverse uses.new.functions.items ≡ with_all_functions us names (map bound_of group.now) (reverse uses.old.functions.items)) }
-{
-    let mut bodies = Vec::new(alloc);
-    for binding in group {
-        let code = code_of(alloc, sight, &binding.body, uses)?;
-        bodies.push(Body {
-            name: binding.name.copied(alloc)?,
-            code,
-        })?;
-    }
-    Ok(bodies)
-}
-
-/// The steps of a group.
-fn lower_group(
-    alloc: Global,
-    scope: &Scope,
-    from: usize,
-    recursive: bool,
-    group: &[Binding],
-) -> Result<ResolvedItem, AllocError>
-    ensures all { let us = map usage_of scope.now.functions.items in let names = reverse (map entry_of scope.now.entries.items) in (senses : List Sense) → AreKept scope.now.functions.items senses → AreSound senses → recursive ≡ true → AreFit senses names (map bound_of group.now) → IfOk result (λ r. IsGroup senses us names from true (map bound_of group.now) r) }
-    ensures before { let us = map usage_of scope.now.functions.items in let names = reverse (map entry_of (take from scope.now.entries.items)) in (senses : List Sense) → AreKept scope.now.functions.items senses → AreSound senses → recursive ≡ false → from ≤ vec_len scope.now.entries → AreFit senses names (map bound_of group.now) → IfOk result (λ r. IsGroup senses us names from false (map bound_of group.now) r) }
-{
-    let sight = sight_of(scope, from, recursive);
-    let mut uses = Uses::new(alloc);
-    let bodies = lower_bodies(alloc, &sight, group, &mut uses)?;
-    let (values, functions) = uses.into_lists();
-    Ok(ResolvedItem {
-        role: Role::Group { recursive, bodies },
-        inputs: inputs_of_values(alloc, &values)?,
-        functions,
-    })
-}
-
-/// The steps of a check or a flag.
-fn lower_check(
-    alloc: Global,
-    scope: &Scope,
-    from: usize,
-    check: &Check,
-    flag: Option<Name>,
-) -> Result<ResolvedItem, AllocError>
-    ensures code { let us = map usage_of scope.now.functions.items in let names = reverse (map entry_of (take from scope.now.entries.items)) in (senses : List Sense) → AreKept scope.now.functions.items senses → AreSound senses → from ≤ vec_len scope.now.entries → IsFit senses names (term_of check.now.body) → IfOk result (λ r. IsCheck senses us names from check.now.word (term_of check.now.body) r) }
-    ensures label { IfOk result (λ r. IsLabelled check.now.negated flag r.role) }
-{
-    let sight = sight_of(scope, from, false);
-    let mut uses = Uses::new(alloc);
-    let code = code_of(alloc, &sight, &check.body, &mut uses)?;
-    let (values, functions) = uses.into_lists();
-    Ok(ResolvedItem {
-        role: Role::Check(CheckCode {
-            negated: check.negated,
-            word: check.word,
-            code,
-            flag,
-        }),
-        inputs: inputs_of_values(alloc, &values)?,
-        functions,
-    })
+    Ok(Some(label.copied(alloc)?))
 }

@@ -1,16 +1,10 @@
 //! What an item uses.
 
 ghost use Rattle.std.specs.Prelude.{◌≡◌, ◌<◌, ℕ, [], ◌∷◌, None, true, false, get_or, reverse, map, vec_len, unwrap_or, IfOk, OnOk};
-ghost use Rattle.cat_values.specs.Values.{term_of};
-ghost use Rattle.binding_kinds.specs.Value.{entry_of};
-ghost use Rattle.binding_kinds.specs.Kinds.{found};
-ghost use Rattle.binding_kinds.specs.Meanings.{parameter_of};
-ghost use Rattle.binding_graph.specs.Inputs.{IsIndexed, index_of, noted, with_found};
-ghost use Rattle.binding_graph.specs.Usages.{IsListed, all_noted, with_item, with_items, with_meaning, with_values, with_functions, usage_of, usage_seen, values_of, functions_of};
+ghost use Rattle.binding_graph.specs.Inputs.{IsIndexed, index_of, noted, with_found, with_name};
+ghost use Rattle.binding_graph.specs.Usages.{IsListed, all_noted, with_item, with_items};
 
-use binding_kinds::{Binder, Found, Function, Input, Meaning, Sight, Used};
-use cat_values::Expression;
-use source_text::Name;
+use binding_kinds::{Binder, Found, Function, Input, Used};
 use std::alloc::{AllocError, Global};
 
 /// The names of other items that an item uses, and the functions that it applies, through others
@@ -168,22 +162,23 @@ impl Uses {
         Ok(())
     }
 
-    /// A name without arguments is used, unless it is a parameter.
-    fn add_name(&mut self, sight: &Sight, name: &Name) -> Result<(), AllocError>
-        ensures values { IsIndexed self.old.indexes.items self.old.values.items → OnOk result (reverse self.new.values.items ≡ with_meaning (reverse self.old.values.items) sight.now.from (parameter_of (reverse sight.now.parameters.now) name.now) (found (reverse (map entry_of sight.now.entries.now)) name.now)) }
+    /// A name without arguments that is no parameter and was looked for is used, where it is bound.
+    /// Errors: want of memory.
+    pub fn add_name(&mut self, from: usize, found: Option<Found>) -> Result<(), AllocError>
+        ensures values { IsIndexed self.old.indexes.items self.old.values.items → OnOk result (reverse self.new.values.items ≡ with_name (reverse self.old.values.items) from found) }
         ensures indexed { IsIndexed self.old.indexes.items self.old.values.items → OnOk result (IsIndexed self.new.indexes.items self.new.values.items) }
         ensures functions { self.new.functions ≡ self.old.functions }
         ensures applied { self.new.applied ≡ self.old.applied }
     {
-        match sight.value(name) {
-            Err(_) => Ok(()),
-            Ok(Meaning::Parameter(_)) => Ok(()),
-            Ok(Meaning::Value(found)) => self.add_value(sight.from, found),
+        match found {
+            None => Ok(()),
+            Some(found) => self.add_value(from, found),
         }
     }
 
     /// The function is applied, and so is what its body applies and used what its body uses.
-    fn add_function(&mut self, function: &Function) -> Result<(), AllocError>
+    /// Errors: want of memory.
+    pub fn add_function(&mut self, function: &Function) -> Result<(), AllocError>
         ensures values { IsIndexed self.old.indexes.items self.old.values.items → OnOk result (reverse self.new.values.items ≡ all_noted (reverse self.old.values.items) function.now.values.items) }
         ensures functions { IsListed self.old.applied.items self.old.functions.items → OnOk result (reverse self.new.functions.items ≡ with_items (reverse self.old.functions.items) (function.now.item ∷ function.now.functions.items)) }
         ensures indexed { IsIndexed self.old.indexes.items self.old.values.items → OnOk result (IsIndexed self.new.indexes.items self.new.values.items) }
@@ -192,51 +187,6 @@ impl Uses {
         self.note_function(function.item)?;
         self.note_functions(&function.functions)?;
         self.note_all(&function.values)
-    }
-
-    /// The function that a name with so many arguments stands for is applied.
-    fn add_applied(&mut self, sight: &Sight, name: &Name, count: usize) -> Result<(), AllocError>
-        ensures values { let us = map usage_of sight.now.functions.now in let names = reverse (map entry_of sight.now.entries.now) in IsIndexed self.old.indexes.items self.old.values.items → OnOk result (reverse self.new.values.items ≡ all_noted (reverse self.old.values.items) (values_of (usage_seen us names sight.now.parameters.now count name.now))) }
-        ensures functions { let us = map usage_of sight.now.functions.now in let names = reverse (map entry_of sight.now.entries.now) in IsListed self.old.applied.items self.old.functions.items → OnOk result (reverse self.new.functions.items ≡ with_items (reverse self.old.functions.items) (functions_of (usage_seen us names sight.now.parameters.now count name.now))) }
-        ensures indexed { IsIndexed self.old.indexes.items self.old.values.items → OnOk result (IsIndexed self.new.indexes.items self.new.values.items) }
-        ensures listed { IsListed self.old.applied.items self.old.functions.items → OnOk result (IsListed self.new.applied.items self.new.functions.items) }
-    {
-        match sight.function(name, count) {
-            Err(_) => Ok(()),
-            Ok(function) => match sight.functions.get(function) {
-                None => Ok(()),
-                Some(function) => self.add_function(function),
-            },
-        }
-    }
-
-    /// What an expression uses and applies, at each first use. Errors: want of memory.
-    pub fn add_term(&mut self, sight: &Sight, term: &Expression) -> Result<(), AllocError>
-        ensures values { let us = map usage_of sight.now.functions.now in let names = reverse (map entry_of sight.now.entries.now) in IsIndexed self.old.indexes.items self.old.values.items → OnOk result (reverse self.new.values.items ≡ with_values us names sight.now.parameters.now sight.now.from (term_of term.now) (reverse self.old.values.items)) }
-        ensures functions { let us = map usage_of sight.now.functions.now in let names = reverse (map entry_of sight.now.entries.now) in IsListed self.old.applied.items self.old.functions.items → OnOk result (reverse self.new.functions.items ≡ with_functions us names sight.now.parameters.now (term_of term.now) (reverse self.old.functions.items)) }
-        ensures indexed { IsIndexed self.old.indexes.items self.old.values.items → OnOk result (IsIndexed self.new.indexes.items self.new.values.items) }
-        ensures listed { IsListed self.old.applied.items self.old.functions.items → OnOk result (IsListed self.new.applied.items self.new.functions.items) }
-    {
-        match term {
-            Expression::Named(name) => self.add_name(sight, name),
-            Expression::Everything => Ok(()),
-            Expression::NoPairs => Ok(()),
-            Expression::NoEvents => Ok(()),
-            Expression::Joined(_, left, right) => {
-                self.add_term(sight, left)?;
-                self.add_term(sight, right)
-            }
-            Expression::Marked(_, operand) => self.add_term(sight, operand),
-            Expression::Complement(operand) => self.add_term(sight, operand),
-            Expression::Identity(operand) => self.add_term(sight, operand),
-            Expression::Applied(name, arguments) => {
-                self.add_applied(sight, name, arguments.len())?;
-                for argument in arguments {
-                    self.add_term(sight, argument)?;
-                }
-                Ok(())
-            }
-        }
     }
 
     /// The names that are used, and the functions that are applied.

@@ -218,16 +218,31 @@ pub count_arguments : (xs : List Expression) → count_of (gathered (map values.
 count_arguments [] = refl
 count_arguments (x ∷ xs) = ap suc (count_arguments xs)
 
+-- a name that is no function of so many parameters
+pub unfit_term : (ss : List Sense) (names : List Naming) (from : ℕ) (under : Bool) (n : List ℕ) (ts : Terms) (k : ModelFault) → sense_of ss (count_of ts) (found names n) ≡ Err k
+    → (OfAny ≡ kind_in ss names (Apply n ts)) × (1 ≡ size_in ss names (Apply n ts)) × (Some k ≡ first_within ss names from under (Apply n ts))
+unfit_term ss names from under n ts k r = (
+  sym (ap (λ x. kind_applied x (sizes_in ss names ts) (kinds_in ss names ts)) r),
+  sym (ap (λ x. size_applied x (sizes_in ss names ts)) r),
+  sym (ap (λ x. fault_applied x (sizes_in ss names ts) (kinds_in ss names ts) (first_among ss names from under (under_of x) 0 ts)) r),
+)
+
 pub unfit : (ss : List Sense) (names : List Naming) (from : ℕ) (under : Bool) (e : Expression) (n : List ℕ) (args : Vec Expression Global) (k : ModelFault) → e ≡ expressions.Applied n args → sense_of ss (length args.items) (found names n) ≡ Err k
     → (OfAny ≡ kind_in ss names (values.term_of e)) × (1 ≡ size_in ss names (values.term_of e)) × (Some k ≡ first_within ss names from under (values.term_of e))
 unfit ss names from under e n args k is none =
     let ts = arguments_of args in
     let t : values.term_of e ≡ Apply n ts = ap values.term_of is ∙ applied_term n args in
-    let r : sense_of ss (count_of ts) (found names n) ≡ Err k = ap (λ (m : ℕ). sense_of ss m (found names n)) (count_arguments args.items) ∙ none in (
-      sym (ap (kind_in ss names) t ∙ ap (λ x. kind_applied x (sizes_in ss names ts) (kinds_in ss names ts)) r),
-      sym (ap (size_in ss names) t ∙ ap (λ x. size_applied x (sizes_in ss names ts)) r),
-      sym (ap (first_within ss names from under) t ∙ ap (λ x. fault_applied x (sizes_in ss names ts) (kinds_in ss names ts) (first_among ss names from under (under_of x) 0 ts)) r),
-    )
+    rw t (unfit_term ss names from under n ts k (ap (λ (m : ℕ). sense_of ss m (found names n)) (count_arguments args.items) ∙ none))
+
+-- an application of a function whose arguments are judged
+pub fit_term : (ss : List Sense) (names : List Naming) (from : ℕ) (under : Bool) (n : List ℕ) (ts : Terms) (s : Sense) (k : Kind) (size : ℕ) (fault : Option ModelFault) → sense_of ss (count_of ts) (found names n) ≡ Ok s
+    → IsJudged s (sizes_in ss names ts) (kinds_in ss names ts) (first_among ss names from under s.is_under 0 ts) k size fault
+    → (k ≡ kind_in ss names (Apply n ts)) × IsAlike size (size_in ss names (Apply n ts)) × (fault ≡ first_within ss names from under (Apply n ts))
+fit_term ss names from under n ts s k size fault r judged = (
+  judged.kind ∙ sym (ap (λ x. kind_applied x (sizes_in ss names ts) (kinds_in ss names ts)) r),
+  judged.size_is ∙ ap (λ (m : ℕ). min m 4097) (sym (ap (λ x. size_applied x (sizes_in ss names ts)) r)),
+  judged.fault_is ∙ sym (ap (λ x. fault_applied x (sizes_in ss names ts) (kinds_in ss names ts) (first_among ss names from under (under_of x) 0 ts)) r),
+)
 
 pub fit : (ss : List Sense) (names : List Naming) (from : ℕ) (under : Bool) (e : Expression) (n : List ℕ) (args : Vec Expression Global) (s : Sense) (k : Kind) (size : ℕ) (fault : Option ModelFault)
     → e ≡ expressions.Applied n args → sense_of ss (length args.items) (found names n) ≡ Ok s
@@ -236,11 +251,7 @@ pub fit : (ss : List Sense) (names : List Naming) (from : ℕ) (under : Bool) (e
 fit ss names from under e n args s k size fault is there judged =
     let ts = arguments_of args in
     let t : values.term_of e ≡ Apply n ts = ap values.term_of is ∙ applied_term n args in
-    let r : sense_of ss (count_of ts) (found names n) ≡ Ok s = ap (λ (m : ℕ). sense_of ss m (found names n)) (count_arguments args.items) ∙ there in (
-      judged.kind ∙ sym (ap (kind_in ss names) t ∙ ap (λ x. kind_applied x (sizes_in ss names ts) (kinds_in ss names ts)) r),
-      judged.size_is ∙ ap (λ (m : ℕ). min m 4097) (sym (ap (size_in ss names) t ∙ ap (λ x. size_applied x (sizes_in ss names ts)) r)),
-      judged.fault_is ∙ sym (ap (first_within ss names from under) t ∙ ap (λ x. fault_applied x (sizes_in ss names ts) (kinds_in ss names ts) (first_among ss names from under (under_of x) 0 ts)) r),
-    )
+    rw t (fit_term ss names from under n ts s k size fault (ap (λ (m : ℕ). sense_of ss m (found names n)) (count_arguments args.items) ∙ there) judged)
 
 pub next : (xs : List Expression) (i : ℕ) (e : Expression) → i < length xs → e ≡ get_or xs i e → gathered (map values.term_of (drop i xs)) ≡ OneMore (values.term_of e) (gathered (map values.term_of (drop (i + 1) xs)))
 next xs i e lt is =

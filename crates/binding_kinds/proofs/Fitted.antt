@@ -135,7 +135,7 @@ fit_in ss names from recursive earlier (b ∷ bs) h e =
     let rest = none_later (of_binding ss names recursive earlier b) _ e in
     (fit ss names from false b.body h (none_first _ _ rest), fit_in ss names from recursive (b.name ∷ earlier) bs h (none_later (first_within ss names from false b.body) _ rest))
 
-known_own : (names : List Naming) (item at : ℕ) (bs : List Bound) → AreKnown names → AreKnown (with_own names item at bs)
+pub known_own : (names : List Naming) (item at : ℕ) (bs : List Bound) → AreKnown names → AreKnown (with_own names item at bs)
 known_own names item at [] h = h
 known_own names item at (b ∷ bs) h = known_own _ item (suc at) bs (tt, h)
 

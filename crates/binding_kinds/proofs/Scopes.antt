@@ -1,7 +1,9 @@
 -- Lists that are gone through from the front, and seen from the back.
-use Rattle.std.proofs.Common.{ℕ, ◌≡◌, ◌<◌, ◌≤◌, ◌+◌, ◌-◌, List, [], ◌∷◌, ◌++◌, length, map, reverse, take, get_or, bytes_eq, false, inl, inr, refl, ap, sym, ◌∙◌, subst, arith}
+use Rattle.std.proofs.Common.{ℕ, ◌≡◌, ◌<◌, ◌≤◌, ◌+◌, ◌-◌, List, [], ◌∷◌, ◌++◌, length, map, reverse, take, get_or, bytes_eq, false, inl, inr, Option, Some, None, refl, ap, sym, ◌∙◌, subst, arith}
 use Rattle.std.proofs.lemmas.Bool.{cases_Bool}
 use Rattle.source_text.specs.Names.{key_of}
+use Rattle.binding_kinds.specs.declared.scope.Found.{Found}
+use Rattle.binding_kinds.specs.Meanings.{named_of, meaning_named, meaning_of}
 use Rattle.std.proofs.lemmas.List.{take_more, reverse-append, map-append}
 use Rattle.std.proofs.lemmas.Slice.Eq.{bytes_eq-Decides}
 
@@ -26,3 +28,8 @@ keys_apart xs ys n apart is = elim (cases_Bool (bytes_eq xs ys)) [
 
 pub rev_next : {X : Type 0} (xs : List X) (i : ℕ) (d : X) → i < length xs → reverse (take (i + 1) xs) ≡ get_or xs i d ∷ reverse (take i xs)
 rev_next xs i d lt = rw (take_more xs i d lt, reverse-append (take i xs) (get_or xs i d ∷ [])) refl
+
+-- what a name stands for is what it is found to stand for
+pub named_meaning : (p : Option ℕ) (o : Option Found) → meaning_named (named_of p o) ≡ meaning_of p o
+named_meaning (Some i) o = refl
+named_meaning None o = refl

@@ -7,6 +7,8 @@ use Rattle.binding_kinds.specs.declared.scope.Binder.{Binder}
 use Rattle.binding_kinds.specs.declared.scope.Binder.TheVariants as binders
 use Rattle.binding_kinds.specs.declared.sight.Meaning.{Meaning}
 use Rattle.binding_kinds.specs.declared.sight.Meaning.TheVariants as meanings
+use Rattle.binding_kinds.specs.declared.sight.Named.{Named}
+use Rattle.binding_kinds.specs.declared.sight.Named.TheVariants as named
 
 -- the index of the parameter of that name, of parameters of which the latest is the first
 abbrev pub parameter_of : List (List ℕ) → List ℕ → Option ℕ
@@ -23,3 +25,12 @@ abbrev pub meaning_of : Option ℕ → Option Found → Result Meaning ModelFaul
 meaning_of (Some p) o = Ok (meanings.Parameter p)
 meaning_of None None = Err faults.Unbound
 meaning_of None (Some f) = meaning_found f f.binder
+
+-- what a name is found to be
+abbrev pub named_of : Option ℕ → Option Found → Named
+named_of (Some p) o = named.Parameter p
+named_of None o = named.Other o
+
+abbrev pub meaning_named : Named → Result Meaning ModelFault
+meaning_named (named.Parameter p) = Ok (meanings.Parameter p)
+meaning_named (named.Other o) = meaning_of None o

@@ -12,7 +12,8 @@ ghost use Rattle.binding_kinds.specs.Functions.{with_parameters, sense_seen, sen
 ghost use Rattle.binding_kinds.specs.Columns.{IsFilled, plain, of_infix, of_postfix, of_identity, none_gathered, with_one, of_applied, of_function, signature_in};
 
 use crate::function::Function;
-use crate::judging::{either, function_of};
+use crate::judged::either;
+use crate::judging::function_of;
 use crate::kinds::{Kind, joined, takes};
 use crate::scope::{find, kind_found};
 use crate::sight::{Sight, parameter};

@@ -1,131 +1,24 @@
-//! The kinds and the first fault of expressions and groups.
+//! The kinds and the first fault of expressions, and the faults of names that are bound.
 
-ghost use Rattle.std.specs.Prelude.{◌≡◌, ◌+◌, ◌*◌, ◌^◌, ◌<◌, ◌≤◌, [], List, reverse, map, get_or, Ok, Err, Some, None, true, false, not, ◌||◌, MatchResult};
+ghost use Rattle.std.specs.Prelude.{◌≡◌, [], List, reverse, map, Ok, Err, MatchResult};
 ghost use Rattle.binding_kinds.specs.Value.{Naming, entry_of, bound_of};
-ghost use Rattle.binding_kinds.specs.Kinds.{kind_found, found, joined, takes, marked, narrowed, is_set, is_relation};
-ghost use Rattle.binding_kinds.specs.Verdict.{is_seen, or_else, unless, of_name, of_slot, of_parameter, of_parameters};
-ghost use Rattle.binding_kinds.specs.First.{first_in, of_binding};
+ghost use Rattle.binding_kinds.specs.Kinds.{found};
+ghost use Rattle.binding_kinds.specs.Verdict.{is_seen, of_parameter, of_parameters};
+ghost use Rattle.binding_kinds.specs.First.{of_binding};
 ghost use Rattle.binding_kinds.specs.GroupNames.{names_of};
-ghost use Rattle.binding_kinds.specs.Combinations.{digit, unknown};
 ghost use Rattle.binding_kinds.specs.Senses.{Sense, IsKept, AreKept, sense_of, size_in, kind_in, first_within, IsAlike};
 ghost use Rattle.cat_values.specs.Values.{term_of};
 
 use crate::fault::ModelFault;
-use crate::function::{Function, MAX_SIZE};
-use crate::kinds::{Kind, is_turned, joined, takes};
-use crate::scope::{Binder, Entry, Found, find, kind_found};
-use crate::signature::weighed;
-use cat_values::{Binding, Expression, Infix, MAX_PARAMETERS};
+use crate::function::Function;
+use crate::judged::{
+    Arguments, Judged, either, judged_complement, judged_faulty, judged_identity, judged_infix,
+    judged_name, judged_postfix, judged_sign, unless,
+};
+use crate::kinds::{Kind, is_turned};
+use crate::scope::{Binder, Entry, find};
+use cat_values::{Binding, Expression, MAX_PARAMETERS};
 use source_text::Name;
-
-/// The kind of an expression, its size and its first fault.
-#[derive(Clone, Copy, Debug, PartialEq, Eq)]
-pub struct Judged {
-    /// `OfAny` where it holds an unbound name, or an operator or an application at fault.
-    pub kind: Kind,
-    /// How many names, signs and operators it has, with the bodies of functions put in.
-    pub size: usize,
-    /// The first in the order of the text, if there is one.
-    pub fault: Option<ModelFault>,
-}
-
-/// What is known of the arguments of an application so far.
-#[derive(Clone, Copy, Debug, PartialEq, Eq)]
-struct Arguments {
-    /// Their kinds, weighed by index.
-    combination: usize,
-    /// The size of the application.
-    size: usize,
-    /// Their first fault.
-    fault: Option<ModelFault>,
-}
-
-/// The first fault that is there.
-pub fn or_else(first: Option<ModelFault>, later: Option<ModelFault>) -> Option<ModelFault>
-    ensures { result ≡ or_else first later }
-{
-    match first {
-        None => later,
-        Some(fault) => Some(fault),
-    }
-}
-
-/// The fault, unless the test holds.
-pub fn unless(holds: bool, fault: ModelFault) -> Option<ModelFault>
-    ensures { result ≡ unless holds fault }
-{
-    if holds { None } else { Some(fault) }
-}
-
-pub(crate) fn either(one: bool, other: bool) -> bool
-    ensures { result ≡ (one || other) }
-{
-    one || other
-}
-
-/// A name, a sign or an application at fault: it fits every kind.
-fn faulty(fault: ModelFault) -> Judged
-    ensures kind { result.kind ≡ Kind.OfAny }
-    ensures size { result.size ≡ 1 }
-    ensures fault { result.fault ≡ Some fault }
-{
-    Judged {
-        kind: Kind::OfAny,
-        size: 1,
-        fault: Some(fault),
-    }
-}
-
-/// `_`, `0` or `{}`.
-fn sign(of: Kind) -> Judged
-    ensures kind { result.kind ≡ of }
-    ensures size { result.size ≡ 1 }
-    ensures fault { result.fault ≡ None }
-{
-    Judged {
-        kind: of,
-        size: 1,
-        fault: None,
-    }
-}
-
-/// The fault of a name without arguments that was looked for.
-fn name_fault(from: usize, under: bool, found: Option<Found>) -> Option<ModelFault>
-    ensures { result ≡ of_name from under found }
-{
-    match found {
-        None => Some(ModelFault::Unbound),
-        Some(found) => match found.binder {
-            Binder::Applicable(_) => Some(ModelFault::Arity),
-            Binder::Predefined(_) => recursive_fault(from, under, found.slot),
-            Binder::Bound(_) => recursive_fault(from, under, found.slot),
-        },
-    }
-}
-
-/// The fault of a name that may be recursive.
-fn recursive_fault(from: usize, under: bool, slot: usize) -> Option<ModelFault>
-    ensures { result ≡ of_slot from under slot }
-{
-    if under && from <= slot {
-        Some(ModelFault::NotMonotone)
-    } else {
-        None
-    }
-}
-
-fn judge_name(entries: &[Entry], from: usize, under: bool, name: &Name) -> Judged
-    ensures size { result.size ≡ 1 }
-    ensures kind { result.kind ≡ kind_found (found (reverse (map entry_of entries.now)) name.now) }
-    ensures fault { result.fault ≡ of_name from under (found (reverse (map entry_of entries.now)) name.now) }
-{
-    let found = find(entries, name);
-    Judged {
-        kind: kind_found(found),
-        size: 1,
-        fault: name_fault(from, under, found),
-    }
-}
 
 /// The function that a name with so many arguments stands for.
 pub(crate) fn function_of<'a>(
@@ -155,111 +48,6 @@ pub(crate) fn function_of<'a>(
     }
 }
 
-impl Arguments {
-    /// No argument yet.
-    fn of(function: &Function) -> Arguments
-        ensures combination { result.combination ≡ 0 }
-        ensures size { result.size ≡ function.now.constant }
-        ensures fault { result.fault ≡ None }
-    {
-        Arguments {
-            combination: 0,
-            size: function.constant,
-            fault: None,
-        }
-    }
-
-    /// With the argument at that index.
-    fn with(self, function: &Function, index: usize, one: Judged) -> Arguments
-        ensures combination { index < 8 → self.combination < 6561 → result.combination ≡ self.combination + digit one.kind * 3 ^ index }
-        ensures size { IsAlike result.size (self.size + get_or function.now.factors index 0 * one.size) }
-        ensures fault { result.fault ≡ or_else self.fault one.fault }
-    {
-        let more = function.factor(index).saturating_mul(one.size);
-        Arguments {
-            combination: self.combination.saturating_add(weighed(one.kind, index)),
-            size: self.size.saturating_add(more),
-            fault: or_else(self.fault, one.fault),
-        }
-    }
-
-    /// The application.
-    fn applied(self, function: &Function) -> Judged
-        ensures oversized { function.now.is_oversized ≡ true → (result.kind ≡ Kind.OfAny) × (result.fault ≡ Some ModelFault.TooLarge) × (4096 < result.size) }
-        ensures large { 4096 < self.size → (result.kind ≡ Kind.OfAny) × (result.fault ≡ Some ModelFault.TooLarge) × (4096 < result.size) }
-        ensures small { let made = get_or function.now.signatures.items self.combination unknown in function.now.is_oversized ≡ false → self.size ≤ 4096 → (result.kind ≡ made.kind) × (result.fault ≡ or_else (unless (not made.clashes) ModelFault.Kind) self.fault) × (result.size ≡ self.size) }
-    {
-        if function.is_oversized || self.size > MAX_SIZE {
-            return Judged {
-                kind: Kind::OfAny,
-                size: self.size.max(MAX_SIZE + 1),
-                fault: Some(ModelFault::TooLarge),
-            };
-        }
-        let signature = function.signature(self.combination);
-        Judged {
-            kind: signature.kind,
-            size: self.size,
-            fault: or_else(unless(!signature.clashes, ModelFault::Kind), self.fault),
-        }
-    }
-}
-
-/// What an infix operator makes.
-fn judged_infix(op: Infix, first: Judged, second: Judged) -> Judged
-    ensures size { IsAlike result.size (first.size + second.size + 1) }
-    ensures kind { result.kind ≡ joined op first.kind second.kind }
-    ensures fault { result.fault ≡ or_else first.fault (or_else (unless (takes op first.kind second.kind) ModelFault.Kind) second.fault) }
-{
-    let here = unless(takes(op, first.kind, second.kind), ModelFault::Kind);
-    Judged {
-        kind: joined(op, first.kind, second.kind),
-        size: first.size.saturating_add(second.size).saturating_add(1),
-        fault: or_else(first.fault, or_else(here, second.fault)),
-    }
-}
-
-/// What a postfix operator makes.
-fn judged_postfix(inner: Judged) -> Judged
-    ensures size { IsAlike result.size (inner.size + 1) }
-    ensures kind { result.kind ≡ marked inner.kind }
-    ensures fault { result.fault ≡ or_else inner.fault (unless (is_relation inner.kind) ModelFault.Kind) }
-{
-    let here = unless(inner.kind.is_relation(), ModelFault::Kind);
-    Judged {
-        kind: inner.kind.marked(),
-        size: inner.size.saturating_add(1),
-        fault: or_else(inner.fault, here),
-    }
-}
-
-/// A complement.
-fn judged_complement(inner: Judged) -> Judged
-    ensures size { IsAlike result.size (inner.size + 1) }
-    ensures kind { result.kind ≡ inner.kind }
-    ensures fault { result.fault ≡ inner.fault }
-{
-    Judged {
-        kind: inner.kind,
-        size: inner.size.saturating_add(1),
-        fault: inner.fault,
-    }
-}
-
-/// An identity.
-fn judged_identity(inner: Judged) -> Judged
-    ensures size { IsAlike result.size (inner.size + 1) }
-    ensures kind { result.kind ≡ narrowed inner.kind }
-    ensures fault { result.fault ≡ or_else (unless (is_set inner.kind) ModelFault.Kind) inner.fault }
-{
-    let here = unless(inner.kind.is_set(), ModelFault::Kind);
-    Judged {
-        kind: inner.kind.narrowed(),
-        size: inner.size.saturating_add(1),
-        fault: or_else(here, inner.fault),
-    }
-}
-
 /// The kind, the size and the first fault of an expression, seen under a complement or not.
 /// The names of the item itself have the slot `from` and those behind it.
 pub fn judge(
@@ -274,10 +62,10 @@ pub fn judge(
     ensures first_within { (senses : List Sense) → AreKept functions.now senses → result.fault ≡ first_within senses (reverse (map entry_of entries.now)) from under (term_of term.now) }
 {
     match term {
-        Expression::Named(name) => judge_name(entries, from, under, name),
-        Expression::Everything => sign(Kind::OfSet),
-        Expression::NoPairs => sign(Kind::OfRelation),
-        Expression::NoEvents => sign(Kind::OfSet),
+        Expression::Named(name) => judged_name(from, under, find(entries, name)),
+        Expression::Everything => judged_sign(Kind::OfSet),
+        Expression::NoPairs => judged_sign(Kind::OfRelation),
+        Expression::NoEvents => judged_sign(Kind::OfSet),
         Expression::Joined(op, left, right) => {
             let first = judge(entries, functions, from, under, left);
             let second = judge(entries, functions, from, is_turned(*op, under), right);
@@ -294,7 +82,7 @@ pub fn judge(
         }
         Expression::Applied(name, arguments) => {
             match function_of(entries, functions, name, arguments.len()) {
-                Err(fault) => faulty(fault),
+                Err(fault) => judged_faulty(fault),
                 Ok(function) => {
                     let mut all = Arguments::of(function);
                     for (index, argument) in arguments.iter().enumerate() {
@@ -322,8 +110,9 @@ fn is_seen(before: &[Binding], name: &Name) -> bool
     is_found
 }
 
-/// The first fault of a binding's own name.
-fn binding_fault(
+/// The first fault of a binding's own name, in a group after those bindings, where its body has
+/// that kind.
+pub fn binding_fault(
     body: Kind,
     recursive: bool,
     before: &[Binding],
@@ -336,27 +125,6 @@ fn binding_fault(
     }
     if recursive && body == Kind::OfSet {
         return Some(ModelFault::SetInRec);
-    }
-    None
-}
-
-/// The first fault of the bindings of a group.
-pub fn group_fault(
-    entries: &[Entry],
-    functions: &[Function],
-    from: usize,
-    recursive: bool,
-    group: &[Binding],
-) -> Option<ModelFault>
-    ensures { (senses : List Sense) → AreKept functions.now senses → result ≡ first_in senses (reverse (map entry_of entries.now)) from recursive [] (map bound_of group.now) }
-{
-    for (index, binding) in group.iter().enumerate() {
-        let body = judge(entries, functions, from, false, &binding.body);
-        let own = binding_fault(body.kind, recursive, &group[..index], binding);
-        let fault = or_else(own, body.fault);
-        if fault.is_some() {
-            return fault;
-        }
     }
     None
 }

@@ -4,6 +4,7 @@
 mod column;
 mod fault;
 mod function;
+mod judged;
 mod judging;
 mod kinds;
 mod scope;
@@ -13,8 +14,12 @@ mod signature;
 pub use column::signatures;
 pub use fault::ModelFault;
 pub use function::{Function, MAX_SIZE, Piece, count_parts};
-pub use judging::{Judged, group_fault, judge, or_else, parameter_fault, unless};
+pub use judged::{
+    Arguments, Judged, either, judged_complement, judged_faulty, judged_identity, judged_infix,
+    judged_name, judged_postfix, judged_sign, or_else, unless,
+};
+pub use judging::{binding_fault, judge, parameter_fault};
 pub use kinds::{Kind, is_turned, takes_body};
 pub use scope::{Binder, Entry, Found, Input, Scope, Used, find};
-pub use sight::{Meaning, Sight};
+pub use sight::{Meaning, Named, Sight};
 pub use signature::Signature;

@@ -4,7 +4,7 @@ ghost use Rattle.std.specs.Prelude.{◌≡◌, reverse, map, false, get_or, slic
 ghost use Rattle.binding_kinds.specs.Value.{entry_of};
 ghost use Rattle.binding_kinds.specs.Kinds.{found};
 ghost use Rattle.binding_kinds.specs.Applicable.{applied_of};
-ghost use Rattle.binding_kinds.specs.Meanings.{parameter_of, meaning_of};
+ghost use Rattle.binding_kinds.specs.Meanings.{parameter_of, named_of, meaning_named, meaning_of};
 
 use crate::fault::ModelFault;
 use crate::function::Function;
@@ -33,6 +33,15 @@ pub enum Meaning {
     Value(Found),
 }
 
+/// What a name without arguments is found to be.
+#[derive(Clone, Copy)]
+pub enum Named {
+    /// A parameter, by its index.
+    Parameter(usize),
+    /// No parameter: what the name stands for in the scope, if anything.
+    Other(Option<Found>),
+}
+
 /// The index of the parameter of that name.
 #[tactic(auto, using(crate::proofs::Scopes::rev_next))]
 pub(crate) fn parameter(parameters: &[Name], name: &Name) -> Option<usize>
@@ -47,23 +56,42 @@ pub(crate) fn parameter(parameters: &[Name], name: &Name) -> Option<usize>
     last
 }
 
-impl Sight<'_> {
-    /// What a name without arguments stands for. Errors: `Unbound` where nothing binds the name,
-    /// `Arity` where it is a function.
-    pub fn value(&self, name: &Name) -> Result<Meaning, ModelFault>
-        ensures { result ≡ meaning_of (parameter_of (reverse self.now.parameters.now) name.now) (found (reverse (map entry_of self.now.entries.now)) name.now) }
+impl Named {
+    /// What it stands for. Errors: `Unbound` where nothing binds the name, `Arity` where it is a
+    /// function.
+    fn meaning(self) -> Result<Meaning, ModelFault>
+        ensures { result ≡ meaning_named self }
     {
-        if let Some(index) = parameter(self.parameters, name) {
-            return Ok(Meaning::Parameter(index));
-        }
-        match find(self.entries, name) {
-            None => Err(ModelFault::Unbound),
-            Some(found) => match found.binder {
+        match self {
+            Named::Parameter(index) => Ok(Meaning::Parameter(index)),
+            Named::Other(None) => Err(ModelFault::Unbound),
+            Named::Other(Some(found)) => match found.binder {
                 Binder::Applicable(_) => Err(ModelFault::Arity),
                 Binder::Predefined(_) => Ok(Meaning::Value(found)),
                 Binder::Bound(_) => Ok(Meaning::Value(found)),
             },
         }
+    }
+}
+
+impl Sight<'_> {
+    /// What a name without arguments is found to be, in one look-up.
+    pub fn named(&self, name: &Name) -> Named
+        ensures { result ≡ named_of (parameter_of (reverse self.now.parameters.now) name.now) (found (reverse (map entry_of self.now.entries.now)) name.now) }
+    {
+        match parameter(self.parameters, name) {
+            Some(index) => Named::Parameter(index),
+            None => Named::Other(find(self.entries, name)),
+        }
+    }
+
+    /// What a name without arguments stands for. Errors: `Unbound` where nothing binds the name,
+    /// `Arity` where it is a function.
+    #[tactic(auto, using(crate::proofs::Scopes::named_meaning))]
+    pub fn value(&self, name: &Name) -> Result<Meaning, ModelFault>
+        ensures { result ≡ meaning_of (parameter_of (reverse self.now.parameters.now) name.now) (found (reverse (map entry_of self.now.entries.now)) name.now) }
+    {
+        self.named(name).meaning()
     }
 
     /// The function that a name with so many arguments stands for. Errors: `Unbound` where nothing

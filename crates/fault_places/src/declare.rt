@@ -15,7 +15,7 @@ use crate::expression::expression_fault;
 use crate::group::{group_fault, parameters_fault};
 use crate::place::{SignFault, or_later, signed_fault};
 use crate::signs::check_sign;
-use binding_functions::function_of;
+use binding_graph::read_function;
 use binding_kinds::{
     Binder, Entry, Function, Input, Kind, ModelFault, Scope, Sight, judge, takes_body, unless,
 };
@@ -113,7 +113,7 @@ fn declare_function<'t>(
     if fault.is_some() {
         return Ok(fault);
     }
-    let function = function_of(alloc, &sight, index, body, Vec::new(alloc), Vec::new(alloc))?;
+    let function = read_function(alloc, &sight, index, body)?;
     let binder = Binder::Applicable(scope.functions.len());
     scope.functions.push(function)?;
     scope.entries.push(Entry {

@@ -9,12 +9,12 @@ use Rattle.binding_functions.proofs.Filling.{constant_postfix, factor_postfix, f
 use Rattle.binding_functions.proofs.kept.function_of.Goals as goal
 
 pub returns-clause-kept : goal.returns-clause-kept
-returns-clause-kept c = λ ss kept few.
+returns-clause-kept c = λ ss kept read few.
     let names = reverse (map entry_of c.args.sight.now.entries.now) in
     let ps = c.args.sight.now.parameters.now in
     let formula = formula_in ss names ps (term_of c.args.body.now) in
-    let whole = c.in_ok-pieces.ensures ss kept in
-    let v : c.deref.result.now ≡ c.in_ok-pieces.field-0.pieces.items = c.deref.ensures.value in record {
+    let whole = c.bounded-pieces.ensures _ read in
+    let v : c.deref.result.now ≡ c.bounded-pieces.result.pieces.items = c.deref.ensures.value in record {
       arity = refl;
       few = few;
       kinds = λ kinds long. c.in_ok-signatures.ensures ss kinds kept long (omega (arith, few, long));

@@ -1,14 +1,12 @@
-use Rattle.std.proofs.Common.{◌≡◌, ◌≤◌, List, reverse, map, drop, take, length}
-use Rattle.binding_kinds.specs.Value.{entry_of, bound_of}
-use Rattle.binding_kinds.specs.Senses.{Sense, AreKept}
+use Rattle.std.proofs.Common.{◌≡◌, List, reverse, map, drop}
+use Rattle.binding_kinds.specs.Value.{Naming, Bound, entry_of}
+use Rattle.binding_kinds.specs.Senses.{Sense}
 use Rattle.binding_kinds.specs.Faults.{with_all}
+use Rattle.binding_graph.specs.Readings.{AreNamed}
 use Rattle.binding_graph.proofs.declare.declare_all.Given as goal
 
 abbrev pub invariant-loop-position : goal.invariant-loop-position
-invariant-loop-position l = record {
-  before : l.before ≤ length l.entries.items;
-  outer : take l.before l.entries.items ≡ l.fn.entries.items;
-  names : (senses : List Sense) → AreKept l.functions senses →
-      with_all senses (reverse (map entry_of l.fn.entries.items)) (reverse (map entry_of l.fn.entries.items)) l.item 0 (map bound_of l.group)
-      ≡ with_all senses (reverse (map entry_of l.fn.entries.items)) (reverse (map entry_of l.entries.items)) l.item l.position (map bound_of (drop l.position l.group));
-}
+invariant-loop-position l =
+    (senses : List Sense) (outer : List Naming) (bounds : List Bound) → AreNamed senses outer bounds l.bodies →
+    with_all senses outer (reverse (map entry_of l.fn.entries.items)) l.item 0 bounds
+    ≡ with_all senses outer (reverse (map entry_of l.entries.items)) l.item l.position (drop l.position bounds)

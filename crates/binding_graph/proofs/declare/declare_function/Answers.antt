@@ -1,4 +1,4 @@
-use Rattle.std.proofs.Common.{◌≡◌, ◌≤◌, None, length, map, reverse, ap, sym, ◌∙◌, refl, arith}
+use Rattle.std.proofs.Common.{◌≡◌, ◌≤◌, None, length, map, reverse, sym, ◌∙◌, refl, arith}
 use Rattle.cat_values.specs.Values.{term_of}
 use Rattle.binding_kinds.specs.declared.kinds.Kind.TheVariants.{OfAny}
 use Rattle.binding_kinds.specs.declared.scope.Entry.{Entry}
@@ -7,7 +7,7 @@ use Rattle.binding_kinds.specs.Value.{entry_of}
 use Rattle.binding_kinds.specs.Senses.{IsKept, AreKept}
 use Rattle.binding_kinds.specs.Functions.{sense_of_function}
 use Rattle.binding_kinds.proofs.FirstItem.{few_parameters}
-use Rattle.binding_graph.proofs.Declared.{named_more, functions_more, usages_declared}
+use Rattle.binding_graph.proofs.Declared.{named_more, functions_more, usages_more, count_names}
 use Rattle.binding_graph.proofs.Done.{none_of}
 use Rattle.binding_graph.proofs.declare.declare_function.Goals as goal
 
@@ -28,9 +28,7 @@ returns-clause-functions c = λ ss kept none.
 
 pub returns-clause-usages : goal.returns-clause-usages
 returns-clause-usages c = λ none.
-    let given = c.in_ok-function.ensures.given in
-    let lists = c.into_lists-values.ensures in
-    let new = c.new-uses.ensures in
-    let from : c.len.result ≡ length c.args.scope.now.entries.items = let n = c.len.ensures in let k = c.args.scope.now.entries.ok in omega (arith, n, k) in
-    usages_declared c.args.scope.now.functions.items c.deref-2.result.now _ c.args.scope.now.entries.items c.deref.result.now c.in_ok-function.function c.args.index c.args.parameters.now (term_of c.args.body.now) c.len.result c.new-uses.result.values.items c.add_term.new.self.values.items c.new-uses.result.functions.items c.add_term.new.self.functions.items
-    c.deref-2.ensures.value c.deref.ensures.value from new.values new.functions c.in_ok-push.ensures.items given.0 given.1 (ap (λ v. v.items) (given.2 ∙ lists.values)) (ap (λ v. v.items) (given.3 ∙ lists.functions)) (c.in_ok-add_term.ensures.values new.indexed) (c.in_ok-add_term.ensures.functions new.listed)
+    let es = c.args.scope.now.entries.items in
+    let from : c.len.result ≡ length (reverse (map entry_of c.deref.result.now)) = let n = c.len.ensures in let k = c.args.scope.now.entries.ok in rw (c.deref.ensures.value, count_names es) (omega (arith, n, k)) in
+    let usage = rw (c.deref.ensures.value, c.deref-2.ensures.value) at (c.in_ok-function.ensures.usage from) in
+    usages_more c.args.scope.now.functions.items _ c.in_ok-function.function _ c.in_ok-push.ensures.items usage

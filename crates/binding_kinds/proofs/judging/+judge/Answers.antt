@@ -8,17 +8,17 @@ use Rattle.binding_kinds.proofs.judging.+judge.Goals as goal
 
 pub returns-in-Err-clause-kind_in : goal.returns-in-Err-clause-kind_in
 returns-in-Err-clause-kind_in t c = λ ss kept.
-    c.faulty.ensures.kind ∙ (unfit ss (reverse (map entry_of c.args.entries.now)) c.args.from c.args.under c.args.term.now c.in-Applied.name c.in-Applied.arguments c.in-Err.fault c.in-Applied.is
+    c.judged_faulty.ensures.kind ∙ (unfit ss (reverse (map entry_of c.args.entries.now)) c.args.from c.args.under c.args.term.now c.in-Applied.name c.in-Applied.arguments c.in-Err.fault c.in-Applied.is
     (ap (λ (n : ℕ). sense_of ss n (found (reverse (map entry_of c.args.entries.now)) c.in-Applied.name)) (let k = c.in-Applied.arguments.ok in let m = c.len.ensures in omega (arith, k, m)) ∙ c.in-Err.ensures ss kept)).0
 
 pub returns-in-Err-clause-size_in : goal.returns-in-Err-clause-size_in
 returns-in-Err-clause-size_in t c = λ ss kept.
-    ap (λ (n : ℕ). min n 4097) (c.faulty.ensures.size ∙ (unfit ss (reverse (map entry_of c.args.entries.now)) c.args.from c.args.under c.args.term.now c.in-Applied.name c.in-Applied.arguments c.in-Err.fault c.in-Applied.is
+    ap (λ (n : ℕ). min n 4097) (c.judged_faulty.ensures.size ∙ (unfit ss (reverse (map entry_of c.args.entries.now)) c.args.from c.args.under c.args.term.now c.in-Applied.name c.in-Applied.arguments c.in-Err.fault c.in-Applied.is
     (ap (λ (n : ℕ). sense_of ss n (found (reverse (map entry_of c.args.entries.now)) c.in-Applied.name)) (let k = c.in-Applied.arguments.ok in let m = c.len.ensures in omega (arith, k, m)) ∙ c.in-Err.ensures ss kept)).1)
 
 pub returns-in-Err-clause-first_within : goal.returns-in-Err-clause-first_within
 returns-in-Err-clause-first_within t c = λ ss kept.
-    c.faulty.ensures.fault ∙ (unfit ss (reverse (map entry_of c.args.entries.now)) c.args.from c.args.under c.args.term.now c.in-Applied.name c.in-Applied.arguments c.in-Err.fault c.in-Applied.is
+    c.judged_faulty.ensures.fault ∙ (unfit ss (reverse (map entry_of c.args.entries.now)) c.args.from c.args.under c.args.term.now c.in-Applied.name c.in-Applied.arguments c.in-Err.fault c.in-Applied.is
     (ap (λ (n : ℕ). sense_of ss n (found (reverse (map entry_of c.args.entries.now)) c.in-Applied.name)) (let k = c.in-Applied.arguments.ok in let m = c.len.ensures in omega (arith, k, m)) ∙ c.in-Err.ensures ss kept)).2
 
 pub loop-index-init : goal.loop-index-init

@@ -1,0 +1,21 @@
+use Rattle.std.proofs.Common.{◌≡◌, List, [], reverse, map}
+use Rattle.binding_kinds.specs.Value.{entry_of}
+use Rattle.binding_kinds.specs.Senses.{Sense, AreKept}
+use Rattle.binding_kinds.specs.Fits.{AreSound, AreKnown}
+use Rattle.binding_graph.specs.Inputs.{IsIndexed}
+use Rattle.binding_graph.specs.Usages.{usage_of}
+use Rattle.binding_graph.proofs.Groups.{AreFaultless, AreNamedTo, AreMade, AreUsed}
+use Rattle.binding_graph.proofs.bodies.read_bodies.Given as goal
+
+abbrev pub invariant-loop-index : goal.invariant-loop-index
+invariant-loop-index l =
+    let us = map usage_of l.sight.functions.now in
+    let names = reverse (map entry_of l.sight.entries.now) in
+    record {
+      faults : (senses : List Sense) → AreKept l.sight.functions.now senses → l.sight.parameters.now ≡ [] → AreFaultless senses names l.sight.from l.recursive l.group l.index;
+      named : (senses : List Sense) → AreKept l.sight.functions.now senses → l.sight.parameters.now ≡ [] → AreNamedTo senses names l.group l.index l.bodies.items;
+      bodies : (senses : List Sense) → AreKept l.sight.functions.now senses → AreSound senses → AreKnown names → l.sight.parameters.now ≡ [] → IsIndexed l.fn.uses.indexes.items l.fn.uses.values.items →
+          AreMade senses us names l.sight.from l.fn.uses l.uses l.group l.index l.bodies.items;
+      uses : l.sight.parameters.now ≡ [] → AreUsed us names l.sight.from l.fn.uses l.uses l.group l.index;
+      indexed : IsIndexed l.fn.uses.indexes.items l.fn.uses.values.items → IsIndexed l.uses.indexes.items l.uses.values.items;
+    }
