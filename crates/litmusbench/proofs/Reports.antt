@@ -12,7 +12,7 @@ use Rattle.litmusbench.specs.declared.file.TextFile.{TextFile}
 use Rattle.litmusbench.specs.declared.reading.NamedModel.{NamedModel}
 use Rattle.litmusbench.specs.Answer.{IsModelRefused, IsTestRefused}
 use Rattle.litmusbench.specs.Files.{AddsFault}
-use Rattle.litmusbench.specs.Reports.{AddsModel, IsModelFault, IsTestFault, AreModels, NoModel, NextModel, AddsTest, AreTests, NoTest, NextTest, IsTestTold, IsToldOf}
+use Rattle.litmusbench.specs.Reports.{AddsModel, IsModelFault, IsTestFault, AreModels, NoModel, NextModel, AddsTest, AreTests, NoTest, NextTest, IsModelTold, IsTestTold, IsToldOf}
 use Rattle.cat_values.specs.declared.model.ModelText.{ModelText}
 use Rattle.verdict.specs.declared.answer.Outcome.{Outcome}
 use Rattle.compare_report.specs.Cells.{Settled}
@@ -90,21 +90,21 @@ told_itself : (test : TextFile) (faults : List ℕ) → length faults ≢ 0 → 
 told_itself test [] h = absurd (h refl)
 told_itself test (b ∷ bs) h = refl
 
-from_nothing : (model : TextFile) (before after : List NamedModel) (none faults : List ℕ) → before ≡ [] → none ≡ [] → AddsModel model before none after faults → AddsModel model [] [] after faults
-from_nothing model before after none faults p q h = subst (λ (l : List ℕ). AddsModel model [] l after faults) q (subst (λ (l : List NamedModel). AddsModel model l none after faults) p h)
+pub model_told : (model : TextFile) (before after : List NamedModel) (none lines : List ℕ) → before ≡ [] → none ≡ [] → AddsModel model before none after lines → IsModelTold model lines
+model_told model before after none lines p q h = (after, subst (λ (l : List ℕ). AddsModel model [] l after lines) q (subst (λ (l : List NamedModel). AddsModel model l none after lines) p h))
 
-pub told_of_test : (model test : TextFile) (before after : List NamedModel) (none faults lines : List ℕ) → before ≡ [] → none ≡ [] → length faults ≡ 0 → AddsModel model before none after faults → IsTestTold test [] lines → IsToldOf model test lines
-told_of_test model test before after none faults lines p q e h told = record {
+pub told_of_test : (model test : TextFile) (faults lines : List ℕ) → length faults ≡ 0 → IsModelTold model faults → IsTestTold test [] lines → IsToldOf model test lines
+told_of_test model test faults lines e (after, h) told = record {
   models = after;
   faults = [];
-  of_model = subst (λ (l : List ℕ). AddsModel model [] [] after l) (nil_from_length faults e) (from_nothing model before after none faults p q h);
+  of_model = subst (λ (l : List ℕ). AddsModel model [] [] after l) (nil_from_length faults e) h;
   of_test = told;
 }
 
-pub told_of_model : (model test : TextFile) (before after : List NamedModel) (none faults : List ℕ) → before ≡ [] → none ≡ [] → length faults ≢ 0 → AddsModel model before none after faults → IsToldOf model test faults
-told_of_model model test before after none faults p q e h = record {
+pub told_of_model : (model test : TextFile) (faults : List ℕ) → length faults ≢ 0 → IsModelTold model faults → IsToldOf model test faults
+told_of_model model test faults e (after, h) = record {
   models = after;
   faults = faults;
-  of_model = from_nothing model before after none faults p q h;
+  of_model = h;
   of_test = told_itself test faults e;
 }

@@ -38,6 +38,10 @@ pub data AddsTest (file : TextFile) (tests : List Test) (faults : List ℕ) (mor
   IsTestAdded : (t : Test) → ReadsTest file.text.items (content_of t) → more ≡ tests ++ t ∷ [] → lines ≡ faults → AddsTest file tests faults more lines
   IsTestFault : (rule : LitmusRule) → (offset : ℕ) → IsTestRefused file.text.items rule offset → more ≡ tests → AddsFault faults lines file.path.now file.text.items 76 (test_rule_number rule) offset → AddsTest file tests faults more lines
 
+-- what is told of a model alone: nothing where its text reads
+abbrev pub IsModelTold : TextFile → List ℕ → Type 0
+IsModelTold model lines = (models : List NamedModel) × AddsModel model [] [] models lines
+
 -- the test is looked at where nothing is told of the model
 abbrev pub IsTestTold : TextFile → List ℕ → List ℕ → Type 0
 IsTestTold test [] lines = (tests : List Test) × AddsTest test [] [] tests lines

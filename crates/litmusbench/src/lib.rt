@@ -18,7 +18,7 @@ pub use fault::EvalFault;
 pub use file::TextFile;
 pub use listening::{AnswerListener, NoListener, RefusalTeller};
 pub use progress::ProgressTeller;
-pub use reading::{NamedModel, refusal_lines};
+pub use reading::{NamedModel, model_refusal_lines, refusal_lines, test_refusal_lines};
 pub use reasons::Asked;
 pub use report::{Report, difference_report, table_report, write_report};
 pub use session_answers::{NoProgress, Progress, ProgressListener};

@@ -2,7 +2,7 @@
 
 ghost use Rattle.std.specs.Prelude.{◌≡◌, ◌++◌, ◌∷◌, [], IfOk, OnOk};
 ghost use Rattle.litmusbench.specs.Files.{model_name};
-ghost use Rattle.litmusbench.specs.Reports.{AddsModel, AreModels, AddsTest, AreTests, IsTestTold, IsToldOf};
+ghost use Rattle.litmusbench.specs.Reports.{AddsModel, AreModels, AddsTest, AreTests, IsModelTold, IsTestTold, IsToldOf};
 
 use crate::file::{TextFile, model_name, put_fault};
 use cat_syntax::{CatFault, ModelText, read_model};
@@ -117,7 +117,20 @@ pub fn read_tests(
     Ok(read)
 }
 
-fn test_lines(alloc: Global, file: &TextFile<'_>) -> Result<Vec<u8>, AllocError>
+/// What is told of the file of a model that is refused; nothing of one that reads. Errors: want of memory.
+pub fn model_refusal_lines(alloc: Global, file: &TextFile<'_>) -> Result<Vec<u8>, AllocError>
+    ensures { IfOk result (λ v. IsModelTold file.now v.items) }
+{
+    let mut read = ReadModels {
+        models: Vec::new(alloc),
+        faults: Vec::new(alloc),
+    };
+    read_model_file(alloc, file, &mut read)?;
+    Ok(read.faults)
+}
+
+/// What is told of the file of a test that is refused; nothing of one that reads. Errors: want of memory.
+pub fn test_refusal_lines(alloc: Global, file: &TextFile<'_>) -> Result<Vec<u8>, AllocError>
     ensures { IfOk result (λ v. IsTestTold file.now [] v.items) }
 {
     let mut read = ReadTests {
@@ -136,13 +149,9 @@ pub fn refusal_lines(
 ) -> Result<Vec<u8>, AllocError>
     ensures { IfOk result (λ v. IsToldOf model.now test.now v.items) }
 {
-    let mut read = ReadModels {
-        models: Vec::new(alloc),
-        faults: Vec::new(alloc),
-    };
-    read_model_file(alloc, model, &mut read)?;
-    if read.faults.is_empty() {
-        return test_lines(alloc, test);
+    let lines = model_refusal_lines(alloc, model)?;
+    if lines.is_empty() {
+        return test_refusal_lines(alloc, test);
     }
-    Ok(read.faults)
+    Ok(lines)
 }

@@ -1,9 +1,10 @@
 //! Watches a model and three tests whose versions stand in the table `versions.txt`: a line for each, with the path and the
 //! file that holds the version. The lines of `later.txt` name the paths that have a later version, as standard input does for
-//! the program. What is written is compared with what it is with 1, 2, 4 and 32 workers; then a read and a write fail.
+//! the program. What is written is compared with what it is with 1, 2, 4 and 32 workers; then a read and a write fail. At last
+//! what people are told of the versions of the table `told.txt`.
 
 use litmusbench::{MemorySink, MemorySource};
-use live_watch::{Version, Versions, watch};
+use live_watch::{Version, VersionTeller, Versions, watch};
 use std::alloc::{AllocError, Global};
 use std::io::Write;
 use std::rt::Files;
@@ -71,13 +72,30 @@ fn row_of<R: Files + AllocGlobal>(rt: &R, line: &str) -> Result<Row, AllocError>
     })
 }
 
-fn read_table<R: Files + AllocGlobal>(rt: &R) -> io::Result<Table> {
-    let list = fs::read_to_string(rt, "watched/versions.txt")?;
+fn table_of<R: Files + AllocGlobal>(rt: &R, list: &str) -> Result<Table, AllocError> {
     let mut rows = Vec::new(rt.alloc());
     for line in list.lines() {
         rows.push(row_of(rt, line)?)?;
     }
     Ok(Table { rows })
+}
+
+fn read_table<R: Files + AllocGlobal>(rt: &R) -> io::Result<Table> {
+    let list = fs::read_to_string(rt, "watched/versions.txt")?;
+    Ok(table_of(rt, &list)?)
+}
+
+// What people are told of these versions, one after another.
+fn tell_versions<R: AllocGlobal + Files + Print>(rt: &R) -> io::Result<()> {
+    let list = fs::read_to_string(rt, "watched/told.txt")?;
+    let versions = table_of(rt, &list)?;
+    let mut teller = VersionTeller::new(rt.alloc(), versions, MODEL, io::writer(rt));
+    for line in list.lines() {
+        println!(rt; "version {line}")?;
+        let (path, _file) = line.split_once(" ").unwrap_or((line, ""));
+        drop(teller.version(rt.alloc(), path));
+    }
+    Ok(())
 }
 
 // What watching writes with so many workers, and how it ends.
@@ -131,5 +149,6 @@ where
     tell_failing(rt, Some(1), None)?;
     tell_failing(rt, None, Some(0))?;
     tell_failing(rt, None, Some(1))?;
-    tell_failing(rt, None, None)
+    tell_failing(rt, None, None)?;
+    tell_versions(rt)
 }

@@ -9,10 +9,12 @@ mod files;
 mod lines;
 mod settling;
 mod start;
+mod telling;
 mod turnstile;
 mod versions;
 mod watched;
 
 pub use files::watch_files;
 pub use start::{Ended, watch};
+pub use telling::VersionTeller;
 pub use versions::{FileVersions, Version, Versions};

@@ -2,8 +2,10 @@
 
 use litmusbench::{OfRead, SessionFault, read_text};
 use std::alloc::Global;
+use std::fmt::Display;
 use std::fs::File;
 use std::io;
+use std::io::Write;
 use std::rt::Files;
 
 /// What is read of a file.
@@ -23,30 +25,37 @@ pub trait Versions {
     fn version(&mut self, alloc: Global, path: &str) -> Version;
 }
 
-/// The files of the system.
+/// The files of the system. A writer is told of a file that cannot be read, with the reason.
 #[derive(Drop)]
-pub struct FileVersions<'a, R> {
+pub struct FileVersions<'a, R, W> {
     rt: &'a R,
+    errors: W,
 }
 
-impl<'a, R> FileVersions<'a, R> {
+impl<'a, R, W: Write> FileVersions<'a, R, W> {
     /// The files that this runtime reaches.
-    pub fn new(rt: &'a R) -> Self {
-        FileVersions { rt }
+    pub fn new(rt: &'a R, errors: W) -> Self {
+        FileVersions { rt, errors }
+    }
+
+    // What cannot be told is left out.
+    fn unread<T: Display>(&mut self, path: &str, reason: &T) -> Version {
+        let _ = self.errors.write_fmt(format_args!("{path}: {reason}\n"));
+        Version::Unread
     }
 }
 
-impl<'a, R: Files> Versions for FileVersions<'a, R> {
+impl<'a, R: Files, W: Write> Versions for FileVersions<'a, R, W> {
     fn version(&mut self, alloc: Global, path: &str) -> Version {
         match File::open(self.rt, path) {
             Ok(file) => match read_text(alloc, &mut OfRead::new(file)) {
                 Ok(text) => Version::Text(text),
                 Err(SessionFault::Memory) => Version::OutOfMemory,
-                Err(_) => Version::Unread,
+                Err(_) => self.unread(path, &"the file cannot be read to its end"),
             },
             Err(error) => match error.kind() {
                 io::ErrorKind::OutOfMemory => Version::OutOfMemory,
-                _ => Version::Unread,
+                _ => self.unread(path, &error),
             },
         }
     }

@@ -351,7 +351,7 @@ where
                 tests,
                 workers,
             },
-        ) => tell_done(rt, watch_files(rt, model, tests, workers)),
+        ) => tell_done(rt, watch_files(rt, errors, model, tests, workers)),
         Ok(
             Form::Draw {
                 model,

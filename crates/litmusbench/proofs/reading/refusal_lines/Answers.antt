@@ -5,10 +5,10 @@ use Rattle.litmusbench.proofs.reading.refusal_lines.Goals as goal
 
 pub returns-then-is_empty : goal.returns-then-is_empty
 returns-then-is_empty c =
-    let empty : length c.read_model_file.new.read.faults.items ≡ 0 = search rules in
-    if_ok c.test_lines.result (λ v. IsTestTold c.args.test.now [] v.items) (λ v. IsToldOf c.args.model.now c.args.test.now v.items)
-    (λ v h. told_of_test c.args.model.now c.args.test.now c.new.result.items c.read_model_file.new.read.models.items c.new-2.result.items c.read_model_file.new.read.faults.items v.items c.new.ensures.items c.new-2.ensures.items empty c.in_ok-read_model_file.ensures h) c.test_lines.ensures
+    let empty : length c.in_ok-lines.lines.items ≡ 0 = search rules in
+    if_ok c.test_refusal_lines.result (λ v. IsTestTold c.args.test.now [] v.items) (λ v. IsToldOf c.args.model.now c.args.test.now v.items)
+    (λ v h. told_of_test c.args.model.now c.args.test.now c.in_ok-lines.lines.items v.items empty c.in_ok-lines.ensures h) c.test_refusal_lines.ensures
 
 pub returns : goal.returns
 returns c =
-    told_of_model c.args.model.now c.args.test.now c.new.result.items c.read_model_file.new.read.models.items c.new-2.result.items c.read_model_file.new.read.faults.items c.new.ensures.items c.new-2.ensures.items (search rules) c.in_ok-read_model_file.ensures
+    told_of_model c.args.model.now c.args.test.now c.in_ok-lines.lines.items (search rules) c.in_ok-lines.ensures
