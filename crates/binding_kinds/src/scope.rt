@@ -129,7 +129,7 @@ fn kind_of_predefined(one: Predefined) -> Kind
 fn predefined_entries(alloc: Global, names: &[Predefined]) -> Result<Vec<Entry>, AllocError>
     ensures { IfOk result (λ v. map entry_of v.items ≡ map naming_of names.now) }
 {
-    let mut entries = Vec::new(alloc);
+    let mut entries = Vec::with_capacity(alloc, names.len())?;
     for one in names {
         entries.push(Entry {
             name: Name::new(alloc, one.spelling())?,
