@@ -31,6 +31,15 @@ impl Template {
         }
     }
 
+    /// Takes everything out, and keeps the memory.
+    pub fn clear(&mut self)
+        ensures pieces { self.new.pieces.items ≡ [] }
+        ensures is_oversized { self.new.is_oversized ≡ false }
+    {
+        self.pieces.clear();
+        self.is_oversized = false;
+    }
+
     /// Appends a piece. Errors: want of memory.
     pub fn put(&mut self, piece: Piece) -> Result<(), AllocError>
         ensures { OnOk result (IsGrown self.old self.new (piece ∷ []) ⊥) }

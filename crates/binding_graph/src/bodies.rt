@@ -14,11 +14,10 @@ ghost use Rattle.binding_graph.specs.Meaning.{IsCode};
 ghost use Rattle.binding_graph.specs.Readings.{IsVerdict, AreNoted, AreNamed, fault_of};
 ghost use Rattle.binding_graph.specs.Resolved.{AreBodies, IsGroup, IsCheck, IsLabelled};
 
-use crate::lower::lower;
 use crate::reading::read_term;
 use crate::resolved::{Body, CheckCode, Code, ResolvedItem, Role};
-use crate::uses::{Uses, inputs_of_values};
-use binding_functions::Template;
+use crate::uses::{Uses, copied_items, inputs_of_values};
+use crate::workspace::Workspace;
 use binding_kinds::{Judged, ModelFault, Sight, binding_fault, or_else, takes_body, unless};
 use cat_values::{Binding, Check, Expression};
 use source_text::Name;
@@ -38,18 +37,27 @@ fn read_code(
     alloc: Global,
     sight: &Sight,
     term: &Expression,
-    uses: &mut Uses,
+    work: &mut Workspace,
 ) -> Result<Reading, AllocError>
     ensures judged { let names = reverse (map entry_of sight.now.entries.now) in (senses : List Sense) → AreKept sight.now.functions.now senses → sight.now.parameters.now ≡ [] → IfOk result (λ r. IsVerdict senses names sight.now.from false (term_of term.now) r.judged) }
     ensures kind { IfOk result (λ r. r.code.kind ≡ r.judged.kind) }
-    ensures code { let names = reverse (map entry_of sight.now.entries.now) in (senses : List Sense) → AreKept sight.now.functions.now senses → AreSound senses → sight.now.parameters.now ≡ [] → IsIndexed uses.old.indexes.items uses.old.values.items → IsFit senses names (term_of term.now) → IfOk result (λ r. IsCode senses names (reverse uses.new.values.items) sight.now.from (term_of term.now) r.code) }
-    ensures uses { let us = map usage_of sight.now.functions.now in let names = reverse (map entry_of sight.now.entries.now) in let ps = sight.now.parameters.now in OnOk result (AreNoted (with_values us names ps sight.now.from (term_of term.now)) (with_functions us names ps (term_of term.now)) uses.old uses.new) }
+    ensures code { let names = reverse (map entry_of sight.now.entries.now) in (senses : List Sense) → AreKept sight.now.functions.now senses → AreSound senses → sight.now.parameters.now ≡ [] → IsIndexed work.old.uses.indexes.items work.old.uses.values.items → IsFit senses names (term_of term.now) → IfOk result (λ r. IsCode senses names (reverse work.new.uses.values.items) sight.now.from (term_of term.now) r.code) }
+    ensures uses { let us = map usage_of sight.now.functions.now in let names = reverse (map entry_of sight.now.entries.now) in let ps = sight.now.parameters.now in OnOk result (AreNoted (with_values us names ps sight.now.from (term_of term.now)) (with_functions us names ps (term_of term.now)) work.old.uses work.new.uses) }
 {
-    let mut template = Template::new(alloc);
-    let judged = read_term(alloc, sight, false, term, &mut template, uses)?;
+    work.template.clear();
+    let judged = read_term(
+        alloc,
+        sight,
+        false,
+        term,
+        &mut work.template,
+        &mut work.uses,
+    )?;
     let code = Code {
         kind: judged.kind,
-        steps: lower(alloc, uses, sight.from, &template.pieces)?,
+        steps: work
+            .lowering
+            .lower(alloc, &work.uses, sight.from, &work.template.pieces)?,
     };
     Ok(Reading { judged, code })
 }
@@ -60,16 +68,16 @@ pub fn read_bodies(
     sight: &Sight,
     recursive: bool,
     group: &[Binding],
-    uses: &mut Uses,
+    work: &mut Workspace,
 ) -> Result<Result<Vec<Body>, ModelFault>, AllocError>
     ensures fault { let names = reverse (map entry_of sight.now.entries.now) in (senses : List Sense) → AreKept sight.now.functions.now senses → sight.now.parameters.now ≡ [] → IfOk result (λ r. fault_of r ≡ first_in senses names sight.now.from recursive [] (map bound_of group.now)) }
     ensures named { let names = reverse (map entry_of sight.now.entries.now) in (senses : List Sense) → AreKept sight.now.functions.now senses → sight.now.parameters.now ≡ [] → IfOk result (λ r. IfOk r (λ v. AreNamed senses names (map bound_of group.now) v.items)) }
-    ensures bodies { let us = map usage_of sight.now.functions.now in let names = reverse (map entry_of sight.now.entries.now) in (senses : List Sense) → AreKept sight.now.functions.now senses → AreSound senses → AreKnown names → sight.now.parameters.now ≡ [] → IsIndexed uses.old.indexes.items uses.old.values.items → IfOk result (λ r. IfOk r (λ v. AreBodies senses us names sight.now.from (reverse uses.old.values.items) (map bound_of group.now) v.items)) }
-    ensures uses { let us = map usage_of sight.now.functions.now in let names = reverse (map entry_of sight.now.entries.now) in sight.now.parameters.now ≡ [] → IfOk result (λ r. IfOk r (λ v. AreNoted (with_all_values us names sight.now.from (map bound_of group.now)) (with_all_functions us names (map bound_of group.now)) uses.old uses.new)) }
+    ensures bodies { let us = map usage_of sight.now.functions.now in let names = reverse (map entry_of sight.now.entries.now) in (senses : List Sense) → AreKept sight.now.functions.now senses → AreSound senses → AreKnown names → sight.now.parameters.now ≡ [] → IsIndexed work.old.uses.indexes.items work.old.uses.values.items → IfOk result (λ r. IfOk r (λ v. AreBodies senses us names sight.now.from (reverse work.old.uses.values.items) (map bound_of group.now) v.items)) }
+    ensures uses { let us = map usage_of sight.now.functions.now in let names = reverse (map entry_of sight.now.entries.now) in sight.now.parameters.now ≡ [] → IfOk result (λ r. IfOk r (λ v. AreNoted (with_all_values us names sight.now.from (map bound_of group.now)) (with_all_functions us names (map bound_of group.now)) work.old.uses work.new.uses)) }
 {
-    let mut bodies = Vec::new(alloc);
+    let mut bodies = Vec::with_capacity(alloc, group.len())?;
     for (index, binding) in group.iter().enumerate() {
-        let Reading { judged, code } = read_code(alloc, sight, &binding.body, uses)?;
+        let Reading { judged, code } = read_code(alloc, sight, &binding.body, work)?;
         let own = binding_fault(judged.kind, recursive, &group[..index], binding);
         if let Some(fault) = or_else(own, judged.fault) {
             return Ok(Err(fault));
@@ -87,15 +95,14 @@ pub fn group_item(
     alloc: Global,
     recursive: bool,
     bodies: Vec<Body>,
-    uses: Uses,
+    uses: &Uses,
 ) -> Result<ResolvedItem, AllocError>
-    ensures { (senses : List Sense) (us : List Usage) (names : List Naming) (from : ℕ) (bounds : List Bound) → AreBodies senses us names from [] bounds bodies.items → reverse uses.values.items ≡ with_all_values us names from bounds [] → reverse uses.functions.items ≡ with_all_functions us names bounds [] → IfOk result (IsGroup senses us names from recursive bounds) }
+    ensures { (senses : List Sense) (us : List Usage) (names : List Naming) (from : ℕ) (bounds : List Bound) → AreBodies senses us names from [] bounds bodies.items → reverse uses.now.values.items ≡ with_all_values us names from bounds [] → reverse uses.now.functions.items ≡ with_all_functions us names bounds [] → IfOk result (IsGroup senses us names from recursive bounds) }
 {
-    let (values, functions) = uses.into_lists();
     Ok(ResolvedItem {
         role: Role::Group { recursive, bodies },
-        inputs: inputs_of_values(alloc, &values)?,
-        functions,
+        inputs: inputs_of_values(alloc, &uses.values)?,
+        functions: copied_items(alloc, &uses.functions)?,
     })
 }
 
@@ -113,17 +120,17 @@ pub fn read_check(
     sight: &Sight,
     check: &Check,
     flag: Option<Name>,
+    work: &mut Workspace,
 ) -> Result<Result<ResolvedItem, ModelFault>, AllocError>
     ensures fault { let names = reverse (map entry_of sight.now.entries.now) in (senses : List Sense) → AreKept sight.now.functions.now senses → sight.now.parameters.now ≡ [] → IfOk result (λ r. fault_of r ≡ or_else (unless (takes_body check.now.word (kind_in senses names (term_of check.now.body))) ModelFault.Kind) (first_within senses names sight.now.from false (term_of check.now.body))) }
     ensures item { let us = map usage_of sight.now.functions.now in let names = reverse (map entry_of sight.now.entries.now) in (senses : List Sense) → AreKept sight.now.functions.now senses → AreSound senses → AreKnown names → sight.now.parameters.now ≡ [] → IfOk result (λ r. IfOk r (λ x. IsCheck senses us names sight.now.from check.now.word (term_of check.now.body) x)) }
     ensures label { IfOk result (λ r. IfOk r (λ x. IsLabelled check.now.negated flag x.role)) }
 {
-    let mut uses = Uses::new(alloc);
-    let Reading { judged, code } = read_code(alloc, sight, &check.body, &mut uses)?;
+    work.uses.clear();
+    let Reading { judged, code } = read_code(alloc, sight, &check.body, work)?;
     if let Some(fault) = check_fault(check, judged) {
         return Ok(Err(fault));
     }
-    let (values, functions) = uses.into_lists();
     Ok(Ok(ResolvedItem {
         role: Role::Check(CheckCode {
             negated: check.negated,
@@ -131,7 +138,7 @@ pub fn read_check(
             code,
             flag,
         }),
-        inputs: inputs_of_values(alloc, &values)?,
-        functions,
+        inputs: inputs_of_values(alloc, &work.uses.values)?,
+        functions: copied_items(alloc, &work.uses.functions)?,
     }))
 }

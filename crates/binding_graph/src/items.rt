@@ -17,7 +17,8 @@ use crate::bodies::{group_item, read_bodies, read_check};
 use crate::declare::{declare_all, declare_function, declare_own};
 use crate::fault::ResolveFault;
 use crate::resolved::{Resolved, ResolvedItem, Role};
-use crate::uses::{Uses, inputs_of_values};
+use crate::uses::{copied_items, inputs_of_values};
+use crate::workspace::Workspace;
 use binding_kinds::{ModelFault, Scope, Sight};
 use cat_values::{Binding, Expression, Item, ModelText, PREDEFINED};
 use source_text::Name;
@@ -67,9 +68,10 @@ fn find_items(
     ensures items { let names = reverse (map entry_of scope.old.entries.items) in (senses : List Sense) → AreKept scope.old.functions.items senses → AreSound senses → AreKnown names → IfOk result (λ r. r.1 ≡ None → AreResolved senses (map usage_of scope.old.functions.items) names 0 (map clause_of items.now) r.0.items) }
     ensures labels { IfOk result (λ r. r.1 ≡ None → AreLabelled items.now r.0.items) }
 {
-    let mut resolved = Vec::new(alloc);
+    let mut work = Workspace::new(alloc);
+    let mut resolved = Vec::with_capacity(alloc, items.len())?;
     for (index, item) in items.iter().enumerate() {
-        match read_item(alloc, scope, index, item)? {
+        match read_item(alloc, scope, &mut work, index, item)? {
             Err(fault) => return Ok((resolved, Some(fault))),
             Ok(one) => push_item(&mut resolved, one)?,
         }
@@ -107,6 +109,7 @@ fn push_item(items: &mut Vec<ResolvedItem>, item: ResolvedItem) -> Result<(), Al
 fn read_item(
     alloc: Global,
     scope: &mut Scope,
+    work: &mut Workspace,
     index: usize,
     item: &Item,
 ) -> Result<Result<ResolvedItem, ModelFault>, AllocError>
@@ -121,17 +124,29 @@ fn read_item(
         Item::Let {
             recursive: true,
             group,
-        } => read_recursive(alloc, scope, index, group),
+        } => read_recursive(alloc, scope, work, index, group),
         Item::Let {
             recursive: false,
             group,
-        } => read_plain(alloc, scope, index, group),
+        } => read_plain(alloc, scope, work, index, group),
         Item::Check { check, .. } => {
-            read_check(alloc, &sight_of(scope, scope.entries.len()), check, None)
+            read_check(
+                alloc,
+                &sight_of(scope, scope.entries.len()),
+                check,
+                None,
+                work,
+            )
         }
         Item::Flag { check, label } => {
             let flag = copied_label(alloc, label)?;
-            read_check(alloc, &sight_of(scope, scope.entries.len()), check, flag)
+            read_check(
+                alloc,
+                &sight_of(scope, scope.entries.len()),
+                check,
+                flag,
+                work,
+            )
         }
         Item::Function {
             name,
@@ -162,6 +177,7 @@ fn sight_of(scope: &Scope, from: usize) -> Sight<'_>
 fn read_plain(
     alloc: Global,
     scope: &mut Scope,
+    work: &mut Workspace,
     index: usize,
     group: &[Binding],
 ) -> Result<Result<ResolvedItem, ModelFault>, AllocError>
@@ -171,12 +187,12 @@ fn read_plain(
     ensures item { let us = map usage_of scope.old.functions.items in let names = reverse (map entry_of scope.old.entries.items) in (senses : List Sense) → AreKept scope.old.functions.items senses → AreSound senses → AreKnown names → IfOk result (λ r. IfOk r (λ x. IsResolvedIn senses us names (extended senses names index (Group false (map bound_of group.now))) (length names) (Group false (map bound_of group.now)) x)) }
 {
     let sight = sight_of(scope, scope.entries.len());
-    let mut uses = Uses::new(alloc);
-    match read_bodies(alloc, &sight, false, group, &mut uses)? {
+    work.uses.clear();
+    match read_bodies(alloc, &sight, false, group, work)? {
         Err(fault) => Ok(Err(fault)),
         Ok(bodies) => {
             declare_all(alloc, &mut scope.entries, index, &bodies)?;
-            Ok(Ok(group_item(alloc, false, bodies, uses)?))
+            Ok(Ok(group_item(alloc, false, bodies, &work.uses)?))
         }
     }
 }
@@ -185,6 +201,7 @@ fn read_plain(
 fn read_recursive(
     alloc: Global,
     scope: &mut Scope,
+    work: &mut Workspace,
     index: usize,
     group: &[Binding],
 ) -> Result<Result<ResolvedItem, ModelFault>, AllocError>
@@ -196,10 +213,10 @@ fn read_recursive(
     let from = scope.entries.len();
     declare_own(alloc, &mut scope.entries, index, group)?;
     let sight = sight_of(scope, from);
-    let mut uses = Uses::new(alloc);
-    match read_bodies(alloc, &sight, true, group, &mut uses)? {
+    work.uses.clear();
+    match read_bodies(alloc, &sight, true, group, work)? {
         Err(fault) => Ok(Err(fault)),
-        Ok(bodies) => Ok(Ok(group_item(alloc, true, bodies, uses)?)),
+        Ok(bodies) => Ok(Ok(group_item(alloc, true, bodies, &work.uses)?)),
     }
 }
 
@@ -222,14 +239,6 @@ fn read_defined(
         Some(fault) => Ok(Err(fault)),
         None => Ok(Ok(lower_function(alloc, scope)?)),
     }
-}
-
-fn copied_items(alloc: Global, items: &[usize]) -> Result<Vec<usize>, AllocError>
-    ensures { IfOk result (λ v. v.items ≡ items.now) }
-{
-    let mut copy = Vec::new(alloc);
-    copy.extend_from_slice(items)?;
-    Ok(copy)
 }
 
 /// What the latest function uses.

@@ -12,6 +12,7 @@ mod reach;
 mod reading;
 mod resolved;
 mod uses;
+mod workspace;
 
 pub use binding_kinds::{Input, Kind, ModelFault};
 pub use fault::ResolveFault;

@@ -52,6 +52,19 @@ impl Uses {
         }
     }
 
+    /// Nothing is used any longer; the memory is kept.
+    pub fn clear(&mut self)
+        ensures values { self.new.values.items ≡ [] }
+        ensures functions { self.new.functions.items ≡ [] }
+        ensures indexed { IsIndexed self.new.indexes.items self.new.values.items }
+        ensures listed { IsListed self.new.applied.items self.new.functions.items }
+    {
+        self.values.clear();
+        self.functions.clear();
+        self.indexes.clear();
+        self.applied.clear();
+    }
+
     /// The index of the slot among those used, where it is used.
     fn place_at(&self, slot: usize) -> Option<usize>
         ensures { result ≡ get_or self.now.indexes.items slot None }
@@ -203,7 +216,7 @@ impl Uses {
     }
 }
 
-/// The names that are used, as those of items.
+/// The names that are used, as those of items. Errors: want of memory.
 pub fn inputs_of_values(alloc: Global, values: &[Used]) -> Result<Vec<Input>, AllocError>
     ensures { IfOk result (λ v. v.items ≡ map (λ u. u.input) values.now) }
 {
@@ -212,4 +225,13 @@ pub fn inputs_of_values(alloc: Global, values: &[Used]) -> Result<Vec<Input>, Al
         inputs.push(value.input)?;
     }
     Ok(inputs)
+}
+
+/// The items of functions, copied. Errors: want of memory.
+pub fn copied_items(alloc: Global, items: &[usize]) -> Result<Vec<usize>, AllocError>
+    ensures { IfOk result (λ v. v.items ≡ items.now) }
+{
+    let mut copy = Vec::with_capacity(alloc, items.len())?;
+    copy.extend_from_slice(items)?;
+    Ok(copy)
 }

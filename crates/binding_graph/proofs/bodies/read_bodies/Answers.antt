@@ -9,8 +9,8 @@ use Rattle.binding_graph.proofs.bodies.read_bodies.Goals as goal
 pub loop-index-init : goal.loop-index-init
 loop-index-init c = record {
   faults = λ ss kept none. refl;
-  named = λ ss kept none. rw c.new-bodies.ensures.items tt;
-  bodies = λ ss kept sound known none ix. λ rs h. rw c.new-bodies.ensures.items h;
+  named = λ ss kept none. rw c.in_ok-bodies.ensures.items tt;
+  bodies = λ ss kept sound known none ix. λ rs h. rw c.in_ok-bodies.ensures.items h;
   uses = λ none. λ later h. h;
   indexed = λ ix. ix;
 }
@@ -36,9 +36,9 @@ loop-index-preserved c =
           let v = one.judged ss kept none in
           let indexed = m.indexed ix in
           let fits = fit ss _ _ _ (term_of d.body) known (sym v.fault ∙ none_later own _ clear) in
-          made_more ss _ _ _ c.args.uses.now c.loop-index.uses c.read_code.new.uses g i d _ _ (record { name = c.in_ok-copied.field-0; code = c.in_ok-judged.field-0.code }) lt (m.bodies ss kept sound known none ix)
+          made_more ss _ _ _ c.args.work.now.uses c.loop-index.work.uses c.read_code.new.work.uses g i d _ _ (record { name = c.in_ok-copied.field-0; code = c.in_ok-judged.field-0.code }) lt (m.bodies ss kept sound known none ix)
           c.in_ok-push.ensures.items (rw (← is) c.in_ok-copied.ensures) (rw (← is) (one.code ss kept sound none indexed fits)) (rw (← is) (rw none at (one.uses.values indexed)));
-      uses = λ none. used_more _ _ _ c.args.uses.now c.loop-index.uses c.read_code.new.uses g i d lt (m.uses none) (rw (← is) (rw none at one.uses));
+      uses = λ none. used_more _ _ _ c.args.work.now.uses c.loop-index.work.uses c.read_code.new.work.uses g i d lt (m.uses none) (rw (← is) (rw none at one.uses));
       indexed = λ ix. one.uses.indexed (m.indexed ix);
     }
 
@@ -60,7 +60,7 @@ returns-clause-named c = λ ss kept none. named_all ss _ c.args.group.now c.loop
 
 pub returns-clause-bodies : goal.returns-clause-bodies
 returns-clause-bodies c = λ ss kept sound known none ix.
-    all_made ss _ _ _ c.args.uses.now c.loop-index.uses c.args.group.now c.loop-index.index c.loop-index.bodies.items (c.loop-index.invariant.bodies ss kept sound known none ix) (omega arith)
+    all_made ss _ _ _ c.args.work.now.uses c.loop-index.work.uses c.args.group.now c.loop-index.index c.loop-index.bodies.items (c.loop-index.invariant.bodies ss kept sound known none ix) (omega arith)
 
 pub returns-clause-uses : goal.returns-clause-uses
-returns-clause-uses c = λ none. all_used _ _ _ c.args.uses.now c.loop-index.uses c.args.group.now c.loop-index.index (c.loop-index.invariant.uses none) (omega arith)
+returns-clause-uses c = λ none. all_used _ _ _ c.args.work.now.uses c.loop-index.work.uses c.args.group.now c.loop-index.index (c.loop-index.invariant.uses none) (omega arith)

@@ -1,4 +1,4 @@
-use Rattle.std.proofs.Common.{sym, ap, ◌∙◌, refl}
+use Rattle.std.proofs.Common.{sym, ◌∙◌, refl}
 use Rattle.cat_values.specs.Values.{term_of}
 use Rattle.binding_kinds.proofs.Fitting.{none_later}
 use Rattle.binding_kinds.proofs.Fitted.{fit}
@@ -19,7 +19,7 @@ pub returns-clause-item : goal.returns-clause-item
 returns-clause-item c = λ ss kept sound known none.
     let one = c.in_ok-judged.ensures in
     let v = one.judged ss kept none in
-    let new = c.new-uses.ensures in
+    let new = c.clear.ensures in
     let t = term_of c.args.check.now.body in
     let clear = sym c.check_fault.ensures ∙ c.in_default.is in
     let fits = fit ss _ _ _ t known (sym v.fault ∙ none_later _ c.in_ok-judged.field-0.judged.fault clear) in
@@ -28,7 +28,7 @@ returns-clause-item c = λ ss kept sound known none.
     let code = rw values at (one.code ss kept sound none new.indexed fits) in (
       (refl, code),
       record {
-        inputs = inputs_made c.read_code.new.uses.values.items _ c.in_ok-inputs_of_values.field-0.items _ values (c.deref.ensures.value ∙ ap (λ v. v.items) c.into_lists-values.ensures.values) c.in_ok-inputs_of_values.ensures;
-        functions = functions_made c.read_code.new.uses.functions.items _ _ functions (ap (λ v. v.items) c.into_lists-values.ensures.functions);
+        inputs = inputs_made c.read_code.new.work.uses.values.items _ c.in_ok-inputs_of_values.field-0.items _ values c.deref.ensures.value c.in_ok-inputs_of_values.ensures;
+        functions = functions_made c.read_code.new.work.uses.functions.items _ _ functions (c.in_ok-copied_items.ensures ∙ c.deref-2.ensures.value);
       },
     )
