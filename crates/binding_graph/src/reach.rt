@@ -117,7 +117,7 @@ fn marked_indexes(alloc: Global, marks: &[bool]) -> Result<Vec<usize>, AllocErro
     ensures rising { IfOk result (λ v. AllPairs (λ a b. a < b) v.items) }
     ensures exact { IfOk result (λ v. (k : ℕ) → Contains v.items k ↔ IsMarked marks.now k) }
 {
-    let mut indexes = Vec::new(alloc);
+    let mut indexes = Vec::with_capacity(alloc, marks.len())?;
     for (index, marked) in marks.iter().enumerate() {
         if *marked {
             indexes.push(index)?;
@@ -133,7 +133,7 @@ pub fn used(alloc: Global, resolved: &Resolved) -> Result<Vec<usize>, AllocError
     ensures reached { IfOk result (λ v. AreReached resolved.now.items.items v.items) }
 {
     let mut marks = vec![in alloc; false; resolved.items.len()]?;
-    let mut waiting = Vec::new(alloc);
+    let mut waiting = Vec::with_capacity(alloc, resolved.items.len())?;
     mark_checks(&mut marks, &mut waiting, &resolved.items)?;
     spread(&mut marks, &mut waiting, &resolved.items)?;
     marked_indexes(alloc, &marks)
