@@ -1,5 +1,9 @@
 //! The lists that reading an item fills.
 
+ghost use Rattle.std.specs.Prelude.{◌≡◌, []};
+ghost use Rattle.binding_graph.specs.Lowering.{start};
+ghost use Rattle.binding_graph.specs.Stacks.{state_of};
+
 use crate::lower::Lowering;
 use crate::uses::Uses;
 use binding_functions::Template;
@@ -18,7 +22,12 @@ pub struct Workspace {
 
 impl Workspace {
     /// With nothing in them.
-    pub fn new(alloc: Global) -> Workspace {
+    pub fn new(alloc: Global) -> Workspace
+        ensures template { result.template.pieces.items ≡ [] }
+        ensures lowering { state_of result.lowering ≡ start }
+        ensures values { result.uses.values.items ≡ [] }
+        ensures functions { result.uses.functions.items ≡ [] }
+    {
         Workspace {
             template: Template::new(alloc),
             lowering: Lowering::new(alloc),
