@@ -5,7 +5,7 @@ use Rattle.std.proofs.lemmas.Bool.{cases_lt, lt-ltb, le-ltb}
 use Rattle.std.proofs.lemmas.List.{ext_get_or, get_or-take, get_or_append_left, length-append, length-take, length-replicate, get_or-append_right}
 use Rattle.std.proofs.lemmas.List.Concat.{get_or-flat_map}
 use Rattle.std.proofs.lemmas.List.Elements.{All-append, All-cons}
-use Rattle.std.proofs.lemmas.Grind.{flat_map-append, get_or_default_zero}
+use Rattle.std.proofs.lemmas.Grind.{flat_map-append}
 use Rattle.std.proofs.lemmas.List.{map-append, append_assoc, append-nil, get_or-map, length-map}
 use Rattle.std.proofs.lemmas.List.Folds.{length-flat_map-take}
 use Rattle.std.proofs.Math.Seq.{take-append_seam, drop-append_seam}
@@ -210,13 +210,6 @@ one_more {ns} {ss} {ws} {rs} r p g = record {
 pub as_many : {ns ss ws : List ℕ} {rs : List Relation} → ArePacked ns ss ws rs → length rs ≡ length ns
 as_many {rs = rs} p = sym (ap (λ (xs : List ℕ). length xs) p.counts ∙ length-map rs (λ x. x.count))
 
-pub as_many_starts : {ns ss ws : List ℕ} {rs : List Relation} → ArePacked ns ss ws rs → length rs ≡ length ss
-as_many_starts {rs = rs} p = sym (ap (λ (xs : List ℕ). length xs) p.starts ∙ length-starts 0 rs)
-  where
-    length-starts : (at : ℕ) (xs : List Relation) → length (starts_from at xs) ≡ length xs
-    length-starts at [] = refl
-    length-starts at (x ∷ xs) = let e : length (starts_from (at + length (packed x)) xs) ≡ length xs = length-starts (at + length (packed x)) xs in omega arith
-
 pub count_there : {ns ss ws : List ℕ} {rs : List Relation} (k : ℕ) (d : Relation) → ArePacked ns ss ws rs → k < length rs → get_or ns k 0 ≡ (get_or rs k d).count
 count_there {rs = rs} k d p lt = ap (λ (xs : List ℕ). get_or xs k 0) p.counts ∙ get_or-map (λ (x : Relation). x.count) rs k d 0 lt
 
@@ -325,7 +318,7 @@ stored_here ws start r g low high a b = (
     more ge = omega arith
 
 -- the words of one of them stand in the list
-pub stored_there : {ns ss ws : List ℕ} {rs : List Relation} (k : ℕ) (d : Relation) → ArePacked ns ss ws rs → k < length rs → AreStored ws (get_or ss k 0) (get_or rs k d)
+stored_there : {ns ss ws : List ℕ} {rs : List Relation} (k : ℕ) (d : Relation) → ArePacked ns ss ws rs → k < length rs → AreStored ws (get_or ss k 0) (get_or rs k d)
 stored_there {ns} {ss} {ws} {rs} k d p lt = record { low = low; high = high }
   where
     r : Relation
@@ -376,7 +369,7 @@ read_again {ns} {ss} {ws} {rs} k d v p lt read =
     here = stored_here ws (get_or ss k 0) r g there.low there.high
 
 -- relations on as many events whose words stand in one part of the list are the same
-pub stored_once : (ws : List ℕ) (start : ℕ) (r s : Relation) → IsRegular r → IsRegular s → r.count ≡ s.count → AreStored ws start r → AreStored ws start s → r ≡ s
+stored_once : (ws : List ℕ) (start : ℕ) (r s : Relation) → IsRegular r → IsRegular s → r.count ≡ s.count → AreStored ws start r → AreStored ws start s → r ≡ s
 stored_once ws start r s g h count left right =
     same_relation r s g h count (λ a b. (
       (λ x. (stored_here ws start s h right.low right.high a b).0 (subst (λ (n : ℕ). Stored ws start n a b) count ((stored_here ws start r g left.low left.high a b).1 x))),
@@ -409,69 +402,6 @@ stored_high n low high list at end c none all s a lt = elim (cases_lt 64 n) [
     nothing : end ≡ 0 → ⊥
     nothing e = omega arith
 
--- after a push
-pub pushed : {ns ss ws ns' ss' ms ts vs : List ℕ} {n s : ℕ} (r : Relation) → ArePacked ns ss ws (unpacked ns ws) → IsRegular r → ns' ≡ ns → ss' ≡ ss → n ≡ r.count → s ≡ length ws → ms ≡ ns' ++ n ∷ [] → ts ≡ ss' ++ s ∷ [] → vs ≡ ws ++ packed r → ArePacked ms ts vs (unpacked ms vs)
-pushed {ns} {ss} {ws} {ns'} {ss'} {ms} {ts} {vs} {n} {s} r p g same_ns same_ss is_n is_s counts starts words =
-    subst (λ (xs : List ℕ). ArePacked xs ts vs (unpacked xs vs)) (sym all_counts)
-    (subst (λ (xs : List ℕ). ArePacked (ns ++ r.count ∷ []) xs vs (unpacked (ns ++ r.count ∷ []) vs)) (sym all_starts)
-    (subst (λ (xs : List ℕ). ArePacked (ns ++ r.count ∷ []) (ss ++ length ws ∷ []) xs (unpacked (ns ++ r.count ∷ []) xs)) (sym words)
-    (kept (one_more r p g))))
-  where
-    all_counts : ms ≡ ns ++ r.count ∷ []
-    all_counts = counts ∙ ap (λ (xs : List ℕ). xs ++ n ∷ []) same_ns ∙ ap (λ (x : ℕ). ns ++ x ∷ []) is_n
-
-    all_starts : ts ≡ ss ++ length ws ∷ []
-    all_starts = starts ∙ ap (λ (xs : List ℕ). xs ++ s ∷ []) same_ss ∙ ap (λ (x : ℕ). ss ++ x ∷ []) is_s
-
-pub pushed_told : {ns ss ws ns' ms vs : List ℕ} {n : ℕ} (r : Relation) → ArePacked ns ss ws (unpacked ns ws) → IsRegular r → ns' ≡ ns → n ≡ r.count → ms ≡ ns' ++ n ∷ [] → vs ≡ ws ++ packed r → unpacked ms vs ≡ unpacked ns ws ++ r ∷ []
-pushed_told {ns} {ss} {ws} {ns'} {ms} {vs} {n} r p g same_ns is_n counts words =
-    ap (λ (xs : List ℕ). unpacked xs vs) (counts ∙ ap (λ (xs : List ℕ). xs ++ n ∷ []) same_ns ∙ ap (λ (x : ℕ). ns ++ x ∷ []) is_n)
-    ∙ ap (λ (xs : List ℕ). unpacked (ns ++ r.count ∷ []) xs) words
-    ∙ told (one_more r p g)
-
--- at an index of the list
-element : (xs : List ℕ) (k x : ℕ) → k < length xs → x ≡ get_or xs k x → x ≡ get_or xs k 0
-element xs k x lt e = e ∙ get_or_default_zero xs k x lt
-
-inside : (ns ws : List ℕ) {vs : List Relation} (k : ℕ) → unpacked ns ws ≡ vs → k < length vs → k < length (unpacked ns ws)
-inside ns ws k e lt = subst (λ (xs : List Relation). k < length xs) (sym e) lt
-
-pub start_within : {ns ss ws : List ℕ} {vs : List Relation} (k : ℕ) → ArePacked ns ss ws (unpacked ns ws) → unpacked ns ws ≡ vs → k < length vs → k < length ss
-start_within {ns} {ss} {ws} k p e lt = subst (λ (n : ℕ). k < n) (as_many_starts p) (inside ns ws k e lt)
-
-count_at : {ns ss ws : List ℕ} {vs : List Relation} (k x : ℕ) → ArePacked ns ss ws (unpacked ns ws) → unpacked ns ws ≡ vs → k < length vs → x ≡ get_or ns k x → x ≡ get_or ns k 0
-count_at {ns} {ss} {ws} k x p e lt is = element ns k x (subst (λ (n : ℕ). k < n) (as_many p) (inside ns ws k e lt)) is
-
-start_at : {ns ss ws : List ℕ} {vs : List Relation} (k x : ℕ) → ArePacked ns ss ws (unpacked ns ws) → unpacked ns ws ≡ vs → k < length vs → x ≡ get_or ss k x → x ≡ get_or ss k 0
-start_at {ns} {ss} {ws} k x p e lt is = element ss k x (start_within k p e lt) is
-
-pub few_read : {ns ss ws : List ℕ} {vs : List Relation} (k x : ℕ) → ArePacked ns ss ws (unpacked ns ws) → unpacked ns ws ≡ vs → k < length vs → x ≡ get_or ns k x → x ≤ 128
-few_read {ns} {ss} {ws} k x p e lt is = subst (λ (n : ℕ). n ≤ 128) (sym (count_at k x p e lt is)) (few_there k no_slot p (inside ns ws k e lt))
-
-pub low_read : {ns ss ws zs : List ℕ} {vs : List Relation} (k x y : ℕ) → ArePacked ns ss ws (unpacked ns ws) → unpacked ns ws ≡ vs → k < length vs → x ≡ get_or ns k x → y ≡ get_or ss k y → zs ≡ ws → y + x ≤ length zs
-low_read {ns} {ss} {ws} {zs} k x y p e lt is at same =
-    let n : x ≡ get_or ns k 0 = count_at k x p e lt is in
-    let s : y ≡ get_or ss k 0 = start_at k y p e lt at in
-    let w : length zs ≡ length ws = ap (λ (xs : List ℕ). length xs) same in
-    let r : get_or ss k 0 + get_or ns k 0 ≤ length ws = low_room k no_slot p (inside ns ws k e lt) in
-    omega arith
-
-pub high_read : {ns ss ws zs : List ℕ} {vs : List Relation} (k x y : ℕ) → ArePacked ns ss ws (unpacked ns ws) → unpacked ns ws ≡ vs → k < length vs → x ≡ get_or ns k x → y ≡ get_or ss k y → zs ≡ ws → 64 < x → y + x + x ≤ length zs
-high_read {ns} {ss} {ws} {zs} k x y p e lt is at same over =
-    let n : x ≡ get_or ns k 0 = count_at k x p e lt is in
-    let s : y ≡ get_or ss k 0 = start_at k y p e lt at in
-    let w : length zs ≡ length ws = ap (λ (xs : List ℕ). length xs) same in
-    let r : get_or ss k 0 + get_or ns k 0 + get_or ns k 0 ≤ length ws = high_room k no_slot p (inside ns ws k e lt) (subst (λ (m : ℕ). 64 < m) n over) in
-    omega arith
-
-pub what_read : {ns ss ws zs : List ℕ} {vs : List Relation} (k x y : ℕ) (v : Relation) → ArePacked ns ss ws (unpacked ns ws) → unpacked ns ws ≡ vs → k < length vs → x ≡ get_or ns k x → y ≡ get_or ss k y → zs ≡ ws → IsRelation v x (Stored zs y x) → v ≡ get_or vs k v
-what_read {ns} {ss} {ws} {zs} k x y v p e lt is at same read =
-    read_again k v v p (inside ns ws k e lt)
-    (subst (λ (n : ℕ). IsRelation v n (Stored ws (get_or ss k 0) n)) (count_at k x p e lt is)
-    (subst (λ (s : ℕ). IsRelation v x (Stored ws s x)) (start_at k y p e lt at)
-    (subst (λ (xs : List ℕ). IsRelation v x (Stored xs y x)) same read)))
-    ∙ ap (λ (xs : List Relation). get_or xs k v) e
-
 -- the words that a `Rel` appends
 pub appended : (n : ℕ) (low high : List ℕ) (end : ℕ) → AreColumns n low high → (n ≤ 64 → end ≡ 0) → (64 < n → end ≡ n) → take n low ++ take end high ≡ packed (of_words n low high)
 unfolding packed
@@ -494,20 +424,11 @@ put_behind {xs} {xs'} {ys} {zs} {ls} {hs} n low high end c none all same is_low 
     ∙ ap (λ (ws : List ℕ). xs ++ ws) (appended n low high end c none all)
 
 -- one of them is a relation where the words of that stand in its part of the list
-pub same_there : {ns ss ws zs : List ℕ} {vs : List Relation} (k x y : ℕ) (r : Relation) → ArePacked ns ss ws (unpacked ns ws) → unpacked ns ws ≡ vs → k < length vs → x ≡ get_or ns k x → y ≡ get_or ss k y → zs ≡ ws → x ≡ r.count → IsRegular r → AreStored zs y r ↔ (get_or vs k no_slot ≡ r)
-same_there {ns} {ss} {ws} {zs} {vs} k x y r p e lt is at same count g = (
-  (λ h. stored_once ws (get_or ss k 0) (get_or vs k no_slot) r regular g counted here (subst (λ (xs : List ℕ). AreStored xs (get_or ss k 0) r) same (subst (λ (s : ℕ). AreStored zs s r) (start_at k y p e lt at) h))),
-  (λ t. subst (λ (s : ℕ). AreStored zs s r) (sym (start_at k y p e lt at)) (subst (λ (xs : List ℕ). AreStored xs (get_or ss k 0) r) (sym same) (subst (λ (v : Relation). AreStored ws (get_or ss k 0) v) t here))),
+pub same_there : {ns ss ws : List ℕ} {rs : List Relation} (k : ℕ) (r : Relation) → ArePacked ns ss ws rs → k < length rs → get_or ns k 0 ≡ r.count → IsRegular r → AreStored ws (get_or ss k 0) r ↔ (get_or rs k no_slot ≡ r)
+same_there {ns} {ss} {ws} {rs} k r p lt count g = (
+  (λ h. stored_once ws (get_or ss k 0) (get_or rs k no_slot) r (p.regular k no_slot lt) g (sym (count_there k no_slot p lt) ∙ count) here h),
+  (λ t. subst (λ (v : Relation). AreStored ws (get_or ss k 0) v) t here),
 )
   where
-    all : ArePacked ns ss ws vs
-    all = subst (λ (xs : List Relation). ArePacked ns ss ws xs) e p
-
-    regular : IsRegular (get_or vs k no_slot)
-    regular = all.regular k no_slot lt
-
-    counted : (get_or vs k no_slot).count ≡ r.count
-    counted = sym (count_there k no_slot all lt) ∙ sym (count_at k x p e lt is) ∙ count
-
-    here : AreStored ws (get_or ss k 0) (get_or vs k no_slot)
-    here = stored_there k no_slot all lt
+    here : AreStored ws (get_or ss k 0) (get_or rs k no_slot)
+    here = stored_there k no_slot p lt

@@ -4,14 +4,12 @@
 #![tactic(auto)]
 
 pub mod lanes;
-mod packed;
 mod rel;
 mod rows;
 mod set;
 mod word;
 mod words;
 
-pub use packed::PackedRelations;
 pub use rel::Rel;
 pub use set::EventSet;
 pub use words::MAX_EVENTS;

@@ -406,7 +406,7 @@ impl Rel {
 
     /// Appends the words of its rows: the low ones, then the high ones where the count is over 64. Where memory is out
     /// the list stays as it was.
-    pub(crate) fn append_to(&self, list: &mut Vec<u64>) -> Result<(), AllocError>
+    pub fn append_to(&self, list: &mut Vec<u64>) -> Result<(), AllocError>
         ensures added { OnOk result (list.new.items ≡ list.old.items ++ packed self.now) }
         ensures kept { OnErr result (list.new.items ≡ list.old.items) }
     {
@@ -419,7 +419,7 @@ impl Rel {
     }
 
     /// Becomes the relation of a count whose words stand in a list from an index on.
-    pub(crate) fn read_from(&mut self, count: usize, list: &[u64], at: usize)
+    pub fn read_from(&mut self, count: usize, list: &[u64], at: usize)
         requires few { count ≤ 128 }
         requires low { at + count ≤ length list.now }
         requires high { 64 < count → at + count + count ≤ length list.now }
@@ -433,7 +433,7 @@ impl Rel {
     }
 
     /// Whether the words of its rows stand in a list from an offset on, the low ones first.
-    pub(crate) fn is_stored(&self, list: &[u64], at: usize) -> bool
+    pub fn is_stored(&self, list: &[u64], at: usize) -> bool
         requires low { at + self.now.count ≤ length list.now }
         requires high { 64 < self.now.count → at + self.now.count + self.now.count ≤ length list.now }
         ensures { IsTrue result ↔ AreStored list.now at self.now }

@@ -1,9 +1,29 @@
 -- Lemmas on runs.
 use Rattle.std.proofs.Common.{ℕ, zero, suc, ◌≡◌, ◌+◌, ◌-◌, ◌<◌, ◌≤◌, inl, inr, List, [], ◌∷◌, ◌++◌, length, get_or, refl, sym, ap, subst, ◌∙◌, arith, append_assoc, length-append}
 use Rattle.std.proofs.Math.ListN.{replicate, set, length-set}
-use Rattle.std.proofs.lemmas.List.{length-replicate, get_or-replicate, append-nil, get_or-append_right, get_or_append_left, get_or_read_under, replicate-append-replicate}
+use Rattle.std.proofs.lemmas.List.{length-replicate, get_or-replicate, append-nil, get_or-append_right, get_or_append_left, replicate-append-replicate, length-map, get_or-map, map-append}
 use Rattle.std.proofs.lemmas.Bool.{cases_lt}
-use Rattle.columns.specs.Runs.{expand, AreRising, last_end, start_of, AreRuns}
+use Rattle.columns.specs.declared.runs.Run.{Run}
+use Rattle.columns.specs.Runs.{expand, AreRising, last_end, start_of, AreRuns, ends_of, values_of}
+
+-- runs, by their ends and by their values
+pub as_many_ends : {V : Type 0} (runs : List (Run V)) → length (ends_of runs) ≡ length runs
+as_many_ends runs = length-map runs (λ r. r.end)
+
+pub as_many_values : {V : Type 0} (runs : List (Run V)) → length (values_of runs) ≡ length runs
+as_many_values runs = length-map runs (λ r. r.value)
+
+pub end_there : {V : Type 0} (runs : List (Run V)) (k : ℕ) (d : Run V) → k < length runs → (get_or runs k d).end ≡ get_or (ends_of runs) k 0
+end_there runs k d lt = sym (get_or-map (λ (r : Run _). r.end) runs k d 0 lt)
+
+pub value_there : {V : Type 0} (runs : List (Run V)) (k : ℕ) (d : Run V) (e : V) → k < length runs → (get_or runs k d).value ≡ get_or (values_of runs) k e
+value_there runs k d e lt = sym (get_or-map (λ (r : Run _). r.value) runs k d e lt)
+
+pub ends_more : {V : Type 0} (runs now : List (Run V)) (r : Run V) → now ≡ runs ++ r ∷ [] → ends_of now ≡ ends_of runs ++ r.end ∷ []
+ends_more runs now r e = ap (λ rs. ends_of rs) e ∙ map-append (λ (x : Run _). x.end) runs (r ∷ [])
+
+pub values_more : {V : Type 0} (runs now : List (Run V)) (r : Run V) → now ≡ runs ++ r ∷ [] → values_of now ≡ values_of runs ++ r.value ∷ []
+values_more runs now r e = ap (λ rs. values_of rs) e ∙ map-append (λ (x : Run _). x.value) runs (r ∷ [])
 
 pub last_end-above : (at : ℕ) (es : List ℕ) → AreRising at es → at ≤ last_end at es
 last_end-above at [] h = omega arith
@@ -136,22 +156,17 @@ same_runs es ends vs h same = subst (λ xs. AreRuns xs vs) (sym same) h
 same_view : {A : Type 0} (es ends : List ℕ) (vs old : List A) → expand 0 es vs ≡ old → ends ≡ es → expand 0 ends vs ≡ old
 same_view es ends vs old is same = ap (λ xs. expand 0 xs vs) same ∙ is
 
-pub read_value : {A : Type 0} (d : A) (es ends : List ℕ) (vs old : List A) (r at : ℕ) (value : A) → AreRuns es vs → expand 0 es vs ≡ old → ends ≡ es → r < length ends → start_of 0 ends r ≤ at → at < get_or ends r 0 → value ≡ get_or vs r value → value ≡ get_or old at d
+pub read_value : {A : Type 0} (d : A) (es ends : List ℕ) (vs old : List A) (r at : ℕ) (value : A) → AreRuns es vs → expand 0 es vs ≡ old → ends ≡ es → r < length ends → start_of 0 ends r ≤ at → at < get_or ends r 0 → value ≡ get_or vs r d → value ≡ get_or old at d
 read_value d es ends vs old r at value h is same l a b read =
-    let runs : AreRuns ends vs = same_runs es ends vs h same in
-    get_or_read_under vs r (length ends) value d read l runs.as_many ∙ sym (run_value d ends vs old r at runs (same_view es ends vs old is same) l a b)
+    read ∙ sym (run_value d ends vs old r at (same_runs es ends vs h same) (same_view es ends vs old is same) l a b)
 
-pub read_end : {A : Type 0} (es ends : List ℕ) (vs old : List A) (r end : ℕ) → AreRuns es vs → expand 0 es vs ≡ old → ends ≡ es → r < length ends → end ≡ get_or es r end → end ≤ length old
-read_end es ends vs old r end h is same l read =
-    let inside : r < length es = omega (arith, ap length same) in
-    rw (get_or_read_under es r (length es) end 0 read inside refl) (end_inside es vs old r h is inside)
+pub read_end : {A : Type 0} (es ends : List ℕ) (vs old : List A) (r end : ℕ) → AreRuns es vs → expand 0 es vs ≡ old → ends ≡ es → r < length ends → end ≡ get_or ends r 0 → end ≤ length old
+read_end es ends vs old r end h is same l read = rw read (end_inside ends vs old r (same_runs es ends vs h same) (same_view es ends vs old is same) l)
 
-pub read_same : {A : Type 0} (d : A) (es ends : List ℕ) (vs old : List A) (r at end : ℕ) → AreRuns es vs → expand 0 es vs ≡ old → ends ≡ es → r < length ends → start_of 0 ends r ≤ at → at < get_or ends r 0 → end ≡ get_or es r end → (k : ℕ) → at ≤ k → k < end → get_or old k d ≡ get_or old at d
-read_same d es ends vs old r at end h is same l a b read k low high =
+pub read_same : {A : Type 0} (d : A) (es ends : List ℕ) (vs old : List A) (r at end : ℕ) → AreRuns es vs → expand 0 es vs ≡ old → ends ≡ es → r < length ends → start_of 0 ends r ≤ at → at < get_or ends r 0 → end ≡ get_or ends r 0 → (k : ℕ) → at ≤ k → k < end → get_or old k d ≡ get_or old at d
+read_same d es ends vs old r at end h is same l a b last k low high =
     let runs : AreRuns ends vs = same_runs es ends vs h same in
     let view : expand 0 ends vs ≡ old = same_view es ends vs old is same in
-    let inside : r < length es = omega (arith, ap length same) in
-    let last : end ≡ get_or ends r 0 = get_or_read_under es r (length es) end 0 read inside refl ∙ ap (λ xs. get_or xs r 0) (sym same) in
     run_value d ends vs old r k runs view l (omega arith) (omega arith) ∙ sym (run_value d ends vs old r at runs view l a b)
 
 -- a run holds its start
@@ -176,7 +191,3 @@ last_told d es vs old n e h is l p more =
     let one : e - length old ≡ 1 = omega (arith, more) in
     longer_told d es vs old n e (get_or old (length old - 1) d) h is l p (omega (arith, more)) (sym (last_value d es vs old n h is l p))
     ∙ ap (λ (m : ℕ). old ++ replicate m (get_or old (length old - 1) d)) one
-
--- the end of the last run, read with any default
-pub end_read : {A : Type 0} (es : List ℕ) (vs old : List A) (n end : ℕ) → AreRuns es vs → expand 0 es vs ≡ old → n ≡ length es → 0 < n → end ≡ get_or es (n - 1) end → end ≡ length old
-end_read es vs old n end h is l p read = last_end_is es vs old n end h is l p (get_or_read_under es (n - 1) (length es) end 0 read (omega (arith, l, p)) refl)

@@ -2,6 +2,7 @@
 //! a candidate.
 #![tactic(auto)]
 
+mod places;
 mod relations;
 mod runs;
 mod sets;

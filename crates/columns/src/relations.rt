@@ -2,29 +2,30 @@
 ghost use Rattle.std.specs.Prelude.{◌≡◌, ℕ, ◌-◌, ◌<◌, ◌≤◌, ◌++◌, ◌∷◌, [], ◌↔◌, length, replicate, IsTrue, OnOk, OnErr};
 ghost use Rattle.columns.specs.Runs.{value_at};
 
-use crate::runs::{Cursor, end_of, run_at};
-use bit_relations::{PackedRelations, Rel};
+use crate::places::{Place, is_value, next_place, read_value};
+use crate::runs::{Cursor, Run, end_at, end_of, run_at, set_end};
+use bit_relations::Rel;
 use std::alloc::{AllocError, Global};
 use std::marker::Model;
 
 /// A relation for each candidate: neighbours with equal relations share one. Contracts see one relation a candidate.
 #[derive(Drop)]
 pub struct RunColumn {
-    values: PackedRelations,
-    /// Where each run ends.
-    ends: Vec<usize>,
+    runs: Vec<Run<Place>>,
+    /// The words of the relations, one after another.
+    words: Vec<u64>,
 }
 
 impl Model for RunColumn {
     ghost use Rattle.std.specs.Prelude.{List};
     ghost use Rattle.bit_relations.specs.Relation.{Relation};
-    ghost use Rattle.columns.specs.Runs.{expand, AreRuns};
+    ghost use Rattle.columns.specs.Runs.{expand, AreRuns, AreKept, ends_of, values_of, kept_values};
 
     ghost Value = { List Relation };
 
-    ghost view = { λ c. expand 0 c.ends.items c.values };
+    ghost view = { λ c. expand 0 (ends_of c.runs.items) (kept_values (values_of c.runs.items) c.words.items) };
 
-    ghost invariant = { λ c. AreRuns c.ends.items c.values };
+    ghost invariant = { λ c. AreRuns (ends_of c.runs.items) (kept_values (values_of c.runs.items) c.words.items) × AreKept (values_of c.runs.items) c.words.items };
 }
 
 impl RunColumn {
@@ -33,8 +34,8 @@ impl RunColumn {
         ensures { result ≡ [] }
     {
         RunColumn {
-            values: PackedRelations::new(alloc),
-            ends: Vec::new(alloc),
+            runs: Vec::new(alloc),
+            words: Vec::new(alloc),
         }
     }
 
@@ -42,16 +43,15 @@ impl RunColumn {
     pub fn clear(&mut self)
         ensures { self.new ≡ [] }
     {
-        self.values.clear();
-        self.ends.clear();
+        self.runs.clear();
+        self.words.clear();
     }
 
     /// How many candidates it has a value for.
     pub fn len(&self) -> usize
         ensures { result ≡ length self.now }
     {
-        let _values = &self.values;
-        end_of(&self.ends)
+        end_of(&self.runs)
     }
 
     /// Gives one value to the next candidates, up to an end. Where memory is out the column stays as it was.
@@ -60,13 +60,14 @@ impl RunColumn {
         ensures added { OnOk result (self.new ≡ self.old ++ replicate (end - length self.old) value.now) }
         ensures kept { OnErr result (self.new ≡ self.old) }
     {
-        let runs = self.ends.len();
-        if 0 < runs && self.values.is_same_at(runs - 1, value) {
-            self.ends[runs - 1] = end;
+        let count = self.runs.len();
+        if 0 < count && is_value(&self.runs, &self.words, count - 1, value) {
+            set_end(&mut self.runs, count - 1, end);
         } else {
-            self.ends.reserve(1)?;
-            self.values.push(value)?;
-            self.ends.push_reserved(end);
+            let place = next_place(&self.words, value)?;
+            self.runs.reserve(1)?;
+            value.append_to(&mut self.words)?;
+            self.runs.push_reserved(Run { end, value: place });
         }
         Ok(())
     }
@@ -88,14 +89,13 @@ impl RunColumn {
         ensures added { OnOk result (0 < length self.old → self.new ≡ self.old ++ value_at self.old (length self.old - 1) ∷ []) }
         ensures kept { OnErr result (self.new ≡ self.old) }
     {
-        let _values = &self.values;
-        let runs = self.ends.len();
-        if runs == 0 {
+        let count = self.runs.len();
+        if count == 0 {
             return Ok(());
         }
-        match self.ends[runs - 1].checked_add(1) {
+        match end_at(&self.runs, count - 1).checked_add(1) {
             Some(end) => {
-                self.ends[runs - 1] = end;
+                set_end(&mut self.runs, count - 1, end);
                 Ok(())
             }
             None => Err(AllocError),
@@ -109,9 +109,8 @@ impl RunColumn {
         ensures within { result ≤ length self.now }
         ensures same { (k : ℕ) → at ≤ k → k < result → value_at self.now k ≡ value_at self.now at }
     {
-        let _values = &self.values;
-        let run = run_at(&self.ends, 0, at);
-        self.ends[run]
+        let runs = self.runs.as_slice();
+        end_at(runs, run_at(runs, 0, at))
     }
 
     /// Writes the value of a candidate into `target`, and answers up to where the candidates after it have the same.
@@ -122,10 +121,11 @@ impl RunColumn {
         ensures within { result ≤ length self.now }
         ensures same { (k : ℕ) → at ≤ k → k < result → value_at self.now k ≡ value_at self.now at }
     {
-        let run = run_at(&self.ends, cursor.run, at);
-        self.values.read_into(run, target);
+        let runs = self.runs.as_slice();
+        let run = run_at(runs, cursor.run, at);
+        read_value(runs, &self.words, run, target);
         cursor.run = run;
-        self.ends[run]
+        end_at(runs, run)
     }
 
     /// Whether both have the same values.

@@ -1,8 +1,8 @@
 //! A column of sets.
 ghost use Rattle.std.specs.Prelude.{◌≡◌, ℕ, ◌-◌, ◌<◌, ◌≤◌, ◌++◌, ◌∷◌, [], ◌↔◌, length, replicate, IsTrue, OnOk, OnErr};
-ghost use Rattle.columns.specs.Runs.{set_at};
+ghost use Rattle.columns.specs.Runs.{set_at, values_of};
 
-use crate::runs::{Cursor, end_of, run_at};
+use crate::runs::{Cursor, Run, end_at, end_of, run_at, set_end};
 use bit_relations::EventSet;
 use std::alloc::{AllocError, Global};
 use std::marker::Model;
@@ -10,21 +10,19 @@ use std::marker::Model;
 /// A set for each candidate: neighbours with equal sets share one. Contracts see one set a candidate.
 #[derive(Drop)]
 pub struct SetRuns {
-    values: Vec<EventSet>,
-    /// Where each run ends.
-    ends: Vec<usize>,
+    runs: Vec<Run<EventSet>>,
 }
 
 impl Model for SetRuns {
     ghost use Rattle.std.specs.Prelude.{List};
     ghost use Rattle.bit_relations.specs.Relation.{Events};
-    ghost use Rattle.columns.specs.Runs.{expand, AreRuns};
+    ghost use Rattle.columns.specs.Runs.{expand, AreRuns, ends_of, values_of};
 
     ghost Value = { List Events };
 
-    ghost view = { λ c. expand 0 c.ends.items c.values.items };
+    ghost view = { λ c. expand 0 (ends_of c.runs.items) (values_of c.runs.items) };
 
-    ghost invariant = { λ c. AreRuns c.ends.items c.values.items };
+    ghost invariant = { λ c. AreRuns (ends_of c.runs.items) (values_of c.runs.items) };
 }
 
 impl SetRuns {
@@ -33,8 +31,7 @@ impl SetRuns {
         ensures { result ≡ [] }
     {
         SetRuns {
-            values: Vec::new(alloc),
-            ends: Vec::new(alloc),
+            runs: Vec::new(alloc),
         }
     }
 
@@ -42,16 +39,14 @@ impl SetRuns {
     pub fn clear(&mut self)
         ensures { self.new ≡ [] }
     {
-        self.values.clear();
-        self.ends.clear();
+        self.runs.clear();
     }
 
     /// How many candidates it has a value for.
     pub fn len(&self) -> usize
         ensures { result ≡ length self.now }
     {
-        let _values = &self.values;
-        end_of(&self.ends)
+        end_of(&self.runs)
     }
 
     /// Gives one value to the next candidates, up to an end. Where memory is out the column stays as it was.
@@ -60,13 +55,12 @@ impl SetRuns {
         ensures added { OnOk result (self.new ≡ self.old ++ replicate (end - length self.old) value.now) }
         ensures kept { OnErr result (self.new ≡ self.old) }
     {
-        let runs = self.ends.len();
-        if 0 < runs && is_at(&self.values, runs - 1, value) {
-            self.ends[runs - 1] = end;
+        let count = self.runs.len();
+        if 0 < count && is_at(&self.runs, count - 1, value) {
+            set_end(&mut self.runs, count - 1, end);
         } else {
-            self.ends.reserve(1)?;
-            self.values.push(*value)?;
-            self.ends.push_reserved(end);
+            self.runs.reserve(1)?;
+            self.runs.push_reserved(Run { end, value: *value });
         }
         Ok(())
     }
@@ -88,14 +82,13 @@ impl SetRuns {
         ensures added { OnOk result (0 < length self.old → self.new ≡ self.old ++ set_at self.old (length self.old - 1) ∷ []) }
         ensures kept { OnErr result (self.new ≡ self.old) }
     {
-        let _values = &self.values;
-        let runs = self.ends.len();
-        if runs == 0 {
+        let count = self.runs.len();
+        if count == 0 {
             return Ok(());
         }
-        match self.ends[runs - 1].checked_add(1) {
+        match end_at(&self.runs, count - 1).checked_add(1) {
             Some(end) => {
-                self.ends[runs - 1] = end;
+                set_end(&mut self.runs, count - 1, end);
                 Ok(())
             }
             None => Err(AllocError),
@@ -109,9 +102,8 @@ impl SetRuns {
         ensures within { result ≤ length self.now }
         ensures same { (k : ℕ) → at ≤ k → k < result → set_at self.now k ≡ set_at self.now at }
     {
-        let _values = &self.values;
-        let run = run_at(&self.ends, 0, at);
-        self.ends[run]
+        let runs = self.runs.as_slice();
+        end_at(runs, run_at(runs, 0, at))
     }
 
     /// The value of a candidate, and up to where the candidates after it have the same.
@@ -122,9 +114,10 @@ impl SetRuns {
         ensures within { result.1 ≤ length self.now }
         ensures same { (k : ℕ) → at ≤ k → k < result.1 → set_at self.now k ≡ set_at self.now at }
     {
-        let run = run_at(&self.ends, cursor.run, at);
+        let runs = self.runs.as_slice();
+        let run = run_at(runs, cursor.run, at);
         cursor.run = run;
-        (self.values[run], self.ends[run])
+        (value_of(runs, run), end_at(runs, run))
     }
 
     /// Whether both have the same values.
@@ -150,10 +143,18 @@ impl SetRuns {
     }
 }
 
-/// Whether a set of a list is another.
-fn is_at(values: &[EventSet], k: usize, value: &EventSet) -> bool
-    requires { k < length values.now }
-    ensures { IsTrue result ↔ (set_at values.now k ≡ value.now) }
+/// The set of a run.
+fn value_of(runs: &[Run<EventSet>], run: usize) -> EventSet
+    requires { run < length runs.now }
+    ensures { result ≡ set_at (values_of runs.now) run }
 {
-    values[k].is_same(value)
+    runs[run].value
+}
+
+/// Whether the set of a run is another.
+fn is_at(runs: &[Run<EventSet>], run: usize, value: &EventSet) -> bool
+    requires { run < length runs.now }
+    ensures { IsTrue result ↔ (set_at (values_of runs.now) run ≡ value.now) }
+{
+    value_of(runs, run).is_same(value)
 }

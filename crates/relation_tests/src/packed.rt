@@ -1,8 +1,9 @@
-//! Packed lists of relations.
-ghost use Rattle.std.specs.Prelude.{◌≤◌};
+//! Relations packed in columns.
+ghost use Rattle.std.specs.Prelude.{◌<◌, ◌≤◌, length};
 
 use crate::digest::show_relation;
-use bit_relations::{PackedRelations, Rel};
+use bit_relations::Rel;
+use columns::{Cursor, RunColumn};
 use std::alloc::{AllocError, Global};
 use std::io;
 
@@ -16,10 +17,10 @@ fn others(count: usize) -> Rel
 }
 
 /// The relation of each other event, then one on 5 events, then the identity.
-fn three(alloc: Global, count: usize) -> Result<PackedRelations, AllocError>
+fn three(alloc: Global, count: usize) -> Result<RunColumn, AllocError>
     requires { count ≤ 128 }
 {
-    let mut list = PackedRelations::new(alloc);
+    let mut list = RunColumn::new(alloc);
     list.push(&others(count))?;
     list.push(&others(5))?;
     list.push(&Rel::identity(count))?;
@@ -27,14 +28,24 @@ fn three(alloc: Global, count: usize) -> Result<PackedRelations, AllocError>
 }
 
 /// Prints each relation of a list, read over another of 100 events.
-fn show_list<R: Print>(rt: &R, list: &PackedRelations) -> io::Result<()> {
+fn show_list<R: Print>(rt: &R, list: &RunColumn) -> io::Result<()> {
+    let mut cursor = Cursor::new();
     for k in 0..list.len() {
         let mut place = Rel::identity(100);
-        list.read_into(k, &mut place);
-        println!(rt; "{k}: {} events", list.count_at(k))?;
+        list.read(&mut cursor, k, &mut place);
+        println!(rt; "{k}: {} events", place.count())?;
         show_relation(rt, "read", &place)?;
     }
     Ok(())
+}
+
+/// Whether one of a list is this relation.
+fn is_same_at(list: &RunColumn, k: usize, relation: &Rel) -> bool
+    requires { k < length list.now }
+{
+    let mut place = Rel::identity(100);
+    list.read(&mut Cursor::new(), k, &mut place);
+    place.is_same(relation)
 }
 
 fn show_three<R: Print + AllocGlobal>(rt: &R, count: usize) -> io::Result<()>
@@ -45,8 +56,8 @@ fn show_three<R: Print + AllocGlobal>(rt: &R, count: usize) -> io::Result<()>
     let again = three(rt.alloc(), count)?;
     println!(rt; "same {}", list.is_same(&again))?;
     if 2 < list.len() {
-        let here = list.is_same_at(2, &Rel::identity(count));
-        let there = list.is_same_at(2, &others(5));
+        let here = is_same_at(&list, 2, &Rel::identity(count));
+        let there = is_same_at(&list, 2, &others(5));
         println!(rt; "same at 2: {here}, of the one at 1: {there}")?;
     }
     list.push(&Rel::empty(count))?;
@@ -54,11 +65,11 @@ fn show_three<R: Print + AllocGlobal>(rt: &R, count: usize) -> io::Result<()>
 }
 
 fn show_wordless<R: Print + AllocGlobal>(rt: &R) -> io::Result<()> {
-    let mut list = PackedRelations::new(rt.alloc());
-    let none = PackedRelations::new(rt.alloc());
-    println!(rt; "empty {}", list.is_empty())?;
+    let mut list = RunColumn::new(rt.alloc());
+    let none = RunColumn::new(rt.alloc());
+    println!(rt; "empty {}", list.len() == 0)?;
     list.push(&Rel::empty(0))?;
-    println!(rt; "empty {}, same {}", list.is_empty(), list.is_same(&none))
+    println!(rt; "empty {}, same {}", list.len() == 0, list.is_same(&none))
 }
 
 /// Prints lists of relations at each count, and a list of a relation that takes no words.

@@ -1,6 +1,8 @@
-use Rattle.std.proofs.Common.{◌-◌, sym, arith}
-use Rattle.columns.proofs.Expanding.{start_at}
+use Rattle.std.proofs.Common.{◌-◌, ◌∙◌, sym, arith}
+use Rattle.columns.specs.Runs.{ends_of}
+use Rattle.columns.proofs.Expanding.{start_at, as_many_ends}
 use Rattle.columns.proofs.runs.begin_of.Goals as goal
 
 pub returns-else-run-eq0 : goal.returns-else-run-eq0
-returns-else-run-eq0 c = sym (start_at 0 c.args.ends.now c.args.run (c.args.run - 1) (omega arith) (omega arith))
+returns-else-run-eq0 g c =
+    c.end_at.ensures ∙ sym (start_at 0 (ends_of c.args.runs.now) c.args.run (c.args.run - 1) (omega arith) (omega (arith, as_many_ends c.args.runs.now)))

@@ -1,6 +1,7 @@
-use Rattle.std.proofs.Common.{arith}
-use Rattle.columns.proofs.Expanding.{last_is}
+use Rattle.std.proofs.Common.{◌∙◌, arith}
+use Rattle.columns.specs.Runs.{ends_of}
+use Rattle.columns.proofs.Expanding.{last_is, as_many_ends}
 use Rattle.columns.proofs.runs.end_of.Goals as goal
 
-pub returns-else-runs-eq0 : goal.returns-else-runs-eq0
-returns-else-runs-eq0 c = last_is 0 c.args.ends.now _ (omega arith)
+pub returns-else-count-eq0 : goal.returns-else-count-eq0
+returns-else-count-eq0 g c = c.end_at.ensures ∙ last_is 0 (ends_of c.args.runs.now) _ (omega (arith, as_many_ends c.args.runs.now))

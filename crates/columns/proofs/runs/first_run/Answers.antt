@@ -1,9 +1,11 @@
 use Rattle.std.proofs.Common.{◌-◌, arith}
-use Rattle.columns.proofs.Expanding.{start_at}
+use Rattle.columns.specs.Runs.{ends_of}
+use Rattle.columns.proofs.Expanding.{start_at, as_many_ends}
 use Rattle.columns.proofs.runs.first_run.Goals as goal
 
-pub returns-then-ends-first-clause-from_start : goal.returns-then-ends-first-clause-from_start
-returns-then-ends-first-clause-from_start c = rw (start_at 0 c.args.ends.now c.args.first (c.args.first - 1) (omega arith) (omega arith)) (omega arith)
+pub returns-then-end_at-at-clause-from_start : goal.returns-then-end_at-at-clause-from_start
+returns-then-end_at-at-clause-from_start g c =
+    rw (start_at 0 (ends_of c.args.runs.now) c.args.first (c.args.first - 1) (omega arith) (omega (arith, as_many_ends c.args.runs.now))) (omega arith)
 
 pub returns-else-first-gt0-clause-from_start : goal.returns-else-first-gt0-clause-from_start
-returns-else-first-gt0-clause-from_start c = omega arith
+returns-else-first-gt0-clause-from_start g c = omega arith

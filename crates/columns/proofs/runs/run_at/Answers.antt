@@ -1,6 +1,13 @@
-use Rattle.columns.proofs.Expanding.{not_last, start_next}
+use Rattle.std.proofs.Common.{◌<◌, ◌≤◌, ◌+◌, length, get_or, arith}
+use Rattle.columns.specs.Runs.{ends_of}
+use Rattle.columns.proofs.Expanding.{not_last, start_next, as_many_ends}
 use Rattle.columns.proofs.runs.run_at.Goals as goal
 
 pub loop-run-preserved : goal.loop-run-preserved
-loop-run-preserved c =
-    (not_last _ _ _ c.loop-run.invariant.0 c.loop-run-test.true c.requires.inside, start_next _ _ _ c.loop-run.invariant.0 c.loop-run-test.true)
+loop-run-preserved g c =
+    let ends = ends_of c.args.runs.now in
+    let many = as_many_ends c.args.runs.now in
+    let inside : c.loop-run.run < length ends = omega (arith, many, c.loop-run.invariant.0) in
+    let low : get_or ends c.loop-run.run 0 ≤ c.args.at = omega (arith, c.end_at.ensures, c.loop-run-test.true) in
+    let next : c.loop-run.run + 1 < length ends = not_last _ _ _ inside low c.requires.inside in
+    (omega (arith, many, next), start_next _ _ _ inside low)

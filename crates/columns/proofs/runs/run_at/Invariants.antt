@@ -1,9 +1,9 @@
 use Rattle.std.proofs.Common.{◌-◌, ◌<◌, ◌≤◌, length}
-use Rattle.columns.specs.Runs.{start_of}
+use Rattle.columns.specs.Runs.{start_of, ends_of}
 use Rattle.columns.proofs.runs.run_at.Given as goal
 
 abbrev pub invariant-loop-run : goal.invariant-loop-run
-invariant-loop-run l = (l.run < length l.ends) × (start_of 0 l.ends l.run ≤ l.at)
+invariant-loop-run g l = (l.run < length l.runs) × (start_of 0 (ends_of l.runs) l.run ≤ l.at)
 
 abbrev pub decreases-loop-run : goal.decreases-loop-run
-decreases-loop-run l = length l.ends - l.run
+decreases-loop-run g l = length l.runs - l.run

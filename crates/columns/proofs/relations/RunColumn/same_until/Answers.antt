@@ -1,12 +1,22 @@
+use Rattle.std.proofs.Common.{◌≡◌, ◌<◌, ap, length}
 use Rattle.bit_relations.specs.Relation.{no_slot}
-use Rattle.columns.proofs.Expanding.{inside_runs, read_end, read_same}
+use Rattle.columns.specs.Runs.{ends_of}
+use Rattle.columns.proofs.Expanding.{as_many_ends, inside_runs, read_end, read_same}
 use Rattle.columns.proofs.relations.RunColumn.same_until.Goals as goal
 
-pub run_at-run-requires-clause-inside : goal.run_at-run-requires-clause-inside
-run_at-run-requires-clause-inside c = inside_runs _ _ _ _ _ c.self.invariant c.self.view_is c.deref.ensures.value c.requires
+pub run_at-requires-clause-inside : goal.run_at-requires-clause-inside
+run_at-requires-clause-inside c =
+    let same : ends_of c.as_slice-runs.result.now ≡ ends_of c.self.inside.runs.items = ap (λ rs. ends_of rs) c.as_slice-runs.ensures.value in
+    inside_runs _ _ _ _ _ c.self.invariant.0 c.self.view_is same c.requires
 
 pub returns-clause-within : goal.returns-clause-within
-returns-clause-within c = read_end _ _ _ _ _ _ c.self.invariant c.self.view_is c.deref.ensures.value c.run_at-run.ensures.run c.index.ensures
+returns-clause-within c =
+    let same : ends_of c.as_slice-runs.result.now ≡ ends_of c.self.inside.runs.items = ap (λ rs. ends_of rs) c.as_slice-runs.ensures.value in
+    let inside : c.run_at.result < length (ends_of c.as_slice-runs.result.now) = rw (as_many_ends c.as_slice-runs.result.now) c.run_at.ensures.run in
+    read_end _ _ _ _ _ _ c.self.invariant.0 c.self.view_is same inside c.end_at.ensures
 
 pub returns-clause-same : goal.returns-clause-same
-returns-clause-same c = read_same no_slot _ _ _ _ _ _ _ c.self.invariant c.self.view_is c.deref.ensures.value c.run_at-run.ensures.run c.run_at-run.ensures.from_start c.run_at-run.ensures.open c.index.ensures
+returns-clause-same c =
+    let same : ends_of c.as_slice-runs.result.now ≡ ends_of c.self.inside.runs.items = ap (λ rs. ends_of rs) c.as_slice-runs.ensures.value in
+    let inside : c.run_at.result < length (ends_of c.as_slice-runs.result.now) = rw (as_many_ends c.as_slice-runs.result.now) c.run_at.ensures.run in
+    read_same no_slot _ _ _ _ _ _ _ c.self.invariant.0 c.self.view_is same inside c.run_at.ensures.from_start c.run_at.ensures.open c.end_at.ensures
