@@ -10,7 +10,7 @@ use crate::instruction::{Instruction, Line, Program};
 use crate::run::{Domain, Run};
 use crate::state::{State, is_load};
 use crate::value::Value;
-use crate::walk::Walk;
+use crate::walk::{Walk, copied_with_room};
 use std::alloc::{AllocError, Global};
 use std::marker::Model;
 
@@ -83,7 +83,7 @@ impl Beginning {
         ensures { IfOk result (λ b. b ≡ self.now) }
     {
         Ok(Beginning {
-            values: Vec::from_slice(alloc, &self.values)?,
+            values: copied_with_room(alloc, &self.values)?,
             stopped: self.stopped,
             walk: self.walk.copied(alloc)?,
         })

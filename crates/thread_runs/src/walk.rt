@@ -9,6 +9,15 @@ use crate::value::Value;
 use std::alloc::{AllocError, Global};
 use std::marker::Model;
 
+/// A copy of the list, with room for as many items as the list has room for. Errors: out of memory.
+pub fn copied_with_room<T: Copy>(alloc: Global, items: &Vec<T>) -> Result<Vec<T>, AllocError>
+    ensures { IfOk result (λ v. v.items ≡ items.now.items) }
+{
+    let mut copy = Vec::with_capacity(alloc, items.capacity())?;
+    copy.extend_from_slice(items)?;
+    Ok(copy)
+}
+
 /// The label that a thread is looking for, and what it has done.
 #[derive(Drop)]
 pub struct Walk {
@@ -46,8 +55,8 @@ impl Walk {
         Ok(Walk {
             state: self.state,
             seeking: self.seeking,
-            steps: Vec::from_slice(alloc, &self.steps)?,
-            events: Vec::from_slice(alloc, &self.events)?,
+            steps: copied_with_room(alloc, &self.steps)?,
+            events: copied_with_room(alloc, &self.events)?,
         })
     }
 
