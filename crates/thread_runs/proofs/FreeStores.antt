@@ -425,6 +425,15 @@ module _ (lines : List Line) (first : State) (V : List Value) where
         | inr there ↦ no_later xs zero (λ j d le lt. storeless (suc j) d (omega arith) (omega arith)) there.0 v there.2
       ]
 
+  pub no_store : (old : List Value) → HasNoStore lines 0 (length lines) → AreAdded (Stores lines first V) old old
+  no_store old storeless = record {
+    longer = omega arith;
+    unchanged = λ _. refl;
+    kept = λ v h. h;
+    sound = λ v h. inl h;
+    whole = λ few v s one. absurd (no_later lines 0 storeless begin v s);
+  }
+
   pub way_ends : (k : ℕ) (walks : List FreeWalk) (old stored : List Value) → HasNoStore lines k (length lines) → IsUnderWay lines first V k walks old stored → AreAdded (Stores lines first V) old stored
   way_ends k walks old stored storeless u = record {
     longer = u.longer;

@@ -1,5 +1,5 @@
 //! Free runs: how many there are, and what they store.
-ghost use Rattle.std.specs.Prelude.{option_to_list, ℕ, ◌≡◌, ◌+◌, ◌*◌, ◌<◌, ◌≤◌, IfOk, OnOk, IsTrue, ◌↔◌, ◌++◌, Some, None, List, Contains, length, drop, map, min, slice_index_or};
+ghost use Rattle.std.specs.Prelude.{option_to_list, Option, ℕ, ◌≡◌, ◌+◌, ◌*◌, ◌<◌, ◌≤◌, IfOk, IfSome, OnOk, IsTrue, ◌↔◌, ◌++◌, Some, None, List, Contains, length, drop, map, min, slice_index_or};
 ghost use Rattle.std.specs.List.{AllPairs, flat_map};
 ghost use Rattle.thread_runs.specs.declared.value.Value.{Value};
 ghost use Rattle.thread_runs.specs.declared.state.State.{State};
@@ -133,6 +133,65 @@ fn free_counts(alloc: Global, lines: &[Line], size: usize) -> Result<Vec<u32>, A
     Ok(counts)
 }
 
+/// How many free runs go on from the instruction, where so many go on from the next line; none where
+/// it is a branch or a jump.
+fn straight_one(instruction: Instruction, size: usize, next: u32) -> Option<u32>
+    ensures { (go : Option ℕ → ℕ) → next ≡ capped (go None) → IfSome result (λ n. n ≡ capped (count_one size None (Does instruction) go)) }
+{
+    match target(instruction, false) {
+        Some(_) => None,
+        None => {
+            if is_branch(instruction) {
+                None
+            } else if is_load(instruction) {
+                Some(capped_product(next, size))
+            } else {
+                Some(next)
+            }
+        }
+    }
+}
+
+/// How many free runs go on from the line at the index, where so many go on from the next one; none
+/// where it is a branch or a jump.
+fn straight_from(lines: &[Line], size: usize, index: usize, next: u32) -> Option<u32>
+    requires within { index < length lines.now }
+    requires counted { next ≡ capped (count_free size (drop (index + 1) lines.now) None) }
+    ensures { IfSome result (λ n. n ≡ capped (count_free size (drop index lines.now) None)) }
+{
+    match lines[index] {
+        Line::Label(_) => Some(next),
+        Line::Does(instruction) => straight_one(instruction, size, next),
+    }
+}
+
+/// The number of free runs of a thread over so many values, or 4,097 if there are more; none where
+/// it has a branch or a jump.
+fn straight_count(lines: &[Line], size: usize) -> Option<u32>
+    ensures { IfSome result (λ n. n ≡ capped (count_free size lines.now None)) }
+{
+    let mut count = 1;
+    let mut index = lines.len();
+    while index > 0 {
+        index -= 1;
+        count = straight_from(lines, size, index, count)?;
+    }
+    Some(count)
+}
+
+/// The number of free runs of the thread over so many values, or 4,097 if there are more.
+fn count_all(alloc: Global, lines: &[Line], size: usize) -> Result<u32, AllocError>
+    ensures { IfOk result (λ n. n ≡ capped (count_free size lines.now None)) }
+{
+    match straight_count(lines, size) {
+        Some(count) => Ok(count),
+        None => {
+            let counts = free_counts(alloc, lines, size)?;
+            Ok(count_at(&counts, 0))
+        }
+    }
+}
+
 /// The number of free runs of the thread over so many values, or 4,097 if there are more. Where it is
 /// less, the thread has no more runs over at most so many values, of which there is one at least.
 pub fn free_count(alloc: Global, lines: &[Line], size: usize) -> Result<u32, AllocError>
@@ -140,8 +199,8 @@ pub fn free_count(alloc: Global, lines: &[Line], size: usize) -> Result<u32, All
     ensures runs { IfOk result (λ n. (first : State) → (V : List Value) → AllPairs IsLess V → length V ≡ size → (m : ℕ) × HasFreeRuns (record { lines = lines.now; first = first }) V m × (n ≡ capped m)) }
     ensures few { IfOk result (λ n. (first : State) → (V : List Value) → AllPairs IsLess V → length V ≤ size → 0 < size → n < 4097 → (m : ℕ) × HasRuns (record { lines = lines.now; first = first }) V m × (m ≤ n)) }
 {
-    let counts = free_counts(alloc, lines, size)?;
-    Ok(count_at(&counts, 0))
+    let count = count_all(alloc, lines, size)?;
+    Ok(count)
 }
 
 /// A free run on its way.
@@ -426,6 +485,10 @@ pub fn add_stored(
     ensures set { IsSet stored.new.items }
     ensures added { OnOk result (free.AreAdded (free.Stores lines.now first values.now) stored.old.items stored.new.items) }
 {
+    let end = stores_end(lines);
+    if end == 0 {
+        return Ok(());
+    }
     let size = values.len();
     let counts = free_counts(alloc, lines, size)?;
     if count_at(&counts, 0) == 0 {
@@ -436,7 +499,6 @@ pub fn add_stored(
         state: first,
         seeking: None,
     })?;
-    let end = stores_end(lines);
     for index in 0..end {
         let line = lines[index];
         note_all(&walks, line, stored)?;

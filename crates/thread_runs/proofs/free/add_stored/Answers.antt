@@ -1,6 +1,10 @@
 use Rattle.std.proofs.Common.{ℕ, ◌≡◌, List, get_or, arith, ap, ◌∙◌}
-use Rattle.thread_runs.proofs.FreeStores.{under_way, no_way, way_on, way_ends}
+use Rattle.thread_runs.proofs.FreeStores.{under_way, no_way, no_store, way_on, way_ends}
 use Rattle.thread_runs.proofs.free.add_stored.Goals as goal
+
+pub returns-then-end-eq0-clause-added : goal.returns-then-end-eq0-clause-added
+returns-then-end-eq0-clause-added c =
+    no_store c.args.lines.now c.args.first c.args.values.now _ (λ k d le lt. c.stores_end-end.ensures.none k d (omega (arith, c.if-end-eq0.true)) lt)
 
 pub returns-then-count_at-eq0-clause-added : goal.returns-then-count_at-eq0-clause-added
 returns-then-count_at-eq0-clause-added c =
