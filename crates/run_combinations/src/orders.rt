@@ -1,5 +1,5 @@
 //! The orders of the stores of a combination of runs.
-ghost use Rattle.std.specs.Prelude.{◌≡◌, ◌≤◌, ◌-◌, ◌^◌, ◌++◌, length, drop, map, min, IfOk, OnOk};
+ghost use Rattle.std.specs.Prelude.{◌≡◌, ◌<◌, ◌≤◌, ◌-◌, ◌^◌, ◌++◌, length, drop, map, min, IfOk, OnOk};
 ghost use Rattle.std.specs.List.{concat, flat_map};
 ghost use Rattle.run_combinations.specs.Events as event_lists;
 ghost use Rattle.run_combinations.specs.Growing.{store_lists, rows_from, orders_from};
@@ -35,35 +35,53 @@ fn is_store(event: &Event, location: usize) -> bool
     }
 }
 
-/// The stores of a location by threads, by their numbers.
-fn stores_at(alloc: Global, events: &[Event], location: usize) -> Result<Vec<u8>, AllocError>
-    ensures { IfOk result (λ v. v.items ≡ stores_of events.now location) }
+/// Makes the list that of the stores of a location by threads, by their numbers.
+fn find_stores(events: &[Event], location: usize, stores: &mut Vec<u8>) -> Result<(), AllocError>
+    ensures { OnOk result (stores.new.items ≡ stores_of events.now location) }
 {
-    let mut stores = Vec::new(alloc);
+    stores.clear();
     for number in 0..events.len().min(MAX_EVENTS) {
         if is_store(&events[number], location) {
             stores.push(number as u8)?;
         }
     }
-    Ok(stores)
+    Ok(())
 }
 
-/// The stores of each location, in the order of the locations.
-fn all_stores(
-    alloc: Global,
-    events: &[Event],
-    locations: usize,
-) -> Result<Vec<LocationStores>, AllocError>
-    ensures { IfOk result (λ v. store_lists v.items ≡ growing.all_stores events.now (min locations 128)) }
+/// Makes them the stores of a location.
+fn fill(stores: &mut LocationStores, events: &[Event], location: usize) -> Result<(), AllocError>
+    requires { location < 128 }
+    ensures { OnOk result ((stores.new.initial ≡ location) × (stores.new.others.items ≡ stores_of events.now location)) }
 {
-    let mut stores = Vec::with_capacity(alloc, locations.min(MAX_EVENTS))?;
+    stores.initial = location as u8;
+    find_stores(events, location, &mut stores.others)?;
+    Ok(())
+}
+
+/// Makes them the stores of each location, in the order of the locations.
+fn fill_all(events: &[Event], locations: &mut Vec<LocationStores>) -> Result<(), AllocError>
+    requires { length locations.old.items ≤ 128 }
+    ensures stores { OnOk result (store_lists locations.new.items ≡ growing.all_stores events.now (length locations.old.items)) }
+    ensures many { OnOk result (length locations.new.items ≡ length locations.old.items) }
+{
+    for location in 0..locations.len() {
+        fill(&mut locations[location], events, location)?;
+    }
+    Ok(())
+}
+
+/// So many locations without stores by threads, or 128 of them where there are more.
+fn bare_locations(alloc: Global, locations: usize) -> Result<Vec<LocationStores>, AllocError>
+    ensures { IfOk result (λ v. length v.items ≡ min locations 128) }
+{
+    let mut bare = Vec::with_capacity(alloc, locations.min(MAX_EVENTS))?;
     for location in 0..locations.min(MAX_EVENTS) {
-        stores.push(LocationStores {
+        bare.push(LocationStores {
             initial: location as u8,
-            others: stores_at(alloc, events, location)?,
+            others: Vec::new(alloc),
         })?;
     }
-    Ok(stores)
+    Ok(bare)
 }
 
 /// Whether the front has the store at an index from `begin` on.
@@ -148,15 +166,22 @@ fn width_of(locations: &[LocationStores]) -> usize
 }
 
 /// The orders of all stores, in lexicographic order: those of each location after one another,
-/// the initial store first.
-fn orders(alloc: Global, events: &[Event], locations: usize) -> Result<StoreOrders, AllocError>
-    ensures { IfOk result (λ v. v ≡ all_orders events.now (min locations 128)) }
+/// the initial store first. What the lists of `locations` and `front` have before is replaced.
+fn orders(
+    alloc: Global,
+    events: &[Event],
+    locations: &mut Vec<LocationStores>,
+    front: &mut Vec<u8>,
+) -> Result<StoreOrders, AllocError>
+    requires { length locations.old.items ≤ 128 }
+    ensures orders { IfOk result (λ v. v ≡ all_orders events.now (length locations.old.items)) }
+    ensures many { OnOk result (length locations.new.items ≡ length locations.old.items) }
 {
-    let locations = all_stores(alloc, events, locations)?;
-    let width = width_of(&locations);
-    let mut front = Vec::with_capacity(alloc, width)?;
-    let mut stores = Vec::new(alloc);
-    add_orders(&locations, &mut front, &mut stores)?;
+    fill_all(events, locations)?;
+    let width = width_of(locations);
+    front.clear();
+    let mut stores = Vec::with_capacity(alloc, width)?;
+    add_orders(locations, front, &mut stores)?;
     // With no location there is one order, of no store.
     let count = stores.len().checked_div(width).unwrap_or(1);
     Ok(StoreOrders {
@@ -210,8 +235,10 @@ pub fn with_orders(
     ensures { IfOk result (λ v. map combination_lists v.items ≡ map (λ c. ordered (min locations 128) (combination_lists c)) combinations.items) }
 {
     let mut made = Vec::with_capacity(alloc, combinations.len())?;
+    let mut stores = bare_locations(alloc, locations)?;
+    let mut front = Vec::with_capacity(alloc, MAX_EVENTS)?;
     for mut combination in combinations {
-        combination.orders = orders(alloc, &combination.events, locations)?;
+        combination.orders = orders(alloc, &combination.events, &mut stores, &mut front)?;
         made.push(combination)?;
     }
     Ok(made)

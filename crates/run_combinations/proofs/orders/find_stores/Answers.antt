@@ -1,7 +1,7 @@
 use Rattle.std.proofs.Common.{arith}
 use Rattle.run_combinations.proofs.Stores.{stored, passed, stores_are}
-use Rattle.run_combinations.proofs.orders.stores_at.Goals as goal
-use Rattle.run_combinations.proofs.orders.stores_at.Goals.{then-is_store+in_ok-push, else-is_store}
+use Rattle.run_combinations.proofs.orders.find_stores.Goals as goal
+use Rattle.run_combinations.proofs.orders.find_stores.Goals.{then-is_store+in_ok-push, else-is_store}
 
 pub loop-number-preserved : goal.loop-number-preserved
 loop-number-preserved c =
