@@ -177,12 +177,12 @@ fn needs_of(events: &[Event], need_pairs: &[(usize, usize)], store: usize) -> Ev
     found
 }
 
-/// The loads among the events.
-fn loads_of(alloc: Global, events: &[Event]) -> Result<Vec<Load>, AllocError>
+/// Makes the list that of the loads among the events.
+fn find_loads(events: &[Event], loads: &mut Vec<Load>) -> Result<(), AllocError>
     requires { length events.now ≤ MAX_EVENTS }
-    ensures { IfOk result (λ v. AreLoads events.now (length events.now) v.items) }
+    ensures { OnOk result (AreLoads events.now (length events.now) loads.new.items) }
 {
-    let mut loads = Vec::new(alloc);
+    loads.clear();
     for number in 0..events.len() {
         if is_read(&events[number]) {
             loads.push(Load {
@@ -191,19 +191,19 @@ fn loads_of(alloc: Global, events: &[Event]) -> Result<Vec<Load>, AllocError>
             })?;
         }
     }
-    Ok(loads)
+    Ok(())
 }
 
-/// The stores among the events.
-fn stores_of(
-    alloc: Global,
+/// Makes the list that of the stores among the events.
+fn find_stores(
     events: &[Event],
     need_pairs: &[(usize, usize)],
-) -> Result<Vec<Store>, AllocError>
+    stores: &mut Vec<Store>,
+) -> Result<(), AllocError>
     requires { length events.now ≤ MAX_EVENTS }
-    ensures { IfOk result (λ v. AreStores events.now need_pairs.now (length events.now) v.items) }
+    ensures { OnOk result (AreStores events.now need_pairs.now (length events.now) stores.new.items) }
 {
-    let mut stores = Vec::new(alloc);
+    stores.clear();
     for number in 0..events.len() {
         if is_write(&events[number]) {
             stores.push(Store {
@@ -212,7 +212,7 @@ fn stores_of(
             })?;
         }
     }
-    Ok(stores)
+    Ok(())
 }
 
 /// The front with the rest behind it.
@@ -226,21 +226,29 @@ fn joined(alloc: Global, front: &[u8], rest: &[u8]) -> Result<Vec<u8>, AllocErro
 }
 
 impl Reading {
-    /// The loads and stores among the events, of which there are at most 128. A pair of
-    /// `need_pairs` is a load and a store whose value needs that of the load.
-    pub fn new(
-        alloc: Global,
+    /// No loads and no stores.
+    pub fn empty(alloc: Global) -> Reading {
+        Reading {
+            count: 0,
+            loads: Vec::new(alloc),
+            stores: Vec::new(alloc),
+        }
+    }
+
+    /// Makes it the loads and stores among the events, of which there are at most 128. A pair of
+    /// `need_pairs` is a load and a store whose value needs that of the load. Errors: out of memory.
+    pub fn show(
+        &mut self,
         events: &[Event],
         need_pairs: &[(usize, usize)],
-    ) -> Result<Reading, AllocError>
-        ensures { IfOk result (λ r. length events.now ≤ MAX_EVENTS → Shows events.now need_pairs.now r) }
+    ) -> Result<(), AllocError>
+        ensures { OnOk result (length events.now ≤ MAX_EVENTS → Shows events.now need_pairs.now self.new) }
     {
         let events = &events[..events.len().min(MAX_EVENTS)];
-        Ok(Reading {
-            count: events.len(),
-            loads: loads_of(alloc, events)?,
-            stores: stores_of(alloc, events, need_pairs)?,
-        })
+        self.count = events.len();
+        find_loads(events, &mut self.loads)?;
+        find_stores(events, need_pairs, &mut self.stores)?;
+        Ok(())
     }
 
     /// The events, and the stores whose needs are among them.

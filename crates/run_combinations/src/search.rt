@@ -29,6 +29,8 @@ pub struct Found {
     /// Whether some candidate holds a run that stopped at a fault. The later combinations are
     /// counted and not kept then.
     pub is_faulted: bool,
+    /// The loads and stores of the combination that was judged last.
+    reading: Reading,
 }
 
 /// The events and dependencies of runs of the first threads, one of each, numbered as those of a
@@ -228,7 +230,8 @@ impl Found {
     {
         let orders = order_count(&prefix.runs.events, locations).max(1);
         let limit = MAX_CANDIDATES.saturating_sub(self.count) / orders;
-        match Reading::new(alloc, &prefix.runs.events, &prefix.needs)?.ways(alloc, limit)? {
+        self.reading.show(&prefix.runs.events, &prefix.needs)?;
+        match self.reading.ways(alloc, limit)? {
             None => Ok(false),
             Some(ways) => {
                 self.keep(alloc, prefix, ways, orders)?;
@@ -300,6 +303,7 @@ pub fn find_combinations(alloc: Global, layout: &Layout) -> Result<Option<Found>
         combinations: Vec::new(alloc),
         count: 0,
         is_faulted: false,
+        reading: Reading::empty(alloc),
     };
     let locations = layout.initial.len();
     if search_from(alloc, locations, &layout.threads, &mut prefix, &mut found)? {

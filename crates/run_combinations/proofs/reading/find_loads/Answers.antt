@@ -1,7 +1,7 @@
 use Rattle.std.proofs.Common.{arith, refl}
 use Rattle.run_combinations.proofs.Gathering.{one_load_more, no_load_more}
-use Rattle.run_combinations.proofs.reading.loads_of.Goals as goal
-use Rattle.run_combinations.proofs.reading.loads_of.Goals.{then-is_read+in_ok-push, else-is_read}
+use Rattle.run_combinations.proofs.reading.find_loads.Goals as goal
+use Rattle.run_combinations.proofs.reading.find_loads.Goals.{then-is_read+in_ok-push, else-is_read}
 
 pub loop-number-preserved : goal.loop-number-preserved
 loop-number-preserved c =

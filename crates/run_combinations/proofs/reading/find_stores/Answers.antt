@@ -1,7 +1,7 @@
 use Rattle.std.proofs.Common.{arith, refl}
 use Rattle.run_combinations.proofs.Gathering.{one_store_more, no_store_more}
-use Rattle.run_combinations.proofs.reading.stores_of.Goals as goal
-use Rattle.run_combinations.proofs.reading.stores_of.Goals.{then-is_write+in_ok-push, else-is_write}
+use Rattle.run_combinations.proofs.reading.find_stores.Goals as goal
+use Rattle.run_combinations.proofs.reading.find_stores.Goals.{then-is_write+in_ok-push, else-is_write}
 
 pub loop-number-preserved : goal.loop-number-preserved
 loop-number-preserved c =

@@ -1,6 +1,0 @@
-use Rattle.std.proofs.Common.{refl}
-use Rattle.run_combinations.proofs.Gathering.{shown_reading, fronted}
-use Rattle.run_combinations.proofs.reading.Reading.new.Goals as goal
-
-pub returns : goal.returns
-returns c = λ few. shown_reading c.args.events.now _ c.args.need_pairs.now _ (fronted c.args.events.now _ c.min.result c.min.ensures refl few) few refl c.in_ok-loads_of.ensures c.in_ok-stores_of.ensures
