@@ -1,10 +1,9 @@
 -- Possible ways with one load more.
-use Rattle.std.proofs.Common.{ℕ, ◌≡◌, ◌<◌, ◌≤◌, ◌+◌, ◌↔◌, inl, inr, Bool, true, false, cond, IsTrue, List, [], ◌∷◌, ◌++◌, map, filter, length, take, get_or, slice_get, Some, Contains, Vec, arith, rules, sym, subst, refl, ap, ◌∙◌}
-use Rattle.std.specs.declared.alloc.Global.{Global}
+use Rattle.std.proofs.Common.{ℕ, ◌≡◌, ◌<◌, ◌≤◌, ◌+◌, ◌↔◌, inl, inr, Bool, true, false, cond, IsTrue, List, [], ◌∷◌, ◌++◌, map, filter, length, take, get_or, slice_get, Option, Some, option_to_list, Contains, arith, rules, sym, subst, refl, ap, ◌∙◌}
 use Rattle.std.proofs.lemmas.List.{append-nil, append_assoc, map-append, take_all, length-map}
 use Rattle.std.proofs.lemmas.Option.{slice_get_within, get_or_from_slice_get, slice_get_cases}
 use Rattle.bit_relations.specs.Relation.{Events, IsMember}
-use Rattle.run_combinations.specs.Lists.{lists_of, IsFiltered, none, kept, left}
+use Rattle.run_combinations.specs.Lists.{IsFiltered, none, kept, left}
 use Rattle.run_combinations.specs.Events.{numbers, is_load}
 use Rattle.run_combinations.specs.Ways.{Source, Derived, IsPossible, nexts, accesses_in, sources_of, may_read}
 use Rattle.run_combinations.specs.Rounds.{Shows, HasDerived, GainsNext}
@@ -22,8 +21,8 @@ pub record GainsSome (r : Reading) (load : Load) (index : ℕ) (way : List ℕ) 
   pub added : new ≡ old ++ more
   pub next : (es : List Event) (pairs : List (ℕ × ℕ)) → Shows es pairs r → slice_get r.loads.items index ≡ Some load → length way ≡ index → IsPossible (accesses_in es pairs) way → (e : Event) → slice_get (filter is_load es) index ≡ Some e → IsFiltered (IsPossible (accesses_in es pairs)) (nexts (numbers (λ d. may_read e.action d.action) 0 (take i es)) way) more
 
-pub gains_none : (r : Reading) (load : Load) (index : ℕ) (way : List ℕ) (old : List (List ℕ)) → GainsSome r load index way 0 old old
-gains_none r load index way old = record { more = []; added = sym (append-nil old); next = λ es pairs shows at long possible e there. none }
+pub gains_none : (r : Reading) (load : Load) (index : ℕ) (way : List ℕ) (old : List (List ℕ)) → GainsSome r load index way 0 old (old ++ [])
+gains_none r load index way old = record { more = []; added = refl; next = λ es pairs shows at long possible e there. none }
 
 some_same : {X : Type 0} {u v : X} → Some u ≡ Some v → u ≡ v
 some_same h = cc
@@ -114,15 +113,16 @@ gains_all r load index way i old new past h = record { more = h.more; added = h.
           | inr t ↦ absurd (let p : length (accesses_in es pairs).sources ≡ length (accesses_in es pairs).loads = (proper es pairs).paired in let m : length (map (sources_of es) (filter is_load es)) ≡ length (filter is_load es) = length-map (filter is_load es) (sources_of es) in omega (arith, p, m, lt, t.0))
         ]
 
-pub pushed : (a b : List (Vec ℕ Global)) (v : Vec ℕ Global) (x : List ℕ) (f : Bool) → f ≡ true → b ≡ a ++ v ∷ [] → v.items ≡ x → lists_of b ≡ lists_of a ++ cond f (x ∷ []) []
-pushed a b v x f t e i =
-    ap (λ (l : List (Vec ℕ Global)). lists_of l) e
-    ∙ map-append (λ (u : Vec ℕ Global). u.items) a (v ∷ [])
-    ∙ ap (λ (y : List ℕ). lists_of a ++ y ∷ []) i
-    ∙ sym (ap (λ (g : Bool). lists_of a ++ cond g (x ∷ []) []) t)
+-- a store found, and the one before it is added
+pub pushed : (a b : List (List ℕ)) (way : List ℕ) (last next : Option ℕ) (x : ℕ) (f : Bool) → f ≡ true → next ≡ Some x → b ≡ a ++ nexts (option_to_list last) way → b ++ nexts (option_to_list next) way ≡ (a ++ nexts (option_to_list last) way) ++ cond f ((way ++ x ∷ []) ∷ []) []
+pushed a b way last next x f t n e =
+    ap (λ (l : List (List ℕ)). l ++ nexts (option_to_list next) way) e
+    ∙ ap (λ (o : Option ℕ). (a ++ nexts (option_to_list last) way) ++ nexts (option_to_list o) way) n
+    ∙ sym (ap (λ (g : Bool). (a ++ nexts (option_to_list last) way) ++ cond g ((way ++ x ∷ []) ∷ []) []) t)
 
-pub not_pushed : (a b : List (Vec ℕ Global)) (x : List ℕ) (f : Bool) → f ≡ false → b ≡ a → lists_of b ≡ lists_of a ++ cond f (x ∷ []) []
-not_pushed a b x f t e =
-    ap (λ (l : List (Vec ℕ Global)). lists_of l) e
-    ∙ sym (append-nil (lists_of a))
-    ∙ sym (ap (λ (g : Bool). lists_of a ++ cond g (x ∷ []) []) t)
+pub not_pushed : (a b : List (List ℕ)) (way : List ℕ) (last next : Option ℕ) (x : ℕ) (f : Bool) → f ≡ false → next ≡ last → b ≡ a → b ++ nexts (option_to_list next) way ≡ (a ++ nexts (option_to_list last) way) ++ cond f ((way ++ x ∷ []) ∷ []) []
+not_pushed a b way last next x f t n e =
+    ap (λ (l : List (List ℕ)). l ++ nexts (option_to_list next) way) e
+    ∙ ap (λ (o : Option ℕ). a ++ nexts (option_to_list o) way) n
+    ∙ sym (append-nil (a ++ nexts (option_to_list last) way))
+    ∙ sym (ap (λ (g : Bool). (a ++ nexts (option_to_list last) way) ++ cond g ((way ++ x ∷ []) ∷ []) []) t)

@@ -11,6 +11,7 @@ use Rattle.run_combinations.specs.Lists.{lists_of, tuples, IsFiltered, none, kep
 use Rattle.run_combinations.specs.Events.{numbers, is_load}
 use Rattle.run_combinations.specs.Ways.{Derived, IsWay, IsPossible, nexts, accesses_in}
 use Rattle.run_combinations.specs.Rounds.{Shows, HasDerived, TellsPossible, GainsNext, AreNext, AreOver, HasOver, HasWays, load_event}
+use Rattle.run_combinations.specs.Search.{Tells}
 use Rattle.run_combinations.specs.declared.combination.Event.{Event}
 use Rattle.run_combinations.specs.declared.reading.Reading.{Reading}
 use Rattle.run_combinations.specs.declared.reading.Load.{Load}
@@ -139,14 +140,18 @@ pub over_all : (r : Reading) (limit : ℕ) (ways : List (List ℕ)) → HasWays 
 over_all r limit ways h lt es pairs all shows are =
     subst (λ (l : List (List ℕ)). limit < length l) (IsFiltered-unique (IsWay (accesses_in es pairs)) (tuples [] (accesses_in es pairs).sources) ways all (h es pairs shows) are) lt
 
--- the same of vectors
-pub next_of_all : (r : Reading) (load : Load) (p : ℕ) (vs ws : List (Vec ℕ Global)) (next : List (List ℕ)) → vs ≡ ws → AreNext r load p (length vs) (lists_of vs) next → AreNext r load p (length (lists_of ws)) (lists_of ws) next
-next_of_all r load p vs ws next e h =
-    subst (λ (n : ℕ). AreNext r load p n (lists_of ws) next) (sym (length-map ws (λ v. v.items)))
-    (subst (λ (l : List (Vec ℕ Global)). AreNext r load p (length l) (lists_of l) next) e h)
+-- what is next of all ways, or some are over a limit
+pub told_next : (r : Reading) (load : Load) (p limit : ℕ) (vs : List (Vec ℕ Global)) (next : List (List ℕ)) (b : Bool) → b ≡ true → Tells b (AreNext r load p (length vs) (lists_of vs) next) (AreOver r load p (lists_of vs) limit) → AreNext r load p (length (lists_of vs)) (lists_of vs) next
+told_next r load p limit vs next b t told =
+    subst (λ (n : ℕ). AreNext r load p n (lists_of vs) next) (sym (length-map vs (λ v. v.items)))
+    (subst (λ (c : Bool). Tells c (AreNext r load p (length vs) (lists_of vs) next) (AreOver r load p (lists_of vs) limit)) t told)
 
-pub over_of_all : (r : Reading) (load : Load) (p limit : ℕ) (vs ws : List (Vec ℕ Global)) → vs ≡ ws → AreOver r load p (lists_of vs) limit → AreOver r load p (lists_of ws) limit
-over_of_all r load p limit vs ws e h = subst (λ (l : List (Vec ℕ Global)). AreOver r load p (lists_of l) limit) e h
+pub told_over : (r : Reading) (load : Load) (p limit : ℕ) (vs : List (Vec ℕ Global)) (next : List (List ℕ)) (b : Bool) → b ≡ false → Tells b (AreNext r load p (length vs) (lists_of vs) next) (AreOver r load p (lists_of vs) limit) → AreOver r load p (lists_of vs) limit
+told_over r load p limit vs next b f told = subst (λ (c : Bool). Tells c (AreNext r load p (length vs) (lists_of vs) next) (AreOver r load p (lists_of vs) limit)) f told
+
+-- a vector that was one of the others before
+pub place_is : (vs ws : List (Vec ℕ Global)) (i : ℕ) (v d : Vec ℕ Global) → v ≡ d → d ≡ get_or ws i d → get_or ws i d ≡ get_or vs i d → v ≡ get_or vs i v
+place_is vs ws i v d e f g = e ∙ f ∙ g ∙ ap (λ (u : Vec ℕ Global). get_or vs i u) (sym e)
 
 pub items_at : (vs : List (Vec ℕ Global)) (i : ℕ) (v : Vec ℕ Global) (w : List ℕ) → i < length vs → v ≡ get_or vs i v → w ≡ v.items → w ≡ get_or (lists_of vs) i w
 items_at vs i v w lt is e = e ∙ ap (λ (u : Vec ℕ Global). u.items) is ∙ sym (get_or-map (λ (u : Vec ℕ Global). u.items) vs i v w lt)

@@ -1,9 +1,10 @@
 //! The ways in which the loads of a combination of runs read its stores.
 
-ghost use Rattle.std.specs.Prelude.{◌≡◌, ◌<◌, ◌≤◌, ◌↔◌, ◌⊎◌, ◌++◌, length, Contains, IsTrue, IfOk, OnOk, MatchOption};
+ghost use Rattle.std.specs.Prelude.{◌≡◌, ◌<◌, ◌≤◌, ◌↔◌, ◌⊎◌, ◌++◌, ◌∷◌, [], length, option_to_list, Contains, IsTrue, IfOk, OnOk, MatchOption};
 ghost use Rattle.bit_relations.specs.Relation.{IsMember, IsEvents};
 ghost use Rattle.run_combinations.specs.Rounds.{IsInside, IsMeeting, CanRead, CanArise, WithStores, WithLoads, IsRound, HasDerived, TellsPossible, GainsNext, AreNext, AreOver, HasOver, HasWays, Shows, AreLoads, AreStores};
 ghost use Rattle.run_combinations.specs.Lists.{lists_of};
+ghost use Rattle.run_combinations.specs.Search.{Tells};
 ghost use Rattle.run_combinations.specs.Events.{numbers, is_load, is_store};
 ghost use Rattle.run_combinations.specs.Ways.{may_read};
 ghost use Rattle.run_combinations.specs.Ways as ways;
@@ -11,6 +12,7 @@ ghost use Rattle.run_combinations.specs.Ways as ways;
 use crate::combination::{Action, Event};
 use bit_relations::{EventSet, MAX_EVENTS};
 use std::alloc::{AllocError, Global};
+use std::mem::{replace, swap};
 use thread_runs::is_same;
 
 /// A load with the stores of its location and value.
@@ -215,14 +217,44 @@ fn find_stores(
     Ok(())
 }
 
-/// The front with the rest behind it.
-fn joined(alloc: Global, front: &[u8], rest: &[u8]) -> Result<Vec<u8>, AllocError>
-    ensures { IfOk result (λ v. v.items ≡ front.now ++ rest.now) }
+/// The way with the store behind it, with room for as many stores as the way has room for.
+fn with_store(alloc: Global, way: &Vec<u8>, store: u8) -> Result<Vec<u8>, AllocError>
+    ensures { IfOk result (λ v. v.items ≡ way.now.items ++ store ∷ []) }
 {
-    let mut whole = Vec::with_capacity(alloc, front.len() + rest.len())?;
-    whole.extend_from_slice(front)?;
-    whole.extend_from_slice(rest)?;
+    let mut whole = Vec::with_capacity(alloc, way.capacity())?;
+    whole.extend_from_slice(way)?;
+    whole.push(store)?;
     Ok(whole)
+}
+
+/// Adds a copy of the way with the store behind it, if there is one.
+fn push_copy(
+    alloc: Global,
+    way: &Vec<u8>,
+    store: Option<u8>,
+    longer: &mut Vec<Vec<u8>>,
+) -> Result<(), AllocError>
+    ensures { OnOk result (lists_of longer.new.items ≡ lists_of longer.old.items ++ ways.nexts (option_to_list store) way.now.items) }
+{
+    if let Some(store) = store {
+        longer.push(with_store(alloc, way, store)?)?;
+    }
+    Ok(())
+}
+
+/// Adds the way with the store behind it, if there is one.
+fn push_way(
+    mut way: Vec<u8>,
+    store: Option<u8>,
+    longer: &mut Vec<Vec<u8>>,
+) -> Result<(), AllocError>
+    ensures { OnOk result (lists_of longer.new.items ≡ lists_of longer.old.items ++ ways.nexts (option_to_list store) way.items) }
+{
+    if let Some(store) = store {
+        way.push(store)?;
+        longer.push(way)?;
+    }
+    Ok(())
 }
 
 impl Reading {
@@ -315,42 +347,47 @@ impl Reading {
     fn extend(
         &self,
         alloc: Global,
-        way: &[u8],
+        way: Vec<u8>,
         load: &Load,
         index: usize,
         longer: &mut Vec<Vec<u8>>,
     ) -> Result<(), AllocError>
-        ensures { OnOk result (GainsNext self.now load.now index way.now (lists_of longer.old.items) (lists_of longer.new.items)) }
+        ensures { OnOk result (GainsNext self.now load.now index way.items (lists_of longer.old.items) (lists_of longer.new.items)) }
     {
-        let derived = self.derived(way, Some(index));
+        let derived = self.derived(&way, Some(index));
+        let mut last = None;
         for store in 0..self.count.min(MAX_EVENTS) {
             if has_both(&load.sources, &derived, store) {
-                longer.push(joined(alloc, way, &[store as u8])?)?;
+                push_copy(alloc, &way, last, longer)?;
+                last = Some(store as u8);
             }
         }
+        push_way(way, last, longer)?;
         Ok(())
     }
 
-    /// Each way with each store that the load at `index` can read; `None` where there are over
-    /// `limit`.
-    fn extended(
+    /// Makes `longer` each way with each store that the load at `index` can read, of which the last
+    /// is the way itself; `false` where there are over `limit`.
+    fn extend_all(
         &self,
         alloc: Global,
-        ways: &[Vec<u8>],
+        fronts: &mut Vec<Vec<u8>>,
         load: &Load,
         index: usize,
         limit: usize,
-    ) -> Result<Option<Vec<Vec<u8>>>, AllocError>
-        ensures { IfOk result (λ o. MatchOption o (AreOver self.now load.now index (lists_of ways.now) limit) (λ v. AreNext self.now load.now index (length ways.now) (lists_of ways.now) (lists_of v.items))) }
+        longer: &mut Vec<Vec<u8>>,
+    ) -> Result<bool, AllocError>
+        ensures { IfOk result (λ b. Tells b (AreNext self.now load.now index (length fronts.old.items) (lists_of fronts.old.items) (lists_of longer.new.items)) (AreOver self.now load.now index (lists_of fronts.old.items) limit)) }
     {
-        let mut longer = Vec::with_capacity(alloc, ways.len())?;
-        for way in ways {
-            self.extend(alloc, way, load, index, &mut longer)?;
+        longer.clear();
+        for place in 0..fronts.len() {
+            let way = replace(&mut fronts[place], Vec::new(alloc));
+            self.extend(alloc, way, load, index, longer)?;
             if longer.len() > limit {
-                return Ok(None);
+                return Ok(false);
             }
         }
-        Ok(Some(longer))
+        Ok(true)
     }
 
     /// The ways to read in which what is read and what is needed make no cycle, in lexicographic
@@ -360,14 +397,15 @@ impl Reading {
         ensures { IfOk result (λ o. MatchOption o (HasOver self.now limit) (λ v. HasWays self.now (lists_of v.items) × (length v.items ≤ limit))) }
     {
         let mut ways = Vec::new(alloc);
+        let mut longer = Vec::new(alloc);
         if self.is_possible() {
-            ways.push(Vec::new(alloc))?;
+            ways.push(Vec::with_capacity(alloc, self.loads.len())?)?;
         }
         for (index, load) in self.loads.iter().enumerate() {
-            match self.extended(alloc, &ways, load, index, limit)? {
-                Some(longer) => ways = longer,
-                None => return Ok(None),
+            if !self.extend_all(alloc, &mut ways, load, index, limit, &mut longer)? {
+                return Ok(None);
             }
+            swap(&mut ways, &mut longer);
         }
         if ways.len() > limit {
             return Ok(None);

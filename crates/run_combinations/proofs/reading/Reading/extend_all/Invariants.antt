@@ -1,0 +1,12 @@
+use Rattle.std.proofs.Common.{ℕ, ◌≡◌, ◌≤◌, Vec, length, slice_index_or}
+use Rattle.std.specs.declared.alloc.Global.{Global}
+use Rattle.run_combinations.specs.Lists.{lists_of}
+use Rattle.run_combinations.specs.Rounds.{AreNext}
+use Rattle.run_combinations.proofs.reading.Reading.extend_all.Given as goal
+
+abbrev pub invariant-loop-place : goal.invariant-loop-place
+invariant-loop-place l = record {
+  next : AreNext l.self l.load l.index l.place (lists_of l.initial.fronts.items) (lists_of l.longer.items);
+  many : length l.fronts.items ≡ length l.initial.fronts.items;
+  rest : (k : ℕ) (d : Vec ℕ Global) → l.place ≤ k → slice_index_or l.fronts.items k d ≡ slice_index_or l.initial.fronts.items k d;
+}
