@@ -15,7 +15,6 @@ use crate::evaluator::Evaluator;
 use crate::keeper::Keeper;
 use crate::machine::Machine;
 use crate::names::Names;
-use crate::needs::Needs;
 use crate::runs::{has_many, visit_runs};
 use crate::seen::{NamedColumn, Seen};
 use crate::steady::{is_as_before, steady_after};
@@ -133,7 +132,7 @@ fn asked_answers<'a>(
         inputs,
         kept,
         keeper,
-        answers: Vec::new(alloc),
+        answers: Vec::with_capacity(alloc, space.len())?,
         known: None,
         until: 0,
     };
@@ -210,9 +209,10 @@ impl Evaluator {
         ensures over { IsOver self.new space.now }
         ensures answers { item.now.role ≡ Role.Check check.now → IfOk result (λ v. (all : List Bool) × AreAnswers check.now inputs.now (candidates_in space.now.combinations.items) all × AreWhere (is_asked_at kept.entry) all v.items) }
     {
-        let needs = Needs::of(alloc, item)?;
-        self.table.need(alloc, &mut self.base, space, &needs.names)?;
-        let named = self.table.named(alloc, &needs.names)?;
+        self.needs.replace_by(item)?;
+        self.table
+            .need(alloc, &mut self.base, space, &self.needs.names)?;
+        let named = self.table.named(alloc, &self.needs.names)?;
         if has_many(space) {
             let slots = &mut self.slots;
             let answers = asked_answers(alloc, check, inputs, kept, &named, space, slots)?;
@@ -222,7 +222,7 @@ impl Evaluator {
             check,
             inputs,
             kept,
-            answers: Vec::new(alloc),
+            answers: Vec::with_capacity(alloc, space.len())?,
             known: None,
             steady: 0,
         };

@@ -18,6 +18,8 @@ use std::alloc::{AllocError, Global};
 pub struct Evaluator {
     pub(crate) base: Base,
     pub(crate) table: Table,
+    /// What the present item needs of a candidate.
+    pub(crate) needs: Needs,
     pub(crate) machine: Machine,
     /// Relations whose memory is used again.
     pub(crate) slots: Vec<Rel>,
@@ -31,6 +33,7 @@ impl Evaluator {
         Evaluator {
             base: Base::empty(alloc),
             table: Table::new(alloc),
+            needs: Needs::none(alloc),
             machine: Machine::new(alloc),
             slots: Vec::new(alloc),
         }
@@ -48,12 +51,13 @@ impl Evaluator {
         requires { IsOver self.old space.now }
         ensures { IsOver self.new space.now }
     {
-        let mut needs = Needs::none(alloc);
+        self.needs.clear();
         for index in indexes {
             if *index < items.len() {
-                needs.add_item(&items[*index])?;
+                self.needs.add_item(&items[*index])?;
             }
         }
-        self.table.need(alloc, &mut self.base, space, &needs.names)
+        self.table
+            .need(alloc, &mut self.base, space, &self.needs.names)
     }
 }

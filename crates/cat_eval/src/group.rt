@@ -21,7 +21,6 @@ use crate::column::Column;
 use crate::evaluator::Evaluator;
 use crate::keeper::Keeper;
 use crate::machine::Machine;
-use crate::needs::Needs;
 use crate::runs::{has_many, visit_runs};
 use crate::seen::{NamedColumn, Seen};
 use crate::solver::Solver;
@@ -307,9 +306,10 @@ impl Evaluator {
     {
         match &item.role {
             Role::Group { recursive, bodies } => {
-                let needs = Needs::of(alloc, item)?;
-                self.table.need(alloc, &mut self.base, space, &needs.names)?;
-                let named = self.table.named(alloc, &needs.names)?;
+                self.needs.replace_by(item)?;
+                self.table
+                    .need(alloc, &mut self.base, space, &self.needs.names)?;
+                let named = self.table.named(alloc, &self.needs.names)?;
                 if keeps_steps(*recursive, space) {
                     let columns = plain_columns(
                         alloc,

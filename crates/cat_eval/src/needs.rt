@@ -1,6 +1,6 @@
 //! Which predefined names an item uses, and what they change with.
 
-ghost use Rattle.std.specs.Prelude.{◌≡◌, ◌++◌, ◌∷◌, ◌||◌, [], IfOk, OnOk, IsTrue, Contains};
+ghost use Rattle.std.specs.Prelude.{◌≡◌, ◌++◌, ◌∷◌, ◌||◌, [], false, OnOk, IsTrue, Contains};
 ghost use Rattle.cat_values.specs.declared.predefined.Predefined.{Predefined};
 ghost use Rattle.cat_eval.specs.Needs.{AreSuited, is_changing_name};
 ghost use Rattle.cat_eval.specs.Needed.{changes_with_reads, changes_with_orders, step_passes, steps_read, steps_order, bodies_read, bodies_order, role_reads, role_orders, step_names, names_in, bodies_names, role_names, AreListed};
@@ -79,31 +79,36 @@ impl Needs {
         changes_with_reads(name) || changes_with_orders(name)
     }
 
+    /// Makes these the needs of an item alone, in the memory of those before.
+    pub(crate) fn replace_by(&mut self, item: &ResolvedItem) -> Result<(), AllocError>
+        ensures changes { OnOk result ((self.new.reads ≡ role_reads item.now.role) × (self.new.orders ≡ role_orders item.now.role)) }
+        ensures names { OnOk result (AreListed self.new.names.items (role_names item.now.role)) }
+    {
+        self.clear();
+        self.add_item(item)?;
+        Ok(())
+    }
+
+    /// Takes all needs away.
+    pub(crate) fn clear(&mut self)
+        ensures names { self.new.names.items ≡ [] }
+        ensures changes { (self.new.reads ≡ false) × (self.new.orders ≡ false) }
+    {
+        self.names.clear();
+        self.reads = false;
+        self.orders = false;
+    }
+
     /// Adds what an item needs.
-    pub(crate) fn add_item(&mut self, item: &ResolvedItem) -> Result<(), AllocError> {
+    pub(crate) fn add_item(&mut self, item: &ResolvedItem) -> Result<(), AllocError>
+        ensures changes { OnOk result ((self.new.reads ≡ (self.old.reads || role_reads item.now.role)) × (self.new.orders ≡ (self.old.orders || role_orders item.now.role))) }
+        ensures names { OnOk result (AreListed self.new.names.items (self.old.names.items ++ role_names item.now.role)) }
+    {
         match &item.role {
             Role::Group { bodies, .. } => self.add_bodies(bodies),
             Role::Check(check) => self.add_all(&check.code.steps),
             Role::Silent => Ok(()),
         }
-    }
-
-    /// What an item needs.
-    pub(crate) fn of(alloc: Global, item: &ResolvedItem) -> Result<Needs, AllocError>
-        ensures changes { IfOk result (λ needs. (needs.reads ≡ role_reads item.now.role) × (needs.orders ≡ role_orders item.now.role)) }
-        ensures names { IfOk result (λ needs. AreListed needs.names.items (role_names item.now.role)) }
-    {
-        let mut needs = Needs {
-            names: Vec::new(alloc),
-            reads: false,
-            orders: false,
-        };
-        match &item.role {
-            Role::Group { bodies, .. } => needs.add_bodies(bodies)?,
-            Role::Check(check) => needs.add_all(&check.code.steps)?,
-            Role::Silent => {}
-        }
-        Ok(needs)
     }
 
     /// Adds what the bodies of a group need.
