@@ -1,5 +1,5 @@
 -- Blocks of columns, and names that are found in them.
-use Rattle.std.proofs.Common.{ℕ, ◌≡◌, ◌<◌, ◌+◌, ◌⊎◌, ◌++◌, inl, inr, zero, suc, Bool, true, false, List, [], ◌∷◌, Vec, Global, length, length-append, get_or, Contains, sym, subst, refl, arith}
+use Rattle.std.proofs.Common.{ℕ, ◌≡◌, ◌<◌, ◌⊎◌, ◌++◌, inl, inr, zero, suc, Bool, true, false, List, [], ◌∷◌, Vec, Global, length, length-append, get_or, Contains, sym, subst, refl, arith}
 use Rattle.std.proofs.lemmas.List.{get_or_append_left}
 use Rattle.std.proofs.lemmas.List.Elements.{Contains-append_cases}
 use Rattle.std.proofs.Math.Seq.{get_or-append_seam}

@@ -212,10 +212,13 @@ impl Evaluator {
         self.needs.replace_by(item)?;
         self.table
             .need(alloc, &mut self.base, space, &self.needs.names)?;
-        let named = self.table.named(alloc, &self.needs.names)?;
+        let none = Column::of_sets(alloc);
+        let mut named = NamedColumn::none(alloc, &none);
+        self.table.list(&self.needs.names, &mut named)?;
         if has_many(space) {
             let slots = &mut self.slots;
-            let answers = asked_answers(alloc, check, inputs, kept, &named, space, slots)?;
+            let named = named.as_slice();
+            let answers = asked_answers(alloc, check, inputs, kept, named, space, slots)?;
             return Ok(answers);
         }
         let mut run = CheckRun {
@@ -226,7 +229,7 @@ impl Evaluator {
             known: None,
             steady: 0,
         };
-        visit_all(&named, space, &mut self.machine, &mut run)?;
+        visit_all(named.as_slice(), space, &mut self.machine, &mut run)?;
         Ok(run.answers)
     }
 }

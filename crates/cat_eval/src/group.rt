@@ -309,13 +309,15 @@ impl Evaluator {
                 self.needs.replace_by(item)?;
                 self.table
                     .need(alloc, &mut self.base, space, &self.needs.names)?;
-                let named = self.table.named(alloc, &self.needs.names)?;
+                let none = Column::of_sets(alloc);
+                let mut named = NamedColumn::none(alloc, &none);
+                self.table.list(&self.needs.names, &mut named)?;
                 if keeps_steps(*recursive, space) {
                     let columns = plain_columns(
                         alloc,
                         bodies,
                         inputs,
-                        &named,
+                        named.as_slice(),
                         space,
                         &mut self.slots,
                     )?;
@@ -329,7 +331,7 @@ impl Evaluator {
                     columns: columns_of(alloc, bodies)?,
                     steady: 0,
                 };
-                visit_all(&named, space, &mut self.machine, &mut run)?;
+                visit_all(named.as_slice(), space, &mut self.machine, &mut run)?;
                 Ok(run.columns)
             }
             Role::Check(_) | Role::Silent => Ok(Vec::new(alloc)),

@@ -9,6 +9,7 @@ mod body_run;
 mod check;
 mod column;
 mod evaluator;
+mod few;
 mod group;
 mod keeper;
 mod link;

@@ -1,13 +1,15 @@
 //! The predefined names that an item uses, as they are in one candidate.
 
-ghost use Rattle.std.specs.Prelude.{◌≡◌, ℕ, ◌≤◌, ◌↔◌, map};
+ghost use Rattle.std.specs.Prelude.{◌≡◌, ℕ, ◌≤◌, ◌↔◌, [], map};
 ghost use Rattle.bit_relations.specs.Relation.{IsRelation, IsEvents};
 ghost use Rattle.cat_eval.specs.Named.{InputEvents, InputPairs};
 ghost use Rattle.cat_eval.specs.Seen.{EventsOf, PairsOf, EventsAmong, PairsAmong, seen, value_at};
 
 use crate::column::Column;
+use crate::few::Few;
 use bit_relations::{EventSet, Rel};
 use cat_values::Predefined;
+use std::alloc::Global;
 use std::marker::Model;
 
 /// A predefined name, and what it stands for in each candidate.
@@ -15,6 +17,21 @@ use std::marker::Model;
 pub(crate) struct NamedColumn<'a> {
     pub(crate) name: Predefined,
     pub(crate) column: &'a Column,
+}
+
+impl<'a> NamedColumn<'a> {
+    /// No name. A column is given all the same, which no name is looked up in.
+    pub(crate) fn none(alloc: Global, column: &'a Column) -> Few<NamedColumn<'a>>
+        ensures { result ≡ [] }
+    {
+        Few::new(
+            alloc,
+            NamedColumn {
+                name: Predefined::Loads,
+                column,
+            },
+        )
+    }
 }
 
 /// The predefined names that an item uses, as they are in one candidate. Contracts see the number of its events, and

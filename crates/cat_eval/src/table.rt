@@ -13,6 +13,7 @@ ghost use Rattle.cat_eval.specs.Tables.{IsColumnOf, IsBlock, AreBlocks, HasName,
 ghost use Rattle.cat_eval.specs.Values.{IsFor, column_len};
 
 use crate::column::Column;
+use crate::few::Few;
 use crate::needs::{Needs, changes_with_orders};
 use crate::seen::NamedColumn;
 use crate::walk::{Enter, enter_space};
@@ -217,6 +218,18 @@ impl Table {
         self.column(name).is_some()
     }
 
+    /// Whether all these names are there.
+    fn has_all(&self, names: &[Predefined]) -> bool
+        ensures { IsTrue result → (name : _) → Contains names.now name → HasName self.now.blocks.items name }
+    {
+        for name in names {
+            if !self.has(*name) {
+                return false;
+            }
+        }
+        true
+    }
+
     /// Whether a name is not there, of those that change with reads-from or coherence or of the others.
     fn lacks(&self, name: Predefined, is_changing: bool) -> bool
         ensures { result ≡ false → is_changing_name name ≡ is_changing → HasName self.now.blocks.items name }
@@ -287,21 +300,24 @@ impl Table {
         ensures right { AreBlocks self.old.blocks.items (candidates_in space.now.combinations.items) → AreBlocks self.new.blocks.items (candidates_in space.now.combinations.items) }
         ensures there { OnOk result ((name : _) → Contains names.now name → HasName self.new.blocks.items name) }
     {
+        if self.has_all(names) {
+            return Ok(());
+        }
         self.need_some(alloc, base, space, names, false)?;
         self.need_some(alloc, base, space, names, true)?;
         Ok(())
     }
 
-    /// These names with their columns, of those that are there.
-    pub(crate) fn named(
-        &self,
-        alloc: Global,
+    /// Lists these names with their columns, of those that are there.
+    pub(crate) fn list<'a>(
+        &'a self,
         names: &[Predefined],
-    ) -> Result<Vec<NamedColumn>, AllocError>
-        ensures columns { IfOk result (λ v. (candidates : List Candidate) → AreBlocks self.now.blocks.items candidates → AreColumnsFor v.items candidates) }
-        ensures all { IfOk result (λ v. (name : _) → Contains names.now name → HasName self.now.blocks.items name → Contains (column_names v.items) name) }
+        named: &mut Few<NamedColumn<'a>>,
+    ) -> Result<(), AllocError>
+        requires { named.old ≡ [] }
+        ensures columns { OnOk result ((candidates : List Candidate) → AreBlocks self.now.blocks.items candidates → AreColumnsFor named.new candidates) }
+        ensures all { OnOk result ((name : _) → Contains names.now name → HasName self.now.blocks.items name → Contains (column_names named.new) name) }
     {
-        let mut named = Vec::with_capacity(alloc, names.len())?;
         for name in names {
             if let Some(column) = self.column(*name) {
                 named.push(NamedColumn {
@@ -310,6 +326,6 @@ impl Table {
                 })?;
             }
         }
-        Ok(named)
+        Ok(())
     }
 }

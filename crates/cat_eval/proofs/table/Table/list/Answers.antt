@@ -6,8 +6,8 @@ use Rattle.cat_values.specs.declared.predefined.Predefined.TheVariants as names
 use Rattle.cat_eval.specs.declared.seen.NamedColumn.{NamedColumn}
 use Rattle.cat_eval.specs.Tables.{HasName, column_names}
 use Rattle.cat_eval.proofs.Blocks.{found_more, columns_with}
-use Rattle.cat_eval.proofs.table.Table.named.Goals as goal
-use Rattle.cat_eval.proofs.table.Table.named.Goals.{in-Some+in_ok-push, in_default}
+use Rattle.cat_eval.proofs.table.Table.list.Goals as goal
+use Rattle.cat_eval.proofs.table.Table.list.Goals.{in-Some+in_ok-push, in_default}
 
 pub loop-name-preserved : goal.loop-name-preserved
 loop-name-preserved c =
@@ -15,14 +15,14 @@ loop-name-preserved c =
     let index = c.loop-name.name-index in
     let name : Predefined = get_or xs index names.Loads in
     let blocks = c.args.self.now.blocks.items in
-    let old = c.loop-name.named.items in
+    let old = c.loop-name.named in
     let before = c.loop-name.invariant in
     let more : take (index + 1) xs ≡ take index xs ++ name ∷ [] = take_more xs index names.Loads c.loop-name-test.true in
     rw more (elim c.match-column.branch [
       | in-Some+in_ok-push w ↦
           let one : NamedColumn = record { name = name; column = w.in-Some.column } in
           let grown : column_names (old ++ one ∷ []) ≡ column_names old ++ name ∷ [] = map-append (λ (x : NamedColumn). x.name) old (one ∷ []) in
-          rw (w.named-is, w.in_ok-push.ensures.items) (
+          rw (w.named-is, w.in_ok-push.ensures.added) (
             (λ candidates right. columns_with old one candidates (before.0 candidates right) (w.in-Some.ensures.1 candidates right)),
             found_more (λ x. HasName blocks x) (column_names old) (column_names (old ++ one ∷ [])) (take index xs) name
                 (λ x inside. rw grown (Contains-append_left (column_names old) (name ∷ []) x inside))
