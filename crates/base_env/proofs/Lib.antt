@@ -8,6 +8,5 @@ pub mod Lookups
 pub mod Meant
 pub mod Covering
 pub mod Every
-pub mod Facts
 pub mod Rising
 pub mod Tails

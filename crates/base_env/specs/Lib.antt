@@ -1,5 +1,4 @@
 pub mod Candidate
-pub mod Environment
 pub mod Events
 pub mod Known
 pub mod Names

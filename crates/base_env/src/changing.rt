@@ -6,7 +6,7 @@ ghost use Rattle.base_env.specs.Events.{Below, ReadsFrom, Source, Coherence, Coh
 
 use crate::fixed::{is_read, location_of, put};
 use bit_relations::Rel;
-use candidates::Event;
+use run_combinations::Event;
 
 /// Adds the pair of the load and the store at an index of the list of stores that are read.
 fn put_source(target: &mut Rel, sources: &[u8], next: usize, load: usize)

@@ -6,9 +6,9 @@ ghost use Rattle.base_env.specs.Events.{location_of, IsSameLocation, IsSameThrea
 ghost use Rattle.base_env.specs.Names.{Fixed};
 
 use bit_relations::Rel;
-use candidates::{Action, Combination, Event};
 use cat_values::Predefined;
 use litmus_values::Fence;
+use run_combinations::{Action, Combination, Event};
 
 /// Adds a pair of events, if the relation can have it.
 pub fn put(target: &mut Rel, from: usize, to: usize)

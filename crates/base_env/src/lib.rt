@@ -4,11 +4,9 @@
 #![tactic(auto)]
 
 mod changing;
-mod env;
 mod fixed;
 mod names;
 mod reordering;
 mod sets;
 
-pub use env::{BaseEnv, base};
 pub use names::Base;

@@ -13,8 +13,8 @@ use crate::fixed::write_fixed;
 use crate::reordering::write_next_order;
 use crate::sets::set_of;
 use bit_relations::{EventSet, Rel};
-use candidates::Combination;
 use cat_values::{PREDEFINED, Predefined};
+use run_combinations::Combination;
 use std::alloc::{AllocError, Global};
 use std::marker::Model;
 

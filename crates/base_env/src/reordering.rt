@@ -7,7 +7,7 @@ ghost use Rattle.base_env.specs.Orders.{StandsFrom, CoherenceSince, IsTail};
 
 use crate::changing::{put_later, write_order};
 use bit_relations::{EventSet, Rel};
-use candidates::Event;
+use run_combinations::Event;
 
 /// Behind a beginning of which more stores stand than these, coherence is written anew.
 const MOST_BEHIND: usize = 16;

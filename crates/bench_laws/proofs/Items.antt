@@ -9,8 +9,8 @@ use Rattle.binding_kinds.specs.declared.scope.Input.{Input}
 use Rattle.binding_graph.specs.declared.resolved.ResolvedItem.{ResolvedItem}
 use Rattle.binding_graph.specs.declared.resolved.Role.{Role}
 use Rattle.binding_graph.specs.declared.resolved.Role.TheVariants as roles
-use Rattle.node_values.specs.Items.{RoleContent, Group, Check, Silent, role_content}
-use Rattle.node_values.specs.Naming.{names_in, number_of}
+use Rattle.shared_items.specs.Items.{RoleContent, Group, Check, Silent, role_content}
+use Rattle.shared_items.specs.Naming.{names_in, number_of}
 use Rattle.bench_nodes.specs.declared.table.SlotKey.{SlotKey}
 use Rattle.bench_nodes.specs.declared.table.SlotKey.TheVariants as slots
 use Rattle.bench_nodes.specs.Nodes.{has_slot, slot_keys}

@@ -27,10 +27,10 @@ use Rattle.bench_nodes.specs.declared.table.TestRow.{TestRow}
 use Rattle.bench_nodes.specs.Nodes.{used, key_at, keys_at, slot_keys, thread_parts, row_of, row_parts}
 use Rattle.bench_nodes.proofs.Laws.{used_by}
 use Rattle.node_values.specs.Givens.{GivenContent, ForSpace, ForItem, ForVerdict, ForFault, asked, faulted}
-use Rattle.node_values.specs.Items.{role_content}
+use Rattle.shared_items.specs.Items.{role_content}
 use Rattle.node_values.specs.Makes.{output_names}
-use Rattle.node_values.specs.Naming.{names_in, body_names, number_of, IsNamed, AreNamed}
-use Rattle.node_values.proofs.Naming.{number_tells}
+use Rattle.shared_items.specs.Naming.{names_in, body_names, number_of, IsNamed, AreNamed}
+use Rattle.shared_items.proofs.Naming.{number_tells}
 use Rattle.node_values.specs.Parts.{parts_of}
 use Rattle.node_laws.specs.Solved.{is_node, flag_name, flag_names}
 use Rattle.model_slots.specs.Slots.{name_of as bound_name, number_at, function_key, name_key, space_key, item_keys, flag_key, answer_key, keys_by, verdict_keys}

@@ -11,7 +11,7 @@ use Rattle.memo_core.specs.Graph.{input_nodes}
 use Rattle.memo_core.specs.Right.{IsSamePart, IsUntouchedBy}
 use Rattle.memo_core.specs.Step.{Has}
 use Rattle.binding_kinds.specs.declared.fault.ModelFault.{ModelFault}
-use Rattle.node_values.specs.Items.{RoleContent, Group, Check, Silent}
+use Rattle.shared_items.specs.Items.{RoleContent, Group, Check, Silent}
 use Rattle.bench_nodes.specs.declared.table.SlotKey.{SlotKey}
 use Rattle.bench_nodes.specs.declared.table.SlotKey.TheVariants as slots
 use Rattle.bench_nodes.specs.declared.table.TestRow.{TestRow}

@@ -6,7 +6,7 @@ use Rattle.memo_core.specs.Right.{IsUntouchedBy}
 use Rattle.memo_core.specs.Step.{Has}
 use Rattle.binding_kinds.specs.declared.scope.Input.{Input}
 use Rattle.binding_graph.specs.declared.resolved.ResolvedItem.{ResolvedItem}
-use Rattle.node_values.specs.Items.{RoleContent, role_content}
+use Rattle.shared_items.specs.Items.{RoleContent, role_content}
 use Rattle.bench_nodes.specs.Nodes.{part_stamp, used, has_test, space_keys}
 use Rattle.model_slots.specs.Slots.{number_at}
 use Rattle.model_slots.specs.Tables.{ModelReading, Sound, Faulty}

@@ -17,7 +17,7 @@ use Rattle.binding_graph.specs.declared.resolved.Role.TheVariants as roles
 use Rattle.binding_graph.specs.Reach.{AreReached}
 use Rattle.binding_graph.specs.Resolved.{AreResolved}
 use Rattle.bench_nodes.specs.declared.table.TestRow.{TestRow}
-use Rattle.node_values.specs.Naming.{number_of}
+use Rattle.shared_items.specs.Naming.{number_of}
 use Rattle.model_slots.specs.Slots.{number_at, input_name}
 use Rattle.model_slots.specs.Tables.{ModelReading, Sound, Faulty}
 use Rattle.slot_laws.specs.Closed.{predefined_names}

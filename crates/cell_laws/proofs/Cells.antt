@@ -19,7 +19,7 @@ use Rattle.memo_core.specs.Graph.{Memo, Net, at, input_nodes}
 use Rattle.memo_core.specs.Right as core
 use Rattle.memo_graph.specs.FromScratch.{IsFaultless, AreItemsOf, IsFromScratch}
 use Rattle.node_values.specs.Givens.{GivenContent, asked, ForSpace, ForItem, ForVerdict}
-use Rattle.node_values.specs.Items.{role_content}
+use Rattle.shared_items.specs.Items.{role_content}
 use Rattle.node_values.specs.Makes.{Makes, output_names, refused}
 use Rattle.node_values.specs.Values.{NodeContent, OfOutcome}
 use Rattle.node_laws.specs.Solved.{Table, IsValueOf, IsSolvedItem, Cell, IsSolved, is_node, flag_names, answers_in}

@@ -16,7 +16,7 @@ use Rattle.memo_core.specs.Laws.{IsUsedClosed}
 use Rattle.memo_core.specs.Right as core
 use Rattle.memo_core.specs.Step.{Has}
 use Rattle.node_values.specs.Givens.{GivenContent, asked, faulted, ForSpace, ForItem, ForVerdict, ForFault}
-use Rattle.node_values.specs.Items.{role_content}
+use Rattle.shared_items.specs.Items.{role_content}
 use Rattle.node_values.specs.Makes.{output_names}
 use Rattle.node_values.specs.Parts.{SpacePartsContent, HasParts}
 use Rattle.node_values.specs.Values.{NodeContent, OfOutcome}

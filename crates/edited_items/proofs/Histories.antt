@@ -4,10 +4,10 @@ use Rattle.std.proofs.lemmas.Bool.Decides.{eqb_tells}
 use Rattle.std.proofs.lemmas.List.{append-nil}
 use Rattle.std.proofs.lemmas.Option.{none-some}
 use Rattle.memo_core.specs.declared.keys.Kind.{Kind}
-use Rattle.node_values.specs.declared.items.SharedItem.{SharedItem}
-use Rattle.node_values.specs.Items.{RoleContent, shared_role, shared_history, held_history}
-use Rattle.node_values.specs.Naming.{AreNamed, with_role_names}
-use Rattle.node_values.proofs.Naming.{all_named, grown_begins, grown_stays}
+use Rattle.shared_items.specs.declared.items.SharedItem.{SharedItem}
+use Rattle.shared_items.specs.Items.{RoleContent, shared_role, shared_history, held_history}
+use Rattle.shared_items.specs.Naming.{AreNamed, with_role_names}
+use Rattle.shared_items.proofs.Naming.{all_named, grown_begins, grown_stays}
 use Rattle.bench_nodes.specs.declared.table.ItemRow.{ItemRow}
 use Rattle.stamped_parts.specs.Contents.{PartContent, OfRole, role_part, item_content, part_history}
 use Rattle.edited_tables.specs.Stamps.{next_number}

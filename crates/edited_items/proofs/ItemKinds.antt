@@ -17,7 +17,7 @@ use Rattle.binding_graph.specs.declared.resolved.Role.{Role}
 use Rattle.binding_graph.specs.declared.resolved.Role.TheVariants as roles
 use Rattle.binding_graph.specs.Usages.{Usage, usages_after}
 use Rattle.binding_graph.specs.Resolved.{IsGroupRole, IsCheckRole, IsResolvedIn, AreResolved}
-use Rattle.node_values.specs.declared.items.SharedItem.{SharedItem}
+use Rattle.shared_items.specs.declared.items.SharedItem.{SharedItem}
 use Rattle.bench_nodes.specs.declared.table.ItemRow.{ItemRow}
 use Rattle.stamped_parts.specs.States.{is_kind}
 use Rattle.edited_tables.specs.Stamps.{next_number}

@@ -6,9 +6,9 @@ use Rattle.cat_values.specs.declared.model.Item.{Item}
 use Rattle.binding_graph.specs.declared.resolved.ResolvedItem.{ResolvedItem}
 use Rattle.std.proofs.lemmas.Bool.Decides.{eqb_tells}
 use Rattle.memo_core.specs.declared.keys.Kind.{Kind}
-use Rattle.node_values.specs.declared.items.SharedItem.{SharedItem}
-use Rattle.node_values.specs.Items.{RoleContent, role_content, shared_role, shared_history}
-use Rattle.node_values.specs.Naming.{with_role_names}
+use Rattle.shared_items.specs.declared.items.SharedItem.{SharedItem}
+use Rattle.shared_items.specs.Items.{RoleContent, role_content, shared_role, shared_history}
+use Rattle.shared_items.specs.Naming.{with_role_names}
 use Rattle.bench_nodes.specs.declared.table.ItemRow.{ItemRow}
 use Rattle.bench_nodes.specs.Nodes.{item_stamp}
 use Rattle.stamped_parts.specs.Built.{IsStamp, IsItemRow}

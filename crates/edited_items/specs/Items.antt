@@ -12,9 +12,9 @@ use Rattle.cat_values.specs.Value.{Clause, Binding, Function, Checking, Flagging
 use Rattle.cat_values.specs.Values.{clause_of}
 use Rattle.binding_graph.specs.declared.resolved.Resolved.{Resolved}
 use Rattle.binding_graph.specs.declared.resolved.ResolvedItem.{ResolvedItem}
-use Rattle.node_values.specs.declared.items.SharedItem.{SharedItem}
-use Rattle.node_values.specs.Items.{RoleContent, role_content}
-use Rattle.node_values.specs.Naming.{with_role_names}
+use Rattle.shared_items.specs.declared.items.SharedItem.{SharedItem}
+use Rattle.shared_items.specs.Items.{RoleContent, role_content}
+use Rattle.shared_items.specs.Naming.{with_role_names}
 use Rattle.bench_nodes.specs.declared.table.ItemRow.{ItemRow}
 use Rattle.bench_nodes.specs.Nodes.{item_stamp}
 use Rattle.stamped_parts.specs.Contents.{PartContent, OfRole, role_part, item_content, part_history}

@@ -9,8 +9,8 @@ use Rattle.binding_graph.specs.declared.resolved.ResolvedItem.{ResolvedItem}
 use Rattle.binding_graph.specs.declared.resolved.Role.{Role}
 use Rattle.binding_graph.specs.declared.resolved.Role.TheVariants as resolved_roles
 use Rattle.binding_graph.specs.Resolved.{AreResolved}
-use Rattle.node_values.specs.declared.items.SharedItem.{SharedItem}
-use Rattle.node_values.specs.Items.{RoleContent, role_content}
+use Rattle.shared_items.specs.declared.items.SharedItem.{SharedItem}
+use Rattle.shared_items.specs.Items.{RoleContent, role_content}
 use Rattle.bench_nodes.specs.declared.table.ItemRow.{ItemRow}
 use Rattle.bench_nodes.specs.Nodes.{item_stamp}
 use Rattle.stamped_parts.specs.Contents.{PartContent, OfRole, State, item_content}

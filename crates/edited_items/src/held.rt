@@ -5,7 +5,7 @@ ghost use Rattle.bench_nodes.specs.Nodes.{item_stamp};
 ghost use Rattle.stamped_parts.specs.Contents.{item_content};
 ghost use Rattle.edited_items.specs.Held.{held_part};
 
-use node_values::SharedItem;
+use shared_items::SharedItem;
 use stamped_parts::Parts;
 use std::alloc::AllocError;
 

@@ -3,7 +3,7 @@
 ghost use Rattle.std.specs.Prelude.{◌≡◌, ◌∷◌, ◌++◌, [], List, Option, IfOk, OnOk, Some, option_map};
 ghost use Rattle.std.specs.Arc.{arc_value};
 ghost use Rattle.cat_values.specs.Values.{clause_of};
-ghost use Rattle.node_values.specs.Items.{RoleContent};
+ghost use Rattle.shared_items.specs.Items.{RoleContent};
 ghost use Rattle.stamped_parts.specs.Contents.{role_part};
 ghost use Rattle.edited_tables.specs.Stamps.{IsStampOf};
 ghost use Rattle.edited_items.specs.Held.{held_part};
@@ -14,7 +14,8 @@ use bench_nodes::ItemRow;
 use binding_graph::Resolved;
 use cat_values::Item;
 use memo_core::keys::Kind;
-use node_values::{SharedItem, same_role};
+use node_values::same_role;
+use shared_items::SharedItem;
 use stamped_parts::Parts;
 use std::alloc::{AllocError, Global};
 use std::sync::Arc;

@@ -11,8 +11,8 @@ use Rattle.binding_kinds.specs.Value.{clause_of}
 use Rattle.binding_kinds.specs.declared.fault.ModelFault.{ModelFault}
 use Rattle.binding_graph.specs.declared.resolved.ResolvedItem.{ResolvedItem}
 use Rattle.memo_core.specs.Step.{Has}
-use Rattle.node_values.specs.declared.items.SharedItem.{SharedItem}
-use Rattle.node_values.specs.Items.{held_history}
+use Rattle.shared_items.specs.declared.items.SharedItem.{SharedItem}
+use Rattle.shared_items.specs.Items.{held_history}
 use Rattle.bench_texts.proofs.Lists.{map-remove}
 use Rattle.bench_texts.specs.BenchTexts.{put_at}
 use Rattle.bench_texts.specs.Held.{IsRead}

@@ -5,7 +5,7 @@ use Rattle.std.proofs.lemmas.Bool.Decides.{eqb_tells}
 use Rattle.litmus_values.specs.declared.test.Test.{Test}
 use Rattle.ppc_semantics.specs.Lowering.{AreNames, test_names}
 use Rattle.binding_kinds.specs.declared.fault.ModelFault.{ModelFault}
-use Rattle.node_values.specs.declared.items.SharedItem.{SharedItem}
+use Rattle.shared_items.specs.declared.items.SharedItem.{SharedItem}
 use Rattle.bench_texts.proofs.Lists.{map-remove}
 use Rattle.bench_texts.specs.BenchTexts.{put_at}
 use Rattle.bench_texts.specs.Replacements.{tests_with, models_with}

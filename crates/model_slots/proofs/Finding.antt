@@ -3,8 +3,8 @@ use Rattle.std.proofs.Common.{ℕ, zero, suc, ◌+◌, ◌<◌, ◌≤◌, ◌�
 use Rattle.std.proofs.lemmas.Bool.{cases_lt}
 use Rattle.std.proofs.lemmas.List.{drop_all}
 use Rattle.binding_graph.specs.declared.resolved.Body.{Body}
-use Rattle.node_values.specs.Naming.{body_names}
-use Rattle.node_values.specs.declared.items.SharedItem.{SharedItem}
+use Rattle.shared_items.specs.Naming.{body_names}
+use Rattle.shared_items.specs.declared.items.SharedItem.{SharedItem}
 use Rattle.bench_nodes.specs.declared.table.ItemRow.{ItemRow}
 use Rattle.model_slots.specs.Slots.{item_history}
 

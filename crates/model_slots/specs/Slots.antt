@@ -8,9 +8,9 @@ use Rattle.binding_kinds.specs.declared.scope.Input.{Input}
 use Rattle.binding_graph.specs.declared.resolved.ResolvedItem.{ResolvedItem}
 use Rattle.binding_graph.specs.declared.resolved.Role.{Role}
 use Rattle.binding_graph.specs.declared.resolved.Role.TheVariants as roles
-use Rattle.node_values.specs.Items.{held_history, role_content}
-use Rattle.node_values.specs.Naming.{names_in, number_of}
-use Rattle.node_values.specs.declared.items.SharedItem.{SharedItem}
+use Rattle.shared_items.specs.Items.{held_history, role_content}
+use Rattle.shared_items.specs.Naming.{names_in, number_of}
+use Rattle.shared_items.specs.declared.items.SharedItem.{SharedItem}
 use Rattle.bench_nodes.specs.declared.table.ItemRow.{ItemRow}
 use Rattle.bench_nodes.specs.declared.table.Slot.{Slot}
 use Rattle.bench_nodes.specs.declared.table.SlotKey.{SlotKey}

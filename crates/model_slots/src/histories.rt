@@ -1,11 +1,11 @@
 //! The histories of items, by the numbers of the items.
 
 ghost use Rattle.std.specs.Prelude.{◌≡◌};
-ghost use Rattle.node_values.specs.Items.{held_history};
+ghost use Rattle.shared_items.specs.Items.{held_history};
 ghost use Rattle.model_slots.specs.Slots.{item_history};
 
 use bench_nodes::ItemRow;
-use node_values::SharedItem;
+use shared_items::SharedItem;
 use source_text::Name;
 
 /// The items by their numbers, and beside each what it does, with its history.

@@ -1,8 +1,8 @@
 //! The nodes of items.
 
 ghost use Rattle.std.specs.Prelude.{◌≡◌, ◌∷◌, ◌++◌, [], IfOk, map, get_or};
-ghost use Rattle.node_values.specs.Items.{role_content};
-ghost use Rattle.node_values.specs.Naming.{names_in};
+ghost use Rattle.shared_items.specs.Items.{role_content};
+ghost use Rattle.shared_items.specs.Naming.{names_in};
 ghost use Rattle.bench_nodes.specs.declared.table.SlotKey.TheVariants as slots;
 ghost use Rattle.model_slots.specs.Slots.{plain, number_at, histories_in, input_name, function_key, name_key, space_key, item_keys, slots_of, used_slots};
 
@@ -10,7 +10,7 @@ use crate::histories::{Histories, item_history};
 use bench_nodes::{Slot, SlotKey};
 use binding_graph::{Input, ResolvedItem, Role};
 use memo_core::keys::Kind;
-use node_values::number_of;
+use shared_items::number_of;
 use std::alloc::{AllocError, Global};
 
 // The number of the item at an index.

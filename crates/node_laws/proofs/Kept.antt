@@ -8,7 +8,7 @@ use Rattle.cat_eval.specs.Columns.{ColumnsOf}
 use Rattle.cat_eval.specs.Values.{AnswersOf}
 use Rattle.column_laws.specs.Laws.{AreSame}
 use Rattle.column_laws.proofs.Keeping.{columns_kept, answers_kept}
-use Rattle.node_values.specs.Items.{role_content}
+use Rattle.shared_items.specs.Items.{role_content}
 use Rattle.node_values.specs.Makes.{HasColumns, HasAnswers}
 use Rattle.node_values.specs.Spaces.{SpaceContent, space_content}
 

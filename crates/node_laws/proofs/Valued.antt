@@ -11,7 +11,7 @@ use Rattle.binding_graph.specs.Reach.{is_check}
 use Rattle.candidates.specs.declared.candidate.Space.{Space}
 use Rattle.cat_eval.specs.declared.column.Column.{Column}
 use Rattle.cat_eval.specs.Candidates.{name_count}
-use Rattle.node_values.specs.Items.{role_content}
+use Rattle.shared_items.specs.Items.{role_content}
 use Rattle.node_values.specs.Makes as nodes
 use Rattle.node_values.specs.Spaces.{SpaceContent, space_content}
 use Rattle.node_values.specs.Values.{NodeContent, OfSpace, OfColumn, space_of, columns_of}

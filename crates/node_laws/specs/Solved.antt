@@ -12,7 +12,7 @@ use Rattle.binding_graph.specs.declared.resolved.Role.TheVariants as roles
 use Rattle.binding_graph.specs.Reach.{is_check, IsCheckAt}
 use Rattle.verdict.specs.declared.answer.Outcome.{Outcome}
 use Rattle.node_values.specs.Givens.{asked, faulted, ForSpace, ForVerdict, ForFault}
-use Rattle.node_values.specs.Items.{role_content}
+use Rattle.shared_items.specs.Items.{role_content}
 use Rattle.node_values.specs.Makes.{MakesItem, Makes}
 use Rattle.node_values.specs.Parts.{SpacePartsContent, HasParts}
 use Rattle.node_values.specs.Values.{NodeContent, OfOutcome}

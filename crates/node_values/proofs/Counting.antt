@@ -7,9 +7,9 @@ use Rattle.candidates.specs.declared.candidate.Space.{Space}
 use Rattle.cat_eval.specs.declared.column.Column.{Column}
 use Rattle.cat_eval.specs.Columns.{ColumnsOf}
 use Rattle.node_values.specs.Givens.{GivenContent, ForSpace, ForItem, ForVerdict, ForFault}
-use Rattle.node_values.specs.Items.{BodyContent, RoleContent, Group, Check, Silent, body_content, role_content}
-use Rattle.node_values.specs.Makes.{IsMadeBy, Makes, item_outputs, output_names}
-use Rattle.node_values.specs.Naming.{names_of, number_of}
+use Rattle.shared_items.specs.Items.{BodyContent, RoleContent, Group, Check, Silent, body_content, role_content}
+use Rattle.node_values.specs.Makes.{IsMadeBy, Makes, output_names}
+use Rattle.shared_items.specs.Naming.{names_of, number_of, item_outputs}
 use Rattle.node_values.specs.Spaces.{SpaceContent}
 use Rattle.node_values.specs.Values.{NodeContent, OfColumn, space_of, columns_of}
 

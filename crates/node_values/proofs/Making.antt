@@ -20,7 +20,7 @@ use Rattle.verdict.specs.declared.answer.Outcome.{Outcome}
 use Rattle.verdict.specs.declared.judgement.Raised.{Raised}
 use Rattle.verdict.specs.Evaluated.{IsOutcome}
 use Rattle.verdict.specs.Kept.{Flag, of_raised}
-use Rattle.node_values.specs.Items.{role_content}
+use Rattle.shared_items.specs.Items.{role_content}
 use Rattle.node_values.specs.Makes.{HasColumns, HasAnswers, checks_among, flags_among, IsVerdict}
 use Rattle.node_values.specs.Spaces.{SpaceContent, space_content, no_executions}
 use Rattle.node_values.specs.Values.{NodeContent, first_space, space_of, columns_of, answers_of}

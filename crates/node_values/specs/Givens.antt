@@ -5,7 +5,7 @@ use Rattle.litmus_values.specs.declared.test.Place.{Place}
 use Rattle.litmus_values.specs.declared.test.Quantifier.{Quantifier}
 use Rattle.litmus_values.specs.Value.{Formula, formula_of}
 use Rattle.binding_kinds.specs.declared.fault.ModelFault.{ModelFault}
-use Rattle.node_values.specs.Items.{RoleContent}
+use Rattle.shared_items.specs.Items.{RoleContent}
 use Rattle.node_values.specs.Parts.{SpacePartsContent}
 
 -- a condition, the observables that are shown beside its own, and for each check and flag of the model, in the order of the

@@ -5,9 +5,7 @@ use Rattle.candidates.specs.declared.candidate.Space.{Space}
 use Rattle.candidates.specs.declared.fault.EvalRefusal.{EvalRefusal}
 use Rattle.candidates.specs.Listed.{ListsExecutions, IsRefusal}
 use Rattle.node_values.specs.Givens.{VerdictPartsContent, GivenContent, ForVerdict}
-use Rattle.node_values.specs.Items.{RoleContent}
 use Rattle.node_values.specs.Makes.{Makes, output_names}
-use Rattle.node_values.specs.Naming.{number_of, IsNamed, AreNamed, with_role_names}
 use Rattle.node_values.specs.Parts.{SpacePartsContent, HasParts, IsPartSpace, IsPartRefusal}
 use Rattle.node_values.specs.Spaces.{SpaceContent, space_content}
 use Rattle.node_values.specs.Values.{NodeContent}
@@ -33,17 +31,3 @@ HasOneVerdict parts values = (a b : List NodeContent) → Makes (ForVerdict part
 -- a node gives a value for each number by which its outputs go, whatever the values of its inputs are
 abbrev pub HasNames : GivenContent → Type 0
 HasNames given = (values outputs : List NodeContent) → Makes given values outputs → length outputs ≡ length (output_names given)
-
--- ---- histories
-
--- a history grows at its end alone: each name keeps its number
-abbrev pub KeepsNumbers : List (List ℕ) → RoleContent → Type 0
-KeepsNumbers history role = (name : List ℕ) → IsNamed history name → number_of (with_role_names history role) name ≡ number_of history name
-
--- a name tells its number, and a number its name
-abbrev pub TellsNames : List (List ℕ) → Type 0
-TellsNames history = (a b : List ℕ) → IsNamed history a → number_of history a ≡ number_of history b → a ≡ b
-
--- the names of what an item does are in its history then, which stays the same where they were in it before
-abbrev pub HoldsNames : List (List ℕ) → RoleContent → Type 0
-HoldsNames history role = AreNamed (with_role_names history role) role × (AreNamed history role → with_role_names history role ≡ history)

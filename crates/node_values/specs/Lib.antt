@@ -1,9 +1,7 @@
 pub mod Codes
 pub mod Givens
-pub mod Items
 pub mod Laws
 pub mod Makes
-pub mod Naming
 pub mod Parts
 pub mod Spaces
 pub mod Values

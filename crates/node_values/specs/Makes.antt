@@ -18,8 +18,8 @@ use Rattle.verdict.specs.declared.answer.Refusal.TheVariants as refusals
 use Rattle.verdict.specs.Evaluated.{IsOutcome}
 use Rattle.verdict.specs.Kept.{Flag}
 use Rattle.node_values.specs.Givens.{VerdictPartsContent, GivenContent, ForSpace, ForItem, ForVerdict, ForFault}
-use Rattle.node_values.specs.Items.{RoleContent, Group, Check, Silent, role_content}
-use Rattle.node_values.specs.Naming.{numbers_of}
+use Rattle.shared_items.specs.Items.{RoleContent, Group, Check, Silent, role_content}
+use Rattle.shared_items.specs.Naming.{item_outputs}
 use Rattle.node_values.specs.Parts.{SpacePartsContent, IsPartSpace, IsPartRefusal}
 use Rattle.node_values.specs.Spaces.{SpaceContent, space_content}
 use Rattle.node_values.specs.Values.{NodeContent, OfSpace, OfRefusal, OfColumn, OfCheck, OfOutcome, space_of, refusal_of, columns_of, answers_of}
@@ -99,12 +99,6 @@ Makes (ForVerdict parts) values outputs = (o : Outcome) × (outputs ≡ OfOutcom
 Makes (ForFault parts) values outputs = outputs ≡ OfOutcome (refused parts.kind parts.proposition (refusals.Model parts.fault)) ∷ []
 
 -- ---- the numbers by which the outputs of a node go, in the order of its values
-
--- each name of a group by its number in the history, the answers of a check or a flag by 0
-abbrev pub item_outputs : RoleContent → List (List ℕ) → List ℕ
-item_outputs (Group recursive bodies) history = numbers_of history (Group recursive bodies)
-item_outputs (Check negated word code flag) history = 0 ∷ []
-item_outputs Silent history = []
 
 abbrev pub output_names : GivenContent → List ℕ
 output_names (ForSpace parts) = 0 ∷ []

@@ -1,6 +1,6 @@
 -- What contracts see of what is held and of what is given.
 use Rattle.node_values.specs.Givens.{asked, faulted, VerdictPartsContent, FaultPartsContent, GivenContent, ForSpace, ForItem, ForVerdict, ForFault}
-use Rattle.node_values.specs.Items.{shared_role, shared_history}
+use Rattle.shared_items.specs.Items.{shared_role, shared_history}
 use Rattle.node_values.specs.Parts.{SpacePartsContent, parts_of}
 use Rattle.node_values.specs.Spaces.{space_content}
 use Rattle.node_values.specs.Values.{NodeContent, OfSpace, OfRefusal, OfColumn, OfCheck, OfOutcome}

@@ -2,15 +2,14 @@
 
 ghost use Rattle.std.specs.Prelude.{◌≡◌, IfOk};
 ghost use Rattle.node_values.specs.Givens.{ForSpace, ForItem, ForVerdict, ForFault, asked, faulted};
-ghost use Rattle.node_values.specs.Items.{shared_role, shared_history};
+ghost use Rattle.shared_items.specs.Items.{shared_role, shared_history};
 ghost use Rattle.node_values.specs.Parts.{parts_of};
 
 use crate::given::{FaultParts, Given, GivenParts, SpaceParts, VerdictParts};
-use crate::items::SharedItem;
-use crate::names::copied_names;
 use binding_graph::ModelFault;
 use litmus_values::{Condition, InitEntry, Place, Thread};
 use part_copies::{copied_condition, copied_entries, copied_places, copied_threads};
+use shared_items::{SharedItem, copied_names};
 use source_text::Name;
 use std::alloc::{AllocError, Global};
 

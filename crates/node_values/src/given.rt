@@ -3,18 +3,17 @@
 ghost use Rattle.std.specs.Prelude.{◌≡◌, ◌↔◌, IsTrue, IfOk};
 ghost use Rattle.litmus_values.specs.Value.{formula_of};
 ghost use Rattle.node_values.specs.Givens.{ForSpace, ForItem, ForVerdict, ForFault, asked, faulted, given_flags};
-ghost use Rattle.node_values.specs.Items.{shared_role, shared_history};
+ghost use Rattle.shared_items.specs.Items.{shared_role, shared_history};
 ghost use Rattle.node_values.specs.Makes.{output_names};
 ghost use Rattle.node_values.specs.Parts.{parts_of};
 ghost use Rattle.node_values.specs.Views.{given_content};
 
-use crate::items::SharedItem;
-use crate::names::only_zero;
 use crate::same::{
     same_entries, same_flags, same_names, same_places, same_proposition, same_role, same_threads,
 };
 use binding_graph::ModelFault;
 use litmus_values::{Condition, InitEntry, Place, Thread};
+use shared_items::{SharedItem, only_zero};
 use source_text::Name;
 use std::alloc::{AllocError, Global};
 use std::marker::Model;

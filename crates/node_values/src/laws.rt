@@ -1,10 +1,9 @@
 //! Laws of what nodes give.
 
-ghost use Rattle.std.specs.Prelude.{ℕ, List};
+ghost use Rattle.std.specs.Prelude.{List};
 ghost use Rattle.litmus_values.specs.declared.test.Test.{Test};
-ghost use Rattle.node_values.specs.Laws.{HasOneSpace, IsOfEachTest, HasOneVerdict, HasNames, KeepsNumbers, TellsNames, HoldsNames};
+ghost use Rattle.node_values.specs.Laws.{HasOneSpace, IsOfEachTest, HasOneVerdict, HasNames};
 ghost use Rattle.node_values.specs.Givens.{VerdictPartsContent, GivenContent};
-ghost use Rattle.node_values.specs.Items.{RoleContent};
 ghost use Rattle.node_values.specs.Parts.{SpacePartsContent};
 ghost use Rattle.node_values.specs.Values.{NodeContent};
 
@@ -26,19 +25,4 @@ pub fn verdict_is_one()
 /// A node gives a value for each number by which its outputs go.
 pub fn names_are_as_many()
     ensures { (given : GivenContent) → HasNames given }
-{}
-
-/// A history grows at its end alone, so that each name keeps its number.
-pub fn numbers_stay()
-    ensures { (history : List (List ℕ)) (role : RoleContent) → KeepsNumbers history role }
-{}
-
-/// Two names in a history have two numbers.
-pub fn numbers_tell_names()
-    ensures { (history : List (List ℕ)) → TellsNames history }
-{}
-
-/// The names of what an item does are in its history then, which grows by no others.
-pub fn histories_hold_names()
-    ensures { (history : List (List ℕ)) (role : RoleContent) → HoldsNames history role }
 {}

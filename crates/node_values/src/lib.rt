@@ -1,20 +1,16 @@
 //! What the nodes of the bench hold, and how a node is computed from the values of its inputs: the space of a test, the
 //! columns of a group, the answers of a check, the outcome of a test under a model. Read `specs/Values` first, what a
-//! value is, then `specs/Naming`, by which numbers the outputs of a group go, then `specs/Makes`, what a node gives.
+//! value is, then `specs/Makes`, what a node gives.
 #![tactic(auto)]
 
 mod give;
 mod given;
-mod items;
 pub mod laws;
-mod names;
 mod run;
 mod same;
 mod value;
 
 pub use given::{FaultParts, Given, GivenParts, SpaceParts, VerdictParts};
-pub use items::SharedItem;
-pub use names::number_of;
 pub use run::run_node;
 pub use same::same_role;
 pub use value::{NodeValue, ValueContent};

@@ -6,7 +6,7 @@ ghost use Rattle.candidates.specs.declared.fault.EvalRefusal.{EvalRefusal};
 ghost use Rattle.verdict.specs.declared.answer.Outcome.{Outcome};
 ghost use Rattle.verdict.specs.declared.answer.Refusal.TheVariants as refusals;
 ghost use Rattle.verdict.specs.Kept.{of_raised};
-ghost use Rattle.node_values.specs.Items.{role_content};
+ghost use Rattle.shared_items.specs.Items.{role_content};
 ghost use Rattle.node_values.specs.Makes.{IsSpaceValue, IsMadeBy, HasColumns, HasAnswers, checks_among, flags_among, IsVerdict, IsVerdictOver, refused, Makes};
 ghost use Rattle.node_values.specs.Parts.{HasParts};
 ghost use Rattle.node_values.specs.Spaces.{space_content, no_executions};

@@ -2,7 +2,7 @@
 
 ghost use Rattle.std.specs.Prelude.{◌≡◌, ◌↔◌, IsTrue, map};
 ghost use Rattle.litmus_values.specs.Value.{formula_of, steps_of};
-ghost use Rattle.node_values.specs.Items.{code_content, body_content, role_content};
+ghost use Rattle.shared_items.specs.Items.{code_content, body_content, role_content};
 
 use binding_graph::{Body, CheckCode, Code, Role, Source, Step as CodeStep};
 use cat_values::Predefined;

@@ -4,7 +4,7 @@ ghost use Rattle.std.specs.Prelude.{◌≡◌, ◌-◌, ◌^◌, ◌<◌, ◌≤
 use crate::store_orders::StoreOrders;
 use dataflow::Dependencies;
 use litmus_values::Fence;
-use ppc_semantics::Value;
+use thread_runs::Value;
 
 /// What an event does.
 #[derive(Clone, Copy)]

@@ -8,8 +8,7 @@ ghost use Rattle.bit_relations.specs.Pairs.{Added, Union};
 ghost use Rattle.run_combinations.specs.Keys.{InFirst, TellsAll, TellsWithin, key_in};
 ghost use Rattle.run_combinations.specs.Ways.{same_value};
 
-use ppc_semantics::Value;
-use thread_runs::is_same;
+use thread_runs::{Value, is_same};
 
 /// Words enough for 128 locations with 16 values each.
 pub const WORDS: usize = 32;

@@ -4,7 +4,7 @@ ghost use Rattle.std.specs.Prelude.{◌≡◌, ◌↔◌, ◌⊎◌, ◌<◌, �
 ghost use Rattle.bit_relations.specs.Rows.{RowsHave};
 
 use crate::key_words::{WORDS, are_within, join_words, key_of, set_bit};
-use ppc_semantics::Value;
+use thread_runs::Value;
 
 /// A set of pairs of a location and a value of the domain, each by its number.
 #[derive(Clone, Copy)]

@@ -15,10 +15,9 @@ ghost use Rattle.run_combinations.specs.Layouts.{AreServedRuns, IsLaidOut};
 use crate::combination::{Action, Event};
 use crate::keys::KeySet;
 use crate::part::{Part, Sketch, add_keys, join_writes, parts, sift, sketches};
-use ppc_semantics::{Domain, Program, Run, Value};
 use source_text::Name;
 use std::alloc::{AllocError, Global};
-use thread_runs::{held_values, served_runs_of};
+use thread_runs::{Domain, Program, Run, Value, held_values, served_runs_of};
 
 /// The runs of a thread that may be part of a candidate.
 #[derive(Drop)]

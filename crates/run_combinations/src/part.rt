@@ -10,8 +10,8 @@ ghost use Rattle.std.specs.List.{AllZip};
 use crate::combination::{Action, Event};
 use crate::keys::KeySet;
 use dataflow::{Links, links};
-use ppc_semantics::{Run, Value};
 use std::alloc::{AllocError, Global};
+use thread_runs::{Run, Value};
 
 /// A run of a thread that may be part of a candidate.
 #[derive(Drop)]
@@ -41,17 +41,17 @@ pub struct Sketch {
 }
 
 /// What an event of a run does, where its address is a location.
-fn action_of(event: ppc_semantics::Event) -> Option<Action>
+fn action_of(event: thread_runs::Event) -> Option<Action>
     ensures { result ≡ action_in event }
 {
     match event {
-        ppc_semantics::Event::Reads(Value::Address(location), value) => {
+        thread_runs::Event::Reads(Value::Address(location), value) => {
             Some(Action::Read { location, value })
         }
-        ppc_semantics::Event::Writes(Value::Address(location), value) => {
+        thread_runs::Event::Writes(Value::Address(location), value) => {
             Some(Action::Write { location, value })
         }
-        ppc_semantics::Event::Orders(fence) => Some(Action::Fence(fence)),
+        thread_runs::Event::Orders(fence) => Some(Action::Fence(fence)),
         _ => None,
     }
 }
@@ -68,7 +68,7 @@ pub fn add_keys(values: &[Value], action: Action, reads: &mut KeySet, writes: &m
 }
 
 /// The accesses and fences of a run.
-fn events_in(run: &Run) -> &[ppc_semantics::Event]
+fn events_in(run: &Run) -> &[thread_runs::Event]
     ensures { result.now ≡ run.now.events.items }
 {
     &run.events

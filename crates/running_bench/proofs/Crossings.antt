@@ -4,7 +4,7 @@ use Rattle.std.proofs.Crossing.{crosses}
 use Rattle.source_text.proofs.name.Name.TheSendSync as name
 use Rattle.litmus_values.proofs.test.Proposition.TheLaws.TheKnot as proposition
 use Rattle.cat_values.proofs.model.Expression.TheLaws.TheKnot as expression
-use Rattle.node_values.proofs.items.SharedItem.TheSendSync as shared
+use Rattle.shared_items.proofs.items.SharedItem.TheSendSync as shared
 use Rattle.node_values.proofs.given.SpaceParts.TheSendSync as space
 use Rattle.bench_texts.proofs.reading.Reading.TheSendSync as reading
 use Rattle.stamped_parts.proofs.parts.Parts.TheSendSync as parts

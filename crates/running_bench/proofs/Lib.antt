@@ -1,3 +1,4 @@
 pub mod Indexes
 pub mod Above
 pub mod Crossings
+pub mod Contents

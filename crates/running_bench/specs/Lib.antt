@@ -1,4 +1,5 @@
 pub mod Cells
 pub mod Texts
 pub mod Listing
+pub mod Contents
 pub mod Laws

@@ -9,7 +9,8 @@ ghost use Rattle.board.specs.Operations.{board_after};
 ghost use Rattle.desk.specs.Boards.{AreSettled};
 ghost use Rattle.running_bench.specs.Cells.{board_cells};
 ghost use Rattle.running_bench.specs.Texts.{AreAfter, IsHistory};
-ghost use Rattle.running_views.specs.Contents.{HasContents, IsApplied, IsWithinLimits, SayTheSame};
+ghost use Rattle.running_bench.specs.Contents.{HasContents};
+ghost use Rattle.running_views.specs.Contents.{IsApplied, IsWithinLimits, SayTheSame};
 ghost use Rattle.running_views.specs.Posted.{SettledIsShown, ShowsEachResult, PostedIsShown};
 
 /// The texts after some operations are what the edits among them make, one after another.

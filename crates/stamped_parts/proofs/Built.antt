@@ -18,8 +18,9 @@ use Rattle.bench_nodes.specs.declared.table.TestRow.{TestRow}
 use Rattle.bench_nodes.specs.Nodes.{used, keys_at, is_slot, has_slot, slot_keys, thread_parts, row_of, row_parts, space_keys, inputs_of}
 use Rattle.bench_nodes.proofs.Laws.{used_test, used_slot}
 use Rattle.node_values.specs.Givens.{GivenContent, ForItem}
-use Rattle.node_values.specs.Items.{RoleContent}
-use Rattle.node_values.specs.Makes.{item_outputs, output_names}
+use Rattle.shared_items.specs.Items.{RoleContent}
+use Rattle.shared_items.specs.Naming.{item_outputs}
+use Rattle.node_values.specs.Makes.{output_names}
 use Rattle.model_slots.specs.Tables.{ModelReading, Sound, Faulty, IsOrderedModel}
 use Rattle.model_slots.proofs.Ordered.{table_ordered}
 use Rattle.stamped_parts.specs.Contents.{PartContent, OfRole, OfFault, OfCondition, OfObserved, OfLocations, OfInit, OfThread, State, histories, content}

@@ -12,7 +12,7 @@ use Rattle.bench_nodes.specs.declared.table.ItemRow.{ItemRow}
 use Rattle.bench_nodes.specs.declared.table.ModelRow.{ModelRow}
 use Rattle.bench_nodes.specs.declared.table.TestRow.{TestRow}
 use Rattle.bench_nodes.specs.Nodes.{item_stamp, fault_stamp, stamp_in, test_stamp, has_test, part_stamp}
-use Rattle.node_values.specs.declared.items.SharedItem.{SharedItem}
+use Rattle.shared_items.specs.declared.items.SharedItem.{SharedItem}
 use Rattle.stamped_parts.specs.Contents.{OfThread, role_part, item_content, fault_part, fault_content, test_part, test_content, State, content}
 use Rattle.stamped_parts.specs.Built.{IsStamp, IsItemRow, IsModelRow, IsTestRow, AreTestRows}
 use Rattle.stamped_parts.specs.Views.{FoundTest, view_of}

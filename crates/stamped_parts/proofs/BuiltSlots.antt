@@ -17,10 +17,9 @@ use Rattle.bench_nodes.specs.declared.table.Slot.{Slot}
 use Rattle.bench_nodes.specs.declared.table.SlotKey.{SlotKey}
 use Rattle.bench_nodes.specs.declared.table.SlotKey.TheVariants as slots
 use Rattle.bench_nodes.specs.Nodes.{is_slot, has_slot, slot_keys}
-use Rattle.node_values.specs.Items.{RoleContent, held_history, body_content, role_content}
-use Rattle.node_values.specs.Makes.{item_outputs}
-use Rattle.node_values.specs.Naming.{names_in, body_names, number_of}
-use Rattle.node_values.specs.declared.items.SharedItem.{SharedItem}
+use Rattle.shared_items.specs.Items.{RoleContent, held_history, body_content, role_content}
+use Rattle.shared_items.specs.Naming.{item_outputs, names_in, body_names, number_of}
+use Rattle.shared_items.specs.declared.items.SharedItem.{SharedItem}
 use Rattle.model_slots.proofs.Lists.{each_append, has_map}
 use Rattle.model_slots.specs.Slots.{PlainSlot, plain, number_at, item_history, name_of, input_name, function_key, name_key, space_key, item_keys, slots_of, item_slots, used_slots, flag_key, answer_key, key_by, keys_by, verdict_keys, sound_slots}
 use Rattle.model_slots.specs.Tables.{ModelReading, Sound, Faulty, name_count, IsNameOf, UsesNames, AreOrderedItems, space_slots, slots_in, all_slots}

@@ -14,8 +14,8 @@ use Rattle.bench_nodes.specs.declared.table.ModelRow.{ModelRow}
 use Rattle.bench_nodes.specs.declared.table.SlotKey.{SlotKey}
 use Rattle.bench_nodes.specs.Nodes.{used}
 use Rattle.bench_nodes.proofs.Laws.{used_test, used_slot}
-use Rattle.node_values.specs.declared.items.SharedItem.{SharedItem}
-use Rattle.node_values.specs.Items.{RoleContent, role_content}
+use Rattle.shared_items.specs.declared.items.SharedItem.{SharedItem}
+use Rattle.shared_items.specs.Items.{RoleContent, role_content}
 use Rattle.model_slots.proofs.Lists.{each_append}
 use Rattle.model_slots.specs.Slots.{PlainSlot, number_at, item_keys, slots_of, item_slots, used_slots, verdict_keys}
 use Rattle.model_slots.specs.Tables.{ModelReading, Sound, Faulty, space_slots, slots_in, all_slots}

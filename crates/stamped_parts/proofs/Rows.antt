@@ -9,7 +9,7 @@ use Rattle.bench_nodes.specs.declared.table.ItemRow.{ItemRow}
 use Rattle.bench_nodes.specs.declared.table.ModelRow.{ModelRow}
 use Rattle.bench_nodes.specs.declared.table.TestRow.{TestRow}
 use Rattle.bench_nodes.specs.Nodes.{row_of}
-use Rattle.node_values.specs.declared.items.SharedItem.{SharedItem}
+use Rattle.shared_items.specs.declared.items.SharedItem.{SharedItem}
 use Rattle.stamped_parts.specs.Contents.{PartContent, role_part, item_content, fault_part, fault_content, test_part, test_content}
 use Rattle.stamped_parts.specs.States.{is_kind, has_kind}
 use Rattle.stamped_parts.specs.Views.{FoundTest, view_of}

@@ -4,8 +4,8 @@ use Rattle.std.specs.Prelude.{◌≡◌, ⊤, ℕ, List, map, Option, Some, None
 use Rattle.std.specs.List.{AllZip}
 use Rattle.memo_core.specs.declared.keys.Kind.{Kind}
 use Rattle.memo_core.specs.declared.keys.Kind.TheVariants as kinds
-use Rattle.node_values.specs.declared.items.SharedItem.{SharedItem}
-use Rattle.node_values.specs.Items.{RoleContent, Group, Check, Silent, shared_role}
+use Rattle.shared_items.specs.declared.items.SharedItem.{SharedItem}
+use Rattle.shared_items.specs.Items.{RoleContent, Group, Check, Silent, shared_role}
 use Rattle.model_slots.specs.Tables.{ModelReading, Sound, Faulty}
 use Rattle.stamped_parts.specs.Contents.{State}
 

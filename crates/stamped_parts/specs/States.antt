@@ -16,7 +16,7 @@ use Rattle.memo_core.specs.Names.{kind_number}
 use Rattle.memo_core.specs.Right.{Making}
 use Rattle.memo_core.specs.Step.{Has}
 use Rattle.node_values.specs.Givens.{GivenContent, ForSpace, ForItem, ForVerdict, ForFault}
-use Rattle.node_values.specs.Items.{Check}
+use Rattle.shared_items.specs.Items.{Check}
 use Rattle.node_values.specs.Makes.{Makes, output_names}
 use Rattle.node_values.specs.Values.{NodeContent}
 use Rattle.bench_nodes.specs.declared.table.ItemRow.{ItemRow}

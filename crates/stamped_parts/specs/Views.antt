@@ -10,7 +10,7 @@ use Rattle.bench_nodes.specs.declared.table.SlotKey.TheVariants as slots
 use Rattle.bench_nodes.specs.declared.table.TestRow.{TestRow}
 use Rattle.bench_nodes.specs.Nodes.{keys_at}
 use Rattle.node_values.specs.Givens.{GivenContent, ForSpace, ForItem, ForVerdict, ForFault, asked, faulted}
-use Rattle.node_values.specs.Items.{shared_role, shared_history}
+use Rattle.shared_items.specs.Items.{shared_role, shared_history}
 use Rattle.node_values.specs.Parts.{parts_of}
 use Rattle.stamped_parts.specs.declared.nodes.NodeParts.{NodeParts}
 use Rattle.stamped_parts.specs.declared.nodes.NodeParts.TheVariants as parts

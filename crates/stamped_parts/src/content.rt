@@ -10,7 +10,7 @@ use crate::parts::Parts;
 use bench_nodes::{CONDITION, FAULT, INIT, ITEM, ItemRow, LOCATIONS, ModelRow, OBSERVED, THREAD};
 use binding_graph::ModelFault;
 use litmus_values::{Condition, InitEntry, Place, Test, Thread};
-use node_values::SharedItem;
+use shared_items::SharedItem;
 use source_text::Name;
 
 /// What a part holds.

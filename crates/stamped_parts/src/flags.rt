@@ -3,7 +3,7 @@
 ghost use Rattle.std.specs.Prelude.{◌≡◌, ◌↔◌, ℕ, List, ◌∷◌, [], IsTrue, IfOk, Some, option_map};
 ghost use Rattle.std.specs.Option.{option_to_list};
 ghost use Rattle.bench_nodes.specs.Nodes.{key_at, keys_at};
-ghost use Rattle.node_values.specs.Items.{role_content};
+ghost use Rattle.shared_items.specs.Items.{role_content};
 ghost use Rattle.stamped_parts.specs.Contents.{OfRole, content, state_of};
 ghost use Rattle.stamped_parts.specs.States.{is_read, flag_name, flag_read, flags_read};
 ghost use Rattle.stamped_parts.specs.Views.{flag_at, flags_from};

@@ -14,7 +14,7 @@ use bench_nodes::{FAULT, ITEM, SlotKey};
 use binding_graph::ModelFault;
 use litmus_values::{Condition, InitEntry, Place, Test, Thread};
 use memo_core::keys::{Kind, Node};
-use node_values::SharedItem;
+use shared_items::SharedItem;
 use source_text::Name;
 
 /// What a job is given, by the kind of its node.

@@ -4,7 +4,7 @@ use crate::find::{item_index, model_index};
 use bench_nodes::NodeTable;
 use binding_graph::ModelFault;
 use memo_core::keys::Kind;
-use node_values::SharedItem;
+use shared_items::SharedItem;
 use source_text::Name;
 use std::alloc::Global;
 

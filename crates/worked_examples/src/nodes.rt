@@ -4,10 +4,9 @@ use crate::cells::put_outcome;
 use binding_graph::{Input, ResolveFault, Resolved, ResolvedItem, Role, resolve, used};
 use cat_syntax::{ModelText, read_model};
 use litmus_ppc::{Name, Test, read_test};
-use node_values::{
-    FaultParts, Given, GivenParts, NodeValue, SharedItem, SpaceParts, VerdictParts, run_node,
-};
+use node_values::{FaultParts, Given, GivenParts, NodeValue, SpaceParts, VerdictParts, run_node};
 use ppc_semantics::program;
+use shared_items::SharedItem;
 use source_text::put_bytes;
 use std::alloc::{AllocError, Global};
 use std::sync::Arc;

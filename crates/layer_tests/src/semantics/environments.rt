@@ -1,8 +1,8 @@
-//! The predefined names of `base_env` in a candidate.
+//! The predefined names of `execution_env` in a candidate.
 
 use crate::semantics::put_item;
-use base_env::BaseEnv;
 use bit_relations::{EventSet, Rel};
+use execution_env::BaseEnv;
 use source_text::put_bytes;
 use std::alloc::AllocError;
 

@@ -2,8 +2,8 @@
 
 use crate::semantics::environments::put_name;
 use crate::semantics::put_item;
-use base_env::base;
 use candidates::{Execution, SpaceFault, space};
+use execution_env::base;
 use litmus_ppc::Test;
 use source_text::{put_bytes, put_decimal};
 use std::alloc::{AllocError, Global};

@@ -1,7 +1,7 @@
 use Rattle.std.proofs.Common.{◌≡◌, ◌<◌, ◌≤◌, length, ap, sym, subst, ◌∙◌, option_map, IfOk, rules}
 use Rattle.std.specs.Arc.{arc_value}
-use Rattle.node_values.specs.Items.{role_at, held_history}
-use Rattle.node_values.specs.Naming.{with_role_names}
+use Rattle.shared_items.specs.Items.{role_at, held_history}
+use Rattle.shared_items.specs.Naming.{with_role_names}
 use Rattle.stamped_parts.specs.Contents.{role_part}
 use Rattle.edited_items.specs.Held.{held_part}
 use Rattle.edited_items.specs.Items.{held_after}

@@ -1,7 +1,7 @@
 use Rattle.std.proofs.Common.{[], get_or, ap, sym, ◌∙◌, arith}
 use Rattle.binding_graph.specs.declared.resolved.Role.{Role}
-use Rattle.node_values.specs.Items.{role_content}
-use Rattle.node_values.specs.Naming.{names_in}
+use Rattle.shared_items.specs.Items.{role_content}
+use Rattle.shared_items.specs.Naming.{names_in}
 use Rattle.model_slots.proofs.Finding.{body_name_at}
 use Rattle.model_slots.proofs.items.bound_name.Goals as goal
 

@@ -1,5 +1,5 @@
 use Rattle.std.proofs.Common.{◌≡◌, ◌↔◌, length, drop, map}
-use Rattle.node_values.specs.Items.{body_content}
+use Rattle.shared_items.specs.Items.{body_content}
 use Rattle.node_values.proofs.same.same_bodies.Given as goal
 
 abbrev pub invariant-loop-this : goal.invariant-loop-this

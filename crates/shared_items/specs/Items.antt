@@ -1,0 +1,19 @@
+-- What an item does, and the names that it has had, as plain data. Read it after Naming.
+use Rattle.std.specs.Prelude.{ℕ, List, [], Option, Some, None}
+use Rattle.std.specs.Arc.{arc_value}
+pub use Rattle.binding_graph.specs.Contents.{CodeContent, BodyContent, RoleContent, Group, Check, Silent, code_content, body_content, role_content}
+pub use Rattle.shared_items.specs.Naming.{role_at}
+use Rattle.shared_items.specs.declared.items.SharedItem.{SharedItem}
+
+-- what an item of a model does
+abbrev pub shared_role : SharedItem → RoleContent
+shared_role s = role_at (arc_value s.resolved).items.items s.index
+
+-- its history: the names that it has had, in the order in which they came
+abbrev pub shared_history : SharedItem → List (List ℕ)
+shared_history s = (arc_value s.history).items
+
+-- that of an item of which it was never known what it does is empty
+abbrev pub held_history : Option SharedItem → List (List ℕ)
+held_history None = []
+held_history (Some s) = shared_history s

@@ -1,0 +1,10 @@
+//! Items of models that jobs share with the texts, and the names that they have had. Read `specs/Naming` first, by which numbers
+//! the outputs of an item go, then `specs/Items`.
+#![tactic(auto)]
+
+mod items;
+pub mod laws;
+mod names;
+
+pub use items::SharedItem;
+pub use names::{copied_names, number_of, only_zero};
