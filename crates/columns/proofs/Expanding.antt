@@ -4,7 +4,8 @@ use Rattle.std.proofs.Math.ListN.{replicate, set, length-set}
 use Rattle.std.proofs.lemmas.List.{length-replicate, get_or-replicate, append-nil, get_or-append_right, get_or_append_left, replicate-append-replicate, length-map, get_or-map, map-append}
 use Rattle.std.proofs.lemmas.Bool.{cases_lt}
 use Rattle.columns.specs.declared.runs.Run.{Run}
-use Rattle.columns.specs.Runs.{expand, AreRising, last_end, start_of, AreRuns, ends_of, values_of}
+use Rattle.columns.specs.Runs.{expand, AreRising, last_end, start_of, AreRuns}
+use Rattle.columns.specs.Storage.{ends_of, values_of}
 
 -- runs, by their ends and by their values
 pub as_many_ends : {V : Type 0} (runs : List (Run V)) → length (ends_of runs) ≡ length runs

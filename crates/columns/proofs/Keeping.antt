@@ -8,7 +8,7 @@ use Rattle.bit_relations.proofs.Packing.{as_many, few_there, high_room, kept, lo
 use Rattle.bit_relations.proofs.Packing.{count_there as relation_count}
 use Rattle.columns.specs.declared.places.Place.{Place}
 use Rattle.columns.specs.declared.runs.Run.{Run}
-use Rattle.columns.specs.Runs.{AreKept, kept_values, values_of}
+use Rattle.columns.specs.Storage.{AreKept, kept_values, values_of}
 use Rattle.columns.proofs.Expanding.{as_many_values, value_there, values_more}
 
 abbrev counts : List (Run Place) → List ℕ

@@ -1,9 +1,6 @@
 -- Columns of values, as runs. Read first: the model of `RunColumn` and of `SetRuns` is `expand`.
-use Rattle.std.specs.Prelude.{ℕ, zero, suc, ◌≡◌, ◌<◌, ◌-◌, List, [], ◌∷◌, ◌++◌, length, map, replicate, slice_index_or}
+use Rattle.std.specs.Prelude.{ℕ, zero, suc, ◌≡◌, ◌<◌, ◌-◌, List, [], ◌∷◌, ◌++◌, length, replicate, slice_index_or}
 use Rattle.bit_relations.specs.Relation.{Relation, Events, no_slot}
-use Rattle.bit_relations.specs.Packing.{ArePacked, unpacked}
-use Rattle.columns.specs.declared.places.Place.{Place}
-use Rattle.columns.specs.declared.runs.Run.{Run}
 
 -- each value as often as its run is long: a run begins where the one before it ends, and the first at `at`
 abbrev pub expand : {A : Type 0} → ℕ → List ℕ → List A → List A
@@ -41,18 +38,3 @@ value_at values k = slice_index_or values k no_slot
 
 abbrev pub set_at : List Events → ℕ → Events
 set_at values k = slice_index_or values k no_set
-
--- where runs end, and their values
-abbrev pub ends_of : {V : Type 0} → List (Run V) → List ℕ
-ends_of runs = map (λ r. r.end) runs
-
-abbrev pub values_of : {V : Type 0} → List (Run V) → List V
-values_of runs = map (λ r. r.value) runs
-
--- the relations at places of a list of words
-abbrev pub kept_values : List Place → List ℕ → List Relation
-kept_values places words = unpacked (map (λ p. p.count) places) words
-
--- the places are those of relations whose words stand one after another
-abbrev pub AreKept : List Place → List ℕ → Type 0
-AreKept places words = ArePacked (map (λ p. p.count) places) (map (λ p. p.start) places) words (kept_values places words)

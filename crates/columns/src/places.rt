@@ -1,7 +1,8 @@
 //! Relations whose words stand one after another in one list.
 ghost use Rattle.std.specs.Prelude.{◌≡◌, ◌<◌, ◌↔◌, length, IsTrue, IfOk};
 ghost use Rattle.bit_relations.specs.Relation.{IsRegular};
-ghost use Rattle.columns.specs.Runs.{AreKept, kept_values, value_at, values_of};
+ghost use Rattle.columns.specs.Runs.{value_at};
+ghost use Rattle.columns.specs.Storage.{AreKept, kept_values, values_of};
 
 use crate::runs::Run;
 use bit_relations::Rel;

@@ -19,7 +19,8 @@ pub struct RunColumn {
 impl Model for RunColumn {
     ghost use Rattle.std.specs.Prelude.{List};
     ghost use Rattle.bit_relations.specs.Relation.{Relation};
-    ghost use Rattle.columns.specs.Runs.{expand, AreRuns, AreKept, ends_of, values_of, kept_values};
+    ghost use Rattle.columns.specs.Runs.{expand, AreRuns};
+    ghost use Rattle.columns.specs.Storage.{AreKept, ends_of, values_of, kept_values};
 
     ghost Value = { List Relation };
 
@@ -54,7 +55,8 @@ impl RunColumn {
         end_of(&self.runs)
     }
 
-    /// Gives one value to the next candidates, up to an end. Where memory is out the column stays as it was.
+    /// Gives one value to the next candidates, up to an end. Where memory is out, or the relations take 2^32 words or more
+    /// already, the column stays as it was.
     pub fn push_run(&mut self, value: &Rel, end: usize) -> Result<(), AllocError>
         requires { length self.old < end }
         ensures added { OnOk result (self.new ≡ self.old ++ replicate (end - length self.old) value.now) }
@@ -72,7 +74,8 @@ impl RunColumn {
         Ok(())
     }
 
-    /// Gives a value to the next candidate. Where memory is out the column stays as it was.
+    /// Gives a value to the next candidate. Where memory is out, or the relations take 2^32 words or more already, the
+    /// column stays as it was.
     pub fn push(&mut self, value: &Rel) -> Result<(), AllocError>
         ensures added { OnOk result (self.new ≡ self.old ++ value.now ∷ []) }
         ensures kept { OnErr result (self.new ≡ self.old) }

@@ -1,6 +1,7 @@
 //! Runs of equal neighbours, and where they end.
 ghost use Rattle.std.specs.Prelude.{◌≡◌, ◌<◌, ◌≤◌, length, set, slice_index, IsTrue};
-ghost use Rattle.columns.specs.Runs.{AreRising, last_end, start_of, ends_of, values_of};
+ghost use Rattle.columns.specs.Runs.{AreRising, last_end, start_of};
+ghost use Rattle.columns.specs.Storage.{ends_of, values_of};
 
 /// Where a reader of a column looks first. Any cursor will do: a wrong one costs time alone.
 #[derive(Clone, Copy)]

@@ -1,6 +1,7 @@
 //! A column of sets.
 ghost use Rattle.std.specs.Prelude.{◌≡◌, ℕ, ◌-◌, ◌<◌, ◌≤◌, ◌++◌, ◌∷◌, [], ◌↔◌, length, replicate, IsTrue, OnOk, OnErr};
-ghost use Rattle.columns.specs.Runs.{set_at, values_of};
+ghost use Rattle.columns.specs.Runs.{set_at};
+ghost use Rattle.columns.specs.Storage.{values_of};
 
 use crate::runs::{Cursor, Run, end_at, end_of, run_at, set_end};
 use bit_relations::EventSet;
@@ -16,7 +17,8 @@ pub struct SetRuns {
 impl Model for SetRuns {
     ghost use Rattle.std.specs.Prelude.{List};
     ghost use Rattle.bit_relations.specs.Relation.{Events};
-    ghost use Rattle.columns.specs.Runs.{expand, AreRuns, ends_of, values_of};
+    ghost use Rattle.columns.specs.Runs.{expand, AreRuns};
+    ghost use Rattle.columns.specs.Storage.{ends_of, values_of};
 
     ghost Value = { List Events };
 

@@ -1,5 +1,5 @@
 -- LAWS of what nodes give: what `laws` states.
-use Rattle.std.specs.Prelude.{◌≡◌, ℕ, length, List}
+use Rattle.std.specs.Prelude.{◌≡◌, length, List}
 use Rattle.litmus_values.specs.declared.test.Test.{Test}
 use Rattle.candidates.specs.declared.candidate.Space.{Space}
 use Rattle.candidates.specs.declared.fault.EvalRefusal.{EvalRefusal}

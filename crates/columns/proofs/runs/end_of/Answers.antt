@@ -1,5 +1,5 @@
 use Rattle.std.proofs.Common.{◌∙◌, arith}
-use Rattle.columns.specs.Runs.{ends_of}
+use Rattle.columns.specs.Storage.{ends_of}
 use Rattle.columns.proofs.Expanding.{last_is, as_many_ends}
 use Rattle.columns.proofs.runs.end_of.Goals as goal
 

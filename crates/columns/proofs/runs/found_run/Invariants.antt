@@ -1,5 +1,6 @@
 use Rattle.std.proofs.Common.{◌-◌, ◌<◌, ◌≤◌, length}
-use Rattle.columns.specs.Runs.{start_of, ends_of}
+use Rattle.columns.specs.Runs.{start_of}
+use Rattle.columns.specs.Storage.{ends_of}
 use Rattle.columns.proofs.runs.found_run.Given as goal
 
 abbrev pub invariant-halves : goal.invariant-halves

@@ -1,5 +1,5 @@
 use Rattle.std.proofs.Common.{◌<◌, ◌≤◌, ◌+◌, length, get_or, arith}
-use Rattle.columns.specs.Runs.{ends_of}
+use Rattle.columns.specs.Storage.{ends_of}
 use Rattle.columns.proofs.Expanding.{not_last, start_next, as_many_ends}
 use Rattle.columns.proofs.runs.run_at.Goals as goal
 

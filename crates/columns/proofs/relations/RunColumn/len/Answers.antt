@@ -1,5 +1,6 @@
 use Rattle.std.proofs.Common.{◌∙◌, sym, ap, length}
-use Rattle.columns.specs.Runs.{last_end, ends_of}
+use Rattle.columns.specs.Runs.{last_end}
+use Rattle.columns.specs.Storage.{ends_of}
 use Rattle.columns.proofs.Expanding.{length-runs}
 use Rattle.columns.proofs.relations.RunColumn.len.Goals as goal
 

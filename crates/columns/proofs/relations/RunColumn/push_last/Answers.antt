@@ -1,7 +1,7 @@
 use Rattle.std.proofs.Common.{◌≡◌, ◌<◌, ◌-◌, ◌∙◌, ap, arith, get_or, length, sym}
 use Rattle.std.proofs.lemmas.List.{with_items_is}
 use Rattle.bit_relations.specs.Relation.{no_slot}
-use Rattle.columns.specs.Runs.{ends_of}
+use Rattle.columns.specs.Storage.{ends_of}
 use Rattle.columns.proofs.Expanding.{as_many_ends, last_end_is, last_told, longer}
 use Rattle.columns.proofs.relations.RunColumn.push_last.Goals as goal
 

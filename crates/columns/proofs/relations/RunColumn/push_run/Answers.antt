@@ -1,7 +1,7 @@
 use Rattle.std.proofs.Common.{◌≡◌, ◌∙◌, ap, length, refl, sym}
 use Rattle.std.proofs.lemmas.List.{with_items_is}
 use Rattle.bit_relations.specs.Relation.{no_slot}
-use Rattle.columns.specs.Runs.{ends_of}
+use Rattle.columns.specs.Storage.{ends_of}
 use Rattle.columns.proofs.Expanding.{added, added_told, as_many_ends, ends_more, longer, longer_told}
 use Rattle.columns.proofs.Keeping.{pushed}
 use Rattle.columns.proofs.relations.RunColumn.push_run.Goals as goal

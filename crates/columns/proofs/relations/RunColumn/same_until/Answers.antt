@@ -1,6 +1,6 @@
 use Rattle.std.proofs.Common.{◌≡◌, ◌<◌, ap, length}
 use Rattle.bit_relations.specs.Relation.{no_slot}
-use Rattle.columns.specs.Runs.{ends_of}
+use Rattle.columns.specs.Storage.{ends_of}
 use Rattle.columns.proofs.Expanding.{as_many_ends, inside_runs, read_end, read_same}
 use Rattle.columns.proofs.relations.RunColumn.same_until.Goals as goal
 

@@ -1,6 +1,7 @@
 use Rattle.std.proofs.Common.{◌≡◌, ◌∙◌, ◌++◌, ◌∷◌, [], ap, length, refl, sym}
 use Rattle.std.proofs.lemmas.List.{with_items_is}
-use Rattle.columns.specs.Runs.{no_set, ends_of, values_of}
+use Rattle.columns.specs.Runs.{no_set}
+use Rattle.columns.specs.Storage.{ends_of, values_of}
 use Rattle.columns.proofs.Expanding.{added, added_told, as_many_ends, ends_more, longer, longer_told, values_more}
 use Rattle.columns.proofs.sets.SetRuns.push_run.Goals as goal
 

@@ -1,5 +1,6 @@
 use Rattle.std.proofs.Common.{◌≡◌, ◌<◌, ap, length}
-use Rattle.columns.specs.Runs.{ends_of, no_set}
+use Rattle.columns.specs.Runs.{no_set}
+use Rattle.columns.specs.Storage.{ends_of}
 use Rattle.columns.proofs.Expanding.{as_many_ends, inside_runs, read_end, read_same, read_value}
 use Rattle.columns.proofs.sets.SetRuns.read.Goals as goal
 
