@@ -17,10 +17,11 @@ use Rattle.bench_nodes.specs.Nodes.{item_stamp, fault_stamp}
 use Rattle.stamped_parts.specs.declared.parts.Parts.{Parts}
 use Rattle.stamped_parts.specs.Contents.{PartContent, OfRole, state_of, item_content, fault_part, fault_content}
 use Rattle.edited_tables.specs.declared.models.HeldModel.{HeldModel}
-use Rattle.edited_tables.specs.Laws.{IsLaterNumber, WasModelRow}
+use Rattle.edited_tables.specs.Laws.{WasModelRow}
+use Rattle.stamped_parts.specs.Stamps.{IsLaterNumber, next_number, raised, IsStampOf}
 use Rattle.edited_tables.specs.Models.{raised_model}
-use Rattle.edited_tables.specs.Stamps.{next_number, raised, IsStampOf}
-use Rattle.edited_tables.proofs.Stamping.{raised_low, fault_low}
+use Rattle.stamped_parts.proofs.Stamping.{raised_low}
+use Rattle.edited_tables.proofs.ModelRows.{fault_low}
 use Rattle.edited_items.proofs.Histories.{histories_go_on}
 use Rattle.edited_items.proofs.ItemRows.{items_keep_stamps}
 use Rattle.edited_parts.specs.declared.edited.EditedParts.{EditedParts}

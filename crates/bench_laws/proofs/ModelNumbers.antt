@@ -14,8 +14,7 @@ use Rattle.bench_texts.specs.declared.replacement.Replacement.TheVariants as mad
 use Rattle.bench_nodes.specs.declared.table.ModelRow.{ModelRow}
 use Rattle.stamped_parts.specs.declared.parts.Parts.{Parts}
 use Rattle.edited_tables.specs.declared.models.HeldModel.{HeldModel}
-use Rattle.edited_tables.specs.Laws.{IsLaterNumber}
-use Rattle.edited_tables.specs.Stamps.{next_number}
+use Rattle.stamped_parts.specs.Stamps.{IsLaterNumber, next_number}
 use Rattle.edited_parts.specs.declared.edited.EditedParts.{EditedParts}
 use Rattle.edited_parts.specs.declared.edited.EditedParts.TheVariants as edited
 use Rattle.edited_parts.specs.declared.edited.ModelParts.{ModelParts}

@@ -18,9 +18,9 @@ use Rattle.bench_nodes.specs.Nodes.{stamp_in, thread_parts, space_parts}
 use Rattle.stamped_parts.specs.declared.parts.Parts.{Parts}
 use Rattle.stamped_parts.specs.Built.{IsStamp, IsTestRow}
 use Rattle.stamped_parts.specs.Contents.{PartContent, OfThread, test_part}
-use Rattle.edited_tables.specs.Stamps.{next_number, raised, IsStampOf}
+use Rattle.stamped_parts.specs.Stamps.{next_number, raised, IsStampOf}
 use Rattle.edited_tables.specs.Tests.{TestEntry, IsRowOf, IsRaisedRow}
-use Rattle.edited_tables.proofs.Stamping.{raised_low}
+use Rattle.stamped_parts.proofs.Stamping.{raised_low}
 use Rattle.edited_parts.specs.declared.edited.EditedParts.{EditedParts}
 use Rattle.edited_parts.specs.declared.edited.EditedParts.TheVariants as edited
 use Rattle.edited_parts.specs.Edited.{entry_at, test_id, AreTestsSame, IsTestMade, PutsTest, DropsTest}

@@ -10,7 +10,7 @@ use Rattle.shared_items.specs.Naming.{AreNamed, with_role_names}
 use Rattle.shared_items.proofs.Naming.{all_named, grown_begins, grown_stays}
 use Rattle.bench_nodes.specs.declared.table.ItemRow.{ItemRow}
 use Rattle.stamped_parts.specs.Contents.{PartContent, OfRole, role_part, item_content, part_history}
-use Rattle.edited_tables.specs.Stamps.{next_number}
+use Rattle.stamped_parts.specs.Stamps.{next_number}
 use Rattle.edited_items.specs.Items.{ItemFact, held_after, AreItemsOf, raised_item}
 use Rattle.edited_items.specs.Laws.{AreItemsAfter, GoesOn}
 

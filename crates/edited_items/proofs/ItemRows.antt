@@ -13,9 +13,8 @@ use Rattle.bench_nodes.specs.declared.table.ItemRow.{ItemRow}
 use Rattle.bench_nodes.specs.Nodes.{item_stamp}
 use Rattle.stamped_parts.specs.Built.{IsStamp, IsItemRow}
 use Rattle.stamped_parts.specs.Contents.{PartContent, OfRole, role_part, item_content, part_history}
-use Rattle.edited_tables.specs.Laws.{IsLaterNumber, IsPartNow}
-use Rattle.edited_tables.specs.Stamps.{next_number, raised, IsStampOf}
-use Rattle.edited_tables.proofs.Stamping.{raised_low, part_now, stamp_now}
+use Rattle.stamped_parts.specs.Stamps.{IsLaterNumber, IsPartNow, next_number, raised, IsStampOf}
+use Rattle.stamped_parts.proofs.Stamping.{raised_low, part_now, stamp_now}
 use Rattle.edited_items.specs.Items.{ItemFact, fact_at, item_facts, held_after, IsItemOf, AreItemsOf, raised_item}
 use Rattle.edited_items.specs.Laws.{AreItemsAfter, AreApart, HoldsRole, DoesWhatIsRead, AreItemsHeld}
 

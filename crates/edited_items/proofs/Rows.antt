@@ -9,7 +9,7 @@ use Rattle.shared_items.specs.Items.{role_at}
 use Rattle.bench_nodes.specs.declared.table.ItemRow.{ItemRow}
 use Rattle.bench_nodes.specs.Nodes.{item_stamp}
 use Rattle.stamped_parts.specs.Contents.{PartContent, role_part, item_content}
-use Rattle.edited_tables.specs.Stamps.{IsStampOf}
+use Rattle.stamped_parts.specs.Stamps.{IsStampOf}
 use Rattle.edited_items.specs.Items.{ItemFact, IsItemOf, AreItemsOf, read_role}
 
 -- ---- the first row of a number

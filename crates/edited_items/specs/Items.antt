@@ -1,4 +1,4 @@
--- The rows of items after an edit. Read this first, after the stamps of `edited_tables`.
+-- The rows of items after an edit. Read this first, after the stamps of `stamped_parts`.
 use Rattle.std.specs.Prelude.{◌≡◌, ⊤, ℕ, List, [], ◌∷◌, length, map, get_or, slice_get, option_map, option_and_then, Option, Some, None}
 use denote.Ref.{Bor}
 use Rattle.std.specs.Arc.{arc_value}
@@ -19,7 +19,7 @@ use Rattle.bench_nodes.specs.declared.table.ItemRow.{ItemRow}
 use Rattle.bench_nodes.specs.Nodes.{item_stamp}
 use Rattle.stamped_parts.specs.Contents.{PartContent, OfRole, role_part, item_content, part_history}
 use Rattle.stamped_parts.specs.declared.parts.Parts.{Parts}
-use Rattle.edited_tables.specs.Stamps.{IsStampOf, raised}
+use Rattle.stamped_parts.specs.Stamps.{IsStampOf, raised}
 use Rattle.edited_items.specs.declared.items.ItemLists.{ItemLists}
 use Rattle.edited_items.specs.declared.items.ModelItems.{ModelItems}
 

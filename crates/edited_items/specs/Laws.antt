@@ -16,8 +16,7 @@ use Rattle.bench_nodes.specs.Nodes.{item_stamp}
 use Rattle.stamped_parts.specs.Contents.{PartContent, OfRole, State, item_content}
 use Rattle.stamped_parts.specs.Built.{IsItemRow}
 use Rattle.stamped_parts.specs.States.{IsPartAfter, has_kind}
-use Rattle.edited_tables.specs.Laws.{IsLaterNumber, IsPartNow}
-use Rattle.edited_tables.specs.Stamps.{next_number}
+use Rattle.stamped_parts.specs.Stamps.{IsLaterNumber, IsPartNow, next_number}
 use Rattle.edited_items.specs.Items.{ItemFact, kind_at, item_facts, AreItemsOf, raised_item}
 
 -- the rows and roles before the edit, and those that are made of the facts under its number

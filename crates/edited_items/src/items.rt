@@ -5,7 +5,7 @@ ghost use Rattle.std.specs.Arc.{arc_value};
 ghost use Rattle.cat_values.specs.Values.{clause_of};
 ghost use Rattle.shared_items.specs.Items.{RoleContent};
 ghost use Rattle.stamped_parts.specs.Contents.{role_part};
-ghost use Rattle.edited_tables.specs.Stamps.{IsStampOf};
+ghost use Rattle.stamped_parts.specs.Stamps.{IsStampOf};
 ghost use Rattle.edited_items.specs.Held.{held_part};
 ghost use Rattle.edited_items.specs.Items.{node_kind, read_role, held_after};
 

@@ -4,7 +4,7 @@ ghost use Rattle.std.specs.Prelude.{◌≡◌, map};
 ghost use Rattle.edited_items.specs.Items.{raised_item};
 
 use bench_nodes::ItemRow;
-use edited_tables::raised;
+use stamped_parts::raised;
 
 /// Puts the number of the edit after `last` into the rows of items.
 pub fn raise_items(rows: &mut [ItemRow], last: u64, number: u64)

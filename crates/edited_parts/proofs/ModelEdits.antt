@@ -37,9 +37,9 @@ use Rattle.stamped_parts.specs.Built.{IsItemRow, IsModelRow, AreTestRows, IsMode
 use Rattle.stamped_parts.specs.Contents.{State, state_of, content, item_content, fault_content, fault_part}
 use Rattle.stamped_parts.specs.States.{IsPartAfter}
 use Rattle.edited_tables.specs.declared.models.HeldModel.{HeldModel}
-use Rattle.edited_tables.specs.Laws.{IsLaterNumber, IsPartNow, WasModelRow}
+use Rattle.edited_tables.specs.Laws.{WasModelRow}
+use Rattle.stamped_parts.specs.Stamps.{IsLaterNumber, IsPartNow, next_number}
 use Rattle.edited_tables.specs.Models.{raised_model}
-use Rattle.edited_tables.specs.Stamps.{next_number}
 use Rattle.edited_items.specs.Items.{ItemFact, fact_at, item_facts, raised_item}
 use Rattle.edited_items.specs.Laws.{AreItemsAfter, DoesWhatIsRead}
 use Rattle.edited_items.specs.Laws as items

@@ -9,7 +9,8 @@ use Rattle.bench_nodes.specs.declared.table.TestRow.{TestRow}
 use Rattle.bench_nodes.specs.Nodes.{stamp_in, test_stamp}
 use Rattle.stamped_parts.specs.Built.{IsTestRow, AreTestRows}
 use Rattle.stamped_parts.specs.Contents.{test_part, test_content}
-use Rattle.edited_tables.specs.Laws.{IsPartNow, WasTestRow}
+use Rattle.edited_tables.specs.Laws.{WasTestRow}
+use Rattle.stamped_parts.specs.Stamps.{IsPartNow}
 use Rattle.edited_tables.specs.Tests.{TestEntry, held_by, stamp_by}
 use Rattle.edited_tables.proofs.TestRows.{row_stays}
 use Rattle.edited_parts.specs.Edited.{entry_by, test_id}

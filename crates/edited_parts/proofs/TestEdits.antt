@@ -23,8 +23,8 @@ use Rattle.stamped_parts.specs.declared.parts.Parts.{Parts}
 use Rattle.stamped_parts.specs.Built.{IsItemRow, IsModelRow, IsTestRow, AreTestRows, IsModelIn, IsBuilt}
 use Rattle.stamped_parts.specs.Contents.{State, state_of, content, item_content, fault_content, test_content}
 use Rattle.stamped_parts.specs.States.{IsPartAfter}
-use Rattle.edited_tables.specs.Laws.{IsLaterNumber, IsPartNow, IsTestAfter}
-use Rattle.edited_tables.specs.Stamps.{next_number}
+use Rattle.edited_tables.specs.Laws.{IsTestAfter}
+use Rattle.stamped_parts.specs.Stamps.{IsLaterNumber, IsPartNow, next_number}
 use Rattle.edited_tables.proofs.TestRows.{test_stamped, parts_now}
 use Rattle.edited_parts.specs.declared.edited.EditedParts.{EditedParts}
 use Rattle.edited_parts.specs.declared.edited.EditedParts.TheVariants as edited

@@ -16,7 +16,7 @@ use Rattle.model_slots.specs.Tables.{all_slots}
 use Rattle.stamped_parts.specs.declared.parts.Parts.{Parts}
 use Rattle.edited_tables.specs.declared.models.HeldModel.{HeldModel}
 use Rattle.edited_tables.specs.Models.{raised_model, IsModelRowOf}
-use Rattle.edited_tables.specs.Stamps.{next_number}
+use Rattle.stamped_parts.specs.Stamps.{next_number}
 use Rattle.edited_tables.specs.Tests.{TestEntry, IsRowOf, IsRaisedRow}
 use Rattle.edited_items.specs.Items.{raised_item, AreListsOf}
 use Rattle.edited_parts.specs.declared.edited.EditedParts.{EditedParts}

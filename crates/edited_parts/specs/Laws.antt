@@ -9,7 +9,7 @@ use Rattle.bench_texts.specs.Replacements.{tests_with, models_with}
 use Rattle.stamped_parts.specs.Contents.{state_of}
 use Rattle.stamped_parts.specs.States.{IsPartAfter}
 use Rattle.stamped_parts.specs.declared.parts.Parts.{Parts}
-use Rattle.edited_tables.specs.Laws.{IsLaterNumber}
+use Rattle.stamped_parts.specs.Stamps.{IsLaterNumber}
 use Rattle.edited_parts.specs.declared.edited.EditedParts.{EditedParts}
 use Rattle.edited_parts.specs.Edited.{IsMade, Commits}
 use Rattle.edited_parts.specs.Owed.{AreApart, ArePartsOf, item_numbers}

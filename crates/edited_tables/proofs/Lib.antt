@@ -1,2 +1,2 @@
-pub mod Stamping
+pub mod ModelRows
 pub mod TestRows

@@ -10,10 +10,10 @@ use Rattle.bench_nodes.specs.declared.table.TestRow.{TestRow}
 use Rattle.bench_nodes.specs.Nodes.{stamp_in}
 use Rattle.stamped_parts.specs.Built.{IsStamp, IsTestRow}
 use Rattle.stamped_parts.specs.Contents.{PartContent, OfCondition, OfObserved, OfLocations, OfInit, OfThread, test_part}
-use Rattle.edited_tables.specs.Laws.{IsPartNow, WasTestRow, IsTestAfter}
-use Rattle.edited_tables.specs.Stamps.{raised, IsStampOf}
+use Rattle.edited_tables.specs.Laws.{WasTestRow, IsTestAfter}
+use Rattle.stamped_parts.specs.Stamps.{IsPartNow, raised, IsStampOf}
 use Rattle.edited_tables.specs.Tests.{TestEntry, held_by, stamp_by, thread_at, thread_by, thread_stamp_by}
-use Rattle.edited_tables.proofs.Stamping.{raised_low, part_now, stamp_now}
+use Rattle.stamped_parts.proofs.Stamping.{raised_low, part_now, stamp_now}
 
 -- ---- parts, one by one
 

@@ -1,25 +1,16 @@
 -- LAWS of rows after an edit: what `laws` states.
-use Rattle.std.specs.Prelude.{◌≡◌, ◌⊎◌, ⊤, ℕ, ◌<◌, ◌^◌, List, Option, Some, None}
+use Rattle.std.specs.Prelude.{⊤, ℕ, List, Option, Some, None}
 use Rattle.litmus_values.specs.declared.test.Test.{Test}
 use Rattle.binding_kinds.specs.declared.fault.ModelFault.{ModelFault}
 use Rattle.bench_nodes.specs.declared.table.ModelRow.{ModelRow}
 use Rattle.bench_nodes.specs.declared.table.TestRow.{TestRow}
 use Rattle.bench_nodes.specs.Nodes.{stamp_in}
-use Rattle.stamped_parts.specs.Contents.{PartContent, fault_part, test_part}
+use Rattle.stamped_parts.specs.Contents.{fault_part, test_part}
 use Rattle.stamped_parts.specs.Built.{IsModelRow, IsTestRow}
 use Rattle.edited_tables.specs.declared.models.HeldModel.{HeldModel}
 use Rattle.edited_tables.specs.Models.{fault_by, fault_stamp_by, raised_model, IsModelRowOf}
-use Rattle.edited_tables.specs.Stamps.{next_number}
+use Rattle.stamped_parts.specs.Stamps.{next_number, IsLaterNumber, IsPartNow}
 use Rattle.edited_tables.specs.Tests.{TestEntry, held_by, stamp_by, IsRowOf, IsRaisedRow}
-
--- the number of an edit after the last, of 64 bits
-pub record IsLaterNumber (last number : ℕ) : Type 0 where
-  pub later : last < number
-  pub fits : number < 2 ^ 64
-
--- a part is as it was, has the number of the edit, or is gone
-abbrev pub IsPartNow : (before : Option PartContent) (was number : ℕ) (now : Option PartContent) (stamp : ℕ) → Type 0
-IsPartNow before was number now stamp = ((stamp ≡ was) × (now ≡ before)) ⊎ (stamp ≡ number) ⊎ (stamp ≡ 0)
 
 -- ---- tests
 

@@ -1,4 +1,3 @@
 pub mod Laws
 pub mod Models
-pub mod Stamps
 pub mod Tests

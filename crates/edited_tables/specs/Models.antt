@@ -4,7 +4,7 @@ use Rattle.binding_kinds.specs.declared.fault.ModelFault.{ModelFault}
 use Rattle.bench_nodes.specs.declared.table.ModelRow.{ModelRow}
 use Rattle.stamped_parts.specs.Contents.{PartContent, fault_part}
 use Rattle.edited_tables.specs.declared.models.HeldModel.{HeldModel}
-use Rattle.edited_tables.specs.Stamps.{IsStampOf, raised}
+use Rattle.stamped_parts.specs.Stamps.{IsStampOf, raised}
 
 -- the fault that a model had, and its stamp
 abbrev pub fault_by : Option HeldModel → Option PartContent

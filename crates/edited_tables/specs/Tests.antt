@@ -7,7 +7,7 @@ use Rattle.bench_nodes.specs.declared.table.TestRow.{TestRow}
 use Rattle.bench_nodes.specs.Nodes.{stamp_in}
 use Rattle.stamped_parts.specs.Contents.{PartContent, OfThread, test_part}
 use Rattle.edited_tables.specs.declared.rows.HeldTest.{HeldTest}
-use Rattle.edited_tables.specs.Stamps.{IsStampOf, raised}
+use Rattle.stamped_parts.specs.Stamps.{IsStampOf, raised}
 
 -- a test with its row and the set of its locations
 pub record TestEntry : Type 0 where

@@ -1,7 +1,7 @@
 //! The rows of models.
 
 ghost use Rattle.edited_tables.specs.Models.{fault_by, fault_stamp_by, IsModelRowOf};
-ghost use Rattle.edited_tables.specs.Stamps.{IsStampOf};
+ghost use Rattle.stamped_parts.specs.Stamps.{IsStampOf};
 ghost use Rattle.stamped_parts.specs.Contents.{fault_part};
 
 use bench_nodes::ModelRow;

@@ -1,18 +1,12 @@
 //! Puts the number of an edit in the place of the stamp that stands for it. It takes no memory.
 
 ghost use Rattle.std.specs.Prelude.{◌≡◌, map};
-ghost use Rattle.edited_tables.specs.Stamps.{raised};
+ghost use Rattle.stamped_parts.specs.Stamps.{raised};
 ghost use Rattle.edited_tables.specs.Models.{raised_model};
 ghost use Rattle.edited_tables.specs.Tests.{IsRaisedRow};
 
 use bench_nodes::{ModelRow, TestRow};
-
-/// The number of the edit where the stamp is above that of the last edit, and else the stamp.
-pub fn raised(last: u64, number: u64, stamp: u64) -> u64
-    ensures { result ≡ raised last number stamp }
-{
-    if last < stamp { number } else { stamp }
-}
+use stamped_parts::raised;
 
 fn raise_stamps(stamps: &mut [u64], last: u64, number: u64)
     ensures { stamps.new ≡ map (raised last number) stamps.old }

@@ -3,7 +3,7 @@
 ghost use Rattle.std.specs.Prelude.{◌≡◌, ◌↔◌, ℕ, Some, IsTrue, IfOk, option_map, length, get_or};
 ghost use Rattle.litmus_values.specs.Value.{formula_of, steps_of};
 ghost use Rattle.stamped_parts.specs.Contents.{OfCondition, OfObserved, OfLocations, OfInit, OfThread};
-ghost use Rattle.edited_tables.specs.Stamps.{IsStampOf, next_number};
+ghost use Rattle.stamped_parts.specs.Stamps.{IsStampOf, next_number};
 ghost use Rattle.edited_tables.specs.Tests.{entry_of, held_by, stamp_by, thread_at, thread_by, thread_stamp_by, IsRowOf};
 
 use bench_nodes::TestRow;

@@ -9,3 +9,4 @@ pub mod Owners
 pub mod Rows
 pub mod Same
 pub mod SpaceParts
+pub mod Stamping

@@ -11,6 +11,8 @@ mod jobs;
 pub mod laws;
 mod nodes;
 mod parts;
+mod stamps;
 
 pub use jobs::{is_same, run};
 pub use parts::Parts;
+pub use stamps::raised;

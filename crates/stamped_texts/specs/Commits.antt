@@ -12,7 +12,7 @@ use Rattle.bench_texts.specs.Replacements.{texts_with, tests_with, models_with}
 use Rattle.stamped_parts.specs.declared.parts.Parts.{Parts}
 use Rattle.stamped_parts.specs.Contents as contents
 use Rattle.stamped_parts.specs.States.{IsSameState, IsPartAfter, IsStamped}
-use Rattle.edited_tables.specs.Laws.{IsLaterNumber}
+use Rattle.stamped_parts.specs.Stamps.{IsLaterNumber}
 use Rattle.edited_tables.specs.Models.{raised_model}
 use Rattle.edited_tables.specs.Tests.{IsRaisedRow}
 use Rattle.edited_items.specs.Items.{raised_item}

@@ -1,7 +1,7 @@
 use Rattle.std.proofs.Common.{arith}
 use Rattle.bench_nodes.specs.declared.table.ModelRow.{ModelRow}
 use Rattle.edited_tables.specs.Models.{raised_model}
-use Rattle.edited_tables.proofs.Stamping.{changed_more}
+use Rattle.stamped_parts.proofs.Stamping.{changed_more}
 use Rattle.edited_parts.proofs.commit.raise_models.Goals as goal
 
 pub loop-row-preserved : goal.loop-row-preserved

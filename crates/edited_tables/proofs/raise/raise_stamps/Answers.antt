@@ -1,6 +1,6 @@
 use Rattle.std.proofs.Common.{arith}
-use Rattle.edited_tables.specs.Stamps.{raised}
-use Rattle.edited_tables.proofs.Stamping.{changed_more}
+use Rattle.stamped_parts.specs.Stamps.{raised}
+use Rattle.stamped_parts.proofs.Stamping.{changed_more}
 use Rattle.edited_tables.proofs.raise.raise_stamps.Goals as goal
 
 pub loop-stamp-preserved : goal.loop-stamp-preserved

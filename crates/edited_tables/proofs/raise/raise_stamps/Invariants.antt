@@ -1,5 +1,5 @@
 use Rattle.std.proofs.Common.{◌≡◌, ◌++◌, map, take, drop}
-use Rattle.edited_tables.specs.Stamps.{raised}
+use Rattle.stamped_parts.specs.Stamps.{raised}
 use Rattle.edited_tables.proofs.raise.raise_stamps.Given as goal
 
 abbrev pub invariant-loop-stamp : goal.invariant-loop-stamp

@@ -1,5 +1,5 @@
 use Rattle.std.proofs.Common.{◌≡◌, ℕ, ◌<◌, length, get_or, option_map}
-use Rattle.edited_tables.specs.Stamps.{IsStampOf}
+use Rattle.stamped_parts.specs.Stamps.{IsStampOf}
 use Rattle.edited_tables.specs.Tests.{entry_of, thread_at, thread_by, thread_stamp_by}
 use Rattle.edited_tables.proofs.rows.thread_stamps.Given as goal
 

@@ -1,5 +1,5 @@
--- Read this first: the stamps of parts before an edit and after it.
-use Rattle.std.specs.Prelude.{◌≡◌, ◌≢◌, ◌⊎◌, ℕ, ◌+◌, ◌-◌, ◌^◌, min, nat_lt, if◌then◌else◌, Option, Some, None}
+-- The stamps of parts before an edit and after it. Read it after Contents.
+use Rattle.std.specs.Prelude.{◌≡◌, ◌≢◌, ◌⊎◌, ℕ, ◌+◌, ◌-◌, ◌^◌, ◌<◌, min, nat_lt, if◌then◌else◌, Option, Some, None}
 use Rattle.stamped_parts.specs.Contents.{PartContent}
 
 -- stands for the number of the next edit until that is known: it is above all stamps
@@ -15,3 +15,12 @@ IsStampOf fresh before was (Some now) stamp = ((before ≡ Some now) × (stamp �
 -- a stamp above that of the last edit becomes the number of this one
 abbrev pub raised : (last number stamp : ℕ) → ℕ
 raised last number stamp = if nat_lt last stamp then number else stamp
+
+-- the number of an edit after the last, of 64 bits
+pub record IsLaterNumber (last number : ℕ) : Type 0 where
+  pub later : last < number
+  pub fits : number < 2 ^ 64
+
+-- a part is as it was, has the number of the edit, or is gone
+abbrev pub IsPartNow : (before : Option PartContent) (was number : ℕ) (now : Option PartContent) (stamp : ℕ) → Type 0
+IsPartNow before was number now stamp = ((stamp ≡ was) × (now ≡ before)) ⊎ (stamp ≡ number) ⊎ (stamp ≡ 0)
