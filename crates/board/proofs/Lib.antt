@@ -4,3 +4,4 @@ pub mod Legal
 pub mod Names
 pub mod Announcing
 pub mod Items
+pub mod Histories

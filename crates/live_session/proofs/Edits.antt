@@ -6,7 +6,7 @@ use Rattle.bench_texts.specs.Edits.{Edit, Applies, edit_of}
 use Rattle.session_edits.specs.Answer.{Said}
 use Rattle.session_edits.specs.Edits.{IsEdited, IsAccepted, IsRefused}
 use Rattle.board.specs.declared.operation.BoardOp.{BoardOp}
-use Rattle.running_bench.specs.Texts.{no_contents}
+use Rattle.board.specs.Histories.{no_contents}
 use Rattle.session_views.specs.Knowing.{KnowsOwn, HasOwnEdit}
 use Rattle.live_session.specs.Ready.{IsReady}
 

@@ -4,7 +4,7 @@ ghost use Rattle.std.specs.Prelude.{OnOk, OnErr, IfOk, ◌≡◌, Err};
 ghost use Rattle.board.specs.Operations.{board_after};
 ghost use Rattle.desk.specs.Boards.{AreSettled};
 ghost use Rattle.running_bench.specs.Cells.{board_cells};
-ghost use Rattle.running_bench.specs.Texts.{IsHistory};
+ghost use Rattle.board.specs.Histories.{IsHistory};
 ghost use Rattle.live_watch.specs.Lines.{lists_of, names_of, AreShown};
 
 use crate::turnstile::RunningTurnstile;

@@ -27,7 +27,8 @@ use Rattle.stamped_texts.specs.declared.texts.PreparedEdit.{PreparedEdit}
 use Rattle.stamped_texts.specs.declared.texts.StampedTexts.{StampedTexts}
 use Rattle.running_bench.specs.Cells.{cell_with, all_cells, IsCountable, board_cells, IsIndexOf, IsNamedAt, HasNoNames}
 use Rattle.running_bench.specs.Listing.{are_all, all_length, all_get, cell_of_row, row_cell, outcome_at}
-use Rattle.running_bench.specs.Texts.{no_contents, AreAfter, MayFollowBelow, Announced}
+use Rattle.board.specs.Histories.{no_contents}
+use Rattle.running_bench.specs.Texts.{AreAfter, MayFollowBelow, Announced}
 
 -- ---- how many cells
 

@@ -1,4 +1,3 @@
 pub mod Indexes
 pub mod Above
 pub mod Crossings
-pub mod Contents

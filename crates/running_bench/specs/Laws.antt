@@ -42,8 +42,9 @@ use Rattle.stamped_texts.specs.Edited.{IsPrepared, IsCommitted}
 use Rattle.stamped_texts.specs.Cells.{from_scratch, scratch_by, test_of, model_of}
 use Rattle.stamped_texts.specs.CellProofs.{cell_in, is_named, stands_there, tests_apart, models_apart}
 use Rattle.running_bench.specs.Cells.{cell_with, all_cells, IsCountable, board_cells}
-use Rattle.running_bench.specs.Texts.{no_contents, contents_with, contents_after, AreAfter}
-use Rattle.running_bench.specs.Texts.{IsMadeOn, AreMadeFrom, IsHistory, MayComeNext, Announced, IsEditAfter, IsSettle, Settles}
+use Rattle.board.specs.Histories.{no_contents, contents_with, contents_after, IsMadeOn, AreMadeFrom, IsHistory, MayComeNext, IsEditAfter, IsSettle}
+use Rattle.running_bench.specs.Texts.{AreAfter}
+use Rattle.running_bench.specs.Texts.{Announced, Settles}
 use Rattle.running_bench.specs.Listing.{are_all, all_get, all_put, cell_of_row, row_cell, outcome_at}
 
 -- ---- names

@@ -1,5 +1,4 @@
 pub mod Cells
 pub mod Texts
 pub mod Listing
-pub mod Contents
 pub mod Laws

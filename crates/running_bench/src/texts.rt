@@ -259,7 +259,7 @@ impl Operations for RunningTexts {
     type Board = Board;
 
     ghost use Rattle.board.specs.Operations.{no_board, after_operation};
-    ghost use Rattle.running_bench.specs.Texts.{IsHistory, MayComeNext};
+    ghost use Rattle.board.specs.Histories.{IsHistory, MayComeNext};
     ghost use Rattle.running_bench.specs.Laws.{goes_on};
 
     ghost is_legal = { IsHistory };
@@ -337,7 +337,8 @@ impl BoardTexts for RunningTexts {
     ghost use Rattle.std.proofs.Common.{refl};
     ghost use Rattle.board.specs.Legal.{last_number};
     ghost use Rattle.std.specs.Prelude.{◌↔◌};
-    ghost use Rattle.running_bench.specs.Texts.{AreAfter, Announced, IsWantOfMemory, IsEditAfter, IsSettle, Settles};
+    ghost use Rattle.board.specs.Histories.{IsEditAfter, IsSettle};
+    ghost use Rattle.running_bench.specs.Texts.{AreAfter, Announced, IsWantOfMemory, Settles};
     ghost use Rattle.running_bench.specs.Laws.{same_after, edits_follow, edits_after, edits_named, edits_numbered};
     ghost use Rattle.running_bench.specs.Laws.{settles_follow, settles_named, settles_after, settles_numbered, settles_show};
     ghost use Rattle.running_bench.specs.Laws.{cells_are_known};

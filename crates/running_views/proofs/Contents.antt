@@ -15,9 +15,10 @@ use Rattle.board.specs.declared.operation.BoardOp.TheVariants.{Edit, Settle}
 use Rattle.board.specs.Legal.{Held, held_of, texts_after}
 use Rattle.stamped_texts.specs.declared.texts.StampedTexts.{StampedTexts}
 use Rattle.stamped_texts.specs.Cells.{from_scratch, scratch_by, test_of as test_in, model_of as model_in}
-use Rattle.running_bench.specs.Texts.{no_contents, contents_with, contents_after, AreAfter, IsEditOf, IsMadeOn, AreMadeFrom, IsHistory}
+use Rattle.board.specs.Histories.{no_contents, contents_with, contents_after, IsEditOf, IsMadeOn, AreMadeFrom, IsHistory}
+use Rattle.running_bench.specs.Texts.{AreAfter}
 use Rattle.running_bench.specs.Laws.{made_few}
-use Rattle.running_bench.proofs.Contents.{contents_are_those}
+use Rattle.board.proofs.Histories.{contents_are_those}
 use Rattle.running_views.specs.Contents.{IsApplied, IsWithinLimits, SayTheSame}
 
 -- ---- one operation more

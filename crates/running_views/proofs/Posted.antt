@@ -24,7 +24,8 @@ use Rattle.stamped_texts.specs.Cells.{from_scratch, scratch_by, test_of, model_o
 use Rattle.stamped_texts.specs.CellProofs.{stands_there, tests_apart, models_apart}
 use Rattle.running_bench.specs.Cells.{cell_with, row_cells, all_cells, IsCountable, board_cells}
 use Rattle.running_bench.specs.Listing.{are_all, all_get, outcome_at, row_cell, cell_of_row}
-use Rattle.running_bench.specs.Texts.{AreAfter, IsHistory}
+use Rattle.board.specs.Histories.{IsHistory}
+use Rattle.running_bench.specs.Texts.{AreAfter}
 use Rattle.view_laws.specs.Results.{test_named, model_named, IsResultIn, IsRightCell}
 use Rattle.running_views.specs.Posted.{ShowsEachResult, SettledIsShown, PostedIsShown}
 use Rattle.view_laws.proofs.Names.{found, found_alike, there_alike, same_name, below}

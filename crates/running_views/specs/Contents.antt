@@ -1,14 +1,13 @@
 -- The texts after some operations as they are read, and with the numbers of their items. Read it after those of `running_bench`.
 use Rattle.std.specs.Prelude.{◌≡◌, ◌≤◌, ℕ, false, List, [], ◌∷◌, ◌++◌, length}
 use Rattle.verdict.specs.declared.answer.Outcome.{Outcome}
-use Rattle.bench_texts.specs.BenchTexts.{BenchTexts}
 use Rattle.bench_texts.specs.Edits as edits
 use Rattle.bench_texts.specs.Held.{texts_of}
 use Rattle.board.specs.declared.operation.BoardOp.{BoardOp}
 use Rattle.board.specs.Legal.{Held, held_of}
 use Rattle.stamped_texts.specs.declared.texts.StampedTexts.{StampedTexts}
 use Rattle.stamped_texts.specs.Cells.{from_scratch}
-use Rattle.running_bench.specs.Texts.{contents_after, IsEditOf}
+use Rattle.board.specs.Histories.{contents_after, IsEditOf}
 
 -- with the operation of an edit the texts are those that the edit makes
 abbrev pub IsApplied : List BoardOp → BoardOp → Type 0

@@ -8,8 +8,8 @@ ghost use Rattle.stamped_texts.specs.Texts.{IsSound};
 ghost use Rattle.board.specs.Operations.{board_after};
 ghost use Rattle.desk.specs.Boards.{AreSettled};
 ghost use Rattle.running_bench.specs.Cells.{board_cells};
-ghost use Rattle.running_bench.specs.Texts.{AreAfter, IsHistory};
-ghost use Rattle.running_bench.specs.Contents.{HasContents};
+ghost use Rattle.board.specs.Histories.{HasContents, IsHistory};
+ghost use Rattle.running_bench.specs.Texts.{AreAfter};
 ghost use Rattle.running_views.specs.Contents.{IsApplied, IsWithinLimits, SayTheSame};
 ghost use Rattle.running_views.specs.Posted.{SettledIsShown, ShowsEachResult, PostedIsShown};
 

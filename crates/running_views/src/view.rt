@@ -9,7 +9,7 @@ ghost use Rattle.board.specs.Legal.{IsLegal, texts_after, last_number};
 ghost use Rattle.view_laws.specs.Results.{IsRightCell, ShowsRightCells};
 ghost use Rattle.view_laws.specs.Edits.{edit_count};
 ghost use Rattle.view_laws.specs.Items.{ShowsRightItems};
-ghost use Rattle.running_bench.specs.Texts.{AreEditsMade};
+ghost use Rattle.board.specs.Histories.{AreEditsMade};
 
 use compare_report::Shown;
 use desk_rule::{Naming, View, Viewer};

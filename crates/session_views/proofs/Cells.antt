@@ -11,7 +11,7 @@ use Rattle.compare_report.specs.Cells.{Settled}
 use Rattle.board.specs.Contents.{BoardContent, cell_at, shown_cell}
 use Rattle.board.specs.Legal.{texts_after, IsRightAt}
 use Rattle.board.proofs.Legal.{legal_is_right}
-use Rattle.running_bench.proofs.Contents.{contents_are_those}
+use Rattle.board.proofs.Histories.{contents_are_those}
 use Rattle.session_answers.specs.Cells.{IsOutcome}
 use Rattle.session_answers.proofs.Named.{clauses_of-items}
 use Rattle.session_views.specs.Shown.{ShowsTexts}

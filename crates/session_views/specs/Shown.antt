@@ -5,7 +5,7 @@ use Rattle.board.specs.declared.operation.BoardOp.{BoardOp}
 use Rattle.board.specs.Contents.{BoardContent}
 use Rattle.board.specs.Operations.{board_after}
 use Rattle.board.specs.Legal.{IsLegal}
-use Rattle.running_bench.specs.Texts.{contents_after}
+use Rattle.board.specs.Histories.{contents_after}
 
 -- the board is that after legal operations, and these are the texts after them
 pub record ShowsTexts (t : BenchTexts) (b : BoardContent) : Type 0 where

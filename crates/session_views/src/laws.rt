@@ -12,7 +12,7 @@ ghost use Rattle.board.specs.declared.operation.BoardOp.{BoardOp};
 ghost use Rattle.board.specs.Contents.{BoardContent, cell_at};
 ghost use Rattle.board.specs.Operations.{board_after};
 ghost use Rattle.board.specs.Legal.{IsLegal};
-ghost use Rattle.running_bench.specs.Texts.{no_contents};
+ghost use Rattle.board.specs.Histories.{no_contents};
 ghost use Rattle.session_answers.specs.Cells.{IsOutcome};
 ghost use Rattle.view_laws.specs.Edits.{edit_count};
 ghost use Rattle.session_views.specs.Knowing.{KnowsOwn, HasOwnEdit};

@@ -1,4 +1,4 @@
-use Rattle.running_bench.proofs.Contents.{contents_are_those}
+use Rattle.board.proofs.Histories.{contents_are_those}
 use Rattle.running_views.proofs.Contents.{edit_is_applied}
 use Rattle.running_views.proofs.laws.edits_are_applied.Goals as goal
 

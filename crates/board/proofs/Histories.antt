@@ -12,8 +12,7 @@ use Rattle.board.specs.declared.operation.BoardOp.{BoardOp}
 use Rattle.board.specs.declared.operation.BoardOp.TheVariants.{Edit, Settle}
 use Rattle.board.specs.Legal.{Held, nothing_held, held_with, held_after}
 use Rattle.board.proofs.Changed.{map-placed}
-use Rattle.running_bench.specs.Contents.{IsContentOf, HasContents}
-use Rattle.running_bench.specs.Texts.{no_contents, contents_with}
+use Rattle.board.specs.Histories.{IsContentOf, HasContents, no_contents, contents_with}
 
 put_same : {A B : Type 0} (f : A → B) (at : ℕ) (y : A) (xs : List A) (ys : List B) → ys ≡ map f xs → put_at at (f y) ys ≡ map f (put_at at y xs)
 put_same f at y xs ys e = ap (λ zs. put_at at (f y) zs) e ∙ sym (map-placed f y xs at)

@@ -1,0 +1,76 @@
+-- Histories of operations: the texts after them as they are read, and which edits those texts make. Read it after Legal.
+use Rattle.std.specs.Prelude.{◌≡◌, false, ℕ, List, [], ◌∷◌, fold, map}
+use Rattle.litmus_values.specs.Value.{content_of}
+use Rattle.bench_texts.specs.declared.edit.Edit as code
+use Rattle.bench_texts.specs.BenchTexts.{BenchTexts}
+use Rattle.bench_texts.specs.Edits.{Edit, edit_of, Applies}
+use Rattle.bench_texts.specs.Held.{model_of}
+use Rattle.bench_texts.specs.Replacements.{texts_with}
+use Rattle.board.specs.declared.operation.BoardOp.{BoardOp}
+use Rattle.board.specs.declared.operation.BoardOp.TheVariants as ops
+use Rattle.board.specs.Legal as legal
+use Rattle.board.specs.Legal.{Held, texts_after, MayFollow, IsLegal}
+
+-- ---- texts after operations
+
+-- no tests and no models; the first item is given number 1
+abbrev pub no_contents : BenchTexts
+no_contents = record { tests = []; models = []; next = 1 }
+
+-- the texts after one operation more
+abbrev pub contents_with : BenchTexts → BoardOp → BenchTexts
+contents_with t (ops.Edit edit) = texts_with edit.prepared.value.replacement t
+contents_with t (ops.Settle at outcome) = t
+
+-- the texts after the edits among these operations, with the numbers of their items
+abbrev pub contents_after : List BoardOp → BenchTexts
+contents_after all = fold contents_with no_contents all
+
+-- these are what the tests and the models say
+pub record IsContentOf (t : BenchTexts) (h : Held) : Type 0 where
+  pub tests : t.tests ≡ map content_of h.tests
+  pub models : t.models ≡ map model_of h.models
+
+-- the two kinds of texts after these operations are the same
+abbrev pub HasContents : List BoardOp → Type 0
+HasContents ops = IsContentOf (contents_after ops) (texts_after ops)
+
+-- ---- histories
+
+-- an edit is one that these texts make
+abbrev pub IsMadeOn : BenchTexts → BoardOp → Type 0
+IsMadeOn t (ops.Edit edit) = (e : Edit) × Applies t false e (texts_with edit.prepared.value.replacement t)
+IsMadeOn t (ops.Settle at outcome) = Unit {0}
+
+-- each edit among these operations is one that these texts, after the operations before it, make
+abbrev pub AreMadeFrom : BenchTexts → List BoardOp → Type 0
+AreMadeFrom t [] = Unit {0}
+AreMadeFrom t (op ∷ all) = IsMadeOn t op × AreMadeFrom (contents_with t op) all
+
+-- and so from no texts
+abbrev pub AreEditsMade : List BoardOp → Type 0
+AreEditsMade all = AreMadeFrom no_contents all
+
+-- the operations of a running bench
+abbrev pub IsHistory : List BoardOp → Type 0
+IsHistory all = IsLegal all × AreEditsMade all
+
+-- ---- operations that come next
+
+-- the operation may come after these
+abbrev pub MayComeNext : List BoardOp → BoardOp → Type 0
+MayComeNext all op = MayFollow (texts_after all) (legal.last_number all) op × IsMadeOn (contents_after all) op
+
+-- the operation is that of the edit of these texts, under that number
+abbrev pub IsEditOf : BenchTexts → BoardOp → Edit → ℕ → Type 0
+IsEditOf t (ops.Edit edit) e number = (edit.number ≡ number) × Applies t false e (texts_with edit.prepared.value.replacement t)
+IsEditOf t (ops.Settle at outcome) e number = ⊥
+
+-- the operation is that of the edit of the texts after these, under that number
+abbrev pub IsEditAfter : List BoardOp → BoardOp → code.Edit → ℕ → Type 0
+IsEditAfter all op e number = IsEditOf (contents_after all) op (edit_of e) number
+
+-- the operation settles a cell
+abbrev pub IsSettle : BoardOp → Type 0
+IsSettle (ops.Edit edit) = ⊥
+IsSettle (ops.Settle at outcome) = Unit {0}
