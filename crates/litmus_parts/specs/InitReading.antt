@@ -1,12 +1,13 @@
 -- What the reader holds of the init block, as the machine sees it.
-use Rattle.std.specs.Prelude.{◌≡◌, ℕ, List, map, Option, Some, Result, Ok, Err}
+use Rattle.std.specs.Prelude.{◌≡◌, ℕ, List, map, Bool, true, false, Option, Some, Result, Ok, Err}
 use Rattle.std.specs.declared.vec.Vec.{Vec}
 use Rattle.std.specs.declared.alloc.Global.{Global}
 use Rattle.std.specs.BTreeSet.{keys}
 use Rattle.litmus_conditions.specs.declared.step.StepError.{StepError}
 use Rattle.litmus_table.specs.Reading.{Refuses}
 use Rattle.litmus_parts.specs.declared.init.InitBlock.{InitBlock}
-use Rattle.litmus_grammar.specs.declared.parts.InitStep.{InitStep}
+use Rattle.litmus_grammar.specs.declared.parts.InitExpectation.{InitExpectation}
+use Rattle.litmus_grammar.specs.declared.parts.InitStep.TheVariants as steps
 use Rattle.litmus_grammar.specs.InitMachine as machine
 
 abbrev pub bytes_of : Vec ℕ Global → List ℕ
@@ -21,6 +22,7 @@ Adds (Ok u) b made = made ≡ Some (block_of b)
 Adds (Err e) b made = Refuses e made
 
 -- and what a token did.
-abbrev pub Steps : Result InitStep StepError → InitBlock → Option machine.Did → Type 0
-Steps (Ok s) b made = made ≡ Some (record { step = s; block = block_of b })
-Steps (Err e) b made = Refuses e made
+abbrev pub Steps : Result Bool StepError → InitExpectation → InitBlock → Option machine.Did → Type 0
+Steps (Ok true) expected b made = made ≡ Some (record { step = steps.Ends; block = block_of b })
+Steps (Ok false) expected b made = made ≡ Some (record { step = steps.Goes expected; block = block_of b })
+Steps (Err e) expected b made = Refuses e made

@@ -28,6 +28,6 @@ part_of parts.WantsEnd = machine.WantsEnd
 part_of parts.Done = machine.Done
 
 -- What a function returned is what the machine does, unless memory ran out.
-abbrev pub IsNextPart : Result code_part.Part StepError → Option machine.Part → Type 0
-IsNextPart (Ok p) made = made ≡ Some (part_of p)
-IsNextPart (Err e) made = Refuses e made
+abbrev pub IsNextPart : Result (Unit {0}) StepError → code_part.Part → Option machine.Part → Type 0
+IsNextPart (Ok u) p made = made ≡ Some (part_of p)
+IsNextPart (Err e) p made = Refuses e made

@@ -8,12 +8,13 @@ ghost use Rattle.litmus_parts.specs.InitReading.{block_of, Adds, Steps};
 use litmus_conditions::{
     PlaceExpectation, PlaceStep, StepError, place_step, register_of, value_read,
 };
-use litmus_grammar::{InitExpectation, InitStep};
+use litmus_grammar::InitExpectation;
 use litmus_tokens::{Mark, Token};
 use litmus_values::{InitEntry, Place, Register};
 use source_text::Name;
 use std::alloc::{AllocError, Global};
 use std::collections::BTreeSet;
+use std::mem;
 
 /// The entries that were read so far.
 #[derive(Drop)]
@@ -70,72 +71,97 @@ impl InitBlock {
         }
     }
 
-    /// The step over a token at this byte offset. Errors: out of memory, or the token is refused; the
-    /// block is then to be dropped.
+    /// The step over a token at this byte offset, and whether the block ends with it. Errors: out of memory, or the
+    /// token is refused; the block is then to be dropped.
+    #[inline(never)]
     pub fn step(
         &mut self,
-        expected: InitExpectation,
+        expected: &mut InitExpectation,
         token: Token,
         offset: usize,
-    ) -> Result<InitStep, StepError>
+    ) -> Result<bool, StepError>
         // It does what the machine does.
-        ensures { Steps result self.new (step (block_of self.old) expected token offset) }
+        ensures { Steps result expected.new self.new (step (block_of self.old) expected.old token offset) }
     {
-        match expected {
+        match mem::replace(expected, InitExpectation::WantsOpen) {
             InitExpectation::WantsOpen => match token {
-                Token::Mark(Mark::OpenBrace) => Ok(InitStep::Goes(InitExpectation::WantsEntry)),
+                Token::Mark(Mark::OpenBrace) => {
+                    *expected = InitExpectation::WantsEntry;
+                    Ok(false)
+                }
                 _ => Err(StepError::Refused),
             },
-            InitExpectation::WantsEntry => self.entry_read(token, offset),
-            InitExpectation::InPlace(within) => self.place_read(within, token),
+            InitExpectation::WantsEntry => self.entry_read(expected, token, offset),
+            InitExpectation::InPlace(within) => self.place_read(expected, within, token),
             InitExpectation::WantsEquals(target) => match token {
-                Token::Mark(Mark::Equals) => Ok(InitStep::Goes(InitExpectation::WantsValue(
-                    target,
-                ))),
+                Token::Mark(Mark::Equals) => {
+                    *expected = InitExpectation::WantsValue(target);
+                    Ok(false)
+                }
                 _ => Err(StepError::Refused),
             },
-            InitExpectation::WantsValue(target) => self.value_read(target, token),
+            InitExpectation::WantsValue(target) => self.value_read(expected, target, token),
             InitExpectation::HasEntry => match token {
-                Token::Mark(Mark::Semicolon) => Ok(InitStep::Goes(InitExpectation::WantsEntry)),
-                Token::Mark(Mark::CloseBrace) => Ok(InitStep::Ends),
+                Token::Mark(Mark::Semicolon) => {
+                    *expected = InitExpectation::WantsEntry;
+                    Ok(false)
+                }
+                Token::Mark(Mark::CloseBrace) => Ok(true),
                 _ => Err(StepError::Refused),
             },
         }
     }
 
     // A token where an entry may begin.
-    fn entry_read(&mut self, token: Token, offset: usize) -> Result<InitStep, StepError>
-        ensures { Steps result self.new (entry_read (block_of self.old) token offset) }
+    fn entry_read(
+        &mut self,
+        expected: &mut InitExpectation,
+        token: Token,
+        offset: usize,
+    ) -> Result<bool, StepError>
+        ensures { Steps result expected.new self.new (entry_read (block_of self.old) token offset) }
     {
         match token {
-            Token::Mark(Mark::CloseBrace) => Ok(InitStep::Ends),
+            Token::Mark(Mark::CloseBrace) => Ok(true),
             other => {
                 self.starts.push(offset)?;
-                self.place_read(PlaceExpectation::Begins, other)
+                self.place_read(expected, PlaceExpectation::Begins, other)
             }
         }
     }
 
     // A token of a place that no entry before has.
-    fn place_read(&mut self, within: PlaceExpectation, token: Token) -> Result<InitStep, StepError>
-        ensures { Steps result self.new (place_read (block_of self.old) within token) }
+    fn place_read(
+        &mut self,
+        expected: &mut InitExpectation,
+        within: PlaceExpectation,
+        token: Token,
+    ) -> Result<bool, StepError>
+        ensures { Steps result expected.new self.new (place_read (block_of self.old) within token) }
     {
         self.note(&within, &token)?;
         match place_step(within, token)? {
-            PlaceStep::Goes(expected) => Ok(InitStep::Goes(InitExpectation::InPlace(expected))),
+            PlaceStep::Goes(within) => *expected = InitExpectation::InPlace(within),
             PlaceStep::Ends(written) => {
-                Ok(InitStep::Goes(InitExpectation::WantsEquals(written.into_place())))
+                *expected = InitExpectation::WantsEquals(written.into_place());
             }
         }
+        Ok(false)
     }
 
     // A value of this place.
-    fn value_read(&mut self, place: Place, token: Token) -> Result<InitStep, StepError>
-        ensures { Steps result self.new (valued (block_of self.old) place (value_read token)) }
+    fn value_read(
+        &mut self,
+        expected: &mut InitExpectation,
+        place: Place,
+        token: Token,
+    ) -> Result<bool, StepError>
+        ensures { Steps result expected.new self.new (valued (block_of self.old) place (value_read token)) }
     {
         let value = value_read(token)?;
         self.entries.push(InitEntry { place, value })?;
-        Ok(InitStep::Goes(InitExpectation::HasEntry))
+        *expected = InitExpectation::HasEntry;
+        Ok(false)
     }
 
     // Notes the place that a token names, if it names one, and refuses one that repeats.

@@ -2,11 +2,11 @@
 
 ghost use Rattle.std.specs.Prelude.{◌≡◌};
 ghost use Rattle.litmus_tokens.specs.Texts.{ends_line, is_end, begins_tail};
-ghost use Rattle.litmus_grammar.specs.TextMachine.{is_thread, first_stage, is_word, is_filter_word, is_list_word, magic_read, title_ended, head_read, column_ended, word_quantifier, quantifier_read, exists_read, proposition, list_opened, item_ended, tail_start, end_read, list_start, init_part, after_init, after_list, first_part};
+ghost use Rattle.litmus_grammar.specs.TextMachine.{is_thread, first_stage, is_word, is_filter_word, is_list_word, magic_read, title_ended, head_read, column_ended, word_quantifier, quantifier_read, exists_read, proposition, list_opened, item_ended, tail_start, end_read, list_start, after_init, after_list, first_part};
 ghost use Rattle.litmus_parts.specs.PartReading.{part_of, IsNextPart};
 
 use litmus_conditions::{Expectation, Frame, StepError};
-use litmus_grammar::{InitExpectation, InitStep, ItemExpectation, TextKind};
+use litmus_grammar::{InitExpectation, ItemExpectation, TextKind};
 use litmus_tokens::{Mark, Stage, Token, ends_table, is_filter};
 use litmus_values::Quantifier;
 use source_text::Name;
@@ -65,17 +65,8 @@ impl Part {
         }
     }
 
-    /// The part behind a step of the init block, in a text of this kind.
-    pub fn after_init_step(kind: TextKind, step: InitStep) -> Part
-        ensures { part_of result ≡ init_part kind step }
-    {
-        match step {
-            InitStep::Goes(expected) => Part::Init(expected),
-            InitStep::Ends => Part::after_init(kind),
-        }
-    }
-
-    fn after_init(kind: TextKind) -> Part
+    /// The part behind the init block, in a text of this kind.
+    pub fn after_init(kind: TextKind) -> Part
         ensures { part_of result ≡ after_init kind }
     {
         match kind {
@@ -179,13 +170,15 @@ pub fn begins_tail(token: &Token) -> bool
 }
 
 /// The step over the first word of a test. Errors: the token is refused.
-pub fn magic_read(token: &Token) -> Result<Part, StepError>
-    ensures { IsNextPart result (magic_read token.now) }
+#[inline(never)]
+pub fn magic_read(part: &mut Part, token: &Token) -> Result<(), StepError>
+    ensures { IsNextPart result part.new (magic_read token.now) }
 {
     match token {
         Token::Word(word) => {
             if word.as_bytes() == b"PPC".as_slice() {
-                Ok(Part::Title)
+                *part = Part::Title;
+                Ok(())
             } else {
                 Err(StepError::Refused)
             }
@@ -195,117 +188,157 @@ pub fn magic_read(token: &Token) -> Result<Part, StepError>
 }
 
 /// The step over the end of the line of the test's name. Errors: the token is refused.
-pub fn title_ended(token: &Token) -> Result<Part, StepError>
-    ensures { IsNextPart result (title_ended token.now) }
+#[inline(never)]
+pub fn title_ended(part: &mut Part, token: &Token) -> Result<(), StepError>
+    ensures { IsNextPart result part.new (title_ended token.now) }
 {
     match token {
-        Token::LineEnd => Ok(Part::Head(true)),
+        Token::LineEnd => {
+            *part = Part::Head(true);
+            Ok(())
+        }
         _ => Err(StepError::Refused),
     }
 }
 
 /// The step over a token before the init block. Errors: the token is refused.
-pub fn head_read(may_have_text: bool, token: &Token) -> Result<Part, StepError>
-    ensures { IsNextPart result (head_read may_have_text token.now) }
+#[inline(never)]
+pub fn head_read(part: &mut Part, may_have_text: bool, token: &Token) -> Result<(), StepError>
+    ensures { IsNextPart result part.new (head_read may_have_text token.now) }
 {
     match token {
         Token::Text => {
             if may_have_text {
-                Ok(Part::Head(false))
+                *part = Part::Head(false);
+                Ok(())
             } else {
                 Err(StepError::Refused)
             }
         }
-        Token::Keyline => Ok(Part::Head(false)),
-        Token::Mark(Mark::OpenBrace) => Ok(Part::Init(InitExpectation::WantsEntry)),
+        Token::Keyline => {
+            *part = Part::Head(false);
+            Ok(())
+        }
+        Token::Mark(Mark::OpenBrace) => {
+            *part = Part::Init(InitExpectation::WantsEntry);
+            Ok(())
+        }
         _ => Err(StepError::Refused),
     }
 }
 
 /// The step over the token behind the name of a column. Errors: the token is refused.
-pub fn column_ended(token: &Token) -> Result<Part, StepError>
-    ensures { IsNextPart result (column_ended token.now) }
+#[inline(never)]
+pub fn column_ended(part: &mut Part, token: &Token) -> Result<(), StepError>
+    ensures { IsNextPart result part.new (column_ended token.now) }
 {
     match token {
-        Token::Mark(Mark::Bar) => Ok(Part::WantsColumn),
-        Token::Mark(Mark::Semicolon) => Ok(Part::Rows),
+        Token::Mark(Mark::Bar) => {
+            *part = Part::WantsColumn;
+            Ok(())
+        }
+        Token::Mark(Mark::Semicolon) => {
+            *part = Part::Rows;
+            Ok(())
+        }
         _ => Err(StepError::Refused),
     }
 }
 
 /// The step over the token behind the word `locations`. Errors: the token is refused.
-pub fn list_opened(token: &Token) -> Result<Part, StepError>
-    ensures { IsNextPart result (list_opened token.now) }
+#[inline(never)]
+pub fn list_opened(part: &mut Part, token: &Token) -> Result<(), StepError>
+    ensures { IsNextPart result part.new (list_opened token.now) }
 {
     match token {
-        Token::Mark(Mark::OpenBracket) => Ok(Part::Item(ItemExpectation::WantsFirst)),
+        Token::Mark(Mark::OpenBracket) => {
+            *part = Part::Item(ItemExpectation::WantsFirst);
+            Ok(())
+        }
         _ => Err(StepError::Refused),
     }
 }
 
 /// The step over the token behind an observable of the list. Errors: the token is refused.
-pub fn item_ended(kind: TextKind, token: &Token) -> Result<Part, StepError>
-    ensures { IsNextPart result (item_ended kind token.now) }
+#[inline(never)]
+pub fn item_ended(part: &mut Part, kind: TextKind, token: &Token) -> Result<(), StepError>
+    ensures { IsNextPart result part.new (item_ended kind token.now) }
 {
     match token {
-        Token::Mark(Mark::Semicolon) => Ok(Part::Item(ItemExpectation::WantsNext)),
-        Token::Mark(Mark::CloseBracket) => Ok(Part::after_list(kind)),
+        Token::Mark(Mark::Semicolon) => {
+            *part = Part::Item(ItemExpectation::WantsNext);
+            Ok(())
+        }
+        Token::Mark(Mark::CloseBracket) => {
+            *part = Part::after_list(kind);
+            Ok(())
+        }
         _ => Err(StepError::Refused),
     }
 }
 
 /// The step over the first token behind the table. Errors: the token is refused.
-pub fn tail_start(alloc: Global, token: &Token) -> Result<Part, StepError>
-    ensures { IsNextPart result (tail_start token.now) }
+pub fn tail_start(part: &mut Part, alloc: Global, token: &Token) -> Result<(), StepError>
+    ensures { IsNextPart result part.new (tail_start token.now) }
 {
     if is_list_word(token) {
-        return Ok(Part::WantsList);
+        *part = Part::WantsList;
+        return Ok(());
     }
-    quantifier_read(alloc, token)
+    quantifier_read(part, alloc, token)
 }
 
 /// The step over the first token of a list of `locations` that is a text of its own. Errors: the
 /// token is refused.
-pub fn list_start(token: &Token) -> Result<Part, StepError>
-    ensures { IsNextPart result (list_start token.now) }
+#[inline(never)]
+pub fn list_start(part: &mut Part, token: &Token) -> Result<(), StepError>
+    ensures { IsNextPart result part.new (list_start token.now) }
 {
     if is_list_word(token) {
-        return Ok(Part::WantsList);
+        *part = Part::WantsList;
+        return Ok(());
     }
-    end_read(token)
+    end_read(part, token)
 }
 
 /// The step over the first token of the condition. Errors: the token is refused.
-pub fn quantifier_read(alloc: Global, token: &Token) -> Result<Part, StepError>
-    ensures { IsNextPart result (quantifier_read token.now) }
+pub fn quantifier_read(part: &mut Part, alloc: Global, token: &Token) -> Result<(), StepError>
+    ensures { IsNextPart result part.new (quantifier_read token.now) }
 {
     match token {
-        Token::Mark(Mark::Tilde) => Ok(Part::AfterTilde),
-        Token::Word(word) => word_quantifier(alloc, word),
+        Token::Mark(Mark::Tilde) => {
+            *part = Part::AfterTilde;
+            Ok(())
+        }
+        Token::Word(word) => word_quantifier(part, alloc, word),
         _ => Err(StepError::Refused),
     }
 }
 
-fn word_quantifier(alloc: Global, word: &Name) -> Result<Part, StepError>
-    ensures { IsNextPart result (word_quantifier word.now) }
+fn word_quantifier(part: &mut Part, alloc: Global, word: &Name) -> Result<(), StepError>
+    ensures { IsNextPart result part.new (word_quantifier word.now) }
 {
     if word.as_bytes() == b"exists".as_slice() {
-        return Ok(proposition(alloc, Quantifier::Exists));
+        *part = proposition(alloc, Quantifier::Exists);
+        return Ok(());
     }
     if word.as_bytes() == b"forall".as_slice() {
-        return Ok(proposition(alloc, Quantifier::Forall));
+        *part = proposition(alloc, Quantifier::Forall);
+        return Ok(());
     }
     Err(StepError::Refused)
 }
 
 /// The step over the token behind the tilde of `~exists`. Errors: the token is refused.
-pub fn exists_read(alloc: Global, token: &Token) -> Result<Part, StepError>
-    ensures { IsNextPart result (exists_read token.now) }
+#[inline(never)]
+pub fn exists_read(part: &mut Part, alloc: Global, token: &Token) -> Result<(), StepError>
+    ensures { IsNextPart result part.new (exists_read token.now) }
 {
     match token {
         Token::Word(word) => {
             if word.as_bytes() == b"exists".as_slice() {
-                return Ok(proposition(alloc, Quantifier::NotExists));
+                *part = proposition(alloc, Quantifier::NotExists);
+                return Ok(());
             }
             Err(StepError::Refused)
         }
@@ -320,11 +353,14 @@ fn proposition(alloc: Global, quantifier: Quantifier) -> Part
 }
 
 /// The step over the end of the text. Errors: the token is refused.
-pub fn end_read(token: &Token) -> Result<Part, StepError>
-    ensures { IsNextPart result (end_read token.now) }
+pub fn end_read(part: &mut Part, token: &Token) -> Result<(), StepError>
+    ensures { IsNextPart result part.new (end_read token.now) }
 {
     match token {
-        Token::End => Ok(Part::Done),
+        Token::End => {
+            *part = Part::Done;
+            Ok(())
+        }
         _ => Err(StepError::Refused),
     }
 }

@@ -1,8 +1,12 @@
 -- What the reader holds of a text, as the machine sees it.
-use Rattle.std.specs.Prelude.{◌≡◌, ℕ, Option, Some, Result, Ok, Err}
+use Rattle.std.specs.Prelude.{◌≡◌, ℕ, List, Bool, true, false, Option, Some, Result, Ok, Err}
 use Rattle.litmus_tokens.specs.declared.rule.LitmusRule.{LitmusRule}
 use Rattle.litmus_values.specs.Value.{Content, formula_of}
 use Rattle.litmus_conditions.specs.declared.step.StepError.{StepError}
+use Rattle.litmus_conditions.specs.declared.condition.Frame as code_frame
+use Rattle.litmus_conditions.specs.declared.condition.Expectation as code_expectation
+use Rattle.litmus_conditions.specs.Reading.{stack_of, expectation_of}
+use Rattle.litmus_values.specs.declared.test.Quantifier.{Quantifier}
 use Rattle.litmus_table.specs.Laws.{steps_of}
 use Rattle.litmus_table.specs.Reading.{Refuses, table_of}
 use Rattle.litmus_ppc.specs.declared.fault.LitmusFault.{LitmusFault}
@@ -38,10 +42,17 @@ test_of h = record {
 abbrev pub state_of : Reader → machine.State
 state_of r = record { kind = r.kind; threads = r.threads; stage = r.stage; part = part_of r.part; draft = draft_of r.draft }
 
--- The step that a function returned is that of the machine, unless memory ran out: the next part and the next draft,
-abbrev pub StepsTo : Result code_part.Part StepError → code_draft.Draft → Option machine.Next → Type 0
-StepsTo (Ok p) h made = made ≡ Some (record { part = part_of p; draft = draft_of h })
-StepsTo (Err e) h made = Refuses e made
+-- The step that a function took is that of the machine, unless memory ran out: the next part and the next draft,
+abbrev pub StepsTo : Result (Unit {0}) StepError → code_part.Part → code_draft.Draft → Option machine.Next → Type 0
+StepsTo (Ok u) p h made = made ≡ Some (record { part = part_of p; draft = draft_of h })
+StepsTo (Err e) p h made = Refuses e made
+
+-- the same in a proposition, which ends or not,
+abbrev pub ReadsProposition : Result Bool StepError → Quantifier → List code_frame.Frame → ℕ → code_expectation.Expectation → code_draft.Draft → Option machine.Next → Type 0
+ReadsProposition (Ok true) q frames used expected h made = made ≡ Some (record { part = machine.Done; draft = draft_of h })
+ReadsProposition (Ok false) q frames used expected h made =
+    made ≡ Some (record { part = machine.Proposition q (stack_of frames) used (expectation_of expected); draft = draft_of h })
+ReadsProposition (Err e) q frames used expected h made = Refuses e made
 
 -- and the reader behind a token at an offset.
 abbrev pub FailsAt : {Y : Type 0} → LitmusFault → Result Y (LitmusRule × ℕ) → Type 0

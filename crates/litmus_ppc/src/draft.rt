@@ -8,17 +8,15 @@ ghost use Rattle.litmus_conditions.specs.Reading.{stack_of, expectation_of};
 ghost use Rattle.litmus_values.specs.Value.{content_of};
 ghost use Rattle.litmus_table.specs.Machine.{named};
 ghost use Rattle.litmus_table.specs.Reading.{table_of, first_steps};
-ghost use Rattle.litmus_grammar.specs.InitMachine.{step as init_step};
-ghost use Rattle.litmus_parts.specs.InitReading.{block_of};
-ghost use Rattle.litmus_grammar.specs.TextMachine.{HasColumn, part_step, nothing, title_read, init_result, table_result, row_read, cell_read, item_start, item_result, next_item, item_read, proposition_result, threads_in};
+ghost use Rattle.litmus_grammar.specs.TextMachine.{HasColumn, part_step, nothing, title_read, table_result, item_start, item_result, next_item, item_read, proposition_result, threads_in};
 ghost use Rattle.litmus_parts.specs.PartReading.{part_of};
-ghost use Rattle.litmus_ppc.specs.TextReading.{draft_of, test_of, StepsTo};
+ghost use Rattle.litmus_ppc.specs.TextReading.{draft_of, test_of, StepsTo, ReadsProposition};
 
 use litmus_conditions::{
     Expectation, Frame, PlaceExpectation, PlaceStep, PropositionStep, StepError, is_there,
     place_step, proposition_step,
 };
-use litmus_grammar::{InitExpectation, ItemExpectation, TextKind};
+use litmus_grammar::{ItemExpectation, TextKind};
 use litmus_parts::{
     InitBlock, Part, begins_tail, column_ended, end_read, exists_read, head_read, is_end,
     is_thread, item_ended, list_opened, list_start, magic_read, quantifier_read, tail_start,
@@ -29,6 +27,7 @@ use litmus_tokens::{Mark, Token, is_test_name};
 use litmus_values::{Condition, InitEntry, Place, Proposition, Quantifier, Test, Thread};
 use source_text::Name;
 use std::alloc::{AllocError, Global};
+use std::mem;
 
 /// The draft of a test: what was read of a text so far.
 #[derive(Drop)]
@@ -77,51 +76,78 @@ impl Draft {
     }
 
     /// The step over a token at this byte offset, in this part of a text of this kind, with the given number of threads.
-    /// Errors: out of memory, or the token is refused; the draft is then to be dropped.
+    /// Errors: out of memory, or the token is refused; the draft and the part are then to be dropped.
     pub fn step(
         &mut self,
         alloc: Global,
         kind: TextKind,
         given: usize,
-        part: Part,
+        part: &mut Part,
         token: Token,
         offset: usize,
-    ) -> Result<Part, StepError>
+    ) -> Result<(), StepError>
         // It does what the machine does.
-        ensures { StepsTo result self.new (part_step kind given (draft_of self.old) (part_of part) token offset) }
+        ensures { StepsTo result part.new self.new (part_step kind given (draft_of self.old) (part_of part.old) token offset) }
     {
         match part {
-            Part::Magic => magic_read(&token),
-            Part::Title => self.title_read(token),
-            Part::TitleEnd => title_ended(&token),
-            Part::Head(may_have_text) => head_read(may_have_text, &token),
-            Part::Init(expected) => self.init_read(kind, expected, token, offset),
-            Part::WantsColumn => self.column_read(token),
-            Part::HasColumn => column_ended(&token),
-            Part::Rows => self.row_read(alloc, token, offset),
-            Part::Cells => self.cell_read(token, offset),
-            Part::WantsList => list_opened(&token),
+            Part::Magic => magic_read(part, &token),
+            Part::Title => self.title_read(part, token),
+            Part::TitleEnd => title_ended(part, &token),
+            Part::Head(may_have_text) => {
+                let may_have_text = *may_have_text;
+                head_read(part, may_have_text, &token)
+            }
+            Part::Init(expected) => {
+                if self.init.step(expected, token, offset)? {
+                    *part = Part::after_init(kind);
+                }
+                Ok(())
+            }
+            Part::WantsColumn => self.column_read(part, token),
+            Part::HasColumn => column_ended(part, &token),
+            Part::Rows => {
+                if self.table.is_row_start() && begins_tail(&token) {
+                    return tail_start(part, alloc, &token);
+                }
+                self.table.step(token, offset)?;
+                Ok(())
+            }
+            Part::Cells => {
+                if self.table.is_cell_whole() && is_end(&token) {
+                    *part = Part::Done;
+                    return Ok(());
+                }
+                self.table.step(token, offset)?;
+                Ok(())
+            }
+            Part::WantsList => list_opened(part, &token),
             Part::Item(expected) => {
                 let threads = self.threads(kind, given);
-                self.item_read(kind, threads, expected, token)
+                let expected = mem::replace(expected, ItemExpectation::HasItem);
+                self.item_read(part, kind, threads, expected, token)
             }
-            Part::WantsQuantifier => quantifier_read(alloc, &token),
-            Part::AfterTilde => exists_read(alloc, &token),
+            Part::WantsQuantifier => quantifier_read(part, alloc, &token),
+            Part::AfterTilde => exists_read(part, alloc, &token),
             Part::Proposition(quantifier, frames, operators, expected) => {
                 let threads = self.threads(kind, given);
-                self.proposition_read(
+                let quantifier = *quantifier;
+                if self.proposition_read(
                     alloc, threads, quantifier, frames, operators, expected, token,
-                )
+                )? {
+                    *part = Part::Done;
+                }
+                Ok(())
             }
-            Part::ListOrEnd => list_start(&token),
-            Part::WantsEnd => end_read(&token),
+            Part::ListOrEnd => list_start(part, &token),
+            Part::WantsEnd => end_read(part, &token),
             Part::Done => Err(StepError::Refused),
         }
     }
 
     // The name of the test.
-    fn title_read(&mut self, token: Token) -> Result<Part, StepError>
-        ensures { StepsTo result self.new (title_read (draft_of self.old) token) }
+    #[inline(never)]
+    fn title_read(&mut self, part: &mut Part, token: Token) -> Result<(), StepError>
+        ensures { StepsTo result part.new self.new (title_read (draft_of self.old) token) }
     {
         match token {
             Token::Word(name) => {
@@ -129,130 +155,123 @@ impl Draft {
                     return Err(StepError::Refused);
                 }
                 self.name = name;
-                Ok(Part::TitleEnd)
+                *part = Part::TitleEnd;
+                Ok(())
             }
             _ => Err(StepError::Refused),
         }
     }
 
-    // A token of the init block.
-    fn init_read(
-        &mut self,
-        kind: TextKind,
-        expected: InitExpectation,
-        token: Token,
-        offset: usize,
-    ) -> Result<Part, StepError>
-        ensures { StepsTo result self.new (init_result kind (draft_of self.old) (init_step (block_of self.old.init) expected token offset)) }
-    {
-        let step = self.init.step(expected, token, offset)?;
-        Ok(Part::after_init_step(kind, step))
-    }
-
     // The name of a column.
-    fn column_read(&mut self, token: Token) -> Result<Part, StepError>
-        ensures { StepsTo result self.new (table_result (draft_of self.old) HasColumn (named (table_of self.old.table) token)) }
+    #[inline(never)]
+    fn column_read(&mut self, part: &mut Part, token: Token) -> Result<(), StepError>
+        ensures { StepsTo result part.new self.new (table_result (draft_of self.old) HasColumn (named (table_of self.old.table) token)) }
     {
         self.table.name_read(token)?;
-        Ok(Part::HasColumn)
-    }
-
-    // A token in a row, or behind the rows.
-    fn row_read(&mut self, alloc: Global, token: Token, offset: usize) -> Result<Part, StepError>
-        ensures { StepsTo result self.new (row_read (draft_of self.old) token offset) }
-    {
-        if self.table.is_row_start() && begins_tail(&token) {
-            return tail_start(alloc, &token);
-        }
-        self.table.step(token, offset)?;
-        Ok(Part::Rows)
-    }
-
-    // A token in the text of a thread, which ends where a cell may.
-    fn cell_read(&mut self, token: Token, offset: usize) -> Result<Part, StepError>
-        ensures { StepsTo result self.new (cell_read (draft_of self.old) token offset) }
-    {
-        if self.table.is_cell_whole() && is_end(&token) {
-            return Ok(Part::Done);
-        }
-        self.table.step(token, offset)?;
-        Ok(Part::Cells)
+        *part = Part::HasColumn;
+        Ok(())
     }
 
     // A token of the list of places.
+    #[inline(never)]
     fn item_read(
         &mut self,
+        part: &mut Part,
         kind: TextKind,
         threads: usize,
         expected: ItemExpectation,
         token: Token,
-    ) -> Result<Part, StepError>
-        ensures { StepsTo result self.new (item_read kind threads (draft_of self.old) expected token) }
+    ) -> Result<(), StepError>
+        ensures { StepsTo result part.new self.new (item_read kind threads (draft_of self.old) expected token) }
     {
         match expected {
-            ItemExpectation::WantsFirst => self.item_start(threads, token),
-            ItemExpectation::WantsNext => self.next_item(kind, threads, token),
-            ItemExpectation::Within(within) => self.item_place(within, token),
-            ItemExpectation::HasItem => item_ended(kind, &token),
+            ItemExpectation::WantsFirst => self.item_start(part, threads, token),
+            ItemExpectation::WantsNext => self.next_item(part, kind, threads, token),
+            ItemExpectation::Within(within) => self.item_place(part, within, token),
+            ItemExpectation::HasItem => item_ended(part, kind, &token),
         }
     }
 
     // A place of the list, or its end.
-    fn next_item(&mut self, kind: TextKind, threads: usize, token: Token) -> Result<Part, StepError>
-        ensures { StepsTo result self.new (next_item kind threads (draft_of self.old) token) }
+    fn next_item(
+        &mut self,
+        part: &mut Part,
+        kind: TextKind,
+        threads: usize,
+        token: Token,
+    ) -> Result<(), StepError>
+        ensures { StepsTo result part.new self.new (next_item kind threads (draft_of self.old) token) }
     {
         match token {
-            Token::Mark(Mark::CloseBracket) => Ok(Part::after_list(kind)),
-            other => self.item_start(threads, other),
+            Token::Mark(Mark::CloseBracket) => {
+                *part = Part::after_list(kind);
+                Ok(())
+            }
+            other => self.item_start(part, threads, other),
         }
     }
 
     // The first token of a place of the list.
-    fn item_start(&mut self, threads: usize, token: Token) -> Result<Part, StepError>
-        ensures { StepsTo result self.new (item_start threads (draft_of self.old) token) }
+    fn item_start(&mut self, part: &mut Part, threads: usize, token: Token) -> Result<(), StepError>
+        ensures { StepsTo result part.new self.new (item_start threads (draft_of self.old) token) }
     {
         if !is_there(threads, &token) {
             return Err(StepError::Refused);
         }
-        self.item_place(PlaceExpectation::Begins, token)
+        self.item_place(part, PlaceExpectation::Begins, token)
     }
 
     // A token of a place of the list.
-    fn item_place(&mut self, within: PlaceExpectation, token: Token) -> Result<Part, StepError>
-        ensures { StepsTo result self.new (item_result (draft_of self.old) (place_step within token)) }
+    fn item_place(
+        &mut self,
+        part: &mut Part,
+        within: PlaceExpectation,
+        token: Token,
+    ) -> Result<(), StepError>
+        ensures { StepsTo result part.new self.new (item_result (draft_of self.old) (place_step within token)) }
     {
         match place_step(within, token)? {
-            PlaceStep::Goes(expected) => Ok(Part::Item(ItemExpectation::Within(expected))),
+            PlaceStep::Goes(expected) => {
+                *part = Part::Item(ItemExpectation::Within(expected));
+                Ok(())
+            }
             PlaceStep::Ends(written) => {
                 self.observed.push(written.into_place())?;
-                Ok(Part::Item(ItemExpectation::HasItem))
+                *part = Part::Item(ItemExpectation::HasItem);
+                Ok(())
             }
         }
     }
 
-    // A token of the proposition.
+    // A token of the proposition, and whether that ends with it.
+    #[inline(never)]
     fn proposition_read(
         &mut self,
         alloc: Global,
         threads: usize,
         quantifier: Quantifier,
-        frames: Vec<Frame>,
-        operators: usize,
-        expected: Expectation,
+        frames: &mut Vec<Frame>,
+        operators: &mut usize,
+        expected: &mut Expectation,
         token: Token,
-    ) -> Result<Part, StepError>
-        ensures { StepsTo result self.new (proposition_result (draft_of self.old) quantifier (proposition_step limits threads (stack_of frames.items) operators (expectation_of expected) token)) }
+    ) -> Result<bool, StepError>
+        ensures { ReadsProposition result quantifier frames.new.items operators.new expected.new self.new (proposition_result (draft_of self.old) quantifier (proposition_step limits threads (stack_of frames.old.items) operators.old (expectation_of expected.old) token)) }
     {
-        match proposition_step(alloc, threads, frames, operators, expected, token)? {
-            PropositionStep::Goes(frames, operators, expected) => {
-                Ok(Part::Proposition(quantifier, frames, operators, expected))
+        let open = mem::replace(frames, Vec::new(alloc));
+        let wanted = mem::replace(expected, Expectation::Wants);
+        match proposition_step(alloc, threads, open, *operators, wanted, token)? {
+            PropositionStep::Goes(open, used, wanted) => {
+                *frames = open;
+                *operators = used;
+                *expected = wanted;
+                Ok(false)
             }
             PropositionStep::Ends(proposition) => {
                 self.condition = Condition {
                     quantifier,
                     proposition,
                 };
-                Ok(Part::Done)
+                Ok(true)
             }
         }
     }

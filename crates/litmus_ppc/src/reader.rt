@@ -19,7 +19,6 @@ use litmus_parts::{Part, first_stage, is_filter_word, is_thread, is_word};
 use litmus_table::LateFault;
 use litmus_tokens::{LitmusRule, Stage, Token};
 use std::alloc::{AllocError, Global};
-use std::mem;
 
 /// The state of the reader.
 #[derive(Drop)]
@@ -62,13 +61,15 @@ impl Reader {
     {
         let rule = self.rule(&token);
         let next = self.stage.after(&token);
-        let part = mem::replace(&mut self.part, Part::Done);
-        match self
-            .draft
-            .step(self.alloc, self.kind, self.threads, part, token, offset)
-        {
-            Ok(part) => {
-                self.part = part;
+        match self.draft.step(
+            self.alloc,
+            self.kind,
+            self.threads,
+            &mut self.part,
+            token,
+            offset,
+        ) {
+            Ok(()) => {
                 self.stage = next;
                 Ok(())
             }

@@ -40,14 +40,9 @@ abbrev pub Refuses : {Y : Type 0} → StepError → Option Y → Type 0
 Refuses errors.OutOfMemory made = Unit {0}
 Refuses errors.Refused made = made ≡ None
 
-abbrev pub Takes : Result code_pending.Pending StepError → Option machine.Pending → Type 0
-Takes (Ok p) made = made ≡ Some (pending_of p)
-Takes (Err e) made = Refuses e made
-
--- the cell that a step leads to, beside the rest of the table
-abbrev pub Cells : Result Cell StepError → Table → Option machine.State → Type 0
-Cells (Ok cell) t made = made ≡ Some (record { threads = threads_of t.threads.items; column = t.column; expected = expectation_of cell })
-Cells (Err e) t made = Refuses e made
+abbrev pub Takes : Result (Unit {0}) StepError → code_pending.Pending → Option machine.Pending → Type 0
+Takes (Ok u) p made = made ≡ Some (pending_of p)
+Takes (Err e) p made = Refuses e made
 
 abbrev pub Steps : Result (Unit {0}) StepError → Table → Option machine.State → Type 0
 Steps (Ok u) t made = made ≡ Some (table_of t)

@@ -47,9 +47,10 @@ impl Pending {
         }
     }
 
-    /// The instruction behind one more token. Errors: the token is not the one that is wanted, or out of memory.
-    pub fn take(self, token: &Token) -> Result<Pending, StepError>
-        ensures { Takes result (pending_after (pending_of self) token.now) }
+    /// Takes one more token. Errors: it is not the one that is wanted, or out of memory; the instruction is then to
+    /// be dropped.
+    pub fn take(&mut self, token: &Token) -> Result<(), StepError>
+        ensures { Takes result self.new (pending_after (pending_of self.old) token.now) }
     {
         match self.want() {
             Some(want) => {
@@ -59,19 +60,10 @@ impl Pending {
             }
             None => return Err(StepError::Refused),
         }
-        let Pending {
-            opcode,
-            read_count,
-            mut registers,
-            value,
-        } = self;
-        keep_register(&mut registers, token)?;
-        Ok(Pending {
-            opcode,
-            read_count: read_count.saturating_add(1),
-            registers,
-            value: value_with(value, token),
-        })
+        keep_register(&mut self.registers, token)?;
+        self.read_count = self.read_count.saturating_add(1);
+        self.value = value_with(self.value, token);
+        Ok(())
     }
 
     // A register that was taken.

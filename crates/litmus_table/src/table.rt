@@ -1,13 +1,13 @@
 //! Reads the table of threads.
 
-ghost use Rattle.std.specs.Prelude.{◌≡◌, ◌≤◌, ℕ, List, map, length, IfOk, OnOk, Some};
-ghost use Rattle.litmus_table.specs.Machine.{start, put_at, is_last, ended, operation, begins, cell, operand, target_read, finished, step, expected_step, widened, named, is_begin, is_row_start, can_end, wanted, rule_of_word, separator_rule, rule_at};
+ghost use Rattle.std.specs.Prelude.{◌≡◌, ◌≤◌, ℕ, List, map, length, IfOk, OnOk};
+ghost use Rattle.litmus_table.specs.Machine.{start, put_at, is_last, ended, operation, begins, cell, target_read, finished, step, widened, named, is_begin, is_row_start, can_end, wanted, rule_of_word, separator_rule, rule_at};
 ghost use Rattle.litmus_tokens.specs.Texts.{TokenAt};
 ghost use Rattle.litmus_table.specs.Checks.{IsFoundAt};
 ghost use Rattle.litmus_table.specs.Late.{Note, first_late};
 ghost use Rattle.litmus_table.specs.Laws.{AreNoted, steps_of};
 ghost use Rattle.litmus_table.specs.Within.{AreWithin, IsFoundWithin};
-ghost use Rattle.litmus_table.specs.Reading.{threads_of, pending_of, expectation_of, table_of, first_steps, Cells, Steps};
+ghost use Rattle.litmus_table.specs.Reading.{threads_of, expectation_of, table_of, first_steps, Steps};
 
 use crate::late::{LateFault, PlacedThread};
 use crate::opcode::{Opcode, Want, opcode_of};
@@ -16,7 +16,6 @@ use litmus_conditions::StepError;
 use litmus_tokens::{LitmusRule, Mark, Token, is_column, is_filter};
 use litmus_values::{BranchCondition, Instruction, Step, Thread};
 use std::alloc::{AllocError, Global};
-use std::mem;
 
 /// What the reader of a cell expects next.
 #[derive(Drop)]
@@ -185,43 +184,52 @@ impl Table {
         // What it keeps of this token stands at this byte.
         ensures within { (n : ℕ) → offset ≤ n → AreWithin n (table_of self.old).threads → OnOk result (AreWithin n (table_of self.new).threads) }
     {
-        let cell = mem::replace(&mut self.cell, Cell::Whole);
-        self.cell = self.cell_after(cell, token, offset)?;
+        self.go(token, offset)?;
         Ok(())
     }
 
-    // The cell after a token.
-    fn cell_after(&mut self, cell: Cell, token: Token, offset: usize) -> Result<Cell, StepError>
-        ensures { Cells result self.new (expected_step (threads_of self.old.threads.items) self.old.column (expectation_of cell) token offset) }
+    // Goes over a token, in the cell as it is.
+    fn go(&mut self, token: Token, offset: usize) -> Result<(), StepError>
+        ensures { Steps result self.new (step (table_of self.old) token offset) }
     {
-        match cell {
+        match &mut self.cell {
             Cell::Begins => self.cell_start(token, offset),
             Cell::Labelled => self.instruction_start(token, offset),
             Cell::Within(pending) => {
-                let pending = pending.take(&token)?;
-                self.operand_read(pending, offset)
+                pending.take(&token)?;
+                match pending.want() {
+                    Some(_) => Ok(()),
+                    None => {
+                        let instruction = pending.instruction();
+                        self.finish(instruction, offset)
+                    }
+                }
             }
-            Cell::WantsLabel(condition) => self.target_read(condition, token, offset),
+            Cell::WantsLabel(condition) => {
+                let condition = *condition;
+                self.target_read(condition, token, offset)
+            }
             Cell::Whole => self.cell_ended(&token),
         }
     }
 
     // A token where a cell begins.
-    fn cell_start(&mut self, token: Token, offset: usize) -> Result<Cell, StepError>
-        ensures { Cells result self.new (cell (threads_of self.old.threads.items) self.old.column token offset) }
+    fn cell_start(&mut self, token: Token, offset: usize) -> Result<(), StepError>
+        ensures { Steps result self.new (cell (threads_of self.old.threads.items) self.old.column token offset) }
     {
         match token {
             Token::Label(name) => {
                 self.put(Step::Label(name), offset)?;
-                Ok(Cell::Labelled)
+                self.cell = Cell::Labelled;
+                Ok(())
             }
             other => self.instruction_start(other, offset),
         }
     }
 
     // A token where an instruction may begin, or the cell may end.
-    fn instruction_start(&mut self, token: Token, offset: usize) -> Result<Cell, StepError>
-        ensures { Cells result self.new (begins (threads_of self.old.threads.items) self.old.column token offset) }
+    fn instruction_start(&mut self, token: Token, offset: usize) -> Result<(), StepError>
+        ensures { Steps result self.new (begins (threads_of self.old.threads.items) self.old.column token offset) }
     {
         match token {
             Token::Word(word) => self.word_read(opcode_of(word.as_bytes()), offset),
@@ -230,24 +238,20 @@ impl Table {
     }
 
     // The word of an instruction.
-    fn word_read(&mut self, opcode: Option<Opcode>, offset: usize) -> Result<Cell, StepError>
-        ensures { Cells result self.new (operation (threads_of self.old.threads.items) self.old.column offset opcode) }
+    fn word_read(&mut self, opcode: Option<Opcode>, offset: usize) -> Result<(), StepError>
+        ensures { Steps result self.new (operation (threads_of self.old.threads.items) self.old.column offset opcode) }
     {
         match opcode {
-            Some(Opcode::Data(opcode)) => Ok(Cell::Within(Pending::new(self.alloc, opcode))),
-            Some(Opcode::Branch(condition)) => Ok(Cell::WantsLabel(condition)),
+            Some(Opcode::Data(opcode)) => {
+                self.cell = Cell::Within(Pending::new(self.alloc, opcode));
+                Ok(())
+            }
+            Some(Opcode::Branch(condition)) => {
+                self.cell = Cell::WantsLabel(condition);
+                Ok(())
+            }
             Some(Opcode::Fence(fence)) => self.finish(Instruction::Fence(fence), offset),
             None => Err(StepError::Refused),
-        }
-    }
-
-    // An instruction with a token more, which ends with what it wants.
-    fn operand_read(&mut self, pending: Pending, offset: usize) -> Result<Cell, StepError>
-        ensures { Cells result self.new (operand (threads_of self.old.threads.items) self.old.column (Some (pending_of pending)) offset) }
-    {
-        match pending.want() {
-            Some(_) => Ok(Cell::Within(pending)),
-            None => self.finish(pending.instruction(), offset),
         }
     }
 
@@ -257,8 +261,8 @@ impl Table {
         condition: Option<BranchCondition>,
         token: Token,
         offset: usize,
-    ) -> Result<Cell, StepError>
-        ensures { Cells result self.new (target_read (threads_of self.old.threads.items) self.old.column condition token offset) }
+    ) -> Result<(), StepError>
+        ensures { Steps result self.new (target_read (threads_of self.old.threads.items) self.old.column condition token offset) }
     {
         match token {
             Token::Word(label) => {
@@ -272,11 +276,12 @@ impl Table {
         }
     }
 
-    fn finish(&mut self, instruction: Instruction, offset: usize) -> Result<Cell, StepError>
-        ensures { Cells result self.new (finished (threads_of self.old.threads.items) self.old.column instruction offset) }
+    fn finish(&mut self, instruction: Instruction, offset: usize) -> Result<(), StepError>
+        ensures { Steps result self.new (finished (threads_of self.old.threads.items) self.old.column instruction offset) }
     {
         self.put(Step::Instruction(instruction), offset)?;
-        Ok(Cell::Whole)
+        self.cell = Cell::Whole;
+        Ok(())
     }
 
     // Adds a step to the thread whose cell is read.
@@ -298,8 +303,8 @@ impl Table {
     }
 
     // A token behind a cell that is whole.
-    fn cell_ended(&mut self, token: &Token) -> Result<Cell, StepError>
-        ensures { Cells result self.new (ended (threads_of self.old.threads.items) self.old.column token.now) }
+    fn cell_ended(&mut self, token: &Token) -> Result<(), StepError>
+        ensures { Steps result self.new (ended (threads_of self.old.threads.items) self.old.column token.now) }
     {
         match token {
             Token::Mark(Mark::Semicolon) => {
@@ -307,14 +312,16 @@ impl Table {
                     return Err(StepError::Refused);
                 }
                 self.column = 0;
-                Ok(Cell::Begins)
+                self.cell = Cell::Begins;
+                Ok(())
             }
             Token::Mark(Mark::Bar) => {
                 if self.is_last() {
                     return Err(StepError::Refused);
                 }
                 self.column = self.column.saturating_add(1);
-                Ok(Cell::Begins)
+                self.cell = Cell::Begins;
+                Ok(())
             }
             _ => Err(StepError::Refused),
         }
