@@ -4,7 +4,7 @@ use crate::frames::{
     Expectation, ExpressionStep, Frame, MAX_NESTING, MAX_OPERATORS, StepError, are_outermost, join,
     open_frames, open_infix,
 };
-use cat_tokens::{CatRule, Token};
+use cat_tokens::{CatRule, Mark, Sign, Token};
 use cat_values::{Expression, Infix, Postfix};
 use source_text::Name;
 use std::alloc::Global;
@@ -20,14 +20,15 @@ pub struct OpenExpression {
 }
 
 impl OpenExpression {
-    ghost use Rattle.std.specs.Prelude.{◌≡◌, ◌+◌};
-    ghost use Rattle.cat_grammar.specs.Machine.{Goes, Ends, fold_to, operand, opened, after_brace, ended, closed, square_closed, comma_read, after, after_name, after_star, after_star_tilde, expression_step};
+    ghost use Rattle.std.specs.Prelude.{◌≡◌, ◌+◌, []};
+    ghost use Rattle.cat_grammar.specs.Machine.{InArguments, Goes, Ends, fold_to, operand, opened, after_brace, ended, closed, square_closed, comma_read, after, after_name, after_star, after_star_tilde, expression_step};
     ghost use Rattle.cat_grammar.specs.Grammar.{limits};
     ghost use Rattle.cat_values.specs.Values.{term_of};
     ghost use Rattle.cat_terms.specs.Reading.{frame_of, stack_of, expectation_of};
     ghost use Rattle.cat_terms.specs.OpenReading.{IsStart, StepsTo, whole_of};
     ghost use Rattle.cat_tokens.specs.declared.token.Token.{Token};
     ghost use Rattle.cat_tokens.specs.declared.token.Token.TheVariants.{Close, CloseSquare, Comma};
+    ghost use Rattle.cat_tokens.specs.declared.token.Token.TheVariants as tokens;
 
     /// An expression of which nothing is read.
     pub fn new(alloc: Global) -> OpenExpression
@@ -66,6 +67,17 @@ impl OpenExpression {
         ensures { StepsTo token.now result self.new
             (expression_step limits (stack_of self.old.frames.items) self.old.operators (expectation_of self.old.expected) token.now) }
     {
+        match self.expected {
+            Expectation::Wants => self.operand(alloc, token),
+            _ => self.expected_read(alloc, token),
+        }
+    }
+
+    // A token that may be what is expected.
+    fn expected_read(&mut self, alloc: Global, token: &Token) -> Result<ExpressionStep, StepError>
+        ensures { StepsTo token.now result self.new
+            (expression_step limits (stack_of self.old.frames.items) self.old.operators (expectation_of self.old.expected) token.now) }
+    {
         match mem::replace(&mut self.expected, Expectation::Wants) {
             Expectation::Wants => self.operand(alloc, token),
             Expectation::Brace => self.after_brace(token),
@@ -77,6 +89,7 @@ impl OpenExpression {
     }
 
     // The expression goes on with what is expected next.
+    #[inline(always)]
     fn goes(&mut self, expected: Expectation) -> Result<ExpressionStep, StepError>
         ensures { (t : Token) → StepsTo t result self.new
             (Goes (stack_of self.old.frames.items) self.old.operators (expectation_of expected)) }
@@ -219,6 +232,54 @@ impl OpenExpression {
         }
     }
 
+    // An infix sign after an operand.
+    fn sign_read(
+        &mut self,
+        alloc: Global,
+        operand: Expression,
+        sign: Sign,
+    ) -> Result<ExpressionStep, StepError>
+        ensures { StepsTo (tokens.Sign sign) result self.new
+            (after limits (stack_of self.old.frames.items) self.old.operators (term_of operand) (tokens.Sign sign)) }
+    {
+        if self.operators >= MAX_OPERATORS {
+            return Err(StepError::Refused(CatRule::TooDeep));
+        }
+        open_infix(alloc, &mut self.frames, sign.infix(), operand)?;
+        self.operators += 1;
+        self.goes(Expectation::Wants)
+    }
+
+    // A postfix sign after an operand.
+    fn mark_read(
+        &mut self,
+        alloc: Global,
+        operand: Expression,
+        mark: Mark,
+    ) -> Result<ExpressionStep, StepError>
+        ensures { StepsTo (tokens.Mark mark) result self.new
+            (after limits (stack_of self.old.frames.items) self.old.operators (term_of operand) (tokens.Mark mark)) }
+    {
+        if self.operators >= MAX_OPERATORS {
+            return Err(StepError::Refused(CatRule::TooDeep));
+        }
+        let marked = Expression::Marked(mark.postfix(), Box::new(alloc, operand)?);
+        self.operators += 1;
+        self.goes(Expectation::Has(marked))
+    }
+
+    // A star after an operand.
+    fn star_read(&mut self, operand: Expression) -> Result<ExpressionStep, StepError>
+        ensures { StepsTo tokens.Star result self.new
+            (after limits (stack_of self.old.frames.items) self.old.operators (term_of operand) tokens.Star) }
+    {
+        if self.operators >= MAX_OPERATORS {
+            return Err(StepError::Refused(CatRule::TooDeep));
+        }
+        self.operators += 1;
+        self.goes(Expectation::HasStar(operand))
+    }
+
     // A token after an operand.
     fn after(
         &mut self,
@@ -230,34 +291,22 @@ impl OpenExpression {
             (after limits (stack_of self.old.frames.items) self.old.operators (term_of operand) token.now) }
     {
         match token {
-            Token::Sign(sign) => {
-                if self.operators >= MAX_OPERATORS {
-                    return Err(StepError::Refused(CatRule::TooDeep));
-                }
-                open_infix(alloc, &mut self.frames, sign.infix(), operand)?;
-                self.operators += 1;
-                self.goes(Expectation::Wants)
-            }
-            Token::Mark(mark) => {
-                if self.operators >= MAX_OPERATORS {
-                    return Err(StepError::Refused(CatRule::TooDeep));
-                }
-                let marked = Expression::Marked(mark.postfix(), Box::new(alloc, operand)?);
-                self.operators += 1;
-                self.goes(Expectation::Has(marked))
-            }
-            Token::Star => {
-                if self.operators >= MAX_OPERATORS {
-                    return Err(StepError::Refused(CatRule::TooDeep));
-                }
-                self.operators += 1;
-                self.goes(Expectation::HasStar(operand))
-            }
+            Token::Sign(sign) => self.sign_read(alloc, operand, *sign),
+            Token::Mark(mark) => self.mark_read(alloc, operand, *mark),
+            Token::Star => self.star_read(operand),
             Token::Close => self.closed(alloc, operand),
             Token::CloseSquare => self.square_closed(alloc, operand),
             Token::Comma => self.comma_read(alloc, operand),
             other => self.ended(alloc, operand, other),
         }
+    }
+
+    // The `(` after a function.
+    fn applied(&mut self, alloc: Global, name: Name) -> Result<ExpressionStep, StepError>
+        ensures { (t : Token) → StepsTo t result self.new
+            (opened limits (stack_of self.old.frames.items) self.old.operators (InArguments name [])) }
+    {
+        self.opened(Frame::Applied(name, Vec::new(alloc)))
     }
 
     // A token after a name.
@@ -271,7 +320,7 @@ impl OpenExpression {
             (after_name limits (stack_of self.old.frames.items) self.old.operators name token.now) }
     {
         match token {
-            Token::Open => self.opened(Frame::Applied(name, Vec::new(alloc))),
+            Token::Open => self.applied(alloc, name),
             other => self.after(alloc, Expression::Named(name), other),
         }
     }

@@ -1,13 +1,36 @@
 //! The words of the language that are not names.
 
 ghost use Rattle.std.specs.Prelude.{◌≡◌, IfOk};
+ghost use Rattle.std.specs.Str.{bytes_eq};
 ghost use Rattle.cat_tokens.specs.Words.{item_word, part_word, is_definition_word, is_other_word, word_token};
 
 use crate::rule::CatRule;
 use crate::token::Token;
 use cat_values::CheckWord;
-use source_text::{Name, is_word};
+use source_text::{Name, byte_at};
 use std::alloc::{AllocError, Global};
+
+// Whether a text has these bytes.
+#[inline(never)]
+fn has_bytes(text: &[u8], word: &[u8]) -> bool
+    ensures { result ≡ bytes_eq text.now word.now }
+{
+    text == word
+}
+
+// Whether a text is this word. Lengths and first bytes are compared where it is called, as most words differ there.
+#[inline(always)]
+fn is_word(text: &[u8], word: &[u8]) -> bool
+    ensures { result ≡ bytes_eq text.now word.now }
+{
+    if text.len() != word.len() {
+        return false;
+    }
+    if byte_at(text, 0) != byte_at(word, 0) {
+        return false;
+    }
+    has_bytes(text, word)
+}
 
 // Whether it is a word of definitions that models may not use here.
 #[tactic(auto, unfolding(crate::specs::Words::is_definition_word))]
