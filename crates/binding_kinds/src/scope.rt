@@ -73,6 +73,9 @@ pub struct Scope {
     pub functions: Vec<Function>,
 }
 
+// So many bytes of a name are in its key.
+const KEYED: usize = 7;
+
 /// Whether two names are the same, the key of the second of which is given: most are told apart by it.
 #[tactic(auto, using(crate::proofs::Scopes::keys_apart))]
 fn is_keyed(one: &Name, other: &Name, key: u64) -> bool
@@ -81,7 +84,9 @@ fn is_keyed(one: &Name, other: &Name, key: u64) -> bool
     if one.key() != key {
         return false;
     }
-    one.as_bytes() == other.as_bytes()
+    let mine = one.as_bytes();
+    let others = other.as_bytes();
+    mine.len() <= KEYED || mine == others
 }
 
 /// The last entry of that name.
