@@ -113,10 +113,11 @@ fn make_room(shared: &mut Vec<Shared>, name: Predefined) -> Result<(), AllocErro
     if is_there(shared, name) {
         return Ok(());
     }
-    shared.push(Shared {
+    shared.reserve(1)?;
+    shared.push_reserved(Shared {
         name,
         relation: Rel::empty(0),
-    })?;
+    });
     Ok(())
 }
 

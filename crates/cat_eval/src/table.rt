@@ -22,6 +22,7 @@ use bit_relations::Rel;
 use candidates::Space;
 use cat_values::Predefined;
 use std::alloc::{AllocError, Global};
+use std::mem;
 
 /// A name and its column.
 #[derive(Drop)]
@@ -175,18 +176,16 @@ fn made_columns(
     base: &mut Base,
     space: &Space,
     needs: &Needs,
+    run: &mut NameRun,
 ) -> Result<Vec<Entry>, AllocError>
     requires { AreSuited needs.now.names.items needs.now.reads needs.now.orders }
     ensures names { IfOk result (λ v. entry_names v.items ≡ needs.now.names.items) }
     ensures columns { IfOk result (λ v. IsBlock v.items (candidates_in space.now.combinations.items)) }
 {
     base.hold(alloc, &needs.names)?;
-    let mut run = NameRun {
-        entries: entries_of(alloc, &needs.names)?,
-        made: Rel::empty(0),
-    };
-    enter_space(space, needs, base, &mut run)?;
-    Ok(run.entries)
+    run.entries = entries_of(alloc, &needs.names)?;
+    enter_space(space, needs, base, run)?;
+    Ok(mem::replace(&mut run.entries, Vec::new(alloc)))
 }
 
 impl Table {
@@ -275,6 +274,7 @@ impl Table {
         space: &Space,
         names: &[Predefined],
         is_changing: bool,
+        run: &mut NameRun,
     ) -> Result<(), AllocError>
         ensures right { AreBlocks self.old.blocks.items (candidates_in space.now.combinations.items) → AreBlocks self.new.blocks.items (candidates_in space.now.combinations.items) }
         ensures kept { (name : _) → HasName self.old.blocks.items name → HasName self.new.blocks.items name }
@@ -284,8 +284,28 @@ impl Table {
         if missing.names.is_empty() {
             return Ok(());
         }
-        let block = made_columns(alloc, base, space, &missing)?;
+        let block = made_columns(alloc, base, space, &missing, run)?;
         self.add_block(block)?;
+        Ok(())
+    }
+
+    /// Makes those of the names that are not there, of both sorts.
+    fn need_both(
+        &mut self,
+        alloc: Global,
+        base: &mut Base,
+        space: &Space,
+        names: &[Predefined],
+    ) -> Result<(), AllocError>
+        ensures right { AreBlocks self.old.blocks.items (candidates_in space.now.combinations.items) → AreBlocks self.new.blocks.items (candidates_in space.now.combinations.items) }
+        ensures there { OnOk result ((name : _) → Contains names.now name → HasName self.new.blocks.items name) }
+    {
+        let mut run = NameRun {
+            entries: Vec::new(alloc),
+            made: Rel::empty(0),
+        };
+        self.need_some(alloc, base, space, names, false, &mut run)?;
+        self.need_some(alloc, base, space, names, true, &mut run)?;
         Ok(())
     }
 
@@ -303,9 +323,7 @@ impl Table {
         if self.has_all(names) {
             return Ok(());
         }
-        self.need_some(alloc, base, space, names, false)?;
-        self.need_some(alloc, base, space, names, true)?;
-        Ok(())
+        self.need_both(alloc, base, space, names)
     }
 
     /// Lists these names with their columns, of those that are there.

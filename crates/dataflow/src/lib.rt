@@ -7,4 +7,4 @@ mod pass;
 mod taints;
 
 pub use lists::{Dependencies, Links, add_pairs};
-pub use pass::links;
+pub use pass::{Workspace, links};

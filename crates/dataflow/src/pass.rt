@@ -144,38 +144,65 @@ fn no_links(alloc: Global) -> Links
     }
 }
 
-/// How the loads of the run reach its events: along chains of instructions that are no accesses,
-/// each of which reads a register, or CR0, that was last written by the one before. An exclusive
-/// or, or a difference, of a register with itself carries all but `need`. A run of over 128 events
-/// has no links. Errors: want of memory.
+/// Where the loads along a run are noted. It is made once and serves one run after another.
+#[derive(Clone, Copy)]
+pub struct Workspace {
+    known: Control,
+    /// For each event the loads that reach it. Between runs they count for nothing.
+    loads: Columns,
+    /// Between runs no load reaches anything.
+    ghost clean: { known ≡ steering.clean_control },
+}
+
+impl Workspace {
+    /// A workspace for any run.
+    pub fn new() -> Workspace {
+        Workspace {
+            known: Control::new(),
+            loads: [0; 128],
+        }
+    }
+
+    /// How the loads of the run reach its events: along chains of instructions that are no accesses,
+    /// each of which reads a register, or CR0, that was last written by the one before. An exclusive
+    /// or, or a difference, of a register with itself carries all but `need`. A run of over 128 events
+    /// has no links. Errors: want of memory.
+    pub fn links(&mut self, alloc: Global, run: &Run) -> Result<Links, AllocError>
+        ensures within { IfOk result (IsWithin (chains.event_place (runs.executed run.now.steps.items) (length run.now.steps.items))) }
+        ensures exact { chains.event_place (runs.executed run.now.steps.items) (length run.now.steps.items) ≤ 128 → IfOk result (found.AreLinks (runs.executed run.now.steps.items)) }
+    {
+        let steps = &run.steps;
+        let count = event_count(steps);
+        if count > 128 {
+            return Ok(no_links(alloc));
+        }
+        reach(&mut self.known.taints, &mut self.loads, steps, false, false);
+        let addr_pairs = pairs(alloc, &self.loads, count)?;
+        reach(&mut self.known.taints, &mut self.loads, steps, false, true);
+        let data_pairs = pairs(alloc, &self.loads, count)?;
+        control_columns(&mut self.known, &mut self.loads, steps, false);
+        let ctrl_pairs = pairs(alloc, &self.loads, count)?;
+        control_columns(&mut self.known, &mut self.loads, steps, true);
+        let ctrlisync_pairs = pairs(alloc, &self.loads, count)?;
+        reach(&mut self.known.taints, &mut self.loads, steps, true, true);
+        let need_pairs = pairs(alloc, &self.loads, count)?;
+        Ok(Links {
+            dependencies: Dependencies {
+                addr_pairs,
+                data_pairs,
+                ctrl_pairs,
+                ctrlisync_pairs,
+            },
+            need_pairs,
+        })
+    }
+}
+
+/// The links of a run, in a workspace of its own. Errors: want of memory.
 pub fn links(alloc: Global, run: &Run) -> Result<Links, AllocError>
     ensures within { IfOk result (IsWithin (chains.event_place (runs.executed run.now.steps.items) (length run.now.steps.items))) }
     ensures exact { chains.event_place (runs.executed run.now.steps.items) (length run.now.steps.items) ≤ 128 → IfOk result (found.AreLinks (runs.executed run.now.steps.items)) }
 {
-    let steps = &run.steps;
-    let count = event_count(steps);
-    if count > 128 {
-        return Ok(no_links(alloc));
-    }
-    let mut control = Control::new();
-    let mut columns = [0; 128];
-    reach(&mut control.taints, &mut columns, steps, false, false);
-    let addr_pairs = pairs(alloc, &columns, count)?;
-    reach(&mut control.taints, &mut columns, steps, false, true);
-    let data_pairs = pairs(alloc, &columns, count)?;
-    control_columns(&mut control, &mut columns, steps, false);
-    let ctrl_pairs = pairs(alloc, &columns, count)?;
-    control_columns(&mut control, &mut columns, steps, true);
-    let ctrlisync_pairs = pairs(alloc, &columns, count)?;
-    reach(&mut control.taints, &mut columns, steps, true, true);
-    let need_pairs = pairs(alloc, &columns, count)?;
-    Ok(Links {
-        dependencies: Dependencies {
-            addr_pairs,
-            data_pairs,
-            ctrl_pairs,
-            ctrlisync_pairs,
-        },
-        need_pairs,
-    })
+    let mut workspace = Workspace::new();
+    workspace.links(alloc, run)
 }

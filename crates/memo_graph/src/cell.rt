@@ -15,11 +15,12 @@ ghost use Rattle.memo_graph.specs.Answers.{AreSound};
 ghost use Rattle.memo_graph.specs.Known.{column_of, AreFound, IsAnswered, ColumnsAt, HasAllColumns, of_flags, kept_of, flags_of, AreJudged};
 ghost use Rattle.memo_graph.specs.FromScratch.{IsFromScratch};
 ghost use Rattle.memo_graph.specs.Cell.{IsSaid, IsCell, IsEvaluationBy, IsEvaluationOver, OfModel};
+ghost use Rattle.memo_graph.specs.Suites.{IsSpaceFor};
 
 use crate::keeping::{Keeping, last_users, let_go_behind};
 use crate::suite::{over_space, space_for};
 use binding_graph::{CheckCode, Input, ResolveFault, Resolved, ResolvedItem, Role, resolve, used};
-use candidates::Space;
+use candidates::{EvalRefusal, Space};
 use cat_eval::{Column, Evaluator};
 use cat_values::ModelText;
 use litmus_printing::print_condition;
@@ -348,12 +349,26 @@ pub(crate) fn refused(alloc: Global, test: &Test, refusal: Refusal) -> Result<Ou
     })
 }
 
+// What the test says over its candidates, by an evaluator of its own.
+fn over_space_alone(
+    alloc: Global,
+    test: &Test,
+    resolved: &Resolved,
+    space: &Result<Space, EvalRefusal>,
+) -> Result<Outcome, AllocError>
+    requires { IsSpaceFor test.now space.now }
+    ensures cell { IfOk result (λ o. IsCell test.now o) }
+    ensures model { IfOk result (λ o. OfModel (λ _. ⊥) (Unit {0}) (λ e. AreSound resolved.now.items.items → IsEvaluationOver resolved.now.items.items test.now e) o.result) }
+{
+    over_space(alloc, &mut Evaluator::new(alloc), test, resolved, space)
+}
+
 fn over_candidates(alloc: Global, test: &Test, resolved: &Resolved) -> Result<Outcome, AllocError>
     ensures cell { IfOk result (λ o. IsCell test.now o) }
     ensures model { IfOk result (λ o. OfModel (λ _. ⊥) (Unit {0}) (λ e. AreSound resolved.now.items.items → IsEvaluationOver resolved.now.items.items test.now e) o.result) }
 {
     let space = space_for(alloc, test)?;
-    over_space(alloc, &mut Evaluator::new(alloc), test, resolved, &space)
+    over_space_alone(alloc, test, resolved, &space)
 }
 
 /// What the test says under the model: a fault of the model first, then a refusal of the test, and

@@ -15,6 +15,7 @@ ghost use Rattle.run_combinations.specs.Layouts.{AreServedRuns, IsLaidOut};
 use crate::combination::{Action, Event};
 use crate::keys::KeySet;
 use crate::part::{Part, Sketch, add_keys, join_writes, parts, sift, sketches};
+use dataflow::Workspace;
 use source_text::Name;
 use std::alloc::{AllocError, Global};
 use thread_runs::{Domain, Program, Run, Value, held_values, served_runs_of};
@@ -116,6 +117,7 @@ fn all_sketches(
 /// The runs of a thread that may be part of a candidate.
 fn thread_parts(
     alloc: Global,
+    workspace: &mut Workspace,
     thread: usize,
     runs: &[Run],
     sketches: &[Sketch],
@@ -127,7 +129,7 @@ fn thread_parts(
     let mut writes = KeySet::empty();
     join_writes(&mut writes, sketches);
     Ok(ThreadParts {
-        parts: parts(alloc, thread, runs, sketches)?,
+        parts: parts(alloc, workspace, thread, runs, sketches)?,
         writes,
     })
 }
@@ -141,9 +143,16 @@ fn all_parts(
     requires { AllZip NamesRuns runs.now sketches.now }
     ensures { IfOk result (λ v. AreThreads 0 runs.now sketches.now v.items) }
 {
+    let mut workspace = Workspace::new();
     let mut threads = Vec::with_capacity(alloc, runs.len())?;
     for thread in 0..runs.len() {
-        threads.push(thread_parts(alloc, thread, &runs[thread], &sketches[thread])?)?;
+        threads.push(thread_parts(
+            alloc,
+            &mut workspace,
+            thread,
+            &runs[thread],
+            &sketches[thread],
+        )?)?;
     }
     Ok(threads)
 }

@@ -9,7 +9,7 @@ ghost use Rattle.std.specs.List.{AllZip};
 
 use crate::combination::{Action, Event};
 use crate::keys::KeySet;
-use dataflow::{Links, links};
+use dataflow::{Links, Workspace};
 use std::alloc::{AllocError, Global};
 use thread_runs::{Run, Value};
 
@@ -100,7 +100,8 @@ pub fn sketches(alloc: Global, values: &[Value], runs: &[Run]) -> Result<Vec<Ske
 {
     let mut made = Vec::with_capacity(alloc, runs.len())?;
     for index in 0..runs.len() {
-        made.push(sketch_of(values, index, &runs[index]))?;
+        made.reserve(1)?;
+        made.push_reserved(sketch_of(values, index, &runs[index]));
     }
     Ok(made)
 }
@@ -186,14 +187,20 @@ fn events_of(alloc: Global, thread: usize, run: &Run) -> Result<Vec<Event>, Allo
 }
 
 /// A run as a part of candidates.
-fn part_of(alloc: Global, thread: usize, run: &Run, sketch: &Sketch) -> Result<Part, AllocError>
+fn part_of(
+    alloc: Global,
+    workspace: &mut Workspace,
+    thread: usize,
+    run: &Run,
+    sketch: &Sketch,
+) -> Result<Part, AllocError>
     ensures part { IfOk result (λ p. IsPartOf thread run.now p) }
     ensures sketch { IfOk result (λ p. (p.run ≡ sketch.now.run) × (p.reads ≡ sketch.now.reads) × (p.writes ≡ sketch.now.writes)) }
 {
     Ok(Part {
         run: sketch.run,
         events: events_of(alloc, thread, run)?,
-        links: links(alloc, run)?,
+        links: workspace.links(alloc, run)?,
         reads: sketch.reads,
         writes: sketch.writes,
         registers: run.registers,
@@ -204,6 +211,7 @@ fn part_of(alloc: Global, thread: usize, run: &Run, sketch: &Sketch) -> Result<P
 /// The runs that the sketches name.
 pub fn parts(
     alloc: Global,
+    workspace: &mut Workspace,
     thread: usize,
     runs: &[Run],
     sketches: &[Sketch],
@@ -213,7 +221,9 @@ pub fn parts(
 {
     let mut parts = Vec::with_capacity(alloc, sketches.len())?;
     for sketch in sketches {
-        parts.push(part_of(alloc, thread, &runs[sketch.run], sketch)?)?;
+        let part = part_of(alloc, workspace, thread, &runs[sketch.run], sketch)?;
+        parts.reserve(1)?;
+        parts.push_reserved(part);
     }
     Ok(parts)
 }

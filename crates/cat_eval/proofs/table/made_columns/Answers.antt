@@ -10,12 +10,12 @@ enter_space-requires-clause-held c =
 pub returns-clause-columns : goal.returns-clause-columns
 returns-clause-columns c =
     let needs = c.args.needs.now in
-    let made = c.in_ok-entries_of in
+    let made = c.in_ok-run in
     let (bases, worlds, given) = c.in_ok-enter_space.ensures (refl, made.ensures.empty) in
-    block_right needs.names.items needs.reads needs.orders c.requires bases _ worlds c.enter_space.new.visitor.entries.items (given.0 ∙ rw c.deref-2.ensures.value at made.ensures.names) given.1
+    rw c.replace.ensures.value (block_right needs.names.items needs.reads needs.orders c.requires bases _ worlds c.enter_space.new.visitor.entries.items (given.0 ∙ rw c.deref-2.ensures.value at made.ensures.names) given.1)
 
 pub returns-clause-names : goal.returns-clause-names
 returns-clause-names c =
-    let made = c.in_ok-entries_of in
+    let made = c.in_ok-run in
     let (bases, worlds, given) = c.in_ok-enter_space.ensures (refl, made.ensures.empty) in
-    given.0 ∙ rw c.deref-2.ensures.value at made.ensures.names
+    rw c.replace.ensures.value (given.0 ∙ rw c.deref-2.ensures.value at made.ensures.names)

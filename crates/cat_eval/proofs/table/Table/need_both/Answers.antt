@@ -1,7 +1,7 @@
 use Rattle.cat_eval.specs.Needs.{is_changing_name}
 use Rattle.cat_eval.specs.Tables.{HasName}
 use Rattle.cat_eval.proofs.Blocks.{either_sort}
-use Rattle.cat_eval.proofs.table.Table.need.Goals as goal
+use Rattle.cat_eval.proofs.table.Table.need_both.Goals as goal
 
 pub returns-clause-there : goal.returns-clause-there
 returns-clause-there c = λ name inside.

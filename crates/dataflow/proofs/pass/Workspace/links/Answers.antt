@@ -2,7 +2,7 @@ use Rattle.std.proofs.Common.{length, false, true}
 use Rattle.thread_runs.specs.Runs.{executed}
 use Rattle.dataflow.specs.Chains.{event_place, is_plain, is_narrow, IsAddr, IsData, IsNeed, IsCtrl, IsCtrlIsync}
 use Rattle.dataflow.proofs.LinkLists.{list_of, reach_loads, ctrl_loads, ctrlisync_loads}
-use Rattle.dataflow.proofs.pass.links.Goals as goal
+use Rattle.dataflow.proofs.pass.Workspace.links.Goals as goal
 
 pub returns-then-count-gt128-clause-within : goal.returns-then-count-gt128-clause-within
 returns-then-count-gt128-clause-within c = c.no_links.ensures (event_place (executed c.args.run.now.steps.items) (length c.args.run.now.steps.items))
