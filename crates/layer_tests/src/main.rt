@@ -1,8 +1,9 @@
 //! Asks the layers under evaluation what the files of cases ask, and prints each line with its answer: the readers and the
-//! printers, the edits of texts, the parts of a bench after edits, and the semantics of tests. Each begins with a line that
-//! names it.
+//! printers, the edits of texts, the parts of a bench after edits, the semantics of tests, and benches over a small instance. Each
+//! begins with a line that names it.
 #![tactic(auto)]
 
+pub mod benches;
 mod parts;
 mod readers;
 mod semantics;
@@ -10,6 +11,7 @@ mod texts;
 
 use std::io;
 use std::rt::Files;
+use std::sync::Wait;
 
 /// Prints an answer, or that it is no text.
 fn print_answer<R: Print>(rt: &R, answer: Vec<u8>) -> io::Result<()> {
@@ -19,7 +21,7 @@ fn print_answer<R: Print>(rt: &R, answer: Vec<u8>) -> io::Result<()> {
     }
 }
 
-fn run<R: Files + Print + AllocGlobal>(rt: &R) -> io::Result<()> {
+fn run<R: Files + Print + AllocGlobal + Wait>(rt: &R) -> io::Result<()> {
     println!(rt; "# Readers and printers")?;
     readers::show_all(rt)?;
     println!(rt; "# Edits of texts")?;
@@ -27,7 +29,8 @@ fn run<R: Files + Print + AllocGlobal>(rt: &R) -> io::Result<()> {
     println!(rt; "# Parts after edits")?;
     parts::show_all(rt)?;
     println!(rt; "# Semantics of tests")?;
-    semantics::show_all(rt)
+    semantics::show_all(rt)?;
+    benches::show_all(rt)
 }
 
 fn main(rt: HostRuntime) -> io::Result<()> {

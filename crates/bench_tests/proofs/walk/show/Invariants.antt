@@ -1,4 +1,0 @@
-use Rattle.bench_tests.proofs.walk.show.Given as goal
-
-abbrev pub ghosts-take_walk : goal.ghosts-take_walk
-ghosts-take_walk g a = record { shelves = a.opened.values }
