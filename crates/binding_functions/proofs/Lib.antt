@@ -1,4 +1,4 @@
 pub mod Applied
-pub mod Marking
+pub mod Parts
 pub mod Filling
 pub mod Lengths

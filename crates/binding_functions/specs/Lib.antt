@@ -1,2 +1,2 @@
 pub mod Templates
-pub mod Marks
+pub mod Parts

@@ -10,9 +10,8 @@ ghost use Rattle.binding_kinds.specs.First.{first_of_body};
 ghost use Rattle.binding_graph.specs.Usages.{usage_of, usages_after};
 ghost use Rattle.binding_graph.specs.Readings.{AreNamed};
 
-use crate::function::read_function;
+use crate::function::{ReadFunction, read_whole};
 use crate::resolved::Body;
-use binding_functions::body_fault;
 use binding_kinds::{Binder, Entry, Input, Kind, ModelFault, Scope, Sight, parameter_fault};
 use cat_values::{Binding, Expression};
 use source_text::Name;
@@ -83,11 +82,10 @@ pub fn declare_function(
         parameters,
         from: scope.entries.len(),
     };
-    let fault = body_fault(&sight, body);
+    let ReadFunction { function, fault } = read_whole(alloc, &sight, index, body)?;
     if fault.is_some() {
         return Ok(fault);
     }
-    let function = read_function(alloc, &sight, index, body)?;
     let binder = Binder::Applicable(scope.functions.len());
     scope.functions.push(function)?;
     scope.entries.push(Entry {

@@ -9,7 +9,7 @@ use Rattle.binding_functions.proofs.Filling.{constant_postfix, factor_postfix, f
 use Rattle.binding_functions.proofs.kept.function_of.Goals as goal
 
 pub returns-clause-kept : goal.returns-clause-kept
-returns-clause-kept c = λ ss kept read few.
+returns-clause-kept c = λ ss kept read part few.
     let names = reverse (map entry_of c.args.sight.now.entries.now) in
     let ps = c.args.sight.now.parameters.now in
     let formula = formula_in ss names ps (term_of c.args.body.now) in
@@ -18,7 +18,7 @@ returns-clause-kept c = λ ss kept read few.
       arity = refl;
       few = few;
       kinds = λ kinds long. c.in_ok-signatures.ensures ss kinds kept long (omega (arith, few, long));
-      under = λ index lt. c.complemented.ensures ss index kept (omega (arith, few, lt));
+      under = λ index lt. part.marks index (omega (arith, few, lt));
       within = formula_within ss names ps (term_of c.args.body.now);
       large = whole.large;
       template = whole.fits;

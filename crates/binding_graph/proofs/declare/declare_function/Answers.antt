@@ -23,12 +23,12 @@ returns-clause-functions c = λ ss kept none.
     let fault : c.parameter_fault-fault.result ≡ None = none_of c.parameter_fault-fault.result (sym c.if-is_some.ensures) in
     let few : length ps ≤ 8 = few_parameters ps (sym c.parameter_fault-fault.ensures ∙ fault) in
     let kept_there : AreKept c.deref-2.result.now ss = rw c.deref-2.ensures.value kept in
-    let one : IsKept c.in_ok-function.function (sense_of_function ss (reverse (map entry_of c.args.scope.now.entries.items)) ps (term_of c.args.body.now)) = rw c.deref.ensures.value at (c.in_ok-function.ensures.kept ss kept_there few) in
-    functions_more c.args.scope.now.functions.items _ ss c.in_ok-function.function _ kept c.in_ok-push.ensures.items one
+    let one : IsKept c.in_ok-function.field-0.function (sense_of_function ss (reverse (map entry_of c.args.scope.now.entries.items)) ps (term_of c.args.body.now)) = rw c.deref.ensures.value at (c.in_ok-function.ensures.kept ss kept_there few) in
+    functions_more c.args.scope.now.functions.items _ ss c.in_ok-function.field-0.function _ kept c.in_ok-push.ensures.items one
 
 pub returns-clause-usages : goal.returns-clause-usages
 returns-clause-usages c = λ none.
     let es = c.args.scope.now.entries.items in
     let from : c.len.result ≡ length (reverse (map entry_of c.deref.result.now)) = let n = c.len.ensures in let k = c.args.scope.now.entries.ok in rw (c.deref.ensures.value, count_names es) (omega (arith, n, k)) in
     let usage = rw (c.deref.ensures.value, c.deref-2.ensures.value) at (c.in_ok-function.ensures.usage from) in
-    usages_more c.args.scope.now.functions.items _ c.in_ok-function.function _ c.in_ok-push.ensures.items usage
+    usages_more c.args.scope.now.functions.items _ c.in_ok-function.field-0.function _ c.in_ok-push.ensures.items usage
