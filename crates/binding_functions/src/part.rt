@@ -1,19 +1,57 @@
 //! What is found of a part of the body of a function.
 
-ghost use Rattle.std.specs.Prelude.{◌≡◌, ◌<◌, ℕ, ◌||◌, ◌&&◌, Some, None, false, nat_eq, get_or};
-ghost use Rattle.binding_kinds.specs.Verdict.{or_else, of_name};
+ghost use Rattle.std.specs.Prelude.{◌≡◌, ◌<◌, ℕ, ◌||◌, ◌&&◌, List, [], ◌∷◌, ◌++◌, length, map, reverse, Bool, Some, None, false, nat_eq, get_or, IfOk};
+ghost use Rattle.cat_values.specs.declared.model.Expression.{Expression};
+ghost use Rattle.cat_values.specs.declared.model.Infix.{Infix};
+ghost use Rattle.cat_values.specs.declared.model.Postfix.{Postfix};
+ghost use Rattle.cat_values.specs.Value.{Term, Atom, Join, Mark, On, Apply, gathered};
+ghost use Rattle.cat_values.specs.Values.{term_of};
+ghost use Rattle.binding_kinds.specs.Value.{Naming};
+ghost use Rattle.binding_kinds.specs.Kinds.{found, is_turned};
+ghost use Rattle.binding_kinds.specs.Meanings.{parameter_of};
+ghost use Rattle.binding_kinds.specs.Senses.{Sense, IsKept, sense_of};
+ghost use Rattle.binding_kinds.specs.Functions.{sense_seen};
+ghost use Rattle.binding_kinds.specs.First.{of_applied};
+ghost use Rattle.binding_functions.specs.Parts.{IsNameless, IsBodyPart, AreBodyParts};
 
-use binding_kinds::{Found, ModelFault, either, judged_name, or_else};
-use cat_values::MAX_PARAMETERS;
+use binding_kinds::{
+    Found, Function, Gathered, Kind, ModelFault, Signature, applied_column, constant_column,
+    either, identity_column, infix_column, judged_name, no_arguments, or_else, parameter_column,
+    postfix_column, with_argument,
+};
+use cat_values::{Infix, MAX_PARAMETERS};
+use std::alloc::{AllocError, Global};
+
+/// The columns that are made of the parts of a body.
+#[derive(Clone, Copy)]
+pub struct Columns {
+    /// Where they are allocated.
+    pub alloc: Global,
+    /// How many combinations of the kinds of the parameters they have, from the first on.
+    pub rows: usize,
+}
 
 /// What is found of a part of the body of a function, by the names in it.
-#[derive(Clone, Copy)]
+#[derive(Drop)]
 pub struct BodyPart {
     /// Its first fault, in the order of the text: a name that is unbound, or with another number
     /// of arguments than it takes. Kinds, sizes and complements count where the function is applied.
     pub fault: Option<ModelFault>,
     /// Whether each parameter stands under a complement or right of a difference in it.
     pub under: [bool; MAX_PARAMETERS],
+    /// What it makes where the parameters have the kinds of each combination.
+    pub column: Vec<Signature>,
+}
+
+/// What is found of the arguments of a function.
+#[derive(Drop)]
+pub struct BodyArguments {
+    /// Their first fault.
+    pub fault: Option<ModelFault>,
+    /// Whether each parameter stands under a complement or right of a difference in them.
+    pub under: [bool; MAX_PARAMETERS],
+    /// What is known of them where the parameters have the kinds of each combination.
+    pub known: Vec<Gathered>,
 }
 
 /// For each index, whether one of two tests holds.
@@ -30,60 +68,146 @@ fn either_of_each(
     both
 }
 
+/// No parameter is marked.
+fn unmarked() -> [bool; MAX_PARAMETERS]
+    ensures { (index : ℕ) → index < 8 → get_or result index false ≡ false }
+{
+    [false; MAX_PARAMETERS]
+}
+
+/// The marks of a parameter, by its index, which stands under a complement or not.
+fn marked(under: bool, index: usize) -> [bool; MAX_PARAMETERS]
+    ensures { (other : ℕ) → other < 8 → get_or result other false ≡ (under && nat_eq index other) }
+{
+    let mut marks = unmarked();
+    if under && index < MAX_PARAMETERS {
+        marks[index] = true;
+    }
+    marks
+}
+
 impl BodyPart {
-    /// A part without names.
-    pub fn without_names() -> BodyPart
-        ensures fault { result.fault ≡ None }
-        ensures under { (index : ℕ) → index < 8 → get_or result.under index false ≡ false }
+    /// A part without names, of that kind. Errors: want of memory.
+    pub fn nameless(columns: Columns, kind: Kind) -> Result<BodyPart, AllocError>
+        ensures { (arity : ℕ) → IfOk result (IsNameless arity columns.rows kind) }
     {
-        BodyPart {
+        Ok(BodyPart {
             fault: None,
-            under: [false; MAX_PARAMETERS],
-        }
+            under: unmarked(),
+            column: constant_column(columns.alloc, columns.rows, kind)?,
+        })
     }
 
-    /// An application at fault.
-    pub fn at_fault(fault: ModelFault) -> BodyPart
-        ensures fault { result.fault ≡ Some fault }
-        ensures under { (index : ℕ) → index < 8 → get_or result.under index false ≡ false }
+    /// A parameter, by its index, which stands under a complement or not. Errors: want of memory.
+    pub fn parameter(columns: Columns, under: bool, index: usize) -> Result<BodyPart, AllocError>
+        ensures { (ss : List Sense) (names : List Naming) (ps : List (List ℕ)) (x : List ℕ) → parameter_of (reverse ps) x ≡ Some index → IfOk result (IsBodyPart ss names ps columns.rows under (Atom x)) }
     {
-        BodyPart {
+        Ok(BodyPart {
+            fault: None,
+            under: marked(under, index),
+            column: parameter_column(columns.alloc, columns.rows, index)?,
+        })
+    }
+
+    /// A name without arguments that is no parameter, by what was found. Errors: want of memory.
+    pub fn other(columns: Columns, one: Option<Found>) -> Result<BodyPart, AllocError>
+        ensures { (ss : List Sense) (names : List Naming) (ps : List (List ℕ)) (under : Bool) (x : List ℕ) → parameter_of (reverse ps) x ≡ None → found names x ≡ one → IfOk result (IsBodyPart ss names ps columns.rows under (Atom x)) }
+    {
+        let judged = judged_name(0, false, one);
+        Ok(BodyPart {
+            fault: judged.fault,
+            under: unmarked(),
+            column: constant_column(columns.alloc, columns.rows, judged.kind)?,
+        })
+    }
+
+    /// An application of a name that is no function of so many, which is at fault. Errors: want of
+    /// memory.
+    pub fn refused(columns: Columns, fault: ModelFault) -> Result<BodyPart, AllocError>
+        ensures { (ss : List Sense) (names : List Naming) (ps : List (List ℕ)) (under : Bool) (x : List ℕ) (xs : List Expression) → sense_seen ss names ps (length xs) x ≡ None → of_applied (parameter_of (reverse ps) x) (sense_of ss (length xs) (found names x)) ≡ Some fault → IfOk result (IsBodyPart ss names ps columns.rows under (Apply x (gathered (map term_of xs)))) }
+    {
+        Ok(BodyPart {
             fault: Some(fault),
-            under: [false; MAX_PARAMETERS],
-        }
+            under: unmarked(),
+            column: constant_column(columns.alloc, columns.rows, Kind::OfAny)?,
+        })
     }
 
-    /// A parameter, by its index, which stands under a complement or not.
-    pub fn parameter(under: bool, index: usize) -> BodyPart
-        ensures fault { result.fault ≡ None }
-        ensures under { (other : ℕ) → other < 8 → get_or result.under other false ≡ (under && nat_eq index other) }
+    /// What an infix operator makes of two parts. Errors: want of memory.
+    pub fn infix(
+        alloc: Global,
+        op: Infix,
+        left: BodyPart,
+        right: BodyPart,
+    ) -> Result<BodyPart, AllocError>
+        ensures { (ss : List Sense) (names : List Naming) (ps : List (List ℕ)) (rows : ℕ) (under : Bool) (a b : Term) → IsBodyPart ss names ps rows under a left → IsBodyPart ss names ps rows (is_turned op under) b right → IfOk result (IsBodyPart ss names ps rows under (Join op a b)) }
     {
-        let mut part = BodyPart::without_names();
-        if under && index < MAX_PARAMETERS {
-            part.under[index] = true;
-        }
-        part
+        Ok(BodyPart {
+            fault: or_else(left.fault, right.fault),
+            under: either_of_each(left.under, right.under),
+            column: infix_column(alloc, op, &left.column, &right.column)?,
+        })
     }
 
-    /// A name without arguments that is no parameter and was looked for.
-    pub fn other(found: Option<Found>) -> BodyPart
-        ensures fault { result.fault ≡ of_name 0 false found }
-        ensures under { (index : ℕ) → index < 8 → get_or result.under index false ≡ false }
+    /// What a postfix operator makes of a part. Errors: want of memory.
+    pub fn postfix(self, alloc: Global) -> Result<BodyPart, AllocError>
+        ensures { (ss : List Sense) (names : List Naming) (ps : List (List ℕ)) (rows : ℕ) (under : Bool) (op : Postfix) (a : Term) → IsBodyPart ss names ps rows under a self → IfOk result (IsBodyPart ss names ps rows under (Mark op a)) }
     {
-        BodyPart {
-            fault: judged_name(0, false, found).fault,
-            under: [false; MAX_PARAMETERS],
-        }
+        Ok(BodyPart {
+            fault: self.fault,
+            under: self.under,
+            column: postfix_column(alloc, &self.column)?,
+        })
     }
 
-    /// This part, and then a later one.
-    pub fn then(self, later: BodyPart) -> BodyPart
-        ensures fault { result.fault ≡ or_else self.fault later.fault }
-        ensures under { (index : ℕ) → index < 8 → get_or result.under index false ≡ (get_or self.under index false || get_or later.under index false) }
+    /// The identity on a part. Errors: want of memory.
+    pub fn identity(self, alloc: Global) -> Result<BodyPart, AllocError>
+        ensures { (ss : List Sense) (names : List Naming) (ps : List (List ℕ)) (rows : ℕ) (under : Bool) (a : Term) → IsBodyPart ss names ps rows under a self → IfOk result (IsBodyPart ss names ps rows under (On a)) }
     {
-        BodyPart {
-            fault: or_else(self.fault, later.fault),
-            under: either_of_each(self.under, later.under),
-        }
+        Ok(BodyPart {
+            fault: self.fault,
+            under: self.under,
+            column: identity_column(alloc, &self.column)?,
+        })
+    }
+}
+
+impl BodyArguments {
+    /// No argument yet. Errors: want of memory.
+    pub fn none(columns: Columns) -> Result<BodyArguments, AllocError>
+        ensures { (ss : List Sense) (names : List Naming) (ps : List (List ℕ)) (under : Bool) (turned : ℕ → Bool) → IfOk result (AreBodyParts ss names ps columns.rows under turned []) }
+    {
+        Ok(BodyArguments {
+            fault: None,
+            under: unmarked(),
+            known: no_arguments(columns.alloc, columns.rows)?,
+        })
+    }
+
+    /// With one more argument, which stands at that index. Errors: want of memory.
+    pub fn with(
+        self,
+        alloc: Global,
+        index: usize,
+        one: BodyPart,
+    ) -> Result<BodyArguments, AllocError>
+        ensures { (ss : List Sense) (names : List Naming) (ps : List (List ℕ)) (rows : ℕ) (under : Bool) (turned : ℕ → Bool) (xs : List Expression) (e : Expression) → length xs ≡ index → index < 8 → IsBodyPart ss names ps rows (under || turned index) (term_of e) one → AreBodyParts ss names ps rows under turned xs self → IfOk result (AreBodyParts ss names ps rows under turned (xs ++ e ∷ [])) }
+    {
+        Ok(BodyArguments {
+            fault: or_else(self.fault, one.fault),
+            under: either_of_each(self.under, one.under),
+            known: with_argument(alloc, &self.known, index, &one.column)?,
+        })
+    }
+
+    /// The application of the function to them. Errors: want of memory.
+    pub fn applied(self, alloc: Global, function: &Function) -> Result<BodyPart, AllocError>
+        ensures { (ss : List Sense) (names : List Naming) (ps : List (List ℕ)) (rows : ℕ) (under : Bool) (x : List ℕ) (xs : List Expression) (s : Sense) → IsKept function.now s → length xs ≡ s.arity → sense_seen ss names ps (length xs) x ≡ Some s → of_applied (parameter_of (reverse ps) x) (sense_of ss (length xs) (found names x)) ≡ None → AreBodyParts ss names ps rows under s.is_under xs self → IfOk result (IsBodyPart ss names ps rows under (Apply x (gathered (map term_of xs)))) }
+    {
+        Ok(BodyPart {
+            fault: self.fault,
+            under: self.under,
+            column: applied_column(alloc, function, &self.known)?,
+        })
     }
 }

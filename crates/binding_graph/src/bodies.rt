@@ -14,7 +14,7 @@ ghost use Rattle.binding_graph.specs.Meaning.{IsCode};
 ghost use Rattle.binding_graph.specs.Readings.{IsVerdict, AreNoted, AreNamed, fault_of};
 ghost use Rattle.binding_graph.specs.Resolved.{AreBodies, IsGroup, IsCheck, IsLabelled};
 
-use crate::reading::{Findings, read_term};
+use crate::reading::read_term;
 use crate::resolved::{Body, CheckCode, Code, ResolvedItem, Role};
 use crate::uses::{Uses, copied_items, inputs_of_values};
 use crate::workspace::Workspace;
@@ -45,7 +45,7 @@ fn read_code(
     ensures uses { let us = map usage_of sight.now.functions.now in let names = reverse (map entry_of sight.now.entries.now) in let ps = sight.now.parameters.now in OnOk result (AreNoted (with_values us names ps sight.now.from (term_of term.now)) (with_functions us names ps (term_of term.now)) work.old.uses work.new.uses) }
 {
     work.template.clear();
-    let Findings { judged, .. } = read_term(
+    let judged = read_term(
         alloc,
         sight,
         false,

@@ -8,10 +8,10 @@ ghost use Rattle.binding_kinds.specs.Senses.{Sense, IsKept, AreKept};
 ghost use Rattle.binding_kinds.specs.Functions.{sense_of_function};
 ghost use Rattle.binding_graph.specs.Usages.{usage_of, usage_of_function};
 
-use crate::reading::read_term;
+use crate::inside::read_inside;
 use crate::uses::Uses;
-use binding_functions::{ReadBody, Template, function_of};
-use binding_kinds::{Function, ModelFault, Sight};
+use binding_functions::{Columns, ReadBody, Template, function_of};
+use binding_kinds::{Function, ModelFault, Sight, weight};
 use cat_values::Expression;
 use std::alloc::{AllocError, Global};
 
@@ -25,8 +25,8 @@ pub struct ReadFunction {
 }
 
 /// Reads the function of that item, whose parameters the body sees: the first fault of the body,
-/// the body with the functions that it applies put in, and what it uses and applies, are read in
-/// one walk. Errors: want of memory.
+/// its complements, the kinds that it makes, the body with the functions that it applies put in,
+/// and what it uses and applies, are read in one walk. Errors: want of memory.
 pub fn read_whole(
     alloc: Global,
     sight: &Sight,
@@ -39,7 +39,11 @@ pub fn read_whole(
 {
     let mut template = Template::new(alloc);
     let mut uses = Uses::new(alloc);
-    let part = read_term(alloc, sight, false, body, &mut template, &mut uses)?.part;
+    let arity = sight.parameters.len();
+    let rows = weight(arity);
+    let columns = Columns { alloc, rows };
+    let part = read_inside(columns, sight, false, body, &mut template, &mut uses)?;
+    let fault = part.fault;
     let (values, functions) = uses.into_lists();
     let read = ReadBody {
         template,
@@ -48,14 +52,13 @@ pub fn read_whole(
         functions,
     };
     Ok(ReadFunction {
-        function: function_of(alloc, sight, item, body, read)?,
-        fault: part.fault,
+        function: function_of(alloc, item, arity, read)?,
+        fault,
     })
 }
 
-/// What is kept of the function of that item, whose parameters the body sees: the body with the
-/// functions that it applies put in, and what it uses and applies, are read in one walk. Errors:
-/// want of memory.
+/// What is kept of the function of that item, whose parameters the body sees. Errors: want of
+/// memory.
 pub fn read_function(
     alloc: Global,
     sight: &Sight,

@@ -24,8 +24,7 @@ use cat_values::{Binding, Expression, Item, ModelText, PREDEFINED};
 use source_text::Name;
 use std::alloc::{AllocError, Global};
 
-/// Resolves a model. A name of a group or a check is looked up once. A name of the body of a function
-/// is looked up again for the kinds that the body makes.
+/// Resolves a model. Each name is looked up once, also in the body of a function.
 ///
 /// The fault that is answered is the first by item and then by index; at one index
 /// the order is M1, M4, M6, M7, M3, M2, M5. Errors: the first fault of the model, by item and then

@@ -6,6 +6,7 @@ mod bodies;
 mod declare;
 mod fault;
 mod function;
+mod inside;
 mod items;
 mod lower;
 mod reach;

@@ -1,10 +1,9 @@
-//! One walk over an expression, in which each name is looked up once: the kind and the first
-//! fault of the expression, what is found of it in the body of a function, its pieces, and what it
-//! uses.
+//! One walk over an expression of a group or a check, in which each name is looked up once: the
+//! kind and the first fault of the expression, its pieces, and what it uses.
 
-ghost use Rattle.std.specs.Prelude.{◌≡◌, ◌<◌, ℕ, [], ◌∷◌, List, false, get_or, None, Some, Ok, Err, length, map, reverse, IfOk, OnOk, MatchResult};
+ghost use Rattle.std.specs.Prelude.{◌≡◌, ◌<◌, [], ◌∷◌, List, None, Some, Ok, Err, length, map, reverse, IfOk, OnOk, MatchResult};
 ghost use Rattle.std.specs.List.{AllZip};
-ghost use Rattle.cat_values.specs.Value.{Atom, Apply, gathered};
+ghost use Rattle.cat_values.specs.Value.{Apply, gathered};
 ghost use Rattle.cat_values.specs.Values.{term_of};
 ghost use Rattle.binding_kinds.specs.Value.{entry_of};
 ghost use Rattle.binding_kinds.specs.Kinds.{found, kind_found};
@@ -15,12 +14,11 @@ ghost use Rattle.binding_kinds.specs.Functions.{sense_seen, named_formula};
 ghost use Rattle.binding_kinds.specs.Verdict.{of_name};
 ghost use Rattle.binding_kinds.specs.First.{of_applied};
 ghost use Rattle.binding_functions.specs.Templates.{pieces_in, HasLarge, IsTemplate, IsGrown};
-ghost use Rattle.binding_functions.specs.Parts.{IsBodyPart, AreBodyParts};
 ghost use Rattle.binding_graph.specs.Usages.{usage_of, usage_seen, with_meaning, with_values, with_values_among, with_functions, with_functions_among};
 ghost use Rattle.binding_graph.specs.Readings.{IsVerdict, AreJudged, AreNoted};
 
 use crate::uses::Uses;
-use binding_functions::{BodyPart, Template};
+use binding_functions::Template;
 use binding_kinds::{
     Arguments, Function, Judged, Kind, ModelFault, Named, Piece, Sight, either, is_turned,
     judged_complement, judged_faulty, judged_identity, judged_infix, judged_name, judged_postfix,
@@ -30,37 +28,22 @@ use cat_values::Expression;
 use source_text::Name;
 use std::alloc::{AllocError, Global};
 
-/// What is found of an expression.
-#[derive(Clone, Copy)]
-pub struct Findings {
-    /// Its kind, its size and its first fault, where it is in no body of a function.
-    pub judged: Judged,
-    /// What is found of it in the body of a function.
-    pub part: BodyPart,
-}
-
 /// What is read of the arguments of a function.
 #[derive(Drop)]
 struct Given {
     /// What is known of them.
     known: Arguments,
-    /// What is found of them in the body of a function.
-    part: BodyPart,
     /// Each in postfix order.
     templates: Vec<Template>,
 }
 
 /// Reads `_`, `0` or `{}`.
-fn read_sign(kind: Kind, piece: Piece, template: &mut Template) -> Result<Findings, AllocError>
-    ensures judged { IfOk result (λ f. (f.judged.kind ≡ kind) × (f.judged.size ≡ 1) × (f.judged.fault ≡ None)) }
-    ensures part { IfOk result (λ f. (f.part.fault ≡ None) × ((index : ℕ) → index < 8 → get_or f.part.under index false ≡ false)) }
+fn read_sign(kind: Kind, piece: Piece, template: &mut Template) -> Result<Judged, AllocError>
+    ensures judged { IfOk result (λ j. (j.kind ≡ kind) × (j.size ≡ 1) × (j.fault ≡ None)) }
     ensures template { OnOk result (IsGrown template.old template.new (piece ∷ []) ⊥) }
 {
     template.put(piece)?;
-    Ok(Findings {
-        judged: judged_sign(kind),
-        part: BodyPart::without_names(),
-    })
+    Ok(judged_sign(kind))
 }
 
 /// Reads a name without arguments.
@@ -70,34 +53,27 @@ fn read_name(
     name: &Name,
     template: &mut Template,
     uses: &mut Uses,
-) -> Result<Findings, AllocError>
-    ensures judged { let o = found (reverse (map entry_of sight.now.entries.now)) name.now in sight.now.parameters.now ≡ [] → IfOk result (λ f. (f.judged.kind ≡ kind_found o) × (f.judged.size ≡ 1) × (f.judged.fault ≡ of_name sight.now.from under o)) }
-    ensures part { let names = reverse (map entry_of sight.now.entries.now) in (senses : List Sense) → IfOk result (λ f. IsBodyPart senses names sight.now.parameters.now under (Atom name.now) f.part) }
+) -> Result<Judged, AllocError>
+    ensures judged { let o = found (reverse (map entry_of sight.now.entries.now)) name.now in sight.now.parameters.now ≡ [] → IfOk result (λ j. (j.kind ≡ kind_found o) × (j.size ≡ 1) × (j.fault ≡ of_name sight.now.from under o)) }
     ensures template { OnOk result (IsGrown template.old template.new (postfix (named_formula (parameter_of (reverse sight.now.parameters.now) name.now) (found (reverse (map entry_of sight.now.entries.now)) name.now))) ⊥) }
     ensures uses { OnOk result (AreNoted (λ vs. with_meaning vs sight.now.from (parameter_of (reverse sight.now.parameters.now) name.now) (found (reverse (map entry_of sight.now.entries.now)) name.now)) (λ fs. fs) uses.old uses.new) }
 {
     match sight.named(name) {
         Named::Parameter(index) => {
             template.put(Piece::Parameter(index))?;
-            Ok(Findings {
-                judged: judged_sign(Kind::OfAny),
-                part: BodyPart::parameter(under, index),
-            })
+            Ok(judged_sign(Kind::OfAny))
         }
         Named::Other(found) => {
             template.put_name(found)?;
             uses.add_name(sight.from, found)?;
-            Ok(Findings {
-                judged: judged_name(sight.from, under, found),
-                part: BodyPart::other(found),
-            })
+            Ok(judged_name(sight.from, under, found))
         }
     }
 }
 
 /// The function that a name with so many arguments stands for. Errors: `Unbound` where nothing
 /// binds the name, `Arity` where it is no function of so many.
-fn applied<'a>(sight: &Sight<'a>, name: &Name, count: usize) -> Result<&'a Function, ModelFault>
+pub fn applied<'a>(sight: &Sight<'a>, name: &Name, count: usize) -> Result<&'a Function, ModelFault>
     ensures usage { let us = map usage_of sight.now.functions.now in let names = reverse (map entry_of sight.now.entries.now) in MatchResult result (λ f. usage_seen us names sight.now.parameters.now count name.now ≡ Some (usage_of f.now)) (λ k. usage_seen us names sight.now.parameters.now count name.now ≡ None) }
     ensures sense { let names = reverse (map entry_of sight.now.entries.now) in (senses : List Sense) → AreKept sight.now.functions.now senses → MatchResult result (λ f. (s : Sense) × (sense_seen senses names sight.now.parameters.now count name.now ≡ Some s) × (s.arity ≡ count) × IsKept f.now s) (λ k. (sense_seen senses names sight.now.parameters.now count name.now ≡ None) × (sight.now.parameters.now ≡ [] → sense_of senses count (found names name.now) ≡ Err k)) }
     ensures fault { let names = reverse (map entry_of sight.now.entries.now) in let p = parameter_of (reverse sight.now.parameters.now) name.now in (senses : List Sense) → AreKept sight.now.functions.now senses → MatchResult result (λ f. of_applied p (sense_of senses count (found names name.now)) ≡ None) (λ k. of_applied p (sense_of senses count (found names name.now)) ≡ Some k) }
@@ -111,9 +87,10 @@ fn applied<'a>(sight: &Sight<'a>, name: &Name, count: usize) -> Result<&'a Funct
     }
 }
 
-/// Reads the arguments of a name that is no function of so many: what they use counts.
+/// Reads the arguments of a name that is no function of so many: what they use counts. Errors: want
+/// of memory.
 #[cycle(reading)]
-fn read_unapplied(
+pub fn read_unapplied(
     alloc: Global,
     sight: &Sight,
     arguments: &[Expression],
@@ -139,26 +116,19 @@ fn read_arguments(
     uses: &mut Uses,
 ) -> Result<Given, AllocError>
     ensures judged { let names = reverse (map entry_of sight.now.entries.now) in (senses : List Sense) (s : Sense) → AreKept sight.now.functions.now senses → sight.now.parameters.now ≡ [] → IsKept function.now s → length arguments.now ≡ s.arity → IfOk result (λ g. AreJudged senses names sight.now.from under function.now s (gathered (map term_of arguments.now)) g.known) }
-    ensures part { let names = reverse (map entry_of sight.now.entries.now) in (senses : List Sense) (s : Sense) → AreKept sight.now.functions.now senses → IsKept function.now s → length arguments.now ≡ s.arity → IfOk result (λ g. AreBodyParts senses names sight.now.parameters.now under s.is_under (gathered (map term_of arguments.now)) g.part) }
     ensures templates { let names = reverse (map entry_of sight.now.entries.now) in (senses : List Sense) → AreKept sight.now.functions.now senses → IfOk result (λ g. AllZip IsTemplate g.templates.items (map (λ e. pieces_in senses names sight.now.parameters.now (term_of e)) arguments.now)) }
     ensures uses { let us = map usage_of sight.now.functions.now in let names = reverse (map entry_of sight.now.entries.now) in let ps = sight.now.parameters.now in OnOk result (AreNoted (with_values_among us names ps sight.now.from (gathered (map term_of arguments.now))) (with_functions_among us names ps (gathered (map term_of arguments.now))) uses.old uses.new) }
 {
     let mut known = Arguments::of(function);
-    let mut part = BodyPart::without_names();
     let mut templates = Vec::new(alloc);
     for (index, argument) in arguments.iter().enumerate() {
         let inner = either(under, function.is_under(index));
         let mut template = Template::new(alloc);
-        let one = read_term(alloc, sight, inner, argument, &mut template, uses)?;
-        known = known.with(function, index, one.judged);
-        part = part.then(one.part);
+        let judged = read_term(alloc, sight, inner, argument, &mut template, uses)?;
+        known = known.with(function, index, judged);
         templates.push(template)?;
     }
-    Ok(Given {
-        known,
-        part,
-        templates,
-    })
+    Ok(Given { known, templates })
 }
 
 /// Reads an application. One of a name that is no function of so many stands as the empty relation.
@@ -171,9 +141,8 @@ fn read_applied(
     arguments: &[Expression],
     template: &mut Template,
     uses: &mut Uses,
-) -> Result<Findings, AllocError>
-    ensures judged { let names = reverse (map entry_of sight.now.entries.now) in (senses : List Sense) → AreKept sight.now.functions.now senses → sight.now.parameters.now ≡ [] → IfOk result (λ f. IsVerdict senses names sight.now.from under (Apply name.now (gathered (map term_of arguments.now))) f.judged) }
-    ensures part { let names = reverse (map entry_of sight.now.entries.now) in (senses : List Sense) → AreKept sight.now.functions.now senses → IfOk result (λ f. IsBodyPart senses names sight.now.parameters.now under (Apply name.now (gathered (map term_of arguments.now))) f.part) }
+) -> Result<Judged, AllocError>
+    ensures judged { let names = reverse (map entry_of sight.now.entries.now) in (senses : List Sense) → AreKept sight.now.functions.now senses → sight.now.parameters.now ≡ [] → IfOk result (IsVerdict senses names sight.now.from under (Apply name.now (gathered (map term_of arguments.now)))) }
     ensures template { let names = reverse (map entry_of sight.now.entries.now) in (senses : List Sense) → AreKept sight.now.functions.now senses → OnOk result (IsGrown template.old template.new (pieces_in senses names sight.now.parameters.now (Apply name.now (gathered (map term_of arguments.now)))) (HasLarge senses names sight.now.parameters.now (Apply name.now (gathered (map term_of arguments.now))))) }
     ensures uses { let us = map usage_of sight.now.functions.now in let names = reverse (map entry_of sight.now.entries.now) in let ps = sight.now.parameters.now in OnOk result (AreNoted (with_values us names ps sight.now.from (Apply name.now (gathered (map term_of arguments.now)))) (with_functions us names ps (Apply name.now (gathered (map term_of arguments.now)))) uses.old uses.new) }
 {
@@ -181,19 +150,13 @@ fn read_applied(
         Err(fault) => {
             read_unapplied(alloc, sight, arguments, uses)?;
             template.put(Piece::NoPairs)?;
-            Ok(Findings {
-                judged: judged_faulty(fault),
-                part: BodyPart::at_fault(fault),
-            })
+            Ok(judged_faulty(fault))
         }
         Ok(function) => {
             uses.add_function(function)?;
             let given = read_arguments(alloc, sight, under, function, arguments, uses)?;
             template.put_function(function, &given.templates)?;
-            Ok(Findings {
-                judged: given.known.applied(function),
-                part: given.part,
-            })
+            Ok(given.known.applied(function))
         }
     }
 }
@@ -201,8 +164,8 @@ fn read_applied(
 /// Reads an expression, seen under a complement or not, in the order of the text: judges it,
 /// appends its pieces to the template, and notes what it uses and applies at each first use. Each
 /// name is looked up once. What has a fault stands as the empty relation. In the body of a
-/// function nothing is said of what is judged; what is found there as its part is. Errors: want of
-/// memory.
+/// function, where arguments of a name that is no function are read so, nothing is said of what is
+/// judged. Errors: want of memory.
 #[cycle(reading)]
 pub fn read_term(
     alloc: Global,
@@ -211,9 +174,8 @@ pub fn read_term(
     term: &Expression,
     template: &mut Template,
     uses: &mut Uses,
-) -> Result<Findings, AllocError>
-    ensures judged { let names = reverse (map entry_of sight.now.entries.now) in (senses : List Sense) → AreKept sight.now.functions.now senses → sight.now.parameters.now ≡ [] → IfOk result (λ f. IsVerdict senses names sight.now.from under (term_of term.now) f.judged) }
-    ensures part { let names = reverse (map entry_of sight.now.entries.now) in (senses : List Sense) → AreKept sight.now.functions.now senses → IfOk result (λ f. IsBodyPart senses names sight.now.parameters.now under (term_of term.now) f.part) }
+) -> Result<Judged, AllocError>
+    ensures judged { let names = reverse (map entry_of sight.now.entries.now) in (senses : List Sense) → AreKept sight.now.functions.now senses → sight.now.parameters.now ≡ [] → IfOk result (IsVerdict senses names sight.now.from under (term_of term.now)) }
     ensures template { let names = reverse (map entry_of sight.now.entries.now) in (senses : List Sense) → AreKept sight.now.functions.now senses → OnOk result (IsGrown template.old template.new (pieces_in senses names sight.now.parameters.now (term_of term.now)) (HasLarge senses names sight.now.parameters.now (term_of term.now))) }
     ensures uses { let us = map usage_of sight.now.functions.now in let names = reverse (map entry_of sight.now.entries.now) in let ps = sight.now.parameters.now in OnOk result (AreNoted (with_values us names ps sight.now.from (term_of term.now)) (with_functions us names ps (term_of term.now)) uses.old uses.new) }
 {
@@ -227,34 +189,22 @@ pub fn read_term(
             let turned = is_turned(*op, under);
             let second = read_term(alloc, sight, turned, right, template, uses)?;
             template.put(Piece::Joined(*op))?;
-            Ok(Findings {
-                judged: judged_infix(*op, first.judged, second.judged),
-                part: first.part.then(second.part),
-            })
+            Ok(judged_infix(*op, first, second))
         }
         Expression::Marked(op, operand) => {
             let inner = read_term(alloc, sight, under, operand, template, uses)?;
             template.put(Piece::Marked(*op))?;
-            Ok(Findings {
-                judged: judged_postfix(inner.judged),
-                part: inner.part,
-            })
+            Ok(judged_postfix(inner))
         }
         Expression::Complement(operand) => {
             let inner = read_term(alloc, sight, true, operand, template, uses)?;
             template.put(Piece::Complement)?;
-            Ok(Findings {
-                judged: judged_complement(inner.judged),
-                part: inner.part,
-            })
+            Ok(judged_complement(inner))
         }
         Expression::Identity(operand) => {
             let inner = read_term(alloc, sight, under, operand, template, uses)?;
             template.put(Piece::Identity)?;
-            Ok(Findings {
-                judged: judged_identity(inner.judged),
-                part: inner.part,
-            })
+            Ok(judged_identity(inner))
         }
         Expression::Applied(name, arguments) => {
             read_applied(alloc, sight, under, name, arguments, template, uses)

@@ -66,23 +66,3 @@ applied_fault fs ss n None (Some f) h = at_binder f.binder
     at_binder (binders.Predefined q) = refl
     at_binder (binders.Bound i) = refl
     at_binder (binders.Applicable i) = at_sense i (slice_get ss i) ∙ ap (λ (q : Option ℕ). fault_of (applied i n q)) (sym (arities fs ss i h))
-
--- an application in a body: the fault of its name, and then those of its arguments
-pub body_applied : (fs : List Function) (ss : List Sense) (names : List Naming) (ps : List (List ℕ)) (e : Expression) (n : List ℕ) (args : Vec Expression Global) (m : ℕ) (r : Result ℕ ModelFault) → AreKept fs ss → e ≡ expressions.Applied n args → m ≡ length args.items
-    → r ≡ applied_of (λ (i : ℕ). slice_get (map (λ (f : Function). f.arity) fs) i) m (parameter_of (reverse ps) n) (found names n)
-    → first_of_body ss names ps (term_of e) ≡ or_else (fault_of r) (first_of_bodies ss names ps (gathered (map term_of args.items)))
-body_applied fs ss names ps e n args m r kept is long r_is =
-    let ts = gathered (map term_of args.items) in
-    let par = parameter_of (reverse ps) n in
-    let t : term_of e ≡ Apply n ts = ap term_of is ∙ applied_term n args in
-    ap (first_of_body ss names ps) t
-    ∙ ap (λ (q : Option ModelFault). or_else q (first_of_bodies ss names ps ts))
-    (ap (λ (k : ℕ). of_applied par (sense_of ss k (found names n))) (count_arguments args.items ∙ sym long) ∙ applied_fault fs ss m par (found names n) kept ∙ ap fault_of (sym r_is))
-
--- the arguments are gone through
-pub bodies_done : (ss : List Sense) (names : List Naming) (ps : List (List ℕ)) (xs ys : List Expression) (p : ℕ) (now old : Option ModelFault) → xs ≡ ys → length xs ≤ p
-    → or_else now (first_of_bodies ss names ps (gathered (map term_of (drop p xs)))) ≡ or_else old (first_of_bodies ss names ps (gathered (map term_of xs)))
-    → now ≡ or_else old (first_of_bodies ss names ps (gathered (map term_of ys)))
-bodies_done ss names ps xs ys p now old same past e =
-    sym (or_none now) ∙ sym (ap (λ (l : List Expression). or_else now (first_of_bodies ss names ps (gathered (map term_of l)))) (drop_all p xs past))
-    ∙ e ∙ ap (λ (l : List Expression). or_else old (first_of_bodies ss names ps (gathered (map term_of l)))) same

@@ -46,33 +46,33 @@ pub filled_at : {X : Type 0} (d : X) (arity n m : ℕ) (f : List Kind → X) (xs
 filled_at d arity n m f xs same h = record { long = h.long ∙ same; entries = λ ks e lt. h.entries ks e (omega (arith, lt, same)) }
 
 -- all entries are there
-pub filled_all : {X Y : Type 0} (d : X) (o : Y) (arity n : ℕ) (f : List Kind → X) (g : List Kind → Y) (all : List X) (xs : List Y) → IsFilled d arity (3 ^ arity) f all → length all ≤ n → n ≤ length all → IsFilled o arity n g xs → IsFilled o arity (3 ^ arity) g xs
-filled_all d o arity n f g all xs h le ge k =
-    let l = h.long in let same : n ≡ 3 ^ arity = omega (arith, l, le, ge) in
+pub filled_all : {X Y : Type 0} (d : X) (o : Y) (arity rows n : ℕ) (f : List Kind → X) (g : List Kind → Y) (all : List X) (xs : List Y) → IsFilled d arity rows f all → length all ≤ n → n ≤ length all → IsFilled o arity n g xs → IsFilled o arity rows g xs
+filled_all d o arity rows n f g all xs h le ge k =
+    let l = h.long in let same : n ≡ rows = omega (arith, l, le, ge) in
     record { long = k.long ∙ same; entries = λ ks e lt. k.entries ks e (omega (arith, lt, same)) }
 
-pub entry_at : {X : Type 0} (d w : X) (arity i : ℕ) (made : List Kind → X) (all : List X) (ks : List Kind) → IsFilled d arity (3 ^ arity) made all → i < length all → length ks ≡ arity → number_of ks ≡ i → get_or all i w ≡ made ks
-entry_at d w arity i made all ks h lt long same =
+pub entry_at : {X : Type 0} (d w : X) (arity rows i : ℕ) (made : List Kind → X) (all : List X) (ks : List Kind) → IsFilled d arity rows made all → i < length all → length ks ≡ arity → number_of ks ≡ i → get_or all i w ≡ made ks
+entry_at d w arity rows i made all ks h lt long same =
     let l = h.long in
     get_or_default all i w d lt ∙ (ap (λ (n : ℕ). get_or all n d) (sym same) ∙ h.entries ks long (omega (arith, lt, l, same)))
 
 -- one more entry, made of those of two tables
-pub zipped_more : {X Y Z : Type 0} (d w : X) (e : Z) (o : Y) (arity i : ℕ) (first : List Kind → X) (second : List Kind → Z) (f : X → Z → Y) (all : List X) (others : List Z) (xs ys : List Y) (y : Y) → i < length all
-    → ((ks : List Kind) → get_or all i w ≡ first ks → y ≡ f (get_or all i w) (get_or others i e)) → ys ≡ xs ++ y ∷ [] → IsFilled d arity (3 ^ arity) first all → IsFilled e arity (3 ^ arity) second others
+pub zipped_more : {X Y Z : Type 0} (d w : X) (e : Z) (o : Y) (arity rows i : ℕ) (first : List Kind → X) (second : List Kind → Z) (f : X → Z → Y) (all : List X) (others : List Z) (xs ys : List Y) (y : Y) → i < length all
+    → ((ks : List Kind) → get_or all i w ≡ first ks → y ≡ f (get_or all i w) (get_or others i e)) → ys ≡ xs ++ y ∷ [] → IsFilled d arity rows first all → IsFilled e arity rows second others
     → IsFilled o arity i (λ ks. f (first ks) (second ks)) xs → IsFilled o arity (i + 1) (λ ks. f (first ks) (second ks)) ys
-zipped_more {X} {Y} {Z} d w e o arity i first second f all others xs ys y lt y_is is h k inv =
+zipped_more {X} {Y} {Z} d w e o arity rows i first second f all others xs ys y lt y_is is h k inv =
     filled_more o arity i (λ ks. f (first ks) (second ks)) xs ys y is inv (λ ks long same.
     let l = h.long in
     let m = k.long in
-    let a : get_or all i w ≡ first ks = entry_at d w arity i first all ks h lt long same in
-    let b : get_or others i e ≡ second ks = entry_at e e arity i second others ks k (omega (arith, lt, l, m)) long same in
+    let a : get_or all i w ≡ first ks = entry_at d w arity rows i first all ks h lt long same in
+    let b : get_or others i e ≡ second ks = entry_at e e arity rows i second others ks k (omega (arith, lt, l, m)) long same in
     y_is ks a ∙ (ap (λ (x : X). f x (get_or others i e)) a ∙ ap (λ (z : Z). f (first ks) z) b))
 
 -- one more entry, made of that of another table
-pub mapped_more : {X Y : Type 0} (d w : X) (o : Y) (arity i : ℕ) (before : List Kind → X) (f : X → Y) (all : List X) (xs ys : List Y) (y : Y) → i < length all → y ≡ f (get_or all i w) → ys ≡ xs ++ y ∷ []
-    → IsFilled d arity (3 ^ arity) before all → IsFilled o arity i (λ ks. f (before ks)) xs → IsFilled o arity (i + 1) (λ ks. f (before ks)) ys
-mapped_more d w o arity i before f all xs ys y lt y_is is h inv =
-    zipped_more d w d o arity i before before (λ x z. f x) all all xs ys y lt (λ ks e. y_is) is h h inv
+pub mapped_more : {X Y : Type 0} (d w : X) (o : Y) (arity rows i : ℕ) (before : List Kind → X) (f : X → Y) (all : List X) (xs ys : List Y) (y : Y) → i < length all → y ≡ f (get_or all i w) → ys ≡ xs ++ y ∷ []
+    → IsFilled d arity rows before all → IsFilled o arity i (λ ks. f (before ks)) xs → IsFilled o arity (i + 1) (λ ks. f (before ks)) ys
+mapped_more d w o arity rows i before f all xs ys y lt y_is is h inv =
+    zipped_more d w d o arity rows i before before (λ x z. f x) all all xs ys y lt (λ ks e. y_is) is h h inv
 
 -- a table has a combination of its kinds
 pub below_arity : (ks : List Kind) (arity : ℕ) → length ks ≡ arity → number_of ks < 3 ^ arity
@@ -172,72 +172,35 @@ clash_last ss names ps ks (x ∷ xs) e = ap (λ (b : Bool). clashes_in ss names 
     at_bool false = refl
 
 -- one more argument
-pub gathered_more : (ss : List Sense) (names : List Naming) (ps : List (List ℕ)) (xs : List Expression) (i : ℕ) (e : Expression) (ks : List Kind) → i < length xs → e ≡ get_or xs i e
-    → with_one i (gathered_in ss names ps (terms_in (take i xs)) ks) (signature_in ss names ps (values.term_of e) ks) ≡ gathered_in ss names ps (terms_in (take (i + 1) xs)) ks
-gathered_more ss names ps xs i e ks lt is =
-    let front = take i xs in
-    let whole : take (i + 1) xs ≡ front ++ e ∷ [] = take_more xs i e lt ∙ ap (λ (x : Expression). front ++ x ∷ []) (sym is) in
-    let count : length (kinds_of_body ss names ps ks (terms_in front)) ≡ i = let l = long_kinds ss names ps ks front in let t = length-take i xs in omega (arith, l, t, lt) in
-    let number : number_of (kinds_of_body ss names ps ks (terms_in (front ++ e ∷ []))) ≡ number_of (kinds_of_body ss names ps ks (terms_in front)) + digit (kind_of_body ss names ps ks (values.term_of e)) * 3 ^ i =
-    ap number_of (kinds_last ss names ps ks front e) ∙ (number_last (kinds_of_body ss names ps ks (terms_in front)) (kind_of_body ss names ps ks (values.term_of e))
-    ∙ ap (λ (n : ℕ). number_of (kinds_of_body ss names ps ks (terms_in front)) + digit (kind_of_body ss names ps ks (values.term_of e)) * 3 ^ n) count) in
+pub gathered_more : (ss : List Sense) (names : List Naming) (ps : List (List ℕ)) (xs : List Expression) (i : ℕ) (e : Expression) (ks : List Kind) → length xs ≡ i
+    → with_one i (gathered_in ss names ps (terms_in xs) ks) (signature_in ss names ps (values.term_of e) ks) ≡ gathered_in ss names ps (terms_in (xs ++ e ∷ [])) ks
+gathered_more ss names ps xs i e ks long =
+    let count : length (kinds_of_body ss names ps ks (terms_in xs)) ≡ i = long_kinds ss names ps ks xs ∙ long in
+    let number : number_of (kinds_of_body ss names ps ks (terms_in (xs ++ e ∷ []))) ≡ number_of (kinds_of_body ss names ps ks (terms_in xs)) + digit (kind_of_body ss names ps ks (values.term_of e)) * 3 ^ i =
+    ap number_of (kinds_last ss names ps ks xs e) ∙ (number_last (kinds_of_body ss names ps ks (terms_in xs)) (kind_of_body ss names ps ks (values.term_of e))
+    ∙ ap (λ (n : ℕ). number_of (kinds_of_body ss names ps ks (terms_in xs)) + digit (kind_of_body ss names ps ks (values.term_of e)) * 3 ^ n) count) in
     let g : (n : ℕ) (b : Bool) → Gathered = λ n b. record { combination = n; clashes = b } in
-    sym (ap (λ (l : List Expression). gathered_in ss names ps (terms_in l) ks) whole
-    ∙ (ap (λ (n : ℕ). g n (clash_among ss names ps ks (terms_in (front ++ e ∷ [])))) number
-    ∙ ap (λ (b : Bool). g (number_of (kinds_of_body ss names ps ks (terms_in front)) + digit (kind_of_body ss names ps ks (values.term_of e)) * 3 ^ i) b) (clash_last ss names ps ks front e)))
+    sym (ap (λ (n : ℕ). g n (clash_among ss names ps ks (terms_in (xs ++ e ∷ [])))) number
+    ∙ ap (λ (b : Bool). g (number_of (kinds_of_body ss names ps ks (terms_in xs)) + digit (kind_of_body ss names ps ks (values.term_of e)) * 3 ^ i) b) (clash_last ss names ps ks xs e))
 
-pub gathered_small : (ss : List Sense) (names : List Naming) (ps : List (List ℕ)) (xs : List Expression) (i : ℕ) (ks : List Kind) → length xs ≤ 8 → (gathered_in ss names ps (terms_in (take i xs)) ks).combination < 6561
-gathered_small ss names ps xs i ks le =
-    let l = long_kinds ss names ps ks (take i xs) in
-    let t = length-take i xs in
-    below_table (kinds_of_body ss names ps ks (terms_in (take i xs))) (omega (arith, l, t, le))
-
--- ---- expressions
-
-pub of_joined : (ss : List Sense) (names : List Naming) (ps : List (List ℕ)) (op : Infix) (e : Expression) (a b : Term) (arity : ℕ) (r : Result (Vec Signature Global) AllocError) → values.term_of e ≡ Join op a b
-    → IfOk r (λ v. IsFilled unknown arity (3 ^ arity) (λ kinds. of_infix op (signature_in ss names ps a kinds) (signature_in ss names ps b kinds)) v.items)
-    → IfOk r (λ v. IsFilled unknown arity (3 ^ arity) (signature_in ss names ps (values.term_of e)) v.items)
-of_joined ss names ps op e a b arity r is h = subst (λ (t : Term). IfOk r (λ v. IsFilled unknown arity (3 ^ arity) (signature_in ss names ps t) v.items)) (sym is) h
-
-pub of_marked : (ss : List Sense) (names : List Naming) (ps : List (List ℕ)) (op : Postfix) (e : Expression) (a : Term) (arity : ℕ) (r : Result (Vec Signature Global) AllocError) → values.term_of e ≡ Mark op a
-    → IfOk r (λ v. IsFilled unknown arity (3 ^ arity) (λ kinds. of_postfix (signature_in ss names ps a kinds)) v.items)
-    → IfOk r (λ v. IsFilled unknown arity (3 ^ arity) (signature_in ss names ps (values.term_of e)) v.items)
-of_marked ss names ps op e a arity r is h = subst (λ (t : Term). IfOk r (λ v. IsFilled unknown arity (3 ^ arity) (signature_in ss names ps t) v.items)) (sym is) h
-
-pub of_on : (ss : List Sense) (names : List Naming) (ps : List (List ℕ)) (e : Expression) (a : Term) (arity : ℕ) (r : Result (Vec Signature Global) AllocError) → values.term_of e ≡ On a
-    → IfOk r (λ v. IsFilled unknown arity (3 ^ arity) (λ kinds. of_identity (signature_in ss names ps a kinds)) v.items)
-    → IfOk r (λ v. IsFilled unknown arity (3 ^ arity) (signature_in ss names ps (values.term_of e)) v.items)
-of_on ss names ps e a arity r is h = subst (λ (t : Term). IfOk r (λ v. IsFilled unknown arity (3 ^ arity) (signature_in ss names ps t) v.items)) (sym is) h
+pub gathered_small : (ss : List Sense) (names : List Naming) (ps : List (List ℕ)) (xs : List Expression) (ks : List Kind) → length xs ≤ 8 → (gathered_in ss names ps (terms_in xs) ks).combination < 6561
+gathered_small ss names ps xs ks le = let l = long_kinds ss names ps ks xs in below_table (kinds_of_body ss names ps ks (terms_in xs)) (omega (arith, l, le))
 
 -- what an application makes, by what its name stands for
-applied_as : (ss : List Sense) (names : List Naming) (ps : List (List ℕ)) (e : Expression) (n : List ℕ) (args : Vec Expression Global) (count : ℕ) (o : Option Sense) (ks : List Kind) → e ≡ expressions.Applied n args → count ≡ length args.items → sense_seen ss names ps count n ≡ o
-    → signature_in ss names ps (values.term_of e) ks ≡ record { kind = kind_of_sense o (kinds_of_body ss names ps ks (terms_in args.items)); clashes = clash_of_sense o (clash_among ss names ps ks (terms_in args.items)) (kinds_of_body ss names ps ks (terms_in args.items)) }
-applied_as ss names ps e n args count o ks is count_is sense_is =
-    let ts = terms_in args.items in
-    let t : values.term_of e ≡ Apply n ts = ap values.term_of is ∙ applied_term n args in
-    let s : sense_seen ss names ps (count_of ts) n ≡ o = ap (λ (m : ℕ). sense_seen ss names ps m n) (count_arguments args.items ∙ sym count_is) ∙ sense_is in
-    let g : Option Sense → Signature = λ q. record { kind = kind_of_sense q (kinds_of_body ss names ps ks ts); clashes = clash_of_sense q (clash_among ss names ps ks ts) (kinds_of_body ss names ps ks ts) } in
-    ap (λ (x : Term). signature_in ss names ps x ks) t ∙ ap g s
+pub applied_signature : (ss : List Sense) (names : List Naming) (ps : List (List ℕ)) (x : List ℕ) (xs : List Expression) (f : Function) (s : Sense) (ks : List Kind) → IsKept f s → sense_seen ss names ps (length xs) x ≡ Some s → length xs ≡ s.arity
+    → of_applied f (gathered_in ss names ps (terms_in xs) ks) ≡ signature_in ss names ps (Apply x (terms_in xs)) ks
+applied_signature ss names ps x xs f s ks kept seen long =
+    let ts = terms_in xs in
+    let kinds = kinds_of_body ss names ps ks ts in
+    let b = clash_among ss names ps ks ts in
+    let is : sense_seen ss names ps (count_of ts) x ≡ Some s = ap (λ (m : ℕ). sense_seen ss names ps m x) (count_arguments xs) ∙ seen in
+    let g : Signature → Signature = λ z. record { kind = z.kind; clashes = b || z.clashes } in
+    let h : Option Sense → Signature = λ q. record { kind = kind_of_sense q kinds; clashes = clash_of_sense q b kinds } in
+    ap g (kept.kinds kinds (long_kinds ss names ps ks xs ∙ long)) ∙ sym (ap h is)
 
-pub of_none : (ss : List Sense) (names : List Naming) (ps : List (List ℕ)) (e : Expression) (n : List ℕ) (args : Vec Expression Global) (count arity : ℕ) (r : Result (Vec Signature Global) AllocError) → e ≡ expressions.Applied n args → count ≡ length args.items → sense_seen ss names ps count n ≡ None
-    → IfOk r (λ v. IsFilled unknown arity (3 ^ arity) (λ kinds. plain OfAny) v.items)
-    → IfOk r (λ v. IsFilled unknown arity (3 ^ arity) (signature_in ss names ps (values.term_of e)) v.items)
-of_none ss names ps e n args count arity r is count_is sense_is h =
-    IfOk-weaker r _ _ (λ v f. filled_as unknown arity (3 ^ arity) (λ kinds. plain OfAny) (signature_in ss names ps (values.term_of e)) v.items (λ ks long. sym (applied_as ss names ps e n args count None ks is count_is sense_is)) f) h
-
-pub of_function : (ss : List Sense) (names : List Naming) (ps : List (List ℕ)) (e : Expression) (n : List ℕ) (args : Vec Expression Global) (front : List Expression) (count arity : ℕ) (f : Function) (s : Sense) (r : Result (Vec Signature Global) AllocError) → e ≡ expressions.Applied n args → count ≡ length args.items → front ≡ args.items
-    → sense_seen ss names ps count n ≡ Some s → s.arity ≡ count → IsKept f s
-    → IfOk r (λ v. IsFilled unknown arity (3 ^ arity) (λ kinds. of_applied f (gathered_in ss names ps (terms_in front) kinds)) v.items)
-    → IfOk r (λ v. IsFilled unknown arity (3 ^ arity) (signature_in ss names ps (values.term_of e)) v.items)
-of_function ss names ps e n args front count arity f s r is count_is front_is sense_is arity_is kept h =
-    IfOk-weaker r _ _ (λ v g. filled_as unknown arity (3 ^ arity) (λ kinds. of_applied f (gathered_in ss names ps (terms_in front) kinds)) (signature_in ss names ps (values.term_of e)) v.items (λ ks long. same ks) g) h
-  where
-    same : (ks : List Kind) → of_applied f (gathered_in ss names ps (terms_in front) ks) ≡ signature_in ss names ps (values.term_of e) ks
-    same ks =
-        let ts = terms_in args.items in
-        let kinds = kinds_of_body ss names ps ks ts in
-        let b = clash_among ss names ps ks ts in
-        let g : Signature → Signature = λ x. record { kind = x.kind; clashes = b || x.clashes } in
-        ap (λ (l : List Expression). of_applied f (gathered_in ss names ps (terms_in l) ks)) front_is
-        ∙ (ap g (kept.kinds kinds (long_kinds ss names ps ks args.items ∙ sym (arity_is ∙ count_is)))
-        ∙ sym (applied_as ss names ps e n args count (Some s) ks is count_is sense_is))
+pub refused_signature : (ss : List Sense) (names : List Naming) (ps : List (List ℕ)) (x : List ℕ) (xs : List Expression) (ks : List Kind) → sense_seen ss names ps (length xs) x ≡ None → plain OfAny ≡ signature_in ss names ps (Apply x (terms_in xs)) ks
+refused_signature ss names ps x xs ks seen =
+    let ts = terms_in xs in
+    let is : sense_seen ss names ps (count_of ts) x ≡ None = ap (λ (m : ℕ). sense_seen ss names ps m x) (count_arguments xs) ∙ seen in
+    let h : Option Sense → Signature = λ q. record { kind = kind_of_sense q (kinds_of_body ss names ps ks ts); clashes = clash_of_sense q (clash_among ss names ps ks ts) (kinds_of_body ss names ps ks ts) } in
+    sym (ap h is)

@@ -11,7 +11,10 @@ mod scope;
 mod sight;
 mod signature;
 
-pub use column::signatures;
+pub use column::{
+    Gathered, applied_column, constant_column, identity_column, infix_column, no_arguments,
+    parameter_column, postfix_column, signatures, with_argument,
+};
 pub use fault::ModelFault;
 pub use function::{Function, MAX_SIZE, Piece, count_parts};
 pub use judged::{
@@ -22,4 +25,4 @@ pub use judging::{binding_fault, judge, parameter_fault};
 pub use kinds::{Kind, is_turned, takes_body};
 pub use scope::{Binder, Entry, Found, Input, Scope, Used, find};
 pub use sight::{Meaning, Named, Sight};
-pub use signature::Signature;
+pub use signature::{Signature, weight};

@@ -1,6 +1,6 @@
 //! The names that an expression sees.
 
-ghost use Rattle.std.specs.Prelude.{◌≡◌, reverse, map, false, get_or, slice_get, Some, None};
+ghost use Rattle.std.specs.Prelude.{◌≡◌, reverse, map, slice_get};
 ghost use Rattle.binding_kinds.specs.Value.{entry_of};
 ghost use Rattle.binding_kinds.specs.Kinds.{found};
 ghost use Rattle.binding_kinds.specs.Applicable.{applied_of};
@@ -44,7 +44,7 @@ pub enum Named {
 
 /// The index of the parameter of that name.
 #[tactic(auto, using(crate::proofs::Scopes::rev_next))]
-pub(crate) fn parameter(parameters: &[Name], name: &Name) -> Option<usize>
+fn parameter(parameters: &[Name], name: &Name) -> Option<usize>
     ensures { result ≡ parameter_of (reverse parameters.now) name.now }
 {
     let mut last = None;
@@ -111,17 +111,6 @@ impl Sight<'_> {
                 _ => Err(ModelFault::Arity),
             },
             _ => Err(ModelFault::Arity),
-        }
-    }
-
-    /// Whether the function has that parameter under a complement or right of a difference.
-    pub fn is_under(&self, function: usize, index: usize) -> bool
-        ensures there { (one : Function) → slice_get self.now.functions.now function ≡ Some one → result ≡ get_or one.under index false }
-        ensures none { slice_get self.now.functions.now function ≡ None → result ≡ false }
-    {
-        match self.functions.get(function) {
-            Some(one) => one.is_under(index),
-            None => false,
         }
     }
 }

@@ -5,7 +5,6 @@ use Rattle.cat_values.specs.Value.{Atom, Join, Mark, Not, On, Apply, gathered}
 use Rattle.cat_values.proofs.Arguments.{applied_term}
 use Rattle.binding_kinds.specs.Value.{entry_of}
 use Rattle.binding_functions.proofs.Filling.{grown_as, more_arguments, whole_template, large_whole, some_pieces, unfit_pieces, put_applied, all_arguments}
-use Rattle.binding_functions.proofs.Parts.{joined_part, parts_none, parts_more, parts_all, applied_part, refused_part}
 use Rattle.binding_graph.proofs.Meant.{if_as}
 use Rattle.binding_graph.proofs.Walks.{verdict_infix, verdict_postfix, verdict_complement, verdict_identity, judged_none, judged_more, judged_all, verdict_applied, verdict_unfit, noted_then, noted_more, noted_all, noted_applied, noted_unapplied, grown_infix, grown_postfix, grown_complement, grown_identity}
 use Rattle.binding_graph.proofs.Sights.{seen_plainly}
@@ -29,7 +28,6 @@ read_unapplied-returns t c = noted_all _ _ _ _ c.args.arguments.now c.loop-argum
 pub read_arguments-loop-index-init : goal.read_arguments-loop-index-init
 read_arguments-loop-index-init t c = record {
   judged = λ ss s kept none one long. judged_none ss _ _ _ c.args.function.now s c.args.arguments.now _ one c.of-known.ensures.combination c.of-known.ensures.size c.of-known.ensures.fault;
-  part = λ ss s kept one long. parts_none ss _ _ _ s.is_under c.args.arguments.now _ c.without_names-part.ensures.fault c.without_names-part.ensures.under;
   templates = λ ss kept. rw c.new-templates.ensures.items tt;
   uses = λ later h. h;
 }
@@ -42,15 +40,11 @@ read_arguments-loop-index-preserved t c =
     let is = c.index-arguments-index.is in
     let lt : i < length xs = omega (arith, c.loop-index-test.true) in
     let m = c.loop-index.invariant in
-    let one = c.in_ok-one.ensures in record {
+    let one = c.in_ok-judged.ensures in record {
       judged = λ ss s kept none kept_one long.
-          judged_more ss _ _ c.args.under c.args.function.now s xs i e c.loop-index.known c.with-known.result c.in_ok-one.one.judged c.either-inner.result kept_one long lt is
+          judged_more ss _ _ c.args.under c.args.function.now s xs i e c.loop-index.known c.with-known.result c.in_ok-judged.judged c.either-inner.result kept_one long lt is
           (c.either-inner.ensures ∙ ap (λ (b : Bool). c.args.under || b) c.is_under.ensures) (one.judged ss kept none)
           c.with-known.ensures.combination c.with-known.ensures.size c.with-known.ensures.fault (m.judged ss s kept none kept_one long);
-      part = λ ss s kept kept_one long.
-          parts_more ss _ _ c.args.under s.is_under xs i e c.loop-index.part c.in_ok-one.one.part c.then-part.result c.either-inner.result lt is
-          (c.either-inner.ensures ∙ ap (λ (b : Bool). c.args.under || b) (c.is_under.ensures ∙ kept_one.under i (omega (arith, lt, long)))) (one.part ss kept)
-          c.then-part.ensures.fault c.then-part.ensures.under (m.part ss s kept kept_one long);
       templates = λ ss kept.
           let term = term_of e in
           more_arguments ss _ _ xs i e c.loop-index.templates.items c.push.new.self.items c.read_term.new.template lt is c.in_ok-push.ensures.items (m.templates ss kept)
@@ -61,10 +55,6 @@ read_arguments-loop-index-preserved t c =
 pub read_arguments-returns-clause-judged : goal.read_arguments-returns-clause-judged
 read_arguments-returns-clause-judged t c = λ ss s kept none one long.
     judged_all ss _ _ c.args.under c.args.function.now s c.args.arguments.now c.loop-index.index c.loop-index.known (omega (arith, c.loop-index-test.false)) (c.loop-index.invariant.judged ss s kept none one long)
-
-pub read_arguments-returns-clause-part : goal.read_arguments-returns-clause-part
-read_arguments-returns-clause-part t c = λ ss s kept one long.
-    parts_all ss _ _ c.args.under s.is_under c.args.arguments.now c.loop-index.index c.loop-index.part (omega (arith, c.loop-index-test.false)) (c.loop-index.invariant.part ss s kept one long)
 
 pub read_arguments-returns-clause-templates : goal.read_arguments-returns-clause-templates
 read_arguments-returns-clause-templates t c = λ ss kept. all_arguments ss _ _ c.args.arguments.now c.loop-index.index c.loop-index.templates.items (omega (arith, c.loop-index-test.false)) (c.loop-index.invariant.templates ss kept)
@@ -78,11 +68,6 @@ pub read_applied-returns-in_ok-put-in-Err-clause-judged : goal.read_applied-retu
 read_applied-returns-in_ok-put-in-Err-clause-judged t c = λ ss kept none.
     let made = c.judged_faulty.ensures in
     verdict_unfit ss _ _ c.args.under c.args.name.now c.args.arguments.now c.in-Err.fault c.judged_faulty.result ((c.in-Err.ensures.sense ss kept).1 none) made.kind made.size made.fault
-
-pub read_applied-returns-in_ok-put-in-Err-clause-part : goal.read_applied-returns-in_ok-put-in-Err-clause-part
-read_applied-returns-in_ok-put-in-Err-clause-part t c = λ ss kept.
-    let made = c.at_fault.ensures in
-    refused_part ss _ _ c.args.under c.args.name.now c.args.arguments.now c.in-Err.fault c.at_fault.result (c.in-Err.ensures.sense ss kept).0 (c.in-Err.ensures.fault ss kept) made.fault made.under
 
 pub read_applied-returns-in_ok-put-in-Err-clause-template : goal.read_applied-returns-in_ok-put-in-Err-clause-template
 read_applied-returns-in_ok-put-in-Err-clause-template t c = λ ss kept.
@@ -102,11 +87,6 @@ read_applied-returns-in_ok-put_function-in-Ok-clause-judged t c = λ ss kept non
     let made = c.applied-in-Ok.ensures in
     verdict_applied c.args.sight.now.functions.now ss _ _ c.args.under c.args.name.now c.args.arguments.now c.in-Ok.function.now h.0 c.in_ok-given-in-Ok.given.known c.applied-in-Ok.result kept h.3 there long
     (c.in_ok-given-in-Ok.ensures.judged ss h.0 kept none h.3 long) made.oversized made.large made.small
-
-pub read_applied-returns-in_ok-put_function-in-Ok-clause-part : goal.read_applied-returns-in_ok-put_function-in-Ok-clause-part
-read_applied-returns-in_ok-put_function-in-Ok-clause-part t c = λ ss kept.
-    let h = c.in-Ok.ensures.sense ss kept in
-    applied_part ss _ _ c.args.under c.args.name.now c.args.arguments.now h.0 c.in_ok-given-in-Ok.given.part h.1 (c.in-Ok.ensures.fault ss kept) (c.in_ok-given-in-Ok.ensures.part ss h.0 kept h.3 (sym h.2))
 
 pub read_applied-returns-in_ok-put_function-in-Ok-clause-template : goal.read_applied-returns-in_ok-put_function-in-Ok-clause-template
 read_applied-returns-in_ok-put_function-in-Ok-clause-template t c = λ ss kept.
@@ -135,12 +115,6 @@ read_term-returns-in-Applied-clause-judged t c = λ ss kept none.
     ap term_of c.in-Applied.is ∙ (applied_term c.in-Applied.name c.in-Applied.arguments ∙ ap (λ (l : List Expression). Apply c.in-Applied.name (gathered (map term_of l))) (sym c.deref-in-Applied.ensures.value)) in
     rw is (c.read_applied.ensures.judged ss kept none)
 
-pub read_term-returns-in-Applied-clause-part : goal.read_term-returns-in-Applied-clause-part
-read_term-returns-in-Applied-clause-part t c = λ ss kept.
-    let is : term_of c.args.term.now ≡ Apply c.in-Applied.name (gathered (map term_of c.deref-in-Applied.result.now)) =
-    ap term_of c.in-Applied.is ∙ (applied_term c.in-Applied.name c.in-Applied.arguments ∙ ap (λ (l : List Expression). Apply c.in-Applied.name (gathered (map term_of l))) (sym c.deref-in-Applied.ensures.value)) in
-    rw is (c.read_applied.ensures.part ss kept)
-
 pub read_term-returns-in-Applied-clause-template : goal.read_term-returns-in-Applied-clause-template
 read_term-returns-in-Applied-clause-template t c = λ ss kept.
     let is : term_of c.args.term.now ≡ Apply c.in-Applied.name (gathered (map term_of c.deref-in-Applied.result.now)) =
@@ -157,13 +131,7 @@ pub read_term-returns-in_ok-put-in-Joined-clause-judged : goal.read_term-returns
 read_term-returns-in_ok-put-in-Joined-clause-judged t c = λ ss kept none.
     let is : term_of c.args.term.now ≡ Join c.in-Joined.op (term_of c.deref.result.now) (term_of c.deref-in-Joined.result.now) = let h = ap term_of c.in-Joined.is in let d = c.deref.ensures in let k = c.deref-in-Joined.ensures in cc in
     let made = c.judged_infix.ensures in
-    rw is (verdict_infix ss _ _ c.args.under c.in-Joined.op _ _ c.in_ok-first-in-Joined.first.judged c.in_ok-second-in-Joined.second.judged c.judged_infix.result (c.in_ok-first-in-Joined.ensures.judged ss kept none) (rw c.is_turned-turned.ensures at (c.in_ok-second-in-Joined.ensures.judged ss kept none)) made.size made.kind made.fault)
-
-pub read_term-returns-in_ok-put-in-Joined-clause-part : goal.read_term-returns-in_ok-put-in-Joined-clause-part
-read_term-returns-in_ok-put-in-Joined-clause-part t c = λ ss kept.
-    let is : term_of c.args.term.now ≡ Join c.in-Joined.op (term_of c.deref.result.now) (term_of c.deref-in-Joined.result.now) = let h = ap term_of c.in-Joined.is in let d = c.deref.ensures in let k = c.deref-in-Joined.ensures in cc in
-    let made = c.then.ensures in
-    rw is (joined_part ss _ _ c.args.under c.in-Joined.op _ _ c.in_ok-first-in-Joined.first.part c.in_ok-second-in-Joined.second.part c.then.result (c.in_ok-first-in-Joined.ensures.part ss kept) (rw c.is_turned-turned.ensures at (c.in_ok-second-in-Joined.ensures.part ss kept)) made.fault made.under)
+    rw is (verdict_infix ss _ _ c.args.under c.in-Joined.op _ _ c.in_ok-first-in-Joined.first c.in_ok-second-in-Joined.second c.judged_infix.result (c.in_ok-first-in-Joined.ensures.judged ss kept none) (rw c.is_turned-turned.ensures at (c.in_ok-second-in-Joined.ensures.judged ss kept none)) made.size made.kind made.fault)
 
 pub read_term-returns-in_ok-put-in-Joined-clause-template : goal.read_term-returns-in_ok-put-in-Joined-clause-template
 read_term-returns-in_ok-put-in-Joined-clause-template t c = λ ss kept.
@@ -181,13 +149,7 @@ pub read_term-returns-in_ok-put-in-Marked-clause-judged : goal.read_term-returns
 read_term-returns-in_ok-put-in-Marked-clause-judged t c = λ ss kept none.
     let is : term_of c.args.term.now ≡ Mark c.in-Marked.op (term_of c.deref-in-Marked.result.now) = let h = ap term_of c.in-Marked.is in let d = c.deref-in-Marked.ensures in cc in
     let made = c.judged_postfix.ensures in
-    rw is (verdict_postfix ss _ _ c.args.under c.in-Marked.op _ c.in_ok-inner-in-Marked.inner.judged c.judged_postfix.result (c.in_ok-inner-in-Marked.ensures.judged ss kept none) made.size made.kind made.fault)
-
-pub read_term-returns-in_ok-put-in-Marked-clause-part : goal.read_term-returns-in_ok-put-in-Marked-clause-part
-read_term-returns-in_ok-put-in-Marked-clause-part t c = λ ss kept.
-    let is : term_of c.args.term.now ≡ Mark c.in-Marked.op (term_of c.deref-in-Marked.result.now) = let h = ap term_of c.in-Marked.is in let d = c.deref-in-Marked.ensures in cc in
-    let inner = c.in_ok-inner-in-Marked.ensures.part ss kept in
-    rw is (record { fault = inner.fault; marks = inner.marks })
+    rw is (verdict_postfix ss _ _ c.args.under c.in-Marked.op _ c.in_ok-inner-in-Marked.inner c.judged_postfix.result (c.in_ok-inner-in-Marked.ensures.judged ss kept none) made.size made.kind made.fault)
 
 pub read_term-returns-in_ok-put-in-Marked-clause-template : goal.read_term-returns-in_ok-put-in-Marked-clause-template
 read_term-returns-in_ok-put-in-Marked-clause-template t c = λ ss kept.
@@ -205,13 +167,7 @@ pub read_term-returns-in_ok-put-in-Complement-clause-judged : goal.read_term-ret
 read_term-returns-in_ok-put-in-Complement-clause-judged t c = λ ss kept none.
     let is : term_of c.args.term.now ≡ Not (term_of c.deref-in-Complement.result.now) = let h = ap term_of c.in-Complement.is in let d = c.deref-in-Complement.ensures in cc in
     let made = c.judged_complement.ensures in
-    rw is (verdict_complement ss _ _ c.args.under _ c.in_ok-inner-in-Complement.inner.judged c.judged_complement.result (c.in_ok-inner-in-Complement.ensures.judged ss kept none) made.size made.kind made.fault)
-
-pub read_term-returns-in_ok-put-in-Complement-clause-part : goal.read_term-returns-in_ok-put-in-Complement-clause-part
-read_term-returns-in_ok-put-in-Complement-clause-part t c = λ ss kept.
-    let is : term_of c.args.term.now ≡ Not (term_of c.deref-in-Complement.result.now) = let h = ap term_of c.in-Complement.is in let d = c.deref-in-Complement.ensures in cc in
-    let inner = c.in_ok-inner-in-Complement.ensures.part ss kept in
-    rw is (record { fault = inner.fault; marks = inner.marks })
+    rw is (verdict_complement ss _ _ c.args.under _ c.in_ok-inner-in-Complement.inner c.judged_complement.result (c.in_ok-inner-in-Complement.ensures.judged ss kept none) made.size made.kind made.fault)
 
 pub read_term-returns-in_ok-put-in-Complement-clause-template : goal.read_term-returns-in_ok-put-in-Complement-clause-template
 read_term-returns-in_ok-put-in-Complement-clause-template t c = λ ss kept.
@@ -229,13 +185,7 @@ pub read_term-returns-in_ok-put-in-Identity-clause-judged : goal.read_term-retur
 read_term-returns-in_ok-put-in-Identity-clause-judged t c = λ ss kept none.
     let is : term_of c.args.term.now ≡ On (term_of c.deref-in-Identity.result.now) = let h = ap term_of c.in-Identity.is in let d = c.deref-in-Identity.ensures in cc in
     let made = c.judged_identity.ensures in
-    rw is (verdict_identity ss _ _ c.args.under _ c.in_ok-inner-in-Identity.inner.judged c.judged_identity.result (c.in_ok-inner-in-Identity.ensures.judged ss kept none) made.size made.kind made.fault)
-
-pub read_term-returns-in_ok-put-in-Identity-clause-part : goal.read_term-returns-in_ok-put-in-Identity-clause-part
-read_term-returns-in_ok-put-in-Identity-clause-part t c = λ ss kept.
-    let is : term_of c.args.term.now ≡ On (term_of c.deref-in-Identity.result.now) = let h = ap term_of c.in-Identity.is in let d = c.deref-in-Identity.ensures in cc in
-    let inner = c.in_ok-inner-in-Identity.ensures.part ss kept in
-    rw is (record { fault = inner.fault; marks = inner.marks })
+    rw is (verdict_identity ss _ _ c.args.under _ c.in_ok-inner-in-Identity.inner c.judged_identity.result (c.in_ok-inner-in-Identity.ensures.judged ss kept none) made.size made.kind made.fault)
 
 pub read_term-returns-in_ok-put-in-Identity-clause-template : goal.read_term-returns-in_ok-put-in-Identity-clause-template
 read_term-returns-in_ok-put-in-Identity-clause-template t c = λ ss kept.

@@ -4,7 +4,6 @@ use Rattle.binding_kinds.specs.Value.{entry_of}
 use Rattle.binding_kinds.specs.Senses.{Sense, IsKept, AreKept}
 use Rattle.binding_functions.specs.Templates.{IsTemplate}
 use Rattle.binding_functions.proofs.Filling.{argument_pieces}
-use Rattle.binding_functions.proofs.Parts.{AreBodyPartsTo}
 use Rattle.binding_graph.specs.Usages.{usage_of}
 use Rattle.binding_graph.proofs.Walks.{AreJudgedTo, AreNotedTo}
 use Rattle.binding_graph.proofs.reading.+reading.Given as goal
@@ -18,7 +17,6 @@ invariant-read_arguments-loop-index l =
     let names = reverse (map entry_of l.sight.entries.now) in
     record {
       judged : (senses : List Sense) (s : Sense) → AreKept l.sight.functions.now senses → l.sight.parameters.now ≡ [] → IsKept l.function s → length l.arguments ≡ s.arity → AreJudgedTo senses names l.sight.from l.under l.function s l.arguments l.index l.known;
-      part : (senses : List Sense) (s : Sense) → AreKept l.sight.functions.now senses → IsKept l.function s → length l.arguments ≡ s.arity → AreBodyPartsTo senses names l.sight.parameters.now l.under s.is_under l.arguments l.index l.part;
       templates : (senses : List Sense) → AreKept l.sight.functions.now senses → AllZip IsTemplate l.templates.items (argument_pieces senses names l.sight.parameters.now (take l.index l.arguments));
       uses : AreNotedTo (map usage_of l.sight.functions.now) names l.sight.parameters.now l.sight.from l.arguments l.index l.initial.uses l.uses;
     }

@@ -1,12 +1,10 @@
-use Rattle.std.proofs.Common.{◌≤◌, List, length, map, reverse}
-use Rattle.cat_values.specs.Values as values
+use Rattle.std.proofs.Common.{◌≤◌, ◌^◌, List}
+use Rattle.binding_kinds.specs.declared.kinds.Kind.{Kind}
+use Rattle.binding_kinds.specs.declared.signature.Signature.{Signature}
 use Rattle.binding_kinds.specs.Combinations.{unknown}
-use Rattle.binding_kinds.specs.Value.{entry_of}
-use Rattle.binding_kinds.specs.Senses.{Sense, AreKept}
-use Rattle.binding_kinds.specs.Columns.{IsFilled, of_function, signature_in}
+use Rattle.binding_kinds.specs.Columns.{IsFilled, of_function}
 use Rattle.binding_kinds.proofs.column.signatures.Given as goal
 
 abbrev pub invariant-loop-combination : goal.invariant-loop-combination
 invariant-loop-combination l =
-    (senses : List Sense) → AreKept l.sight.functions.now senses → length l.sight.parameters.now ≤ 8 →
-    IsFilled unknown l.arity l.combination (λ kinds. of_function kinds (signature_in senses (reverse (map entry_of l.sight.entries.now)) l.sight.parameters.now (values.term_of l.body) kinds)) l.table.items
+    (made : List Kind → Signature) → IsFilled unknown l.arity (3 ^ l.arity) made l.column → l.arity ≤ 8 → IsFilled unknown l.arity l.combination (λ kinds. of_function kinds (made kinds)) l.table.items
