@@ -58,6 +58,13 @@ fn lacks_thread(threads: usize, place: &Place) -> bool
     }
 }
 
+// The block goes on to what is expected next.
+fn expect(expected: &mut InitExpectation, next: InitExpectation)
+    ensures { expected.new ≡ next }
+{
+    *expected = next;
+}
+
 impl InitBlock {
     /// A block of which nothing was read.
     pub fn new(alloc: Global) -> InitBlock
@@ -86,7 +93,7 @@ impl InitBlock {
         match mem::replace(expected, InitExpectation::WantsOpen) {
             InitExpectation::WantsOpen => match token {
                 Token::Mark(Mark::OpenBrace) => {
-                    *expected = InitExpectation::WantsEntry;
+                    expect(expected, InitExpectation::WantsEntry);
                     Ok(false)
                 }
                 _ => Err(StepError::Refused),
@@ -95,7 +102,7 @@ impl InitBlock {
             InitExpectation::InPlace(within) => self.place_read(expected, within, token),
             InitExpectation::WantsEquals(target) => match token {
                 Token::Mark(Mark::Equals) => {
-                    *expected = InitExpectation::WantsValue(target);
+                    expect(expected, InitExpectation::WantsValue(target));
                     Ok(false)
                 }
                 _ => Err(StepError::Refused),
@@ -103,7 +110,7 @@ impl InitBlock {
             InitExpectation::WantsValue(target) => self.value_read(expected, target, token),
             InitExpectation::HasEntry => match token {
                 Token::Mark(Mark::Semicolon) => {
-                    *expected = InitExpectation::WantsEntry;
+                    expect(expected, InitExpectation::WantsEntry);
                     Ok(false)
                 }
                 Token::Mark(Mark::CloseBrace) => Ok(true),
@@ -141,9 +148,9 @@ impl InitBlock {
     {
         self.note(&within, &token)?;
         match place_step(within, token)? {
-            PlaceStep::Goes(within) => *expected = InitExpectation::InPlace(within),
+            PlaceStep::Goes(within) => expect(expected, InitExpectation::InPlace(within)),
             PlaceStep::Ends(written) => {
-                *expected = InitExpectation::WantsEquals(written.into_place());
+                expect(expected, InitExpectation::WantsEquals(written.into_place()));
             }
         }
         Ok(false)
@@ -160,7 +167,7 @@ impl InitBlock {
     {
         let value = value_read(token)?;
         self.entries.push(InitEntry { place, value })?;
-        *expected = InitExpectation::HasEntry;
+        expect(expected, InitExpectation::HasEntry);
         Ok(false)
     }
 

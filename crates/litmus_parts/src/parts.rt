@@ -65,6 +65,13 @@ impl Part {
         }
     }
 
+    /// Goes on to the next part.
+    fn go_to(&mut self, next: Part)
+        ensures { self.new ≡ next }
+    {
+        *self = next;
+    }
+
     /// The part behind the init block, in a text of this kind.
     pub fn after_init(kind: TextKind) -> Part
         ensures { part_of result ≡ after_init kind }
@@ -177,7 +184,7 @@ pub fn magic_read(part: &mut Part, token: &Token) -> Result<(), StepError>
     match token {
         Token::Word(word) => {
             if word.as_bytes() == b"PPC".as_slice() {
-                *part = Part::Title;
+                part.go_to(Part::Title);
                 Ok(())
             } else {
                 Err(StepError::Refused)
@@ -194,7 +201,7 @@ pub fn title_ended(part: &mut Part, token: &Token) -> Result<(), StepError>
 {
     match token {
         Token::LineEnd => {
-            *part = Part::Head(true);
+            part.go_to(Part::Head(true));
             Ok(())
         }
         _ => Err(StepError::Refused),
@@ -209,18 +216,18 @@ pub fn head_read(part: &mut Part, may_have_text: bool, token: &Token) -> Result<
     match token {
         Token::Text => {
             if may_have_text {
-                *part = Part::Head(false);
+                part.go_to(Part::Head(false));
                 Ok(())
             } else {
                 Err(StepError::Refused)
             }
         }
         Token::Keyline => {
-            *part = Part::Head(false);
+            part.go_to(Part::Head(false));
             Ok(())
         }
         Token::Mark(Mark::OpenBrace) => {
-            *part = Part::Init(InitExpectation::WantsEntry);
+            part.go_to(Part::Init(InitExpectation::WantsEntry));
             Ok(())
         }
         _ => Err(StepError::Refused),
@@ -234,11 +241,11 @@ pub fn column_ended(part: &mut Part, token: &Token) -> Result<(), StepError>
 {
     match token {
         Token::Mark(Mark::Bar) => {
-            *part = Part::WantsColumn;
+            part.go_to(Part::WantsColumn);
             Ok(())
         }
         Token::Mark(Mark::Semicolon) => {
-            *part = Part::Rows;
+            part.go_to(Part::Rows);
             Ok(())
         }
         _ => Err(StepError::Refused),
@@ -252,7 +259,7 @@ pub fn list_opened(part: &mut Part, token: &Token) -> Result<(), StepError>
 {
     match token {
         Token::Mark(Mark::OpenBracket) => {
-            *part = Part::Item(ItemExpectation::WantsFirst);
+            part.go_to(Part::Item(ItemExpectation::WantsFirst));
             Ok(())
         }
         _ => Err(StepError::Refused),
@@ -266,11 +273,11 @@ pub fn item_ended(part: &mut Part, kind: TextKind, token: &Token) -> Result<(), 
 {
     match token {
         Token::Mark(Mark::Semicolon) => {
-            *part = Part::Item(ItemExpectation::WantsNext);
+            part.go_to(Part::Item(ItemExpectation::WantsNext));
             Ok(())
         }
         Token::Mark(Mark::CloseBracket) => {
-            *part = Part::after_list(kind);
+            part.go_to(Part::after_list(kind));
             Ok(())
         }
         _ => Err(StepError::Refused),
@@ -282,7 +289,7 @@ pub fn tail_start(part: &mut Part, alloc: Global, token: &Token) -> Result<(), S
     ensures { IsNextPart result part.new (tail_start token.now) }
 {
     if is_list_word(token) {
-        *part = Part::WantsList;
+        part.go_to(Part::WantsList);
         return Ok(());
     }
     quantifier_read(part, alloc, token)
@@ -295,7 +302,7 @@ pub fn list_start(part: &mut Part, token: &Token) -> Result<(), StepError>
     ensures { IsNextPart result part.new (list_start token.now) }
 {
     if is_list_word(token) {
-        *part = Part::WantsList;
+        part.go_to(Part::WantsList);
         return Ok(());
     }
     end_read(part, token)
@@ -307,7 +314,7 @@ pub fn quantifier_read(part: &mut Part, alloc: Global, token: &Token) -> Result<
 {
     match token {
         Token::Mark(Mark::Tilde) => {
-            *part = Part::AfterTilde;
+            part.go_to(Part::AfterTilde);
             Ok(())
         }
         Token::Word(word) => word_quantifier(part, alloc, word),
@@ -319,11 +326,11 @@ fn word_quantifier(part: &mut Part, alloc: Global, word: &Name) -> Result<(), St
     ensures { IsNextPart result part.new (word_quantifier word.now) }
 {
     if word.as_bytes() == b"exists".as_slice() {
-        *part = proposition(alloc, Quantifier::Exists);
+        part.go_to(proposition(alloc, Quantifier::Exists));
         return Ok(());
     }
     if word.as_bytes() == b"forall".as_slice() {
-        *part = proposition(alloc, Quantifier::Forall);
+        part.go_to(proposition(alloc, Quantifier::Forall));
         return Ok(());
     }
     Err(StepError::Refused)
@@ -337,7 +344,7 @@ pub fn exists_read(part: &mut Part, alloc: Global, token: &Token) -> Result<(), 
     match token {
         Token::Word(word) => {
             if word.as_bytes() == b"exists".as_slice() {
-                *part = proposition(alloc, Quantifier::NotExists);
+                part.go_to(proposition(alloc, Quantifier::NotExists));
                 return Ok(());
             }
             Err(StepError::Refused)
@@ -358,7 +365,7 @@ pub fn end_read(part: &mut Part, token: &Token) -> Result<(), StepError>
 {
     match token {
         Token::End => {
-            *part = Part::Done;
+            part.go_to(Part::Done);
             Ok(())
         }
         _ => Err(StepError::Refused),
