@@ -47,7 +47,7 @@ impl OpenExpression {
     {
         self.frames.clear();
         self.operators = 0;
-        self.expected = Expectation::Wants;
+        self.expect(Expectation::Wants);
     }
 
     /// Takes the expression out that has ended.
@@ -88,13 +88,23 @@ impl OpenExpression {
         }
     }
 
+    // This is expected next.
+    #[inline(always)]
+    fn expect(&mut self, expected: Expectation)
+        ensures frames { self.new.frames ≡ self.old.frames }
+        ensures operators { self.new.operators ≡ self.old.operators }
+        ensures expected { self.new.expected ≡ expected }
+    {
+        self.expected = expected;
+    }
+
     // The expression goes on with what is expected next.
     #[inline(always)]
     fn goes(&mut self, expected: Expectation) -> Result<ExpressionStep, StepError>
         ensures { (t : Token) → StepsTo t result self.new
             (Goes (stack_of self.old.frames.items) self.old.operators (expectation_of expected)) }
     {
-        self.expected = expected;
+        self.expect(expected);
         Ok(ExpressionStep::Goes)
     }
 
@@ -102,7 +112,7 @@ impl OpenExpression {
     fn ends(&mut self, whole: Expression) -> Result<ExpressionStep, StepError>
         ensures { (t : Token) → StepsTo t result self.new (Ends (term_of whole)) }
     {
-        self.expected = Expectation::Has(whole);
+        self.expect(Expectation::Has(whole));
         Ok(ExpressionStep::Ends)
     }
 
