@@ -66,7 +66,7 @@ impl Part {
     }
 
     /// Goes on to the next part.
-    fn go_to(&mut self, next: Part)
+    pub fn go_to(&mut self, next: Part)
         ensures { self.new ≡ next }
     {
         *self = next;

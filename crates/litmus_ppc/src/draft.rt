@@ -99,7 +99,7 @@ impl Draft {
             }
             Part::Init(expected) => {
                 if self.init.step(expected, token, offset)? {
-                    *part = Part::after_init(kind);
+                    part.go_to(Part::after_init(kind));
                 }
                 Ok(())
             }
@@ -114,7 +114,7 @@ impl Draft {
             }
             Part::Cells => {
                 if self.table.is_cell_whole() && is_end(&token) {
-                    *part = Part::Done;
+                    part.go_to(Part::Done);
                     return Ok(());
                 }
                 self.table.step(token, offset)?;
@@ -134,7 +134,7 @@ impl Draft {
                 if self.proposition_read(
                     alloc, threads, quantifier, frames, operators, expected, token,
                 )? {
-                    *part = Part::Done;
+                    part.go_to(Part::Done);
                 }
                 Ok(())
             }
@@ -155,7 +155,7 @@ impl Draft {
                     return Err(StepError::Refused);
                 }
                 self.name = name;
-                *part = Part::TitleEnd;
+                part.go_to(Part::TitleEnd);
                 Ok(())
             }
             _ => Err(StepError::Refused),
@@ -168,7 +168,7 @@ impl Draft {
         ensures { StepsTo result part.new self.new (table_result (draft_of self.old) HasColumn (named (table_of self.old.table) token)) }
     {
         self.table.name_read(token)?;
-        *part = Part::HasColumn;
+        part.go_to(Part::HasColumn);
         Ok(())
     }
 
@@ -204,7 +204,7 @@ impl Draft {
     {
         match token {
             Token::Mark(Mark::CloseBracket) => {
-                *part = Part::after_list(kind);
+                part.go_to(Part::after_list(kind));
                 Ok(())
             }
             other => self.item_start(part, threads, other),
@@ -232,12 +232,12 @@ impl Draft {
     {
         match place_step(within, token)? {
             PlaceStep::Goes(expected) => {
-                *part = Part::Item(ItemExpectation::Within(expected));
+                part.go_to(Part::Item(ItemExpectation::Within(expected)));
                 Ok(())
             }
             PlaceStep::Ends(written) => {
                 self.observed.push(written.into_place())?;
-                *part = Part::Item(ItemExpectation::HasItem);
+                part.go_to(Part::Item(ItemExpectation::HasItem));
                 Ok(())
             }
         }
