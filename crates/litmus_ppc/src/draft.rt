@@ -8,7 +8,7 @@ ghost use Rattle.litmus_conditions.specs.Reading.{stack_of, expectation_of};
 ghost use Rattle.litmus_values.specs.Value.{content_of};
 ghost use Rattle.litmus_table.specs.Machine.{named};
 ghost use Rattle.litmus_table.specs.Reading.{table_of, first_steps};
-ghost use Rattle.litmus_grammar.specs.TextMachine.{HasColumn, part_step, nothing, title_read, table_result, item_start, item_result, next_item, item_read, proposition_result, threads_in};
+ghost use Rattle.litmus_grammar.specs.TextMachine.{HasColumn, part_step, nothing, first_table, title_read, table_result, item_start, item_result, next_item, item_read, proposition_result, threads_in};
 ghost use Rattle.litmus_parts.specs.PartReading.{part_of};
 ghost use Rattle.litmus_ppc.specs.TextReading.{draft_of, test_of, StepsTo, ReadsProposition};
 
@@ -44,17 +44,26 @@ pub struct Draft {
     pub condition: Condition,
 }
 
+// The table before a text of this kind: a thread alone has one.
+fn first_table(alloc: Global, kind: TextKind) -> Result<Table, AllocError>
+    ensures { IfOk result (λ t. table_of t ≡ first_table kind) }
+{
+    let mut table = Table::new(alloc);
+    if is_thread(kind) {
+        table.add_thread()?;
+    }
+    Ok(table)
+}
+
 impl Draft {
     /// The draft before a text of this kind.
     pub fn new(alloc: Global, kind: TextKind) -> Result<Draft, AllocError>
         ensures { IfOk result (λ h. draft_of h ≡ nothing kind) }
     {
-        let mut table = Table::new(alloc);
-        if is_thread(kind) {
-            table.add_thread()?;
-        }
+        let name = Name::new(alloc, b"")?;
+        let table = first_table(alloc, kind)?;
         Ok(Draft {
-            name: Name::new(alloc, b"")?,
+            name,
             init: InitBlock::new(alloc),
             table,
             observed: Vec::new(alloc),

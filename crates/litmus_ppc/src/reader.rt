@@ -36,13 +36,14 @@ impl Reader {
     pub fn new(alloc: Global, kind: TextKind, threads: usize) -> Result<Reader, AllocError>
         ensures { IfOk result (λ r. state_of r ≡ start kind threads) }
     {
+        let draft = Draft::new(alloc, kind)?;
         Ok(Reader {
             alloc,
             kind,
             threads,
             stage: first_stage(kind),
             part: Part::first(kind),
-            draft: Draft::new(alloc, kind)?,
+            draft,
         })
     }
 
