@@ -32,6 +32,15 @@ enum Cell {
     Whole,
 }
 
+impl Cell {
+    /// Goes on to what is expected next.
+    fn go_to(&mut self, next: Cell)
+        ensures { self.new ≡ next }
+    {
+        *self = next;
+    }
+}
+
 /// The threads read so far.
 #[derive(Drop)]
 pub struct Table {
@@ -220,7 +229,7 @@ impl Table {
         match token {
             Token::Label(name) => {
                 self.put(Step::Label(name), offset)?;
-                self.cell = Cell::Labelled;
+                self.cell.go_to(Cell::Labelled);
                 Ok(())
             }
             other => self.instruction_start(other, offset),
@@ -243,11 +252,12 @@ impl Table {
     {
         match opcode {
             Some(Opcode::Data(opcode)) => {
-                self.cell = Cell::Within(Pending::new(self.alloc, opcode));
+                self.cell
+                    .go_to(Cell::Within(Pending::new(self.alloc, opcode)));
                 Ok(())
             }
             Some(Opcode::Branch(condition)) => {
-                self.cell = Cell::WantsLabel(condition);
+                self.cell.go_to(Cell::WantsLabel(condition));
                 Ok(())
             }
             Some(Opcode::Fence(fence)) => self.finish(Instruction::Fence(fence), offset),
@@ -280,7 +290,7 @@ impl Table {
         ensures { Steps result self.new (finished (threads_of self.old.threads.items) self.old.column instruction offset) }
     {
         self.put(Step::Instruction(instruction), offset)?;
-        self.cell = Cell::Whole;
+        self.cell.go_to(Cell::Whole);
         Ok(())
     }
 
@@ -312,7 +322,7 @@ impl Table {
                     return Err(StepError::Refused);
                 }
                 self.column = 0;
-                self.cell = Cell::Begins;
+                self.cell.go_to(Cell::Begins);
                 Ok(())
             }
             Token::Mark(Mark::Bar) => {
@@ -320,7 +330,7 @@ impl Table {
                     return Err(StepError::Refused);
                 }
                 self.column = self.column.saturating_add(1);
-                self.cell = Cell::Begins;
+                self.cell.go_to(Cell::Begins);
                 Ok(())
             }
             _ => Err(StepError::Refused),
