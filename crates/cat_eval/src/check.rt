@@ -143,6 +143,30 @@ fn asked_answers<'a>(
     Ok(answers)
 }
 
+/// The answers of a check that is evaluated in each candidate by itself.
+fn visited_answers<'a>(
+    alloc: Global,
+    check: &'a CheckCode,
+    inputs: &'a [&'a Column],
+    kept: Option<&'a [bool]>,
+    named: &[NamedColumn],
+    space: &Space,
+    machine: &mut Machine,
+) -> Result<Vec<bool>, AllocError>
+    ensures { IfOk result (λ v. AreAskedOver check.now inputs.now kept.entry (seen_in named.now 0 (candidates_in space.now.combinations.items)) v.items) }
+{
+    let mut run = CheckRun {
+        check,
+        inputs,
+        kept,
+        answers: Vec::with_capacity(alloc, space.len())?,
+        known: None,
+        steady: 0,
+    };
+    visit_all(named, space, machine, &mut run)?;
+    Ok(run.answers)
+}
+
 /// Whether a check or flag holds, for each candidate of a space. `inputs` are the values of the
 /// item's inputs, in their order. An item of another kind has no answers. Errors: want of memory.
 pub fn eval_check(
@@ -196,40 +220,28 @@ impl Evaluator {
     }
 
     /// Whether a check holds, where candidates are kept.
-    fn ask(
+    fn ask<'a>(
         &mut self,
         alloc: Global,
         item: &ResolvedItem,
-        check: &CheckCode,
+        check: &'a CheckCode,
         space: &Space,
-        inputs: &[&Column],
-        kept: Option<&[bool]>,
+        inputs: &'a [&'a Column],
+        kept: Option<&'a [bool]>,
     ) -> Result<Vec<bool>, AllocError>
         requires { IsOver self.old space.now }
         ensures over { IsOver self.new space.now }
         ensures answers { item.now.role ≡ Role.Check check.now → IfOk result (λ v. (all : List Bool) × AreAnswers check.now inputs.now (candidates_in space.now.combinations.items) all × AreWhere (is_asked_at kept.entry) all v.items) }
     {
-        self.needs.replace_by(item)?;
-        self.table
-            .need(alloc, &mut self.base, space, &self.needs.names)?;
+        self.need_names(alloc, item, space)?;
         let none = Column::of_sets(alloc);
         let mut named = NamedColumn::none(alloc, &none);
         self.table.list(&self.needs.names, &mut named)?;
         if has_many(space) {
-            let slots = &mut self.slots;
             let named = named.as_slice();
-            let answers = asked_answers(alloc, check, inputs, kept, named, space, slots)?;
-            return Ok(answers);
+            return asked_answers(alloc, check, inputs, kept, named, space, &mut self.slots);
         }
-        let mut run = CheckRun {
-            check,
-            inputs,
-            kept,
-            answers: Vec::with_capacity(alloc, space.len())?,
-            known: None,
-            steady: 0,
-        };
-        visit_all(named.as_slice(), space, &mut self.machine, &mut run)?;
-        Ok(run.answers)
+        let machine = &mut self.machine;
+        visited_answers(alloc, check, inputs, kept, named.as_slice(), space, machine)
     }
 }

@@ -1,7 +1,9 @@
 //! Where items are evaluated.
 
 ghost use Rattle.candidates.specs.declared.candidate.Space.{Space};
-ghost use Rattle.cat_eval.specs.Tables.{IsOver};
+ghost use Rattle.cat_eval.specs.Needed.{AreListed, role_names};
+ghost use Rattle.cat_eval.specs.Tables.{IsOver, HasName};
+ghost use Rattle.std.specs.Prelude.{OnOk, Contains};
 
 use crate::machine::Machine;
 use crate::needs::Needs;
@@ -57,6 +59,24 @@ impl Evaluator {
                 self.needs.add_item(&items[*index])?;
             }
         }
+        self.table
+            .need(alloc, &mut self.base, space, &self.needs.names)
+    }
+
+    /// Makes the predefined names that an item needs, and notes which these are.
+    /// Errors: want of memory.
+    pub(crate) fn need_names(
+        &mut self,
+        alloc: Global,
+        item: &ResolvedItem,
+        space: &Space,
+    ) -> Result<(), AllocError>
+        requires { IsOver self.old space.now }
+        ensures over { IsOver self.new space.now }
+        ensures names { OnOk result (AreListed self.new.needs.names.items (role_names item.now.role)) }
+        ensures there { OnOk result ((name : _) → Contains self.new.needs.names.items name → HasName self.new.table.blocks.items name) }
+    {
+        self.needs.replace_by(item)?;
         self.table
             .need(alloc, &mut self.base, space, &self.needs.names)
     }

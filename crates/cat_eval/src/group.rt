@@ -274,6 +274,30 @@ fn plain_columns(
     Ok(columns)
 }
 
+/// The values of bodies that are evaluated in each candidate by itself.
+fn visited_columns(
+    alloc: Global,
+    is_recursive: bool,
+    bodies: &[Body],
+    inputs: &[&Column],
+    named: &[NamedColumn],
+    space: &Space,
+    machine: &mut Machine,
+) -> Result<Vec<Column>, AllocError>
+    ensures { IfOk result (λ v. AreColumnsOver is_recursive bodies.now inputs.now (seen_in named.now 0 (candidates_in space.now.combinations.items)) v.items) }
+{
+    let mut run = GroupRun {
+        bodies,
+        inputs,
+        recursive: is_recursive,
+        solver: solver_of(alloc, is_recursive, bodies)?,
+        columns: columns_of(alloc, bodies)?,
+        steady: 0,
+    };
+    visit_all(named, space, machine, &mut run)?;
+    Ok(run.columns)
+}
+
 /// The value of each name of a group, for each candidate of a space. `inputs` are the values of
 /// the item's inputs, in their order. The names of a `let rec` have the least values that satisfy
 /// its equations. An item of another kind has no names. Errors: want of memory.
@@ -306,33 +330,16 @@ impl Evaluator {
     {
         match &item.role {
             Role::Group { recursive, bodies } => {
-                self.needs.replace_by(item)?;
-                self.table
-                    .need(alloc, &mut self.base, space, &self.needs.names)?;
+                self.need_names(alloc, item, space)?;
                 let none = Column::of_sets(alloc);
                 let mut named = NamedColumn::none(alloc, &none);
                 self.table.list(&self.needs.names, &mut named)?;
+                let named = named.as_slice();
                 if keeps_steps(*recursive, space) {
-                    let columns = plain_columns(
-                        alloc,
-                        bodies,
-                        inputs,
-                        named.as_slice(),
-                        space,
-                        &mut self.slots,
-                    )?;
-                    return Ok(columns);
+                    return plain_columns(alloc, bodies, inputs, named, space, &mut self.slots);
                 }
-                let mut run = GroupRun {
-                    bodies,
-                    inputs,
-                    recursive: *recursive,
-                    solver: solver_of(alloc, *recursive, bodies)?,
-                    columns: columns_of(alloc, bodies)?,
-                    steady: 0,
-                };
-                visit_all(named.as_slice(), space, &mut self.machine, &mut run)?;
-                Ok(run.columns)
+                let machine = &mut self.machine;
+                visited_columns(alloc, *recursive, bodies, inputs, named, space, machine)
             }
             Role::Check(_) | Role::Silent => Ok(Vec::new(alloc)),
         }
