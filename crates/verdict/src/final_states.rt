@@ -77,6 +77,23 @@ fn final_word(combination: &Combination, order: &[u8], location: usize) -> Value
     word
 }
 
+// What a place holds at the end.
+fn held_value(
+    space: &Space,
+    combination: &Combination,
+    order: &[u8],
+    place: ShownPlace,
+) -> FinalValue
+    ensures { result ≡ final_value space.now combination.now order.now place }
+{
+    match place {
+        ShownPlace::Register(thread, register) => {
+            final_value(final_register(space, combination, thread, register))
+        }
+        ShownPlace::Location(location) => final_value(final_word(combination, order, location)),
+    }
+}
+
 fn final_state(
     alloc: Global,
     space: &Space,
@@ -88,13 +105,7 @@ fn final_state(
 {
     let mut state = Vec::with_capacity(alloc, places.len())?;
     for place in places {
-        let value = match *place {
-            ShownPlace::Register(thread, register) => {
-                final_register(space, combination, thread, register)
-            }
-            ShownPlace::Location(location) => final_word(combination, order, location),
-        };
-        state.push(final_value(value))?;
+        state.push(held_value(space, combination, order, *place))?;
     }
     Ok(state)
 }
