@@ -19,7 +19,9 @@ use Rattle.cat_tokens.specs.Lexer.{front, tokens_from, lexed}
 use Rattle.cat_grammar.specs.Grammar.{Limits, limits}
 use Rattle.cat_grammar.specs.ItemMachine.{State, Fault, step, start}
 use Rattle.cat_syntax.specs.ReadingItems.{Fails}
-use Rattle.cat_syntax.specs.ReadingTexts.{reading, FailsAt}
+use Rattle.cat_syntax.specs.declared.items.Parser.{Parser}
+use Rattle.cat_syntax.specs.ParserState.{state_of}
+use Rattle.cat_syntax.specs.ReadingTexts.{reading, FailsAt, StepsAt}
 use Rattle.cat_tokens.proofs.Lexed.{layout_turn, lexeme_turn, at_end}
 use Rattle.cat_grammar.specs.Running.{Ran, with_offset, and_then, run, items_of}
 
@@ -60,6 +62,14 @@ module _ (most : Limits) (form : Form) (bytes : List ℕ) (before : ℕ) (s : St
   end_fails (faults.OutOfMemory x) low high fails = tt
   end_fails (faults.Refused rule offset) low high fails =
       so_far ∙ ap (run most form before s) (at_end bytes p low high) ∙ ap (λ (r : Ran). and_then r (λ x. Ok x)) fails
+
+  pub end_steps : (r : Result (Unit {0}) CatFault) (parser : Parser) → p ≤ length bytes → length bytes ≤ p → StepsAt r parser (with_offset before p (step most form s tokens.End)) → StepsAt r parser all
+  end_steps (Ok u) parser low high goes = end_run (state_of parser) low high goes
+  end_steps (Err d) parser low high fails = end_fails d low high fails
+
+-- the parser before a text stands at the start
+pub at_start : (form f : Form) (s : State) (bytes : List ℕ) → f ≡ form → s ≡ start form → run limits f 0 s (lexed bytes) ≡ run limits form 0 (start form) (lexed bytes)
+at_start form f s bytes forms states = λ i. run limits (forms i) 0 (states i) (lexed bytes)
 
 -- the length is looked at first
 pub too_long : (form : Form) (bytes : List ℕ) → 65536 < length bytes → reading form bytes ≡ Err (TooLong, 65536)

@@ -2,14 +2,14 @@
 
 ghost use Rattle.std.specs.Prelude.{◌≡◌, ℕ, ◌<◌, ◌≤◌, List, [], ◌∷◌, length, IfOk, IfErr, MatchResult};
 ghost use Rattle.cat_syntax.specs.Faults.{IsWithin, IsTooLong, IsMemory};
-ghost use Rattle.cat_tokens.specs.Lexer.{front};
+ghost use Rattle.cat_tokens.specs.Lexer.{front, lexed};
 ghost use Rattle.cat_grammar.specs.Grammar.{limits};
 ghost use Rattle.cat_grammar.specs.ItemMachine.{step};
 ghost use Rattle.cat_syntax.specs.ParserState.{state_of};
 ghost use Rattle.cat_values.specs.Values.{clause_of, clauses_of};
 ghost use Rattle.cat_syntax.specs.ReadingTexts.{reading, StepsAt, ReadsTo};
 ghost use Rattle.cat_syntax.specs.Reads.{Reads, IsFaultOf};
-ghost use Rattle.cat_grammar.specs.Running.{with_offset};
+ghost use Rattle.cat_grammar.specs.Running.{run, with_offset};
 ghost use Rattle.cat_values.specs.Value.{Clause};
 
 use crate::fault::CatFault;
@@ -49,6 +49,29 @@ fn front_at(alloc: Global, text: &[u8]) -> Result<Front, CatFault>
     }
 }
 
+// Gives the parser the tokens of a text and its end.
+fn read_tokens(alloc: Global, bytes: &[u8], parser: &mut Parser) -> Result<(), CatFault>
+    ensures steps { StepsAt result parser.new (run limits parser.old.form 0 (state_of parser.old) (lexed bytes.now)) }
+    ensures within { IfErr result (λ e. IsWithin (length bytes.now) e) }
+{
+    let mut before = 0;
+    let mut offset = 0;
+    while offset < bytes.len() {
+        let left = bytes.len() - offset;
+        match front_at(alloc, &bytes[offset..])? {
+            Front::Layout(n) => offset += n.max(1).min(left),
+            Front::Lexeme(token, n) => match step_at(parser, token, before, offset) {
+                Ok(()) => {
+                    before = offset;
+                    offset += n.max(1).min(left);
+                }
+                Err(fault) => return Err(fault),
+            },
+        }
+    }
+    step_at(parser, Token::End, before, offset)
+}
+
 // The items of a text.
 fn read_all(alloc: Global, bytes: &[u8], form: Form) -> Result<Vec<Item>, CatFault>
     ensures reads { ReadsTo result (reading form bytes.now) }
@@ -62,22 +85,7 @@ fn read_all(alloc: Global, bytes: &[u8], form: Form) -> Result<Vec<Item>, CatFau
         });
     }
     let mut parser = Parser::new(alloc, form);
-    let mut before = 0;
-    let mut offset = 0;
-    while offset < bytes.len() {
-        let left = bytes.len() - offset;
-        match front_at(alloc, &bytes[offset..])? {
-            Front::Layout(n) => offset += n.max(1).min(left),
-            Front::Lexeme(token, n) => match step_at(&mut parser, token, before, offset) {
-                Ok(()) => {
-                    before = offset;
-                    offset += n.max(1).min(left);
-                }
-                Err(fault) => return Err(fault),
-            },
-        }
-    }
-    match step_at(&mut parser, Token::End, before, offset) {
+    match read_tokens(alloc, bytes, &mut parser) {
         Ok(()) => Ok(parser.into_items()),
         Err(fault) => Err(fault),
     }
