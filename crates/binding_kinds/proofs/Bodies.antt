@@ -1,26 +1,17 @@
 -- What is found of the names of a body is their first fault.
-use Rattle.std.proofs.Common.{ℕ, zero, suc, ◌≡◌, ◌≤◌, List, [], ◌∷◌, length, map, reverse, drop, Bool, true, false, Option, Some, None, Result, Ok, Err, Vec, Global, refl, ap, sym, ◌∙◌}
-use Rattle.std.proofs.lemmas.List.{drop_all}
+use Rattle.std.proofs.Common.{ℕ, zero, suc, ◌≡◌, List, [], ◌∷◌, map, Bool, true, false, Option, Some, None, Result, Ok, Err, refl, ap, sym, ◌∙◌}
 use Rattle.std.specs.Prelude.{slice_get, nat_eq, if◌then◌else◌}
-use Rattle.cat_values.specs.declared.model.Expression.{Expression}
-use Rattle.cat_values.specs.declared.model.Expression.TheVariants as expressions
-use Rattle.cat_values.specs.Values.{term_of}
-use Rattle.cat_values.specs.Value.{Apply, gathered}
-use Rattle.cat_values.proofs.Arguments.{applied_term}
 use Rattle.binding_kinds.specs.declared.fault.ModelFault.{ModelFault}
 use Rattle.binding_kinds.specs.declared.fault.ModelFault.TheVariants as faults
 use Rattle.binding_kinds.specs.declared.scope.Found.{Found}
 use Rattle.binding_kinds.specs.declared.scope.Binder.{Binder}
 use Rattle.binding_kinds.specs.declared.scope.Binder.TheVariants as binders
 use Rattle.binding_kinds.specs.declared.function.Function.{Function}
-use Rattle.binding_kinds.specs.Meanings.{parameter_of, meaning_found, meaning_of}
-use Rattle.binding_kinds.specs.Value.{Naming}
-use Rattle.binding_kinds.specs.Kinds.{found}
+use Rattle.binding_kinds.specs.Meanings.{meaning_found, meaning_of}
 use Rattle.binding_kinds.specs.Applicable.{applied, applied_of}
-use Rattle.binding_kinds.specs.Verdict.{or_else, of_use}
+use Rattle.binding_kinds.specs.Verdict.{of_use}
 use Rattle.binding_kinds.specs.Senses.{Sense, AreKept, with_arity, sense_of}
-use Rattle.binding_kinds.specs.First.{of_inside, of_applied, first_of_body, first_of_bodies}
-use Rattle.binding_kinds.proofs.Applications.{count_arguments, or_none}
+use Rattle.binding_kinds.specs.First.{of_inside, of_applied}
 
 abbrev pub fault_of : {A : Type 0} → Result A ModelFault → Option ModelFault
 fault_of (Ok x) = None

@@ -1,18 +1,12 @@
 -- Tables for all combinations of kinds, an entry at a time.
-use Rattle.std.proofs.Common.{ℕ, suc, ◌≡◌, ◌<◌, ◌≤◌, ◌+◌, ◌*◌, ◌^◌, inl, inr, ◌⊎◌, List, [], ◌∷◌, ◌++◌, length, map, take, reverse, get_or, Bool, true, false, ◌||◌, Option, Some, None, Result, Vec, Global, subst, refl, sym, ap, ◌∙◌, arith, length-append, length-take}
-use Rattle.std.specs.declared.alloc.AllocError.{AllocError}
-use Rattle.std.specs.Prelude.{if◌then◌else◌, bytes_eq, IfOk}
-use Rattle.std.proofs.lemmas.Result.{IfOk-weaker}
+use Rattle.std.proofs.Common.{ℕ, suc, ◌≡◌, ◌<◌, ◌≤◌, ◌+◌, ◌*◌, ◌^◌, inl, inr, ◌⊎◌, List, [], ◌∷◌, ◌++◌, length, map, reverse, get_or, Bool, true, false, ◌||◌, Option, Some, None, refl, sym, ap, ◌∙◌, arith, length-append}
+use Rattle.std.specs.Prelude.{if◌then◌else◌, bytes_eq}
 use Rattle.std.proofs.lemmas.Bool.{cases_lt}
-use Rattle.std.proofs.lemmas.List.{get_or_push, get_or_append_left, get_or_default, take_more, reverse-append, length-reverse}
+use Rattle.std.proofs.lemmas.List.{get_or_push, get_or_append_left, get_or_default, reverse-append, length-reverse}
 use Rattle.std.proofs.Math.Nat.{pow-succ', mul_assoc, mul_comm}
 use Rattle.cat_values.specs.declared.model.Expression.{Expression}
-use Rattle.cat_values.specs.declared.model.Expression.TheVariants as expressions
-use Rattle.cat_values.specs.declared.model.Infix.{Infix}
-use Rattle.cat_values.specs.declared.model.Postfix.{Postfix}
 use Rattle.cat_values.specs.Values as values
-use Rattle.cat_values.proofs.Arguments.{applied_term}
-use Rattle.cat_values.specs.Value.{Term, Terms, Join, Mark, On, Apply, gathered}
+use Rattle.cat_values.specs.Value.{Terms, Apply, gathered}
 use Rattle.binding_kinds.specs.declared.kinds.Kind.{Kind}
 use Rattle.binding_kinds.specs.declared.kinds.Kind.TheVariants.{OfAny}
 use Rattle.binding_kinds.specs.declared.scope.Binder.TheVariants as binders
@@ -22,10 +16,10 @@ use Rattle.binding_kinds.specs.Kinds.{found, kind_found}
 use Rattle.binding_kinds.specs.Meanings.{parameter_of}
 use Rattle.binding_kinds.specs.declared.signature.Signature.{Signature}
 use Rattle.binding_kinds.specs.declared.function.Function.{Function}
-use Rattle.binding_kinds.specs.Combinations.{digit, number_of, unknown}
+use Rattle.binding_kinds.specs.Combinations.{digit, number_of}
 use Rattle.binding_kinds.specs.Senses.{Sense, IsKept, count_of}
 use Rattle.binding_kinds.specs.Functions.{with_parameters, sense_seen, kind_of_sense, clash_of_sense, kind_of_body, kinds_of_body, clashes_in, clash_among}
-use Rattle.binding_kinds.specs.Columns.{IsFilled, plain, of_infix, of_postfix, of_identity, of_applied, with_one, signature_in, gathered_in}
+use Rattle.binding_kinds.specs.Columns.{IsFilled, plain, of_applied, with_one, signature_in, gathered_in}
 use Rattle.binding_kinds.proofs.Applications.{below_power, below_table, count_arguments}
 
 -- one more entry
