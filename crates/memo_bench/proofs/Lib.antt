@@ -1,3 +1,5 @@
+pub mod PushLemmas
+pub mod FindLemmas
 pub mod StoreLemmas
 pub mod AcceptLemmas
 pub mod WorkLemmas

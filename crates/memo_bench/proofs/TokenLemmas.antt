@@ -1,5 +1,5 @@
 use Rattle.std.proofs.Common.{◌≡◌, ◌≤◌, ◌==◌, ℕ, ◌+◌, ◌-◌, append_assoc, option_and_then, Bool, false, List, [], ◌∷◌, ◌++◌, length, drop, Option, Some, None, option_map, refl, ap, sym, ◌∙◌, eqb-true, eq-eqb, inl, inr, arith}
-use Rattle.std.proofs.lemmas.List.{drop_all, length-drop}
+use Rattle.std.proofs.lemmas.List.{append-nil, drop_all, length-drop}
 use Rattle.std.specs.List.{AllByRecursion as Each}
 use Rattle.value_store.specs.Tokens.{Shown}
 use Rattle.memo_core.proofs.Theory.{either}
@@ -51,6 +51,20 @@ hold_step {V} now ks i n x ts next t d there e = rw (d, e) (rw (shown_values-app
     go (Some p) h (Some vs) =
         let q : t.value ≡ p.1 = cc in
         ap (λ (xs : List V). let s : Option (List V) = Some xs in s) (append_assoc (shown_values ts) (t.value ∷ []) vs ∙ ap (λ (x : V). shown_values ts ++ x ∷ vs) q)
+
+-- the loop's end at an output without a value
+pub hold_none : {V : Type 0} (now : Key → Option (ℕ × V)) (ks : List Key) (i : ℕ) (n : Node) (x : ℕ) (vs : List V) (all : Option (List V))
+    → drop i ks ≡ Output n x ∷ drop (i + 1) ks → None ≡ option_map (λ p. p.1) (now (Output n x)) → option_map (λ rest. vs ++ rest) (values_at now (drop i ks)) ≡ all → None ≡ all
+hold_none {V} now ks i n x vs all d none h = go (now (Output n x)) none (rw d at h)
+  where
+    go : (o : Option (ℕ × V)) → None ≡ option_map (λ p. p.1) o → option_map (λ rest. vs ++ rest) (option_and_then (λ p. option_map (λ ws. p.1 ∷ ws) (values_at now (drop (i + 1) ks))) o) ≡ all → None ≡ all
+    go None e h = h
+    go (Some p) e h = cc
+
+-- its end where no key is left
+pub held_all : {V : Type 0} (now : Key → Option (ℕ × V)) (ks : List Key) (i : ℕ) (vs : List V) (all : Option (List V))
+    → length ks ≤ i → option_map (λ rest. vs ++ rest) (values_at now (drop i ks)) ≡ all → Some vs ≡ all
+held_all now ks i vs all l h = rw (drop_all i ks l, append-nil vs) at h
 
 named_values-append : {V : Type 0} (os : List (Made V)) (o : Made V) → named_values (os ++ o ∷ []) ≡ named_values os ++ (o.name, o.value) ∷ []
 named_values-append [] o = refl

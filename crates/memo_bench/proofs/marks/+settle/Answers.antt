@@ -1,4 +1,5 @@
-use Rattle.std.proofs.Common.{◌∙◌, sym}
+use Rattle.std.proofs.Common.{◌∙◌, sym, arith}
+use Rattle.std.proofs.lemmas.List.{drop_all}
 use Rattle.memo_core.specs.Graph.{present_inputs}
 use Rattle.memo_core.specs.Views.{as_memos}
 use Rattle.memo_bench.proofs.MarkLemmas.{as_memos-with_mark_at, unmarked_count-less, ready_there, passed, marked_on}
@@ -20,3 +21,16 @@ loop-i-init g t c =
       marks = λ valid rest p. rw c.mark.ensures.marks (marked_on net ks c.args.node (g.T.Texts.users c.args.texts.now) (λ u has on. g.met.T.Texts.users_are c.args.texts.now valid c.args.node u has on) now rest p);
       room = c.mark.ensures.room;
     }
+
+pub loop-i-preserved : goal.loop-i-preserved
+loop-i-preserved g t c = record {
+  same = c.settle.ensures.memos ∙ c.loop-i.invariant.same;
+  fewer = omega (arith, c.settle.ensures.fewer, c.loop-i.invariant.fewer);
+  marks = λ valid rest p. c.settle.ensures.marks valid _ (rw c.user_at.ensures.rest at (c.loop-i.invariant.marks valid rest p));
+  room = c.settle.ensures.room ∙ c.loop-i.invariant.room;
+}
+
+pub returns-clause-marks : goal.returns-clause-marks
+returns-clause-marks g t c =
+    let users = g.T.Texts.users c.args.texts.now c.args.node in
+    λ valid rest p. rw (drop_all c.loop-i.i users (omega arith)) at (c.loop-i.invariant.marks valid rest p)

@@ -1,4 +1,5 @@
-use Rattle.std.proofs.Common.{◌∙◌, ◌<◌, length, arith}
+use Rattle.std.proofs.Common.{◌∙◌, ◌<◌, ◌≤◌, length, arith}
+use Rattle.std.proofs.lemmas.List.{append-nil, drop_all, take_all}
 use Rattle.memo_core.specs.Views.{shown_outputs}
 use Rattle.memo_bench.proofs.StoreLemmas.{restamp_step, changed_push}
 use Rattle.memo_bench.proofs.stores.restamp.Goals as goal
@@ -13,3 +14,13 @@ loop-i-preserved g c =
       few = omega (arith, c.restamp_one.ensures.len, c.loop-i.invariant.few);
       room = omega (arith, c.restamp_one.ensures.capacity, c.loop-i.invariant.room);
     }
+
+pub returns-clause-outputs : goal.returns-clause-outputs
+returns-clause-outputs g c =
+    let over : length c.loop-i.outputs ≤ c.loop-i.i = omega arith in
+    rw (take_all c.loop-i.i c.loop-i.outputs over, drop_all c.loop-i.i c.loop-i.outputs over, append-nil) at c.loop-i.invariant.outputs
+
+pub returns-clause-names : goal.returns-clause-names
+returns-clause-names g c =
+    let over : length c.loop-i.outputs ≤ c.loop-i.i = omega arith in
+    rw (drop_all c.loop-i.i c.loop-i.outputs over, append-nil) at c.loop-i.invariant.names
