@@ -97,6 +97,10 @@ pub length_last : {X : Type 0} (xs : List X) (x : X) → length (xs ++ x ∷ [])
 length_last [] x = refl
 length_last (y ∷ xs) x = omega (arith, length_last xs x)
 
+pub no_items : {X : Type 0} (xs : List X) → length xs ≡ 0 → xs ≡ []
+no_items [] l = refl
+no_items (x ∷ xs) l = absurd (omega arith)
+
 -- one event more is taken from the rest
 pub rest_step : {X : Type 0} (xs rest later : List X) (x : X) → rest ≡ x ∷ later → xs ++ rest ≡ (xs ++ x ∷ []) ++ later
 rest_step {X} xs rest later x is = ap (λ (ys : List X). xs ++ ys) is ∙ sym (append_assoc xs (x ∷ []) later)

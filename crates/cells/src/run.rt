@@ -1,6 +1,6 @@
 //! A list of events, one after another.
 
-ghost use Rattle.std.specs.Prelude.{◌≡◌, ◌<◌, ◌≤◌, ◌+◌, IfOk, OnErr, vec_len, vec_capacity};
+ghost use Rattle.std.specs.Prelude.{◌≡◌, ◌<◌, ◌≤◌, ◌+◌, IfOk, OnErr, length, vec_len, vec_capacity};
 ghost use Rattle.memo_core.specs.Laws.{meaning};
 ghost use Rattle.cells.specs.Events.{IsAnswered, IsSameEvent, Answers};
 ghost use Rattle.cells.specs.Stages.{tasks_in};
@@ -109,6 +109,30 @@ impl<K: StoreName, T: CellTexts> Bench<K, T> {
         }
     }
 
+    /// Answers events, one after another. There is room for their jobs and replies.
+    fn answer_all<R: Wait>(
+        &mut self,
+        rt: &R,
+        alloc: Global,
+        events: Vec<Event<T::Edit>>,
+        jobs: &mut Vec<Option<Stage<K, T>>>,
+        replies: &mut Vec<Reply<T::Fault>>,
+    )
+        requires jobs { vec_len jobs.old ≡ 0 }
+        requires replies { vec_len replies.old ≡ 0 }
+        requires jobs_fit { length events.items ≤ vec_capacity jobs.old }
+        requires replies_fit { length events.items ≤ vec_capacity replies.old }
+        ensures { Answers (meaning T.net T.is_valid T.since T.makes T.keeps T.edited) T.refuses self.old events.items replies.new.items self.new }
+    {
+        for event in events {
+            let reply = self.answer(rt, alloc, jobs, event);
+            match replies.push(reply) {
+                Ok(()) => {}
+                Err(_) => unreachable!(),
+            }
+        }
+    }
+
     /// Answers a list of events, one after another. The room for the replies is made first: where that is refused, nothing
     /// changes. It may wait while another thread grows the store.
     pub fn run_events<R: Wait>(
@@ -120,16 +144,10 @@ impl<K: StoreName, T: CellTexts> Bench<K, T> {
         ensures answered { IfOk result (λ replies. Answers (meaning T.net T.is_valid T.since T.makes T.keeps T.edited) T.refuses self.old events.now replies.items self.new) }
         ensures err { OnErr result (self.new ≡ self.old) }
     {
-        let mut replies = Vec::with_capacity(alloc, events.len())?;
-        let mut jobs = Vec::with_capacity(alloc, events.len())?;
         let copies = copy_events::<T>(alloc, events)?;
-        for event in copies {
-            let reply = self.answer(rt, alloc, &mut jobs, event);
-            match replies.push(reply) {
-                Ok(()) => {}
-                Err(_) => unreachable!(),
-            }
-        }
+        let mut replies = Vec::with_capacity(alloc, copies.len())?;
+        let mut jobs = Vec::with_capacity(alloc, copies.len())?;
+        self.answer_all(rt, alloc, copies, &mut jobs, &mut replies);
         Ok(replies)
     }
 }

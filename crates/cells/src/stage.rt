@@ -42,6 +42,36 @@ fn copy_of<K: StoreName, T: CellTexts>(
     }
 }
 
+/// What is kept of a job that was run, and what it made, once more.
+fn offer_again<K: StoreName, T: CellTexts>(
+    alloc: Global,
+    done: Done<K, T>,
+) -> (Stage<K, T>, Result<Done<K, T>, RunFault>)
+    ensures tasks { stage_tasks (Some result.0) ≡ task_answered done ∷ [] }
+    ensures made { IfOk result.1 (λ copy. copy ≡ done) }
+{
+    let copy = copy_of(alloc, &done);
+    (Stage::Ran(done), copy)
+}
+
+/// What is kept of a job, and what it makes. It is run the first time.
+fn offer_from<R: Wait, K: StoreName, T: CellTexts>(
+    rt: &R,
+    alloc: Global,
+    stage: Stage<K, T>,
+) -> (Stage<K, T>, Result<Done<K, T>, RunFault>)
+    ensures tasks { stage_tasks (Some result.0) ≡ stage_tasks (Some stage) }
+    ensures made { IfOk result.1 (λ done. stage_tasks (Some stage) ≡ task_answered done ∷ []) }
+{
+    match stage {
+        Stage::Ran(done) => offer_again(alloc, done),
+        Stage::Waiting(job) => match job.run(rt, alloc) {
+            Err((job, fault)) => (Stage::Waiting(job), Err(fault)),
+            Ok(done) => offer_again(alloc, done),
+        },
+    }
+}
+
 /// What the job makes. It is run the first time.
 fn offer<R: Wait, K: StoreName, T: CellTexts>(
     rt: &R,
@@ -55,22 +85,11 @@ fn offer<R: Wait, K: StoreName, T: CellTexts>(
 {
     match stage.take() {
         None => unreachable!(),
-        Some(Stage::Ran(done)) => {
-            let copy = copy_of(alloc, &done);
-            *stage = Some(Stage::Ran(done));
-            copy
+        Some(before) => {
+            let (after, made) = offer_from(rt, alloc, before);
+            *stage = Some(after);
+            made
         }
-        Some(Stage::Waiting(job)) => match job.run(rt, alloc) {
-            Err((job, fault)) => {
-                *stage = Some(Stage::Waiting(job));
-                Err(fault)
-            }
-            Ok(done) => {
-                let copy = copy_of(alloc, &done);
-                *stage = Some(Stage::Ran(done));
-                copy
-            }
-        },
     }
 }
 

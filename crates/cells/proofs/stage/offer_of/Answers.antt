@@ -1,4 +1,5 @@
-use Rattle.std.proofs.Common.{◌∙◌, ◌<◌, length, ap, sym, arith}
+use Rattle.std.proofs.Common.{◌∙◌, ◌<◌, length, refl, ap, sym, arith}
+use Rattle.std.proofs.lemmas.List.{drop_all}
 use Rattle.cells.specs.Events.{task_given}
 use Rattle.cells.specs.Stages.{tasks_in}
 use Rattle.cells.proofs.Jobs.{given_step, given_there, tasks_set, made_given}
@@ -28,3 +29,27 @@ loop-i-preserved g c =
       same = c.loop-i.invariant.same;
       rest = sym (rw c.loop-i.invariant.same at (given_step c.args.claim c.loop-i.jobs c.loop-i.i c.index-jobs-i.result within (sym c.is_of_claim.ensures ∙ c.if-is_of_claim.false))) ∙ c.loop-i.invariant.rest;
     }
+
+pub returns-clause-tasks : goal.returns-clause-tasks
+returns-clause-tasks g c = ap tasks_in c.loop-i.invariant.same
+
+pub returns-clause-none : goal.returns-clause-none
+returns-clause-none g c = sym (rw (drop_all c.loop-i.i c.args.jobs.now (omega arith)) at c.loop-i.invariant.rest)
+
+pub loop-i-init : goal.loop-i-init
+loop-i-init g c = record { same = refl; rest = refl }
+
+pub bounds-jobs-i : goal.bounds-jobs-i
+bounds-jobs-i g c = omega arith
+
+pub bounds-jobs-i-then-is_of_claim : goal.bounds-jobs-i-then-is_of_claim
+bounds-jobs-i-then-is_of_claim g c = omega arith
+
+pub returns-then-is_of_claim-clause-none : goal.returns-then-is_of_claim-clause-none
+returns-then-is_of_claim-clause-none g c = tt
+
+pub returns-clause-made : goal.returns-clause-made
+returns-clause-made g c = tt
+
+pub returns-clause-there : goal.returns-clause-there
+returns-clause-there g c = tt

@@ -1,19 +1,18 @@
 use Rattle.std.proofs.Common.{◌≡◌, ◌+◌, ◌≤◌, ◌++◌, [], length, vec_len, vec_capacity}
-use Rattle.std.specs.List.{AllZip}
 use Rattle.memo_core.specs.Laws.{meaning}
-use Rattle.cells.specs.Events.{AreAnswered, IsSameEvent}
+use Rattle.cells.specs.Events.{AreAnswered}
 use Rattle.cells.specs.Stages.{tasks_in}
-use Rattle.cells.proofs.bench.Bench.run_events.Given as goal
+use Rattle.cells.proofs.bench.Bench.answer_all.Given as goal
 
 abbrev pub invariant-loop-event : goal.invariant-loop-event
 invariant-loop-event g l =
     let t = g.T.Texts in
     record {
       answered : AreAnswered (meaning t.net t.is_valid t.since t.makes t.keeps t.edited) t.refuses l.fn.self [] l.yielded l.replies.items l.self (tasks_in l.jobs.items);
-      rest : AllZip (IsSameEvent g.T.CellTexts.same_edit) (l.yielded ++ l.event-iterator.rest.items) l.fn.events;
-      total : length l.yielded + length l.event-iterator.rest.items ≡ length l.fn.events;
+      rest : l.yielded ++ l.event-iterator.rest.items ≡ l.fn.events.items;
+      total : length l.yielded + length l.event-iterator.rest.items ≡ length l.fn.events.items;
       replied : vec_len l.replies ≡ length l.yielded;
       few : vec_len l.jobs ≤ length l.yielded;
-      replies_fit : length l.fn.events ≤ vec_capacity l.replies;
-      jobs_fit : length l.fn.events ≤ vec_capacity l.jobs;
+      replies_fit : length l.fn.events.items ≤ vec_capacity l.replies;
+      jobs_fit : length l.fn.events.items ≤ vec_capacity l.jobs;
     }
