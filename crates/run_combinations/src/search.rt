@@ -1,5 +1,5 @@
 //! The combinations of runs that have candidates.
-ghost use Rattle.std.specs.Prelude.{ℕ, ◌≡◌, ◌≤◌, Option, min, length, IsTrue, IfOk, OnOk, MatchOption};
+ghost use Rattle.std.specs.Prelude.{ℕ, ◌≡◌, ◌≤◌, ◌+◌, ◌-◌, ◌*◌, ◌^◌, ◌||◌, Option, min, length, IsTrue, IfOk, OnOk, MatchOption};
 ghost use Rattle.thread_runs.specs.declared.value.Value.{Value};
 ghost use Rattle.run_combinations.specs.Keys.{HasKey, HasWrites, AreKeys, ThreadsAreKeyed, IsKeyed, IsRead, IsStored, TellsWithin};
 ghost use Rattle.run_combinations.specs.Lists.{lists_of};
@@ -194,6 +194,16 @@ fn combination(alloc: Global, made: PrefixRuns, ways: Vec<Vec<u8>>) -> Combinati
 }
 
 impl Found {
+    /// Counts the candidates of a combination with so many ways to read and orders, and notes whether it has a fault.
+    fn count_ways(&mut self, ways: usize, orders: usize, is_faulted: bool)
+        ensures combinations { self.new.combinations ≡ self.old.combinations }
+        ensures count { self.new.count ≡ min (self.old.count + min (ways * orders) (2 ^ 64 - 1)) (2 ^ 64 - 1) }
+        ensures faulted { self.new.is_faulted ≡ (self.old.is_faulted || is_faulted) }
+    {
+        self.count = self.count.saturating_add(ways.saturating_mul(orders));
+        self.is_faulted = self.is_faulted || is_faulted;
+    }
+
     /// Keeps the combination with its ways to read, if it has some, and counts its candidates,
     /// which has so many orders.
     fn keep(
@@ -206,14 +216,15 @@ impl Found {
         requires { length prefix.now.runs.events.items ≤ 128 }
         ensures { OnOk result (tally self.new ≡ capped_tally_with (prefix_lists prefix.now) (lists_of ways.items) orders (tally self.old)) }
     {
-        if !ways.is_empty() {
-            self.count = self.count.saturating_add(ways.len().saturating_mul(orders));
-            self.is_faulted = self.is_faulted || prefix.is_faulted;
-            if !self.is_faulted {
-                let runs = copied(alloc, &prefix.runs)?;
-                self.combinations.push(combination(alloc, runs, ways))?;
-            }
+        if ways.is_empty() {
+            return Ok(());
         }
+        self.count_ways(ways.len(), orders, prefix.is_faulted);
+        if self.is_faulted {
+            return Ok(());
+        }
+        let runs = copied(alloc, &prefix.runs)?;
+        self.combinations.push(combination(alloc, runs, ways))?;
         Ok(())
     }
 
