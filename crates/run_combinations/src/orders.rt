@@ -84,17 +84,17 @@ fn bare_locations(alloc: Global, locations: usize) -> Result<Vec<LocationStores>
     Ok(bare)
 }
 
-/// Whether the front has the store at an index from `begin` on.
+/// Whether the front has the store at an index from `begin` on. It looks at all of them, since a branch that is guessed
+/// wrong costs more than to compare some stores.
 fn has_store(front: &[u8], begin: usize, store: u8) -> bool
     requires { begin ≤ length front.now }
     ensures { result ≡ event_lists.has_store (drop begin front.now) store }
 {
+    let mut is_there = false;
     for other in &front[begin..] {
-        if *other == store {
-            return true;
-        }
+        is_there |= *other == store;
     }
-    false
+    is_there
 }
 
 /// Adds the orders that begin with the front and go on with the stores of these locations.

@@ -1,6 +1,6 @@
-use Rattle.std.proofs.Common.{◌≡◌, false, take}
+use Rattle.std.proofs.Common.{◌≡◌, take}
 use Rattle.run_combinations.specs.Events.{has_store}
 use Rattle.run_combinations.proofs.orders.has_store.Given as goal
 
 abbrev pub invariant-loop-other : goal.invariant-loop-other
-invariant-loop-other l = has_store (take l.other-index l.other-items) l.store ≡ false
+invariant-loop-other l = l.is_there ≡ has_store (take l.other-index l.other-items) l.store
