@@ -1,8 +1,8 @@
 -- Laws of a list of counts.
-use Rattle.std.proofs.Common.{ℕ, ◌<◌, ◌+◌, ◌-◌, ◌^◌, min, Bool, true, false, cond, ◌≡◌, List, [], ◌∷◌, Option, Some, None, Vec, Global, refl, sym, ap, subst, ◌∙◌, arith, zero-add}
+use Rattle.std.proofs.Common.{ℕ, ◌<◌, ◌≤◌, ◌+◌, ◌-◌, ◌^◌, min, Bool, true, false, cond, ◌≡◌, List, [], ◌∷◌, Option, Some, None, Vec, Global, refl, sym, ap, subst, ◌∙◌, arith, zero-add}
 use mathlib.Core.Path.{fun_ext}
 use Rattle.std.specs.Option.{unwrap_or}
-use Rattle.std.specs.Map.{lookup}
+use Rattle.std.specs.Map.{lookup, set_value}
 use Rattle.std.specs.BTreeMap.{insert_entry}
 use Rattle.std.specs.Cmp.Lexicographic.{slice_cmp}
 use Rattle.std.specs.Ordering.{is_eq, match_ordering}
@@ -11,8 +11,8 @@ use Rattle.std.specs.declared.cmp.Ordering.TheVariants.{Less, Equal, Greater}
 use Rattle.std.proofs.lemmas.Cmp.{alike_right}
 use Rattle.verdict.specs.Order.{value_cmp, state_cmp, is_state}
 use Rattle.std.proofs.lemmas.List.Elements.{All-nil}
-use Rattle.std.proofs.lemmas.Map.Views.{All-values-insert_entry}
-use Rattle.verdict.specs.Counting.{tally, AreAbove, Counts}
+use Rattle.std.proofs.lemmas.Map.Views.{All-values-insert_entry, All-values-set_value}
+use Rattle.verdict.specs.Counting.{tally, AreAbove, Counts, Raises}
 use Rattle.verdict.specs.declared.answer.FinalValue.{FinalValue}
 use Rattle.verdict.proofs.Orders.{value_orders, state_total}
 use Rattle.verdict.specs.contracts.answer.FinalValueOrd.TheImpl as value_ord
@@ -66,6 +66,27 @@ put_found : (v : List FinalValue) (k : Vec FinalValue Global) (w : ℕ) (es : En
 put_found v k w [] = either (is_state v k.items) w None
 put_found v k w (e ∷ es) = put_at v k w e es (state_cmp k.items e.0.items) refl (put_found v k w es)
 
+set_at : (v s : List FinalValue) (had w : ℕ) (e : Vec FinalValue Global × ℕ) (es : Entries) (b : Bool) → is_state s e.0.items ≡ b → cond b (Some e.1) (found s es) ≡ Some had → (found s es ≡ Some had → unwrap_or (found v (set_value (λ k. is_state s k.items) es w)) 0 ≡ cond (is_state v s) w (unwrap_or (found v es) 0)) → unwrap_or (found v (cond b ((e.0, w) ∷ es) (e ∷ set_value (λ k. is_state s k.items) es w))) 0 ≡ cond (is_state v s) w (unwrap_or (found v (e ∷ es)) 0)
+set_at v s had w e es true is there more =
+    either (is_state v e.0.items) w (found v es)
+    ∙ same_swap (is_state v s) (is_state v e.0.items) w e.1 (unwrap_or (found v es) 0) (ap is_eq (alike_right state_total s e.0.items v (is_equal (state_cmp s e.0.items) is)))
+    ∙ ap (cond (is_state v s) w) (sym (either (is_state v e.0.items) e.1 (found v es)))
+set_at v s had w e es false is there more =
+    either (is_state v e.0.items) e.1 (found v (set_value (λ k. is_state s k.items) es w))
+    ∙ ap (cond (is_state v e.0.items) e.1) (more there)
+    ∙ apart_swap (is_state v s) (is_state v e.0.items) w e.1 (unwrap_or (found v es) 0) apart
+    ∙ ap (cond (is_state v s) w) (sym (either (is_state v e.0.items) e.1 (found v es)))
+  where
+    apart : is_state v s ≡ true → is_state v e.0.items ≡ true → ⊥
+    apart h g =
+        let a : state_cmp v s ≡ Equal = is_equal (state_cmp v s) h in
+        let m : is_state v e.0.items ≡ is_state s e.0.items = ap is_eq (state_total.congr v s e.0.items a) in
+        cc
+
+set_found : (v s : List FinalValue) (had w : ℕ) (es : Entries) → found s es ≡ Some had → unwrap_or (found v (set_value (λ k. is_state s k.items) es w)) 0 ≡ cond (is_state v s) w (unwrap_or (found v es) 0)
+set_found v s had w [] there = cc
+set_found v s had w (e ∷ es) there = set_at v s had w e es (is_state s e.0.items) refl there (λ h. set_found v s had w es h)
+
 alike_found : (v s : List FinalValue) (es : Entries) → is_state v s ≡ true → found s es ≡ found v es
 alike_found v s es h =
     ap (λ (t : Vec FinalValue Global → Bool). lookup t es) (fun_ext (λ k. ap is_eq (sym (state_total.congr v s k.items (is_equal (state_cmp v s) h)))))
@@ -74,31 +95,64 @@ gained : (v s : List FinalValue) (es : Entries) (had more : ℕ) (b : Bool) → 
 gained v s es had more true h e = ap (λ (n : ℕ). min (n + more) (2 ^ 64 - 1)) (e ∙ ap (λ (o : Option ℕ). unwrap_or o 0) (alike_found v s es h))
 gained v s es had more false h e = refl
 
--- so many more at one state
-pub Raises : (FinalValue → FinalValue → Ordering) → Type 0
-Raises R = (old new : Entries) (s : Vec FinalValue Global) (had more : ℕ) → had ≡ unwrap_or (lookup (λ k. is_eq (slice_cmp R s.items k.items)) old) 0 → new ≡ insert_entry (λ x y. slice_cmp R x.items y.items) old s (min (had + more) (2 ^ 64 - 1)) → (v : List FinalValue) → tally new v ≡ cond (is_state v s.items) (min (tally old v + more) (2 ^ 64 - 1)) (tally old v)
+above_put : (cmp : Vec FinalValue Global → Vec FinalValue Global → Ordering) (old new : Entries) (s : Vec FinalValue Global) (more : ℕ) → new ≡ insert_entry cmp old s more → 0 < more → AreAbove old → AreAbove new
+above_put cmp old new s more is some above = subst (λ (es : Entries). AreAbove es) (sym is) (All-values-insert_entry cmp s more (λ n. 0 < n) old above some)
 
-raises_by_states : Raises value_cmp
-unfolding tally Raises
-raises_by_states old new s had more e is v =
-    ap (λ (es : Entries). unwrap_or (found v es) 0) is
-    ∙ put_found v s (min (had + more) (2 ^ 64 - 1)) old
-    ∙ gained v s.items old had more (is_state v s.items) refl e
+above_set : (test : Vec FinalValue Global → Bool) (old new : Entries) (had more w : ℕ) → w ≡ min (had + more) (2 ^ 64 - 1) → new ≡ set_value test old w → 0 < more → AreAbove old → AreAbove new
+above_set test old new had more w sum is some above = subst (λ (es : Entries). AreAbove es) (sym is) (All-values-set_value test (λ n. 0 < n) old w above (omega (arith, sum, some)))
 
-raises_there : Raises ((value_ord.ghosts).cmp)
-raises_there = subst Raises (sym value_orders) raises_by_states
+-- a state that had no count gets one
+Begins : (FinalValue → FinalValue → Ordering) → Type 0
+Begins R = (old new : Entries) (s : Vec FinalValue Global) (more : ℕ) → tally old s.items ≡ 0 → more ≤ 2 ^ 64 - 1 → new ≡ insert_entry (λ x y. slice_cmp R x.items y.items) old s more → (v : List FinalValue) → tally new v ≡ cond (is_state v s.items) (min (tally old v + more) (2 ^ 64 - 1)) (tally old v)
 
-pub raised : (old new : Entries) (s : Vec FinalValue Global) (had more : ℕ) → had ≡ unwrap_or (lookup (λ k. is_eq (slice_cmp ((value_ord.ghosts).cmp) s.items k.items)) old) 0 → new ≡ insert_entry (λ x y. slice_cmp ((value_ord.ghosts).cmp) x.items y.items) old s (min (had + more) (2 ^ 64 - 1)) → (v : List FinalValue) → tally new v ≡ cond (is_state v s.items) (min (tally old v + more) (2 ^ 64 - 1)) (tally old v)
-unfolding Raises
-raised = raises_there
+from_none : (more : ℕ) → more ≤ 2 ^ 64 - 1 → more ≡ min (0 + more) (2 ^ 64 - 1)
+from_none more fits = omega (arith, fits)
 
-above_put : (cmp : Vec FinalValue Global → Vec FinalValue Global → Ordering) (old new : Entries) (s : Vec FinalValue Global) (had more : ℕ) → new ≡ insert_entry cmp old s (min (had + more) (2 ^ 64 - 1)) → 0 < more → AreAbove old → AreAbove new
-above_put cmp old new s had more is some above =
-    subst (λ (es : Entries). AreAbove es) (sym is) (All-values-insert_entry cmp s (min (had + more) (2 ^ 64 - 1)) (λ n. 0 < n) old above (omega arith))
+begins_by_states : Begins value_cmp
+unfolding tally Begins
+begins_by_states old new s more none fits is v =
+    ap (λ (es : Entries). unwrap_or (found v es) 0) (is ∙ ap (put old s) (from_none more fits))
+    ∙ put_found v s (min (0 + more) (2 ^ 64 - 1)) old
+    ∙ gained v s.items old 0 more (is_state v s.items) refl (sym none)
 
--- a count of some more leaves none at 0
-pub above_raised : (old new : Entries) (s : Vec FinalValue Global) (had more : ℕ) → new ≡ insert_entry (λ x y. slice_cmp ((value_ord.ghosts).cmp) x.items y.items) old s (min (had + more) (2 ^ 64 - 1)) → 0 < more → AreAbove old → AreAbove new
-above_raised = above_put (λ x y. slice_cmp ((value_ord.ghosts).cmp) x.items y.items)
+-- a state that had a count gets a greater one
+Grows : (FinalValue → FinalValue → Ordering) → Type 0
+Grows R = (old new : Entries) (s : List FinalValue) (had more w : ℕ) → lookup (λ k. is_eq (slice_cmp R s k.items)) old ≡ Some had → w ≡ min (had + more) (2 ^ 64 - 1) → new ≡ set_value (λ k. is_eq (slice_cmp R s k.items)) old w → (v : List FinalValue) → tally new v ≡ cond (is_state v s) (min (tally old v + more) (2 ^ 64 - 1)) (tally old v)
+
+grows_by_states : Grows value_cmp
+unfolding tally Grows
+grows_by_states old new s had more w there sum is v =
+    ap (λ (es : Entries). unwrap_or (found v es) 0) (is ∙ ap (set_value (λ k. is_state s k.items) old) sum)
+    ∙ set_found v s had (min (had + more) (2 ^ 64 - 1)) old there
+    ∙ gained v s old had more (is_state v s) refl (sym (ap (λ (o : Option ℕ). unwrap_or o 0) there))
+
+None_there : (FinalValue → FinalValue → Ordering) → Type 0
+None_there R = (old : Entries) (s : List FinalValue) → lookup (λ k. is_eq (slice_cmp R s k.items)) old ≡ None → tally old s ≡ 0
+
+none_by_states : None_there value_cmp
+unfolding tally None_there
+none_by_states old s none = ap (λ (o : Option ℕ). unwrap_or o 0) none
+
+begins_there : Begins ((value_ord.ghosts).cmp)
+begins_there = subst Begins (sym value_orders) begins_by_states
+
+grows_there : Grows ((value_ord.ghosts).cmp)
+grows_there = subst Grows (sym value_orders) grows_by_states
+
+nothing_there : None_there ((value_ord.ghosts).cmp)
+nothing_there = subst None_there (sym value_orders) none_by_states
+
+pub no_count : (old : Entries) (s : List FinalValue) → lookup (λ k. is_eq (slice_cmp ((value_ord.ghosts).cmp) s k.items)) old ≡ None → tally old s ≡ 0
+unfolding None_there
+no_count = nothing_there
+
+pub begun : (old new : Entries) (s : Vec FinalValue Global) (more : ℕ) → tally old s.items ≡ 0 → more ≤ 2 ^ 64 - 1 → new ≡ insert_entry (λ x y. slice_cmp ((value_ord.ghosts).cmp) x.items y.items) old s more → Raises old new s.items more
+unfolding Begins
+begun old new s more none fits is = (above_put (λ x y. slice_cmp ((value_ord.ghosts).cmp) x.items y.items) old new s more is, begins_there old new s more none fits is)
+
+pub grown : (old new : Entries) (s : List FinalValue) (had more w : ℕ) → lookup (λ k. is_eq (slice_cmp ((value_ord.ghosts).cmp) s k.items)) old ≡ Some had → w ≡ min (had + more) (2 ^ 64 - 1) → new ≡ set_value (λ k. is_eq (slice_cmp ((value_ord.ghosts).cmp) s k.items)) old w → Raises old new s more
+unfolding Grows
+grown old new s had more w there sum is = (above_set (λ k. is_eq (slice_cmp ((value_ord.ghosts).cmp) s k.items)) old new had more w sum is, grows_there old new s had more w there sum is)
 
 add_found : (new old before found : ℕ) (b : Bool) → new ≡ cond b (min (old + found) (2 ^ 64 - 1)) old → old ≡ min before (2 ^ 64 - 1) → new ≡ min (before + cond b found 0) (2 ^ 64 - 1)
 add_found new old before found true e h = omega arith
@@ -109,11 +163,11 @@ add_none old before true h = omega arith
 add_none old before false h = omega arith
 
 -- some are found that end in one state
-pub some_found : (old new : Entries) (s state : List FinalValue) (more : ℕ) → s ≡ state → (AreAbove old → AreAbove new) → ((v : List FinalValue) → tally new v ≡ cond (is_state v s) (min (tally old v + more) (2 ^ 64 - 1)) (tally old v)) → Counts old new (λ v. cond (is_state v state) more 0)
+pub some_found : (old new : Entries) (s state : List FinalValue) (more : ℕ) → s ≡ state → 0 < more → Raises old new s more → Counts old new (λ v. cond (is_state v state) more 0)
 unfolding Counts
-some_found old new s state more is above h = (
-  above,
-  λ before start v. add_found (tally new v) (tally old v) (before v) more (is_state v state) (subst (λ (t : List FinalValue). tally new v ≡ cond (is_state v t) (min (tally old v + more) (2 ^ 64 - 1)) (tally old v)) is (h v)) (start v),
+some_found old new s state more is some h = (
+  h.0 some,
+  λ before start v. add_found (tally new v) (tally old v) (before v) more (is_state v state) (subst (λ (t : List FinalValue). tally new v ≡ cond (is_state v t) (min (tally old v + more) (2 ^ 64 - 1)) (tally old v)) is (h.1 v)) (start v),
 )
 
 pub none_counted : (old : Entries) (state : List FinalValue) (more : ℕ) → more ≡ 0 → Counts old old (λ v. cond (is_state v state) more 0)

@@ -26,6 +26,10 @@ tally entries v = unwrap_or (lookup (λ k. is_state v k.items) entries) 0
 abbrev pub AreAbove : List (Vec FinalValue Global × ℕ) → Type 0
 AreAbove entries = All (λ n. 0 < n) (values_of entries)
 
+-- the second list has so many more than the first at one state, up to the greatest number, and none that is 0 if the first has none and they are some
+abbrev pub Raises : List (Vec FinalValue Global × ℕ) → List (Vec FinalValue Global × ℕ) → List FinalValue → ℕ → Type 0
+Raises old new state more = (0 < more → AreAbove old → AreAbove new) × ((v : List FinalValue) → tally new v ≡ (if is_state v state then min (tally old v + more) (2 ^ 64 - 1) else tally old v))
+
 -- the second list has so many more at each state than the first, up to the greatest number, and none that is 0 if the first has none
 unfoldable pub Counts : List (Vec FinalValue Global × ℕ) → List (Vec FinalValue Global × ℕ) → (List FinalValue → ℕ) → Type 0
 Counts old new more = (AreAbove old → AreAbove new) × ((before : List FinalValue → ℕ) → ((v : List FinalValue) → tally old v ≡ min (before v) (2 ^ 64 - 1)) → (v : List FinalValue) → tally new v ≡ min (before v + more v) (2 ^ 64 - 1))

@@ -1,9 +1,9 @@
 //! The final states of the kept candidates.
 
-ghost use Rattle.std.specs.Prelude.{◌≡◌, ◌<◌, ◌+◌, ◌-◌, ◌^◌, min, List, map, drop, length, if◌then◌else◌, IfOk, OnOk};
+ghost use Rattle.std.specs.Prelude.{◌≡◌, ◌-◌, ◌^◌, false, min, List, map, drop, length, if◌then◌else◌, IfOk, OnOk, IsTrue};
 ghost use Rattle.run_combinations.specs.Combinations.{candidates_of};
 ghost use Rattle.candidates.specs.Space.{shown_in};
-ghost use Rattle.verdict.specs.Counting.{count_kept, count_column, tally, AreAbove, Counts};
+ghost use Rattle.verdict.specs.Counting.{count_kept, count_column, tally, AreAbove, Counts, Raises};
 ghost use Rattle.verdict.specs.Kept.{holds_at};
 ghost use Rattle.verdict.specs.Final as shown;
 ghost use Rattle.verdict.specs.Final.{value_shown};
@@ -20,6 +20,13 @@ use std::collections::BTreeMap;
 
 /// The number of candidates that end in each state.
 pub type StateCounts = BTreeMap<Vec<FinalValue>, u64>;
+
+/// The states that were counted, and a list in which the next one is made.
+#[derive(Drop)]
+struct Tally {
+    counts: StateCounts,
+    state: Vec<FinalValue>,
+}
 
 fn final_value(value: Value) -> FinalValue
     ensures { result ≡ value_shown value }
@@ -64,17 +71,18 @@ fn stored_at(combination: &Combination, location: usize, event: u8) -> Option<Va
     }
 }
 
-// What the location holds after the stores in this order.
+// What the location holds after the stores in this order: what the last of them at it stores.
 fn final_word(combination: &Combination, order: &[u8], location: usize) -> Value
     ensures { result ≡ final_word combination.now order.now location }
 {
-    let mut word = Value::NoValue;
-    for event in order {
-        if let Some(value) = stored_at(combination, location, *event) {
-            word = value;
+    let mut index = order.len();
+    'stores: while 0 < index {
+        index -= 1;
+        if let Some(value) = stored_at(combination, location, order[index]) {
+            return value;
         }
     }
-    word
+    Value::NoValue
 }
 
 // What a place holds at the end.
@@ -94,20 +102,21 @@ fn held_value(
     }
 }
 
-fn final_state(
-    alloc: Global,
+// Makes a list the state in which a candidate ends.
+fn write_state(
     space: &Space,
     combination: &Combination,
     order: &[u8],
     places: &[ShownPlace],
-) -> Result<Vec<FinalValue>, AllocError>
-    ensures { IfOk result (λ v. v.items ≡ map (final_value space.now combination.now order.now) places.now) }
+    state: &mut Vec<FinalValue>,
+) -> Result<(), AllocError>
+    ensures { OnOk result (state.new.items ≡ map (final_value space.now combination.now order.now) places.now) }
 {
-    let mut state = Vec::with_capacity(alloc, places.len())?;
+    state.clear();
     for place in places {
         state.push(held_value(space, combination, order, *place))?;
     }
-    Ok(state)
+    Ok(())
 }
 
 fn is_kept_at(kept: &[bool], index: usize) -> bool
@@ -145,11 +154,32 @@ fn kept_with_order(kept: &[bool], ways: usize, orders: usize, order: usize) -> u
     count
 }
 
-fn add_count(counts: &mut StateCounts, state: Vec<FinalValue>, found: u64) -> Result<(), AllocError>
-    ensures { OnOk result ((0 < found → AreAbove counts.old.entries → AreAbove counts.new.entries) × ((v : List FinalValue) → tally counts.new.entries v ≡ (if is_state v state.items then min (tally counts.old.entries v + found) (2 ^ 64 - 1) else tally counts.old.entries v))) }
+// Adds so many to the count of a state, if it has one, and says whether it has.
+fn raise_count(counts: &mut StateCounts, state: &[FinalValue], found: u64) -> bool
+    ensures raised { IsTrue result → Raises counts.old.entries counts.new.entries state.now found }
+    ensures none { result ≡ false → (counts.new ≡ counts.old) × (tally counts.old.entries state.now ≡ 0) }
 {
-    let had = counts.get(&state).copied().unwrap_or(0);
-    counts.insert(state, had.saturating_add(found))?;
+    match counts.get_mut(state) {
+        Some(count) => {
+            *count = count.saturating_add(found);
+            true
+        }
+        None => false,
+    }
+}
+
+// Adds so many to the count of a state.
+fn add_count(
+    alloc: Global,
+    counts: &mut StateCounts,
+    state: &[FinalValue],
+    found: u64,
+) -> Result<(), AllocError>
+    ensures { OnOk result (Raises counts.old.entries counts.new.entries state.now found) }
+{
+    if !raise_count(counts, state, found) {
+        counts.insert(Vec::from_slice(alloc, state)?, found)?;
+    }
     Ok(())
 }
 
@@ -161,33 +191,34 @@ fn count_order(
     order: &[u8],
     places: &[ShownPlace],
     found: u64,
-    counts: &mut StateCounts,
+    tally: &mut Tally,
 ) -> Result<(), AllocError>
-    ensures { OnOk result (Counts counts.old.entries counts.new.entries (λ v. if is_state v (map (final_value space.now combination.now order.now) places.now) then found else 0)) }
+    ensures { OnOk result (Counts tally.old.counts.entries tally.new.counts.entries (λ v. if is_state v (map (final_value space.now combination.now order.now) places.now) then found else 0)) }
 {
     if found == 0 {
         return Ok(());
     }
-    let state = final_state(alloc, space, combination, order, places)?;
-    add_count(counts, state, found)
+    write_state(space, combination, order, places, &mut tally.state)?;
+    add_count(alloc, &mut tally.counts, &tally.state, found)
 }
 
+// Counts the kept candidates of a combination.
 fn count_combination(
     alloc: Global,
     space: &Space,
     combination: &Combination,
     kept: &[bool],
     places: &[ShownPlace],
-    counts: &mut StateCounts,
+    tally: &mut Tally,
 ) -> Result<(), AllocError>
-    ensures { OnOk result (Counts counts.old.entries counts.new.entries (λ v. count_kept (λ t. is_state v (map (final_value space.now combination.now t.1) places.now)) kept.now (candidates_of combination.now))) }
+    ensures { OnOk result (Counts tally.old.counts.entries tally.new.counts.entries (λ v. count_kept (λ t. is_state v (map (final_value space.now combination.now t.1) places.now)) kept.now (candidates_of combination.now))) }
 {
     let ways = combination.sources.len();
     let orders = combination.orders.len();
     for k in 0..orders {
         let order = combination.orders.order(k);
         let found = kept_with_order(kept, ways, orders, k);
-        count_order(alloc, space, combination, order, places, found, counts)?;
+        count_order(alloc, space, combination, order, places, found, tally)?;
     }
     Ok(())
 }
@@ -210,11 +241,14 @@ pub fn final_states(
     ensures above { IfOk result (λ t. AreAbove t.entries) }
     ensures tally { IfOk result (λ t. (v : List FinalValue) → tally t.entries v ≡ min (count_kept (λ e. is_state v (shown.final_state places.now e)) kept.now (shown_in space.now)) (2 ^ 64 - 1)) }
 {
-    let mut counts = BTreeMap::new(alloc);
+    let mut tally = Tally {
+        counts: BTreeMap::new(alloc),
+        state: Vec::with_capacity(alloc, places.len())?,
+    };
     let mut rest = kept;
     for combination in &space.combinations {
-        count_combination(alloc, space, combination, rest, places, &mut counts)?;
+        count_combination(alloc, space, combination, rest, places, &mut tally)?;
         rest = kept_after(rest, combination);
     }
-    Ok(counts)
+    Ok(tally.counts)
 }

@@ -1,15 +1,11 @@
-use Rattle.std.proofs.Common.{ℕ, Option, ap, ◌∙◌}
-use Rattle.std.specs.Option.{unwrap_or}
-use Rattle.std.specs.BTreeMap.{insert_entry}
-use Rattle.std.specs.Cmp.Lexicographic.{slice_cmp}
-use Rattle.verdict.specs.contracts.answer.FinalValueOrd.TheImpl as value_ord
-use Rattle.verdict.proofs.Tallies.{raised, above_raised}
+use Rattle.std.proofs.Common.{List, ◌≡◌, sym, subst, arith}
+use Rattle.verdict.specs.Counting.{tally, Raises}
+use Rattle.verdict.specs.declared.answer.FinalValue.{FinalValue}
+use Rattle.verdict.proofs.Tallies.{begun}
 use Rattle.verdict.proofs.final_states.add_count.Goals as goal
 
-pub returns : goal.returns
-returns c =
-    let put = c.in_ok-insert.ensures.entries ∙ ap (λ (n : ℕ). insert_entry (λ x y. slice_cmp ((value_ord.ghosts).cmp) x.items y.items) c.args.counts.now.entries c.args.state n) c.saturating_add.ensures in (
-      λ some above. above_raised c.args.counts.now.entries c.insert.new.self.entries c.args.state c.unwrap_or-had.result c.args.found put some above,
-      raised c.args.counts.now.entries c.insert.new.self.entries c.args.state c.unwrap_or-had.result c.args.found
-          (c.unwrap_or-had.ensures ∙ ap (λ (o : Option ℕ). unwrap_or o 0) (c.copied.ensures ∙ c.get.ensures.value)) put,
-    )
+pub returns-in_ok-insert : goal.returns-in_ok-insert
+returns-in_ok-insert c =
+    let none : (c.raise_count.new.counts ≡ c.args.counts.now) × (tally c.args.counts.now.entries c.args.state.now ≡ 0) = c.raise_count.ensures.none c.if-not-raise_count.true in
+    subst (λ (s : List FinalValue). Raises c.args.counts.now.entries c.insert.new.self.entries s c.args.found) c.in_ok-from_slice.ensures.items
+    (begun c.args.counts.now.entries c.insert.new.self.entries c.in_ok-from_slice.field-0 c.args.found (subst (λ (s : List FinalValue). tally c.args.counts.now.entries s ≡ 0) (sym c.in_ok-from_slice.ensures.items) none.1) (omega (arith, c.ranges.found.fits)) (rw none.0 at c.in_ok-insert.ensures.entries))

@@ -1,9 +1,18 @@
-use Rattle.std.proofs.Common.{arith}
-use Rattle.std.proofs.lemmas.Grind.{common_steps}
-use Rattle.verdict.proofs.Finals.{word_more}
+use Rattle.std.proofs.Common.{Option, sym, ap, ◌∙◌, ◌-◌, take, arith}
+use Rattle.std.specs.Option.{unwrap_or}
+use Rattle.thread_runs.specs.declared.value.Value.{Value}
+use Rattle.verdict.specs.Ends.{final_word}
+use Rattle.verdict.proofs.Finals.{word_less}
 use Rattle.verdict.proofs.final_states.final_word.Goals as goal
 
-pub loop-event-preserved : goal.loop-event-preserved
-loop-event-preserved c =
-    let more = word_more c.args.combination.now c.args.order.now c.loop-event.event-index c.args.location c.loop-event-test.true in
-    grind (arith, common_steps, more)
+pub stores-preserved : goal.stores-preserved
+stores-preserved c =
+    let before : Value = final_word c.args.combination.now (take (c.stores.index - 1) c.args.order.now) c.args.location in (
+      omega (arith, c.stores.invariant.0),
+      c.stores.invariant.1 ∙ word_less c.args.combination.now c.args.order.now c.stores.index c.args.location c.stores-test.true c.stores.invariant.0 ∙ ap (λ (o : Option Value). unwrap_or o before) (sym c.stored_at.ensures ∙ c.in_default.is),
+    )
+
+pub returns-in-Some : goal.returns-in-Some
+returns-in-Some c =
+    let before : Value = final_word c.args.combination.now (take (c.stores.index - 1) c.args.order.now) c.args.location in
+    sym (c.stores.invariant.1 ∙ word_less c.args.combination.now c.args.order.now c.stores.index c.args.location c.stores-test.true c.stores.invariant.0 ∙ ap (λ (o : Option Value). unwrap_or o before) (sym c.stored_at.ensures ∙ c.in-Some.is))
