@@ -2,7 +2,7 @@
 
 ghost use Rattle.std.specs.Prelude.{◌≡◌, ℕ, ◌<◌, ◌≤◌, List, [], ◌∷◌, length, IfOk, IfErr, MatchResult};
 ghost use Rattle.cat_syntax.specs.Faults.{IsWithin, IsTooLong, IsMemory};
-ghost use Rattle.cat_tokens.specs.Lexer.{front, lexed};
+ghost use Rattle.cat_tokens.specs.Lexer.{lexed};
 ghost use Rattle.cat_grammar.specs.Grammar.{limits};
 ghost use Rattle.cat_grammar.specs.ItemMachine.{step};
 ghost use Rattle.cat_syntax.specs.ParserState.{state_of};
@@ -38,17 +38,6 @@ fn step_at(parser: &mut Parser, token: Token, before: usize, offset: usize) -> R
     }
 }
 
-fn front_at(alloc: Global, text: &[u8]) -> Result<Front, CatFault>
-    requires { 0 < length text.now }
-    ensures front { IfOk result (λ f. f ≡ front text.now) }
-    ensures memory { IfErr result IsMemory }
-{
-    match front_of(alloc, text) {
-        Ok(front) => Ok(front),
-        Err(error) => Err(CatFault::OutOfMemory(error)),
-    }
-}
-
 // Gives the parser the tokens of a text and its end.
 fn read_tokens(alloc: Global, bytes: &[u8], parser: &mut Parser) -> Result<(), CatFault>
     ensures steps { StepsAt result parser.new (run limits parser.old.form 0 (state_of parser.old) (lexed bytes.now)) }
@@ -58,15 +47,16 @@ fn read_tokens(alloc: Global, bytes: &[u8], parser: &mut Parser) -> Result<(), C
     let mut offset = 0;
     while offset < bytes.len() {
         let left = bytes.len() - offset;
-        match front_at(alloc, &bytes[offset..])? {
-            Front::Layout(n) => offset += n.max(1).min(left),
-            Front::Lexeme(token, n) => match step_at(parser, token, before, offset) {
+        match front_of(alloc, &bytes[offset..]) {
+            Ok(Front::Layout(n)) => offset += n.max(1).min(left),
+            Ok(Front::Lexeme(token, n)) => match step_at(parser, token, before, offset) {
                 Ok(()) => {
                     before = offset;
                     offset += n.max(1).min(left);
                 }
                 Err(fault) => return Err(fault),
             },
+            Err(error) => return Err(CatFault::OutOfMemory(error)),
         }
     }
     step_at(parser, Token::End, before, offset)

@@ -1,7 +1,6 @@
 //! Reads texts.
 
 ghost use Rattle.std.specs.Prelude.{◌≡◌, ◌<◌, ◌≤◌, List, length, IfOk, IfErr, MatchResult};
-ghost use Rattle.litmus_tokens.specs.Lexer.{front};
 ghost use Rattle.litmus_tokens.specs.Texts.{fresh_after, lexed};
 ghost use Rattle.litmus_values.specs.Value.{Content, Formula, content_of, formula_of};
 ghost use Rattle.litmus_values.specs.declared.test.Quantifier.{Quantifier};
@@ -21,17 +20,6 @@ use litmus_values::{Condition, InitEntry, Place, Test, Thread};
 use source_text::{MAX_BYTES, is_blank};
 use std::alloc::Global;
 
-fn front_at(alloc: Global, stage: Stage, is_fresh: bool, text: &[u8]) -> Result<Front, LitmusFault>
-    requires { 0 < length text.now }
-    ensures front { IfOk result (λ f. f ≡ front stage is_fresh text.now) }
-    ensures memory { IfErr result IsMemory }
-{
-    match front_of(alloc, stage, is_fresh, text) {
-        Ok(front) => Ok(front),
-        Err(error) => Err(LitmusFault::OutOfMemory(error)),
-    }
-}
-
 // Whether the line holds nothing but blanks, this byte too.
 fn is_fresh_behind(is_fresh: bool, byte: u8) -> bool
     ensures { result ≡ fresh_after is_fresh byte }
@@ -49,18 +37,19 @@ fn read_tokens(alloc: Global, bytes: &[u8], reader: &mut Reader) -> Result<(), L
     while offset < bytes.len() {
         let left = bytes.len() - offset;
         let first = bytes[offset];
-        match front_at(alloc, reader.stage(), is_fresh, &bytes[offset..])? {
-            Front::Layout(n) => {
+        match front_of(alloc, reader.stage(), is_fresh, &bytes[offset..]) {
+            Ok(Front::Layout(n)) => {
                 is_fresh = is_fresh_behind(is_fresh, first);
                 offset += n.max(1).min(left);
             }
-            Front::Lexeme(token, n) => {
+            Ok(Front::Lexeme(token, n)) => {
                 is_fresh = is_line_end(&token);
                 match reader.step(token, offset) {
                     Ok(()) => offset += n.max(1).min(left),
                     Err(fault) => return Err(fault),
                 }
             }
+            Err(error) => return Err(LitmusFault::OutOfMemory(error)),
         }
     }
     reader.step(Token::End, offset)

@@ -1,5 +1,5 @@
 -- A name that is kept in place: what stands behind its bytes is zero.
-use Rattle.std.proofs.Common.{arith, ap, sym, ◌∙◌, ◌≡◌, ◌≤◌, ◌<◌, ◌⊎◌, inl, inr, ℕ, List, length, take}
+use Rattle.std.proofs.Common.{arith, sym, ◌∙◌, ◌≡◌, ◌≤◌, ◌<◌, ◌⊎◌, inl, inr, ℕ, List, length, take}
 use Rattle.std.specs.Prelude.{min, slice_index}
 use Rattle.std.proofs.lemmas.Grind.{common_steps}
 use Rattle.std.proofs.lemmas.Bool.{cases_lt}
@@ -15,5 +15,5 @@ at_index n bytes zeros fits i = by (cases_lt i n)
         let long : length (take n bytes) ≤ i = omega (arith, length-take-le n bytes fits, l) in
         get_or-eq_default (take n bytes) 0 long ∙ sym (zeros i l)
 
-pub counted : (n : ℕ) (bytes : List ℕ) → n ≤ 14 → n ≤ length bytes → min (length (take n bytes)) 255 ≡ n
+pub counted : (n : ℕ) (bytes : List ℕ) → n ≤ 16 → n ≤ length bytes → min (length (take n bytes)) 255 ≡ n
 counted n bytes short fits = grind (arith, common_steps, length-take-le n bytes fits)

@@ -10,7 +10,7 @@ bytes_of (Long v) = v.value.items
 
 -- no more bytes are in place than fit, and zeros behind them
 abbrev pub IsSound : Bytes → Type 0
-IsSound (Short n bytes) = (n ≤ 14) × ((i : ℕ) → n ≤ i → slice_index bytes i ≡ 0)
+IsSound (Short n bytes) = (n ≤ 16) × ((i : ℕ) → n ≤ i → slice_index bytes i ≡ 0)
 IsSound (Long v) = Unit {0}
 
 -- the length, as far as a byte tells it, and the first seven bytes, zeros behind the last one

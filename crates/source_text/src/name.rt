@@ -7,13 +7,14 @@ use crate::letters::byte_at;
 use std::alloc::{AllocError, Global};
 use std::marker::Model;
 
-// As many bytes are kept in place.
-const SHORT: usize = 14;
+// As many bytes are kept in place. With four bytes for the length they stand so that a name is moved in whole words: what
+// is moved in words that overlap is slow to read again.
+const SHORT: usize = 16;
 
 // Where the bytes of a name are: in place as far as the length says, or in an allocation.
 #[derive(Drop)]
 enum Bytes {
-    Short(u8, [u8; SHORT]),
+    Short(u32, [u8; SHORT]),
     Long(Box<Vec<u8>>),
 }
 
@@ -72,7 +73,7 @@ impl Name {
         let mut short = [0; SHORT];
         short[..text.len()].copy_from_slice(text);
         Ok(Name {
-            bytes: Bytes::Short(text.len() as u8, short),
+            bytes: Bytes::Short(text.len() as u32, short),
         })
     }
 
@@ -81,7 +82,7 @@ impl Name {
         ensures { result.now ≡ self.now }
     {
         match &self.bytes {
-            Bytes::Short(length, short) => &short[..usize::from(*length)],
+            Bytes::Short(length, short) => &short[..*length as usize],
             Bytes::Long(long) => long.as_slice(),
         }
     }
@@ -92,7 +93,14 @@ impl Name {
     {
         match &self.bytes {
             Bytes::Short(length, short) => u64::from_le_bytes([
-                *length, short[0], short[1], short[2], short[3], short[4], short[5], short[6],
+                *length as u8,
+                short[0],
+                short[1],
+                short[2],
+                short[3],
+                short[4],
+                short[5],
+                short[6],
             ]),
             Bytes::Long(long) => key_of(long.as_slice()),
         }

@@ -1,5 +1,4 @@
-use Rattle.std.proofs.Common.{arith, rules, ap, subst, sym, ◌∙◌, ◌≡◌, ◌≤◌, ℕ, List, length, take}
-use Rattle.std.specs.Prelude.{slice_index}
+use Rattle.std.proofs.Common.{arith, ap, subst, sym, ◌≤◌, length}
 use Rattle.source_text.specs.Names.{key_of, key_bytes, bytes_of, IsSound}
 use Rattle.source_text.proofs.InPlace.{at_index, counted}
 use Rattle.source_text.proofs.name.Name.key.Goals as goal
