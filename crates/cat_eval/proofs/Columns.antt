@@ -11,7 +11,6 @@ use Rattle.binding_kinds.specs.declared.kinds.Kind.{Kind}
 use Rattle.binding_kinds.specs.declared.kinds.Kind.TheVariants as kinds
 use Rattle.binding_graph.specs.declared.resolved.Role.{Role}
 use Rattle.binding_graph.specs.declared.resolved.Role.TheVariants as roles
-use Rattle.binding_graph.specs.declared.resolved.Source.{Source}
 use Rattle.binding_graph.specs.declared.resolved.Step.{Step}
 use Rattle.binding_graph.specs.Trees.{SetTree, RelTree, set_code, rel_code}
 use Rattle.candidates.specs.declared.candidate.Space.{Space}
@@ -26,7 +25,6 @@ use Rattle.cat_eval.specs.Meaning.{MeansSet, Means}
 use Rattle.cat_eval.specs.Named.{EventsIn, PairsOutside, WithOwn, Of}
 use Rattle.cat_eval.specs.Values.{Adds, IsFor, column_len}
 use Rattle.cat_eval.specs.Rising.{AreCodes}
-use Rattle.cat_eval.proofs.Growing.{codes_long}
 use Rattle.cat_eval.proofs.Visits.{get_more, get_within}
 
 -- a column without a value more, for the next body
@@ -156,29 +154,10 @@ columns_none recursive bodies inputs cs many fits = record {
     none : (k : ℕ) (base : Known) → slice_get [] k ≡ Some base → ⊥
     none k base e = absurd (omega (arith, get_within [] base k e))
 
--- of no equations the least solution is the same everywhere
-pub least_of_none : (n m : ℕ) (sets others : Source → ℕ → Type 0) (outer further : Source → ℕ → ℕ → Type 0) (trees : List RelTree) (values : List Relation) → length trees ≡ 0 → IsLeast n sets outer trees values → IsLeast m others further trees values
-least_of_none n m sets others outer further trees values none h = record {
-  as_many = h.as_many;
-  on = λ x lt. absurd (past x (rw h.as_many at lt));
-  solves = λ x lt. absurd (past x lt);
-  inside = λ test closed x lt. absurd (past x lt);
-}
-  where
-    past : (x : ℕ) → x < length trees → ⊥
-    past x lt = omega (arith, lt, none)
-
-module _ (bodies : List Body) (inputs : List (Bor Column)) (bases : List Known) (base : Known) (olds news : List Column) (k : ℕ) (many : length news ≡ length olds) (count_is : 0 < length olds → (c : Column) → k ≡ column_len (get_or olds 0 c)) where
-  -- how many candidates came is the number of the next one
-  number : (recursive : Bool) → AreColumnsOver recursive bodies inputs bases olds → 0 < length bodies → k ≡ length bases
-  number recursive before lt =
-      let some : 0 < length olds = rw before.as_many lt in
-      let c = one_of olds 0 some in
-      count_is some c ∙ before.long 0 lt c
-
+module _ (bodies : List Body) (inputs : List (Bor Column)) (bases : List Known) (base : Known) (olds news : List Column) (k : ℕ) (many : length news ≡ length olds) (at : k ≡ length bases) where
   -- each body was evaluated once
   pub evaluated_more : (recursive : Bool) → recursive ≡ false → AreColumnsOver recursive bodies inputs bases olds
-      → ((j : ℕ) → j < length bodies → j < length olds → (c : Column) (b : Body) → (s : Events) × (r : Relation) × Adds (get_or olds j c) (get_or news j c) s r × IsMeaningOver (get_or bodies j b).code.kind (get_or bodies j b).code.steps.items inputs base k s r)
+      → ((j : ℕ) → j < length bodies → j < length olds → (c : Column) → (s : Events) × (r : Relation) × Adds (get_or olds j c) (get_or news j c) s r × ((b : Body) → IsMeaningOver (get_or bodies j b).code.kind (get_or bodies j b).code.steps.items inputs base k s r))
       → AreColumnsOver recursive bodies inputs (bases ++ base ∷ []) news
   evaluated_more true is before added = absurd cc
   evaluated_more false is before added = columns_more bodies inputs olds news each false bases base many before now
@@ -188,17 +167,16 @@ module _ (bodies : List Body) (inputs : List (Bor Column)) (bases : List Known) 
 
       each : (j : ℕ) → j < length bodies → (c : Column) → (s : Events) × (r : Relation) × Adds (get_or olds j c) (get_or news j c) s r
       each j lt c =
-          let (s, r, adds, meant) = added j lt (inside j lt) c (one_of bodies j lt) in
+          let (s, r, adds, meant) = added j lt (inside j lt) c in
           (s, r, adds)
 
       now : HaveValuesOver false bodies inputs base (length bases) news
       now j lt c b =
-          let (s, r, adds, meant) = added j lt (inside j lt) c b in
-          let at : k ≡ length bases = number false before (omega (arith, lt)) in (
+          let (s, r, adds, meant) = added j lt (inside j lt) c in (
             s,
             r,
             adds_new (get_or olds j c) (get_or news j c) s r adds (length bases) (sym (before.long j lt c)),
-            subst (λ (n : ℕ). IsMeaningOver (get_or bodies j b).code.kind (get_or bodies j b).code.steps.items inputs base n s r) at meant,
+            subst (λ (n : ℕ). IsMeaningOver (get_or bodies j b).code.kind (get_or bodies j b).code.steps.items inputs base n s r) at (meant b),
           )
 
   -- the equations were solved
@@ -217,18 +195,13 @@ module _ (bodies : List Body) (inputs : List (Bor Column)) (bases : List Known) 
           let (s, adds) = gets j lt c in
           (s, get_or values j no_slot, adds)
 
-      here : (trees : List RelTree) → AreCodes trees bodies → IsLeast base.count (EventsIn base inputs k) (PairsOutside base inputs k) trees values → IsLeast base.count (EventsIn base inputs (length bases)) (PairsOutside base inputs (length bases)) trees values
-      here trees codes h = elim (cases_eq (length bodies) 0) [
-        | inl none ↦ least_of_none base.count base.count _ _ _ _ trees values (codes_long trees bodies codes ∙ none) h
-        | inr some ↦
-            let at : k ≡ length bases = number true before (omega (arith, some)) in
-            subst (λ (n : ℕ). IsLeast base.count (EventsIn base inputs n) (PairsOutside base inputs n) trees values) at h
-      ]
+      here : (trees : List RelTree) → IsLeast base.count (EventsIn base inputs k) (PairsOutside base inputs k) trees values → IsLeast base.count (EventsIn base inputs (length bases)) (PairsOutside base inputs (length bases)) trees values
+      here trees h = subst (λ (n : ℕ). IsLeast base.count (EventsIn base inputs n) (PairsOutside base inputs n) trees values) at h
 
       now : HaveValuesOver true bodies inputs base (length bases) news
       now trees codes fit = (
         values,
-        here trees codes (least held trees codes fit),
+        here trees (least held trees codes fit),
         (λ j lt c.
             let (s, adds) = gets j lt c in
             (s, adds_new (get_or olds j c) (get_or news j c) s (get_or values j no_slot) adds (length bases) (sym (before.long j lt c)))),

@@ -31,4 +31,5 @@ pub mod Taking
 pub mod Steps
 pub mod Turns
 pub mod Visits
+pub mod Wanting
 pub mod Written

@@ -1,7 +1,6 @@
 -- Where each input has the same value in two candidates with the same predefined names, an item means the same in both.
-use Rattle.std.proofs.Common.{ℕ, ◌≡◌, ◌<◌, ◌+◌, ◌-◌, ◌++◌, ◌∙◌, inl, inr, List, [], ◌∷◌, length, length-append, get_or, zero, suc, Bool, true, false, sym, ap, subst, refl, arith}
+use Rattle.std.proofs.Common.{ℕ, ◌≡◌, ◌<◌, ◌+◌, ◌-◌, ◌++◌, ◌∙◌, List, [], ◌∷◌, length, length-append, get_or, zero, suc, Bool, true, false, sym, ap, subst, refl, arith}
 use Rattle.std.specs.Prelude.{Option, Some, None, slice_get}
-use Rattle.std.proofs.lemmas.Bool.{cases_eq}
 use denote.Ref.{Bor}
 use Rattle.bit_relations.specs.Relation.{Relation, Events, no_slot}
 use Rattle.cat_eval.specs.Seen.{Known}
@@ -23,9 +22,8 @@ use Rattle.cat_eval.specs.OverNames.{IsAnswerOver, IsMeaningOver, HaveValuesOver
 use Rattle.cat_eval.specs.Steady.{HasSame, AreSame, IsSteady, Repeats, EndsWith}
 use Rattle.cat_eval.specs.Values.{Adds, column_len}
 use Rattle.cat_eval.proofs.Agreeing.{Agree, OfSet, OfRelation, set_agrees, relation_agrees, least_agrees}
-use Rattle.cat_eval.proofs.Columns.{get_last, adds_new, columns_more, least_of_none, one_of}
+use Rattle.cat_eval.proofs.Columns.{get_last, adds_new, columns_more}
 use Rattle.cat_eval.proofs.Exact.{unless_same}
-use Rattle.cat_eval.proofs.Growing.{codes_long}
 use Rattle.cat_eval.proofs.Same.{Same, SameSet, changed, changed_set}
 use Rattle.cat_eval.proofs.Visits.{holds_same, empty_same}
 
@@ -113,7 +111,7 @@ has_one [] k lt = absurd (omega (arith, lt))
 has_one (x ∷ xs) zero lt = (x, refl)
 has_one (x ∷ xs) (suc k) lt = has_one xs k (omega (arith, lt))
 
-value_there : (c : Column) (k : ℕ) → k < column_len c → (s : Events) × (r : Relation) × HasValue c k s r
+pub value_there : (c : Column) (k : ℕ) → k < column_len c → (s : Events) × (r : Relation) × HasValue c k s r
 value_there (columns.Sets values) k lt = let (s, at) = has_one values k lt in (s, no_slot, at)
 value_there (columns.Relations values) k lt = let (r, at) = has_one values k lt in (record { count = 0; word = 0 }, r, at)
 
@@ -121,18 +119,11 @@ value_there (columns.Relations values) k lt = let (r, at) = has_one values k lt 
 pub ends_long : (bases : List Known) (base : Known) (ends : EndsWith bases base) → (length bases ≡ length ends.0 + 1) × (slice_get bases (length ends.0) ≡ Some base)
 ends_long bases base ends = (ap length ends.1 ∙ length-append ends.0 (base ∷ []), rw ends.1 (get_last ends.0 base))
 
--- a group without names
-values_of_none : (inputs : List (Bor Column)) (base : Known) (j k : ℕ) (recursive : Bool) (bodies : List Body) (olds news : List Column) → length bodies ≡ 0 → HaveValuesOver recursive bodies inputs base j olds → HaveValuesOver recursive bodies inputs base k news
-values_of_none inputs base j k false bodies olds news none h = λ x lt c b. absurd (omega (arith, lt, none))
-values_of_none inputs base j k true bodies olds news none h = λ trees codes fit.
-    let (values, least, each) = h trees codes fit in
-    (values, least_of_none base.count base.count _ _ _ _ trees values (codes_long trees bodies codes ∙ none) least, (λ x lt c. absurd (omega (arith, lt, none))))
-
 -- one value more in each column, that of the last candidate
 pub columns_again : (recursive : Bool) (bodies : List Body) (inputs : List (Bor Column)) (bases : List Known) (base : Known) (olds news : List Column) (k steady : ℕ) → EndsWith bases base → AreColumnsOver recursive bodies inputs bases olds
-    → (0 < length olds → (c : Column) → k ≡ column_len (get_or olds 0 c)) → (0 < length bodies → IsSteady inputs (length bases) steady) → k < steady
+    → k ≡ length bases → IsSteady inputs (length bases) steady → k < steady
     → length news ≡ length olds → ((x : ℕ) → x < length olds → (c : Column) → Repeats (get_or olds x c) (get_or news x c)) → AreColumnsOver recursive bodies inputs (bases ++ base ∷ []) news
-columns_again recursive bodies inputs bases base olds news k steady ends before count_is held lt many repeats = columns_more bodies inputs olds news added recursive bases base many before now
+columns_again recursive bodies inputs bases base olds news k steady ends before at held lt many repeats = columns_more bodies inputs olds news added recursive bases base many before now
   where
     long : length bases ≡ length ends.0 + 1
     long = (ends_long bases base ends).0
@@ -154,25 +145,11 @@ columns_again recursive bodies inputs bases base olds news k steady ends before 
     before_it : HaveValuesOver recursive bodies inputs base (length ends.0) olds
     before_it = before.values (length ends.0) base (ends_long bases base ends).1
 
-    some : 0 < length bodies → AreSame inputs (length ends.0) (length bases)
-    some is =
-        let there : 0 < length olds = rw before.as_many is in
-        let c = one_of olds 0 there in
-        let at : k ≡ length bases = count_is there c ∙ before.long 0 is c in
-        subst (λ (n : ℕ). AreSame inputs n (length bases)) (omega (arith, long)) (held is (length bases) (omega arith) (omega (arith, at, lt)))
+    same : AreSame inputs (length ends.0) (length bases)
+    same = subst (λ (n : ℕ). AreSame inputs n (length bases)) (omega (arith, long)) (held (length bases) (omega arith) (omega (arith, at, lt)))
 
     now : HaveValuesOver recursive bodies inputs base (length bases) news
-    now = elim (cases_eq (length bodies) 0) [
-      | inl none ↦ values_of_none inputs base (length ends.0) (length bases) recursive bodies olds news none before_it
-      | inr is ↦ values_again base inputs (length ends.0) (length bases) (some (omega (arith, is))) recursive bodies olds news more before_it
-    ]
-
--- how many candidates came
-pub number_is : (recursive : Bool) (bodies : List Body) (inputs : List (Bor Column)) (bases : List Known) (olds : List Column) (k : ℕ) → AreColumnsOver recursive bodies inputs bases olds → (0 < length olds → (c : Column) → k ≡ column_len (get_or olds 0 c)) → 0 < length bodies → k ≡ length bases
-number_is recursive bodies inputs bases olds k before count_is is =
-    let there : 0 < length olds = rw before.as_many is in
-    let c = one_of olds 0 there in
-    count_is there c ∙ before.long 0 is c
+    now = values_again base inputs (length ends.0) (length bases) same recursive bodies olds news more before_it
 
 -- the inputs of the candidates behind the next one, where those of the next one are known
 pub steady_more : (x y : Bor (List (Bor Column))) → x ≡ y → (n m k steady until : ℕ) → k ≡ n → m ≡ n + 1 → (IsSteady x.now k steady → IsSteady x.now (k + 1) until) → IsSteady y.now n steady → IsSteady y.now m until
@@ -182,15 +159,14 @@ steady_more x y e n m k steady until is more step h =
     let there : IsSteady x.now m until = subst (λ (z : ℕ). IsSteady x.now z until) (ap (λ (z : ℕ). z + 1) is ∙ sym more) next in
     subst (λ (z : Bor (List (Bor Column))). IsSteady z.now m until) e there
 
-pub group_steady : (x y : Bor (List (Bor Column))) (b d : Bor (List Body)) → x ≡ y → b ≡ d → (bases : List Known) (base : Known) (k steady until new : ℕ) → (0 < length b.now → k ≡ length bases) → new ≡ until
-    → (IsSteady x.now k steady → IsSteady x.now (k + 1) until) → (0 < length d.now → IsSteady y.now (length bases) steady) → 0 < length d.now → IsSteady y.now (length (bases ++ base ∷ [])) new
-group_steady x y b d e f bases base k steady until new count is step held some =
-    let there : 0 < length b.now = subst (λ (z : Bor (List Body)). 0 < length z.now) (sym f) some in
-    let next : IsSteady y.now (length (bases ++ base ∷ [])) until = steady_more x y e (length bases) (length (bases ++ base ∷ [])) k steady until (count there) (length-append bases (base ∷ [])) step (held some) in
+pub group_steady : (x y : Bor (List (Bor Column))) → x ≡ y → (bases : List Known) (base : Known) (k steady until new : ℕ) → k ≡ length bases → new ≡ until
+    → (IsSteady x.now k steady → IsSteady x.now (k + 1) until) → IsSteady y.now (length bases) steady → IsSteady y.now (length (bases ++ base ∷ [])) new
+group_steady x y e bases base k steady until new number is step held =
+    let next : IsSteady y.now (length (bases ++ base ∷ [])) until = steady_more x y e (length bases) (length (bases ++ base ∷ [])) k steady until number (length-append bases (base ∷ [])) step held in
     subst (λ (z : ℕ). IsSteady y.now (length (bases ++ base ∷ [])) z) (sym is) next
 
-pub steady_moved : (x y : Bor (List (Bor Column))) (b d : Bor (List Body)) → x ≡ y → b ≡ d → (n steady : ℕ) → (0 < length b.now → IsSteady x.now n steady) → 0 < length d.now → IsSteady y.now n steady
-steady_moved x y b d e f n steady h some = subst (λ (z : Bor (List (Bor Column))). IsSteady z.now n steady) e (h (subst (λ (z : Bor (List Body)). 0 < length z.now) (sym f) some))
+pub steady_moved : (x y : Bor (List (Bor Column))) → x ≡ y → (n steady : ℕ) → IsSteady x.now n steady → IsSteady y.now n steady
+steady_moved x y e n steady h = subst (λ (z : Bor (List (Bor Column))). IsSteady z.now n steady) e h
 
 -- two candidates with the value of a third have the same
 pub same_from : (c : Column) (i j k : ℕ) → HasSame c i j → HasSame c i k → HasSame c j k

@@ -22,4 +22,5 @@ pub mod Steady
 pub mod Tables
 pub mod Uses
 pub mod Values
+pub mod Wanted
 pub mod Worlds

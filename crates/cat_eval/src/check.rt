@@ -102,8 +102,13 @@ impl CheckRun<'_> {
 impl Visit for CheckRun<'_> {
     ghost has_taken = { λ first bases run. (run.check ≡ first.check) × (run.inputs ≡ first.inputs) × (run.kept ≡ first.kept) × AreAskedOver first.check.now first.inputs.now first.kept bases run.answers.items × IsLastAnswer first.check.now first.inputs.now bases run.known × IsSteady first.inputs.now (length run.answers.items) run.steady };
 
-    fn visit(&mut self, machine: &mut Machine, base: &Seen, again: bool) -> Result<(), AllocError> {
-        let candidate = self.answers.len();
+    fn visit(
+        &mut self,
+        machine: &mut Machine,
+        base: &Seen,
+        candidate: usize,
+        again: bool,
+    ) -> Result<(), AllocError> {
         let same = is_as_before(again, candidate, self.steady);
         let asked = is_asked_at(self.kept, candidate);
         self.known = self.known_in(machine, base, candidate, same, asked)?;

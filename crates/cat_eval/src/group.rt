@@ -5,7 +5,7 @@ ghost use Rattle.bit_relations.specs.Relation.{Relation, Events, no_slot};
 ghost use Rattle.binding_graph.specs.Trees.{RelTree};
 ghost use Rattle.cat_eval.specs.Candidates.{name_count};
 ghost use Rattle.cat_eval.specs.Columns.{ColumnsOf, HasOwn};
-ghost use Rattle.cat_eval.specs.OverNames.{AreColumnsOver, IsMeaningOver};
+ghost use Rattle.cat_eval.specs.OverNames.{IsMeaningOver};
 ghost use Rattle.cat_eval.specs.Least.{IsLeast, AreMonotone};
 ghost use Rattle.cat_eval.specs.Named.{EventsIn, PairsOutside};
 ghost use Rattle.cat_eval.specs.Rising.{AreCodes};
@@ -13,8 +13,9 @@ ghost use Rattle.cat_eval.specs.Runs.{IsBodyColumn};
 ghost use Rattle.cat_eval.specs.Seen.{seen_in};
 ghost use Rattle.cat_eval.specs.Tables.{IsOver};
 ghost use Rattle.candidates.specs.Space.{candidates_in};
-ghost use Rattle.cat_eval.specs.Steady.{IsSteady, Repeats};
-ghost use Rattle.cat_eval.specs.Values.{Adds, IsFor, column_len};
+ghost use Rattle.cat_eval.specs.Steady.{IsSteady};
+ghost use Rattle.cat_eval.specs.Values.{IsFor, column_len};
+ghost use Rattle.cat_eval.specs.Wanted.{is_wanted, AreWantedOver, IsWantedColumn, WantedColumnsOf, AddsIf, RepeatsIf};
 
 use crate::body_run::BodyRun;
 use crate::column::Column;
@@ -38,74 +39,78 @@ struct GroupRun<'a> {
     bodies: &'a [Body],
     inputs: &'a [&'a Column],
     recursive: bool,
+    /// Which names are wanted.
+    wanted: &'a [bool],
     solver: Solver,
     columns: Vec<Column>,
     /// Up to where the candidates have the inputs of the last one.
     steady: usize,
 }
 
-/// Adds a value to one of the columns: what is of its kind.
+/// Whether the name at a position is wanted: a name without an entry is.
+fn is_wanted(wanted: &[bool], position: usize) -> bool
+    ensures { result ≡ is_wanted wanted.now position }
+{
+    wanted.get(position).copied().unwrap_or(true)
+}
+
+/// Adds a value to the column of a name that is wanted: what is of its kind.
 fn put(
     columns: &mut Vec<Column>,
+    wanted: &[bool],
     position: usize,
     set: &EventSet,
     relation: &Rel,
 ) -> Result<(), AllocError>
     ensures long { length columns.new.items ≡ length columns.old.items }
     ensures others { (j : ℕ) → (j ≡ position → ⊥) → (c : Column) → slice_index_or columns.new.items j c ≡ slice_index_or columns.old.items j c }
-    ensures added { OnOk result (position < length columns.old.items → (c : Column) → Adds (slice_index_or columns.old.items position c) (slice_index_or columns.new.items position c) set.now relation.now) }
+    ensures added { OnOk result (position < length columns.old.items → (c : Column) → AddsIf (is_wanted wanted.now position) (slice_index_or columns.old.items position c) (slice_index_or columns.new.items position c) set.now relation.now) }
 {
-    if position < columns.len() {
+    if position < columns.len() && is_wanted(wanted, position) {
         columns[position].push(set, relation)?;
     }
     Ok(())
 }
 
-/// Adds to each column its relation.
-fn put_all(columns: &mut Vec<Column>, values: &[Rel], count: usize) -> Result<(), AllocError>
+/// Adds to each column of a name that is wanted its relation.
+fn put_all(
+    columns: &mut Vec<Column>,
+    wanted: &[bool],
+    values: &[Rel],
+    count: usize,
+) -> Result<(), AllocError>
     requires { count ≤ 128 }
     ensures long { length columns.new.items ≡ length columns.old.items }
-    ensures added { OnOk result ((j : ℕ) → j < length values.now → j < length columns.old.items → (c : Column) → (s : Events) × Adds (slice_index_or columns.old.items j c) (slice_index_or columns.new.items j c) s (slice_index_or values.now j no_slot)) }
+    ensures added { OnOk result ((j : ℕ) → j < length values.now → j < length columns.old.items → (c : Column) → (s : Events) × AddsIf (is_wanted wanted.now j) (slice_index_or columns.old.items j c) (slice_index_or columns.new.items j c) s (slice_index_or values.now j no_slot)) }
 {
     let none = EventSet::empty(count);
     for position in 0..values.len() {
-        put(columns, position, &none, &values[position])?;
+        put(columns, wanted, position, &none, &values[position])?;
     }
     Ok(())
 }
 
-/// Gives the next candidate the last value of one of the columns too.
-fn repeat(columns: &mut Vec<Column>, position: usize) -> Result<(), AllocError>
+/// Gives the next candidate the last value of the column of a name that is wanted.
+fn repeat(columns: &mut Vec<Column>, wanted: &[bool], position: usize) -> Result<(), AllocError>
     ensures long { length columns.new.items ≡ length columns.old.items }
     ensures others { (j : ℕ) → (j ≡ position → ⊥) → (c : Column) → slice_index_or columns.new.items j c ≡ slice_index_or columns.old.items j c }
-    ensures repeated { OnOk result (position < length columns.old.items → (c : Column) → Repeats (slice_index_or columns.old.items position c) (slice_index_or columns.new.items position c)) }
+    ensures repeated { OnOk result (position < length columns.old.items → (c : Column) → RepeatsIf (is_wanted wanted.now position) (slice_index_or columns.old.items position c) (slice_index_or columns.new.items position c)) }
 {
-    if position < columns.len() {
+    if position < columns.len() && is_wanted(wanted, position) {
         columns[position].push_last()?;
     }
     Ok(())
 }
 
-/// Gives the next candidate the last value of each column too.
-fn repeat_all(columns: &mut Vec<Column>) -> Result<(), AllocError>
+/// Gives the next candidate the last value of each column of a name that is wanted.
+fn repeat_all(columns: &mut Vec<Column>, wanted: &[bool]) -> Result<(), AllocError>
     ensures long { length columns.new.items ≡ length columns.old.items }
-    ensures repeated { OnOk result ((j : ℕ) → j < length columns.old.items → (c : Column) → Repeats (slice_index_or columns.old.items j c) (slice_index_or columns.new.items j c)) }
+    ensures repeated { OnOk result ((j : ℕ) → j < length columns.old.items → (c : Column) → RepeatsIf (is_wanted wanted.now j) (slice_index_or columns.old.items j c) (slice_index_or columns.new.items j c)) }
 {
     for position in 0..columns.len() {
-        repeat(columns, position)?;
+        repeat(columns, wanted, position)?;
     }
     Ok(())
-}
-
-/// How many candidates the columns have values for.
-fn candidate_count(columns: &[Column]) -> usize
-    ensures { 0 < length columns.now → (c : Column) → result ≡ column_len (slice_index_or columns.now 0 c) }
-{
-    if columns.len() > 0 {
-        columns[0].len()
-    } else {
-        0
-    }
 }
 
 impl GroupRun<'_> {
@@ -118,17 +123,24 @@ impl GroupRun<'_> {
         position: usize,
     ) -> Result<(), AllocError>
         requires { position < length self.old.bodies.now }
-        ensures fixed { (self.new.bodies ≡ self.old.bodies) × (self.new.inputs ≡ self.old.inputs) × (self.new.recursive ≡ self.old.recursive) × (self.new.solver.own ≡ self.old.solver.own) × (self.new.steady ≡ self.old.steady) }
+        ensures fixed { (self.new.bodies ≡ self.old.bodies) × (self.new.inputs ≡ self.old.inputs) × (self.new.recursive ≡ self.old.recursive) × (self.new.solver.own ≡ self.old.solver.own) × (self.new.steady ≡ self.old.steady) × (self.new.wanted ≡ self.old.wanted) }
         ensures long { length self.new.columns.items ≡ length self.old.columns.items }
         ensures others { (j : ℕ) → (j ≡ position → ⊥) → (c : Column) → slice_index_or self.new.columns.items j c ≡ slice_index_or self.old.columns.items j c }
-        ensures added { OnOk result (self.old.solver.own.items ≡ [] → position < length self.old.columns.items → (c : Column) (b : Body) → (s : Events) × (r : Relation) × Adds (slice_index_or self.old.columns.items position c) (slice_index_or self.new.columns.items position c) s r × IsMeaningOver (slice_index_or self.old.bodies.now position b).code.kind (slice_index_or self.old.bodies.now position b).code.steps.items self.old.inputs.now base.now candidate s r) }
+        ensures added { OnOk result (self.old.solver.own.items ≡ [] → position < length self.old.columns.items → (c : Column) → (s : Events) × (r : Relation) × AddsIf (is_wanted self.old.wanted.now position) (slice_index_or self.old.columns.items position c) (slice_index_or self.new.columns.items position c) s r × ((b : Body) → IsMeaningOver (slice_index_or self.old.bodies.now position b).code.kind (slice_index_or self.old.bodies.now position b).code.steps.items self.old.inputs.now base.now candidate s r)) }
     {
         let bodies = self.bodies;
         let inputs = self.inputs;
+        let wanted = self.wanted;
         self.solver
             .evaluate(machine, &bodies[position], base, inputs, candidate)?;
         let set = machine.set(base.count());
-        put(&mut self.columns, position, &set, machine.relation())?;
+        put(
+            &mut self.columns,
+            wanted,
+            position,
+            &set,
+            machine.relation(),
+        )?;
         Ok(())
     }
 
@@ -139,9 +151,9 @@ impl GroupRun<'_> {
         base: &Seen,
         candidate: usize,
     ) -> Result<(), AllocError>
-        ensures fixed { (self.new.bodies ≡ self.old.bodies) × (self.new.inputs ≡ self.old.inputs) × (self.new.recursive ≡ self.old.recursive) × (self.new.solver.own ≡ self.old.solver.own) × (self.new.steady ≡ self.old.steady) }
+        ensures fixed { (self.new.bodies ≡ self.old.bodies) × (self.new.inputs ≡ self.old.inputs) × (self.new.recursive ≡ self.old.recursive) × (self.new.solver.own ≡ self.old.solver.own) × (self.new.steady ≡ self.old.steady) × (self.new.wanted ≡ self.old.wanted) }
         ensures long { length self.new.columns.items ≡ length self.old.columns.items }
-        ensures added { OnOk result (self.old.solver.own.items ≡ [] → (j : ℕ) → j < length self.old.bodies.now → j < length self.old.columns.items → (c : Column) (b : Body) → (s : Events) × (r : Relation) × Adds (slice_index_or self.old.columns.items j c) (slice_index_or self.new.columns.items j c) s r × IsMeaningOver (slice_index_or self.old.bodies.now j b).code.kind (slice_index_or self.old.bodies.now j b).code.steps.items self.old.inputs.now base.now candidate s r) }
+        ensures added { OnOk result (self.old.solver.own.items ≡ [] → (j : ℕ) → j < length self.old.bodies.now → j < length self.old.columns.items → (c : Column) → (s : Events) × (r : Relation) × AddsIf (is_wanted self.old.wanted.now j) (slice_index_or self.old.columns.items j c) (slice_index_or self.new.columns.items j c) s r × ((b : Body) → IsMeaningOver (slice_index_or self.old.bodies.now j b).code.kind (slice_index_or self.old.bodies.now j b).code.steps.items self.old.inputs.now base.now candidate s r)) }
     {
         for position in 0..self.bodies.len() {
             self.evaluate_one(machine, base, candidate, position)?;
@@ -156,27 +168,39 @@ impl GroupRun<'_> {
         base: &Seen,
         candidate: usize,
     ) -> Result<(), AllocError>
-        ensures fixed { (self.new.bodies ≡ self.old.bodies) × (self.new.inputs ≡ self.old.inputs) × (self.new.recursive ≡ self.old.recursive) × (length self.new.solver.own.items ≡ length self.old.solver.own.items) × (self.new.steady ≡ self.old.steady) }
+        ensures fixed { (self.new.bodies ≡ self.old.bodies) × (self.new.inputs ≡ self.old.inputs) × (self.new.recursive ≡ self.old.recursive) × (length self.new.solver.own.items ≡ length self.old.solver.own.items) × (self.new.steady ≡ self.old.steady) × (self.new.wanted ≡ self.old.wanted) }
         ensures long { length self.new.columns.items ≡ length self.old.columns.items }
-        ensures added { OnOk result ((j : ℕ) → j < length self.old.solver.own.items → j < length self.old.columns.items → (c : Column) → (s : Events) × Adds (slice_index_or self.old.columns.items j c) (slice_index_or self.new.columns.items j c) s (slice_index_or self.new.solver.own.items j no_slot)) }
+        ensures added { OnOk result ((j : ℕ) → j < length self.old.solver.own.items → j < length self.old.columns.items → (c : Column) → (s : Events) × AddsIf (is_wanted self.old.wanted.now j) (slice_index_or self.old.columns.items j c) (slice_index_or self.new.columns.items j c) s (slice_index_or self.new.solver.own.items j no_slot)) }
         ensures least { OnOk result (length self.old.solver.own.items ≡ length self.old.bodies.now → (trees : List RelTree) → AreCodes trees self.old.bodies.now → AreMonotone trees → IsLeast base.now.count (EventsIn base.now self.old.inputs.now candidate) (PairsOutside base.now self.old.inputs.now candidate) trees self.new.solver.own.items) }
     {
         self.solver
             .solve(machine, self.bodies, base, self.inputs, candidate)?;
-        put_all(&mut self.columns, self.solver.values(), base.count())?;
+        let wanted = self.wanted;
+        put_all(
+            &mut self.columns,
+            wanted,
+            self.solver.values(),
+            base.count(),
+        )?;
         Ok(())
     }
 }
 
 impl Visit for GroupRun<'_> {
-    ghost has_taken = { λ first bases run. (run.bodies ≡ first.bodies) × (run.inputs ≡ first.inputs) × (run.recursive ≡ first.recursive) × HasOwn first.recursive first.bodies.now run.solver.own.items × AreColumnsOver first.recursive first.bodies.now first.inputs.now bases run.columns.items × (0 < length first.bodies.now → IsSteady first.inputs.now (length bases) run.steady) };
+    ghost has_taken = { λ first bases run. (run.bodies ≡ first.bodies) × (run.inputs ≡ first.inputs) × (run.recursive ≡ first.recursive) × (run.wanted ≡ first.wanted) × HasOwn first.recursive first.bodies.now run.solver.own.items × AreWantedOver first.wanted.now first.recursive first.bodies.now first.inputs.now bases run.columns.items × IsSteady first.inputs.now (length bases) run.steady };
 
-    fn visit(&mut self, machine: &mut Machine, base: &Seen, again: bool) -> Result<(), AllocError> {
-        let candidate = candidate_count(&self.columns);
+    fn visit(
+        &mut self,
+        machine: &mut Machine,
+        base: &Seen,
+        candidate: usize,
+        again: bool,
+    ) -> Result<(), AllocError> {
         let same = is_as_before(again, candidate, self.steady);
         self.steady = steady_after(self.inputs, self.steady, candidate);
         if same {
-            repeat_all(&mut self.columns)?;
+            let wanted = self.wanted;
+            repeat_all(&mut self.columns, wanted)?;
             return Ok(());
         }
         if self.recursive {
@@ -256,40 +280,65 @@ fn body_column<'a>(
     Ok(column)
 }
 
-/// The values of bodies, which use no name of their own group.
+/// The values of a body where they are wanted.
+fn wanted_column(
+    alloc: Global,
+    body: &Body,
+    is_wanted: bool,
+    inputs: &[&Column],
+    named: &[NamedColumn],
+    space: &Space,
+    slots: &mut Vec<Rel>,
+) -> Result<Column, AllocError>
+    ensures { IfOk result (λ c. IsWantedColumn is_wanted body.now inputs.now (seen_in named.now 0 (candidates_in space.now.combinations.items)) c) }
+{
+    let column = body_column(alloc, body, inputs, named, space, slots)?;
+    if is_wanted {
+        Ok(column)
+    } else {
+        Ok(column_for(alloc, body.code.kind))
+    }
+}
+
+/// The values of bodies that are wanted, which use no name of their own group.
 fn plain_columns(
     alloc: Global,
     bodies: &[Body],
+    wanted: &[bool],
     inputs: &[&Column],
     named: &[NamedColumn],
     space: &Space,
     slots: &mut Vec<Rel>,
 ) -> Result<Vec<Column>, AllocError>
-    ensures { IfOk result (λ v. AreColumnsOver false bodies.now inputs.now (seen_in named.now 0 (candidates_in space.now.combinations.items)) v.items) }
+    ensures { IfOk result (λ v. AreWantedOver wanted.now false bodies.now inputs.now (seen_in named.now 0 (candidates_in space.now.combinations.items)) v.items) }
 {
     let mut columns = Vec::with_capacity(alloc, bodies.len())?;
     for body in bodies {
-        columns.push(body_column(alloc, body, inputs, named, space, slots)?)?;
+        let here = is_wanted(wanted, columns.len());
+        let column = wanted_column(alloc, body, here, inputs, named, space, slots)?;
+        columns.push(column)?;
     }
     Ok(columns)
 }
 
-/// The values of bodies that are evaluated in each candidate by itself.
+/// The values of bodies that are wanted, evaluated in each candidate by itself.
 fn visited_columns(
     alloc: Global,
     is_recursive: bool,
     bodies: &[Body],
+    wanted: &[bool],
     inputs: &[&Column],
     named: &[NamedColumn],
     space: &Space,
     machine: &mut Machine,
 ) -> Result<Vec<Column>, AllocError>
-    ensures { IfOk result (λ v. AreColumnsOver is_recursive bodies.now inputs.now (seen_in named.now 0 (candidates_in space.now.combinations.items)) v.items) }
+    ensures { IfOk result (λ v. AreWantedOver wanted.now is_recursive bodies.now inputs.now (seen_in named.now 0 (candidates_in space.now.combinations.items)) v.items) }
 {
     let mut run = GroupRun {
         bodies,
         inputs,
         recursive: is_recursive,
+        wanted,
         solver: solver_of(alloc, is_recursive, bodies)?,
         columns: columns_of(alloc, bodies)?,
         steady: 0,
@@ -328,6 +377,23 @@ impl Evaluator {
         ensures values { IfOk result (λ v. ColumnsOf item.now.role inputs.now space.now v.items) }
         ensures long { IfOk result (λ v. length v.items ≡ name_count item.now.role) }
     {
+        self.group_wanted(alloc, item, &[], space, inputs)
+    }
+
+    /// As `group`, with the values of those names alone that are wanted: of each other name the column has no value, and
+    /// takes no memory. A name without an entry is wanted.
+    pub fn group_wanted(
+        &mut self,
+        alloc: Global,
+        item: &ResolvedItem,
+        wanted: &[bool],
+        space: &Space,
+        inputs: &[&Column],
+    ) -> Result<Vec<Column>, AllocError>
+        requires { IsOver self.old space.now }
+        ensures over { IsOver self.new space.now }
+        ensures values { IfOk result (λ v. WantedColumnsOf wanted.now item.now.role inputs.now space.now v.items) }
+    {
         match &item.role {
             Role::Group { recursive, bodies } => {
                 self.need_names(alloc, item, space)?;
@@ -336,10 +402,14 @@ impl Evaluator {
                 self.table.list(&self.needs.names, &mut named)?;
                 let named = named.as_slice();
                 if keeps_steps(*recursive, space) {
-                    return plain_columns(alloc, bodies, inputs, named, space, &mut self.slots);
+                    let slots = &mut self.slots;
+                    return plain_columns(alloc, bodies, wanted, inputs, named, space, slots);
                 }
                 let machine = &mut self.machine;
-                visited_columns(alloc, *recursive, bodies, inputs, named, space, machine)
+                let recursive = *recursive;
+                visited_columns(
+                    alloc, recursive, bodies, wanted, inputs, named, space, machine,
+                )
             }
             Role::Check(_) | Role::Silent => Ok(Vec::new(alloc)),
         }

@@ -18,9 +18,16 @@ pub(crate) trait Visit {
     /// another.
     ghost has_taken: { Self → List Known → Self → Type 0 };
 
-    /// Takes the next candidate, of which the predefined names are given, and whether they are those of the one before.
-    fn visit(&mut self, machine: &mut Machine, base: &Seen, again: bool) -> Result<(), AllocError>
-        ensures { (first : _) (bases : List Known) → (IsTrue again → EndsWith bases base.now) → has_taken first bases self.old → OnOk result (has_taken first (bases ++ base.now ∷ []) self.new) };
+    /// Takes the next candidate, of which the predefined names are given, its number, and whether the names are those of
+    /// the one before.
+    fn visit(
+        &mut self,
+        machine: &mut Machine,
+        base: &Seen,
+        candidate: usize,
+        again: bool,
+    ) -> Result<(), AllocError>
+        ensures { (first : _) (bases : List Known) → candidate ≡ length bases → (IsTrue again → EndsWith bases base.now) → has_taken first bases self.old → OnOk result (has_taken first (bases ++ base.now ∷ []) self.new) };
 }
 
 /// How far the candidates were visited.
@@ -63,7 +70,7 @@ fn visit_next<V: Visit>(
     let again = is_as_before(same, candidate, place.steady);
     let steady = named_after(named, place.steady, candidate);
     let seen = Seen::new(named, candidate, count);
-    visitor.visit(machine, &seen, again)?;
+    visitor.visit(machine, &seen, candidate, again)?;
     *place = Place {
         candidate: next,
         steady,

@@ -1,11 +1,7 @@
-use Rattle.std.proofs.Common.{◌≡◌, length}
 use Rattle.candidates.specs.Space.{candidates_in}
 use Rattle.cat_eval.specs.Seen.{seen_in}
-use Rattle.cat_eval.proofs.Bodies.{AreBodyColumns}
+use Rattle.cat_eval.proofs.Wanting.{AreBodiesShown}
 use Rattle.cat_eval.proofs.group.plain_columns.Given as goal
 
 abbrev pub invariant-loop-body : goal.invariant-loop-body
-invariant-loop-body l = record {
-  long : length l.columns.items ≡ l.body-index;
-  each : AreBodyColumns l.bodies l.inputs (seen_in l.named 0 (candidates_in l.space.combinations.items)) l.columns.items l.body-index;
-}
+invariant-loop-body l = AreBodiesShown l.wanted l.bodies l.inputs (seen_in l.named 0 (candidates_in l.space.combinations.items)) l.body-index l.columns.items

@@ -1,4 +1,4 @@
-use Rattle.std.proofs.Common.{◌≡◌, ◌++◌, ◌∷◌, ◌∙◌, [], List, Bool, length, length-append, inl, inr, sym, ap, subst, arith}
+use Rattle.std.proofs.Common.{◌≡◌, ◌++◌, ◌∷◌, ◌∙◌, [], List, Bool, length, length-append, inl, inr, sym, ap, subst}
 use Rattle.std.specs.Prelude.{Some}
 use denote.Ref.{Bor}
 use Rattle.cat_eval.specs.declared.column.Column.{Column}
@@ -10,19 +10,18 @@ use Rattle.cat_eval.proofs.Repeating.{steady_more}
 use Rattle.cat_eval.proofs.check.CheckRunVisit.visit.Goals as goal
 
 pub returns : goal.returns
-returns c = λ first bases ends given.
+returns c = λ first bases many ends given.
     let run = c.args.self.now in
     let base = c.args.base.now in
     let check = run.check.now in
     let inputs = run.inputs.now in
     let answers = run.answers.items in
-    let n = c.len-candidate.result in
+    let n = c.args.candidate in
     let known = c.in_ok-self.field-0 in
     let before : AreAskedOver check inputs run.kept bases answers = asked_moved first.check run.check first.inputs run.inputs (sym given.0) (sym given.1) bases first.kept run.kept (sym given.2) answers given.3 in
     let last : IsLastAnswer check inputs bases run.known = last_moved first.check run.check first.inputs run.inputs (sym given.0) (sym given.1) bases run.known given.4 in
     let still : IsSteady inputs (length answers) run.steady = subst (λ (x : Bor (List (Bor Column))). IsSteady x.now (length answers) run.steady) (sym given.1) given.5 in
-    let long : n ≡ length answers = omega (arith, c.len-candidate.ensures, run.answers.ok.0) in
-    let many : n ≡ length bases = long ∙ before.2.long ∙ before.1.0 in
+    let long : n ≡ length answers = many ∙ sym (before.2.long ∙ before.1.0) in
     let held : IsSteady inputs n run.steady = subst (λ m. IsSteady inputs m run.steady) (sym long) still in
     let right : (a : Bool) → known ≡ Some a → IsAnswerOver check inputs base n check.code.kind a = λ a e.
     elim (c.in_ok-self.ensures.right a e) [
