@@ -1,24 +1,28 @@
 -- Columns that no later item uses are let go.
-use Rattle.std.proofs.Common.{ℕ, ◌≡◌, ◌+◌, ◌<◌, ◌≤◌, ◌⊎◌, inl, inr, zero, suc, List, [], ◌∷◌, length, take, get_or, set, Option, Some, None, Vec, Global, vec_len, slice_get, Contains, AllPairs, Bool, reverse, refl, sym, ap, ◌∙◌, subst, arith}
-use Rattle.std.proofs.lemmas.List.{take_more, get_or-take, length-take, get_or-set_same, get_or-set_other}
+use Rattle.std.proofs.Common.{ℕ, ◌≡◌, ◌+◌, ◌<◌, ◌≤◌, ◌⊎◌, inl, inr, zero, suc, true, false, not, IsTrue, List, [], ◌∷◌, ◌++◌, length, take, get_or, set, Option, Some, None, Vec, Global, vec_len, slice_get, Contains, AllPairs, Bool, reverse, refl, sym, ap, ◌∙◌, subst, arith}
+use Rattle.std.proofs.lemmas.List.{take_more, get_or-take, get_or_past, length-set, length-take, get_or-set_same, get_or-set_other}
 use Rattle.std.proofs.lemmas.List.Elements.{Contains-append_cases}
 use Rattle.std.proofs.lemmas.Option.{none-some, slice_get_within, slice_get_past, slice_get-get_or, get_or_from_slice_get}
 use Rattle.std.proofs.lemmas.Bool.{cases_order, cases_lt}
 use Rattle.std.specs.List.{filter_map, cons_option}
 use Rattle.std.specs.Vec.{with_item}
 use Rattle.binding_kinds.specs.declared.scope.Input.{Input}
+use denote.Ref.{Bor}
 use Rattle.binding_graph.specs.declared.resolved.ResolvedItem.{ResolvedItem}
+use Rattle.binding_graph.specs.declared.resolved.Role.{Role}
+use Rattle.binding_graph.specs.declared.resolved.Role.TheVariants as roles
 use Rattle.binding_graph.specs.Reach.{AreReached}
 use Rattle.candidates.specs.declared.candidate.Space.{Space}
 use Rattle.cat_eval.specs.declared.column.Column.{Column}
 use Rattle.cat_eval.specs.Columns.{ColumnsOf}
 use Rattle.cat_eval.specs.Values.{AnswersOf}
+use Rattle.cat_eval.specs.Wanted.{is_wanted, AreShown, WantedColumnsOf}
 use Rattle.verdict.specs.Kept.{Flag}
 use Rattle.memo_graph.specs.declared.cell.ItemAnswers.{ItemAnswers}
 use Rattle.memo_graph.specs.declared.keeping.LastUsers.{LastUsers}
 use Rattle.memo_graph.specs.Answers.{IsSaidBy, IsValued, AreSound}
-use Rattle.memo_graph.specs.Known.{column_in, column_of, kept_of, flags_of, HasAllColumns, AreKeptIn, AreJudged, IsAnswered, AreKnownTo}
-use Rattle.memo_graph.specs.Keeping.{last_user, IsBelow, IsGone, KeepsAll, Notes, HasInput, AreLast, LetsGo, AreAlike, AreKeptTo}
+use Rattle.memo_graph.specs.Known.{column_in, column_of, AreFound, kept_of, flags_of, HasAllColumns, AreKeptIn, AreJudged, IsAnswered, AreKnownTo}
+use Rattle.memo_graph.specs.Keeping.{last_user, IsBelow, IsGone, KeepsAll, Notes, HasInput, AreLast, LetsGo, AreEnough, IsLeftOut, IsAnsweredBut, IsGroup, AreAlike, AreKeptTo}
 use Rattle.memo_graph.proofs.Knowing.{item_at, same_at, known_next, known_end, columns_end}
 
 -- ---- lists with one element changed
@@ -213,6 +217,116 @@ whole_next last n at space r whole old new lt alike needed given = (with_columns
       kept = refl;
       flags = refl;
     }
+
+-- ---- names that are wanted
+
+pub enough_none : (last : LastUsers) (at : ℕ) → AreEnough last at []
+enough_none last at position left = absurd cc
+
+left_more : (P : ℕ → Type 0) (ws : List Bool) (w : Bool) → ((j : ℕ) → is_wanted ws j ≡ false → P j) → (w ≡ false → P (length ws)) → (j : ℕ) → is_wanted (ws ++ w ∷ []) j ≡ false → P j
+left_more P [] w before now zero left = now left
+left_more P [] w before now (suc j) left = absurd cc
+left_more P (x ∷ ws) w before now zero left = before 0 left
+left_more P (x ∷ ws) w before now (suc j) left = left_more (λ k. P (suc k)) ws w (λ k e. before (suc k) e) now j left
+
+is_not : (b : Bool) → not b ≡ false → b ≡ true
+is_not true e = refl
+is_not false e = absurd cc
+
+pub enough_more : (last : LastUsers) (at position : ℕ) (ws : List Bool) (gone : Bool) → length ws ≡ position → AreEnough last at ws → (IsTrue gone → IsGone last (at + 1) (record { item = at; position = position })) → AreEnough last at (ws ++ not gone ∷ [])
+enough_more last at position ws gone long before now =
+    left_more (λ j. IsGone last (at + 1) (record { item = at; position = j })) ws (not gone) before
+    (λ e. subst (λ j. IsGone last (at + 1) (record { item = at; position = j })) (sym long) (now (is_not gone e)))
+
+-- ---- what an item gives, but for some columns
+
+pub answered_whole : (P : Input → Type 0) (space : Space) (at : ℕ) (r : ResolvedItem) (old new : ItemAnswers) → IsAnswered space at r old new → IsAnsweredBut P space at r old new
+answered_whole P space at r old new given = (new, given, lets_none P new.columns, refl, refl)
+
+pub answered_less : (last : LastUsers) (wanted : List Bool) (space : Space) (at : ℕ) (r : ResolvedItem) (old answered new : ItemAnswers) → AreEnough last at wanted → IsAnsweredBut (IsLeftOut wanted at) space at r old answered → LetsGo (IsGone last (at + 1)) answered.columns new.columns → kept_of new ≡ kept_of answered → flags_of new ≡ flags_of answered → IsAnsweredBut (IsGone last (at + 1)) space at r old new
+answered_less last wanted space at r old answered new enough before gone kept flags =
+    let (whole, given, lets, was_kept, had_flags) = before in (
+      whole,
+      given,
+      lets_more (IsGone last (at + 1)) whole.columns answered.columns new.columns (lets_weaker (IsLeftOut wanted at) (IsGone last (at + 1)) whole.columns answered.columns (λ name out. subst (λ i. IsGone last (at + 1) (record { item = i; position = name.position })) (sym out.0) (enough name.position out.1)) lets) gone,
+      kept ∙ was_kept,
+      flags ∙ had_flags,
+    )
+
+-- a vector of these columns, which are as many as it has
+abbrev with_list : (v : Vec Column Global) (cs : List Column) → length v.items ≡ length cs → Vec Column Global
+with_list v cs same = record { ptr = v.ptr; len = v.len; cap = v.cap; alloc = v.alloc; items = cs; ok = (v.ok.0 ∙ same, v.ok.1); small = v.small }
+
+module _ (wanted : List Bool) (at : ℕ) (old new : Vec (Vec Column Global) Global) (found all : Vec Column Global) (shown : AreShown wanted all.items found.items) (count : vec_len new ≡ vec_len old) (others : (j : ℕ) → (j ≡ at → ⊥) → (d : Vec Column Global) → get_or new.items j d ≡ get_or old.items j d) (here : at < vec_len old → (d : Vec Column Global) → get_or new.items at d ≡ found) where
+  long_at : (j : ℕ) (d : Vec Column Global) → (j ≡ at) ⊎ (j ≡ at → ⊥) → (j < length old.items) ⊎ (length old.items ≤ j) → length (get_or new.items j d).items ≡ length (get_or (set old.items at all) j d).items
+  long_at j d (inr away) by = ap (λ (v : Vec Column Global). length v.items) (others j away d ∙ sym (get_or-set_other old.items at j all d away))
+  long_at j d (inl e) (inl lt) =
+      let inside : at < length old.items = omega (arith, lt, e) in
+      rw e (ap (λ (v : Vec Column Global). length v.items) (here (omega (arith, inside)) d) ∙ shown.long ∙ ap (λ (v : Vec Column Global). length v.items) (sym (get_or-set_same old.items at all d inside)))
+  long_at j d (inl e) (inr past) =
+      ap (λ (v : Vec Column Global). length v.items) (get_or_past new.items j d (omega (arith, past, count)) ∙ sym (get_or_past (set old.items at all) j d (omega (arith, past, length-set old.items at all))))
+
+  wanted_or_not : (position : ℕ) (b : Bool) → is_wanted wanted position ≡ b → (is_wanted wanted position ≡ false → ⊥) → is_wanted wanted position ≡ true
+  wanted_or_not position true e stays = e
+  wanted_or_not position false e stays = absurd (stays e)
+
+  column_at : (name : Input) → (IsLeftOut wanted at name → ⊥) → (name.item ≡ at) ⊎ (name.item ≡ at → ⊥) → (name.item < length old.items) ⊎ (length old.items ≤ name.item) → column_of new.items name ≡ column_of (set old.items at all) name
+  column_at name stays (inr away) by =
+      ap (λ (o : Option (Vec Column Global)). column_in o name.position)
+      (same_get new.items old.items name.item (omega (arith, count)) (others name.item away) ∙ sym (get_set_other old.items at name.item all away))
+  column_at name stays (inl e) (inr past) =
+      ap (λ (o : Option (Vec Column Global)). column_in o name.position)
+      (slice_get_past new.items name.item (omega (arith, past, count)) ∙ sym (slice_get_past (set old.items at all) name.item (omega (arith, past, length-set old.items at all))))
+  column_at name stays (inl e) (inl lt) =
+      ap (λ (o : Option (Vec Column Global)). column_in o name.position) there ∙ same_column (cases_lt name.position (length found.items)) ∙ ap (λ (o : Option (Vec Column Global)). column_in o name.position) (sym whole)
+    where
+      inside : at < length old.items
+      inside = omega (arith, lt, e)
+
+      there : slice_get new.items name.item ≡ Some found
+      there = ap (λ k. slice_get new.items k) e ∙ slice_get-get_or new.items at found (omega (arith, inside, count)) ∙ ap (λ (v : Vec Column Global). Some v) (here (omega (arith, inside)) found)
+
+      whole : slice_get (set old.items at all) name.item ≡ Some all
+      whole = ap (λ k. slice_get (set old.items at all) k) e ∙ get_set_same old.items at all inside
+
+      is : is_wanted wanted name.position ≡ true
+      is = wanted_or_not name.position (is_wanted wanted name.position) refl (λ out. stays (e, out))
+
+      same_column : (name.position < length found.items) ⊎ (length found.items ≤ name.position) → slice_get found.items name.position ≡ slice_get all.items name.position
+      same_column (inl less) =
+          let c = item_at found.items name.position less in
+          slice_get-get_or found.items name.position c.0 less ∙ ap (λ (x : Column). Some x) (shown.same name.position less is c.0) ∙ sym (slice_get-get_or all.items name.position c.0 (omega (arith, less, shown.long)))
+      same_column (inr more) = slice_get_past found.items name.position more ∙ sym (slice_get_past all.items name.position (omega (arith, more, shown.long)))
+
+  lets_left_out : LetsGo (IsLeftOut wanted at) (with_item old at all) new
+  lets_left_out = record {
+    count = count;
+    long = λ j d. long_at j d (same_or_not j at) (cases_lt j (length old.items));
+    others = λ name stays. column_at name stays (same_or_not name.item at) (cases_lt name.item (length old.items));
+  }
+
+said_group : (role : Role) (Answers : List Bool → Type 0) (Before : List (List Bool) → List Flag → Type 0) (checks : List (List Bool)) (flags : List Flag) → IsGroup role → Before checks flags → IsSaidBy role Answers Before checks flags
+said_group (roles.Group recursive bodies) Answers Before checks flags group before = before
+said_group (roles.Check check) Answers Before checks flags group before = absurd group
+said_group roles.Silent Answers Before checks flags group before = absurd group
+
+answered_all : (space : Space) (at : ℕ) (r : ResolvedItem) (old : ItemAnswers) (inputs : List (Bor Column)) (all : Vec Column Global) → IsGroup r.role → AreFound old.columns.items r.inputs.items inputs → ColumnsOf r.role inputs space all.items → IsAnswered space at r old (with_columns old at all old)
+answered_all space at r old inputs all group known given = record {
+  inputs = inputs;
+  found = known;
+  count = refl;
+  others = λ j other d. get_or-set_other old.columns.items at j all d other;
+  here = λ lt empty d. subst (λ (v : Vec Column Global). ColumnsOf r.role inputs space v.items) (sym (get_or-set_same old.columns.items at all d (omega (arith, lt)))) given;
+  said = λ checks keeps. (checks, keeps, said_group r.role _ _ _ _ group (refl, refl));
+}
+
+pub answered_group : (wanted : List Bool) (space : Space) (at : ℕ) (r : ResolvedItem) (old new : ItemAnswers) (inputs : List (Bor Column)) (found : Vec Column Global) → IsGroup r.role → AreFound old.columns.items r.inputs.items inputs → WantedColumnsOf wanted r.role inputs space found.items
+    → vec_len new.columns ≡ vec_len old.columns → ((j : ℕ) → (j ≡ at → ⊥) → (d : Vec Column Global) → get_or new.columns.items j d ≡ get_or old.columns.items j d) → (at < vec_len old.columns → (d : Vec Column Global) → get_or new.columns.items at d ≡ found)
+    → kept_of new ≡ kept_of old → flags_of new ≡ flags_of old → IsAnsweredBut (IsLeftOut wanted at) space at r old new
+answered_group wanted space at r old new inputs found group known given count others here kept flags =
+    let (cs, columns, shown) = given in
+    let all : Vec Column Global = with_list found cs shown.long in
+    (with_columns old at all old, answered_all space at r old inputs all group known columns, lets_left_out wanted at old.columns new.columns found all shown count others here, kept, flags)
 
 -- ---- along the items that are used
 

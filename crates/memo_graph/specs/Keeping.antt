@@ -1,13 +1,16 @@
 -- How long the columns of names are kept.
-use Rattle.std.specs.Prelude.{◌≡◌, ℕ, ◌+◌, ◌<◌, ◌≤◌, ◌⊎◌, List, length, Option, Some, None, option_map, option_and_then, Vec, vec_len, slice_get, slice_index_or, Contains}
+use Rattle.std.specs.Prelude.{◌≡◌, ℕ, ◌+◌, ◌<◌, ◌≤◌, ◌⊎◌, Bool, false, List, length, Option, Some, None, option_map, option_and_then, Vec, vec_len, slice_get, slice_index_or, Contains}
 use Rattle.std.specs.declared.alloc.Global.{Global}
 use Rattle.binding_kinds.specs.declared.scope.Input.{Input}
 use Rattle.binding_graph.specs.declared.resolved.ResolvedItem.{ResolvedItem}
+use Rattle.binding_graph.specs.declared.resolved.Role.{Role}
+use Rattle.binding_graph.specs.declared.resolved.Role.TheVariants as roles
 use Rattle.candidates.specs.declared.candidate.Space.{Space}
 use Rattle.cat_eval.specs.declared.column.Column.{Column}
+use Rattle.cat_eval.specs.Wanted.{is_wanted}
 use Rattle.memo_graph.specs.declared.cell.ItemAnswers.{ItemAnswers}
 use Rattle.memo_graph.specs.declared.keeping.LastUsers.{LastUsers}
-use Rattle.memo_graph.specs.Known.{column_of, kept_of, flags_of, AreKnownTo}
+use Rattle.memo_graph.specs.Known.{column_of, kept_of, flags_of, IsAnswered, AreKnownTo}
 
 -- the slot of a name: it is the slot of another name, or none, where the item has no name at the position
 abbrev pub slot_of : LastUsers → Input → Option ℕ
@@ -47,6 +50,24 @@ pub record LetsGo (P : Input → Type 0) (old new : Vec (Vec Column Global) Glob
   pub count : vec_len new ≡ vec_len old
   pub long : (j : ℕ) (d : Vec Column Global) → length (slice_index_or new.items j d).items ≡ length (slice_index_or old.items j d).items
   pub others : (name : Input) → (P name → ⊥) → column_of new.items name ≡ column_of old.items name
+
+-- of the names of the item at that index, no item behind it uses one that is not wanted
+abbrev pub AreEnough : LastUsers → ℕ → List Bool → Type 0
+AreEnough last at wanted = (position : ℕ) → is_wanted wanted position ≡ false → IsGone last (at + 1) (record { item = at; position = position })
+
+-- the item at that index binds the name, and it is not wanted
+abbrev pub IsLeftOut : List Bool → ℕ → Input → Type 0
+IsLeftOut wanted at name = (name.item ≡ at) × (is_wanted wanted name.position ≡ false)
+
+-- what the item at that index gives, from what was known, is known too, but for columns of these names
+abbrev pub IsAnsweredBut : (Input → Type 0) → Space → ℕ → ResolvedItem → ItemAnswers → ItemAnswers → Type 0
+IsAnsweredBut P space at r old new = (whole : ItemAnswers) × IsAnswered space at r old whole × LetsGo P whole.columns new.columns × (kept_of new ≡ kept_of whole) × (flags_of new ≡ flags_of whole)
+
+-- the item gives columns
+abbrev pub IsGroup : Role → Type 0
+IsGroup (roles.Group recursive bodies) = Unit {0}
+IsGroup (roles.Check check) = ⊥
+IsGroup roles.Silent = ⊥
 
 -- the first is what is known where nothing is let go, and the second has the same columns of names that items from that
 -- number on use

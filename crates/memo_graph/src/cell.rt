@@ -1,11 +1,11 @@
 //! A test under a model, from scratch.
 
 ghost use denote.Ref.{Bor};
-ghost use Rattle.std.specs.Prelude.{◌≡◌, ◌<◌, ◌∷◌, ◌++◌, ℕ, [], List, Vec, Some, None, IfOk, OnOk, length, option_map, reverse, slice_index_or, vec_len};
+ghost use Rattle.std.specs.Prelude.{◌≡◌, ◌<◌, ◌+◌, ◌∷◌, ◌++◌, ℕ, [], List, Vec, Some, None, IfOk, OnOk, length, option_map, reverse, slice_index_or, vec_len};
 ghost use Rattle.litmus_values.specs.Value.{formula_of};
 ghost use Rattle.litmus_printing.specs.Printing.{condition_text};
 ghost use Rattle.candidates.specs.Space.{shown_in};
-ghost use Rattle.cat_eval.specs.Columns.{ColumnsOf};
+ghost use Rattle.cat_eval.specs.Wanted.{WantedColumnsOf};
 ghost use Rattle.cat_eval.specs.Kept.{KeptAnswersOf};
 ghost use Rattle.cat_eval.specs.Tables.{IsOver};
 ghost use Rattle.cat_eval.specs.Values.{AnswersOf};
@@ -14,10 +14,11 @@ ghost use Rattle.verdict.specs.Kept.{of_raised, AreKeptBy};
 ghost use Rattle.memo_graph.specs.Answers.{AreSound};
 ghost use Rattle.memo_graph.specs.Known.{column_of, AreFound, IsAnswered, ColumnsAt, HasAllColumns, of_flags, kept_of, flags_of, AreJudged};
 ghost use Rattle.memo_graph.specs.FromScratch.{IsFromScratch};
+ghost use Rattle.memo_graph.specs.Keeping.{IsGone, IsGroup, IsLeftOut, IsAnsweredBut};
 ghost use Rattle.memo_graph.specs.Cell.{IsSaid, IsCell, IsEvaluationBy, IsEvaluationOver, OfModel};
 ghost use Rattle.memo_graph.specs.Suites.{IsSpaceFor};
 
-use crate::keeping::{Keeping, last_users, let_go_behind};
+use crate::keeping::{Keeping, LastUsers, last_users, let_go_behind};
 use crate::suite::{over_space, space_for};
 use binding_graph::{CheckCode, Input, ResolveFault, Resolved, ResolvedItem, Role, resolve, used};
 use candidates::{EvalRefusal, Space};
@@ -105,20 +106,21 @@ pub fn inputs<'c>(
     Ok(found)
 }
 
-// The values of a group's names.
+// The values of a group's names that are wanted.
 fn group_columns(
     alloc: Global,
     evaluator: &mut Evaluator,
     space: &Space,
     item: &ResolvedItem,
+    wanted: &[bool],
     columns: &[Vec<Column>],
 ) -> Result<Vec<Column>, AllocError>
     requires { IsOver evaluator.old space.now }
     ensures over { IsOver evaluator.new space.now }
-    ensures found { IfOk result (λ v. (inputs : List (Bor Column)) × AreFound columns.now item.now.inputs.items inputs × ColumnsOf item.now.role inputs space.now v.items) }
+    ensures found { IfOk result (λ v. (inputs : List (Bor Column)) × AreFound columns.now item.now.inputs.items inputs × WantedColumnsOf wanted.now item.now.role inputs space.now v.items) }
 {
     let inputs = inputs(alloc, columns, item)?;
-    evaluator.group(alloc, item, space, &inputs)
+    evaluator.group_wanted(alloc, item, wanted, space, &inputs)
 }
 
 // Whether the check holds, for each candidate.
@@ -236,27 +238,66 @@ fn put_columns(columns: &mut Vec<Vec<Column>>, at: usize, found: Vec<Column>)
     }
 }
 
+// Of the names of a group those that are wanted get values.
+fn answer_group(
+    alloc: Global,
+    evaluator: &mut Evaluator,
+    space: &Space,
+    at: usize,
+    item: &ResolvedItem,
+    wanted: &[bool],
+    answers: &mut ItemAnswers,
+) -> Result<(), AllocError>
+    requires { IsOver evaluator.old space.now }
+    ensures over { IsOver evaluator.new space.now }
+    ensures answered { IsGroup item.now.role → OnOk result (IsAnsweredBut (IsLeftOut wanted.now at) space.now at item.now answers.old answers.new) }
+{
+    let found = group_columns(alloc, evaluator, space, item, wanted, &answers.columns)?;
+    put_columns(&mut answers.columns, at, found);
+    Ok(())
+}
+
 fn answer_item<'a>(
     alloc: Global,
     evaluator: &mut Evaluator,
     space: &Space,
     at: usize,
     item: &'a ResolvedItem,
+    wanted: &[bool],
     answers: &mut ItemAnswers<'a>,
 ) -> Result<(), AllocError>
     requires { IsOver evaluator.old space.now }
     ensures over { IsOver evaluator.new space.now }
-    ensures answered { OnOk result (IsAnswered space.now at item.now answers.old answers.new) }
+    ensures answered { OnOk result (IsAnsweredBut (IsLeftOut wanted.now at) space.now at item.now answers.old answers.new) }
 {
     match &item.role {
-        Role::Group { .. } => {
-            let found = group_columns(alloc, evaluator, space, item, &answers.columns)?;
-            put_columns(&mut answers.columns, at, found);
-            Ok(())
-        }
+        Role::Group { .. } => answer_group(alloc, evaluator, space, at, item, wanted, answers),
         Role::Check(check) => answer_check(alloc, evaluator, space, at, item, check, answers),
         Role::Silent => Ok(()),
     }
+}
+
+// Answers the item at that index, of whose names those get values that an item behind it uses, and lets columns go that
+// none uses.
+fn answer_next<'a>(
+    alloc: Global,
+    evaluator: &mut Evaluator,
+    space: &Space,
+    last: &LastUsers,
+    at: usize,
+    item: &'a ResolvedItem,
+    wanted: &mut Vec<bool>,
+    answers: &mut ItemAnswers<'a>,
+) -> Result<(), AllocError>
+    requires { IsOver evaluator.old space.now }
+    ensures over { IsOver evaluator.new space.now }
+    ensures answered { OnOk result (IsAnsweredBut (IsGone last.now (at + 1)) space.now at item.now answers.old answers.new) }
+{
+    last.list_wanted(at, item, wanted)?;
+    let wanted = wanted.as_slice();
+    answer_item(alloc, evaluator, space, at, item, wanted, answers)?;
+    let_go_behind(alloc, last, at, &item.inputs, &mut answers.columns);
+    Ok(())
 }
 
 /// The items that checks and flags reach, over all candidates. Errors: want of memory.
@@ -292,10 +333,19 @@ fn answers_by<'a>(
     let indexes = used(alloc, resolved)?;
     let last = last_users(alloc, keeping, &resolved.items, &indexes)?;
     evaluator.prepare(alloc, space, &resolved.items, &indexes)?;
+    let mut wanted = Vec::new(alloc);
     for at in &indexes {
         let item = &resolved.items[*at];
-        answer_item(alloc, evaluator, space, *at, item, &mut answers)?;
-        let_go_behind(alloc, &last, *at, item, &mut answers.columns);
+        answer_next(
+            alloc,
+            evaluator,
+            space,
+            &last,
+            *at,
+            item,
+            &mut wanted,
+            &mut answers,
+        )?;
     }
     Ok(answers)
 }

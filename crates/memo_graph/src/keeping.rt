@@ -1,8 +1,8 @@
 //! How long the columns of names are kept.
 
-ghost use Rattle.std.specs.Prelude.{◌≡◌, ◌<◌, ◌+◌, ◌↔◌, ℕ, None, Some, IsTrue, IfOk, IfSome, IfNone, Contains, AllPairs, replicate};
+ghost use Rattle.std.specs.Prelude.{◌≡◌, ◌<◌, ◌+◌, ◌↔◌, ℕ, None, Some, IsTrue, IfOk, OnOk, IfSome, IfNone, Contains, AllPairs, replicate};
 ghost use Rattle.cat_eval.specs.Candidates.{name_count};
-ghost use Rattle.memo_graph.specs.Keeping.{last_user, slot_of, IsGone, KeepsAll, Notes, HasInput, AreLast, LetsGo};
+ghost use Rattle.memo_graph.specs.Keeping.{last_user, slot_of, IsGone, KeepsAll, Notes, HasInput, AreLast, LetsGo, AreEnough};
 
 use binding_graph::{Input, ResolvedItem, Role};
 use cat_eval::Column;
@@ -131,6 +131,23 @@ impl LastUsers {
             _ => false,
         }
     }
+
+    /// Lists which names of the item at that index are wanted: those that an item behind it uses, and those whose users are
+    /// not noted. Errors: want of memory.
+    pub(crate) fn list_wanted(
+        &self,
+        at: usize,
+        item: &ResolvedItem,
+        wanted: &mut Vec<bool>,
+    ) -> Result<(), AllocError>
+        ensures { OnOk result (AreEnough self.now at wanted.new.items) }
+    {
+        wanted.clear();
+        for position in 0..name_count(item) {
+            wanted.push(!self.is_gone(at, &Input { item: at, position }))?;
+        }
+        Ok(())
+    }
 }
 
 /// Until where the columns of names are kept: behind the last of their users, or to the end. Errors: want of memory.
@@ -176,8 +193,8 @@ fn let_go_if_gone(
     }
 }
 
-// The names that the item at that index is the last to use.
-fn let_go_inputs(
+/// Gives back the memory of the columns of names that the item at that index is the last to use.
+pub(crate) fn let_go_behind(
     alloc: Global,
     last: &LastUsers,
     at: usize,
@@ -189,33 +206,4 @@ fn let_go_inputs(
     for name in inputs {
         let_go_if_gone(alloc, last, at, name, columns);
     }
-}
-
-// The names of the item at that index that none uses.
-fn let_go_unused(
-    alloc: Global,
-    last: &LastUsers,
-    at: usize,
-    count: usize,
-    columns: &mut Vec<Vec<Column>>,
-)
-    ensures { LetsGo (IsGone last.now (at + 1)) columns.old columns.new }
-{
-    for position in 0..count {
-        let_go_if_gone(alloc, last, at, &Input { item: at, position }, columns);
-    }
-}
-
-/// Gives back the memory of the columns that no item behind that index uses, of those that the item there binds or uses.
-pub(crate) fn let_go_behind(
-    alloc: Global,
-    last: &LastUsers,
-    at: usize,
-    item: &ResolvedItem,
-    columns: &mut Vec<Vec<Column>>,
-)
-    ensures { LetsGo (IsGone last.now (at + 1)) columns.old columns.new }
-{
-    let_go_inputs(alloc, last, at, &item.inputs, columns);
-    let_go_unused(alloc, last, at, name_count(item), columns);
 }

@@ -1,4 +1,4 @@
-use Rattle.std.proofs.Common.{rules, ℕ, ◌≡◌, ◌<◌, List, length, get_or, refl, sym, ◌∙◌, subst, arith}
+use Rattle.std.proofs.Common.{rules, ℕ, ◌≡◌, ◌<◌, List, length, get_or, refl, sym, ap, ◌∙◌, subst, arith}
 use Rattle.std.proofs.lemmas.Option.{slice_get_read}
 use Rattle.binding_graph.specs.Reach.{AreReached}
 use Rattle.binding_graph.specs.declared.resolved.ResolvedItem.{ResolvedItem}
@@ -27,15 +27,15 @@ loop-at-preserved c =
     let users = subst (λ (rs : List ResolvedItem). AreLast rs indexes last) c.deref.ensures.value (subst (λ (xs : List ℕ). AreLast c.deref.result.now xs last) (c.deref-2.ensures.value ∙ sym c.deref-at-items.ensures.value) c.in_ok-last.ensures.last) in
     let index = get_or indexes c.loop-at.at-index 0 in
     let r = c.index-item.result.now in
-    let one = c.in_ok-answer_item.ensures.answered in
+    let (whole, one, gone, kept, flags) = c.in_ok-answer_next.ensures.answered in
     record {
       known = λ ordered.
           let h = c.loop-at.invariant.known ordered in
           let less : index < length items = ((all.exact index).0 (c.loop-at.at-index, omega arith, same_at indexes c.loop-at.at-index index 0 (omega arith))).0 in
           let is : r ≡ get_or items index r = c.index-item.ensures in
-          kept_next c.args.space.now items last indexes c.loop-at.at-index index r c.loop-at.answers _ _ all users ordered (omega arith) (λ d. same_at indexes c.loop-at.at-index 0 d (omega arith)) (slice_get_read items (length items) index r refl less is) h one c.let_go_behind.ensures refl refl;
-      over = c.answer_item.ensures.over;
-      long = answered_long c.args.space.now index r c.loop-at.answers _ one c.loop-at.invariant.long;
+          kept_next c.args.space.now items last indexes c.loop-at.at-index index r c.loop-at.answers whole _ all users ordered (omega arith) (λ d. same_at indexes c.loop-at.at-index 0 d (omega arith)) (slice_get_read items (length items) index r refl less is) h one gone kept flags;
+      over = c.answer_next.ensures.over;
+      long = ap length kept ∙ answered_long c.args.space.now index r c.loop-at.answers whole one c.loop-at.invariant.long;
     }
 
 pub returns-clause-said : goal.returns-clause-said
