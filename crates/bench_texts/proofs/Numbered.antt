@@ -1,6 +1,7 @@
 -- Items with their numbers, after a change of both lists.
-use Rattle.std.proofs.Common.{◌≡◌, ℕ, zero, suc, ◌+◌, ◌<◌, ◌≤◌, List, [], ◌∷◌, ◌++◌, add-one, length, take, drop, refl, ap, arith, ◌==◌, ◌∙◌}
+use Rattle.std.proofs.Common.{◌≡◌, ℕ, zero, suc, ◌+◌, ◌<◌, ◌≤◌, List, [], ◌∷◌, ◌++◌, add-one, length, take, drop, map, refl, sym, ap, arith, ◌==◌, ◌∙◌}
 use Rattle.std.proofs.Math.ListN.{set}
+use Rattle.std.proofs.lemmas.List.{map-set}
 use Rattle.std.proofs.lemmas.List.FromFn.{length-range_with_len}
 use Rattle.std.specs.List.{sum_by, insert, remove, position_or_len, range_with_len}
 use Rattle.std.proofs.lemmas.List.Sums.{sum_by-cons}
@@ -8,6 +9,7 @@ use Rattle.cat_values.specs.declared.model.Item.{Item}
 use Rattle.cat_values.specs.Values.{clause_of, clauses_of}
 use Rattle.bench_texts.specs.BenchTexts.{items_of, item_index, put_at, numbered_items}
 use Rattle.bench_texts.specs.Limits.{clause_outputs, items_outputs}
+use Rattle.bench_texts.proofs.Lists.{map-remove}
 
 pub length-items_of : (ns : List ℕ) (is : List Item) → length ns ≡ length is → length (items_of ns is) ≡ length is
 length-items_of [] [] e = refl
@@ -117,20 +119,20 @@ length-same [] (j ∷ js) e = grind arith
 length-same (i ∷ is) [] e = grind arith
 length-same (i ∷ is) (j ∷ js) e = let r : clauses_of is ≡ clauses_of js = grind arith in ap suc (length-same is js r)
 
--- a change of copies of items is the change of the items
-pub copies-set : (ns : List ℕ) (is cs : List Item) (k n : ℕ) (i : Item) → length ns ≡ length is → clauses_of cs ≡ clauses_of is → k < length is → items_of (set ns k n) (set cs k i) ≡ put_at k (record { number = n; clause = clause_of i }) (items_of ns is)
-copies-set ns is cs k n i e same b =
-    let l = length-same cs is same in let h : length ns ≡ length cs = omega arith in let w : k < length cs = omega arith in
-    items_of-set ns cs k n i h w ∙ ap (λ xs. put_at k (record { number = n; clause = clause_of i }) xs) (items_of-same ns cs is same)
+pub map-insert : {A B : Type 0} (f : A → B) → (xs : List A) (i : ℕ) (y : A) → map f (insert xs i y) ≡ insert (map f xs) i (f y)
+map-insert f [] zero y = refl
+map-insert f [] (suc i) y = refl
+map-insert f (x ∷ xs) zero y = refl
+map-insert f (x ∷ xs) (suc i) y = ap (λ r. f x ∷ r) (map-insert f xs i y)
 
-pub copies-insert : (ns : List ℕ) (is cs : List Item) (k n : ℕ) (i : Item) → length ns ≡ length is → clauses_of cs ≡ clauses_of is → k ≤ length is → items_of (insert ns k n) (insert cs k i) ≡ insert (items_of ns is) k (record { number = n; clause = clause_of i })
-copies-insert ns is cs k n i e same b =
-    let l = length-same cs is same in let h : length ns ≡ length cs = omega arith in let w : k ≤ length cs = omega arith in
-    items_of-insert ns cs k n i h w ∙ ap (λ xs. insert xs k (record { number = n; clause = clause_of i })) (items_of-same ns cs is same)
+-- items that say what a change of the items says
+pub items_of-with : (ns : List ℕ) (is cs : List Item) (k n : ℕ) (i : Item) → length ns ≡ length is → clauses_of cs ≡ set (clauses_of is) k (clause_of i) → k < length is → items_of (set ns k n) cs ≡ put_at k (record { number = n; clause = clause_of i }) (items_of ns is)
+items_of-with ns is cs k n i e says b = items_of-same (set ns k n) cs (set is k i) (says ∙ sym (map-set clause_of is k i)) ∙ items_of-set ns is k n i e b
 
-pub copies-remove : (ns : List ℕ) (is cs : List Item) (k : ℕ) → length ns ≡ length is → clauses_of cs ≡ clauses_of is → items_of (remove ns k) (remove cs k) ≡ remove (items_of ns is) k
-copies-remove ns is cs k e same =
-    let l = length-same cs is same in let h : length ns ≡ length cs = omega arith in
-    items_of-remove ns cs k h ∙ ap (λ xs. remove xs k) (items_of-same ns cs is same)
+pub items_of-more : (ns : List ℕ) (is cs : List Item) (k n : ℕ) (i : Item) → length ns ≡ length is → clauses_of cs ≡ insert (clauses_of is) k (clause_of i) → k ≤ length is → items_of (insert ns k n) cs ≡ insert (items_of ns is) k (record { number = n; clause = clause_of i })
+items_of-more ns is cs k n i e says b = items_of-same (insert ns k n) cs (insert is k i) (says ∙ sym (map-insert clause_of is k i)) ∙ items_of-insert ns is k n i e b
 
-pub ruleset numbered_lemmas = (length-items_of, items_of-set, items_of-insert, items_of-remove, item_index-items_of, outputs-take, outputs-drop, outputs-items_of, range-more, length-range, items_of-same, length-same, copies-set, copies-insert, copies-remove)
+pub items_of-without : (ns : List ℕ) (is cs : List Item) (k : ℕ) → length ns ≡ length is → clauses_of cs ≡ remove (clauses_of is) k → items_of (remove ns k) cs ≡ remove (items_of ns is) k
+items_of-without ns is cs k e says = items_of-same (remove ns k) cs (remove is k) (says ∙ sym (map-remove clause_of is k)) ∙ items_of-remove ns is k e
+
+pub ruleset numbered_lemmas = (length-items_of, items_of-set, items_of-insert, items_of-remove, item_index-items_of, outputs-take, outputs-drop, outputs-items_of, range-more, length-range, length-same, map-set, map-insert, map-remove, items_of-with, items_of-more, items_of-without)

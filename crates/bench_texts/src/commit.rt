@@ -45,7 +45,7 @@ impl Texts {
         if at < self.tests.len() {
             drop(replace(&mut self.tests[at], test));
         } else {
-            let _ = self.tests.push(test);
+            self.tests.push_reserved(test);
         }
     }
 
@@ -62,7 +62,7 @@ impl Texts {
         if at < self.models.len() {
             drop(replace(&mut self.models[at], model));
         } else {
-            let _ = self.models.push(model);
+            self.models.push_reserved(model);
         }
     }
 }

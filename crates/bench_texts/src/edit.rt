@@ -4,7 +4,7 @@ ghost use Rattle.std.specs.Prelude.{◌≡◌};
 
 /// An edit of the bench: a whole replacement of a named part. Tests and models go by their names, threads by their
 /// number from 0 on, items by their number on the bench.
-#[derive(Debug, Drop)]
+#[derive(Debug)]
 pub enum Edit {
     /// The test of this text, in the place of the one of its name, or as the last.
     PutTest {
@@ -62,6 +62,36 @@ pub enum Edit {
         model: Vec<u8>,
         item: u64,
     },
+}
+
+impl Drop for Edit {
+    fn drop(self) {
+        match self {
+            Edit::PutTest { text: _ } => {},
+            Edit::DropTest { test: _ } => {},
+            Edit::SetInit { test: _, text: _ } => {},
+            Edit::SetThread {
+                test: _,
+                thread: _,
+                text: _,
+            } => {},
+            Edit::SetCond { test: _, text: _ } => {},
+            Edit::SetLocations { test: _, text: _ } => {},
+            Edit::PutModel { model: _, text: _ } => {},
+            Edit::DropModel { model: _ } => {},
+            Edit::SetItem {
+                model: _,
+                item: _,
+                text: _,
+            } => {},
+            Edit::InsertItem {
+                model: _,
+                before: _,
+                text: _,
+            } => {},
+            Edit::RemoveItem { model: _, item: _ } => {},
+        }
+    }
 }
 
 impl Edit {

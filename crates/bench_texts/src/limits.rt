@@ -7,6 +7,7 @@ use crate::change::Change;
 use crate::count::count_models;
 use crate::fault::EditFault;
 use crate::texts::Texts;
+use std::mem::drop;
 
 /// The most tests.
 pub const MAX_TESTS: usize = 512;
@@ -77,7 +78,10 @@ impl Texts {
         ensures { (new : BenchTexts) → length new.tests ≡ tests → length new.models ≡ models → of_models ≡ min (models_outputs new.models) (2 ^ 64 - 1) → IsLimited (texts_of self.now) spent change new result }
     {
         match self.limit_fault(tests, models, of_models, spent) {
-            Some(fault) => Err(fault),
+            Some(fault) => {
+                drop(change);
+                Err(fault)
+            }
             None => Ok(change),
         }
     }

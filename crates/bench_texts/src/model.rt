@@ -1,8 +1,9 @@
 //! A model on the bench.
 #![tactic(auto, using(crate::proofs::Numbered::numbered_lemmas))]
 
-ghost use Rattle.std.specs.Prelude.{◌≡◌, ◌==◌, ◌<◌, ◌≤◌, ◌+◌, ◌^◌, IfOk, vec_len};
+ghost use Rattle.std.specs.Prelude.{◌≡◌, ◌==◌, ◌<◌, ◌≤◌, ◌+◌, ◌^◌, IfOk, insert, remove, slice_set, vec_len};
 ghost use Rattle.std.specs.List.{position_or_len, range_with_len};
+ghost use Rattle.cat_values.specs.Values.{clause_of, clauses_of};
 
 use crate::count::count_items;
 use crate::reading::{Reading, read_items};
@@ -36,10 +37,9 @@ impl Drop for NamedModel {
 }
 
 impl NamedModel {
-    ghost use Rattle.std.specs.Prelude.{◌-◌, min, length, insert, remove, take, drop, slice_set};
+    ghost use Rattle.std.specs.Prelude.{◌-◌, min, length, take, drop};
     ghost use Rattle.bench_texts.specs.Held.{model_of, IsRead};
     ghost use Rattle.bench_texts.specs.Readings.{IsReading};
-    ghost use Rattle.cat_values.specs.Values.{clause_of, clauses_of};
     ghost use Rattle.bench_texts.specs.BenchTexts.{item_index, numbered_items, items_of, put_at, with_items};
     ghost use Rattle.bench_texts.specs.Limits.{items_outputs};
 
@@ -151,16 +151,10 @@ impl NamedModel {
         ensures value { IfOk result (λ m. model_of m ≡ with_items (put_at index (record { number = number; clause = clause_of item })) (model_of self.now)) }
         ensures read { IfOk result IsRead }
     {
-        let mut items = copied_items(alloc, &self.text.items, 0)?;
+        let text = text_with(alloc, &self.text, index, item)?;
         let mut numbers = Vec::from_slice(alloc, &self.numbers)?;
-        drop(replace(&mut items[index], item));
         numbers[index] = number;
-        NamedModel::of_items(
-            alloc,
-            self.name.copied(alloc)?,
-            ModelText { items },
-            numbers,
-        )
+        NamedModel::of_items(alloc, self.name.copied(alloc)?, text, numbers)
     }
 
     /// This model with one item more before the one of that index. Errors: want of memory.
@@ -175,16 +169,10 @@ impl NamedModel {
         ensures value { IfOk result (λ m. model_of m ≡ with_items (λ is. insert is index (record { number = number; clause = clause_of item })) (model_of self.now)) }
         ensures read { IfOk result IsRead }
     {
-        let mut items = copied_items(alloc, &self.text.items, 1)?;
+        let text = text_with_one_more(alloc, &self.text, index, item)?;
         let mut numbers = Vec::from_slice(alloc, &self.numbers)?;
-        items.insert(index, item)?;
         numbers.insert(index, number)?;
-        NamedModel::of_items(
-            alloc,
-            self.name.copied(alloc)?,
-            ModelText { items },
-            numbers,
-        )
+        NamedModel::of_items(alloc, self.name.copied(alloc)?, text, numbers)
     }
 
     /// This model without one item. Errors: want of memory.
@@ -193,17 +181,69 @@ impl NamedModel {
         ensures value { IfOk result (λ m. model_of m ≡ with_items (λ is. remove is index) (model_of self.now)) }
         ensures read { IfOk result IsRead }
     {
-        let mut items = copied_items(alloc, &self.text.items, 0)?;
+        let text = text_without(alloc, &self.text, index)?;
         let mut numbers = Vec::from_slice(alloc, &self.numbers)?;
-        drop(items.remove(index));
         numbers.remove(index);
-        NamedModel::of_items(
-            alloc,
-            self.name.copied(alloc)?,
-            ModelText { items },
-            numbers,
-        )
+        NamedModel::of_items(alloc, self.name.copied(alloc)?, text, numbers)
     }
+}
+
+// A copy of the items, with another in the place of one. Errors: want of memory.
+fn text_with(
+    alloc: Global,
+    text: &ModelText,
+    index: usize,
+    item: Item,
+) -> Result<ModelText, AllocError>
+    requires { index < vec_len text.now.items }
+    ensures clauses { IfOk result (λ t. clauses_of t.items.items ≡ slice_set (clauses_of text.now.items.items) index (clause_of item)) }
+    ensures count { IfOk result (λ t. vec_len t.items ≡ vec_len text.now.items) }
+{
+    match copied_items(alloc, &text.items, 0) {
+        Ok(mut items) => {
+            drop(replace(&mut items[index], item));
+            Ok(ModelText { items })
+        }
+        Err(error) => {
+            drop(item);
+            Err(error)
+        }
+    }
+}
+
+// A copy of the items, with one more before the one of that index. Errors: want of memory.
+fn text_with_one_more(
+    alloc: Global,
+    text: &ModelText,
+    index: usize,
+    item: Item,
+) -> Result<ModelText, AllocError>
+    requires { index ≤ vec_len text.now.items }
+    ensures clauses { IfOk result (λ t. clauses_of t.items.items ≡ insert (clauses_of text.now.items.items) index (clause_of item)) }
+    ensures count { IfOk result (λ t. vec_len t.items ≡ vec_len text.now.items + 1) }
+{
+    match copied_items(alloc, &text.items, 1) {
+        Ok(items) => {
+            let mut copy = ModelText { items };
+            copy.items.insert(index, item)?;
+            Ok(copy)
+        }
+        Err(error) => {
+            drop(item);
+            Err(error)
+        }
+    }
+}
+
+// A copy of the items without one. Errors: want of memory.
+fn text_without(alloc: Global, text: &ModelText, index: usize) -> Result<ModelText, AllocError>
+    requires { index < vec_len text.now.items }
+    ensures clauses { IfOk result (λ t. clauses_of t.items.items ≡ remove (clauses_of text.now.items.items) index) }
+    ensures count { IfOk result (λ t. vec_len t.items + 1 ≡ vec_len text.now.items) }
+{
+    let mut items = copied_items(alloc, &text.items, 0)?;
+    drop(items.remove(index));
+    Ok(ModelText { items })
 }
 
 // The index of that number, or how many there are.

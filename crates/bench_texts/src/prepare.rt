@@ -9,6 +9,7 @@ use crate::texts::Texts;
 use litmus_ppc::{LitmusFault, read_cond, read_init, read_locations, read_test, read_thread};
 use litmus_values::Test;
 use std::alloc::Global;
+use std::mem::drop;
 
 // A refusal of a reader, with want of memory apart.
 fn test_fault(fault: LitmusFault) -> EditFault
@@ -163,7 +164,10 @@ impl Texts {
             Err(fault) => Err(fault),
             Ok(change) => match self.tests.reserve(1) {
                 Ok(()) => Ok(change),
-                Err(error) => Err(EditFault::OutOfMemory(error)),
+                Err(error) => {
+                    drop(change);
+                    Err(EditFault::OutOfMemory(error))
+                }
             },
         }
     }

@@ -111,6 +111,7 @@ impl Texts {
             Err(fault) => return Err(model_fault(fault)),
         };
         if self.models[at].len() >= MAX_ITEMS {
+            drop(item);
             let rule = CatRule::TooMany;
             return Err(EditFault::Model(CatFault::Refused { rule, offset: 0 }));
         }

@@ -6,6 +6,7 @@ ghost use Rattle.bench_texts.specs.Replacements.{printed_by};
 use crate::print::print_put;
 use crate::replacement::Replacement;
 use std::alloc::{AllocError, Global};
+use std::mem::drop;
 
 /// An edit that was prepared: what it puts in the place of what, and the printed items of the model that is put.
 #[derive(Drop)]
@@ -28,12 +29,17 @@ impl Prepared {
         ensures replacement { IfOk result (λ p. p.replacement ≡ replacement) }
         ensures whole { IfOk result (λ p. p.whole ≡ whole) }
     {
-        let printed = print_put(alloc, &replacement)?;
-        Ok(Prepared {
-            replacement,
-            whole,
-            printed,
-        })
+        match print_put(alloc, &replacement) {
+            Ok(printed) => Ok(Prepared {
+                replacement,
+                whole,
+                printed,
+            }),
+            Err(error) => {
+                drop(replacement);
+                Err(error)
+            }
+        }
     }
 
     /// What the edit puts in the place of what.
