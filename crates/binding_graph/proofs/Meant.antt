@@ -1,7 +1,17 @@
 -- What holds of answers that are given on.
-use Rattle.std.proofs.Common.{Result, Ok, Err}
-use Rattle.std.specs.Prelude.{IfOk}
+use Rattle.std.proofs.Common.{◌≡◌, Result, Ok, Err, sym, subst}
+use Rattle.std.specs.Prelude.{IfOk, OnOk}
 
 pub if_as : {T E : Type 0} (r : Result T E) (P Q : T → Type 0) → ((x : T) → P x → Q x) → IfOk r P → IfOk r Q
 if_as (Ok x) P Q to p = to x p
 if_as (Err e) P Q to p = tt
+
+-- what holds anyway
+pub on_ok : {T E P : Type 0} (r : Result T E) → P → OnOk r P
+on_ok (Ok x) p = p
+on_ok (Err e) p = tt
+
+-- what holds of the one that it is
+pub if_same : {T E : Type 0} (r : Result T E) (x : T) (P : T → Type 0) → P x → IfOk r (λ y. y ≡ x) → IfOk r P
+if_same (Ok y) x P p same = subst P (sym same) p
+if_same (Err e) x P p same = tt

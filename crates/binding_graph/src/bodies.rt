@@ -1,6 +1,6 @@
 //! The bodies of groups and checks, each read once: their first fault, and their steps.
 
-ghost use Rattle.std.specs.Prelude.{◌≡◌, ℕ, List, [], map, reverse, false, IfOk, OnOk};
+ghost use Rattle.std.specs.Prelude.{◌≡◌, ◌++◌, ◌∷◌, ℕ, List, [], map, reverse, false, IfOk, OnOk};
 ghost use Rattle.cat_values.specs.Values.{term_of};
 ghost use Rattle.binding_kinds.specs.Value.{Naming, Bound, entry_of, bound_of};
 ghost use Rattle.binding_kinds.specs.Kinds.{takes_body};
@@ -16,7 +16,7 @@ ghost use Rattle.binding_graph.specs.Resolved.{AreBodies, IsGroup, IsCheck, IsLa
 
 use crate::reading::read_term;
 use crate::resolved::{Body, CheckCode, Code, ResolvedItem, Role};
-use crate::uses::{Uses, copied_items, inputs_of_values};
+use crate::uses::{Uses, copied_lists};
 use crate::workspace::Workspace;
 use binding_kinds::{Judged, ModelFault, Sight, binding_fault, or_else, takes_body, unless};
 use cat_values::{Binding, Check, Expression};
@@ -62,6 +62,22 @@ fn read_code(
     Ok(Reading { judged, code })
 }
 
+/// Adds a name with the steps of its body.
+fn push_body(
+    alloc: Global,
+    bodies: &mut Vec<Body>,
+    name: &Name,
+    code: Code,
+) -> Result<(), AllocError>
+    ensures { OnOk result (bodies.new.items ≡ bodies.old.items ++ (record { name = name.now; code = code }) ∷ []) }
+{
+    bodies.push(Body {
+        name: name.copied(alloc)?,
+        code,
+    })?;
+    Ok(())
+}
+
 /// Reads the bodies of a group, or finds its first fault. Errors: want of memory.
 pub fn read_bodies(
     alloc: Global,
@@ -82,10 +98,7 @@ pub fn read_bodies(
         if let Some(fault) = or_else(own, judged.fault) {
             return Ok(Err(fault));
         }
-        bodies.push(Body {
-            name: binding.name.copied(alloc)?,
-            code,
-        })?;
+        push_body(alloc, &mut bodies, &binding.name, code)?;
     }
     Ok(Ok(bodies))
 }
@@ -99,10 +112,11 @@ pub fn group_item(
 ) -> Result<ResolvedItem, AllocError>
     ensures { (senses : List Sense) (us : List Usage) (names : List Naming) (from : ℕ) (bounds : List Bound) → AreBodies senses us names from [] bounds bodies.items → reverse uses.now.values.items ≡ with_all_values us names from bounds [] → reverse uses.now.functions.items ≡ with_all_functions us names bounds [] → IfOk result (IsGroup senses us names from recursive bounds) }
 {
+    let (inputs, functions) = copied_lists(alloc, &uses.values, &uses.functions)?;
     Ok(ResolvedItem {
         role: Role::Group { recursive, bodies },
-        inputs: inputs_of_values(alloc, &uses.values)?,
-        functions: copied_items(alloc, &uses.functions)?,
+        inputs,
+        functions,
     })
 }
 
@@ -131,6 +145,7 @@ pub fn read_check(
     if let Some(fault) = check_fault(check, judged) {
         return Ok(Err(fault));
     }
+    let (inputs, functions) = copied_lists(alloc, &work.uses.values, &work.uses.functions)?;
     Ok(Ok(ResolvedItem {
         role: Role::Check(CheckCode {
             negated: check.negated,
@@ -138,7 +153,7 @@ pub fn read_check(
             code,
             flag,
         }),
-        inputs: inputs_of_values(alloc, &work.uses.values)?,
-        functions: copied_items(alloc, &work.uses.functions)?,
+        inputs,
+        functions,
     }))
 }

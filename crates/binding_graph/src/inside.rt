@@ -1,28 +1,29 @@
 //! One walk over the body of a function, in which each name is looked up once: its first fault, its
 //! complements and the kinds that it makes, its pieces, and what it uses.
 
-ghost use Rattle.std.specs.Prelude.{◌≡◌, ◌∷◌, [], List, ℕ, length, map, reverse, IfOk, OnOk};
+ghost use Rattle.std.specs.Prelude.{◌≡◌, ◌∷◌, [], Bool, List, ℕ, None, Some, length, map, reverse, IfOk, OnOk};
 ghost use Rattle.std.specs.List.{AllZip};
 ghost use Rattle.cat_values.specs.Value.{Atom, Apply, gathered};
 ghost use Rattle.cat_values.specs.Values.{term_of};
-ghost use Rattle.binding_kinds.specs.Value.{entry_of};
+ghost use Rattle.binding_kinds.specs.Value.{Naming, entry_of};
 ghost use Rattle.binding_kinds.specs.Kinds.{found};
 ghost use Rattle.binding_kinds.specs.Meanings.{parameter_of};
 ghost use Rattle.binding_kinds.specs.Formula.{postfix};
-ghost use Rattle.binding_kinds.specs.Senses.{Sense, IsKept, AreKept};
-ghost use Rattle.binding_kinds.specs.Functions.{named_formula};
+ghost use Rattle.binding_kinds.specs.Senses.{Sense, IsKept, AreKept, sense_of};
+ghost use Rattle.binding_kinds.specs.First.{of_applied};
+ghost use Rattle.binding_kinds.specs.Functions.{sense_seen, named_formula};
 ghost use Rattle.binding_functions.specs.Templates.{pieces_in, HasLarge, IsTemplate, IsGrown};
 ghost use Rattle.binding_functions.specs.Parts.{IsNameless, IsBodyPart, AreBodyParts};
 ghost use Rattle.binding_graph.specs.Usages.{usage_of, with_meaning, with_values, with_values_among, with_functions, with_functions_among};
 ghost use Rattle.binding_graph.specs.Readings.{AreNoted};
 
-use crate::reading::{applied, read_unapplied};
+use crate::reading::{applied, note_name, read_unapplied};
 use crate::uses::Uses;
 use binding_functions::{BodyArguments, BodyPart, Columns, Template};
 use binding_kinds::{Function, Kind, Named, Piece, Sight, either, is_turned};
 use cat_values::Expression;
 use source_text::Name;
-use std::alloc::AllocError;
+use std::alloc::{AllocError, Global};
 
 /// What is read of the arguments of a function in a body.
 #[derive(Drop)]
@@ -31,6 +32,23 @@ struct Given {
     body: BodyArguments,
     /// Each in postfix order.
     templates: Vec<Template>,
+}
+
+impl Given {
+    /// Applies the function to them: appends what it makes of them to the template.
+    fn applied(
+        self,
+        alloc: Global,
+        function: &Function,
+        template: &mut Template,
+    ) -> Result<BodyPart, AllocError>
+        ensures part { (ss : List Sense) (names : List Naming) (ps : List (List ℕ)) (rows : ℕ) (under : Bool) (x : List ℕ) (xs : List Expression) (s : Sense) → IsKept function.now s → length xs ≡ s.arity → sense_seen ss names ps (length xs) x ≡ Some s → of_applied (parameter_of (reverse ps) x) (sense_of ss (length xs) (found names x)) ≡ None → AreBodyParts ss names ps rows under s.is_under xs self.body → IfOk result (IsBodyPart ss names ps rows under (Apply x (gathered (map term_of xs)))) }
+        ensures template { (ss : List Sense) (names : List Naming) (ps : List (List ℕ)) (x : List ℕ) (xs : List Expression) (s : Sense) → IsKept function.now s → sense_seen ss names ps (length xs) x ≡ Some s → AllZip IsTemplate self.templates.items (map (λ e. pieces_in ss names ps (term_of e)) xs) → OnOk result (IsGrown template.old template.new (pieces_in ss names ps (Apply x (gathered (map term_of xs)))) (HasLarge ss names ps (Apply x (gathered (map term_of xs))))) }
+    {
+        let Given { body, templates } = self;
+        template.put_function(function, &templates)?;
+        body.applied(alloc, function)
+    }
 }
 
 /// Reads `_`, `0` or `{}`.
@@ -43,9 +61,8 @@ fn inside_sign(
     ensures part { (arity : ℕ) → IfOk result (IsNameless arity columns.rows kind) }
     ensures template { OnOk result (IsGrown template.old template.new (piece ∷ []) ⊥) }
 {
-    let part = BodyPart::nameless(columns, kind)?;
     template.put(piece)?;
-    Ok(part)
+    BodyPart::nameless(columns, kind)
 }
 
 /// Reads a name without arguments.
@@ -61,18 +78,9 @@ fn inside_name(
     ensures template { OnOk result (IsGrown template.old template.new (postfix (named_formula (parameter_of (reverse sight.now.parameters.now) name.now) (found (reverse (map entry_of sight.now.entries.now)) name.now))) ⊥) }
     ensures uses { OnOk result (AreNoted (λ vs. with_meaning vs sight.now.from (parameter_of (reverse sight.now.parameters.now) name.now) (found (reverse (map entry_of sight.now.entries.now)) name.now)) (λ fs. fs) uses.old uses.new) }
 {
-    match sight.named(name) {
-        Named::Parameter(index) => {
-            let part = BodyPart::parameter(columns, under, index)?;
-            template.put(Piece::Parameter(index))?;
-            Ok(part)
-        }
-        Named::Other(found) => {
-            let part = BodyPart::other(columns, found)?;
-            template.put_name(found)?;
-            uses.add_name(sight.from, found)?;
-            Ok(part)
-        }
+    match note_name(sight, name, template, uses)? {
+        Named::Parameter(index) => BodyPart::parameter(columns, under, index),
+        Named::Other(found) => BodyPart::other(columns, found),
     }
 }
 
@@ -120,18 +128,13 @@ fn inside_applied(
     match applied(sight, name, arguments.len()) {
         Err(fault) => {
             read_unapplied(columns.alloc, sight, arguments, uses)?;
-            let part = BodyPart::refused(columns, fault)?;
             template.put(Piece::NoPairs)?;
-            Ok(part)
+            BodyPart::refused(columns, fault)
         }
         Ok(function) => {
             uses.add_function(function)?;
-            let Given { body, templates } = inside_arguments(
-                columns, sight, under, function, arguments, uses,
-            )?;
-            let part = body.applied(columns.alloc, function)?;
-            template.put_function(function, &templates)?;
-            Ok(part)
+            let given = inside_arguments(columns, sight, under, function, arguments, uses)?;
+            given.applied(columns.alloc, function, template)
         }
     }
 }
@@ -162,15 +165,13 @@ pub fn read_inside(
             let first = read_inside(columns, sight, under, left, template, uses)?;
             let turned = is_turned(*op, under);
             let second = read_inside(columns, sight, turned, right, template, uses)?;
-            let made = BodyPart::infix(columns.alloc, *op, first, second)?;
             template.put(Piece::Joined(*op))?;
-            Ok(made)
+            BodyPart::infix(columns.alloc, *op, first, second)
         }
         Expression::Marked(op, operand) => {
             let inner = read_inside(columns, sight, under, operand, template, uses)?;
-            let made = inner.postfix(columns.alloc)?;
             template.put(Piece::Marked(*op))?;
-            Ok(made)
+            inner.postfix(columns.alloc)
         }
         Expression::Complement(operand) => {
             let inner = read_inside(columns, sight, true, operand, template, uses)?;
@@ -179,9 +180,8 @@ pub fn read_inside(
         }
         Expression::Identity(operand) => {
             let inner = read_inside(columns, sight, under, operand, template, uses)?;
-            let made = inner.identity(columns.alloc)?;
             template.put(Piece::Identity)?;
-            Ok(made)
+            inner.identity(columns.alloc)
         }
         Expression::Applied(name, arguments) => {
             inside_applied(columns, sight, under, name, arguments, template, uses)

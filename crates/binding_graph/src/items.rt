@@ -17,7 +17,7 @@ use crate::bodies::{group_item, read_bodies, read_check};
 use crate::declare::{declare_all, declare_function, declare_own};
 use crate::fault::ResolveFault;
 use crate::resolved::{Resolved, ResolvedItem, Role};
-use crate::uses::{copied_items, inputs_of_values};
+use crate::uses::copied_lists;
 use crate::workspace::Workspace;
 use binding_kinds::{ModelFault, Scope, Sight};
 use cat_values::{Binding, Expression, Item, ModelText, PREDEFINED};
@@ -248,11 +248,14 @@ fn lower_function(alloc: Global, scope: &Scope) -> Result<ResolvedItem, AllocErr
 {
     match scope.functions.last() {
         None => Ok(silent(alloc)),
-        Some(function) => Ok(ResolvedItem {
-            role: Role::Silent,
-            inputs: inputs_of_values(alloc, &function.values)?,
-            functions: copied_items(alloc, &function.functions)?,
-        }),
+        Some(function) => {
+            let (inputs, functions) = copied_lists(alloc, &function.values, &function.functions)?;
+            Ok(ResolvedItem {
+                role: Role::Silent,
+                inputs,
+                functions,
+            })
+        }
     }
 }
 

@@ -1,13 +1,13 @@
 //! One walk over an expression of a group or a check, in which each name is looked up once: the
 //! kind and the first fault of the expression, its pieces, and what it uses.
 
-ghost use Rattle.std.specs.Prelude.{◌≡◌, ◌<◌, [], ◌∷◌, List, None, Some, Ok, Err, length, map, reverse, IfOk, OnOk, MatchResult};
+ghost use Rattle.std.specs.Prelude.{◌≡◌, ◌<◌, ℕ, [], ◌∷◌, List, None, Some, Ok, Err, length, map, reverse, IfOk, OnOk, MatchResult};
 ghost use Rattle.std.specs.List.{AllZip};
 ghost use Rattle.cat_values.specs.Value.{Apply, gathered};
 ghost use Rattle.cat_values.specs.Values.{term_of};
-ghost use Rattle.binding_kinds.specs.Value.{entry_of};
+ghost use Rattle.binding_kinds.specs.Value.{Naming, entry_of};
 ghost use Rattle.binding_kinds.specs.Kinds.{found, kind_found};
-ghost use Rattle.binding_kinds.specs.Meanings.{parameter_of};
+ghost use Rattle.binding_kinds.specs.Meanings.{parameter_of, named_of};
 ghost use Rattle.binding_kinds.specs.Formula.{postfix};
 ghost use Rattle.binding_kinds.specs.Senses.{Sense, IsKept, AreKept, sense_of};
 ghost use Rattle.binding_kinds.specs.Functions.{sense_seen, named_formula};
@@ -37,6 +37,29 @@ struct Given {
     templates: Vec<Template>,
 }
 
+/// Appends the piece of an expression that is judged so.
+fn put_judged(piece: Piece, judged: Judged, template: &mut Template) -> Result<Judged, AllocError>
+    ensures judged { IfOk result (λ j. j ≡ judged) }
+    ensures template { OnOk result (IsGrown template.old template.new (piece ∷ []) ⊥) }
+{
+    template.put(piece)?;
+    Ok(judged)
+}
+
+/// Appends what the function makes of its arguments, in an application that is judged so.
+fn put_application(
+    function: &Function,
+    arguments: Vec<Template>,
+    judged: Judged,
+    template: &mut Template,
+) -> Result<Judged, AllocError>
+    ensures judged { IfOk result (λ j. j ≡ judged) }
+    ensures template { (ss : List Sense) (names : List Naming) (ps : List (List ℕ)) (x : List ℕ) (xs : List Expression) (s : Sense) → IsKept function.now s → sense_seen ss names ps (length xs) x ≡ Some s → AllZip IsTemplate arguments.items (map (λ e. pieces_in ss names ps (term_of e)) xs) → OnOk result (IsGrown template.old template.new (pieces_in ss names ps (Apply x (gathered (map term_of xs)))) (HasLarge ss names ps (Apply x (gathered (map term_of xs))))) }
+{
+    template.put_function(function, &arguments)?;
+    Ok(judged)
+}
+
 /// Reads `_`, `0` or `{}`.
 fn read_sign(kind: Kind, piece: Piece, template: &mut Template) -> Result<Judged, AllocError>
     ensures judged { IfOk result (λ j. (j.kind ≡ kind) × (j.size ≡ 1) × (j.fault ≡ None)) }
@@ -44,6 +67,31 @@ fn read_sign(kind: Kind, piece: Piece, template: &mut Template) -> Result<Judged
 {
     template.put(piece)?;
     Ok(judged_sign(kind))
+}
+
+/// Looks a name without arguments up, appends its piece and notes what it uses. Errors: want of
+/// memory.
+pub fn note_name(
+    sight: &Sight,
+    name: &Name,
+    template: &mut Template,
+    uses: &mut Uses,
+) -> Result<Named, AllocError>
+    ensures named { IfOk result (λ n. n ≡ named_of (parameter_of (reverse sight.now.parameters.now) name.now) (found (reverse (map entry_of sight.now.entries.now)) name.now)) }
+    ensures template { OnOk result (IsGrown template.old template.new (postfix (named_formula (parameter_of (reverse sight.now.parameters.now) name.now) (found (reverse (map entry_of sight.now.entries.now)) name.now))) ⊥) }
+    ensures uses { OnOk result (AreNoted (λ vs. with_meaning vs sight.now.from (parameter_of (reverse sight.now.parameters.now) name.now) (found (reverse (map entry_of sight.now.entries.now)) name.now)) (λ fs. fs) uses.old uses.new) }
+{
+    match sight.named(name) {
+        Named::Parameter(index) => {
+            template.put(Piece::Parameter(index))?;
+            Ok(Named::Parameter(index))
+        }
+        Named::Other(found) => {
+            template.put_name(found)?;
+            uses.add_name(sight.from, found)?;
+            Ok(Named::Other(found))
+        }
+    }
 }
 
 /// Reads a name without arguments.
@@ -58,16 +106,9 @@ fn read_name(
     ensures template { OnOk result (IsGrown template.old template.new (postfix (named_formula (parameter_of (reverse sight.now.parameters.now) name.now) (found (reverse (map entry_of sight.now.entries.now)) name.now))) ⊥) }
     ensures uses { OnOk result (AreNoted (λ vs. with_meaning vs sight.now.from (parameter_of (reverse sight.now.parameters.now) name.now) (found (reverse (map entry_of sight.now.entries.now)) name.now)) (λ fs. fs) uses.old uses.new) }
 {
-    match sight.named(name) {
-        Named::Parameter(index) => {
-            template.put(Piece::Parameter(index))?;
-            Ok(judged_sign(Kind::OfAny))
-        }
-        Named::Other(found) => {
-            template.put_name(found)?;
-            uses.add_name(sight.from, found)?;
-            Ok(judged_name(sight.from, under, found))
-        }
+    match note_name(sight, name, template, uses)? {
+        Named::Parameter(_) => Ok(judged_sign(Kind::OfAny)),
+        Named::Other(found) => Ok(judged_name(sight.from, under, found)),
     }
 }
 
@@ -149,14 +190,14 @@ fn read_applied(
     match applied(sight, name, arguments.len()) {
         Err(fault) => {
             read_unapplied(alloc, sight, arguments, uses)?;
-            template.put(Piece::NoPairs)?;
-            Ok(judged_faulty(fault))
+            put_judged(Piece::NoPairs, judged_faulty(fault), template)
         }
         Ok(function) => {
             uses.add_function(function)?;
-            let given = read_arguments(alloc, sight, under, function, arguments, uses)?;
-            template.put_function(function, &given.templates)?;
-            Ok(given.known.applied(function))
+            let Given { known, templates } = read_arguments(
+                alloc, sight, under, function, arguments, uses,
+            )?;
+            put_application(function, templates, known.applied(function), template)
         }
     }
 }
@@ -188,23 +229,23 @@ pub fn read_term(
             let first = read_term(alloc, sight, under, left, template, uses)?;
             let turned = is_turned(*op, under);
             let second = read_term(alloc, sight, turned, right, template, uses)?;
-            template.put(Piece::Joined(*op))?;
-            Ok(judged_infix(*op, first, second))
+            put_judged(
+                Piece::Joined(*op),
+                judged_infix(*op, first, second),
+                template,
+            )
         }
         Expression::Marked(op, operand) => {
             let inner = read_term(alloc, sight, under, operand, template, uses)?;
-            template.put(Piece::Marked(*op))?;
-            Ok(judged_postfix(inner))
+            put_judged(Piece::Marked(*op), judged_postfix(inner), template)
         }
         Expression::Complement(operand) => {
             let inner = read_term(alloc, sight, true, operand, template, uses)?;
-            template.put(Piece::Complement)?;
-            Ok(judged_complement(inner))
+            put_judged(Piece::Complement, judged_complement(inner), template)
         }
         Expression::Identity(operand) => {
             let inner = read_term(alloc, sight, under, operand, template, uses)?;
-            template.put(Piece::Identity)?;
-            Ok(judged_identity(inner))
+            put_judged(Piece::Identity, judged_identity(inner), template)
         }
         Expression::Applied(name, arguments) => {
             read_applied(alloc, sight, under, name, arguments, template, uses)

@@ -5,7 +5,7 @@ use cat_values::{CheckWord, Postfix, Predefined};
 use source_text::Name;
 
 /// What a name stands for, where it is used.
-#[derive(Clone, Copy, Debug, PartialEq, Eq)]
+#[derive(Clone, Copy)]
 pub enum Source {
     /// A predefined name.
     Predefined(Predefined),
@@ -16,7 +16,7 @@ pub enum Source {
 }
 
 /// An operator on two sets or on two relations.
-#[derive(Clone, Copy, Debug, PartialEq, Eq)]
+#[derive(Clone, Copy, PartialEq, Eq)]
 pub enum Blend {
     /// `|`
     Union,
@@ -27,7 +27,7 @@ pub enum Blend {
 }
 
 /// What is done with a stack of sets and a stack of relations.
-#[derive(Clone, Copy, Debug, PartialEq, Eq)]
+#[derive(Clone, Copy)]
 pub enum Step {
     /// The set that a name stands for.
     PushSet(Source),

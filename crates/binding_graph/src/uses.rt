@@ -216,8 +216,8 @@ impl Uses {
     }
 }
 
-/// The names that are used, as those of items. Errors: want of memory.
-pub fn inputs_of_values(alloc: Global, values: &[Used]) -> Result<Vec<Input>, AllocError>
+/// The names that are used, as those of items.
+fn inputs_of_values(alloc: Global, values: &[Used]) -> Result<Vec<Input>, AllocError>
     ensures { IfOk result (λ v. v.items ≡ map (λ u. u.input) values.now) }
 {
     let mut inputs = Vec::with_capacity(alloc, values.len())?;
@@ -227,11 +227,17 @@ pub fn inputs_of_values(alloc: Global, values: &[Used]) -> Result<Vec<Input>, Al
     Ok(inputs)
 }
 
-/// The items of functions, copied. Errors: want of memory.
-pub fn copied_items(alloc: Global, items: &[usize]) -> Result<Vec<usize>, AllocError>
-    ensures { IfOk result (λ v. v.items ≡ items.now) }
+/// The names that are used, as those of items, and the items of the functions that are applied.
+/// Errors: want of memory.
+pub fn copied_lists(
+    alloc: Global,
+    values: &[Used],
+    functions: &[usize],
+) -> Result<(Vec<Input>, Vec<usize>), AllocError>
+    ensures inputs { IfOk result (λ r. r.0.items ≡ map (λ u. u.input) values.now) }
+    ensures functions { IfOk result (λ r. r.1.items ≡ functions.now) }
 {
-    let mut copy = Vec::with_capacity(alloc, items.len())?;
-    copy.extend_from_slice(items)?;
-    Ok(copy)
+    let inputs = inputs_of_values(alloc, values)?;
+    let functions = Vec::from_slice(alloc, functions)?;
+    Ok((inputs, functions))
 }

@@ -22,7 +22,7 @@ pub enum Repeats {
 }
 
 /// An operand of a composition.
-#[derive(Debug, Drop, PartialEq)]
+#[derive(Drop)]
 pub struct Factor {
     /// How often it takes the steps of its relation.
     pub repeats: Repeats,

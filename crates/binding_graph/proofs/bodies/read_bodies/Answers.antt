@@ -31,13 +31,13 @@ loop-index-preserved c =
           let v = one.judged ss kept none in
           faultless_more ss _ _ c.args.recursive g i d own c.in_ok-judged.field-0.judged.fault lt (m.faults ss kept none) (rw (← is) (c.binding_fault-own.ensures ss _ v.kind)) (rw (← is) v.fault) clear;
       named = λ ss kept none.
-          named_more ss _ g i d c.loop-index.bodies.items _ (record { name = c.in_ok-copied.field-0; code = c.in_ok-judged.field-0.code }) lt (m.named ss kept none) c.in_ok-push.ensures.items (rw (← is) c.in_ok-copied.ensures) (rw (← is) (one.kind ∙ (one.judged ss kept none).kind));
+          named_more ss _ g i d c.loop-index.bodies.items _ (record { name = d.name; code = c.in_ok-judged.field-0.code }) lt (m.named ss kept none) c.in_ok-push_body.ensures (rw (← is) refl) (rw (← is) (one.kind ∙ (one.judged ss kept none).kind));
       bodies = λ ss kept sound known none ix.
           let v = one.judged ss kept none in
           let indexed = m.indexed ix in
           let fits = fit ss _ _ _ (term_of d.body) known (sym v.fault ∙ none_later own _ clear) in
-          made_more ss _ _ _ c.args.work.now.uses c.loop-index.work.uses c.read_code.new.work.uses g i d _ _ (record { name = c.in_ok-copied.field-0; code = c.in_ok-judged.field-0.code }) lt (m.bodies ss kept sound known none ix)
-          c.in_ok-push.ensures.items (rw (← is) c.in_ok-copied.ensures) (rw (← is) (one.code ss kept sound none indexed fits)) (rw (← is) (rw none at (one.uses.values indexed)));
+          made_more ss _ _ _ c.args.work.now.uses c.loop-index.work.uses c.read_code.new.work.uses g i d _ _ (record { name = d.name; code = c.in_ok-judged.field-0.code }) lt (m.bodies ss kept sound known none ix)
+          c.in_ok-push_body.ensures (rw (← is) refl) (rw (← is) (one.code ss kept sound none indexed fits)) (rw (← is) (rw none at (one.uses.values indexed)));
       uses = λ none. used_more _ _ _ c.args.work.now.uses c.loop-index.work.uses c.read_code.new.work.uses g i d lt (m.uses none) (rw (← is) (rw none at one.uses));
       indexed = λ ix. one.uses.indexed (m.indexed ix);
     }

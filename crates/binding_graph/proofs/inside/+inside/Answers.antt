@@ -5,9 +5,9 @@ use Rattle.cat_values.specs.Values.{term_of}
 use Rattle.cat_values.specs.Value.{AllEvents, EmptyRelation, EmptySet, Join, Mark, Not, On, Apply, gathered}
 use Rattle.cat_values.proofs.Arguments.{applied_term}
 use Rattle.binding_kinds.specs.Value.{entry_of}
-use Rattle.binding_functions.proofs.Filling.{grown_as, more_arguments, whole_template, large_whole, some_pieces, unfit_pieces, put_applied, all_arguments}
+use Rattle.binding_functions.proofs.Filling.{grown_as, more_arguments, whole_template, large_whole, some_pieces, unfit_pieces, all_arguments}
 use Rattle.binding_functions.specs.Parts.{IsBodyPart, AreBodyParts}
-use Rattle.binding_graph.proofs.Meant.{if_as}
+use Rattle.binding_graph.proofs.Meant.{if_as, on_ok}
 use Rattle.binding_graph.proofs.Walks.{noted_then, noted_more, noted_all, noted_applied, noted_unapplied, grown_infix, grown_postfix, grown_complement, grown_identity}
 use Rattle.binding_graph.proofs.inside.+inside.Goals as goal
 
@@ -61,37 +61,37 @@ inside_arguments-returns-clause-uses t c = noted_all _ _ _ _ c.args.arguments.no
 -- ---- applications
 
 pub inside_applied-returns-in_ok-put-in-Err-clause-part : goal.inside_applied-returns-in_ok-put-in-Err-clause-part
-inside_applied-returns-in_ok-put-in-Err-clause-part t c = λ ss kept. c.in_ok-part-in-Err.ensures ss _ _ c.args.under c.args.name.now c.args.arguments.now (c.in-Err.ensures.sense ss kept).0 (c.in-Err.ensures.fault ss kept)
+inside_applied-returns-in_ok-put-in-Err-clause-part t c = λ ss kept. c.refused.ensures ss _ _ c.args.under c.args.name.now c.args.arguments.now (c.in-Err.ensures.sense ss kept).0 (c.in-Err.ensures.fault ss kept)
 
 pub inside_applied-returns-in_ok-put-in-Err-clause-template : goal.inside_applied-returns-in_ok-put-in-Err-clause-template
 inside_applied-returns-in_ok-put-in-Err-clause-template t c = λ ss kept.
     let names = reverse (map entry_of c.args.sight.now.entries.now) in
     let ps = c.args.sight.now.parameters.now in
-    grown_as _ _ _ _ _ _ (unfit_pieces ss names ps c.args.name.now c.args.arguments.now (c.in-Err.ensures.sense ss kept).0) (λ bad. absurd bad) c.in_ok-put-in-Err.ensures
+    on_ok c.refused.result (grown_as _ _ _ _ _ _ (unfit_pieces ss names ps c.args.name.now c.args.arguments.now (c.in-Err.ensures.sense ss kept).0) (λ bad. absurd bad) c.in_ok-put-in-Err.ensures)
 
 pub inside_applied-returns-in_ok-put-in-Err-clause-uses : goal.inside_applied-returns-in_ok-put-in-Err-clause-uses
 inside_applied-returns-in_ok-put-in-Err-clause-uses t c =
-    noted_unapplied _ _ _ _ c.args.name.now c.args.arguments.now _ _ c.in-Err.ensures.usage c.in_ok-read_unapplied-in-Err.ensures
+    on_ok c.refused.result (noted_unapplied _ _ _ _ c.args.name.now c.args.arguments.now _ _ c.in-Err.ensures.usage c.in_ok-read_unapplied-in-Err.ensures)
 
-pub inside_applied-returns-in_ok-put_function-in-Ok-clause-part : goal.inside_applied-returns-in_ok-put_function-in-Ok-clause-part
-inside_applied-returns-in_ok-put_function-in-Ok-clause-part t c = λ ss kept.
+pub inside_applied-returns-in_ok-given-in-Ok-clause-part : goal.inside_applied-returns-in_ok-given-in-Ok-clause-part
+inside_applied-returns-in_ok-given-in-Ok-clause-part t c = λ ss kept.
     let h = c.in-Ok.ensures.sense ss kept in
     let long : length c.args.arguments.now ≡ h.0.arity = sym h.2 in
-    c.in_ok-part-in-Ok.ensures ss _ _ c.args.columns.rows c.args.under c.args.name.now c.args.arguments.now h.0 h.3 long h.1 (c.in-Ok.ensures.fault ss kept) (c.in_ok-body-in-Ok.ensures.body ss h.0 kept h.3 long)
+    c.applied-in-Ok.ensures.part ss _ _ c.args.columns.rows c.args.under c.args.name.now c.args.arguments.now h.0 h.3 long h.1 (c.in-Ok.ensures.fault ss kept) (c.in_ok-given-in-Ok.ensures.body ss h.0 kept h.3 long)
 
-pub inside_applied-returns-in_ok-put_function-in-Ok-clause-template : goal.inside_applied-returns-in_ok-put_function-in-Ok-clause-template
-inside_applied-returns-in_ok-put_function-in-Ok-clause-template t c = λ ss kept.
+pub inside_applied-returns-in_ok-given-in-Ok-clause-template : goal.inside_applied-returns-in_ok-given-in-Ok-clause-template
+inside_applied-returns-in_ok-given-in-Ok-clause-template t c = λ ss kept.
     let names = reverse (map entry_of c.args.sight.now.entries.now) in
     let ps = c.args.sight.now.parameters.now in
     let h = c.in-Ok.ensures.sense ss kept in
-    put_applied ss names ps c.args.name.now c.args.arguments.now h.0 c.args.template.now c.put_function.new.self c.deref.result.now h.1 (rw c.deref.ensures.value (c.in_ok-body-in-Ok.ensures.templates ss kept))
-    (λ wholes all. c.in_ok-put_function-in-Ok.ensures h.0 wholes h.3 all)
+    c.applied-in-Ok.ensures.template ss names ps c.args.name.now c.args.arguments.now h.0 h.3 h.1 (c.in_ok-given-in-Ok.ensures.templates ss kept)
 
-pub inside_applied-returns-in_ok-put_function-in-Ok-clause-uses : goal.inside_applied-returns-in_ok-put_function-in-Ok-clause-uses
-inside_applied-returns-in_ok-put_function-in-Ok-clause-uses t c =
+pub inside_applied-returns-in_ok-given-in-Ok-clause-uses : goal.inside_applied-returns-in_ok-given-in-Ok-clause-uses
+inside_applied-returns-in_ok-given-in-Ok-clause-uses t c =
     let first = c.in_ok-add_function-in-Ok.ensures in
-    noted_applied _ _ _ _ c.args.name.now c.args.arguments.now c.in-Ok.function.now _ _ _ c.in-Ok.ensures.usage
-    (record { indexed = first.indexed; listed = first.listed; values = first.values; functions = first.functions }) c.in_ok-body-in-Ok.ensures.uses
+    on_ok c.applied-in-Ok.result
+    (noted_applied _ _ _ _ c.args.name.now c.args.arguments.now c.in-Ok.function.now _ _ _ c.in-Ok.ensures.usage
+    (record { indexed = first.indexed; listed = first.listed; values = first.values; functions = first.functions }) c.in_ok-given-in-Ok.ensures.uses)
 
 -- ---- expressions
 
@@ -131,36 +131,36 @@ read_inside-returns-in-Applied-clause-uses t c =
 pub read_inside-returns-in_ok-put-in-Joined-clause-part : goal.read_inside-returns-in_ok-put-in-Joined-clause-part
 read_inside-returns-in_ok-put-in-Joined-clause-part t c = λ ss kept.
     let is : term_of c.args.term.now ≡ Join c.in-Joined.op (term_of c.deref.result.now) (term_of c.deref-in-Joined.result.now) = let h = ap term_of c.in-Joined.is in let d = c.deref.ensures in let k = c.deref-in-Joined.ensures in cc in
-    rw is (c.in_ok-made-in-Joined.ensures ss _ _ c.args.columns.rows c.args.under _ _ (c.in_ok-first-in-Joined.ensures.part ss kept) (rw c.is_turned-turned.ensures at (c.in_ok-second-in-Joined.ensures.part ss kept)))
+    rw is (c.infix.ensures ss _ _ c.args.columns.rows c.args.under _ _ (c.in_ok-first-in-Joined.ensures.part ss kept) (rw c.is_turned-turned.ensures at (c.in_ok-second-in-Joined.ensures.part ss kept)))
 
 pub read_inside-returns-in_ok-put-in-Joined-clause-template : goal.read_inside-returns-in_ok-put-in-Joined-clause-template
 read_inside-returns-in_ok-put-in-Joined-clause-template t c = λ ss kept.
     let names = reverse (map entry_of c.args.sight.now.entries.now) in
     let ps = c.args.sight.now.parameters.now in
     let is : term_of c.args.term.now ≡ Join c.in-Joined.op (term_of c.deref.result.now) (term_of c.deref-in-Joined.result.now) = let h = ap term_of c.in-Joined.is in let d = c.deref.ensures in let k = c.deref-in-Joined.ensures in cc in
-    rw is (grown_infix ss names ps c.in-Joined.op (term_of c.deref.result.now) (term_of c.deref-in-Joined.result.now) _ _ _ _ (c.in_ok-first-in-Joined.ensures.template ss kept) (c.in_ok-second-in-Joined.ensures.template ss kept) c.in_ok-put-in-Joined.ensures)
+    rw is (on_ok c.infix.result (grown_infix ss names ps c.in-Joined.op (term_of c.deref.result.now) (term_of c.deref-in-Joined.result.now) _ _ _ _ (c.in_ok-first-in-Joined.ensures.template ss kept) (c.in_ok-second-in-Joined.ensures.template ss kept) c.in_ok-put-in-Joined.ensures))
 
 pub read_inside-returns-in_ok-put-in-Joined-clause-uses : goal.read_inside-returns-in_ok-put-in-Joined-clause-uses
 read_inside-returns-in_ok-put-in-Joined-clause-uses t c =
     let is : term_of c.args.term.now ≡ Join c.in-Joined.op (term_of c.deref.result.now) (term_of c.deref-in-Joined.result.now) = let h = ap term_of c.in-Joined.is in let d = c.deref.ensures in let k = c.deref-in-Joined.ensures in cc in
-    rw is (noted_then _ _ _ _ _ _ _ c.in_ok-first-in-Joined.ensures.uses c.in_ok-second-in-Joined.ensures.uses)
+    rw is (on_ok c.infix.result (noted_then _ _ _ _ _ _ _ c.in_ok-first-in-Joined.ensures.uses c.in_ok-second-in-Joined.ensures.uses))
 
 pub read_inside-returns-in_ok-put-in-Marked-clause-part : goal.read_inside-returns-in_ok-put-in-Marked-clause-part
 read_inside-returns-in_ok-put-in-Marked-clause-part t c = λ ss kept.
     let is : term_of c.args.term.now ≡ Mark c.in-Marked.op (term_of c.deref-in-Marked.result.now) = let h = ap term_of c.in-Marked.is in let d = c.deref-in-Marked.ensures in cc in
-    rw is (c.in_ok-made-in-Marked.ensures ss _ _ c.args.columns.rows c.args.under c.in-Marked.op _ (c.in_ok-inner-in-Marked.ensures.part ss kept))
+    rw is (c.postfix.ensures ss _ _ c.args.columns.rows c.args.under c.in-Marked.op _ (c.in_ok-inner-in-Marked.ensures.part ss kept))
 
 pub read_inside-returns-in_ok-put-in-Marked-clause-template : goal.read_inside-returns-in_ok-put-in-Marked-clause-template
 read_inside-returns-in_ok-put-in-Marked-clause-template t c = λ ss kept.
     let names = reverse (map entry_of c.args.sight.now.entries.now) in
     let ps = c.args.sight.now.parameters.now in
     let is : term_of c.args.term.now ≡ Mark c.in-Marked.op (term_of c.deref-in-Marked.result.now) = let h = ap term_of c.in-Marked.is in let d = c.deref-in-Marked.ensures in cc in
-    rw is (grown_postfix ss names ps c.in-Marked.op (term_of c.deref-in-Marked.result.now) _ _ _ (c.in_ok-inner-in-Marked.ensures.template ss kept) c.in_ok-put-in-Marked.ensures)
+    rw is (on_ok c.postfix.result (grown_postfix ss names ps c.in-Marked.op (term_of c.deref-in-Marked.result.now) _ _ _ (c.in_ok-inner-in-Marked.ensures.template ss kept) c.in_ok-put-in-Marked.ensures))
 
 pub read_inside-returns-in_ok-put-in-Marked-clause-uses : goal.read_inside-returns-in_ok-put-in-Marked-clause-uses
 read_inside-returns-in_ok-put-in-Marked-clause-uses t c =
     let is : term_of c.args.term.now ≡ Mark c.in-Marked.op (term_of c.deref-in-Marked.result.now) = let h = ap term_of c.in-Marked.is in let d = c.deref-in-Marked.ensures in cc in
-    rw is c.in_ok-inner-in-Marked.ensures.uses
+    rw is (on_ok c.postfix.result c.in_ok-inner-in-Marked.ensures.uses)
 
 pub read_inside-returns-in_ok-put-in-Complement-clause-part : goal.read_inside-returns-in_ok-put-in-Complement-clause-part
 read_inside-returns-in_ok-put-in-Complement-clause-part t c = λ ss kept.
@@ -183,16 +183,16 @@ read_inside-returns-in_ok-put-in-Complement-clause-uses t c =
 pub read_inside-returns-in_ok-put-in-Identity-clause-part : goal.read_inside-returns-in_ok-put-in-Identity-clause-part
 read_inside-returns-in_ok-put-in-Identity-clause-part t c = λ ss kept.
     let is : term_of c.args.term.now ≡ On (term_of c.deref-in-Identity.result.now) = let h = ap term_of c.in-Identity.is in let d = c.deref-in-Identity.ensures in cc in
-    rw is (c.in_ok-made-in-Identity.ensures ss _ _ c.args.columns.rows c.args.under _ (c.in_ok-inner-in-Identity.ensures.part ss kept))
+    rw is (c.identity.ensures ss _ _ c.args.columns.rows c.args.under _ (c.in_ok-inner-in-Identity.ensures.part ss kept))
 
 pub read_inside-returns-in_ok-put-in-Identity-clause-template : goal.read_inside-returns-in_ok-put-in-Identity-clause-template
 read_inside-returns-in_ok-put-in-Identity-clause-template t c = λ ss kept.
     let names = reverse (map entry_of c.args.sight.now.entries.now) in
     let ps = c.args.sight.now.parameters.now in
     let is : term_of c.args.term.now ≡ On (term_of c.deref-in-Identity.result.now) = let h = ap term_of c.in-Identity.is in let d = c.deref-in-Identity.ensures in cc in
-    rw is (grown_identity ss names ps (term_of c.deref-in-Identity.result.now) _ _ _ (c.in_ok-inner-in-Identity.ensures.template ss kept) c.in_ok-put-in-Identity.ensures)
+    rw is (on_ok c.identity.result (grown_identity ss names ps (term_of c.deref-in-Identity.result.now) _ _ _ (c.in_ok-inner-in-Identity.ensures.template ss kept) c.in_ok-put-in-Identity.ensures))
 
 pub read_inside-returns-in_ok-put-in-Identity-clause-uses : goal.read_inside-returns-in_ok-put-in-Identity-clause-uses
 read_inside-returns-in_ok-put-in-Identity-clause-uses t c =
     let is : term_of c.args.term.now ≡ On (term_of c.deref-in-Identity.result.now) = let h = ap term_of c.in-Identity.is in let d = c.deref-in-Identity.ensures in cc in
-    rw is c.in_ok-inner-in-Identity.ensures.uses
+    rw is (on_ok c.identity.result c.in_ok-inner-in-Identity.ensures.uses)

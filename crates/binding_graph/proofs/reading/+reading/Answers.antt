@@ -4,8 +4,8 @@ use Rattle.cat_values.specs.Values.{term_of}
 use Rattle.cat_values.specs.Value.{Atom, Join, Mark, Not, On, Apply, gathered}
 use Rattle.cat_values.proofs.Arguments.{applied_term}
 use Rattle.binding_kinds.specs.Value.{entry_of}
-use Rattle.binding_functions.proofs.Filling.{grown_as, more_arguments, whole_template, large_whole, some_pieces, unfit_pieces, put_applied, all_arguments}
-use Rattle.binding_graph.proofs.Meant.{if_as}
+use Rattle.binding_functions.proofs.Filling.{grown_as, more_arguments, whole_template, large_whole, some_pieces, unfit_pieces, all_arguments, on_ok_as}
+use Rattle.binding_graph.proofs.Meant.{if_as, if_same, on_ok}
 use Rattle.binding_graph.proofs.Walks.{verdict_infix, verdict_postfix, verdict_complement, verdict_identity, judged_none, judged_more, judged_all, verdict_applied, verdict_unfit, noted_then, noted_more, noted_all, noted_applied, noted_unapplied, grown_infix, grown_postfix, grown_complement, grown_identity}
 use Rattle.binding_graph.proofs.Sights.{seen_plainly}
 use Rattle.binding_graph.proofs.reading.+reading.Goals as goal
@@ -64,43 +64,45 @@ read_arguments-returns-clause-uses t c = noted_all _ _ _ _ c.args.arguments.now 
 
 -- ---- applications
 
-pub read_applied-returns-in_ok-put-in-Err-clause-judged : goal.read_applied-returns-in_ok-put-in-Err-clause-judged
-read_applied-returns-in_ok-put-in-Err-clause-judged t c = λ ss kept none.
+pub read_applied-returns-in_ok-read_unapplied-in-Err-clause-judged : goal.read_applied-returns-in_ok-read_unapplied-in-Err-clause-judged
+read_applied-returns-in_ok-read_unapplied-in-Err-clause-judged t c = λ ss kept none.
     let made = c.judged_faulty.ensures in
-    verdict_unfit ss _ _ c.args.under c.args.name.now c.args.arguments.now c.in-Err.fault c.judged_faulty.result ((c.in-Err.ensures.sense ss kept).1 none) made.kind made.size made.fault
+    if_same c.put_judged.result c.judged_faulty.result _
+    (verdict_unfit ss _ _ c.args.under c.args.name.now c.args.arguments.now c.in-Err.fault c.judged_faulty.result ((c.in-Err.ensures.sense ss kept).1 none) made.kind made.size made.fault) c.put_judged.ensures.judged
 
-pub read_applied-returns-in_ok-put-in-Err-clause-template : goal.read_applied-returns-in_ok-put-in-Err-clause-template
-read_applied-returns-in_ok-put-in-Err-clause-template t c = λ ss kept.
+pub read_applied-returns-in_ok-read_unapplied-in-Err-clause-template : goal.read_applied-returns-in_ok-read_unapplied-in-Err-clause-template
+read_applied-returns-in_ok-read_unapplied-in-Err-clause-template t c = λ ss kept.
     let names = reverse (map entry_of c.args.sight.now.entries.now) in
     let ps = c.args.sight.now.parameters.now in
-    grown_as _ _ _ _ _ _ (unfit_pieces ss names ps c.args.name.now c.args.arguments.now (c.in-Err.ensures.sense ss kept).0) (λ bad. absurd bad) c.in_ok-put-in-Err.ensures
+    on_ok_as c.put_judged.result _ _ (grown_as _ _ _ _ _ _ (unfit_pieces ss names ps c.args.name.now c.args.arguments.now (c.in-Err.ensures.sense ss kept).0) (λ bad. absurd bad)) c.put_judged.ensures.template
 
-pub read_applied-returns-in_ok-put-in-Err-clause-uses : goal.read_applied-returns-in_ok-put-in-Err-clause-uses
-read_applied-returns-in_ok-put-in-Err-clause-uses t c =
-    noted_unapplied _ _ _ _ c.args.name.now c.args.arguments.now _ _ c.in-Err.ensures.usage c.in_ok-read_unapplied-in-Err.ensures
+pub read_applied-returns-in_ok-read_unapplied-in-Err-clause-uses : goal.read_applied-returns-in_ok-read_unapplied-in-Err-clause-uses
+read_applied-returns-in_ok-read_unapplied-in-Err-clause-uses t c =
+    on_ok c.put_judged.result (noted_unapplied _ _ _ _ c.args.name.now c.args.arguments.now _ _ c.in-Err.ensures.usage c.in_ok-read_unapplied-in-Err.ensures)
 
-pub read_applied-returns-in_ok-put_function-in-Ok-clause-judged : goal.read_applied-returns-in_ok-put_function-in-Ok-clause-judged
-read_applied-returns-in_ok-put_function-in-Ok-clause-judged t c = λ ss kept none.
+pub read_applied-returns-in_ok-known-in-Ok-clause-judged : goal.read_applied-returns-in_ok-known-in-Ok-clause-judged
+read_applied-returns-in_ok-known-in-Ok-clause-judged t c = λ ss kept none.
     let h = c.in-Ok.ensures.sense ss kept in
     let there = seen_plainly ss _ _ _ c.args.name.now h.0 none h.1 in
     let long : length c.args.arguments.now ≡ h.0.arity = sym h.2 in
     let made = c.applied-in-Ok.ensures in
-    verdict_applied c.args.sight.now.functions.now ss _ _ c.args.under c.args.name.now c.args.arguments.now c.in-Ok.function.now h.0 c.in_ok-given-in-Ok.given.known c.applied-in-Ok.result kept h.3 there long
-    (c.in_ok-given-in-Ok.ensures.judged ss h.0 kept none h.3 long) made.oversized made.large made.small
+    if_same c.put_application.result c.applied-in-Ok.result _
+    (verdict_applied c.args.sight.now.functions.now ss _ _ c.args.under c.args.name.now c.args.arguments.now c.in-Ok.function.now h.0 _ c.applied-in-Ok.result kept h.3 there long
+    (c.in_ok-known-in-Ok.ensures.judged ss h.0 kept none h.3 long) made.oversized made.large made.small) c.put_application.ensures.judged
 
-pub read_applied-returns-in_ok-put_function-in-Ok-clause-template : goal.read_applied-returns-in_ok-put_function-in-Ok-clause-template
-read_applied-returns-in_ok-put_function-in-Ok-clause-template t c = λ ss kept.
+pub read_applied-returns-in_ok-known-in-Ok-clause-template : goal.read_applied-returns-in_ok-known-in-Ok-clause-template
+read_applied-returns-in_ok-known-in-Ok-clause-template t c = λ ss kept.
     let names = reverse (map entry_of c.args.sight.now.entries.now) in
     let ps = c.args.sight.now.parameters.now in
     let h = c.in-Ok.ensures.sense ss kept in
-    put_applied ss names ps c.args.name.now c.args.arguments.now h.0 c.args.template.now c.put_function.new.self c.deref.result.now h.1 (rw c.deref.ensures.value (c.in_ok-given-in-Ok.ensures.templates ss kept))
-    (λ wholes all. c.in_ok-put_function-in-Ok.ensures h.0 wholes h.3 all)
+    c.put_application.ensures.template ss names ps c.args.name.now c.args.arguments.now h.0 h.3 h.1 (c.in_ok-known-in-Ok.ensures.templates ss kept)
 
-pub read_applied-returns-in_ok-put_function-in-Ok-clause-uses : goal.read_applied-returns-in_ok-put_function-in-Ok-clause-uses
-read_applied-returns-in_ok-put_function-in-Ok-clause-uses t c =
+pub read_applied-returns-in_ok-known-in-Ok-clause-uses : goal.read_applied-returns-in_ok-known-in-Ok-clause-uses
+read_applied-returns-in_ok-known-in-Ok-clause-uses t c =
     let first = c.in_ok-add_function-in-Ok.ensures in
-    noted_applied _ _ _ _ c.args.name.now c.args.arguments.now c.in-Ok.function.now _ _ _ c.in-Ok.ensures.usage
-    (record { indexed = first.indexed; listed = first.listed; values = first.values; functions = first.functions }) c.in_ok-given-in-Ok.ensures.uses
+    on_ok c.put_application.result
+    (noted_applied _ _ _ _ c.args.name.now c.args.arguments.now c.in-Ok.function.now _ _ _ c.in-Ok.ensures.usage
+    (record { indexed = first.indexed; listed = first.listed; values = first.values; functions = first.functions }) c.in_ok-known-in-Ok.ensures.uses)
 
 -- ---- expressions
 
@@ -127,74 +129,74 @@ read_term-returns-in-Applied-clause-uses t c =
     ap term_of c.in-Applied.is ∙ (applied_term c.in-Applied.name c.in-Applied.arguments ∙ ap (λ (l : List Expression). Apply c.in-Applied.name (gathered (map term_of l))) (sym c.deref-in-Applied.ensures.value)) in
     rw is c.read_applied.ensures.uses
 
-pub read_term-returns-in_ok-put-in-Joined-clause-judged : goal.read_term-returns-in_ok-put-in-Joined-clause-judged
-read_term-returns-in_ok-put-in-Joined-clause-judged t c = λ ss kept none.
+pub read_term-returns-in_ok-second-in-Joined-clause-judged : goal.read_term-returns-in_ok-second-in-Joined-clause-judged
+read_term-returns-in_ok-second-in-Joined-clause-judged t c = λ ss kept none.
     let is : term_of c.args.term.now ≡ Join c.in-Joined.op (term_of c.deref.result.now) (term_of c.deref-in-Joined.result.now) = let h = ap term_of c.in-Joined.is in let d = c.deref.ensures in let k = c.deref-in-Joined.ensures in cc in
     let made = c.judged_infix.ensures in
-    rw is (verdict_infix ss _ _ c.args.under c.in-Joined.op _ _ c.in_ok-first-in-Joined.first c.in_ok-second-in-Joined.second c.judged_infix.result (c.in_ok-first-in-Joined.ensures.judged ss kept none) (rw c.is_turned-turned.ensures at (c.in_ok-second-in-Joined.ensures.judged ss kept none)) made.size made.kind made.fault)
+    rw is (if_same c.put_judged.result c.judged_infix.result _ (verdict_infix ss _ _ c.args.under c.in-Joined.op _ _ c.in_ok-first-in-Joined.first c.in_ok-second-in-Joined.second c.judged_infix.result (c.in_ok-first-in-Joined.ensures.judged ss kept none) (rw c.is_turned-turned.ensures at (c.in_ok-second-in-Joined.ensures.judged ss kept none)) made.size made.kind made.fault) c.put_judged.ensures.judged)
 
-pub read_term-returns-in_ok-put-in-Joined-clause-template : goal.read_term-returns-in_ok-put-in-Joined-clause-template
-read_term-returns-in_ok-put-in-Joined-clause-template t c = λ ss kept.
+pub read_term-returns-in_ok-second-in-Joined-clause-template : goal.read_term-returns-in_ok-second-in-Joined-clause-template
+read_term-returns-in_ok-second-in-Joined-clause-template t c = λ ss kept.
     let names = reverse (map entry_of c.args.sight.now.entries.now) in
     let ps = c.args.sight.now.parameters.now in
     let is : term_of c.args.term.now ≡ Join c.in-Joined.op (term_of c.deref.result.now) (term_of c.deref-in-Joined.result.now) = let h = ap term_of c.in-Joined.is in let d = c.deref.ensures in let k = c.deref-in-Joined.ensures in cc in
-    rw is (grown_infix ss names ps c.in-Joined.op (term_of c.deref.result.now) (term_of c.deref-in-Joined.result.now) _ _ _ _ (c.in_ok-first-in-Joined.ensures.template ss kept) (c.in_ok-second-in-Joined.ensures.template ss kept) c.in_ok-put-in-Joined.ensures)
+    rw is (on_ok_as c.put_judged.result _ _ (grown_infix ss names ps c.in-Joined.op (term_of c.deref.result.now) (term_of c.deref-in-Joined.result.now) _ _ _ _ (c.in_ok-first-in-Joined.ensures.template ss kept) (c.in_ok-second-in-Joined.ensures.template ss kept)) c.put_judged.ensures.template)
 
-pub read_term-returns-in_ok-put-in-Joined-clause-uses : goal.read_term-returns-in_ok-put-in-Joined-clause-uses
-read_term-returns-in_ok-put-in-Joined-clause-uses t c =
+pub read_term-returns-in_ok-second-in-Joined-clause-uses : goal.read_term-returns-in_ok-second-in-Joined-clause-uses
+read_term-returns-in_ok-second-in-Joined-clause-uses t c =
     let is : term_of c.args.term.now ≡ Join c.in-Joined.op (term_of c.deref.result.now) (term_of c.deref-in-Joined.result.now) = let h = ap term_of c.in-Joined.is in let d = c.deref.ensures in let k = c.deref-in-Joined.ensures in cc in
-    rw is (noted_then _ _ _ _ _ _ _ c.in_ok-first-in-Joined.ensures.uses c.in_ok-second-in-Joined.ensures.uses)
+    rw is (on_ok c.put_judged.result (noted_then _ _ _ _ _ _ _ c.in_ok-first-in-Joined.ensures.uses c.in_ok-second-in-Joined.ensures.uses))
 
-pub read_term-returns-in_ok-put-in-Marked-clause-judged : goal.read_term-returns-in_ok-put-in-Marked-clause-judged
-read_term-returns-in_ok-put-in-Marked-clause-judged t c = λ ss kept none.
+pub read_term-returns-in_ok-inner-in-Marked-clause-judged : goal.read_term-returns-in_ok-inner-in-Marked-clause-judged
+read_term-returns-in_ok-inner-in-Marked-clause-judged t c = λ ss kept none.
     let is : term_of c.args.term.now ≡ Mark c.in-Marked.op (term_of c.deref-in-Marked.result.now) = let h = ap term_of c.in-Marked.is in let d = c.deref-in-Marked.ensures in cc in
     let made = c.judged_postfix.ensures in
-    rw is (verdict_postfix ss _ _ c.args.under c.in-Marked.op _ c.in_ok-inner-in-Marked.inner c.judged_postfix.result (c.in_ok-inner-in-Marked.ensures.judged ss kept none) made.size made.kind made.fault)
+    rw is (if_same c.put_judged-in-Marked.result c.judged_postfix.result _ (verdict_postfix ss _ _ c.args.under c.in-Marked.op _ c.in_ok-inner-in-Marked.inner c.judged_postfix.result (c.in_ok-inner-in-Marked.ensures.judged ss kept none) made.size made.kind made.fault) c.put_judged-in-Marked.ensures.judged)
 
-pub read_term-returns-in_ok-put-in-Marked-clause-template : goal.read_term-returns-in_ok-put-in-Marked-clause-template
-read_term-returns-in_ok-put-in-Marked-clause-template t c = λ ss kept.
+pub read_term-returns-in_ok-inner-in-Marked-clause-template : goal.read_term-returns-in_ok-inner-in-Marked-clause-template
+read_term-returns-in_ok-inner-in-Marked-clause-template t c = λ ss kept.
     let names = reverse (map entry_of c.args.sight.now.entries.now) in
     let ps = c.args.sight.now.parameters.now in
     let is : term_of c.args.term.now ≡ Mark c.in-Marked.op (term_of c.deref-in-Marked.result.now) = let h = ap term_of c.in-Marked.is in let d = c.deref-in-Marked.ensures in cc in
-    rw is (grown_postfix ss names ps c.in-Marked.op (term_of c.deref-in-Marked.result.now) _ _ _ (c.in_ok-inner-in-Marked.ensures.template ss kept) c.in_ok-put-in-Marked.ensures)
+    rw is (on_ok_as c.put_judged-in-Marked.result _ _ (grown_postfix ss names ps c.in-Marked.op (term_of c.deref-in-Marked.result.now) _ _ _ (c.in_ok-inner-in-Marked.ensures.template ss kept)) c.put_judged-in-Marked.ensures.template)
 
-pub read_term-returns-in_ok-put-in-Marked-clause-uses : goal.read_term-returns-in_ok-put-in-Marked-clause-uses
-read_term-returns-in_ok-put-in-Marked-clause-uses t c =
+pub read_term-returns-in_ok-inner-in-Marked-clause-uses : goal.read_term-returns-in_ok-inner-in-Marked-clause-uses
+read_term-returns-in_ok-inner-in-Marked-clause-uses t c =
     let is : term_of c.args.term.now ≡ Mark c.in-Marked.op (term_of c.deref-in-Marked.result.now) = let h = ap term_of c.in-Marked.is in let d = c.deref-in-Marked.ensures in cc in
-    rw is c.in_ok-inner-in-Marked.ensures.uses
+    rw is (on_ok c.put_judged-in-Marked.result c.in_ok-inner-in-Marked.ensures.uses)
 
-pub read_term-returns-in_ok-put-in-Complement-clause-judged : goal.read_term-returns-in_ok-put-in-Complement-clause-judged
-read_term-returns-in_ok-put-in-Complement-clause-judged t c = λ ss kept none.
+pub read_term-returns-in_ok-inner-in-Complement-clause-judged : goal.read_term-returns-in_ok-inner-in-Complement-clause-judged
+read_term-returns-in_ok-inner-in-Complement-clause-judged t c = λ ss kept none.
     let is : term_of c.args.term.now ≡ Not (term_of c.deref-in-Complement.result.now) = let h = ap term_of c.in-Complement.is in let d = c.deref-in-Complement.ensures in cc in
     let made = c.judged_complement.ensures in
-    rw is (verdict_complement ss _ _ c.args.under _ c.in_ok-inner-in-Complement.inner c.judged_complement.result (c.in_ok-inner-in-Complement.ensures.judged ss kept none) made.size made.kind made.fault)
+    rw is (if_same c.put_judged-in-Complement.result c.judged_complement.result _ (verdict_complement ss _ _ c.args.under _ c.in_ok-inner-in-Complement.inner c.judged_complement.result (c.in_ok-inner-in-Complement.ensures.judged ss kept none) made.size made.kind made.fault) c.put_judged-in-Complement.ensures.judged)
 
-pub read_term-returns-in_ok-put-in-Complement-clause-template : goal.read_term-returns-in_ok-put-in-Complement-clause-template
-read_term-returns-in_ok-put-in-Complement-clause-template t c = λ ss kept.
+pub read_term-returns-in_ok-inner-in-Complement-clause-template : goal.read_term-returns-in_ok-inner-in-Complement-clause-template
+read_term-returns-in_ok-inner-in-Complement-clause-template t c = λ ss kept.
     let names = reverse (map entry_of c.args.sight.now.entries.now) in
     let ps = c.args.sight.now.parameters.now in
     let is : term_of c.args.term.now ≡ Not (term_of c.deref-in-Complement.result.now) = let h = ap term_of c.in-Complement.is in let d = c.deref-in-Complement.ensures in cc in
-    rw is (grown_complement ss names ps (term_of c.deref-in-Complement.result.now) _ _ _ (c.in_ok-inner-in-Complement.ensures.template ss kept) c.in_ok-put-in-Complement.ensures)
+    rw is (on_ok_as c.put_judged-in-Complement.result _ _ (grown_complement ss names ps (term_of c.deref-in-Complement.result.now) _ _ _ (c.in_ok-inner-in-Complement.ensures.template ss kept)) c.put_judged-in-Complement.ensures.template)
 
-pub read_term-returns-in_ok-put-in-Complement-clause-uses : goal.read_term-returns-in_ok-put-in-Complement-clause-uses
-read_term-returns-in_ok-put-in-Complement-clause-uses t c =
+pub read_term-returns-in_ok-inner-in-Complement-clause-uses : goal.read_term-returns-in_ok-inner-in-Complement-clause-uses
+read_term-returns-in_ok-inner-in-Complement-clause-uses t c =
     let is : term_of c.args.term.now ≡ Not (term_of c.deref-in-Complement.result.now) = let h = ap term_of c.in-Complement.is in let d = c.deref-in-Complement.ensures in cc in
-    rw is c.in_ok-inner-in-Complement.ensures.uses
+    rw is (on_ok c.put_judged-in-Complement.result c.in_ok-inner-in-Complement.ensures.uses)
 
-pub read_term-returns-in_ok-put-in-Identity-clause-judged : goal.read_term-returns-in_ok-put-in-Identity-clause-judged
-read_term-returns-in_ok-put-in-Identity-clause-judged t c = λ ss kept none.
+pub read_term-returns-in_ok-inner-in-Identity-clause-judged : goal.read_term-returns-in_ok-inner-in-Identity-clause-judged
+read_term-returns-in_ok-inner-in-Identity-clause-judged t c = λ ss kept none.
     let is : term_of c.args.term.now ≡ On (term_of c.deref-in-Identity.result.now) = let h = ap term_of c.in-Identity.is in let d = c.deref-in-Identity.ensures in cc in
     let made = c.judged_identity.ensures in
-    rw is (verdict_identity ss _ _ c.args.under _ c.in_ok-inner-in-Identity.inner c.judged_identity.result (c.in_ok-inner-in-Identity.ensures.judged ss kept none) made.size made.kind made.fault)
+    rw is (if_same c.put_judged-in-Identity.result c.judged_identity.result _ (verdict_identity ss _ _ c.args.under _ c.in_ok-inner-in-Identity.inner c.judged_identity.result (c.in_ok-inner-in-Identity.ensures.judged ss kept none) made.size made.kind made.fault) c.put_judged-in-Identity.ensures.judged)
 
-pub read_term-returns-in_ok-put-in-Identity-clause-template : goal.read_term-returns-in_ok-put-in-Identity-clause-template
-read_term-returns-in_ok-put-in-Identity-clause-template t c = λ ss kept.
+pub read_term-returns-in_ok-inner-in-Identity-clause-template : goal.read_term-returns-in_ok-inner-in-Identity-clause-template
+read_term-returns-in_ok-inner-in-Identity-clause-template t c = λ ss kept.
     let names = reverse (map entry_of c.args.sight.now.entries.now) in
     let ps = c.args.sight.now.parameters.now in
     let is : term_of c.args.term.now ≡ On (term_of c.deref-in-Identity.result.now) = let h = ap term_of c.in-Identity.is in let d = c.deref-in-Identity.ensures in cc in
-    rw is (grown_identity ss names ps (term_of c.deref-in-Identity.result.now) _ _ _ (c.in_ok-inner-in-Identity.ensures.template ss kept) c.in_ok-put-in-Identity.ensures)
+    rw is (on_ok_as c.put_judged-in-Identity.result _ _ (grown_identity ss names ps (term_of c.deref-in-Identity.result.now) _ _ _ (c.in_ok-inner-in-Identity.ensures.template ss kept)) c.put_judged-in-Identity.ensures.template)
 
-pub read_term-returns-in_ok-put-in-Identity-clause-uses : goal.read_term-returns-in_ok-put-in-Identity-clause-uses
-read_term-returns-in_ok-put-in-Identity-clause-uses t c =
+pub read_term-returns-in_ok-inner-in-Identity-clause-uses : goal.read_term-returns-in_ok-inner-in-Identity-clause-uses
+read_term-returns-in_ok-inner-in-Identity-clause-uses t c =
     let is : term_of c.args.term.now ≡ On (term_of c.deref-in-Identity.result.now) = let h = ap term_of c.in-Identity.is in let d = c.deref-in-Identity.ensures in cc in
-    rw is c.in_ok-inner-in-Identity.ensures.uses
+    rw is (on_ok c.put_judged-in-Identity.result c.in_ok-inner-in-Identity.ensures.uses)

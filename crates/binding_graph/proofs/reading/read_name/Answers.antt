@@ -1,34 +1,12 @@
-use Rattle.std.proofs.Common.{sym, ◌∙◌, refl}
-use Rattle.binding_graph.proofs.Sights.{name_parameter, name_other, no_parameter}
-use Rattle.binding_graph.proofs.Walks.{noted_none, noted_name}
+use Rattle.std.proofs.Common.{sym, ◌∙◌}
+use Rattle.binding_graph.proofs.Sights.{name_other, no_parameter}
 use Rattle.binding_graph.proofs.reading.read_name.Goals as goal
 
-pub returns-in_ok-put-in-Parameter-clause-judged : goal.returns-in_ok-put-in-Parameter-clause-judged
-returns-in_ok-put-in-Parameter-clause-judged c = λ none. absurd (no_parameter _ _ _ c.in-Parameter.index none (sym c.in-Parameter.is ∙ c.named.ensures))
+pub returns-in-Parameter-clause-judged : goal.returns-in-Parameter-clause-judged
+returns-in-Parameter-clause-judged c = λ none. absurd (no_parameter _ _ _ c.in-Parameter.field-0 none (sym c.in-Parameter.is ∙ c.in_ok-note_name.ensures.named))
 
-pub returns-in_ok-put-in-Parameter-clause-template : goal.returns-in_ok-put-in-Parameter-clause-template
-returns-in_ok-put-in-Parameter-clause-template c =
-    let is = name_parameter _ _ c.in-Parameter.index (sym c.in-Parameter.is ∙ c.named.ensures) in
-    rw is c.in_ok-put-in-Parameter.ensures
-
-pub returns-in_ok-put-in-Parameter-clause-uses : goal.returns-in_ok-put-in-Parameter-clause-uses
-returns-in_ok-put-in-Parameter-clause-uses c =
-    let is = name_parameter _ _ c.in-Parameter.index (sym c.in-Parameter.is ∙ c.named.ensures) in
-    rw is (noted_none (λ vs. vs) (λ fs. fs) _ (λ vs. refl) (λ fs. refl))
-
-pub returns-in_ok-add_name-in-Other-clause-judged : goal.returns-in_ok-add_name-in-Other-clause-judged
-returns-in_ok-add_name-in-Other-clause-judged c = λ none.
-    let is = name_other _ _ c.in-Other.found (sym c.in-Other.is ∙ c.named.ensures) in
+pub returns-in-Other-clause-judged : goal.returns-in-Other-clause-judged
+returns-in-Other-clause-judged c = λ none.
+    let is = name_other _ _ c.in-Other.found (sym c.in-Other.is ∙ c.in_ok-note_name.ensures.named) in
     let made = c.judged_name.ensures in
     rw is.1 (made.kind, made.size, made.fault)
-
-pub returns-in_ok-add_name-in-Other-clause-template : goal.returns-in_ok-add_name-in-Other-clause-template
-returns-in_ok-add_name-in-Other-clause-template c =
-    let is = name_other _ _ c.in-Other.found (sym c.in-Other.is ∙ c.named.ensures) in
-    rw (is.0, is.1) c.in_ok-put_name-in-Other.ensures
-
-pub returns-in_ok-add_name-in-Other-clause-uses : goal.returns-in_ok-add_name-in-Other-clause-uses
-returns-in_ok-add_name-in-Other-clause-uses c =
-    let is = name_other _ _ c.in-Other.found (sym c.in-Other.is ∙ c.named.ensures) in
-    let more = c.in_ok-add_name-in-Other.ensures in
-    rw (is.0, is.1) (noted_name c.args.sight.now.from c.in-Other.found _ _ more.indexed more.values more.functions more.applied)
