@@ -1,2 +1,3 @@
+pub mod Restarted
 pub mod Readers
 pub mod Texts

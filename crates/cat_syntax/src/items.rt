@@ -386,14 +386,23 @@ impl Parser {
         }
     }
 
+    // Goes on to the next part. An expression begins anew.
+    fn go_to(&mut self, next: Part)
+        ensures state { state_of self.new ≡ record { items = clauses_of self.old.items.items; part = part_of next } }
+        ensures form { self.new.form ≡ self.old.form }
+    {
+        self.part = next;
+        self.expression.restart();
+    }
+
     // A token that stands in no expression.
     fn part_step(&mut self, token: Token) -> Result<(), StepError>
         ensures steps { is_body self.old.part ≡ false → AreSteps result self.new (step limits self.old.form (state_of self.old) token) }
         ensures form { self.new.form ≡ self.old.form }
     {
         let part = mem::replace(&mut self.part, Part::Done);
-        self.part = part_after(self.alloc, self.form, &mut self.items, part, token)?;
-        self.expression.restart();
+        let next = part_after(self.alloc, self.form, &mut self.items, part, token)?;
+        self.go_to(next);
         Ok(())
     }
 
@@ -407,8 +416,8 @@ impl Parser {
         match part {
             Part::Body(head) => {
                 let body = self.expression.take_whole();
-                self.part = body_read(self.alloc, self.form, &mut self.items, head, body, token)?;
-                self.expression.restart();
+                let next = body_read(self.alloc, self.form, &mut self.items, head, body, token)?;
+                self.go_to(next);
                 Ok(())
             }
             _ => Err(StepError::Refused(token.rule())),
@@ -425,8 +434,8 @@ impl Parser {
         match part {
             Part::Body(head) => {
                 let body = self.expression.take_whole();
-                self.part = item_ended_by_tilde(self.form, &mut self.items, head, body, word)?;
-                self.expression.restart();
+                let next = item_ended_by_tilde(self.form, &mut self.items, head, body, word)?;
+                self.go_to(next);
                 Ok(())
             }
             _ => Err(StepError::Refused(CatRule::Syntax)),

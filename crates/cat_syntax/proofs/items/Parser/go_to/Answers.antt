@@ -1,0 +1,12 @@
+use Rattle.std.proofs.Common.{List, ap}
+use Rattle.cat_grammar.specs.ItemMachine.{State, Part}
+use Rattle.cat_values.specs.Value.{Clause}
+use Rattle.cat_values.specs.Values.{clauses_of}
+use Rattle.cat_syntax.proofs.Restarted.{part_restarted}
+use Rattle.cat_syntax.proofs.items.Parser.go_to.Goals as goal
+
+abbrev state_at : List Clause → Part → State
+state_at is p = record { items = is; part = p }
+
+pub returns-clause-state : goal.returns-clause-state
+returns-clause-state c = ap (state_at (clauses_of c.args.self.now.items.items)) (part_restarted c.restart.new.self c.args.next c.restart.ensures)
