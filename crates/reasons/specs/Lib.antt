@@ -6,5 +6,6 @@ pub mod Whys
 pub mod Views
 pub mod Checked
 pub mod Language
+pub mod Evaluated
 pub mod Drawings
 pub mod Drawable

@@ -10,8 +10,8 @@ ghost use Rattle.reasons.specs.Told.{events_from, numbers_from};
 ghost use Rattle.reasons.specs.Views.{AreFoundOf, AreWithKept, AreWithReason, IsAdded, IsOutcome, IsOutcomeIf, case_of, judgement_of, scene_of};
 ghost use Rattle.reasons.specs.Whys.{GoesOn, IsExplained, IsSaid, IsSaidOver, IsWhy, head_text, refusal_text};
 
-use crate::checks::{FirstRefusal, all_checks, first_refusal};
-use crate::labels::predefined_values;
+use crate::checks::{FirstRefusal, first_refusal};
+use crate::evaluated::Evaluated;
 use crate::telling::{Judged, Told, reason_told, told_events};
 use binding_graph::{ResolveFault, Resolved, resolve};
 use candidates::{Execution, Space, SpaceFault, space};
@@ -19,13 +19,11 @@ use cat_values::ModelText;
 use event_origins::{all_runs, instructions_of};
 use litmus_printing::print_condition;
 use litmus_values::Test;
-use memo_graph::answers;
 use ppc_semantics::Run;
 use reason_text::{Findings, Reason, ToldEvent, put_findings};
 use satisfaction::is_satisfied;
 use source_text::{put_bytes, put_decimal};
 use std::alloc::{AllocError, Global};
-use step_labels::NameValues;
 
 /// What is asked of `why`.
 #[derive(Clone, Copy, Debug, PartialEq, Eq)]
@@ -220,18 +218,8 @@ fn put_explained(
     requires few { candidate_count space.now ≤ 16384 }
     ensures { OnOk result (GoesOn text.old.items text.new.items (IsExplained asked test.now model.now resolved.now.items.items space.now)) }
 {
-    let found = answers(alloc, space, resolved)?;
-    let checks = all_checks(alloc, space, &found.columns, &resolved.items)?;
-    let predefined = predefined_values(alloc, space)?;
-    let judged = Judged {
-        text: &model.items,
-        items: &resolved.items,
-        values: NameValues {
-            bound: &found.columns,
-            predefined: &predefined,
-        },
-        checks: &checks,
-    };
+    let evaluated = Evaluated::of(alloc, space, resolved)?;
+    let judged = evaluated.as_judged(model, resolved);
     let findings = findings_of(alloc, test, space, judged, asked.is_deep)?;
     put_findings(alloc, text, asked.is_forbidden, &space.locations, &findings)
 }

@@ -16,7 +16,6 @@ use memo_graph::inputs;
 use std::alloc::{AllocError, Global};
 
 /// A check of a model, which is no flag.
-#[derive(Drop)]
 pub struct CheckValues<'a> {
     /// The index of its item.
     pub item: usize,
@@ -26,6 +25,17 @@ pub struct CheckValues<'a> {
     pub values: Column,
     /// Where `irreflexive` is asked, the factors of its expression, with their values.
     pub factors: Vec<FactorValues>,
+}
+
+impl<'a> Drop for CheckValues<'a> {
+    fn drop(self) {
+        let CheckValues {
+            item: _,
+            check: _,
+            values: _,
+            factors: _,
+        } = self;
+    }
 }
 
 /// The first check that refuses a candidate.

@@ -15,8 +15,8 @@ ghost use Rattle.reasons.specs.Views.{judgement_of, scene_of};
 
 use crate::answer::forbidden;
 use crate::boxes::{boxes, clusters};
-use crate::checks::{FirstRefusal, all_checks, first_refusal};
-use crate::labels::predefined_values;
+use crate::checks::{FirstRefusal, first_refusal};
+use crate::evaluated::Evaluated;
 use crate::lines::{DrawnRelation, all_lines, drawn_relations, shown_lines};
 use crate::telling::{Judged, Told};
 use binding_graph::{ResolveFault, Resolved, resolve};
@@ -27,17 +27,15 @@ use cat_values::ModelText;
 use event_origins::{all_runs, instructions_of};
 use execution_graph::{Drawing, Edges, drawn_events, put_drawing};
 use litmus_values::Test;
-use memo_graph::answers;
 use ppc_semantics::Run;
 use reason_text::{Telling, ToldStep};
 use satisfaction::is_satisfied;
 use shown_relations::{ShownValues, shown_values};
 use source_text::{put_bytes, put_decimal};
 use std::alloc::{AllocError, Global};
-use step_labels::NameValues;
 
 /// Which executions are drawn.
-#[derive(Clone, Copy, Debug, PartialEq, Eq)]
+#[derive(Clone, Copy)]
 pub enum Wanted {
     /// Those that the model keeps and that have what the test asks for.
     Shown,
@@ -261,25 +259,14 @@ fn space_text<'x>(
     requires executions { ListsExecutions test.now space.now }
     ensures { IfOk result (λ v. AreDrawn wanted most test.now model.now v.items) }
 {
-    let found = answers(alloc, space, resolved)?;
-    let checks = all_checks(alloc, space, &found.columns, &resolved.items)?;
-    let predefined = predefined_values(alloc, space)?;
+    let evaluated = Evaluated::of(alloc, space, resolved)?;
     let relations = drawn_relations(alloc, space)?;
     let runs = all_runs(alloc, test)?;
     let shown = shown_values(alloc, space, model)?;
-    let judged = Judged {
-        text: &model.items,
-        items: &resolved.items,
-        values: NameValues {
-            bound: &found.columns,
-            predefined: &predefined,
-        },
-        checks: &checks,
-    };
     let scene = Scene {
         test,
         space,
-        judged,
+        judged: evaluated.as_judged(model, resolved),
         relations: &relations,
         runs: &runs,
         shown: &shown,

@@ -5,6 +5,7 @@ mod answer;
 mod boxes;
 mod checks;
 mod drawing;
+mod evaluated;
 mod labels;
 mod lines;
 mod telling;
