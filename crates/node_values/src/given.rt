@@ -8,9 +8,7 @@ ghost use Rattle.node_values.specs.Makes.{output_names};
 ghost use Rattle.node_values.specs.Parts.{parts_of};
 ghost use Rattle.node_values.specs.Views.{given_content};
 
-use crate::same::{
-    same_entries, same_flags, same_names, same_places, same_proposition, same_role, same_threads,
-};
+use crate::same::{same_flags, same_names, same_role, same_threads};
 use binding_graph::ModelFault;
 use litmus_values::{Condition, InitEntry, Place, Thread};
 use shared_items::{SharedItem, only_zero};
@@ -18,6 +16,7 @@ use source_text::Name;
 use std::alloc::{AllocError, Global};
 use std::marker::Model;
 use std::sync::Arc;
+use test_parts::{are_same_entries, are_same_places, is_same_condition};
 
 /// The parts of a test that its space reads.
 #[derive(Drop)]
@@ -92,7 +91,7 @@ impl Model for Given {
 fn same_condition(this: &Condition, that: &Condition) -> bool
     ensures { IsTrue result ↔ ((this.now.quantifier ≡ that.now.quantifier) × (formula_of this.now.proposition ≡ formula_of that.now.proposition)) }
 {
-    this.quantifier == that.quantifier && same_proposition(&this.proposition, &that.proposition)
+    is_same_condition(this, that)
 }
 
 fn same_item(this: &SharedItem, that: &SharedItem) -> bool
@@ -118,7 +117,7 @@ impl GivenParts {
     {
         match self {
             GivenParts::Space(parts) => {
-                same_entries(init, &parts.init)
+                are_same_entries(init, &parts.init)
                     && same_threads(threads, &parts.threads)
                     && same_names(locations, &parts.locations)
             }
@@ -158,7 +157,7 @@ impl GivenParts {
             GivenParts::Item(_) => false,
             GivenParts::Verdict(parts) => {
                 same_condition(condition, &parts.condition)
-                    && same_places(observed, &parts.observed)
+                    && are_same_places(observed, &parts.observed)
                     && same_flags(flags, &parts.flags)
             }
             GivenParts::Fault(_) => false,

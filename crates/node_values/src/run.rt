@@ -8,7 +8,7 @@ ghost use Rattle.verdict.specs.declared.answer.Refusal.TheVariants as refusals;
 ghost use Rattle.verdict.specs.Kept.{of_raised};
 ghost use Rattle.shared_items.specs.Items.{role_content};
 ghost use Rattle.node_values.specs.Makes.{IsSpaceValue, IsMadeBy, HasColumns, HasAnswers, checks_among, flags_among, IsVerdict, IsVerdictOver, refused, Makes};
-ghost use Rattle.node_values.specs.Parts.{HasParts};
+ghost use Rattle.node_values.specs.Parts.{SpacePartsContent, HasParts};
 ghost use Rattle.node_values.specs.Spaces.{space_content, no_executions};
 ghost use Rattle.node_values.specs.Values.{OfColumn, first_space, space_of, refusal_of, columns_of, answers_of};
 ghost use Rattle.node_values.specs.Views.{given_content, space_parts, verdict_parts};
@@ -144,15 +144,22 @@ fn part_test(alloc: Global, parts: &SpaceParts) -> Result<Test, AllocError>
     })
 }
 
-fn space_value(alloc: Global, parts: &SpaceParts) -> Result<NodeValue, AllocError>
-    ensures { IfOk result (λ v. IsSpaceValue (space_parts parts.now) v) }
+// The space of a test, or why it has none.
+fn test_space(alloc: Global, test: &Test) -> Result<NodeValue, AllocError>
+    ensures { (parts : SpacePartsContent) → HasParts parts test.now → IfOk result (IsSpaceValue parts) }
 {
-    let test = part_test(alloc, parts)?;
-    match space(alloc, &test) {
+    match space(alloc, test) {
         Ok(found) => Ok(NodeValue::of_space(found)),
         Err(SpaceFault::Refused(refusal)) => Ok(NodeValue::of_refusal(refusal)),
         Err(SpaceFault::OutOfMemory(fault)) => Err(fault),
     }
+}
+
+fn space_value(alloc: Global, parts: &SpaceParts) -> Result<NodeValue, AllocError>
+    ensures { IfOk result (λ v. IsSpaceValue (space_parts parts.now) v) }
+{
+    let test = part_test(alloc, parts)?;
+    test_space(alloc, &test)
 }
 
 fn one_value(alloc: Global, value: NodeValue) -> Result<Vec<NodeValue>, AllocError>
@@ -177,44 +184,41 @@ fn group_columns<'v>(
     alloc: Global,
     item: &'v ResolvedItem,
     values: &[&'v NodeValue],
+    space: &Space,
 ) -> Result<Vec<Column>, AllocError>
-    ensures { let given = map (λ v. v.now) values.now in IfOk result (λ v. HasColumns (role_content item.now.role) (space_of given) (columns_of given) v.items) }
+    ensures { let given = map (λ v. v.now) values.now in space_content space.now ≡ space_of given → IfOk result (λ v. HasColumns (role_content item.now.role) (space_of given) (columns_of given) v.items) }
 {
     let inputs = columns_of(alloc, values)?;
-    match first_space(values) {
-        Some(space) => eval_group(alloc, item, space, &inputs),
-        None => eval_group(alloc, item, &no_space(alloc), &inputs),
-    }
+    eval_group(alloc, item, space, &inputs)
 }
 
 fn check_answers<'v>(
     alloc: Global,
     item: &'v ResolvedItem,
     values: &[&'v NodeValue],
+    space: &Space,
 ) -> Result<Vec<bool>, AllocError>
-    ensures { let given = map (λ v. v.now) values.now in IfOk result (λ v. HasAnswers (role_content item.now.role) (space_of given) (columns_of given) v.items) }
+    ensures { let given = map (λ v. v.now) values.now in space_content space.now ≡ space_of given → IfOk result (λ v. HasAnswers (role_content item.now.role) (space_of given) (columns_of given) v.items) }
 {
     let inputs = columns_of(alloc, values)?;
-    match first_space(values) {
-        Some(space) => eval_check(alloc, item, space, &inputs),
-        None => eval_check(alloc, item, &no_space(alloc), &inputs),
-    }
+    eval_check(alloc, item, space, &inputs)
 }
 
 fn item_values<'v>(
     alloc: Global,
     item: &'v ResolvedItem,
     values: &[&'v NodeValue],
+    space: &Space,
 ) -> Result<Vec<NodeValue>, AllocError>
-    ensures { let given = map (λ v. v.now) values.now in IfOk result (λ v. IsMadeBy (role_content item.now.role) (space_of given) (columns_of given) v.items) }
+    ensures { let given = map (λ v. v.now) values.now in space_content space.now ≡ space_of given → IfOk result (λ v. IsMadeBy (role_content item.now.role) (space_of given) (columns_of given) v.items) }
 {
     match &item.role {
         Role::Group { .. } => {
-            let columns = group_columns(alloc, item, values)?;
+            let columns = group_columns(alloc, item, values, space)?;
             column_values(alloc, columns)
         }
         Role::Check(_) => {
-            let answers = check_answers(alloc, item, values)?;
+            let answers = check_answers(alloc, item, values, space)?;
             one_value(alloc, NodeValue::of_check(answers))
         }
         Role::Silent => Ok(Vec::new(alloc)),
@@ -225,20 +229,21 @@ fn evaluated<'v>(
     alloc: Global,
     parts: &'v VerdictParts,
     values: &[&'v NodeValue],
+    space: &Space,
 ) -> Result<Outcome, AllocError>
-    ensures { let given = map (λ v. v.now) values.now in IfOk result (λ o. IsVerdict (verdict_parts parts.now) (space_of given) (answers_of given) o) }
+    ensures { let given = map (λ v. v.now) values.now in space_content space.now ≡ space_of given → IfOk result (λ o. IsVerdict (verdict_parts parts.now) (space_of given) (answers_of given) o) }
 {
     let answers = answers_of(alloc, values)?;
     let checks = checks_among(alloc, &parts.flags, &answers)?;
     let flags = flags_among(alloc, &parts.flags, &answers)?;
-    let condition = &parts.condition;
-    match first_space(values) {
-        Some(space) => outcome(alloc, space, condition, &parts.observed, &checks, &flags),
-        None => {
-            let none = no_space(alloc);
-            outcome(alloc, &none, condition, &parts.observed, &checks, &flags)
-        }
-    }
+    outcome(
+        alloc,
+        space,
+        &parts.condition,
+        &parts.observed,
+        &checks,
+        &flags,
+    )
 }
 
 fn refused(alloc: Global, condition: &Condition, refusal: Refusal) -> Result<Outcome, AllocError>
@@ -255,15 +260,40 @@ fn verdict_over<'v>(
     alloc: Global,
     parts: &'v VerdictParts,
     values: &[&'v NodeValue],
+    space: &Space,
 ) -> Result<Outcome, AllocError>
-    ensures { let given = map (λ v. v.now) values.now in IfOk result (λ o. IsVerdictOver (refusal_of given) (verdict_parts parts.now) given o) }
+    ensures { let given = map (λ v. v.now) values.now in space_content space.now ≡ space_of given → IfOk result (λ o. IsVerdictOver (refusal_of given) (verdict_parts parts.now) given o) }
 {
     match refusal_of(values) {
         Some(refusal) => refused(alloc, &parts.condition, Refusal::Space(refusal)),
-        None => evaluated(alloc, parts, values),
+        None => evaluated(alloc, parts, values, space),
     }
 }
 
+// What a node gives over a space.
+fn made_over<'v>(
+    alloc: Global,
+    parts: &'v GivenParts,
+    values: &[&'v NodeValue],
+    space: &Space,
+) -> Result<Vec<NodeValue>, AllocError>
+    ensures { let given = map (λ v. v.now) values.now in space_content space.now ≡ space_of given → IfOk result (λ v. Makes (given_content parts.now) given v.items) }
+{
+    match parts {
+        GivenParts::Space(parts) => one_value(alloc, space_value(alloc, parts)?),
+        GivenParts::Item(item) => item_values(alloc, item.item(), values, space),
+        GivenParts::Verdict(parts) => {
+            let outcome = verdict_over(alloc, parts, values, space)?;
+            one_value(alloc, NodeValue::of_outcome(outcome))
+        }
+        GivenParts::Fault(parts) => {
+            let outcome = refused(alloc, &parts.condition, Refusal::Model(parts.fault))?;
+            one_value(alloc, NodeValue::of_outcome(outcome))
+        }
+    }
+}
+
+// What a node gives: over no candidates where none of the values is a space.
 fn made<'v>(
     alloc: Global,
     parts: &'v GivenParts,
@@ -271,17 +301,9 @@ fn made<'v>(
 ) -> Result<Vec<NodeValue>, AllocError>
     ensures { IfOk result (λ v. Makes (given_content parts.now) (map (λ v. v.now) values.now) v.items) }
 {
-    match parts {
-        GivenParts::Space(parts) => one_value(alloc, space_value(alloc, parts)?),
-        GivenParts::Item(item) => item_values(alloc, item.item(), values),
-        GivenParts::Verdict(parts) => {
-            let outcome = verdict_over(alloc, parts, values)?;
-            one_value(alloc, NodeValue::of_outcome(outcome))
-        }
-        GivenParts::Fault(parts) => {
-            let outcome = refused(alloc, &parts.condition, Refusal::Model(parts.fault))?;
-            one_value(alloc, NodeValue::of_outcome(outcome))
-        }
+    match first_space(values) {
+        Some(space) => made_over(alloc, parts, values, space),
+        None => made_over(alloc, parts, values, &no_space(alloc)),
     }
 }
 

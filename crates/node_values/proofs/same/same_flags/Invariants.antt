@@ -1,5 +1,5 @@
-use Rattle.std.proofs.Common.{◌≡◌, ◌↔◌, length, drop}
+use Rattle.std.proofs.Common.{ℕ, ◌≡◌, ◌<◌, List, Option, get_or}
 use Rattle.node_values.proofs.same.same_flags.Given as goal
 
-abbrev pub invariant-loop-this : goal.invariant-loop-this
-invariant-loop-this l = (l.these ≡ l.those) ↔ (drop (length l.yielded) l.these ≡ drop (length l.yielded) l.those)
+abbrev pub invariant-loop-index : goal.invariant-loop-index
+invariant-loop-index l = (k : ℕ) (d : Option (List ℕ)) → k < l.index → get_or l.these k d ≡ get_or l.those k d
