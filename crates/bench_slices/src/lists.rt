@@ -29,8 +29,8 @@ pub(crate) fn are_same_numbers(
     if indexes.len() != others.len() {
         return false;
     }
-    for (this, that) in indexes.iter().zip(others.iter()) {
-        if !is_same_number(first, *this, second, *that) {
+    for index in 0..indexes.len() {
+        if !is_same_number(first, indexes[index], second, others[index]) {
             return false;
         }
     }
@@ -60,8 +60,8 @@ pub(crate) fn are_same_items(
     if indexes.len() != others.len() {
         return false;
     }
-    for (this, that) in indexes.iter().zip(others.iter()) {
-        if !is_same_item(first, *this, second, *that) {
+    for index in 0..indexes.len() {
+        if !is_same_item(first, indexes[index], second, others[index]) {
             return false;
         }
     }

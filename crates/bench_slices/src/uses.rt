@@ -67,8 +67,8 @@ pub(crate) fn are_same_uses(first: &Reached, second: &Reached) -> bool
     if first.used.len() != second.used.len() {
         return false;
     }
-    for (this, that) in first.used.iter().zip(second.used.iter()) {
-        if !is_same_use(first, *this, second, *that) {
+    for index in 0..first.used.len() {
+        if !is_same_use(first, first.used[index], second, second.used[index]) {
             return false;
         }
     }

@@ -1,5 +1,5 @@
-use Rattle.std.proofs.Common.{◌≡◌, ◌↔◌, map, slice_get, length, drop}
+use Rattle.std.proofs.Common.{ℕ, ◌≡◌, ◌<◌, get_or, slice_get}
 use Rattle.bench_slices.proofs.lists.are_same_numbers.Given as goal
 
-abbrev pub invariant-loop-this : goal.invariant-loop-this
-invariant-loop-this l = (map (slice_get l.first) l.indexes ≡ map (slice_get l.second) l.others) ↔ (map (slice_get l.first) (drop (length l.yielded) l.indexes) ≡ map (slice_get l.second) (drop (length l.yielded) l.others))
+abbrev pub invariant-loop-index : goal.invariant-loop-index
+invariant-loop-index l = (k : ℕ) → k < l.index → slice_get l.first (get_or l.indexes k 0) ≡ slice_get l.second (get_or l.others k 0)
