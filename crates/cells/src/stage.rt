@@ -8,6 +8,7 @@ ghost use Rattle.cells.specs.Stages.{stage_tasks, tasks_in};
 use crate::job::{Done, Job, RunFault};
 use crate::texts::CellTexts;
 use std::alloc::Global;
+use std::mem::{drop, replace};
 use std::sync::Wait;
 use value_store::{StoreFault, StoreName};
 
@@ -87,7 +88,7 @@ fn offer<R: Wait, K: StoreName, T: CellTexts>(
         None => unreachable!(),
         Some(before) => {
             let (after, made) = offer_from(rt, alloc, before);
-            *stage = Some(after);
+            drop(replace(stage, Some(after)));
             made
         }
     }
