@@ -1,3 +1,4 @@
+pub mod Compared
 pub mod Counting
 pub mod Finding
 pub mod Making

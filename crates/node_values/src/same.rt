@@ -40,6 +40,12 @@ pub fn same_flags(these: &[Option<Name>], those: &[Option<Name>]) -> bool
     true
 }
 
+fn same_thread(this: &Thread, that: &Thread) -> bool
+    ensures { IsTrue result ↔ (steps_of this.now ≡ steps_of that.now) }
+{
+    are_same_steps(&this.steps, &that.steps)
+}
+
 /// Whether the threads have the same steps, in order.
 pub fn same_threads(these: &[Thread], those: &[Thread]) -> bool
     ensures { IsTrue result ↔ (map steps_of these.now ≡ map steps_of those.now) }
@@ -47,8 +53,8 @@ pub fn same_threads(these: &[Thread], those: &[Thread]) -> bool
     if these.len() != those.len() {
         return false;
     }
-    for (this, that) in these.iter().zip(those.iter()) {
-        if !are_same_steps(&this.steps, &that.steps) {
+    for index in 0..these.len() {
+        if !same_thread(&these[index], &those[index]) {
             return false;
         }
     }
@@ -174,8 +180,8 @@ fn same_bodies(these: &[Body], those: &[Body]) -> bool
     if these.len() != those.len() {
         return false;
     }
-    for (this, that) in these.iter().zip(those.iter()) {
-        if !same_body(this, that) {
+    for index in 0..these.len() {
+        if !same_body(&these[index], &those[index]) {
             return false;
         }
     }
