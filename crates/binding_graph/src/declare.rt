@@ -1,6 +1,6 @@
 //! The names that an item adds.
 
-ghost use Rattle.std.specs.Prelude.{◌≡◌, [], None, IfOk, OnOk, List, reverse, map};
+ghost use Rattle.std.specs.Prelude.{◌≡◌, ◌++◌, ◌∷◌, [], None, IfOk, OnOk, List, length, reverse, map};
 ghost use Rattle.cat_values.specs.Values.{term_of};
 ghost use Rattle.binding_kinds.specs.Value.{Naming, Bound, Defined, entry_of, bound_of};
 ghost use Rattle.binding_kinds.specs.Senses.{Sense, AreKept};
@@ -12,7 +12,9 @@ ghost use Rattle.binding_graph.specs.Readings.{AreNamed};
 
 use crate::function::{ReadFunction, read_whole};
 use crate::resolved::Body;
-use binding_kinds::{Binder, Entry, Input, Kind, ModelFault, Scope, Sight, parameter_fault};
+use binding_kinds::{
+    Binder, Entry, Function, Input, Kind, ModelFault, Scope, Sight, parameter_fault,
+};
 use cat_values::{Binding, Expression};
 use source_text::Name;
 use std::alloc::{AllocError, Global};
@@ -58,6 +60,26 @@ pub fn declare_all(
     Ok(())
 }
 
+/// Adds a function of that name.
+fn add_function(
+    alloc: Global,
+    scope: &mut Scope,
+    name: &Name,
+    function: Function,
+) -> Result<(), AllocError>
+    ensures functions { OnOk result (scope.new.functions.items ≡ scope.old.functions.items ++ function ∷ []) }
+    ensures entries { OnOk result (scope.new.entries.items ≡ scope.old.entries.items ++ (record { name = name.now; kind = Kind.OfAny; binder = Binder.Applicable (length scope.old.functions.items) }) ∷ []) }
+{
+    let binder = Binder::Applicable(scope.functions.len());
+    scope.functions.push(function)?;
+    scope.entries.push(Entry {
+        name: name.copied(alloc)?,
+        kind: Kind::OfAny,
+        binder,
+    })?;
+    Ok(())
+}
+
 /// Adds a function, unless it has a fault: then the first one. Errors: want of memory.
 pub fn declare_function(
     alloc: Global,
@@ -86,12 +108,6 @@ pub fn declare_function(
     if fault.is_some() {
         return Ok(fault);
     }
-    let binder = Binder::Applicable(scope.functions.len());
-    scope.functions.push(function)?;
-    scope.entries.push(Entry {
-        name: name.copied(alloc)?,
-        kind: Kind::OfAny,
-        binder,
-    })?;
+    add_function(alloc, scope, name, function)?;
     Ok(None)
 }

@@ -60,6 +60,7 @@ fn resolve_all(
 fn find_items(
     alloc: Global,
     scope: &mut Scope,
+    work: &mut Workspace,
     items: &[Item],
 ) -> Result<(Vec<ResolvedItem>, Option<ModelFault>), AllocError>
     ensures fault { (senses : List Sense) → AreKept scope.old.functions.items senses → IfOk result (λ r. r.1 ≡ first senses (reverse (map entry_of scope.old.entries.items)) 0 (map clause_of items.now)) }
@@ -67,10 +68,9 @@ fn find_items(
     ensures items { let names = reverse (map entry_of scope.old.entries.items) in (senses : List Sense) → AreKept scope.old.functions.items senses → AreSound senses → AreKnown names → IfOk result (λ r. r.1 ≡ None → AreResolved senses (map usage_of scope.old.functions.items) names 0 (map clause_of items.now) r.0.items) }
     ensures labels { IfOk result (λ r. r.1 ≡ None → AreLabelled items.now r.0.items) }
 {
-    let mut work = Workspace::new(alloc);
     let mut resolved = Vec::with_capacity(alloc, items.len())?;
     for (index, item) in items.iter().enumerate() {
-        match read_item(alloc, scope, &mut work, index, item)? {
+        match read_item(alloc, scope, work, index, item)? {
             Err(fault) => return Ok((resolved, Some(fault))),
             Ok(one) => push_item(&mut resolved, one)?,
         }
@@ -89,7 +89,8 @@ pub fn resolve_items(
     ensures items { let names = reverse (map entry_of scope.old.entries.items) in (senses : List Sense) → AreKept scope.old.functions.items senses → AreSound senses → AreKnown names → IfOk result (λ r. IfOk r (λ v. AreResolved senses (map usage_of scope.old.functions.items) names 0 (map clause_of items.now) v.items)) }
     ensures labels { IfOk result (λ r. IfOk r (λ v. AreLabelled items.now v.items)) }
 {
-    let (resolved, fault) = find_items(alloc, scope, items)?;
+    let mut work = Workspace::new(alloc);
+    let (resolved, fault) = find_items(alloc, scope, &mut work, items)?;
     match fault {
         None => Ok(Ok(resolved)),
         Some(fault) => Ok(Err(fault)),

@@ -12,5 +12,5 @@ given ss names from cs o e = let P : Option ModelFault → Type 0 = λ q. Judges
 pub returns-in-None-clause-fault : goal.returns-in-None-clause-fault
 returns-in-None-clause-fault c = λ ss kept. given ss _ _ _ None (sym c.in-None.is ∙ c.in_ok-resolved.ensures.fault ss kept)
 
-pub returns-in-Some-clause-fault : goal.returns-in-Some-clause-fault
-returns-in-Some-clause-fault c = λ ss kept. given ss _ _ _ (Some c.in-Some.fault) (sym c.in-Some.is ∙ c.in_ok-resolved.ensures.fault ss kept)
+pub returns-clause-fault : goal.returns-clause-fault
+returns-clause-fault c = λ ss kept. given ss _ _ _ (Some c.in-Some.fault) (sym c.in-Some.is ∙ c.in_ok-resolved.ensures.fault ss kept)
