@@ -2,7 +2,9 @@
 //! hand, a walk by events that are drawn, and desks whose author, workers and viewers are threads of their own.
 #![tactic(auto)]
 
+mod benches;
 mod claimed;
+mod desks;
 mod edits;
 mod jobs;
 mod meeting;

@@ -1,20 +1,20 @@
 //! Workers that must work at once: each of the first claims is held until others have begun or have ended.
 
-ghost use Rattle.std.specs.Prelude.{◌≡◌};
-
 mod gate;
 
+use crate::desks::{self, Example};
 use crate::played::PlayedDesk;
-use bench_texts::Edit;
+use crate::rows::replies::{put_tally, told};
+use bench_texts::{Edit, EditFault};
 use bench_workers::{Tally, with_workers};
-use desk::Accepted;
+use board::Board;
+use desk::{Accepted, BoardTexts, Desk};
 use desk_rule::Naming;
 use gate::{Held, Meeting};
-use running_bench::{DeskSeed, RunningDesk};
 use source_text::{put_bytes, put_decimal};
 use std::alloc::{AllocError, Global};
 use std::io;
-use std::marker::Brand;
+use std::rt::Clock;
 use std::sync::Wait;
 use std::thread::Threads;
 use value_store::StoreName;
@@ -42,6 +42,41 @@ struct Puts {
     with_mp: bool,
     small: u64,
 }
+
+/// What is put on a desk, how many workers it has, and which claims are held.
+#[derive(Clone, Copy)]
+pub struct Setting {
+    puts: Puts,
+    workers: u32,
+    held: Held,
+}
+
+const SETTINGS: [Setting; 2] = [
+    Setting {
+        puts: Puts {
+            with_mp: true,
+            small: 1,
+        },
+        workers: 2,
+        held: Held {
+            first: 1,
+            until_begun: 0,
+            until_ended: 1,
+        },
+    },
+    Setting {
+        puts: Puts {
+            with_mp: false,
+            small: 32,
+        },
+        workers: 32,
+        held: Held {
+            first: 32,
+            until_begun: 32,
+            until_ended: 0,
+        },
+    },
+];
 
 /// The edit of a number: 0 is MP, the small tests begin at 1, and what follows is the model.
 fn edit_at(alloc: Global, puts: Puts, number: u64) -> Result<Edit, AllocError> {
@@ -88,42 +123,45 @@ fn settle<D: PlayedDesk, W: Wait>(
     Ok(desk.settle(rt, &mut viewer).is_ok() && is_well)
 }
 
-fn print_tally<R: Print>(rt: &R, workers: u32, tally: &Tally, is_well: bool) -> io::Result<()> {
-    let stored = tally.stored;
-    let same = tally.same;
-    let stale = tally.stale;
-    let unknown = tally.unknown;
-    let refused = tally.refused;
+fn print_tally<R>(rt: &R, workers: u32, tally: &Tally, is_well: bool) -> io::Result<()>
+where
+    R: Print + AllocGlobal,
+{
     let word = if is_well { "settled" } else { "not settled" };
-    println!(rt;
-        "{workers} workers: {word}, stored {stored}, same {same}, stale {stale}, unknown {unknown}, refused {refused}"
-    )
+    let mut text = Vec::new(rt.alloc());
+    put_tally(&mut text, tally)?;
+    print!(rt; "{workers} workers: {word}, ")?;
+    rt.print(told(rt.alloc(), text, false)?)
 }
 
-/// Settles a desk by so many workers under a gate.
-fn meet<R, J>(
-    rt: &R,
-    desk: &RunningDesk<J, R>,
-    puts: Puts,
-    workers: u32,
-    held: Held,
-) -> io::Result<()>
+/// Settles a desk by workers under a gate.
+pub fn meet<R, J, X>(rt: &R, desk: &Desk<J, X, R>, setting: Setting) -> io::Result<()>
 where
     R: Print + AllocGlobal + Wait + Threads + Send + Sync + Drop,
     J: Naming + StoreName + Send + Sync,
+    X: BoardTexts<Edit = Edit, Fault = EditFault, Board = Board> + Send + Sync,
+    X::Value: Send + Sync,
+    X::Given: Send + Sync,
+    X::Edit: Send + Sync,
+    X::Prepared: Send + Sync,
+    X::Fault: Send + Sync,
+    X::Outcome: Send + Sync,
+    X::Op: Send + Sync,
+    X::Board: Send + Sync,
 {
     let Ok(viewer) = desk.viewer(rt) else {
         return println!(rt; "no viewer");
     };
     let alloc = rt.alloc();
-    let gate = Meeting::new(held);
+    let gate = Meeting::new(setting.held);
+    let workers = setting.workers;
     let worked = with_workers(
         rt,
         alloc,
         desk,
         &gate,
         workers,
-        || settle(rt, alloc, desk, viewer, puts),
+        || settle(rt, alloc, desk, viewer, setting.puts),
     );
     match worked {
         Ok(worked) => print_tally(
@@ -136,58 +174,13 @@ where
     }
 }
 
-/// Settles a new desk by so many workers under a gate.
-fn meet_at_desk<R, J>(
-    rt: &R,
-    seed: DeskSeed,
-    puts: Puts,
-    workers: u32,
-    held: Held,
-) -> io::Result<()>
-where
-    R: Print + AllocGlobal + Wait + Threads + Copy + Send + Sync + Drop,
-    J: Naming + StoreName + Send + Sync,
-    requires book { seed.book.seen.book ≡ J.book }
-    requires values { seed.values.values ≡ J.shelves }
-{
-    let Ok(desk) = seed.desk::<J, R, R>(rt, rt.alloc(), *rt) else {
-        return println!(rt; "no desk");
-    };
-    meet(rt, &desk, puts, workers, held)
-}
-
 /// Two workers, of which the first waits until the second has ended a job; and 32 that wait until all have begun one.
 pub fn show<R>(rt: &R) -> io::Result<()>
 where
-    R: Print + AllocGlobal + Wait + Threads + Copy + Send + Sync + Drop,
+    R: Print + AllocGlobal + Clock + Wait + Threads + Copy + Send + Sync + Drop,
 {
-    let alloc = rt.alloc();
-    meet_at_desk::<R, Brand>(
-        rt,
-        DeskSeed::new(alloc)?,
-        Puts {
-            with_mp: true,
-            small: 1,
-        },
-        2,
-        Held {
-            first: 1,
-            until_begun: 0,
-            until_ended: 1,
-        },
-    )?;
-    meet_at_desk::<R, Brand>(
-        rt,
-        DeskSeed::new(alloc)?,
-        Puts {
-            with_mp: false,
-            small: 32,
-        },
-        32,
-        Held {
-            first: 32,
-            until_begun: 32,
-            until_ended: 0,
-        },
-    )
+    for setting in SETTINGS {
+        desks::play(rt, None, Example::Meeting(setting))?;
+    }
+    Ok(())
 }

@@ -1,6 +1,7 @@
 //! What the examples ask of jobs, benches and desks of tests and models. Their types, with the names of stores and histories,
 //! stand here and where a bench or a desk is made, and nowhere else.
 
+use crate::stress::watch::{Shared, watch};
 use bench_texts::{Edit, EditFault};
 use bench_workers::{NoGate, Tally, work};
 use board::Board;
@@ -13,6 +14,7 @@ use desk::{Accepted, BoardTexts, Desk, DeskFault, Settling, Taken};
 use desk_rule::{Naming, View, Viewer};
 use memo_core::claims::{ClaimFault, Finish};
 use std::alloc::{AllocError, Global};
+use std::rt::Clock;
 use std::sync::Wait;
 use value_store::{StoreFault, StoreName};
 use verdict::Outcome;
@@ -131,46 +133,13 @@ where
     }
 }
 
-/// A desk of tests and models.
-pub trait PlayedDesk {
-    /// What it gives out.
-    type Job: PlayedJob;
-
+/// A desk of tests and models whose board viewers read.
+pub trait ViewedDesk {
     /// Who reads its board.
     type Viewer: Drop;
 
     /// A viewer that holds the board.
     type View;
-
-    /// Makes an edit, and tells the viewer.
-    fn edit<W: Wait>(
-        &self,
-        rt: &W,
-        viewer: &mut Self::Viewer,
-        edit: Edit,
-    ) -> Result<Accepted, Refusal>;
-
-    /// Gives out a job, if there is work.
-    fn claim<W: Wait>(&self, rt: &W) -> Result<Option<Self::Job>, Refusal>;
-
-    /// Takes a return.
-    fn finish<W: Wait>(
-        &self,
-        rt: &W,
-        done: <Self::Job as PlayedJob>::Done,
-    ) -> Result<Taken, Refusal>;
-
-    /// Closes a claim, and says whether it was out.
-    fn lose<W: Wait>(&self, rt: &W, claim: u64) -> Result<bool, Refusal>;
-
-    /// Forgets all that was computed, and closes every claim.
-    fn renew<W: Wait>(&self, rt: &W) -> Result<(), Refusal>;
-
-    /// From now on each call is refused.
-    fn close<W: Wait>(&self, rt: &W) -> Result<(), Refusal>;
-
-    /// Works until the desk is closed.
-    fn work<W: Wait>(&self, rt: &W, alloc: Global) -> Tally;
 
     /// A viewer, which is not given again.
     fn give_viewer<W: Wait>(&self, rt: &W) -> Result<Self::Viewer, Refusal>;
@@ -191,50 +160,15 @@ pub trait PlayedDesk {
     fn leave(view: Self::View) -> Self::Viewer;
 }
 
-impl<J, X, R> PlayedDesk for Desk<J, X, R>
+impl<J, X, R> ViewedDesk for Desk<J, X, R>
 where
     J: Naming + StoreName,
     X: BoardTexts<Edit = Edit, Fault = EditFault, Board = Board>,
     R: Wait + Drop,
 {
-    type Job = Job<J, X>;
-
     type Viewer = Viewer<J, X>;
 
     type View = View<J, X>;
-
-    fn edit<W: Wait>(
-        &self,
-        rt: &W,
-        viewer: &mut Viewer<J, X>,
-        edit: Edit,
-    ) -> Result<Accepted, Refusal> {
-        Desk::edit(self, rt, viewer, edit)
-    }
-
-    fn claim<W: Wait>(&self, rt: &W) -> Result<Option<Job<J, X>>, Refusal> {
-        Desk::claim(self, rt)
-    }
-
-    fn finish<W: Wait>(&self, rt: &W, done: Done<J, X>) -> Result<Taken, Refusal> {
-        Desk::finish(self, rt, done)
-    }
-
-    fn lose<W: Wait>(&self, rt: &W, claim: u64) -> Result<bool, Refusal> {
-        Desk::lose(self, rt, claim)
-    }
-
-    fn renew<W: Wait>(&self, rt: &W) -> Result<(), Refusal> {
-        Desk::renew(self, rt)
-    }
-
-    fn close<W: Wait>(&self, rt: &W) -> Result<(), Refusal> {
-        Desk::close(self, rt)
-    }
-
-    fn work<W: Wait>(&self, rt: &W, alloc: Global) -> Tally {
-        work(rt, alloc, self, &NoGate)
-    }
 
     fn give_viewer<W: Wait>(&self, rt: &W) -> Result<Viewer<J, X>, Refusal> {
         Desk::viewer(self, rt)
@@ -258,5 +192,127 @@ where
 
     fn leave(view: View<J, X>) -> Viewer<J, X> {
         view.leave()
+    }
+}
+
+/// What several threads ask of a desk of tests and models at once.
+pub trait SharedDesk: Sync {
+    /// What a job makes.
+    type Done: Drop + Send + Sync;
+
+    /// Returns a copy of what a job made.
+    fn offer<W: Wait>(&self, rt: &W, alloc: Global, done: &Self::Done) -> Result<Taken, Refusal>;
+
+    /// Closes a claim, and says whether it was out.
+    fn lose<W: Wait>(&self, rt: &W, claim: u64) -> Result<bool, Refusal>;
+
+    /// Looks at its boards as a viewer, beside an author.
+    fn watch<W: Wait + Clock>(&self, rt: &W, alloc: Global, asks: bool, shared: &Shared);
+}
+
+impl<J, X, R> SharedDesk for Desk<J, X, R>
+where
+    J: Naming + StoreName + Send + Sync,
+    X: BoardTexts<Edit = Edit, Fault = EditFault, Board = Board> + Send + Sync,
+    X::Value: Send + Sync,
+    X::Given: Send + Sync,
+    X::Edit: Send + Sync,
+    X::Prepared: Send + Sync,
+    X::Fault: Send + Sync,
+    X::Outcome: Send + Sync,
+    X::Op: Send + Sync,
+    X::Board: Send + Sync,
+    R: Wait + Drop + Send + Sync,
+{
+    type Done = Done<J, X>;
+
+    fn offer<W: Wait>(&self, rt: &W, alloc: Global, done: &Done<J, X>) -> Result<Taken, Refusal> {
+        match done.copy(alloc) {
+            Ok(copy) => Desk::finish(self, rt, copy),
+            Err(_) => Err(DeskFault::OutOfMemory),
+        }
+    }
+
+    fn lose<W: Wait>(&self, rt: &W, claim: u64) -> Result<bool, Refusal> {
+        Desk::lose(self, rt, claim)
+    }
+
+    fn watch<W: Wait + Clock>(&self, rt: &W, alloc: Global, asks: bool, shared: &Shared) {
+        watch(rt, alloc, self, asks, shared);
+    }
+}
+
+/// A desk of tests and models.
+pub trait PlayedDesk: SharedDesk + ViewedDesk {
+    /// What it gives out.
+    type Job: PlayedJob<Done = Self::Done>;
+
+    /// Makes an edit, and tells the viewer.
+    fn edit<W: Wait>(
+        &self,
+        rt: &W,
+        viewer: &mut Self::Viewer,
+        edit: Edit,
+    ) -> Result<Accepted, Refusal>;
+
+    /// Gives out a job, if there is work.
+    fn claim<W: Wait>(&self, rt: &W) -> Result<Option<Self::Job>, Refusal>;
+
+    /// Takes a return.
+    fn finish<W: Wait>(&self, rt: &W, done: Self::Done) -> Result<Taken, Refusal>;
+
+    /// Forgets all that was computed, and closes every claim.
+    fn renew<W: Wait>(&self, rt: &W) -> Result<(), Refusal>;
+
+    /// From now on each call is refused.
+    fn close<W: Wait>(&self, rt: &W) -> Result<(), Refusal>;
+
+    /// Works until the desk is closed.
+    fn work<W: Wait>(&self, rt: &W, alloc: Global) -> Tally;
+}
+
+impl<J, X, R> PlayedDesk for Desk<J, X, R>
+where
+    J: Naming + StoreName + Send + Sync,
+    X: BoardTexts<Edit = Edit, Fault = EditFault, Board = Board> + Send + Sync,
+    X::Value: Send + Sync,
+    X::Given: Send + Sync,
+    X::Edit: Send + Sync,
+    X::Prepared: Send + Sync,
+    X::Fault: Send + Sync,
+    X::Outcome: Send + Sync,
+    X::Op: Send + Sync,
+    X::Board: Send + Sync,
+    R: Wait + Drop + Send + Sync,
+{
+    type Job = Job<J, X>;
+
+    fn edit<W: Wait>(
+        &self,
+        rt: &W,
+        viewer: &mut Viewer<J, X>,
+        edit: Edit,
+    ) -> Result<Accepted, Refusal> {
+        Desk::edit(self, rt, viewer, edit)
+    }
+
+    fn claim<W: Wait>(&self, rt: &W) -> Result<Option<Job<J, X>>, Refusal> {
+        Desk::claim(self, rt)
+    }
+
+    fn finish<W: Wait>(&self, rt: &W, done: Done<J, X>) -> Result<Taken, Refusal> {
+        Desk::finish(self, rt, done)
+    }
+
+    fn renew<W: Wait>(&self, rt: &W) -> Result<(), Refusal> {
+        Desk::renew(self, rt)
+    }
+
+    fn close<W: Wait>(&self, rt: &W) -> Result<(), Refusal> {
+        Desk::close(self, rt)
+    }
+
+    fn work<W: Wait>(&self, rt: &W, alloc: Global) -> Tally {
+        work(rt, alloc, self, &NoGate)
     }
 }

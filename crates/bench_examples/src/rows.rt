@@ -1,29 +1,20 @@
 //! Lists of edits, claims, returns and reads, one a line: each is played at a bench or at a desk, and printed with its answer.
 
-ghost use Rattle.std.specs.Prelude.{◌≡◌};
-
 mod bench_play;
-mod count;
 mod desk_play;
 mod question;
-mod replies;
+pub mod replies;
 mod threads;
 
-use crate::played::PlayedBench;
+use crate::played::{PlayedBench, PlayedDesk};
+use crate::{benches, desks};
 use bench_play::BenchPlay;
-use cells::bench::Bench;
 use desk_play::DeskPlay;
-use desk_rule::Naming;
-use node_values::NodeValue;
-use running_bench::{DeskSeed, RunningDesk};
-use stamped_texts::StampedTexts;
 use std::alloc::Global;
-use std::marker::Brand;
-use std::rt::Files;
+use std::rt::{Clock, Files};
 use std::sync::Wait;
 use std::thread::Threads;
 use std::{fs, io};
-use value_store::{Opened, Store, StoreName};
 
 /// What the lines of a list are played at.
 #[derive(Clone, Copy)]
@@ -49,7 +40,7 @@ fn fresh_of(line: &str) -> Option<Fresh> {
 }
 
 /// Plays the lines of one bench.
-fn play_lines_of_bench<R: Print + Wait, B: PlayedBench>(
+pub fn play_at_bench<R: Print + Wait, B: PlayedBench>(
     rt: &R,
     alloc: Global,
     bench: B,
@@ -64,31 +55,13 @@ fn play_lines_of_bench<R: Print + Wait, B: PlayedBench>(
     Ok(())
 }
 
-/// Plays the lines of one bench of tests and models over a store.
-fn play_bench<R: Print + Wait, K: StoreName>(
-    rt: &R,
-    alloc: Global,
-    opened: Opened<NodeValue>,
-    lines: &[&str],
-) -> io::Result<()>
-    requires { opened.values ≡ K.shelves }
-{
-    let bench = Bench::<K, StampedTexts>::new(alloc, opened.named::<K>())?;
-    play_lines_of_bench(rt, alloc, bench, lines)
-}
-
 /// Plays the lines of one desk.
-fn play_lines_of_desk<R, J>(
-    rt: &R,
-    alloc: Global,
-    desk: &RunningDesk<J, R>,
-    lines: &[&str],
-) -> io::Result<()>
+pub fn play_at_desk<R, D>(rt: &R, alloc: Global, desk: &D, lines: &[&str]) -> io::Result<()>
 where
-    R: Print + Wait + Threads + Send + Sync + Drop,
-    J: Naming + StoreName + Send + Sync,
+    R: Print + Wait + Threads + Sync,
+    D: PlayedDesk,
 {
-    let mut play = DeskPlay::<RunningDesk<J, R>>::new(alloc);
+    let mut play = DeskPlay::<D>::new(alloc);
     for line in lines {
         println!(rt; "{line}")?;
         let answer = play.answer_line(rt, alloc, desk, line)?;
@@ -97,62 +70,36 @@ where
     Ok(())
 }
 
-/// Plays the lines of one desk of tests and models.
-fn play_desk<R, J>(rt: &R, alloc: Global, seed: DeskSeed, lines: &[&str]) -> io::Result<()>
+/// Plays the lines of one list. Lines before the first list are left out.
+fn play_lines<R>(rt: &R, fresh: Option<Fresh>, lines: &[&str]) -> io::Result<()>
 where
-    R: Print + Wait + Threads + Copy + Send + Sync + Drop,
-    J: Naming + StoreName + Send + Sync,
-    requires book { seed.book.seen.book ≡ J.book }
-    requires values { seed.values.values ≡ J.shelves }
+    R: Print + AllocGlobal + Clock + Wait + Threads + Copy + Send + Sync + Drop,
 {
-    let Ok(desk) = seed.desk::<J, R, R>(rt, alloc, *rt) else {
-        return println!(rt; "no desk");
-    };
-    play_lines_of_desk(rt, alloc, &desk, lines)
-}
-
-/// Plays the lines of one list.
-fn play_lines<R: Print + Wait + Threads + Copy + Send + Sync + Drop>(
-    rt: &R,
-    alloc: Global,
-    fresh: Fresh,
-    lines: &[&str],
-) -> io::Result<()> {
     match fresh {
-        Fresh::Bench(None) => play_bench::<R, Brand>(rt, alloc, Store::new(alloc)?, lines),
-        Fresh::Bench(Some(limit)) => {
-            play_bench::<R, Brand>(rt, alloc, Store::with_limit(alloc, limit)?, lines)
-        }
-        Fresh::Desk(None) => play_desk::<R, Brand>(rt, alloc, DeskSeed::new(alloc)?, lines),
-        Fresh::Desk(Some(limit)) => {
-            play_desk::<R, Brand>(rt, alloc, DeskSeed::with_limit(alloc, limit)?, lines)
-        }
+        Some(Fresh::Bench(limit)) => benches::play(rt, limit, benches::Example::Lines(lines)),
+        Some(Fresh::Desk(limit)) => desks::play(rt, limit, desks::Example::Lines(lines)),
+        None => Ok(()),
     }
 }
 
 /// Plays the lists of a file.
-pub fn play_file<R: Files + Print + AllocGlobal + Wait + Threads + Copy + Send + Sync + Drop>(
-    rt: &R,
-    path: &str,
-) -> io::Result<()> {
+pub fn play_file<R>(rt: &R, path: &str) -> io::Result<()>
+where
+    R: Files + Print + AllocGlobal + Clock + Wait + Threads + Copy + Send + Sync + Drop,
+{
     let list = fs::read_to_string(rt, path)?;
     let mut lines = Vec::new(rt.alloc());
     let mut fresh = None;
     for line in list.lines() {
-        match fresh_of(line) {
-            Some(next) => {
-                if let Some(fresh) = fresh {
-                    play_lines(rt, rt.alloc(), fresh, &lines)?;
-                }
-                lines.clear();
-                fresh = Some(next);
-                println!(rt; "{line}")?;
-            }
-            None => lines.push(line)?,
+        let next = fresh_of(line);
+        if next.is_none() {
+            lines.push(line)?;
+            continue;
         }
+        play_lines(rt, fresh, &lines)?;
+        lines.clear();
+        fresh = next;
+        println!(rt; "{line}")?;
     }
-    match fresh {
-        Some(fresh) => play_lines(rt, rt.alloc(), fresh, &lines),
-        None => Ok(()),
-    }
+    play_lines(rt, fresh, &lines)
 }

@@ -2,71 +2,87 @@
 //! and loses them, returns them late or returns them twice. Each viewer compares every cell that it sees with the evaluation from
 //! nothing of the texts after as many edits as it sees. What is printed is the same whatever the schedule.
 
-ghost use Rattle.std.specs.Prelude.{◌≡◌};
+ghost use Rattle.std.specs.Thread.{IsSend};
 
 mod author;
 mod kept;
 mod plan;
 mod sight;
-mod watch;
+pub mod watch;
 
+use crate::desks::{self, Example};
+use crate::played::{PlayedDesk, SharedDesk};
+use bench_texts::{Edit, EditFault};
 use bench_workers::{NoGate, with_workers};
-use desk_rule::{Naming, Viewer};
-use plan::{EDITS, Plan};
-use running_bench::{DeskSeed, RunningDesk, RunningTexts};
-use std::marker::Brand;
+use board::Board;
+use desk::{BoardTexts, Desk};
+use desk_rule::Naming;
+use plan::EDITS;
+pub use plan::Plan;
 use std::rt::Clock;
 use std::sync::Wait;
 use std::thread::Threads;
 use std::{io, thread};
 use value_store::StoreName;
-use watch::{Shared, watch};
+use watch::Shared;
 
 const WORKERS: u32 = 4;
 
 const VIEWERS: u64 = 8;
 
-/// Starts the viewers, each in a thread of its own, and plays the author. A viewer that does not start is a fault.
-fn play_beside<R, J>(
-    rt: &R,
-    desk: &RunningDesk<J, R>,
-    viewer: Viewer<J, RunningTexts>,
-    shared: &Shared,
-)
+/// Starts the viewers, each in a thread of its own, and plays the author. A viewer that does not start is a fault. The desk is named
+/// twice, as what threads share and as the author's.
+fn play_beside<R, S, D>(rt: &R, seen: &S, desk: &D, viewer: D::Viewer, shared: &Shared)
 where
-    R: AllocGlobal + Clock + Wait + Threads + Send + Sync + Drop,
-    J: Naming + StoreName + Send + Sync,
+    R: AllocGlobal + Clock + Wait + Threads + Sync,
+    S: SharedDesk,
+    D: PlayedDesk,
 {
     let alloc = rt.alloc();
-    thread::scope(thread::scope_env(), rt, |scope| {
-        for number in 0..VIEWERS {
-            let asks = number % 2 == 1;
-            let started = scope.spawn(move || watch(rt, alloc, desk, asks, shared));
-            if started.is_err() {
-                shared.add(1);
+    thread::scope(
+        thread::scope_env(),
+        rt,
+        |scope| -> ()
+            requires { IsSend D.Done.row }
+        {
+            for number in 0..VIEWERS {
+                let asks = number % 2 == 1;
+                let started = scope.spawn(move || seen.watch(rt, alloc, asks, shared));
+                if started.is_err() {
+                    shared.add(1);
+                }
             }
-        }
-        shared.add(author::write(rt, alloc, desk, viewer, &shared.plan));
-        shared.end();
-    });
+            shared.add(author::write(rt, alloc, desk, viewer, &shared.plan));
+            shared.end();
+        },
+    );
 }
 
 /// Plays the author beside the viewers, and tells how many faults were found.
-fn play<R, J>(rt: &R, desk: &RunningDesk<J, R>, viewer: Viewer<J, RunningTexts>, plan: Plan) -> u64
+fn play<R, D>(rt: &R, desk: &D, viewer: D::Viewer, plan: Plan) -> u64
 where
-    R: AllocGlobal + Clock + Wait + Threads + Send + Sync + Drop,
-    J: Naming + StoreName + Send + Sync,
+    R: AllocGlobal + Clock + Wait + Threads + Sync,
+    D: PlayedDesk,
 {
     let shared = Shared::new(plan);
-    play_beside(rt, desk, viewer, &shared);
+    play_beside(rt, desk, desk, viewer, &shared);
     shared.faults()
 }
 
 /// Plays the plan beside the workers of a desk, and prints how many faults were found.
-fn play_plan<R, J>(rt: &R, desk: &RunningDesk<J, R>, plan: Plan) -> io::Result<()>
+pub fn play_plan<R, J, X>(rt: &R, desk: &Desk<J, X, R>, plan: Plan) -> io::Result<()>
 where
     R: Print + AllocGlobal + Clock + Wait + Threads + Send + Sync + Drop,
     J: Naming + StoreName + Send + Sync,
+    X: BoardTexts<Edit = Edit, Fault = EditFault, Board = Board> + Send + Sync,
+    X::Value: Send + Sync,
+    X::Given: Send + Sync,
+    X::Edit: Send + Sync,
+    X::Prepared: Send + Sync,
+    X::Fault: Send + Sync,
+    X::Outcome: Send + Sync,
+    X::Op: Send + Sync,
+    X::Board: Send + Sync,
 {
     let Ok(viewer) = desk.viewer(rt) else {
         return println!(rt; "no viewer");
@@ -88,26 +104,11 @@ where
     }
 }
 
-/// Plays the plan at a new desk.
-fn play_at_desk<R, J>(rt: &R, seed: DeskSeed, plan: Plan) -> io::Result<()>
-where
-    R: Print + AllocGlobal + Clock + Wait + Threads + Copy + Send + Sync + Drop,
-    J: Naming + StoreName + Send + Sync,
-    requires book { seed.book.seen.book ≡ J.book }
-    requires values { seed.values.values ≡ J.shelves }
-{
-    let Ok(desk) = seed.desk::<J, R, R>(rt, rt.alloc(), *rt) else {
-        return println!(rt; "no desk");
-    };
-    play_plan(rt, &desk, plan)
-}
-
 /// Plays the plan, and prints how many faults were found.
 pub fn show<R>(rt: &R) -> io::Result<()>
 where
     R: Print + AllocGlobal + Clock + Wait + Threads + Copy + Send + Sync + Drop,
 {
-    let alloc = rt.alloc();
-    let plan = plan::planned(alloc)?;
-    play_at_desk::<R, Brand>(rt, DeskSeed::new(alloc)?, plan)
+    let plan = plan::planned(rt.alloc())?;
+    desks::play(rt, None, Example::Stress(plan))
 }

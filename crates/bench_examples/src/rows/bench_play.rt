@@ -3,12 +3,13 @@
 use crate::claimed::ClaimedBench;
 use crate::edits;
 use crate::played::PlayedBench;
-use crate::rows::count::Count;
 use crate::rows::question::{Question, edit_of, events_of, question_of};
 use crate::rows::replies::{
-    put_cell, put_claimed, put_edited, put_finish, put_lost, put_reply, put_run_fault, told,
+    put_cell, put_claimed, put_count, put_edited, put_finish, put_lost, put_reply, put_run_fault,
+    told,
 };
 use bench_texts::{Edit, EditFault};
+use bench_workers::Tally;
 use cells::events::Reply;
 use cells::shown::Shown;
 use compare_report::{Shown as Cell, counts_text};
@@ -95,15 +96,15 @@ fn put_return(answer: &mut Vec<u8>, returned: Returned) -> Result<(), AllocError
 /// Counts what became of a return, and appends it, if each is told.
 fn note_return(
     answer: &mut Vec<u8>,
-    count: &mut Count,
+    tally: &mut Tally,
     returned: Returned,
     each: bool,
 ) -> Result<(), AllocError> {
     let Some(Ok(finish)) = returned else {
-        count.note_other();
+        tally.note_refusal();
         return Ok(());
     };
-    count.note(&finish);
+    tally.note(&finish);
     if each {
         put_finish(answer, &finish)?;
         put_bytes(answer, b"\n")?;
@@ -167,15 +168,15 @@ impl<'a, B: PlayedBench> BenchPlay<'a, B> {
         answer: &mut Vec<u8>,
         each: bool,
     ) -> Result<(), AllocError> {
-        let mut count = Count::new();
+        let mut tally = Tally::new();
         for _ in 0..100_000_u32 {
             let Ok(Some(claim)) = self.claimed.claim(alloc)? else {
                 break;
             };
             let returned = self.claimed.offer(rt, alloc, claim)?;
-            note_return(answer, &mut count, returned, each)?;
+            note_return(answer, &mut tally, returned, each)?;
         }
-        count.put(answer)
+        put_count(answer, &tally)
     }
 
     fn cell(&self, question: &Question<'_>) -> Cell<'_> {

@@ -1,23 +1,20 @@
 //! The viewers of a desk and the jobs that were claimed of it, and what is answered to a line.
 
 use crate::jobs::{Stage, made};
-use crate::played::{PlayedDesk, PlayedJob, Refusal};
-use crate::rows::count::Count;
+use crate::played::{PlayedDesk, PlayedJob, Refusal, ViewedDesk};
 use crate::rows::question::{Question, edit_of, question_of};
 use crate::rows::replies::{
-    put_accepted, put_board, put_claimed, put_desk_fault, put_finish, put_lost, put_run_fault,
-    put_taken, put_tally, told,
+    put_accepted, put_board, put_claimed, put_count, put_desk_fault, put_finish, put_lost,
+    put_run_fault, put_taken, put_tally, told,
 };
 use crate::rows::threads::{finish, finish_twice, lose};
+use bench_workers::Tally;
 use desk::Taken;
-use desk_rule::Naming;
 use memo_core::claims::Finish;
-use running_bench::RunningDesk;
 use source_text::{put_bytes, put_decimal};
 use std::alloc::{AllocError, Global};
 use std::sync::Wait;
 use std::thread::Threads;
-use value_store::StoreName;
 
 /// What a line asks of a desk.
 #[derive(Clone, Copy)]
@@ -83,7 +80,7 @@ pub struct DeskPlay<D: PlayedDesk> {
 }
 
 /// What a viewer sees of a cell, and the viewer again.
-fn look<D: PlayedDesk>(
+fn look<D: ViewedDesk>(
     alloc: Global,
     viewer: D::Viewer,
     answer: &mut Vec<u8>,
@@ -131,18 +128,18 @@ fn play_job<D: PlayedDesk, W: Wait>(
 }
 
 /// Claims, runs and returns until there is no work.
-fn play_jobs<D: PlayedDesk, W: Wait>(rt: &W, alloc: Global, desk: &D) -> Count {
-    let mut count = Count::new();
+fn play_jobs<D: PlayedDesk, W: Wait>(rt: &W, alloc: Global, desk: &D) -> Tally {
+    let mut tally = Tally::new();
     for _ in 0..100_000_u32 {
         let Ok(Some(job)) = desk.claim(rt) else {
             break;
         };
         match play_job(rt, alloc, desk, job) {
-            Some(finish) => count.note(&finish),
-            None => count.note_other(),
+            Some(finish) => tally.note(&finish),
+            None => tally.note_refusal(),
         }
     }
-    count
+    tally
 }
 
 impl<D: PlayedDesk> DeskPlay<D> {
@@ -231,41 +228,12 @@ impl<D: PlayedDesk> DeskPlay<D> {
         }
     }
 
-    /// What is answered to a question that no thread of its own takes up.
-    fn answer_here<W: Wait>(
-        &mut self,
-        rt: &W,
-        alloc: Global,
-        desk: &D,
-        answer: &mut Vec<u8>,
-        question: &Question<'_>,
-    ) -> Result<(), AllocError> {
-        match asked_of(question.verb) {
-            Asked::Viewer => self.take_viewers(rt, desk, answer, 1),
-            Asked::Viewers => self.take_viewers(rt, desk, answer, question.number),
-            Asked::Settle => self.settle(rt, desk, answer, question.viewer),
-            Asked::Show => self.show(alloc, answer, question),
-            Asked::Claim => self.claim(rt, desk, answer),
-            Asked::Jobs => play_jobs(rt, alloc, desk).put(answer),
-            Asked::Work => put_tally(answer, &desk.work(rt, alloc)),
-            Asked::Renew => put_made(answer, b"renewed", desk.renew(rt)),
-            Asked::Close => put_made(answer, b"closed", desk.close(rt)),
-            _ => self.edit(rt, alloc, desk, answer, question),
-        }
-    }
-}
-
-impl<J, R> DeskPlay<RunningDesk<J, R>>
-where
-    J: Naming + StoreName + Send + Sync,
-    R: Wait + Drop + Send + Sync,
-{
     /// Returns what the job of a claim made, by a thread of its own.
     fn offer<W: Wait + Threads + Sync>(
         &mut self,
         rt: &W,
         alloc: Global,
-        desk: &RunningDesk<J, R>,
+        desk: &D,
         answer: &mut Vec<u8>,
         claim: u64,
     ) -> Result<(), AllocError> {
@@ -281,7 +249,7 @@ where
         &mut self,
         rt: &W,
         alloc: Global,
-        desk: &RunningDesk<J, R>,
+        desk: &D,
         answer: &mut Vec<u8>,
         claim: u64,
     ) -> Result<(), AllocError> {
@@ -297,15 +265,24 @@ where
         &mut self,
         rt: &W,
         alloc: Global,
-        desk: &RunningDesk<J, R>,
+        desk: &D,
         answer: &mut Vec<u8>,
         question: &Question<'_>,
     ) -> Result<(), AllocError> {
         match asked_of(question.verb) {
+            Asked::Viewer => self.take_viewers(rt, desk, answer, 1),
+            Asked::Viewers => self.take_viewers(rt, desk, answer, question.number),
+            Asked::Settle => self.settle(rt, desk, answer, question.viewer),
+            Asked::Show => self.show(alloc, answer, question),
+            Asked::Claim => self.claim(rt, desk, answer),
+            Asked::Jobs => put_count(answer, &play_jobs(rt, alloc, desk)),
+            Asked::Work => put_tally(answer, &desk.work(rt, alloc)),
             Asked::Return => self.offer(rt, alloc, desk, answer, question.number),
             Asked::Twice => self.offer_twice(rt, alloc, desk, answer, question.number),
             Asked::Lose => put_closed(answer, lose(rt, desk, question.number)),
-            _ => self.answer_here(rt, alloc, desk, answer, question),
+            Asked::Renew => put_made(answer, b"renewed", desk.renew(rt)),
+            Asked::Close => put_made(answer, b"closed", desk.close(rt)),
+            Asked::Edit => self.edit(rt, alloc, desk, answer, question),
         }
     }
 
@@ -314,7 +291,7 @@ where
         &mut self,
         rt: &W,
         alloc: Global,
-        desk: &RunningDesk<J, R>,
+        desk: &D,
         line: &str,
     ) -> Result<String, AllocError> {
         let question = question_of(line);

@@ -187,16 +187,19 @@ pub fn put_taken(
 
 /// Says what became of the jobs of a worker.
 pub fn put_tally(answer: &mut Vec<u8>, tally: &Tally) -> Result<(), AllocError> {
-    put_bytes(answer, b"stored ")?;
-    put_decimal(answer, tally.stored)?;
-    put_bytes(answer, b", same ")?;
-    put_decimal(answer, tally.same)?;
-    put_bytes(answer, b", stale ")?;
-    put_decimal(answer, tally.stale)?;
-    put_bytes(answer, b", unknown ")?;
-    put_decimal(answer, tally.unknown)?;
-    put_bytes(answer, b", refused ")?;
-    put_decimal(answer, tally.refused)
+    put_numbered(answer, b"stored ", tally.stored)?;
+    put_numbered(answer, b", same ", tally.same)?;
+    put_numbered(answer, b", stale ", tally.stale)?;
+    put_numbered(answer, b", unknown ", tally.unknown)?;
+    put_numbered(answer, b", refused ", tally.refused)
+}
+
+/// Says how many jobs were stored, how many made what was there, and how many came to something else.
+pub fn put_count(answer: &mut Vec<u8>, tally: &Tally) -> Result<(), AllocError> {
+    let late = tally.stale.saturating_add(tally.unknown);
+    put_numbered(answer, b"stored ", tally.stored)?;
+    put_numbered(answer, b", same ", tally.same)?;
+    put_numbered(answer, b", other ", late.saturating_add(tally.refused))
 }
 
 /// An answer with a line feed behind it. Of a quiet question it tells that it was asked.

@@ -40,23 +40,36 @@ impl Plan {
     }
 }
 
+/// Draws an edit, and evaluates the cells after it where it is accepted.
+fn add_step(
+    alloc: Global,
+    draw: &mut Draw,
+    mirror: &mut Mirror,
+    plan: &mut Plan,
+) -> Result<(), AllocError> {
+    let drawn = draw_edit(draw, mirror);
+    let is_accepted = mirror.edit(alloc, &drawn)?;
+    if is_accepted {
+        plan.logs.push(Arc::try_clone(mirror.logs())?)?;
+    }
+    plan.steps.push(Step { drawn, is_accepted })?;
+    Ok(())
+}
+
 /// Draws edits until so many are accepted, and evaluates the cells after each.
 pub fn planned(alloc: Global) -> Result<Plan, AllocError> {
     let mut draw = Draw::new(17);
     let mut mirror = Mirror::new(alloc)?;
-    let mut logs = Vec::new(alloc);
-    let mut steps = Vec::new(alloc);
-    logs.push(Arc::try_clone(mirror.logs())?)?;
+    let mut plan = Plan {
+        steps: Vec::new(alloc),
+        logs: Vec::new(alloc),
+    };
+    plan.logs.push(Arc::try_clone(mirror.logs())?)?;
     for _ in 0..MOST_DRAWN {
-        if logs.len() > EDITS {
+        if plan.logs.len() > EDITS {
             break;
         }
-        let drawn = draw_edit(&mut draw, &mirror);
-        let is_accepted = mirror.edit(alloc, &drawn)?;
-        if is_accepted {
-            logs.push(Arc::try_clone(mirror.logs())?)?;
-        }
-        steps.push(Step { drawn, is_accepted })?;
+        add_step(alloc, &mut draw, &mut mirror, &mut plan)?;
     }
-    Ok(Plan { steps, logs })
+    Ok(plan)
 }

@@ -1,6 +1,6 @@
 //! A viewer, in a thread of its own.
 
-use crate::played::PlayedDesk;
+use crate::played::ViewedDesk;
 use crate::stress::plan::{EDITS, Plan};
 use crate::stress::sight::Sight;
 use std::alloc::Global;
@@ -51,7 +51,7 @@ impl Shared {
 }
 
 /// Looks at the board that was published last, and gives the viewer back. No board or no memory is a fault.
-pub fn look<D: PlayedDesk>(
+pub fn look<D: ViewedDesk>(
     alloc: Global,
     viewer: D::Viewer,
     plan: &Plan,
@@ -72,7 +72,7 @@ pub fn look<D: PlayedDesk>(
 
 /// Looks at boards until the author has ended, and then once more: that board has all edits, and no cell is open. No viewer is a fault. Every other
 /// viewer also asks the desk now and then whether all is settled, which tells it what is published.
-pub fn watch<D: PlayedDesk, W: Wait + Clock>(
+pub fn watch<D: ViewedDesk, W: Wait + Clock>(
     rt: &W,
     alloc: Global,
     desk: &D,
