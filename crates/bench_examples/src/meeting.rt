@@ -1,6 +1,6 @@
 //! Workers that must work at once: each of the first claims is held until others have begun or have ended.
 
-mod gate;
+pub mod gate;
 
 use crate::desks::{self, Example};
 use crate::played::PlayedDesk;
@@ -168,7 +168,7 @@ where
             rt,
             workers,
             &worked.tally,
-            worked.answer? && !gate.is_missed(rt),
+            worked.answer? && !gate.counts(rt).is_missed,
         ),
         Err(_) => println!(rt; "no workers"),
     }

@@ -17,10 +17,10 @@ pub struct Held {
 
 /// How many claims have begun and have ended, and whether one was held to the last turn.
 #[derive(Clone, Copy)]
-struct Counts {
-    begun: u64,
-    ended: u64,
-    is_missed: bool,
+pub struct Counts {
+    pub begun: u64,
+    pub ended: u64,
+    pub is_missed: bool,
 }
 
 /// A gate that counts claims and holds the first of them.
@@ -43,14 +43,14 @@ impl Meeting {
         }
     }
 
-    /// Whether a claim was held to the last turn.
-    pub fn is_missed<R: Wait>(&self, rt: &R) -> bool {
-        self.counts.lock(rt).is_missed
+    /// The counts so far.
+    pub fn counts<R: Wait>(&self, rt: &R) -> Counts {
+        *self.counts.lock(rt)
     }
 
     /// Whether those that a claim waits for have come.
     fn is_open<R: Wait>(&self, rt: &R) -> bool {
-        let counts = self.counts.lock(rt);
+        let counts = self.counts(rt);
         counts.begun >= self.held.until_begun && counts.ended >= self.held.until_ended
     }
 }

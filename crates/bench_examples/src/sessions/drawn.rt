@@ -1,29 +1,8 @@
 //! Scripts that are drawn from a seed.
 
+use crate::walk::draw::Draw;
 use source_text::put_bytes;
 use std::alloc::{AllocError, Global};
-
-/// The state of a linear congruential generator, with the constants of Knuth's MMIX.
-#[derive(Clone, Copy)]
-pub struct Draw {
-    state: u64,
-}
-
-impl Draw {
-    pub fn new(seed: u64) -> Draw {
-        Draw { state: seed }
-    }
-
-    /// A number below `count`, and 0 where that is 0.
-    fn below(&mut self, count: u64) -> u64 {
-        self.state = self
-            .state
-            .wrapping_mul(6_364_136_223_846_793_005)
-            .wrapping_add(1_442_695_040_888_963_407);
-        let high = self.state >> 33;
-        if count == 0 { 0 } else { high % count }
-    }
-}
 
 const HEAD: &[u8] =
     b"test\nPPC MP\n{ 0:r2=x; 0:r4=y; 1:r2=y; 1:r4=x; }\nP0 | P1 ;\nli r1,1 | lwz r1,0(r2) ;\nstw r1,0(r2) | lwz r3,0(r4) ;\nli r3,1 | ;\nstw r3,0(r4) | ;\nexists (1:r1=1 /\\ 1:r3=0)\n.\nmodel sc\nacyclic po|rf|fr|co as sc\n.\n";

@@ -2,9 +2,8 @@
 //! workers, and prints a line for each: its name, whether the output is the one that is wanted with each number of workers, and
 //! how many lines it has. The first three are run again from sources and to sinks that fail at each call, and the first cut at each byte.
 
-use bench_workers::NoGate;
-use litmusbench::{MemorySink, MemorySource, NoListener, SessionFault};
-use live_session::session;
+use crate::sessions::run::{Ending, Setting, is_same, run, with_workers};
+use litmusbench::SessionFault;
 use std::rt::Files;
 use std::sync::Wait;
 use std::thread::Threads;
@@ -21,13 +20,6 @@ struct Case {
     wanted: Vec<u8>,
 }
 
-/// How a script is answered: the bytes, and how the session ends.
-#[derive(Drop)]
-struct Ending {
-    output: Vec<u8>,
-    end: Result<bool, SessionFault>,
-}
-
 fn case_of<R: Files + AllocGlobal>(rt: &R, name: &str) -> io::Result<Case> {
     let script_path = format!(in rt.alloc(); "scripts/{name}.script")?;
     let wanted_path = format!(in rt.alloc(); "scripts/{name}.out")?;
@@ -39,35 +31,6 @@ fn case_of<R: Files + AllocGlobal>(rt: &R, name: &str) -> io::Result<Case> {
         script,
         wanted,
     })
-}
-
-/// How a script is run: which read and which write fail, and how many workers there are.
-#[derive(Clone, Copy)]
-struct Setting {
-    read: Option<u64>,
-    write: Option<u64>,
-    workers: u64,
-}
-
-/// Nothing fails.
-fn with_workers(workers: u64) -> Setting {
-    Setting {
-        read: None,
-        write: None,
-        workers,
-    }
-}
-
-fn run<R>(rt: &R, script: &[u8], setting: Setting) -> io::Result<Ending>
-where
-    R: AllocGlobal + Wait + Threads + Copy + Drop + Send + Sync + 'static,
-{
-    let mut source = MemorySource::failing_at(script, setting.read);
-    let mut sink = MemorySink::failing_at(Vec::new(rt.alloc()), setting.write);
-    let workers = setting.workers;
-    let end = session(rt, &mut source, &mut sink, &mut NoListener, workers, NoGate);
-    let output = Vec::from_slice(rt.alloc(), sink.as_bytes())?;
-    Ok(Ending { output, end })
 }
 
 /// Whether a line of the output refuses a command.
@@ -112,10 +75,6 @@ where
         }
     }
     println!(rt; "{}: {word}, {lines} lines", case.name)
-}
-
-fn is_same(one: &Ending, other: &Ending) -> bool {
-    one.output.as_slice() == other.output.as_slice() && one.end == other.end
 }
 
 /// Runs each front of a script with no worker and with one.

@@ -7,13 +7,14 @@ mod drawn;
 mod gate;
 mod hearing;
 mod kept;
+mod run;
 mod scripts;
 
 use bench_workers::NoGate;
 use gate::SharedMeeting;
 use hearing::Hearing;
-use litmusbench::{ByteSource, CallFailed, MemorySink, MemorySource, NoListener, SessionFault};
-use live_session::session;
+use litmusbench::{ByteSource, CallFailed, MemorySource, NoListener, SessionFault};
+use run::{run_over, with_workers};
 use std::io;
 use std::rt::Files;
 use std::sync::Wait;
@@ -69,14 +70,13 @@ where
     let gate = SharedMeeting::new(rt.alloc())?;
     let told = gate.share()?;
     let mut source = MemorySource::failing_at(SMALL, None);
-    let mut sink = MemorySink::failing_at(Vec::new(rt.alloc()), None);
-    let end = session(rt, &mut source, &mut sink, &mut NoListener, 2, told);
+    let ending = run_over(rt, &mut source, &mut NoListener, told, with_workers(2))?;
     let counts = gate.counts(rt);
     let word = if counts.is_missed { "missed" } else { "met" };
     println!(rt;
         "two workers: {}, {}, {word}, {} claims begun, {} ended",
-        word_of(end),
-        last_line(sink.as_bytes()),
+        word_of(ending.end),
+        last_line(&ending.output),
         counts.begun,
         counts.ended
     )
@@ -86,13 +86,12 @@ fn show_endless<R>(rt: &R, workers: u64) -> io::Result<()>
 where
     R: AllocGlobal + Print + Threads + Wait + Copy + Drop + Send + Sync + 'static,
 {
-    let gate = SharedMeeting::new(rt.alloc())?;
-    let mut sink = MemorySink::failing_at(Vec::new(rt.alloc()), None);
-    let end = session(rt, &mut Endless, &mut sink, &mut NoListener, workers, gate);
+    let setting = with_workers(workers);
+    let ending = run_over(rt, &mut Endless, &mut NoListener, NoGate, setting)?;
     println!(rt;
         "a script that does not end, {workers} workers: {}, {} bytes",
-        word_of(end),
-        sink.as_bytes().len()
+        word_of(ending.end),
+        ending.output.len()
     )
 }
 
@@ -103,11 +102,10 @@ where
 {
     let mut hearing = Hearing::new();
     let mut source = MemorySource::failing_at(SMALL, None);
-    let mut sink = MemorySink::failing_at(Vec::new(rt.alloc()), None);
-    let end = session(rt, &mut source, &mut sink, &mut hearing, 0, NoGate);
+    let ending = run_over(rt, &mut source, &mut hearing, NoGate, with_workers(0))?;
     println!(rt;
         "a listener: {}, heard {} times, last {} of {} cells, {} tables ended, {} models",
-        word_of(end),
+        word_of(ending.end),
         hearing.told,
         hearing.settled,
         hearing.cells,
