@@ -10,7 +10,7 @@ ghost use Rattle.live_watch.specs.Runs.{Gains, Begins, IsRun};
 use crate::lines::put_answer;
 use crate::settling::Hands;
 use crate::versions::{Version, Versions};
-use crate::watched::Watched;
+use crate::watched::{Watched, WatchedTest};
 use bench_texts::EditFault;
 use desk_rule::Naming;
 use litmusbench::{ByteSink, ByteSource, SessionFault, write_whole};
@@ -83,6 +83,31 @@ fn put_said(text: &mut Vec<u8>, name: &[u8], said: &[u8]) -> Result<(), AllocErr
     put_bytes(text, said)
 }
 
+// What a line names, where the model is in the file of this path and the tests are in these files.
+fn named(model: &str, tests: &[WatchedTest<'_>], line: &[u8]) -> Watching {
+    if model.as_bytes() == line {
+        return Watching::Model;
+    }
+    for index in 0..tests.len() {
+        if tests[index].path.as_bytes() == line {
+            return Watching::Test(index);
+        }
+    }
+    Watching::Nothing
+}
+
+// The path of what a name stands for, if it is watched.
+fn path_of<'a>(model: &'a str, tests: &[WatchedTest<'a>], file: Watching) -> Option<&'a str> {
+    match file {
+        Watching::Model => Some(model),
+        Watching::Test(index) => match tests.get(index) {
+            Some(test) => Some(test.path),
+            None => None,
+        },
+        Watching::Nothing => None,
+    }
+}
+
 /// A run of the program: the desk with its files, the path of the model, who runs the jobs, the lines that were last written of
 /// the files of tests, in their order, and whether a text was refused.
 #[derive(Drop)]
@@ -95,18 +120,6 @@ pub struct Run<'a, 'd, J: Naming + StoreName, R: Wait + Drop> {
 }
 
 impl<'a, 'd, J: Naming + StoreName, R: Wait + Drop> Run<'a, 'd, J, R> {
-    fn named(&self, line: &[u8]) -> Watching {
-        if self.model.as_bytes() == line {
-            return Watching::Model;
-        }
-        for index in 0..self.watched.tests.len() {
-            if self.watched.tests[index].path.as_bytes() == line {
-                return Watching::Test(index);
-            }
-        }
-        Watching::Nothing
-    }
-
     fn take<W: Wait>(
         &mut self,
         rt: &W,
@@ -259,18 +272,6 @@ impl<'a, 'd, J: Naming + StoreName, R: Wait + Drop> Run<'a, 'd, J, R> {
         }
     }
 
-    // The path of what a name stands for, if it is watched.
-    fn path_of(&self, file: Watching) -> Option<&'a str> {
-        match file {
-            Watching::Model => Some(self.model),
-            Watching::Test(index) => match self.watched.tests.get(index) {
-                Some(test) => Some(test.path),
-                None => None,
-            },
-            Watching::Nothing => None,
-        }
-    }
-
     // What is written of a line.
     fn answer_line<W: Wait, V: Versions>(
         &mut self,
@@ -282,8 +283,8 @@ impl<'a, 'd, J: Naming + StoreName, R: Wait + Drop> Run<'a, 'd, J, R> {
         ensures fault { OnErr result (result ≡ Err SessionFault.Memory) }
         ensures answer { let w = self.new.watched in IfOk result (λ t. IsReply line.now self.old.lines self.new.lines w.viewer w.tests t.items) }
     {
-        let file = self.named(line);
-        match self.path_of(file) {
+        let file = named(self.model, &self.watched.tests, line);
+        match path_of(self.model, &self.watched.tests, file) {
             Some(path) => {
                 let version = versions.version(alloc, path);
                 self.answer_version(rt, alloc, file, line, version)

@@ -1,8 +1,8 @@
 //! A later version of a file: the edits that make it of what the bench holds.
 
 use crate::lines::model_name;
-use crate::watched::Watched;
-use bench_texts::{Edit, EditFault};
+use crate::watched::{Watched, WatchedTest};
+use bench_texts::{Edit, EditFault, Texts};
 use cat_syntax::{CatFault, ModelText, read_model};
 use desk::{Accepted, DeskFault};
 use desk_rule::Naming;
@@ -21,6 +21,84 @@ fn number_of(accepted: Accepted) -> u64 {
     }
 }
 
+// Why an edit is refused. Errors: out of memory, where that is why.
+fn refused_edit(fault: EditFault) -> Result<Option<EditFault>, AllocError> {
+    match fault {
+        EditFault::OutOfMemory(error) => Err(error),
+        fault => Ok(Some(fault)),
+    }
+}
+
+// Why the desk refuses an edit. Errors: out of memory, also where a worker gave up.
+fn refused_by_desk(fault: DeskFault<EditFault>) -> Result<Option<EditFault>, AllocError> {
+    match fault {
+        DeskFault::Edit(fault) => Ok(Some(fault)),
+        _ => Err(AllocError),
+    }
+}
+
+// Why the text of a model is refused. Errors: out of memory, where that is why.
+fn refused_model(fault: CatFault) -> Result<Option<EditFault>, AllocError> {
+    match fault {
+        CatFault::OutOfMemory(error) => Err(error),
+        fault => Ok(Some(EditFault::Model(fault))),
+    }
+}
+
+// Why the text of a test is refused. Errors: out of memory, where that is why.
+fn refused_test(fault: LitmusFault) -> Result<Option<EditFault>, AllocError> {
+    match fault {
+        LitmusFault::OutOfMemory(error) => Err(error),
+        fault => Ok(Some(EditFault::Test(fault))),
+    }
+}
+
+// The changes that make this of the model, or none where there is no model.
+fn changes_to(
+    alloc: Global,
+    texts: &Texts,
+    new: &ModelText,
+) -> Result<Option<Vec<ItemChange>>, AllocError> {
+    match texts.models().first() {
+        Some(model) => Ok(Some(item_changes(alloc, &model.text().items, &new.items)?)),
+        None => Ok(None),
+    }
+}
+
+// The edit that makes a change of the model, where there is a model.
+fn edit_to(
+    alloc: Global,
+    texts: &Texts,
+    new: &ModelText,
+    change: ItemChange,
+) -> Result<Option<Edit>, AllocError> {
+    match texts.models().first() {
+        Some(model) => Ok(Some(item_edit(alloc, model, &new.items, change)?)),
+        None => Ok(None),
+    }
+}
+
+// The parts that differ from the test of this name, or none where that has another shape.
+fn parts_to(alloc: Global, texts: &Texts, new: &Test) -> Result<Option<Vec<TestPart>>, AllocError> {
+    let index = texts.test_index(new.name.as_bytes());
+    match texts.tests().get(index) {
+        Some(old) => changed_parts(alloc, old, new),
+        None => Ok(None),
+    }
+}
+
+// Whether some file holds the test of this name.
+fn is_held(tests: &[WatchedTest<'_>], name: &Name) -> bool {
+    for test in tests {
+        if let Some(held) = &test.name {
+            if held.is_same(name) {
+                return true;
+            }
+        }
+    }
+    false
+}
+
 impl<'a, 'd, J: Naming + StoreName, R: Wait + Drop> Watched<'a, 'd, J, R> {
     // Makes an edit of the texts, and at the desk. Why it is refused, if it is. Errors: out of memory, also where a worker gave
     // up.
@@ -32,8 +110,7 @@ impl<'a, 'd, J: Naming + StoreName, R: Wait + Drop> Watched<'a, 'd, J, R> {
     ) -> Result<Option<EditFault>, AllocError> {
         let prepared = match self.texts.prepare(alloc, &edit, false) {
             Ok(prepared) => prepared,
-            Err(EditFault::OutOfMemory(error)) => return Err(error),
-            Err(fault) => return Ok(Some(fault)),
+            Err(fault) => return refused_edit(fault),
         };
         match self.desk.edit(rt, &mut self.viewer, edit) {
             Ok(accepted) => {
@@ -41,33 +118,7 @@ impl<'a, 'd, J: Naming + StoreName, R: Wait + Drop> Watched<'a, 'd, J, R> {
                 self.last = number_of(accepted);
                 Ok(None)
             }
-            Err(DeskFault::Edit(fault)) => Ok(Some(fault)),
-            Err(_) => Err(AllocError),
-        }
-    }
-
-    // The changes that make this of the model, or none where there is no model.
-    fn item_changes(
-        &self,
-        alloc: Global,
-        new: &ModelText,
-    ) -> Result<Option<Vec<ItemChange>>, AllocError> {
-        match self.texts.models().first() {
-            Some(model) => Ok(Some(item_changes(alloc, &model.text().items, &new.items)?)),
-            None => Ok(None),
-        }
-    }
-
-    // The edit that makes a change of the model, where there is a model.
-    fn item_edit(
-        &self,
-        alloc: Global,
-        new: &ModelText,
-        change: ItemChange,
-    ) -> Result<Option<Edit>, AllocError> {
-        match self.texts.models().first() {
-            Some(model) => Ok(Some(item_edit(alloc, model, &new.items, change)?)),
-            None => Ok(None),
+            Err(fault) => refused_by_desk(fault),
         }
     }
 
@@ -79,7 +130,7 @@ impl<'a, 'd, J: Naming + StoreName, R: Wait + Drop> Watched<'a, 'd, J, R> {
         new: &ModelText,
         change: ItemChange,
     ) -> Result<bool, AllocError> {
-        match self.item_edit(alloc, new, change)? {
+        match edit_to(alloc, &self.texts, new, change)? {
             Some(edit) => {
                 let fault = self.make(rt, alloc, edit)?;
                 Ok(fault.is_none())
@@ -95,7 +146,7 @@ impl<'a, 'd, J: Naming + StoreName, R: Wait + Drop> Watched<'a, 'd, J, R> {
         alloc: Global,
         new: &ModelText,
     ) -> Result<bool, AllocError> {
-        let changes = match self.item_changes(alloc, new)? {
+        let changes = match changes_to(alloc, &self.texts, new)? {
             Some(changes) => changes,
             None => return Ok(false),
         };
@@ -117,8 +168,7 @@ impl<'a, 'd, J: Naming + StoreName, R: Wait + Drop> Watched<'a, 'd, J, R> {
     ) -> Result<Option<EditFault>, AllocError> {
         let new = match read_model(alloc, &text) {
             Ok(new) => new,
-            Err(CatFault::OutOfMemory(error)) => return Err(error),
-            Err(fault) => return Ok(Some(EditFault::Model(fault))),
+            Err(fault) => return refused_model(fault),
         };
         let is_made = self.change_items(rt, alloc, &new)?;
         if is_made {
@@ -126,15 +176,6 @@ impl<'a, 'd, J: Naming + StoreName, R: Wait + Drop> Watched<'a, 'd, J, R> {
         }
         let model = Vec::from_slice(alloc, model_name())?;
         self.make(rt, alloc, Edit::PutModel { model, text })
-    }
-
-    // The parts that differ from the test of this name, or none where that has another shape.
-    fn parts(&self, alloc: Global, new: &Test) -> Result<Option<Vec<TestPart>>, AllocError> {
-        let index = self.texts.test_index(new.name.as_bytes());
-        match self.texts.tests().get(index) {
-            Some(old) => changed_parts(alloc, old, new),
-            None => Ok(None),
-        }
     }
 
     // Puts a part of a test. Whether it is accepted.
@@ -157,7 +198,7 @@ impl<'a, 'd, J: Naming + StoreName, R: Wait + Drop> Watched<'a, 'd, J, R> {
         alloc: Global,
         new: &Test,
     ) -> Result<bool, AllocError> {
-        let parts = match self.parts(alloc, new)? {
+        let parts = match parts_to(alloc, &self.texts, new)? {
             Some(parts) => parts,
             None => return Ok(false),
         };
@@ -185,18 +226,6 @@ impl<'a, 'd, J: Naming + StoreName, R: Wait + Drop> Watched<'a, 'd, J, R> {
         self.make(rt, alloc, Edit::PutTest { text })
     }
 
-    // Whether some file holds the test of this name.
-    fn is_held(&self, name: &Name) -> bool {
-        for test in &self.tests {
-            if let Some(held) = &test.name {
-                if held.is_same(name) {
-                    return true;
-                }
-            }
-        }
-        false
-    }
-
     // Drops the test of this name, which no file holds now.
     fn drop_unheld<W: Wait>(
         &mut self,
@@ -204,7 +233,7 @@ impl<'a, 'd, J: Naming + StoreName, R: Wait + Drop> Watched<'a, 'd, J, R> {
         alloc: Global,
         name: &Name,
     ) -> Result<(), AllocError> {
-        if self.is_held(name) {
+        if is_held(&self.tests, name) {
             return Ok(());
         }
         let test = Vec::from_slice(alloc, name.as_bytes())?;
@@ -241,13 +270,14 @@ impl<'a, 'd, J: Naming + StoreName, R: Wait + Drop> Watched<'a, 'd, J, R> {
     ) -> Result<Option<EditFault>, AllocError> {
         let new = match read_test(alloc, &text) {
             Ok(new) => new,
-            Err(LitmusFault::OutOfMemory(error)) => return Err(error),
-            Err(fault) => return Ok(Some(EditFault::Test(fault))),
+            Err(fault) => return refused_test(fault),
         };
-        let fault = self.put_test(rt, alloc, &new, text)?;
-        if fault.is_none() {
-            self.rename(rt, alloc, index, new.name)?;
+        match self.put_test(rt, alloc, &new, text)? {
+            Some(fault) => Ok(Some(fault)),
+            None => {
+                self.rename(rt, alloc, index, new.name.copied(alloc)?)?;
+                Ok(None)
+            }
         }
-        Ok(fault)
     }
 }

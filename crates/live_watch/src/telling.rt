@@ -31,6 +31,13 @@ impl<'a, V: Versions, W: Write> VersionTeller<'a, V, W> {
         let _ = self.errors.write_all(lines);
     }
 
+    fn tell_fault(&mut self, fault: Vec<u8>) {
+        if fault.as_slice() != self.fault.as_slice() {
+            self.tell(&fault);
+        }
+        self.fault = fault;
+    }
+
     fn tell_test(&mut self, alloc: Global, file: &TextFile<'_>) -> Result<(), AllocError> {
         let refusal = test_refusal_lines(alloc, file)?;
         self.tell(&refusal);
@@ -43,11 +50,7 @@ impl<'a, V: Versions, W: Write> VersionTeller<'a, V, W> {
             self.tell(&refusal);
             return Ok(());
         }
-        let fault = model_fault(alloc, file)?;
-        if fault.as_slice() != self.fault.as_slice() {
-            self.tell(&fault);
-        }
-        self.fault = fault;
+        self.tell_fault(model_fault(alloc, file)?);
         Ok(())
     }
 

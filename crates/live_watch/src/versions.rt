@@ -5,7 +5,7 @@ use std::alloc::Global;
 use std::fmt::Display;
 use std::fs::File;
 use std::io;
-use std::io::Write;
+use std::io::{Read, Write};
 use std::rt::Files;
 
 /// What is read of a file.
@@ -38,6 +38,23 @@ impl<'a, R, W: Write> FileVersions<'a, R, W> {
         FileVersions { rt, errors }
     }
 
+    // What is said where the file cannot be opened.
+    fn unopened(&mut self, path: &str, error: &io::Error) -> Version {
+        match error.kind() {
+            io::ErrorKind::OutOfMemory => Version::OutOfMemory,
+            _ => self.unread(path, error),
+        }
+    }
+
+    // What is read of the file of this path.
+    fn text_in<F: Read + Drop>(&mut self, alloc: Global, path: &str, file: F) -> Version {
+        match read_text(alloc, &mut OfRead::new(file)) {
+            Ok(text) => Version::Text(text),
+            Err(SessionFault::Memory) => Version::OutOfMemory,
+            Err(_) => self.unread(path, &"the file cannot be read to its end"),
+        }
+    }
+
     // What cannot be told is left out.
     fn unread<T: Display>(&mut self, path: &str, reason: &T) -> Version {
         let _ = self.errors.write_fmt(format_args!("{path}: {reason}\n"));
@@ -48,15 +65,8 @@ impl<'a, R, W: Write> FileVersions<'a, R, W> {
 impl<'a, R: Files, W: Write> Versions for FileVersions<'a, R, W> {
     fn version(&mut self, alloc: Global, path: &str) -> Version {
         match File::open(self.rt, path) {
-            Ok(file) => match read_text(alloc, &mut OfRead::new(file)) {
-                Ok(text) => Version::Text(text),
-                Err(SessionFault::Memory) => Version::OutOfMemory,
-                Err(_) => self.unread(path, &"the file cannot be read to its end"),
-            },
-            Err(error) => match error.kind() {
-                io::ErrorKind::OutOfMemory => Version::OutOfMemory,
-                _ => self.unread(path, &error),
-            },
+            Ok(file) => self.text_in(alloc, path, file),
+            Err(error) => self.unopened(path, &error),
         }
     }
 }
