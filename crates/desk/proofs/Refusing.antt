@@ -1,6 +1,7 @@
 -- Why an edit is refused, and that an open desk does not say that it is closed.
 use Rattle.std.proofs.Common.{◌≡◌, ◌↔◌, Bool, true, false}
 use Rattle.std.specs.Prelude.{Result, Ok, Err}
+use Rattle.memo_core.specs.declared.claims.ClaimFault.{ClaimFault}
 use Rattle.desk.specs.declared.fault.DeskFault.{DeskFault}
 use Rattle.desk.specs.declared.fault.DeskFault.TheVariants as faults
 use Rattle.desk.specs.Held.{IsRefusedBy}
@@ -28,3 +29,9 @@ not_ok a e = cc
 
 pub not_seat : {A F : Type 0} → (let r : Result A (DeskFault F) = Err faults.NoSeat in r ≡ Err faults.Closed) → ⊥
 not_seat e = cc
+
+pub not_memory : {A F : Type 0} → (let r : Result A (DeskFault F) = Err faults.OutOfMemory in r ≡ Err faults.Closed) → ⊥
+not_memory e = cc
+
+pub not_claim : {A F : Type 0} (fault : ClaimFault) → (let r : Result A (DeskFault F) = Err (faults.Claim fault) in r ≡ Err faults.Closed) → ⊥
+not_claim fault e = cc

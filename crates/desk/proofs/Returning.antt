@@ -12,14 +12,14 @@ use Rattle.memo_core.specs.Names.{same_node}
 use Rattle.memo_core.specs.Equality.{same_node_exact}
 use Rattle.memo_core.specs.Graph.{Memo, Net, memo_of, at, stored_at, stamp_in, present_inputs, put_memo, input_nodes, IsSettledBy, IsSettled}
 use Rattle.memo_core.specs.Step.{Has, State, Return, Accepts, Finishes}
-use Rattle.memo_core.specs.Run.{Bench, Meaning, Claim, NoClaim, Returned, Step, state_in}
+use Rattle.memo_core.specs.Run.{Bench, Meaning, Claim, NoClaim, Returned, Refused, Step, state_in}
 use Rattle.memo_core.proofs.Theory.{either, put_other}
 use Rattle.desk_rule.proofs.Showing.{fold_push}
 use Rattle.cells.specs.Cells.{Cells, Carries, IsSettledCell, StandsOn}
 use Rattle.desk.specs.Boards.{BoardCell, IsSettledOn, IsListedWithin, HoldsFor, ArePosted, ArePostedAbove, ArePostedFor, ArePostedBut, IsKept, AreKept, settled_with, with_outcome}
 use Rattle.desk.specs.declared.answer.Posted.{Posted}
 use Rattle.desk.specs.declared.answer.Posted.TheVariants.{Now, Later}
-use Rattle.desk.specs.Held.{Held, held, Appends, PublishesOr}
+use Rattle.desk.specs.Held.{Held, held, Appends, PublishesOr, IsRefusedTurn}
 use Rattle.desk.specs.Posts.{IsPosted}
 use Rattle.desk.proofs.Outcomes.{below_get}
 
@@ -244,3 +244,16 @@ pub appends_of : {T V O : Type 0} (is_settle : O → Type 0) (inside old : Held 
 appends_of is_settle inside old more same each bench all published e =
     subst (λ (h : Held _ _ _). Appends is_settle h.all h (held bench all published inside.spare inside.closed)) same
     (record { settles = more; are_settles = each; all = e; spare = refl; closed = refl })
+
+-- so they were where the bench alone was changed before
+pub appends_since : {T V O : Type 0} (is_settle : O → Type 0) (before after : Bench T V) (all published : List O) (spare : ℕ) (closed : Bool) (old new : Held T V O) → held before all published spare closed ≡ old
+    → Appends is_settle all (held after all published spare closed) new → Appends is_settle old.all old new
+appends_since is_settle before after all published spare closed old new same a =
+    subst (λ (h : Held _ _ _). Appends is_settle h.all h new) same
+    (record { settles = a.settles; are_settles = a.are_settles; all = a.all; spare = a.spare; closed = a.closed })
+
+-- where the bench refused a call, nothing else changed
+pub refused_since : {T E V G O : Type 0} (means : Meaning T E V G) (before after : Bench T V) (all published : List O) (spare : ℕ) (closed : Bool) (old : Held T V O) → held before all published spare closed ≡ old
+    → Step means before Refused after → IsRefusedTurn means old (held after all published spare closed)
+refused_since means before after all published spare closed old same step =
+    subst (λ (h : Held _ _ _). IsRefusedTurn means h (held after all published spare closed)) same (step, refl)

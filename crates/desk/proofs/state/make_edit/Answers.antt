@@ -42,3 +42,74 @@ returns-then-wants_memory-clause-published g c = ap (λ (l : Pressed _). l.publi
 
 pub returns-else-wants_memory-clause-published : goal.returns-else-wants_memory-clause-published
 returns-else-wants_memory-clause-published g c = ap (λ (l : Pressed _). l.published) c.in-Err.ensures.unseen
+
+pub returns-then-wants_memory-clause-valid : goal.returns-then-wants_memory-clause-valid
+returns-then-wants_memory-clause-valid g c = c.in-Err.ensures.refused.texts.valid c.requires.valid
+
+pub returns-then-wants_memory-clause-after : goal.returns-then-wants_memory-clause-after
+returns-then-wants_memory-clause-after g c =
+    let t = c.args.bench.now.texts in
+    let same = c.in-Err.ensures.refused.texts in
+    rw c.in-Err.ensures.unseen (g.met.X.BoardTexts.after_same t c.edit_told.new.self.texts c.args.ledger.now.all c.requires.valid c.in-Err.ensures.last (same.since t (g.met.X.Texts.since_same t c.requires.valid)) c.requires.after)
+
+pub returns-then-wants_memory-clause-last : goal.returns-then-wants_memory-clause-last
+returns-then-wants_memory-clause-last g c =
+    let taken = c.in-Err.ensures.refused.taken in
+    rw c.in-Err.ensures.unseen (omega (arith, taken, c.requires.last))
+
+pub returns-then-wants_memory-clause-err : goal.returns-then-wants_memory-clause-err
+returns-then-wants_memory-clause-err g c = (c.in-Err.ensures.refused, c.in-Err.ensures.unseen)
+
+pub returns-else-wants_memory-clause-valid : goal.returns-else-wants_memory-clause-valid
+returns-else-wants_memory-clause-valid g c = c.in-Err.ensures.refused.texts.valid c.requires.valid
+
+pub returns-else-wants_memory-clause-after : goal.returns-else-wants_memory-clause-after
+returns-else-wants_memory-clause-after g c =
+    let t = c.args.bench.now.texts in
+    let same = c.in-Err.ensures.refused.texts in
+    rw c.in-Err.ensures.unseen (g.met.X.BoardTexts.after_same t c.edit_told.new.self.texts c.args.ledger.now.all c.requires.valid c.in-Err.ensures.last (same.since t (g.met.X.Texts.since_same t c.requires.valid)) c.requires.after)
+
+pub returns-else-wants_memory-clause-last : goal.returns-else-wants_memory-clause-last
+returns-else-wants_memory-clause-last g c =
+    let taken = c.in-Err.ensures.refused.taken in
+    rw c.in-Err.ensures.unseen (omega (arith, taken, c.requires.last))
+
+pub returns-else-wants_memory-clause-err : goal.returns-else-wants_memory-clause-err
+returns-else-wants_memory-clause-err g c = (c.in-Err.ensures.refused, c.in-Err.ensures.unseen)
+
+pub returns-in-Ok-None-clause-valid : goal.returns-in-Ok-None-clause-valid
+returns-in-Ok-None-clause-valid g c =
+    let refused = rw c.in-Ok-None.field-0-is at (rw c.in-Ok-None.is at c.edit_told.ensures.refused) in
+    refused.texts.valid c.requires.valid
+
+pub returns-in-Ok-None-clause-after : goal.returns-in-Ok-None-clause-after
+returns-in-Ok-None-clause-after g c =
+    let t = c.args.bench.now.texts in
+    let refused = rw c.in-Ok-None.field-0-is at (rw c.in-Ok-None.is at c.edit_told.ensures.refused) in
+    let held = rw c.in-Ok-None.field-0-is at (rw c.in-Ok-None.is at c.edit_told.ensures.held) in
+    let last = rw c.in-Ok-None.field-0-is at (rw c.in-Ok-None.is at c.edit_told.ensures.last) in
+    rw held (g.met.X.BoardTexts.after_same t c.edit_told.new.self.texts c.args.ledger.now.all c.requires.valid last (refused.texts.since t (g.met.X.Texts.since_same t c.requires.valid)) c.requires.after)
+
+pub returns-in-Ok-None-clause-last : goal.returns-in-Ok-None-clause-last
+returns-in-Ok-None-clause-last g c =
+    let refused = rw c.in-Ok-None.field-0-is at (rw c.in-Ok-None.is at c.edit_told.ensures.refused) in
+    let held = rw c.in-Ok-None.field-0-is at (rw c.in-Ok-None.is at c.edit_told.ensures.held) in
+    let taken = refused.taken in
+    rw held (omega (arith, taken, c.requires.last))
+
+pub returns-in-Ok-None-clause-err : goal.returns-in-Ok-None-clause-err
+returns-in-Ok-None-clause-err g c =
+    let refused = rw c.in-Ok-None.field-0-is at (rw c.in-Ok-None.is at c.edit_told.ensures.refused) in
+    let held = rw c.in-Ok-None.field-0-is at (rw c.in-Ok-None.is at c.edit_told.ensures.held) in
+    (refused, held)
+
+pub returns-in-Ok-None-clause-published : goal.returns-in-Ok-None-clause-published
+returns-in-Ok-None-clause-published g c =
+    let held = rw c.in-Ok-None.field-0-is at (rw c.in-Ok-None.is at c.edit_told.ensures.held) in
+    ap (λ (l : Pressed _). l.published) held
+
+pub returns-in-Ok-Some-clause-valid : goal.returns-in-Ok-Some-clause-valid
+returns-in-Ok-Some-clause-valid g c =
+    let b = c.args.bench.now in
+    let step = rw c.in-Ok-Some.field-0-is at (rw c.in-Ok-Some.is at c.edit_told.ensures.edited) in
+    g.met.X.Texts.valid_edited b.texts c.edit_told.new.self.texts c.args.edit (b.taken + 1) c.requires.valid step.0

@@ -1,10 +1,11 @@
-use Rattle.std.proofs.Common.{◌≡◌, List, fold, ap}
+use Rattle.std.proofs.Common.{◌≡◌, List, fold, ap, sym, ◌∙◌}
 use Rattle.memo_core.specs.Run.{Bench}
 use Rattle.cells.specs.Cells.{cells as cells_of}
 use Rattle.desk.specs.Boards.{ArePosted}
 use Rattle.desk.specs.Held.{Held, held}
 use Rattle.desk.proofs.Growing.{grown_from}
-use Rattle.desk.proofs.Returning.{publishes_same}
+use Rattle.desk.proofs.Refusing.{not_ok, other_closed}
+use Rattle.desk.proofs.Returning.{appends_since, publishes_same}
 use Rattle.desk.proofs.state.DeskState.finish.Goals as goal
 
 pub returns-clause-posted : goal.returns-clause-posted
@@ -18,3 +19,11 @@ returns-clause-posted g c =
 
 pub returns-clause-grows : goal.returns-clause-grows
 returns-clause-grows g c = grown_from _ _ _ (ap (λ (h : Held _ _ _). h.published) c.self.view_is) c.catch_up-posted.ensures.grows
+
+pub returns-clause-appends : goal.returns-clause-appends
+returns-clause-appends g c =
+    let s = c.self.inside in
+    appends_since g.X.BoardTexts.is_settle s.bench c.take-finish.new.bench s.ledger.all s.ledger.published s.seats s.closed c.args.self.now c.catch_up-posted.new.self c.self.view_is c.catch_up-posted.ensures.appends
+
+pub returns-clause-closed : goal.returns-clause-closed
+returns-clause-closed g c = other_closed _ _ (not_ok _) (sym (ap (λ (h : Held _ _ _). h.closed) c.self.view_is) ∙ c.if-self.false)

@@ -1,0 +1,42 @@
+use Rattle.std.proofs.Common.{◌≡◌, List, fold, refl, ap, sym, ◌∙◌, subst}
+use mathlib.Core.List.{IsPrefix}
+use Rattle.desk.specs.Boards.{AreSettled}
+use Rattle.desk.specs.Held.{Held}
+use Rattle.desk.proofs.Growing.{begins_after}
+use Rattle.desk.proofs.Refusing.{not_ok, not_seat, other_closed}
+use Rattle.desk.proofs.state.DeskState.settle.Goals as goal
+
+pub returns-then-not-is_behind-clause-closed : goal.returns-then-not-is_behind-clause-closed
+returns-then-not-is_behind-clause-closed g c = other_closed _ _ not_seat (sym (ap (λ (h : Held _ _ _). h.closed) c.self.view_is) ∙ c.if-self.false)
+
+pub returns-then-not-show_all-clause-closed : goal.returns-then-not-show_all-clause-closed
+returns-then-not-show_all-clause-closed g c = other_closed _ _ (not_ok _) (sym (ap (λ (h : Held _ _ _). h.closed) c.self.view_is) ∙ c.if-self.false)
+
+pub returns-then-not-is_settled-clause-closed : goal.returns-then-not-is_settled-clause-closed
+returns-then-not-is_settled-clause-closed g c = other_closed _ _ (not_ok _) (sym (ap (λ (h : Held _ _ _). h.closed) c.self.view_is) ∙ c.if-self.false)
+
+pub returns-clause-closed : goal.returns-clause-closed
+returns-clause-closed g c = other_closed _ _ (not_ok _) (sym (ap (λ (h : Held _ _ _). h.closed) c.self.view_is) ∙ c.if-self.false)
+
+pub returns-then-not-is_settled-clause-appends : goal.returns-then-not-is_settled-clause-appends
+returns-then-not-is_settled-clause-appends g c = c.show_all.ensures.appends
+
+pub returns-then-not-is_settled-clause-settles : goal.returns-then-not-is_settled-clause-settles
+returns-then-not-is_settled-clause-settles g c = (refl, c.if-not-show_all.ensures.whole refl)
+
+pub returns-clause-settles : goal.returns-clause-settles
+returns-clause-settles g c =
+    let me = c.args.me.now in
+    let new = c.show_all.new.self in
+    let a = c.show_all.ensures.appends in
+    let told = c.tell_all.ensures.told in
+    let all : c.self-2.inside.ledger.all ≡ new.all = ap (λ (h : Held _ _ _). h.all) c.self-2.view_is in
+    let whole : new.published ≡ new.all = c.if-not-show_all.ensures.whole refl in
+    let behind : IsPrefix me c.args.self.now.all = subst (λ (l : List _). IsPrefix me l) (c.front.ensures.front ∙ ap (λ (h : Held _ _ _). h.all) c.self.view_is) (c.if-not-is_behind.ensures.begins refl) in
+    record {
+      list = told ∙ (all ∙ sym whole);
+      whole = whole;
+      begins = subst (λ (l : List _). IsPrefix me l) (sym (told ∙ all)) (begins_after me c.args.self.now.all a.settles new.all behind a.all);
+      settled = subst (λ (l : List _). AreSettled (g.X.BoardTexts.cells (fold g.X.Operations.after g.X.Operations.none l))) (sym told) (c.is_settled.ensures c.if-not-is_settled.false);
+      legal = subst (λ (l : List _). g.X.Operations.is_legal l) (sym told) c.tell_all.ensures.legal;
+    }
