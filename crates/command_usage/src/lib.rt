@@ -23,6 +23,7 @@ const SESSION_AFTER: &str =
     po|rf|fr|co\\n.\\nitems sc\\n' | pipitsolder session\n\
     Example: pipitsolder session script.txt --workers 4";
 
+// A file that is to be named.
 fn path<'a>(alloc: Global, name: &'static str, help: &'static str) -> Arg<'a> {
     Arg::new(alloc, name)
         .help(help)
@@ -30,115 +31,201 @@ fn path<'a>(alloc: Global, name: &'static str, help: &'static str) -> Arg<'a> {
         .action(ArgAction::Set)
 }
 
+// The command, which takes a file too.
+fn with_file<'a>(
+    alloc: Global,
+    command: Command<'a>,
+    name: &'static str,
+    help: &'static str,
+) -> Result<Command<'a>, AllocError> {
+    command.arg(path(alloc, name, help))
+}
+
+// The command, which takes one file or more too, behind `--` where they are the last.
+fn with_files<'a>(
+    alloc: Global,
+    command: Command<'a>,
+    name: &'static str,
+    help: &'static str,
+    are_last: bool,
+) -> Result<Command<'a>, AllocError> {
+    let files = path(alloc, name, help).num_args(1..).last(are_last);
+    command.arg(files)
+}
+
+// The command, which takes a number too, behind these dashes and this word.
+fn with_number<'a>(
+    alloc: Global,
+    command: Command<'a>,
+    long: &'static str,
+    help: &'static str,
+) -> Result<Command<'a>, AllocError> {
+    let number = Arg::new(alloc, "N")
+        .long(long)
+        .help(help)
+        .action(ArgAction::Set);
+    command.arg(number)
+}
+
+fn named<'a>(alloc: Global, name: &'static str, about: &'static str) -> Command<'a> {
+    Command::new(alloc, name).about(about)
+}
+
 fn eval_command<'a>(alloc: Global) -> Result<Command<'a>, AllocError> {
-    let model = path(
+    let command = named(
         alloc,
+        "eval",
+        "The same, with the model and the test in two files",
+    );
+    let command = with_file(
+        alloc,
+        command,
         "MODEL",
         "A file that holds a model in the cat language",
-    );
-    let test = path(
+    )?;
+    with_file(
         alloc,
+        command,
         "TEST",
         "A file that holds a litmus test for Power (PPC)",
-    );
-    Command::new(alloc, "eval")
-        .about("The same, with the model and the test in two files")
-        .arg(model)?
-        .arg(test)
+    )
 }
 
 fn table_command<'a>(alloc: Global) -> Result<Command<'a>, AllocError> {
-    let models = path(alloc, "MODEL", "Files of models").num_args(1..);
-    let tests = path(alloc, "TEST", "Files of tests, behind `--`")
-        .num_args(1..)
-        .last(true);
-    Command::new(alloc, "table")
-        .about("A table of the tests of some files under the models of others")
-        .arg(models)?
-        .arg(tests)
+    let command = named(
+        alloc,
+        "table",
+        "A table of the tests of some files under the models of others",
+    );
+    let command = with_files(alloc, command, "MODEL", "Files of models", false)?;
+    with_files(alloc, command, "TEST", "Files of tests, behind `--`", true)
 }
 
 fn diff_command<'a>(alloc: Global) -> Result<Command<'a>, AllocError> {
-    let first = path(alloc, "FIRST", "The file of a model");
-    let second = path(alloc, "SECOND", "The file of another model");
-    let tests = path(alloc, "TEST", "Files of tests").num_args(1..);
-    Command::new(alloc, "diff")
-        .about("Which tests two models tell apart, and by which final states")
-        .arg(first)?
-        .arg(second)?
-        .arg(tests)
+    let command = named(
+        alloc,
+        "diff",
+        "Which tests two models tell apart, and by which final states",
+    );
+    let command = with_file(alloc, command, "FIRST", "The file of a model")?;
+    let command = with_file(alloc, command, "SECOND", "The file of another model")?;
+    with_files(alloc, command, "TEST", "Files of tests", false)
+}
+
+// The file of a script, which need not be named.
+fn script<'a>(alloc: Global) -> Arg<'a> {
+    Arg::new(alloc, "SCRIPT")
+        .help("The file of a script, in place of standard input")
+        .action(ArgAction::Set)
 }
 
 fn session_command<'a>(alloc: Global) -> Result<Command<'a>, AllocError> {
-    let workers = Arg::new(alloc, "N")
-        .long("workers")
-        .help("How many threads run the jobs, 0 to 32: 0 is the program itself")
-        .action(ArgAction::Set);
-    let script = Arg::new(alloc, "SCRIPT")
-        .help("The file of a script, in place of standard input")
-        .action(ArgAction::Set);
-    Command::new(alloc, "session")
-        .about("Answers the commands of a script: edits of tests and models, and questions")
-        .after_help(SESSION_AFTER)
-        .arg(script)?
-        .arg(workers)
+    let command = named(
+        alloc,
+        "session",
+        "Answers the commands of a script: edits of tests and models, and questions",
+    )
+    .after_help(SESSION_AFTER);
+    let command = command.arg(script(alloc))?;
+    with_number(
+        alloc,
+        command,
+        "workers",
+        "How many threads run the jobs, 0 to 32: 0 is the program itself",
+    )
+}
+
+// The command, which takes a model and a test.
+fn with_cell<'a>(alloc: Global, command: Command<'a>) -> Result<Command<'a>, AllocError> {
+    let command = with_file(alloc, command, "MODEL", "The file of a model")?;
+    with_file(alloc, command, "TEST", "The file of a test")
 }
 
 fn why_command<'a>(alloc: Global) -> Result<Command<'a>, AllocError> {
-    let model = path(alloc, "MODEL", "The file of a model");
-    let test = path(alloc, "TEST", "The file of a test");
-    Command::new(alloc, "why")
-        .about(
-            "Why a model forbids what a test asks for, or an execution that it keeps; with --forbidden both, with --deep each name with the name inside it",
-        )
-        .arg(model)?
-        .arg(test)
+    let command = named(
+        alloc,
+        "why",
+        "Why a model forbids what a test asks for, or an execution that it keeps; with --forbidden both, with --deep each name with the name inside it",
+    );
+    with_cell(alloc, command)
 }
 
 fn draw_command<'a>(alloc: Global) -> Result<Command<'a>, AllocError> {
-    let model = path(alloc, "MODEL", "The file of a model");
-    let test = path(alloc, "TEST", "The file of a test");
-    let most = Arg::new(alloc, "N")
-        .long("most")
-        .help("At most so many drawings, 1 to 64: otherwise 16")
-        .action(ArgAction::Set);
-    Command::new(alloc, "draw")
-        .about(
-            "Drawings of executions for dot: those kept that have what the test asks for (--shown), those forbidden (--forbidden), or all (--all)",
-        )
-        .arg(model)?
-        .arg(test)?
-        .arg(most)
+    let command = named(
+        alloc,
+        "draw",
+        "Drawings of executions for dot: those kept that have what the test asks for (--shown), those forbidden (--forbidden), or all (--all)",
+    );
+    let command = with_cell(alloc, command)?;
+    with_number(
+        alloc,
+        command,
+        "most",
+        "At most so many drawings, 1 to 64: otherwise 16",
+    )
 }
 
 fn watch_command<'a>(alloc: Global) -> Result<Command<'a>, AllocError> {
-    let model = path(alloc, "MODEL", "The file of a model");
-    let tests = path(alloc, "TEST", "Files of tests").num_args(1..);
-    let workers = Arg::new(alloc, "N")
-        .long("workers")
-        .help("How many threads run the jobs, 0 to 32, before the files: 0 is the program itself")
-        .action(ArgAction::Set);
-    Command::new(alloc, "watch")
-        .about(
-            "Some tests under a model, and what changes with each later version of a file that standard input names",
-        )
-        .arg(model)?
-        .arg(tests)?
-        .arg(workers)
+    let command = named(
+        alloc,
+        "watch",
+        "Some tests under a model, and what changes with each later version of a file that standard input names",
+    );
+    let command = with_file(alloc, command, "MODEL", "The file of a model")?;
+    let command = with_files(alloc, command, "TEST", "Files of tests", false)?;
+    with_number(
+        alloc,
+        command,
+        "workers",
+        "How many threads run the jobs, 0 to 32, before the files: 0 is the program itself",
+    )
+}
+
+// What a word behind the name of the program asks for.
+#[derive(Clone, Copy)]
+enum Subcommand {
+    Eval,
+    Table,
+    Diff,
+    Session,
+    Why,
+    Draw,
+    Watch,
+}
+
+// In the order of the usage.
+const SUBCOMMANDS: [Subcommand; 7] = [
+    Subcommand::Eval,
+    Subcommand::Table,
+    Subcommand::Diff,
+    Subcommand::Session,
+    Subcommand::Why,
+    Subcommand::Draw,
+    Subcommand::Watch,
+];
+
+fn command_of<'a>(alloc: Global, subcommand: Subcommand) -> Result<Command<'a>, AllocError> {
+    match subcommand {
+        Subcommand::Eval => eval_command(alloc),
+        Subcommand::Table => table_command(alloc),
+        Subcommand::Diff => diff_command(alloc),
+        Subcommand::Session => session_command(alloc),
+        Subcommand::Why => why_command(alloc),
+        Subcommand::Draw => draw_command(alloc),
+        Subcommand::Watch => watch_command(alloc),
+    }
 }
 
 fn program<'a>(alloc: Global) -> Result<Command<'a>, AllocError> {
-    Command::new(alloc, "pipitsolder")
+    let mut program = Command::new(alloc, "pipitsolder")
         .about(ABOUT)
         .after_help(AFTER)
-        .version(VERSION)
-        .subcommand(eval_command(alloc)?)?
-        .subcommand(table_command(alloc)?)?
-        .subcommand(diff_command(alloc)?)?
-        .subcommand(session_command(alloc)?)?
-        .subcommand(why_command(alloc)?)?
-        .subcommand(draw_command(alloc)?)?
-        .subcommand(watch_command(alloc)?)
+        .version(VERSION);
+    for subcommand in SUBCOMMANDS {
+        let command = command_of(alloc, subcommand)?;
+        program = program.subcommand(command)?;
+    }
+    Ok(program)
 }
 
 // What clap says of words that have no form. It takes a few such words, as `eval -- A B`.
