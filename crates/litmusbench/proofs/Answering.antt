@@ -1,5 +1,5 @@
 -- What is said of two texts.
-use Rattle.std.proofs.Common.{◌≡◌, ◌≢◌, ℕ, List, Bool, true, Option, Some, None, Result, Ok, Err, IfOk, IfSome, ap, ◌∙◌, sym, subst, refl}
+use Rattle.std.proofs.Common.{◌≡◌, ◌≢◌, ℕ, List, Bool, true, Option, Some, None, Result, Ok, Err, IfOk, IfErr, IfSome, ap, ◌∙◌, sym, subst, refl}
 use Rattle.std.specs.Io.KnownBytes.{Keeps}
 use Rattle.std.specs.declared.alloc.Global.{Global}
 use Rattle.std.specs.declared.alloc.AllocError.{AllocError}
@@ -28,9 +28,10 @@ use Rattle.command_line.specs.declared.fault.SessionFault.{SessionFault}
 use Rattle.command_line.specs.declared.fault.SessionFault.TheVariants as faults
 use Rattle.litmusbench.specs.declared.stream.Answer.{Answer}
 use Rattle.memo_graph.specs.FromScratch.{IsFromScratch}
-use Rattle.litmusbench.specs.Whys.{IsWhyAnswer}
+use Rattle.litmusbench.specs.Whys.{IsWhyOf, IsWhyAnswer}
 use Rattle.reasons.specs.declared.answer.Asked.{Asked}
-use Rattle.litmusbench.specs.Answer.{IsLogOf, IsModel, IsModelRefused, IsTestRefused, IsAnswer, RefusesModel, RefusesTest, IsRefusal, IsWritten, IsStreamed}
+use Rattle.litmusbench.specs.Answer.{IsLogOf, IsLog, IsModelRefused, IsTestRefused, IsAnswer, IsEvaluated, RefusesModel, RefusesTest, IsRefusal, IsSaidOf, IsWritten, IsStreamed}
+use Rattle.litmusbench.specs.Made.{AreWritten, IsMade}
 use Rattle.litmusbench.specs.Cut.{IsCut}
 use Rattle.session_edits.specs.Answer.{refused_line}
 use Rattle.compare_report.specs.Log.{log_of}
@@ -55,29 +56,59 @@ test_refused bytes e rule offset is only fault =
       fault = subst (λ (f : LitmusFault). tests.IsFaultOf (IsTestFault bytes) f) is fault;
     }
 
--- a refusal of `eval`
-pub of_model : (model test : List ℕ) (e : EvalFault) (rule : CatRule) (offset : ℕ) → e ≡ eval_faults.Model rule offset → IsRefusal model test e → IsModelRefused model rule offset
-of_model model test e rule offset is h = subst (λ (x : EvalFault). IsRefusal model test x) is h
+-- the line of a refused text is what is said of the report
+pub model_line : (r : Result Answer AllocError) (fault : EvalFault) (rule : CatRule) (number offset : ℕ) → fault ≡ eval_faults.Model rule offset → number ≡ model_rule_number rule
+    → IfOk r (λ a. (a.text.items ≡ refused_line 67 number offset) × (a.is_refused ≡ true)) → IfOk r (λ a. IsSaidOf (Err fault) a.text.items a.is_refused)
+model_line (Ok a) fault rule number offset is same h =
+    subst (λ (f : EvalFault). IsSaidOf (Err f) a.text.items a.is_refused) (sym is) (h.0 ∙ ap (λ (n : ℕ). refused_line 67 n offset) same, h.1)
+model_line (Err e) fault rule number offset is same h = tt
 
-pub of_test : (model test : List ℕ) (e : EvalFault) (rule : LitmusRule) (offset : ℕ) → e ≡ eval_faults.Test rule offset → IsRefusal model test e → IsModel model × IsTestRefused test rule offset
-of_test model test e rule offset is h = subst (λ (x : EvalFault). IsRefusal model test x) is h
+pub test_line : (r : Result Answer AllocError) (fault : EvalFault) (rule : LitmusRule) (number offset : ℕ) → fault ≡ eval_faults.Test rule offset → number ≡ test_rule_number rule
+    → IfOk r (λ a. (a.text.items ≡ refused_line 76 number offset) × (a.is_refused ≡ true)) → IfOk r (λ a. IsSaidOf (Err fault) a.text.items a.is_refused)
+test_line (Ok a) fault rule number offset is same h =
+    subst (λ (f : EvalFault). IsSaidOf (Err f) a.text.items a.is_refused) (sym is) (h.0 ∙ ap (λ (n : ℕ). refused_line 76 n offset) same, h.1)
+test_line (Err e) fault rule number offset is same h = tt
 
-pub refuses_model : (r : Result Answer AllocError) (model test : List ℕ) (rule : CatRule) (number offset : ℕ) → IsModelRefused model rule offset → number ≡ model_rule_number rule → IfOk r (λ a. (a.text.items ≡ refused_line 67 number offset) × (a.is_refused ≡ true)) → IfOk r (λ a. IsAnswer model test a.text.items a.is_refused)
-refuses_model (Ok a) model test rule number offset refused e h =
-    RefusesModel h.1 rule offset refused (h.0 ∙ ap (λ (n : ℕ). refused_line 67 n offset) e)
-refuses_model (Err f) model test rule number offset refused e h = tt
+pub fault_said : (r : Result Answer AllocError) (report : Result (Vec ℕ Global) EvalFault) (fault : EvalFault) → report ≡ Err fault → IfOk r (λ a. IsSaidOf (Err fault) a.text.items a.is_refused) → IfOk r (λ a. IsSaidOf report a.text.items a.is_refused)
+fault_said r report fault is h = subst (λ (x : Result (Vec ℕ Global) EvalFault). IfOk r (λ a. IsSaidOf x a.text.items a.is_refused)) (sym is) h
 
-pub refuses_test : (r : Result Answer AllocError) (model test : List ℕ) (rule : LitmusRule) (number offset : ℕ) → IsModel model → IsTestRefused test rule offset → number ≡ test_rule_number rule → IfOk r (λ a. (a.text.items ≡ refused_line 76 number offset) × (a.is_refused ≡ true)) → IfOk r (λ a. IsAnswer model test a.text.items a.is_refused)
-refuses_test (Ok a) model test rule number offset is_model refused e h =
-    RefusesTest h.1 rule offset is_model refused (h.0 ∙ ap (λ (n : ℕ). refused_line 76 n offset) e)
-refuses_test (Err f) model test rule number offset is_model refused e h = tt
+-- the line of a refused text is an answer to the two texts
+pub refused_so : (text : List ℕ) (refused : Bool) (model test : List ℕ) (e : EvalFault) → IsRefusal model test e → IsSaidOf (Err e) text refused → (refused ≡ true) × IsAnswer model test text true
+refused_so text refused model test (eval_faults.Model rule offset) h said = (said.1, RefusesModel refl rule offset h said.0)
+refused_so text refused model test (eval_faults.Test rule offset) h said = (said.1, RefusesTest refl rule offset h.0 h.1 said.0)
+refused_so text refused model test (eval_faults.Memory e) h said = absurd said
 
--- a line of a refused text is what `draw` answers, and what `why` answers
-pub explained : (r : Result Answer AllocError) (asked : Asked) (model test line : List ℕ) → IfOk r (λ a. IsAnswer model test a.text.items a.is_refused)
-    → IfOk r (λ a. (a.text.items ≡ line) × (a.is_refused ≡ true)) → IfOk r (λ a. IsWhyAnswer asked model test a.text.items a.is_refused)
-explained (Ok a) asked model test line h e =
-    subst (λ (b : Bool). IsWhyAnswer asked model test a.text.items b) (sym e.1) (subst (λ (b : Bool). IsAnswer model test a.text.items b) e.1 h)
-explained (Err f) asked model test line h e = tt
+-- so what is said of a log, of reasons and of drawings is what is answered
+pub evaluated : (r : Result Answer AllocError) (report : Result (Vec ℕ Global) EvalFault) (model test : List ℕ) → IfOk report (λ log. IsLog model test log.items) → IfErr report (IsRefusal model test)
+    → IfOk r (λ a. IsSaidOf report a.text.items a.is_refused) → IfOk r (λ a. IsAnswer model test a.text.items a.is_refused)
+evaluated (Ok a) (Ok v) model test log refusal said = IsEvaluated said.1 (subst (λ (l : List ℕ). IsLog model test l) (sym said.0) log)
+evaluated (Ok a) (Err e) model test log refusal said =
+    let h = refused_so a.text.items a.is_refused model test e refusal said in
+    subst (λ (b : Bool). IsAnswer model test a.text.items b) (sym h.0) h.1
+evaluated (Err f) report model test log refusal said = tt
+
+pub explained : (r : Result Answer AllocError) (report : Result (Vec ℕ Global) EvalFault) (asked : Asked) (model test : List ℕ) → IfOk report (λ text. IsWhyOf asked model test text.items) → IfErr report (IsRefusal model test)
+    → IfOk r (λ a. IsSaidOf report a.text.items a.is_refused) → IfOk r (λ a. IsWhyAnswer asked model test a.text.items a.is_refused)
+explained (Ok a) (Ok v) asked model test why refusal said =
+    subst (λ (b : Bool). IsWhyAnswer asked model test a.text.items b) (sym said.1) (subst (λ (l : List ℕ). IsWhyOf asked model test l) (sym said.0) why)
+explained (Ok a) (Err e) asked model test why refusal said =
+    let h = refused_so a.text.items a.is_refused model test e refusal said in
+    subst (λ (b : Bool). IsWhyAnswer asked model test a.text.items b) (sym h.0) h.1
+explained (Err f) report asked model test why refusal said = tt
+
+-- what is said of an answer that was made, and what was written of it
+made_so : (is_said : List ℕ → Bool → Type 0) (made : Result Answer AllocError) (text : List ℕ) (refused : Bool) → IfOk made (λ a. is_said a.text.items a.is_refused) → IsMade made text refused → is_said text refused
+made_so is_said made text refused h (a, is, same, so) =
+    let said : is_said a.text.items a.is_refused = subst (λ (m : Result Answer AllocError). IfOk m (λ a. is_said a.text.items a.is_refused)) is h in
+    subst (λ (b : Bool). is_said text b) (sym so) (subst (λ (l : List ℕ). is_said l a.is_refused) (sym same) said)
+
+pub written_so : (is_said : List ℕ → Bool → Type 0) (made : Result Answer AllocError) (old new : Option (List ℕ)) (r : Result Bool SessionFault) → IfOk made (λ a. is_said a.text.items a.is_refused)
+    → AreWritten (IsMade made) old new r → AreWritten is_said old new r
+written_so is_said made old new (Ok refused) h (text, is, appends) = (text, made_so is_said made text refused h is, appends)
+written_so is_said made old new (Err faults.Write) h (text, refused, is, front) = (text, refused, made_so is_said made text refused h is, front)
+written_so is_said made old new (Err faults.Read) h k = k
+written_so is_said made old new (Err faults.Memory) h k = k
+written_so is_said made old new (Err faults.Shared) h k = k
 
 kept : (known : Option (List ℕ)) → Keeps known known
 kept None = tt

@@ -1,12 +1,21 @@
 -- What is drawn of two texts.
-use Rattle.std.proofs.Common.{◌≡◌, ℕ, List, Bool, true, Result, Ok, Err, IfOk, sym, subst}
+use Rattle.std.proofs.Common.{ℕ, List, Bool, Result, Ok, Err, IfOk, IfErr, sym, subst}
 use Rattle.std.specs.declared.alloc.AllocError.{AllocError}
+use Rattle.std.specs.declared.alloc.Global.{Global}
+use Rattle.std.specs.declared.vec.Vec.{Vec}
 use Rattle.command_line.specs.declared.form.Drawn.{Drawn}
+use Rattle.litmusbench.specs.declared.fault.EvalFault.{EvalFault}
 use Rattle.litmusbench.specs.declared.stream.Answer.{Answer}
-use Rattle.litmusbench.specs.Answer.{IsAnswer}
-use Rattle.litmusbench.specs.Pictures.{IsPictureAnswer}
+use Rattle.litmusbench.specs.Answer.{IsRefusal, IsSaidOf}
+use Rattle.litmusbench.specs.Pictures.{IsPictureOf, IsPictureAnswer}
+use Rattle.litmusbench.proofs.Answering.{refused_so}
 
--- a line of a refused text is what `draw` answers
-pub pictured : (r : Result Answer AllocError) (drawn : Drawn) (most : ℕ) (model test line : List ℕ) → IfOk r (λ a. IsAnswer model test a.text.items a.is_refused) → IfOk r (λ a. (a.text.items ≡ line) × (a.is_refused ≡ true)) → IfOk r (λ a. IsPictureAnswer drawn most model test a.text.items a.is_refused)
-pictured (Ok a) drawn most model test line h e = subst (λ (b : Bool). IsPictureAnswer drawn most model test a.text.items b) (sym e.1) (subst (λ (b : Bool). IsAnswer model test a.text.items b) e.1 h)
-pictured (Err f) drawn most model test line h e = tt
+-- what is said of a report of drawings is what `draw` answers
+pub pictured : (r : Result Answer AllocError) (report : Result (Vec ℕ Global) EvalFault) (drawn : Drawn) (most : ℕ) (model test : List ℕ) → IfOk report (λ text. IsPictureOf drawn most model test text.items) → IfErr report (IsRefusal model test)
+    → IfOk r (λ a. IsSaidOf report a.text.items a.is_refused) → IfOk r (λ a. IsPictureAnswer drawn most model test a.text.items a.is_refused)
+pictured (Ok a) (Ok v) drawn most model test picture refusal said =
+    subst (λ (b : Bool). IsPictureAnswer drawn most model test a.text.items b) (sym said.1) (subst (λ (l : List ℕ). IsPictureOf drawn most model test l) (sym said.0) picture)
+pictured (Ok a) (Err e) drawn most model test picture refusal said =
+    let h = refused_so a.text.items a.is_refused model test e refusal said in
+    subst (λ (b : Bool). IsPictureAnswer drawn most model test a.text.items b) (sym h.0) h.1
+pictured (Err f) report drawn most model test picture refusal said = tt

@@ -1,6 +1,8 @@
 -- What is said of a model's text and a test's text.
 use Rattle.std.specs.Prelude.{◌≡◌, ◌+◌, ◌≤◌, ◌⊎◌, ℕ, List, length, Bool, true, false, Option, Result, Ok, Err, IfSome}
-use Rattle.std.specs.Io.KnownBytes.{Keeps, Appends}
+use Rattle.std.specs.Io.KnownBytes.{Keeps}
+use Rattle.std.specs.declared.alloc.Global.{Global}
+use Rattle.std.specs.declared.vec.Vec.{Vec}
 use Rattle.litmus_tokens.specs.declared.rule.LitmusRule.{LitmusRule}
 use Rattle.litmus_tokens.specs.Numbers.{number_of as test_rule_number}
 use Rattle.litmus_values.specs.declared.test.Test.{Test}
@@ -22,7 +24,7 @@ use Rattle.command_line.specs.declared.fault.SessionFault.TheVariants as session
 use Rattle.litmusbench.specs.Cut.{IsCut}
 use Rattle.compare_report.specs.Log.{log_of}
 use Rattle.session_edits.specs.Answer.{refused_line}
-use Rattle.session_script.specs.Written.{WritesFront}
+use Rattle.litmusbench.specs.Made.{AreWritten}
 
 -- ---- what a test that was read says under a model that was read
 
@@ -80,6 +82,13 @@ pub data IsAnswer (model test text : List ℕ) (refused : Bool) : Type 0 where
   RefusesModel : refused ≡ true → (rule : CatRule) → (offset : ℕ) → IsModelRefused model rule offset → text ≡ refused_line 67 (model_rule_number rule) offset → IsAnswer model test text refused
   RefusesTest : refused ≡ true → (rule : LitmusRule) → (offset : ℕ) → IsModel model → IsTestRefused test rule offset → text ≡ refused_line 76 (test_rule_number rule) offset → IsAnswer model test text refused
 
+-- what is printed of a report, where `refused` is whether it was refused: the report, or the line of the refusal
+abbrev pub IsSaidOf : Result (Vec ℕ Global) EvalFault → List ℕ → Bool → Type 0
+IsSaidOf (Ok report) text refused = (text ≡ report.items) × (refused ≡ false)
+IsSaidOf (Err (eval_faults.Model rule offset)) text refused = (text ≡ refused_line 67 (model_rule_number rule) offset) × (refused ≡ true)
+IsSaidOf (Err (eval_faults.Test rule offset)) text refused = (text ≡ refused_line 76 (test_rule_number rule) offset) × (refused ≡ true)
+IsSaidOf (Err (eval_faults.Memory e)) text refused = ⊥
+
 -- whatever is said of the first two texts is said of the other two
 abbrev pub AreAnsweredAlike : List ℕ → List ℕ → List ℕ → List ℕ → Type 0
 AreAnsweredAlike model test other_model other_test =
@@ -87,12 +96,7 @@ AreAnsweredAlike model test other_model other_test =
 
 -- the bytes of a sink, before and after an answer was written: all of it, or a front of it where a write failed, and else nothing
 abbrev pub IsWritten : List ℕ → List ℕ → Option (List ℕ) → Option (List ℕ) → Result Bool SessionFault → Type 0
-IsWritten model test old new (Ok refused) = (text : List ℕ) × IsAnswer model test text refused × Appends old new text
-IsWritten model test old new (Err session_faults.Write) =
-    (text : List ℕ) × (refused : Bool) × IsAnswer model test text refused × WritesFront old new text
-IsWritten model test old new (Err session_faults.Read) = Keeps old new
-IsWritten model test old new (Err session_faults.Memory) = Keeps old new
-IsWritten model test old new (Err session_faults.Shared) = ⊥
+IsWritten model test old new result = AreWritten (IsAnswer model test) old new result
 
 -- the same for the two texts into which an input is cut, of which these bytes are left, where they are known
 pub record IsWrittenOf (left old new : Option (List ℕ)) (result : Result Bool SessionFault) : Type 0 where

@@ -1,6 +1,5 @@
 -- What `draw` answers to a model's text and a test's text. Read `IsDrawn` of reasons first.
-use Rattle.std.specs.Prelude.{ℕ, List, Bool, true, false, Option, Result, Ok, Err}
-use Rattle.std.specs.Io.KnownBytes.{Keeps, Appends}
+use Rattle.std.specs.Prelude.{ℕ, List, Bool, true, false, Option, Result}
 use Rattle.litmus_values.specs.declared.test.Test.{Test}
 use Rattle.litmus_values.specs.Value.{content_of}
 use Rattle.litmus_grammar.specs.Texts.{ReadsTest}
@@ -12,11 +11,10 @@ use Rattle.reasons.specs.declared.drawing.Wanted.{Wanted}
 use Rattle.reasons.specs.declared.drawing.Wanted.TheVariants as wanteds
 use Rattle.reasons.specs.Drawings.{IsDrawn}
 use Rattle.command_line.specs.declared.fault.SessionFault.{SessionFault}
-use Rattle.command_line.specs.declared.fault.SessionFault.TheVariants as session_faults
 use Rattle.command_line.specs.declared.form.Drawn.{Drawn}
 use Rattle.command_line.specs.declared.form.Drawn.TheVariants as drawns
 use Rattle.litmusbench.specs.Answer.{IsAnswer}
-use Rattle.session_script.specs.Written.{WritesFront}
+use Rattle.litmusbench.specs.Made.{AreWritten}
 
 -- the executions that a word of the command line asks for
 abbrev pub wanted : Drawn → Wanted
@@ -39,10 +37,4 @@ IsPictureAnswer drawn most model test text true = IsAnswer model test text true
 
 -- the bytes of a sink, before and after: the answer, or a front of it where a write failed, and else nothing
 abbrev pub IsPictureWritten : Drawn → ℕ → List ℕ → List ℕ → Option (List ℕ) → Option (List ℕ) → Result Bool SessionFault → Type 0
-IsPictureWritten drawn most model test old new (Ok refused) =
-    (text : List ℕ) × IsPictureAnswer drawn most model test text refused × Appends old new text
-IsPictureWritten drawn most model test old new (Err session_faults.Write) =
-    (text : List ℕ) × (refused : Bool) × IsPictureAnswer drawn most model test text refused × WritesFront old new text
-IsPictureWritten drawn most model test old new (Err session_faults.Read) = Keeps old new
-IsPictureWritten drawn most model test old new (Err session_faults.Memory) = Keeps old new
-IsPictureWritten drawn most model test old new (Err session_faults.Shared) = ⊥
+IsPictureWritten drawn most model test old new result = AreWritten (IsPictureAnswer drawn most model test) old new result

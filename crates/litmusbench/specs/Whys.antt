@@ -1,6 +1,5 @@
 -- What `why` answers to a model's text and a test's text. Read `IsWhy` of reasons first.
-use Rattle.std.specs.Prelude.{ℕ, List, Bool, true, false, Option, Result, Ok, Err}
-use Rattle.std.specs.Io.KnownBytes.{Keeps, Appends}
+use Rattle.std.specs.Prelude.{ℕ, List, Bool, true, false, Option, Result}
 use Rattle.litmus_values.specs.declared.test.Test.{Test}
 use Rattle.litmus_values.specs.Value.{content_of}
 use Rattle.litmus_grammar.specs.Texts.{ReadsTest}
@@ -11,9 +10,8 @@ use Rattle.cat_syntax.specs.Reads.{Reads}
 use Rattle.reasons.specs.declared.answer.Asked.{Asked}
 use Rattle.reasons.specs.Whys.{IsWhy}
 use Rattle.command_line.specs.declared.fault.SessionFault.{SessionFault}
-use Rattle.command_line.specs.declared.fault.SessionFault.TheVariants as session_faults
 use Rattle.litmusbench.specs.Answer.{IsAnswer}
-use Rattle.session_script.specs.Written.{WritesFront}
+use Rattle.litmusbench.specs.Made.{AreWritten}
 
 -- what is said of the test and the model that the two texts mean
 pub record IsWhyOf (asked : Asked) (model test text : List ℕ) : Type 0 where
@@ -30,9 +28,4 @@ IsWhyAnswer asked model test text true = IsAnswer model test text true
 
 -- the bytes of a sink, before and after: the answer, or a front of it where a write failed, and else nothing
 abbrev pub IsWhyWritten : Asked → List ℕ → List ℕ → Option (List ℕ) → Option (List ℕ) → Result Bool SessionFault → Type 0
-IsWhyWritten asked model test old new (Ok refused) = (text : List ℕ) × IsWhyAnswer asked model test text refused × Appends old new text
-IsWhyWritten asked model test old new (Err session_faults.Write) =
-    (text : List ℕ) × (refused : Bool) × IsWhyAnswer asked model test text refused × WritesFront old new text
-IsWhyWritten asked model test old new (Err session_faults.Read) = Keeps old new
-IsWhyWritten asked model test old new (Err session_faults.Memory) = Keeps old new
-IsWhyWritten asked model test old new (Err session_faults.Shared) = ⊥
+IsWhyWritten asked model test old new result = AreWritten (IsWhyAnswer asked model test) old new result

@@ -1,7 +1,8 @@
 //! A model and a test from a source, and what is said of them to a sink.
 
-ghost use Rattle.std.specs.Prelude.{◌≡◌, ◌≢◌, ◌+◌, ◌-◌, ◌<◌, ◌^◌, true, IfOk, IfSome, take};
-ghost use Rattle.litmusbench.specs.Answer.{IsAnswer, IsReadFault, IsWritten, IsStreamed};
+ghost use Rattle.std.specs.Prelude.{◌≡◌, ◌≢◌, ◌+◌, ◌-◌, ◌<◌, ◌^◌, true, Err, IfOk, IfSome, take};
+ghost use Rattle.litmusbench.specs.Answer.{IsAnswer, IsReadFault, IsSaidOf, IsWritten, IsStreamed};
+ghost use Rattle.litmusbench.specs.Made.{AreWritten, IsMade};
 ghost use Rattle.litmusbench.specs.Pictures.{IsPictureAnswer, IsPictureWritten};
 ghost use Rattle.litmusbench.specs.Whys.{IsWhyAnswer, IsWhyWritten};
 ghost use Rattle.session_edits.specs.Answer.{refused_line};
@@ -17,7 +18,7 @@ use session_script::{ByteSink, ByteSource, ReadFault, read_front, write_whole};
 use std::alloc::{AllocError, Global};
 
 // What is printed, and whether a text was refused.
-#[derive(Debug, Drop)]
+#[derive(Drop)]
 struct Answer {
     text: Vec<u8>,
     is_refused: bool,
@@ -34,18 +35,55 @@ fn refusal(alloc: Global, letter: u8, number: u8, offset: usize) -> Result<Answe
     })
 }
 
-fn answer_to(alloc: Global, model: &[u8], test: &[u8]) -> Result<Answer, AllocError>
-    ensures { IfOk result (λ a. IsAnswer model.now test.now a.text.items a.is_refused) }
+// What is printed of why there is no report.
+fn refusal_of(alloc: Global, fault: EvalFault) -> Result<Answer, AllocError>
+    ensures { IfOk result (λ a. IsSaidOf (Err fault) a.text.items a.is_refused) }
 {
-    match eval(alloc, model, test) {
+    match fault {
+        EvalFault::Model { rule, offset } => refusal(alloc, b'C', rule.number(), offset),
+        EvalFault::Test { rule, offset } => refusal(alloc, b'L', rule.number(), offset),
+        EvalFault::Memory(e) => Err(e),
+    }
+}
+
+// What is printed of a report, or of why there is none.
+fn answer_of(alloc: Global, report: Result<Vec<u8>, EvalFault>) -> Result<Answer, AllocError>
+    ensures { IfOk result (λ a. IsSaidOf report a.text.items a.is_refused) }
+{
+    match report {
         Ok(text) => Ok(Answer {
             text,
             is_refused: false,
         }),
-        Err(EvalFault::Model { rule, offset }) => refusal(alloc, b'C', rule.number(), offset),
-        Err(EvalFault::Test { rule, offset }) => refusal(alloc, b'L', rule.number(), offset),
-        Err(EvalFault::Memory(e)) => Err(e),
+        Err(fault) => refusal_of(alloc, fault),
     }
+}
+
+// Writes an answer, if it was made. Whether it is that of a refused text.
+fn write_made<W: ByteSink>(
+    made: Result<Answer, AllocError>,
+    sink: &mut W,
+) -> Result<bool, SessionFault>
+    requires { W.failed_calls sink.old < 2 ^ 64 - 1 }
+    ensures written { AreWritten (IsMade made) (W.contents sink.old) (W.contents sink.new) result }
+    ensures failed { result ≡ Err SessionFault.Write → W.failed_calls sink.new ≡ W.failed_calls sink.old + 1 }
+    ensures same { result ≢ Err SessionFault.Write → W.failed_calls sink.new ≡ W.failed_calls sink.old }
+    ensures fault { result ≢ Err SessionFault.Read }
+{
+    let answer = match made {
+        Ok(answer) => answer,
+        Err(_) => return Err(SessionFault::Memory),
+    };
+    match write_whole(sink, &answer.text) {
+        Ok(()) => Ok(answer.is_refused),
+        Err(_) => Err(SessionFault::Write),
+    }
+}
+
+fn answer_to(alloc: Global, model: &[u8], test: &[u8]) -> Result<Answer, AllocError>
+    ensures { IfOk result (λ a. IsAnswer model.now test.now a.text.items a.is_refused) }
+{
+    answer_of(alloc, eval(alloc, model, test))
 }
 
 /// Writes the log of the test under the model, or a line `refused`, number and offset. Whether a text
@@ -66,28 +104,13 @@ pub fn write_answer<W: ByteSink>(
     // Nothing is read.
     ensures fault { result ≢ Err SessionFault.Read }
 {
-    let answer = match answer_to(alloc, model, test) {
-        Ok(answer) => answer,
-        Err(_) => return Err(SessionFault::Memory),
-    };
-    match write_whole(sink, &answer.text) {
-        Ok(()) => Ok(answer.is_refused),
-        Err(_) => Err(SessionFault::Write),
-    }
+    write_made(answer_to(alloc, model, test), sink)
 }
 
 fn why_answer(alloc: Global, asked: Asked, model: &[u8], test: &[u8]) -> Result<Answer, AllocError>
     ensures { IfOk result (λ a. IsWhyAnswer asked model.now test.now a.text.items a.is_refused) }
 {
-    match why_report(alloc, asked, model, test) {
-        Ok(text) => Ok(Answer {
-            text,
-            is_refused: false,
-        }),
-        Err(EvalFault::Model { rule, offset }) => refusal(alloc, b'C', rule.number(), offset),
-        Err(EvalFault::Test { rule, offset }) => refusal(alloc, b'L', rule.number(), offset),
-        Err(EvalFault::Memory(e)) => Err(e),
-    }
+    answer_of(alloc, why_report(alloc, asked, model, test))
 }
 
 /// Writes what `why_report` says of the texts, or a line `refused`, number and offset. Whether a text
@@ -108,14 +131,7 @@ pub fn write_why<W: ByteSink>(
     // Nothing is read.
     ensures fault { result ≢ Err SessionFault.Read }
 {
-    let answer = match why_answer(alloc, asked, model, test) {
-        Ok(answer) => answer,
-        Err(_) => return Err(SessionFault::Memory),
-    };
-    match write_whole(sink, &answer.text) {
-        Ok(()) => Ok(answer.is_refused),
-        Err(_) => Err(SessionFault::Write),
-    }
+    write_made(why_answer(alloc, asked, model, test), sink)
 }
 
 fn draw_answer(
@@ -127,15 +143,7 @@ fn draw_answer(
 ) -> Result<Answer, AllocError>
     ensures { IfOk result (λ a. IsPictureAnswer drawn most model.now test.now a.text.items a.is_refused) }
 {
-    match draw_report(alloc, model, test, drawn, most) {
-        Ok(text) => Ok(Answer {
-            text,
-            is_refused: false,
-        }),
-        Err(EvalFault::Model { rule, offset }) => refusal(alloc, b'C', rule.number(), offset),
-        Err(EvalFault::Test { rule, offset }) => refusal(alloc, b'L', rule.number(), offset),
-        Err(EvalFault::Memory(e)) => Err(e),
-    }
+    answer_of(alloc, draw_report(alloc, model, test, drawn, most))
 }
 
 /// Writes what `draw_report` says of the texts, or a line `refused`, number and offset. Whether a text
@@ -157,14 +165,7 @@ pub fn write_drawings<W: ByteSink>(
     // Nothing is read.
     ensures fault { result ≢ Err SessionFault.Read }
 {
-    let answer = match draw_answer(alloc, model, test, drawn, most) {
-        Ok(answer) => answer,
-        Err(_) => return Err(SessionFault::Memory),
-    };
-    match write_whole(sink, &answer.text) {
-        Ok(()) => Ok(answer.is_refused),
-        Err(_) => Err(SessionFault::Write),
-    }
+    write_made(draw_answer(alloc, model, test, drawn, most), sink)
 }
 
 // A text of so many bytes is too long, whatever stands behind them.

@@ -20,6 +20,13 @@ use memo_graph::eval_cell;
 use reasons::{Asked, Wanted, draw, why};
 use std::alloc::{AllocError, Global};
 
+// The model and the test that two texts mean.
+#[derive(Drop)]
+struct KnownTexts {
+    model: ModelText,
+    test: Test,
+}
+
 fn model_of(alloc: Global, text: &[u8]) -> Result<ModelText, EvalFault>
     ensures found { IfOk result (λ m. Reads Form.Model text.now (clauses_of m.items.items)) }
     ensures fault { IfErr result (IsOfModel text.now) }
@@ -42,6 +49,25 @@ fn test_of(alloc: Global, text: &[u8]) -> Result<Test, EvalFault>
     }
 }
 
+// The model is read first.
+fn known_texts(alloc: Global, model: &[u8], test: &[u8]) -> Result<KnownTexts, EvalFault>
+    ensures model_read { IfOk result (λ k. Reads Form.Model model.now (clauses_of k.model.items.items)) }
+    ensures test_read { IfOk result (λ k. ReadsTest test.now (content_of k.test)) }
+    ensures refusal { IfErr result (IsRefusal model.now test.now) }
+{
+    let known_model = match model_of(alloc, model) {
+        Ok(known) => known,
+        Err(fault) => return Err(fault),
+    };
+    match test_of(alloc, test) {
+        Ok(known_test) => Ok(KnownTexts {
+            model: known_model,
+            test: known_test,
+        }),
+        Err(fault) => Err(fault),
+    }
+}
+
 fn outcome_text(alloc: Global, test: &Test, model: &ModelText) -> Result<Vec<u8>, AllocError>
     ensures { IfOk result (λ log. IsLogOf test.now model.now log.items) }
 {
@@ -57,15 +83,11 @@ pub fn eval(alloc: Global, model: &[u8], test: &[u8]) -> Result<Vec<u8>, EvalFau
     // A refusal is that of the first text that means nothing.
     ensures refusal { IfErr result (IsRefusal model.now test.now) }
 {
-    let known_model = match model_of(alloc, model) {
+    let known = match known_texts(alloc, model, test) {
         Ok(known) => known,
         Err(fault) => return Err(fault),
     };
-    let known_test = match test_of(alloc, test) {
-        Ok(known) => known,
-        Err(fault) => return Err(fault),
-    };
-    match outcome_text(alloc, &known_test, &known_model) {
+    match outcome_text(alloc, &known.test, &known.model) {
         Ok(log) => Ok(log),
         Err(e) => Err(EvalFault::Memory(e)),
     }
@@ -84,15 +106,11 @@ pub fn why_report(
     // A refusal is that of the first text that means nothing.
     ensures refusal { IfErr result (IsRefusal model.now test.now) }
 {
-    let known_model = match model_of(alloc, model) {
+    let known = match known_texts(alloc, model, test) {
         Ok(known) => known,
         Err(fault) => return Err(fault),
     };
-    let known_test = match test_of(alloc, test) {
-        Ok(known) => known,
-        Err(fault) => return Err(fault),
-    };
-    match why(alloc, asked, &known_test, &known_model) {
+    match why(alloc, asked, &known.test, &known.model) {
         Ok(text) => Ok(text),
         Err(e) => Err(EvalFault::Memory(e)),
     }
@@ -122,15 +140,11 @@ pub fn draw_report(
     // A refusal is that of the first text that means nothing.
     ensures refusal { IfErr result (IsRefusal model.now test.now) }
 {
-    let known_model = match model_of(alloc, model) {
+    let known = match known_texts(alloc, model, test) {
         Ok(known) => known,
         Err(fault) => return Err(fault),
     };
-    let known_test = match test_of(alloc, test) {
-        Ok(known) => known,
-        Err(fault) => return Err(fault),
-    };
-    match draw(alloc, &known_test, &known_model, wanted(drawn), most) {
+    match draw(alloc, &known.test, &known.model, wanted(drawn), most) {
         Ok(text) => Ok(text),
         Err(e) => Err(EvalFault::Memory(e)),
     }

@@ -1,11 +1,5 @@
-use Rattle.litmusbench.proofs.Answering.{of_model, of_test, refuses_model, refuses_test}
+use Rattle.litmusbench.proofs.Answering.{evaluated}
 use Rattle.litmusbench.proofs.stream.answer_to.Goals as goal
 
-pub returns-in-Err-Model : goal.returns-in-Err-Model
-returns-in-Err-Model c =
-    refuses_model c.refusal.result c.args.model.now c.args.test.now c.in-Err-Model.rule c.number.result c.in-Err-Model.offset (of_model c.args.model.now c.args.test.now c.in-Err-Model.field-0 c.in-Err-Model.rule c.in-Err-Model.offset c.in-Err-Model.field-0-is c.in-Err-Model.ensures.refusal) c.number.ensures c.refusal.ensures
-
-pub returns-in-Err-Test : goal.returns-in-Err-Test
-returns-in-Err-Test c =
-    let h = of_test c.args.model.now c.args.test.now c.in-Err-Test.field-0 c.in-Err-Test.rule c.in-Err-Test.offset c.in-Err-Test.field-0-is c.in-Err-Test.ensures.refusal in
-    refuses_test c.refusal-in-Err-Test.result c.args.model.now c.args.test.now c.in-Err-Test.rule c.number-in-Err-Test.result c.in-Err-Test.offset h.0 h.1 c.number-in-Err-Test.ensures c.refusal-in-Err-Test.ensures
+pub returns : goal.returns
+returns c = evaluated c.answer_of.result c.eval.result c.args.model.now c.args.test.now c.eval.ensures.log c.eval.ensures.refusal c.answer_of.ensures
