@@ -6,7 +6,7 @@ ghost use Rattle.litmus_table.specs.Words.{computing_of, accessing_of, fence_of,
 use litmus_values::{BranchCondition, Fence, Operation};
 
 /// The mnemonic of an instruction.
-#[derive(Clone, Copy, PartialEq, Eq)]
+#[derive(Clone, Copy)]
 pub enum Opcode {
     /// The mnemonic of an instruction on registers and numbers.
     Data(DataOpcode),
@@ -17,7 +17,7 @@ pub enum Opcode {
 }
 
 /// The mnemonic of an instruction whose operands are registers and numbers.
-#[derive(Clone, Copy, PartialEq, Eq)]
+#[derive(Clone, Copy)]
 pub enum DataOpcode {
     /// `li`
     LoadImmediate,
