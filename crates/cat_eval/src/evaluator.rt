@@ -16,7 +16,6 @@ use std::alloc::{AllocError, Global};
 
 /// Where items are evaluated over the candidates of one space: the predefined names are made once, and each item uses the
 /// memory of the ones before.
-#[derive(Drop)]
 pub struct Evaluator {
     pub(crate) base: Base,
     pub(crate) table: Table,
@@ -25,6 +24,18 @@ pub struct Evaluator {
     pub(crate) machine: Machine,
     /// Relations whose memory is used again.
     pub(crate) slots: Vec<Rel>,
+}
+
+impl Drop for Evaluator {
+    fn drop(self) {
+        let Evaluator {
+            base: _,
+            table: _,
+            needs: _,
+            machine: _,
+            slots: _,
+        } = self;
+    }
 }
 
 impl Evaluator {
