@@ -15,7 +15,7 @@ use cat_values::Infix;
 use std::alloc::{AllocError, Global};
 
 /// What is known of the arguments of an application, for one combination.
-#[derive(Clone, Copy, Debug, PartialEq, Eq)]
+#[derive(Clone, Copy)]
 pub struct Gathered {
     /// Their kinds, weighed by index.
     pub combination: usize,

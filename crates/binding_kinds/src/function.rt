@@ -14,7 +14,7 @@ use cat_values::{Infix, MAX_PARAMETERS, Postfix};
 pub const MAX_SIZE: usize = 4_096;
 
 /// A part of an expression without applications, in postfix order.
-#[derive(Clone, Copy, Debug, PartialEq, Eq)]
+#[derive(Clone, Copy)]
 pub enum Piece {
     /// A name that is no parameter.
     Value(Found),

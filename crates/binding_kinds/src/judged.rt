@@ -15,7 +15,7 @@ use crate::signature::weighed;
 use cat_values::Infix;
 
 /// The kind of an expression, its size and its first fault.
-#[derive(Clone, Copy, Debug, PartialEq, Eq)]
+#[derive(Clone, Copy)]
 pub struct Judged {
     /// `OfAny` where it holds an unbound name, or an operator or an application at fault.
     pub kind: Kind,
@@ -26,7 +26,7 @@ pub struct Judged {
 }
 
 /// What is known of the arguments of an application so far.
-#[derive(Clone, Copy, Debug, PartialEq, Eq)]
+#[derive(Clone, Copy)]
 pub struct Arguments {
     /// Their kinds, weighed by index.
     pub combination: usize,

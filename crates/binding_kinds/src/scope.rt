@@ -13,7 +13,7 @@ use source_text::Name;
 use std::alloc::{AllocError, Global};
 
 /// A name of another item: the item's index in the model, and the name's position in its group.
-#[derive(Clone, Copy, Debug, PartialEq, Eq)]
+#[derive(Clone, Copy)]
 pub struct Input {
     /// From 0, in the order of the text.
     pub item: usize,
@@ -22,7 +22,7 @@ pub struct Input {
 }
 
 /// What binds a name.
-#[derive(Clone, Copy, Debug, PartialEq, Eq)]
+#[derive(Clone, Copy)]
 pub enum Binder {
     /// The language.
     Predefined(Predefined),
@@ -44,7 +44,7 @@ pub struct Entry {
 }
 
 /// Where a name is bound, as an index in the scope, and what it stands for there.
-#[derive(Clone, Copy, Debug, PartialEq, Eq)]
+#[derive(Clone, Copy)]
 pub struct Found {
     /// From 0.
     pub slot: usize,
@@ -55,7 +55,7 @@ pub struct Found {
 }
 
 /// A name of another item that an item uses, by its slot and by its index in that item.
-#[derive(Clone, Copy, Debug, PartialEq, Eq)]
+#[derive(Clone, Copy)]
 pub struct Used {
     /// Its index in the scope.
     pub slot: usize,

@@ -25,7 +25,7 @@ pub struct Sight<'a> {
 }
 
 /// What a name without arguments stands for.
-#[derive(Clone, Copy, PartialEq, Eq)]
+#[derive(Clone, Copy)]
 pub enum Meaning {
     /// A parameter, by its index.
     Parameter(usize),

@@ -6,7 +6,7 @@ ghost use Rattle.binding_kinds.specs.Combinations.{digit, number_of, has_any};
 use crate::kinds::Kind;
 
 /// What an application makes of arguments of some kinds.
-#[derive(Clone, Copy, Debug, PartialEq, Eq)]
+#[derive(Clone, Copy)]
 pub struct Signature {
     /// The kind of the application's value.
     pub kind: Kind,

@@ -6,7 +6,7 @@ use source_text::Name;
 pub const MAX_PARAMETERS: usize = 8;
 
 /// An infix operator.
-#[derive(Clone, Copy, Debug, PartialEq, Eq)]
+#[derive(Clone, Copy, PartialEq, Eq)]
 pub enum Infix {
     /// `|`
     Union,
@@ -21,7 +21,7 @@ pub enum Infix {
 }
 
 /// A postfix operator.
-#[derive(Clone, Copy, Debug, PartialEq, Eq)]
+#[derive(Clone, Copy, PartialEq, Eq)]
 pub enum Postfix {
     /// `+`
     Transitive,

@@ -5,7 +5,7 @@ ghost use Rattle.cat_values.specs.PredefinedNames.{spelling, is_set};
 
 /// A predefined name: a set of events or a relation between events of an execution
 /// (the herd7 manual, chapter on cat, section on predefined names).
-#[derive(Clone, Copy, Debug, PartialEq, Eq)]
+#[derive(Clone, Copy, PartialEq, Eq)]
 pub enum Predefined {
     /// `R`
     Loads,

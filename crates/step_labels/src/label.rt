@@ -30,7 +30,7 @@ pub struct NameValues<'a> {
 }
 
 /// Two events of a candidate, by their numbers.
-#[derive(Clone, Copy, Debug, PartialEq, Eq)]
+#[derive(Clone, Copy)]
 pub struct EventPair {
     /// The number of the candidate.
     pub candidate: usize,

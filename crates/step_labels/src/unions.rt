@@ -10,7 +10,7 @@ use cat_values::Predefined;
 use std::alloc::{AllocError, Global};
 
 /// A name of a model that stands for a relation.
-#[derive(Clone, Copy, Debug, PartialEq, Eq)]
+#[derive(Clone, Copy)]
 pub enum ModelName {
     /// A name of the language.
     Predefined(Predefined),
