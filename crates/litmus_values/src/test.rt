@@ -7,7 +7,6 @@ use crate::instruction::{Instruction, Register};
 use source_text::Name;
 
 /// A location in memory, or a register of a thread.
-#[derive(Drop)]
 pub enum Place {
     /// A location in memory, by its name.
     Location(Name),
@@ -15,13 +14,30 @@ pub enum Place {
     Register(usize, Register),
 }
 
+impl Drop for Place {
+    fn drop(self) {
+        match self {
+            Place::Location(_) => {},
+            Place::Register(_, _) => {},
+        }
+    }
+}
+
 /// The value of a location or a register.
-#[derive(Drop)]
 pub enum Value {
     /// A number of 32 bits.
     Number(i32),
     /// The address of the location of this name.
     Address(Name),
+}
+
+impl Drop for Value {
+    fn drop(self) {
+        match self {
+            Value::Number(_) => {},
+            Value::Address(_) => {},
+        }
+    }
 }
 
 /// The initial value of a location or a register. The initial value is 0 if no entry gives it.
@@ -39,12 +55,20 @@ impl Drop for InitEntry {
 }
 
 /// A line of a thread: a label or an instruction.
-#[derive(Drop)]
 pub enum Step {
     /// A label, the target of branches of the same thread that stand before it.
     Label(Name),
     /// An instruction.
     Instruction(Instruction),
+}
+
+impl Drop for Step {
+    fn drop(self) {
+        match self {
+            Step::Label(_) => {},
+            Step::Instruction(_) => {},
+        }
+    }
 }
 
 /// A thread: its labels and instructions in program order.
