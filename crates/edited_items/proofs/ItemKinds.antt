@@ -21,7 +21,8 @@ use Rattle.shared_items.specs.declared.items.SharedItem.{SharedItem}
 use Rattle.bench_nodes.specs.declared.table.ItemRow.{ItemRow}
 use Rattle.stamped_parts.specs.States.{is_kind}
 use Rattle.stamped_parts.specs.Stamps.{next_number}
-use Rattle.edited_items.specs.Items.{ItemFact, node_kind, kind_at, AreItemsOf, raised_item}
+use Rattle.model_slots.specs.Kinds.{node_kind}
+use Rattle.edited_items.specs.Items.{ItemFact, kind_at, AreItemsOf, raised_item}
 use Rattle.edited_items.specs.Laws.{AreItemsAfter, AreApart, IsOfItsKind, role_kind}
 
 -- ---- by their texts

@@ -6,9 +6,7 @@ use Rattle.std.specs.declared.alloc.Global.{Global}
 use Rattle.std.specs.declared.sync.Arc.{Arc}
 use Rattle.std.specs.List.{range_with_len}
 use Rattle.memo_core.specs.declared.keys.Kind.{Kind}
-use Rattle.memo_core.specs.declared.keys.Kind.TheVariants as kinds
 use Rattle.cat_values.specs.declared.model.Item.{Item}
-use Rattle.cat_values.specs.Value.{Clause, Binding, Function, Checking, Flagging, Showing, Including}
 use Rattle.cat_values.specs.Values.{clause_of}
 use Rattle.binding_graph.specs.declared.resolved.Resolved.{Resolved}
 use Rattle.binding_graph.specs.declared.resolved.ResolvedItem.{ResolvedItem}
@@ -17,6 +15,7 @@ use Rattle.shared_items.specs.Items.{RoleContent, role_content}
 use Rattle.shared_items.specs.Naming.{with_role_names}
 use Rattle.bench_nodes.specs.declared.table.ItemRow.{ItemRow}
 use Rattle.bench_nodes.specs.Nodes.{item_stamp}
+use Rattle.model_slots.specs.Kinds.{node_kind}
 use Rattle.stamped_parts.specs.Contents.{PartContent, OfRole, role_part, item_content, part_history}
 use Rattle.stamped_parts.specs.declared.parts.Parts.{Parts}
 use Rattle.stamped_parts.specs.Stamps.{IsStampOf, raised}
@@ -24,15 +23,6 @@ use Rattle.edited_items.specs.declared.items.ItemLists.{ItemLists}
 use Rattle.edited_items.specs.declared.items.ModelItems.{ModelItems}
 
 -- ---- what is known of an item
-
--- the kind of node that an item is by its text, if it is one
-abbrev pub node_kind : Clause → Option Kind
-node_kind (Binding recursive group) = Some kinds.Group
-node_kind (Function name parameters body) = None
-node_kind (Checking check label) = Some kinds.Check
-node_kind (Flagging check label) = Some kinds.Check
-node_kind (Showing hidden shown) = None
-node_kind (Including path) = None
 
 -- of an item: its number, its kind by its text, and what it does where its model has no fault
 pub record ItemFact : Type 0 where

@@ -2,18 +2,18 @@
 
 ghost use Rattle.std.specs.Prelude.{◌≡◌, ◌∷◌, ◌++◌, [], List, Option, IfOk, OnOk, Some, option_map};
 ghost use Rattle.std.specs.Arc.{arc_value};
-ghost use Rattle.cat_values.specs.Values.{clause_of};
 ghost use Rattle.shared_items.specs.Items.{RoleContent};
 ghost use Rattle.stamped_parts.specs.Contents.{role_part};
 ghost use Rattle.stamped_parts.specs.Stamps.{IsStampOf};
 ghost use Rattle.edited_items.specs.Held.{held_part};
-ghost use Rattle.edited_items.specs.Items.{node_kind, read_role, held_after};
+ghost use Rattle.edited_items.specs.Items.{read_role, held_after};
 
 use crate::held::{HeldItem, held_item};
 use bench_nodes::ItemRow;
 use binding_graph::Resolved;
 use cat_values::Item;
 use memo_core::keys::Kind;
+use model_slots::node_kind;
 use node_values::same_role;
 use shared_items::SharedItem;
 use stamped_parts::Parts;
@@ -40,17 +40,6 @@ pub struct ItemLists {
     pub roles: Vec<Option<SharedItem>>,
     /// The kind of node that each of them is by its text, if it is one.
     pub kinds: Vec<Option<Kind>>,
-}
-
-/// The kind of node that an item is by its text, if it is one: a group of bindings, or a check or a flag.
-fn node_kind(item: &Item) -> Option<Kind>
-    ensures { result ≡ node_kind (clause_of item.now) }
-{
-    match item {
-        Item::Let { .. } => Some(Kind::Group),
-        Item::Check { .. } | Item::Flag { .. } => Some(Kind::Check),
-        Item::Function { .. } | Item::Show { .. } | Item::Include(_) => None,
-    }
 }
 
 // The stamp of an item that does this now, as it is read: an equal role keeps its stamp, since its history has no new name.

@@ -4,8 +4,10 @@
 
 mod histories;
 mod items;
+mod kinds;
 pub mod laws;
 mod model;
 
 pub use histories::Histories;
+pub use kinds::node_kind;
 pub use model::{fault_slots, model_slots};
