@@ -1,7 +1,8 @@
 -- What the kept executions of a test say: final states, counts and words.
-use Rattle.std.specs.Prelude.{ℕ, ◌≡◌, ◌<◌, not, Bool, List, map, filter, length, ◌++◌}
+use Rattle.std.specs.Prelude.{ℕ, ◌≡◌, ◌<◌, ◌-◌, ◌^◌, min, not, Bool, List, Vec, map, filter, length, ◌++◌}
 use Rattle.std.specs.List.{All, Contains}
 use Rattle.std.specs.List.Sorted.{IsStrictlySortedBy}
+use Rattle.std.specs.declared.alloc.Global.{Global}
 use Rattle.litmus_values.specs.declared.test.Quantifier.{Quantifier}
 use Rattle.litmus_values.specs.declared.test.Place.{Place}
 use Rattle.litmus_values.specs.Value.{Formula}
@@ -15,7 +16,8 @@ use Rattle.verdict.specs.declared.answer.OutcomeResult.{OutcomeResult}
 use Rattle.verdict.specs.declared.answer.OutcomeResult.TheVariants.{Refused, Evaluated}
 use Rattle.verdict.specs.declared.formula.Formula as code
 use Rattle.verdict.specs.declared.shown_place.ShownPlace.{ShownPlace}
-use Rattle.verdict.specs.Compiled.{value_of}
+use Rattle.verdict.specs.Compiled.{value_of, Means}
+use Rattle.verdict.specs.Counting.{count_kept, tally, AreAbove, pairs_of, pairs_in}
 use Rattle.verdict.specs.Final.{final_value, final_state}
 use Rattle.verdict.specs.Judgement.{IsJudged}
 use Rattle.verdict.specs.Kept.{kept, Flag, raised_names}
@@ -38,6 +40,19 @@ values_of states = map (λ s. s.values) states
 -- a state over these places has its text, and the answer of a proposition over places of a state
 abbrev pub IsWorded : List (List ℕ) → List ShownPlace → code.Formula → CountedState → Type 0
 IsWorded locations shown f s = (s.text ≡ state_text locations shown s.values) × (s.holds ≡ value_of s.values f)
+
+-- the states in which those of the executions end that are kept, over places that show those of the proposition and the observed ones
+pub record AreEndStates (locations : List (List ℕ)) (executions : List Shown) (proposition : Formula) (observed : List Place) (keep : List Bool) (states : List CountedState) : Type 0 where
+  pub shown : List ShownPlace
+  pub compiled : code.Formula
+  pub entries : List (Vec FinalValue Global × ℕ)
+  pub are_shown : AreShown locations (places_of proposition ++ observed) shown
+  pub means : Means locations shown proposition compiled
+  pub tallies : (v : List FinalValue) → tally entries v ≡ min (count_kept (λ e. is_state v (final_state shown e)) keep executions) (2 ^ 64 - 1)
+  pub above : AreAbove entries
+  pub counts : pairs_of states ≡ pairs_in entries
+  pub rising : IsStrictlySortedBy state_cmp (values_of states)
+  pub words : All (IsWorded locations shown compiled) states
 
 -- a state over these places in which some of the executions end: its text, their number, and whether the proposition holds
 pub record IsCounted (locations : List (List ℕ)) (proposition : Formula) (shown : List ShownPlace) (candidates : List (ℕ × Shown)) (s : CountedState) : Type 0 where

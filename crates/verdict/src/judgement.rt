@@ -8,7 +8,7 @@ ghost use Rattle.litmus_values.specs.Value.{formula_of};
 ghost use Rattle.verdict.specs.Counting.{pairs_of, pairs_in};
 ghost use Rattle.verdict.specs.Kept.{holds_at, is_kept, AreKeptBy, holds_on_some, of_raised, names_of};
 ghost use Rattle.verdict.specs.Names.{is_name};
-ghost use Rattle.verdict.specs.Evaluated.{values_of, IsWorded, IsEvaluation, IsOutcome};
+ghost use Rattle.verdict.specs.Evaluated.{values_of, IsWorded, AreEndStates, IsEvaluation, IsOutcome};
 ghost use Rattle.verdict.specs.Order.{state_cmp};
 ghost use Rattle.verdict.specs.Judgement.{is_same, total_of, observation_of, is_met, IsJudged, IsOutcomeOf};
 
@@ -157,6 +157,23 @@ fn is_met(quantifier: Quantifier, positive: u64, negative: u64) -> bool
     }
 }
 
+// The states in which the kept candidates end, rising by their values.
+fn end_states(
+    alloc: Global,
+    space: &Space,
+    condition: &Condition,
+    observed: &[Place],
+    kept: &[bool],
+) -> Result<Vec<CountedState>, AllocError>
+    ensures { IfOk result (λ v. AreEndStates space.now.locations.items (shown_in space.now) (formula_of condition.now.proposition) observed.now kept.now v.items) }
+{
+    let places = shown_places(alloc, &space.locations, &condition.proposition, observed)?;
+    let formula = formula_over(alloc, &places, &space.locations, &condition.proposition)?;
+    let counts = final_states(alloc, space, kept, &places)?;
+    let states = counted_states(alloc, &space.locations, &places, &formula, counts)?;
+    Ok(states)
+}
+
 fn evaluation(
     alloc: Global,
     space: &Space,
@@ -168,10 +185,7 @@ fn evaluation(
     ensures said { (checks : List (List Bool)) → AreKeptBy checks (length (shown_in space.now)) kept.now → IfOk result (λ e. IsEvaluation space.now.locations.items (shown_in space.now) condition.now.quantifier (formula_of condition.now.proposition) observed.now checks (of_raised flags.now) e) }
     ensures judged { IfOk result (IsJudged condition.now.quantifier) }
 {
-    let places = shown_places(alloc, &space.locations, &condition.proposition, observed)?;
-    let formula = formula_over(alloc, &places, &space.locations, &condition.proposition)?;
-    let counts = final_states(alloc, space, kept, &places)?;
-    let states = counted_states(alloc, &space.locations, &places, &formula, counts)?;
+    let states = end_states(alloc, space, condition, observed, kept)?;
     let positive = total(&states, true);
     let negative = total(&states, false);
     Ok(Evaluation {

@@ -18,8 +18,8 @@ fn same_names(left: &[Name], right: &[Name]) -> bool
     if left.len() != right.len() {
         return false;
     }
-    for (this, that) in left.iter().zip(right.iter()) {
-        if !this.is_same(that) {
+    for index in 0..left.len() {
+        if !left[index].is_same(&right[index]) {
             return false;
         }
     }
@@ -32,8 +32,8 @@ fn same_states(left: &[CountedState], right: &[CountedState]) -> bool
     if left.len() != right.len() {
         return false;
     }
-    for (this, that) in left.iter().zip(right.iter()) {
-        if !this.is_same(that) {
+    for index in 0..left.len() {
+        if !left[index].is_same(&right[index]) {
             return false;
         }
     }

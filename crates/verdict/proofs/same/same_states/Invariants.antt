@@ -1,5 +1,6 @@
-use Rattle.std.proofs.Common.{◌≡◌, ◌↔◌, length, drop}
+use Rattle.std.proofs.Common.{ℕ, ◌≡◌, ◌<◌, get_or}
+use Rattle.verdict.specs.EvaluationContent.{StateContent}
 use Rattle.verdict.proofs.same.same_states.Given as goal
 
-abbrev pub invariant-loop-this : goal.invariant-loop-this
-invariant-loop-this l = (l.left ≡ l.right) ↔ (drop (length l.yielded) l.left ≡ drop (length l.yielded) l.right)
+abbrev pub invariant-loop-index : goal.invariant-loop-index
+invariant-loop-index l = (k : ℕ) (d : StateContent) → k < l.index → get_or l.left k d ≡ get_or l.right k d
