@@ -1,4 +1,4 @@
-use Rattle.std.proofs.Common.{◌≡◌, ℕ, ◌-◌, ◌^◌, ◌≤◌, min, List, true, false, length, ap, ◌∙◌, arith}
+use Rattle.std.proofs.Common.{◌-◌, ◌^◌, ◌≤◌, min, List, true, false, length, ap, ◌∙◌, arith}
 use Rattle.litmus_values.specs.Value.{Formula, formula_of}
 use Rattle.candidates.specs.Space.{shown_in}
 use Rattle.verdict.specs.Evaluated.{AreEndStates}
