@@ -10,7 +10,7 @@ use Rattle.bit_relations.specs.Relation.{Events, IsMember}
 use Rattle.run_combinations.specs.Lists.{lists_of, tuples, IsFiltered, none, kept, left}
 use Rattle.run_combinations.specs.Events.{numbers, is_load}
 use Rattle.run_combinations.specs.Ways.{Derived, IsWay, IsPossible, nexts, accesses_in}
-use Rattle.run_combinations.specs.Rounds.{Shows, HasDerived, TellsPossible, GainsNext, AreNext, AreOver, HasOver, HasWays, load_event}
+use Rattle.run_combinations.specs.Rounds.{Shows, HasDerived, TellsPossible, ArePossible, GainsNext, AreNext, AreOver, HasOver, HasWays, load_event}
 use Rattle.run_combinations.specs.Search.{Tells}
 use Rattle.run_combinations.specs.declared.combination.Event.{Event}
 use Rattle.run_combinations.specs.declared.reading.Reading.{Reading}
@@ -80,10 +80,6 @@ next_more r load index i ways w mid new lt is before gains es pairs shows at fit
         ap (λ (l : List (List ℕ)). flat_map N l) (take_more ways i w lt ∙ ap (λ (f : List ℕ). take i ways ++ f ∷ []) (sym is))
         ∙ flat_map-append N (take i ways) (w ∷ [])
         ∙ ap (λ (l : List (List ℕ)). flat_map N (take i ways) ++ l) (append-nil (N w))
-
--- the possible ways of the first loads
-abbrev pub ArePossible : Reading → ℕ → List (List ℕ) → Type 0
-ArePossible r i ways = (es : List Event) (pairs : List (ℕ × ℕ)) → Shows es pairs r → IsFiltered (IsPossible (accesses_in es pairs)) (tuples [] (take i (accesses_in es pairs).sources)) ways
 
 pub one_way : (r : Reading) (b : Bool) (v : Vec ℕ Global) (vs : List (Vec ℕ Global)) → TellsPossible r b → b ≡ true → vs ≡ v ∷ [] → v.items ≡ [] → ArePossible r 0 (lists_of vs)
 one_way r b v vs tells t e i es pairs shows = rw (e, i) (kept ((tells es pairs shows).0 (subst (λ (c : Bool). IsTrue c) (sym t) yes_true)) none)

@@ -165,11 +165,11 @@ going_fit n b ts ps i p x g =
     subst (λ (y : PrefixLists). AllFit n (combinations y (rest_of ts))) (sym g.longer)
     (fit_run n b (rest_of ts) ps i p g.within g.one (subst (λ (l : List PrefixLists). AllFit n l) (whole_thread b ts g.thread ps g.some g.first g.runs) g.fit))
 
-tells_true : (is : Bool) (P Q : Type 0) → is ≡ true → Tells is P Q → P
+pub tells_true : (is : Bool) (P Q : Type 0) → is ≡ true → Tells is P Q → P
 tells_true true P Q e h = h
 tells_true false P Q e h = absurd cc
 
-tells_false : (is : Bool) (P Q : Type 0) → is ≡ false → Tells is P Q → Q
+pub tells_false : (is : Bool) (P Q : Type 0) → is ≡ false → Tells is P Q → Q
 tells_false true P Q e h = absurd cc
 tells_false false P Q e h = h
 

@@ -97,3 +97,11 @@ abbrev pub AreThreads : ℕ → List (Vec Run Global) → List (Vec Sketch Globa
 AreThreads thread [] [] [] = Unit {0}
 AreThreads thread (r ∷ rs) (s ∷ ss) (t ∷ ts) = HasWritesOf t.writes s.items × AllZip (IsMade thread r.items) s.items t.parts.items × AreThreads (thread + 1) rs ss ts
 AreThreads thread _ _ _ = ⊥
+
+-- the parts of each thread, of those of its runs that stay
+pub record AreSiftedParts (values : List Value) (initial : KeySet) (runs : List (Vec Run Global)) (threads : List ThreadParts) : Type 0 where
+  pub all : List (Vec Sketch Global)
+  pub left : List (Vec Sketch Global)
+  pub sketched : AllZip (λ r s. AreSketches values r.items s.items) runs all
+  pub sifted : IsSifted initial all left
+  pub made : AreThreads 0 runs left threads

@@ -2,7 +2,7 @@
 use Rattle.std.specs.Prelude.{ℕ, ◌≡◌, ◌<◌, ◌≤◌, ◌⊎◌, ◌↔◌, IsTrue, Bool, List, [], ◌++◌, length, take, slice_index_or, All, map, slice_get, slice_index, Option, Some, filter, Contains}
 use Rattle.std.specs.List.{flat_map}
 use Rattle.bit_relations.specs.Relation.{Events, IsMember, IsEvents}
-use Rattle.run_combinations.specs.Lists.{IsFiltered}
+use Rattle.run_combinations.specs.Lists.{IsFiltered, tuples}
 use Rattle.run_combinations.specs.Events.{numbers, is_load, is_store}
 use Rattle.run_combinations.specs.Ways.{Source, Derived, IsPossible, AreWays, nexts, accesses_in, sources_of}
 use Rattle.run_combinations.specs.declared.combination.Event.{Event}
@@ -86,6 +86,10 @@ HasDerived r way without derived = (es : List Event) (pairs : List (ℕ × ℕ))
 -- whether all loads can read
 abbrev pub TellsPossible : Reading → Bool → Type 0
 TellsPossible r b = (es : List Event) (pairs : List (ℕ × ℕ)) → Shows es pairs r → IsTrue b ↔ IsPossible (accesses_in es pairs) []
+
+-- the possible ways of the first loads
+abbrev pub ArePossible : Reading → ℕ → List (List ℕ) → Type 0
+ArePossible r i ways = (es : List Event) (pairs : List (ℕ × ℕ)) → Shows es pairs r → IsFiltered (IsPossible (accesses_in es pairs)) (tuples [] (take i (accesses_in es pairs).sources)) ways
 
 -- the possible ways with one load more, of the first ways of a list
 abbrev pub AreNext : Reading → Load → ℕ → ℕ → List (List ℕ) → List (List ℕ) → Type 0

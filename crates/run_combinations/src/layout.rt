@@ -8,7 +8,7 @@ ghost use Rattle.thread_runs.specs.Held.{AreHeld};
 ghost use Rattle.thread_runs.specs.ValueSet.{IsSet};
 ghost use Rattle.run_combinations.specs.Keys.{HasKey, IsKeyed, bit_of};
 ghost use Rattle.run_combinations.specs.Events.{initial_stores, HasStore};
-ghost use Rattle.run_combinations.specs.Parts.{AreSketches, HasWritesOf, AreBelow, IsMade, NamesRuns, AreThreads};
+ghost use Rattle.run_combinations.specs.Parts.{AreSketches, HasWritesOf, AreBelow, IsMade, NamesRuns, AreThreads, AreSiftedParts};
 ghost use Rattle.std.specs.List.{AllZip};
 ghost use Rattle.run_combinations.specs.Layouts.{AreServedRuns, IsLaidOut};
 
@@ -157,18 +157,32 @@ fn all_parts(
     Ok(threads)
 }
 
+/// The runs of each thread that may be part of a candidate, where the initial stores store this.
+fn sifted_parts(
+    alloc: Global,
+    program: &Program,
+    domain: &Domain,
+    initial: &KeySet,
+) -> Result<Vec<ThreadParts>, AllocError>
+    requires { IsSet domain.now.values.items }
+    ensures { IfOk result (λ v. (runs : List (Vec Run Global)) × AreServedRuns program.now domain.now.values.items runs × AreSiftedParts domain.now.values.items initial.now runs v.items) }
+{
+    let runs = all_runs(alloc, program, domain)?;
+    let mut sketches = all_sketches(alloc, domain, &runs)?;
+    sift(initial, &mut sketches);
+    let threads = all_parts(alloc, &runs, &sketches)?;
+    Ok(threads)
+}
+
 impl Layout {
     /// What the candidates of a program over a domain are made of.
     pub fn new(alloc: Global, program: Program, domain: &Domain) -> Result<Layout, AllocError>
         requires { IsSet domain.now.values.items }
         ensures { IfOk result (λ l. (runs : List (Vec Run Global)) × AreServedRuns program domain.now.values.items runs × IsLaidOut program runs l × IsKeyed (bit_of domain.now.values.items) l) }
     {
-        let runs = all_runs(alloc, &program, domain)?;
         let initial = initial_events(alloc, &program.initial)?;
         let initial_writes = initial_keys(&domain.values, &initial);
-        let mut sketches = all_sketches(alloc, domain, &runs)?;
-        sift(&initial_writes, &mut sketches);
-        let threads = all_parts(alloc, &runs, &sketches)?;
+        let threads = sifted_parts(alloc, &program, domain, &initial_writes)?;
         Ok(Layout {
             locations: program.locations,
             initial,

@@ -1,5 +1,5 @@
 //! The orders of the stores of a combination of runs.
-ghost use Rattle.std.specs.Prelude.{◌≡◌, ◌<◌, ◌≤◌, ◌-◌, ◌^◌, ◌++◌, length, drop, map, min, IfOk, OnOk};
+ghost use Rattle.std.specs.Prelude.{◌≡◌, ◌<◌, ◌≤◌, ◌-◌, ◌^◌, ◌++◌, ◌∷◌, [], length, drop, map, min, IfOk, OnOk};
 ghost use Rattle.std.specs.List.{concat, flat_map};
 ghost use Rattle.run_combinations.specs.Events as event_lists;
 ghost use Rattle.run_combinations.specs.Growing.{store_lists, rows_from, orders_from};
@@ -226,6 +226,40 @@ pub fn order_count(events: &[Event], locations: usize) -> usize
     count
 }
 
+/// Adds a combination with the orders of its stores.
+fn add_ordered(
+    alloc: Global,
+    mut combination: Combination,
+    stores: &mut Vec<LocationStores>,
+    front: &mut Vec<u8>,
+    made: &mut Vec<Combination>,
+) -> Result<(), AllocError>
+    requires { length stores.old.items ≤ 128 }
+    ensures made { OnOk result (map combination_lists made.new.items ≡ map combination_lists made.old.items ++ ordered (length stores.old.items) (combination_lists combination) ∷ []) }
+    ensures many { OnOk result (length stores.new.items ≡ length stores.old.items) }
+{
+    combination.orders = orders(alloc, &combination.events, stores, front)?;
+    made.push(combination)?;
+    Ok(())
+}
+
+/// Gives each combination the orders of its stores, which are at so many locations.
+fn all_ordered(
+    alloc: Global,
+    combinations: Vec<Combination>,
+    stores: &mut Vec<LocationStores>,
+    front: &mut Vec<u8>,
+) -> Result<Vec<Combination>, AllocError>
+    requires { length stores.old.items ≤ 128 }
+    ensures { IfOk result (λ v. map combination_lists v.items ≡ map (λ c. ordered (length stores.old.items) (combination_lists c)) combinations.items) }
+{
+    let mut made = Vec::with_capacity(alloc, combinations.len())?;
+    for combination in combinations {
+        add_ordered(alloc, combination, stores, front, &mut made)?;
+    }
+    Ok(made)
+}
+
 /// Gives each combination the orders of its stores.
 pub fn with_orders(
     alloc: Global,
@@ -234,12 +268,8 @@ pub fn with_orders(
 ) -> Result<Vec<Combination>, AllocError>
     ensures { IfOk result (λ v. map combination_lists v.items ≡ map (λ c. ordered (min locations 128) (combination_lists c)) combinations.items) }
 {
-    let mut made = Vec::with_capacity(alloc, combinations.len())?;
     let mut stores = bare_locations(alloc, locations)?;
     let mut front = Vec::with_capacity(alloc, MAX_EVENTS)?;
-    for mut combination in combinations {
-        combination.orders = orders(alloc, &combination.events, &mut stores, &mut front)?;
-        made.push(combination)?;
-    }
+    let made = all_ordered(alloc, combinations, &mut stores, &mut front)?;
     Ok(made)
 }

@@ -221,8 +221,8 @@ pub fn parts(
 {
     let mut parts = Vec::with_capacity(alloc, sketches.len())?;
     for sketch in sketches {
-        let part = part_of(alloc, workspace, thread, &runs[sketch.run], sketch)?;
         parts.reserve(1)?;
+        let part = part_of(alloc, workspace, thread, &runs[sketch.run], sketch)?;
         parts.push_reserved(part);
     }
     Ok(parts)

@@ -2,7 +2,7 @@
 
 ghost use Rattle.std.specs.Prelude.{◌≡◌, ◌<◌, ◌≤◌, ◌↔◌, ◌⊎◌, ◌++◌, ◌∷◌, [], length, option_to_list, Contains, IsTrue, IfOk, OnOk, MatchOption};
 ghost use Rattle.bit_relations.specs.Relation.{IsMember, IsEvents};
-ghost use Rattle.run_combinations.specs.Rounds.{IsInside, IsMeeting, CanRead, CanArise, WithStores, WithLoads, IsRound, HasDerived, TellsPossible, GainsNext, AreNext, AreOver, HasOver, HasWays, Shows, AreLoads, AreStores};
+ghost use Rattle.run_combinations.specs.Rounds.{IsInside, IsMeeting, CanRead, CanArise, WithStores, WithLoads, IsRound, HasDerived, TellsPossible, ArePossible, GainsNext, AreNext, AreOver, HasOver, HasWays, Shows, AreLoads, AreStores};
 ghost use Rattle.run_combinations.specs.Lists.{lists_of};
 ghost use Rattle.run_combinations.specs.Search.{Tells};
 ghost use Rattle.run_combinations.specs.Events.{numbers, is_load, is_store};
@@ -390,22 +390,45 @@ impl Reading {
         Ok(true)
     }
 
+    /// The way of no load, if all loads can read without a cycle.
+    fn first_ways(&self, alloc: Global) -> Result<Vec<Vec<u8>>, AllocError>
+        ensures { IfOk result (λ v. ArePossible self.now 0 (lists_of v.items)) }
+    {
+        let mut ways = Vec::new(alloc);
+        if self.is_possible() {
+            ways.push(Vec::with_capacity(alloc, self.loads.len())?)?;
+        }
+        Ok(ways)
+    }
+
+    /// Makes ways of no load those of all loads; `false` where there are over `limit`.
+    fn extend_ways(
+        &self,
+        alloc: Global,
+        ways: &mut Vec<Vec<u8>>,
+        limit: usize,
+    ) -> Result<bool, AllocError>
+        ensures { ArePossible self.now 0 (lists_of ways.old.items) → IfOk result (λ b. Tells b (HasWays self.now (lists_of ways.new.items)) (HasOver self.now limit)) }
+    {
+        let mut longer = Vec::new(alloc);
+        for (index, load) in self.loads.iter().enumerate() {
+            if !self.extend_all(alloc, ways, load, index, limit, &mut longer)? {
+                return Ok(false);
+            }
+            swap(ways, &mut longer);
+        }
+        Ok(true)
+    }
+
     /// The ways to read in which what is read and what is needed make no cycle, in lexicographic
     /// order: for each load in event order the number of its store. `None` where there are over
     /// `limit`.
     pub fn ways(&self, alloc: Global, limit: usize) -> Result<Option<Vec<Vec<u8>>>, AllocError>
         ensures { IfOk result (λ o. MatchOption o (HasOver self.now limit) (λ v. HasWays self.now (lists_of v.items) × (length v.items ≤ limit))) }
     {
-        let mut ways = Vec::new(alloc);
-        let mut longer = Vec::new(alloc);
-        if self.is_possible() {
-            ways.push(Vec::with_capacity(alloc, self.loads.len())?)?;
-        }
-        for (index, load) in self.loads.iter().enumerate() {
-            if !self.extend_all(alloc, &mut ways, load, index, limit, &mut longer)? {
-                return Ok(None);
-            }
-            swap(&mut ways, &mut longer);
+        let mut ways = self.first_ways(alloc)?;
+        if !self.extend_ways(alloc, &mut ways, limit)? {
+            return Ok(None);
         }
         if ways.len() > limit {
             return Ok(None);

@@ -87,8 +87,8 @@ fn copied(alloc: Global, made: &PrefixRuns) -> Result<PrefixRuns, AllocError>
 {
     Ok(PrefixRuns {
         events: Vec::from_slice(alloc, &made.events)?,
-        dependencies: made.dependencies.copied(alloc)?,
         runs: Vec::from_slice(alloc, &made.runs)?,
+        dependencies: made.dependencies.copied(alloc)?,
     })
 }
 
@@ -303,21 +303,30 @@ fn first_prefix(alloc: Global, layout: &Layout) -> Result<Prefix, AllocError>
     })
 }
 
+/// Adds the combinations of a layout to nothing; `false` where there are too many candidates.
+fn search_all(alloc: Global, layout: &Layout, found: &mut Found) -> Result<bool, AllocError>
+    requires { AreSmall (all_combinations layout.now) }
+    ensures { (key : ℕ → Value → Option (ℕ × ℕ)) → IsKeyed key layout.now → AllFit (location_count layout.now) (all_combinations layout.now) → tally found.old ≡ nothing → IfOk result (λ b. Tells b (Searched (location_count layout.now) (all_combinations layout.now) nothing (tally found.new) × (found.new.count ≤ 16384)) (AreTooMuch (location_count layout.now) (all_combinations layout.now) nothing)) }
+{
+    let mut prefix = first_prefix(alloc, layout)?;
+    let locations = layout.initial.len();
+    let is_few = search_from(alloc, locations, &layout.threads, &mut prefix, found)?;
+    Ok(is_few)
+}
+
 /// The combinations that have candidates, in the order of their runs, without their orders; `None`
 /// where there are too many candidates.
 pub fn find_combinations(alloc: Global, layout: &Layout) -> Result<Option<Found>, AllocError>
     requires { AreSmall (all_combinations layout.now) }
     ensures { (key : ℕ → Value → Option (ℕ × ℕ)) → IsKeyed key layout.now → AllFit (location_count layout.now) (all_combinations layout.now) → IfOk result (λ o. MatchOption o (AreTooMuch (location_count layout.now) (all_combinations layout.now) nothing) (λ f. Searched (location_count layout.now) (all_combinations layout.now) nothing (tally f) × (f.count ≤ 16384))) }
 {
-    let mut prefix = first_prefix(alloc, layout)?;
     let mut found = Found {
         combinations: Vec::new(alloc),
         count: 0,
         is_faulted: false,
         reading: Reading::empty(alloc),
     };
-    let locations = layout.initial.len();
-    if search_from(alloc, locations, &layout.threads, &mut prefix, &mut found)? {
+    if search_all(alloc, layout, &mut found)? {
         Ok(Some(found))
     } else {
         Ok(None)

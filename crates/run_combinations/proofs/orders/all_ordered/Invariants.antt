@@ -1,0 +1,9 @@
+use Rattle.std.proofs.Common.{◌≡◌, length, map}
+use Rattle.run_combinations.specs.Combinations.{combination_lists, ordered}
+use Rattle.run_combinations.proofs.orders.all_ordered.Given as goal
+
+abbrev pub invariant-loop-combination : goal.invariant-loop-combination
+invariant-loop-combination l = record {
+  made : map combination_lists l.made.items ≡ map (λ c. ordered (length l.initial.stores.items) (combination_lists c)) l.yielded;
+  many : length l.stores.items ≡ length l.initial.stores.items;
+}
