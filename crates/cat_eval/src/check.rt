@@ -172,6 +172,26 @@ fn visited_answers<'a>(
     Ok(run.answers)
 }
 
+/// Whether a check holds, where candidates are kept, with the columns of the predefined names that it uses.
+fn answers_over<'a>(
+    alloc: Global,
+    check: &'a CheckCode,
+    inputs: &'a [&'a Column],
+    kept: Option<&'a [bool]>,
+    named: &[NamedColumn],
+    space: &Space,
+    machine: &mut Machine,
+    slots: &mut Vec<Rel>,
+) -> Result<Vec<bool>, AllocError>
+    ensures { IfOk result (λ v. AreAskedOver check.now inputs.now kept.entry (seen_in named.now 0 (candidates_in space.now.combinations.items)) v.items) }
+{
+    if has_many(space) {
+        asked_answers(alloc, check, inputs, kept, named, space, slots)
+    } else {
+        visited_answers(alloc, check, inputs, kept, named, space, machine)
+    }
+}
+
 /// Whether a check or flag holds, for each candidate of a space. `inputs` are the values of the
 /// item's inputs, in their order. An item of another kind has no answers. Errors: want of memory.
 pub fn eval_check(
@@ -242,11 +262,17 @@ impl Evaluator {
         let none = Column::of_sets(alloc);
         let mut named = NamedColumn::none(alloc, &none);
         self.table.list(&self.needs.names, &mut named)?;
-        if has_many(space) {
-            let named = named.as_slice();
-            return asked_answers(alloc, check, inputs, kept, named, space, &mut self.slots);
-        }
         let machine = &mut self.machine;
-        visited_answers(alloc, check, inputs, kept, named.as_slice(), space, machine)
+        let slots = &mut self.slots;
+        answers_over(
+            alloc,
+            check,
+            inputs,
+            kept,
+            named.as_slice(),
+            space,
+            machine,
+            slots,
+        )
     }
 }

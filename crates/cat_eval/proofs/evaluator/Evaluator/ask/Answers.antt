@@ -17,23 +17,8 @@ returns-clause-answers c = λ role.
     let needed : AreListed c.need_names.new.self.needs.names.items (names_in check.code.steps.items) = rw role at c.in_ok-need_names.ensures.names in
     let listed : AreListed (column_names named) (names_in check.code.steps.items) = λ name inside. c.in_ok-list.ensures.all name (rw c.deref.ensures.value (needed name inside)) (c.in_ok-need_names.ensures.there name (needed name inside)) in
     let right = c.in_ok-list.ensures.columns candidates c.need_names.ensures.over in
-    IfOk-weaker c.visited_answers.result _ _
+    IfOk-weaker c.answers_over.result _ _
     (λ (v : Vec Bool Global) (asked : AreAskedOver check inputs c.args.kept (seen_in c.as_slice.result.now 0 candidates) v.items).
     let (all, are, where_asked) = rw c.as_slice.ensures at asked in
     (all, answers_exact check inputs named candidates all right listed are, where_asked))
-    c.visited_answers.ensures
-
-pub returns-then-has_many-clause-answers : goal.returns-then-has_many-clause-answers
-returns-then-has_many-clause-answers c = λ role.
-    let check = c.args.check.now in
-    let inputs = c.args.inputs.now in
-    let candidates = candidates_in c.args.space.now.combinations.items in
-    let named = c.list.new.named in
-    let needed : AreListed c.need_names.new.self.needs.names.items (names_in check.code.steps.items) = rw role at c.in_ok-need_names.ensures.names in
-    let listed : AreListed (column_names named) (names_in check.code.steps.items) = λ name inside. c.in_ok-list.ensures.all name (rw c.deref.ensures.value (needed name inside)) (c.in_ok-need_names.ensures.there name (needed name inside)) in
-    let right = c.in_ok-list.ensures.columns candidates c.need_names.ensures.over in
-    IfOk-weaker c.asked_answers.result _ _
-    (λ (v : Vec Bool Global) (asked : AreAskedOver check inputs c.args.kept (seen_in c.as_slice-named.result.now 0 candidates) v.items).
-    let (all, are, where_asked) = rw c.as_slice-named.ensures at asked in
-    (all, answers_exact check inputs named candidates all right listed are, where_asked))
-    c.asked_answers.ensures
+    c.answers_over.ensures
