@@ -2,7 +2,7 @@
 use Rattle.std.proofs.Common.{ℕ, zero, suc, ◌≡◌, ◌<◌, ◌≤◌, ◌+◌, inl, inr, Bool, true, false, cond, List, [], ◌∷◌, map, filter, length, get_or, slice_get, Option, Some, None, Contains, arith, sym, subst, refl, ap, ◌∙◌}
 use Rattle.std.specs.Option.{option_map}
 use Rattle.std.proofs.lemmas.List.{length-map}
-use Rattle.std.proofs.lemmas.Bool.{cases_lt, cases_eq}
+use Rattle.std.proofs.lemmas.Bool.{false≢true, cases_lt, cases_eq}
 use Rattle.std.proofs.lemmas.Option.{slice_get_within, get_or_from_slice_get, slice_get-map, slice_get_cases}
 use Rattle.run_combinations.specs.Events.{numbers, is_load, is_store, reads, writes}
 use Rattle.run_combinations.specs.Ways.{IsProper, accesses_in, sources_of, may_read}
@@ -73,7 +73,7 @@ number_there test at (d ∷ es) zero e h t =
   where
     first : (b : Bool) → b ≡ true → Contains (cond b (at ∷ numbers test (at + 1) es) (numbers test (at + 1) es)) at
     first true k = (0, omega arith, refl)
-    first false k = absurd cc
+    first false k = absurd (false≢true k)
 number_there test at (d ∷ es) (suc j) e h t =
     let z : (at + 1) + j ≡ at + suc j = omega arith in
     subst (λ (y : ℕ). Contains (numbers test at (d ∷ es)) y) z (after (test d) (number_there test (at + 1) es j e h t))
@@ -107,26 +107,26 @@ as_many test at (e ∷ es) = go (test e) (as_many test (at + 1) es)
     go false h = h
 
 not_both : (a : Action) → reads a ≡ true → writes a ≡ true → ⊥
-not_both (Read l v) r w = cc
-not_both (Write l v) r w = cc
-not_both (Fence f) r w = cc
+not_both (Read l v) r w = false≢true w
+not_both (Write l v) r w = false≢true r
+not_both (Fence f) r w = false≢true r
 
 read_is_store : (a b : Action) → may_read a b ≡ true → writes b ≡ true
-read_is_store (Read l v) (Read m w) h = cc
+read_is_store (Read l v) (Read m w) h = absurd (false≢true h)
 read_is_store (Read l v) (Write m w) h = refl
-read_is_store (Read l v) (Fence f) h = cc
+read_is_store (Read l v) (Fence f) h = absurd (false≢true h)
 read_is_store (Write l v) b h = absurd (nothing b h)
   where
     nothing : (c : Action) → may_read (Write l v) c ≡ true → ⊥
-    nothing (Read m w) k = cc
-    nothing (Write m w) k = cc
-    nothing (Fence f) k = cc
+    nothing (Read m w) k = false≢true k
+    nothing (Write m w) k = false≢true k
+    nothing (Fence f) k = false≢true k
 read_is_store (Fence f) b h = absurd (nothing b h)
   where
     nothing : (c : Action) → may_read (Fence f) c ≡ true → ⊥
-    nothing (Read m w) k = cc
-    nothing (Write m w) k = cc
-    nothing (Fence f) k = cc
+    nothing (Read m w) k = false≢true k
+    nothing (Write m w) k = false≢true k
+    nothing (Fence f) k = false≢true k
 
 -- the accesses among events are each a load or a store
 pub proper : (es : List Event) (pairs : List (ℕ × ℕ)) → IsProper (length es) (accesses_in es pairs)
