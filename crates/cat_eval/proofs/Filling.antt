@@ -1,6 +1,7 @@
 -- Columns of predefined names on their way through the candidates.
 use Rattle.std.proofs.Common.{ℕ, ◌≡◌, ◌<◌, ◌+◌, ◌-◌, ◌↔◌, ◌++◌, ◌∙◌, inl, inr, zero, suc, List, [], ◌∷◌, length, length-append, get_or, Contains, Bool, true, false, sym, ap, subst, refl, arith}
 use Rattle.std.specs.Prelude.{Some, slice_get}
+use Rattle.std.proofs.lemmas.Bool.{false≢true}
 use Rattle.std.proofs.lemmas.List.Elements.{Contains-append_right}
 use Rattle.bit_relations.specs.Relation.{Relation, Events, IsRelation, IsEvents}
 use Rattle.cat_values.specs.declared.predefined.Predefined.{Predefined}
@@ -78,9 +79,6 @@ world_at names reads orders (b ∷ bs) (c ∷ cs) h (suc k) one at = world_at na
 
 -- a set has no pairs, and a relation no events
 
-never : false ≡ true → ⊥
-never is = absurd cc
-
 no_pairs : (name : Predefined) → is_set name ≡ true → (n : ℕ) (c : Combination) (sources order : List ℕ) (a b : ℕ) → RelationIn name n c sources order a b → ⊥
 no_pairs names.Loads is n c sources order a b h = h.2
 no_pairs names.Stores is n c sources order a b h = h.2
@@ -91,41 +89,41 @@ no_pairs names.SyncFences is n c sources order a b h = h.2
 no_pairs names.LwsyncFences is n c sources order a b h = h.2
 no_pairs names.EieioFences is n c sources order a b h = h.2
 no_pairs names.IsyncFences is n c sources order a b h = h.2
-no_pairs names.Identity is n c sources order a b h = absurd (never is)
-no_pairs names.ProgramOrder is n c sources order a b h = absurd (never is)
-no_pairs names.SameLocation is n c sources order a b h = absurd (never is)
-no_pairs names.ProgramOrderSameLocation is n c sources order a b h = absurd (never is)
-no_pairs names.Internal is n c sources order a b h = absurd (never is)
-no_pairs names.External is n c sources order a b h = absurd (never is)
-no_pairs names.ReadsFrom is n c sources order a b h = absurd (never is)
-no_pairs names.Coherence is n c sources order a b h = absurd (never is)
-no_pairs names.FromReads is n c sources order a b h = absurd (never is)
-no_pairs names.ReadsFromExternal is n c sources order a b h = absurd (never is)
-no_pairs names.ReadsFromInternal is n c sources order a b h = absurd (never is)
-no_pairs names.CoherenceExternal is n c sources order a b h = absurd (never is)
-no_pairs names.CoherenceInternal is n c sources order a b h = absurd (never is)
-no_pairs names.FromReadsExternal is n c sources order a b h = absurd (never is)
-no_pairs names.FromReadsInternal is n c sources order a b h = absurd (never is)
-no_pairs names.Communication is n c sources order a b h = absurd (never is)
-no_pairs names.AddressDependency is n c sources order a b h = absurd (never is)
-no_pairs names.DataDependency is n c sources order a b h = absurd (never is)
-no_pairs names.ControlDependency is n c sources order a b h = absurd (never is)
-no_pairs names.ControlIsyncDependency is n c sources order a b h = absurd (never is)
-no_pairs names.SyncOrder is n c sources order a b h = absurd (never is)
-no_pairs names.LwsyncOrder is n c sources order a b h = absurd (never is)
-no_pairs names.EieioOrder is n c sources order a b h = absurd (never is)
-no_pairs names.IsyncOrder is n c sources order a b h = absurd (never is)
+no_pairs names.Identity is n c sources order a b h = absurd (false≢true is)
+no_pairs names.ProgramOrder is n c sources order a b h = absurd (false≢true is)
+no_pairs names.SameLocation is n c sources order a b h = absurd (false≢true is)
+no_pairs names.ProgramOrderSameLocation is n c sources order a b h = absurd (false≢true is)
+no_pairs names.Internal is n c sources order a b h = absurd (false≢true is)
+no_pairs names.External is n c sources order a b h = absurd (false≢true is)
+no_pairs names.ReadsFrom is n c sources order a b h = absurd (false≢true is)
+no_pairs names.Coherence is n c sources order a b h = absurd (false≢true is)
+no_pairs names.FromReads is n c sources order a b h = absurd (false≢true is)
+no_pairs names.ReadsFromExternal is n c sources order a b h = absurd (false≢true is)
+no_pairs names.ReadsFromInternal is n c sources order a b h = absurd (false≢true is)
+no_pairs names.CoherenceExternal is n c sources order a b h = absurd (false≢true is)
+no_pairs names.CoherenceInternal is n c sources order a b h = absurd (false≢true is)
+no_pairs names.FromReadsExternal is n c sources order a b h = absurd (false≢true is)
+no_pairs names.FromReadsInternal is n c sources order a b h = absurd (false≢true is)
+no_pairs names.Communication is n c sources order a b h = absurd (false≢true is)
+no_pairs names.AddressDependency is n c sources order a b h = absurd (false≢true is)
+no_pairs names.DataDependency is n c sources order a b h = absurd (false≢true is)
+no_pairs names.ControlDependency is n c sources order a b h = absurd (false≢true is)
+no_pairs names.ControlIsyncDependency is n c sources order a b h = absurd (false≢true is)
+no_pairs names.SyncOrder is n c sources order a b h = absurd (false≢true is)
+no_pairs names.LwsyncOrder is n c sources order a b h = absurd (false≢true is)
+no_pairs names.EieioOrder is n c sources order a b h = absurd (false≢true is)
+no_pairs names.IsyncOrder is n c sources order a b h = absurd (false≢true is)
 
 no_events : (name : Predefined) → is_set name ≡ false → (n : ℕ) (c : Combination) (a : ℕ) → SetIn c n name a → ⊥
-no_events names.Loads is n c a h = absurd (never (sym is))
-no_events names.Stores is n c a h = absurd (never (sym is))
-no_events names.Accesses is n c a h = absurd (never (sym is))
-no_events names.Fences is n c a h = absurd (never (sym is))
-no_events names.InitialStores is n c a h = absurd (never (sym is))
-no_events names.SyncFences is n c a h = absurd (never (sym is))
-no_events names.LwsyncFences is n c a h = absurd (never (sym is))
-no_events names.EieioFences is n c a h = absurd (never (sym is))
-no_events names.IsyncFences is n c a h = absurd (never (sym is))
+no_events names.Loads is n c a h = absurd (false≢true (sym is))
+no_events names.Stores is n c a h = absurd (false≢true (sym is))
+no_events names.Accesses is n c a h = absurd (false≢true (sym is))
+no_events names.Fences is n c a h = absurd (false≢true (sym is))
+no_events names.InitialStores is n c a h = absurd (false≢true (sym is))
+no_events names.SyncFences is n c a h = absurd (false≢true (sym is))
+no_events names.LwsyncFences is n c a h = absurd (false≢true (sym is))
+no_events names.EieioFences is n c a h = absurd (false≢true (sym is))
+no_events names.IsyncFences is n c a h = absurd (false≢true (sym is))
 no_events names.Identity is n c a h = h.1.2
 no_events names.ProgramOrder is n c a h = h.1.2
 no_events names.SameLocation is n c a h = h.1.2
