@@ -8,7 +8,7 @@ ghost use Rattle.litmus_conditions.specs.Reading.{stack_of, expectation_of};
 ghost use Rattle.litmus_values.specs.Value.{content_of};
 ghost use Rattle.litmus_table.specs.Machine.{named};
 ghost use Rattle.litmus_table.specs.Reading.{table_of, first_steps};
-ghost use Rattle.litmus_grammar.specs.TextMachine.{HasColumn, part_step, nothing, first_table, title_read, table_result, item_start, item_result, next_item, item_read, proposition_result, threads_in};
+ghost use Rattle.litmus_grammar.specs.TextMachine.{HasColumn, part_step, nothing, first_table, after_init, Done, title_read, table_result, item_start, item_result, next_item, item_read, proposition_result, threads_in};
 ghost use Rattle.litmus_parts.specs.PartReading.{part_of};
 ghost use Rattle.litmus_ppc.specs.TextReading.{draft_of, test_of, StepsTo, ReadsProposition};
 
@@ -53,6 +53,22 @@ fn first_table(alloc: Global, kind: TextKind) -> Result<Table, AllocError>
         table.add_thread()?;
     }
     Ok(table)
+}
+
+// Goes on behind the init block, in a text of this kind.
+#[inline(never)]
+fn leave_init(part: &mut Part, kind: TextKind)
+    ensures { part_of part.new ≡ after_init kind }
+{
+    part.go_to(Part::after_init(kind));
+}
+
+// The text has ended.
+#[inline(never)]
+fn finish(part: &mut Part)
+    ensures { part_of part.new ≡ Done }
+{
+    part.go_to(Part::Done);
 }
 
 impl Draft {
@@ -108,7 +124,7 @@ impl Draft {
             }
             Part::Init(expected) => {
                 if self.init.step(expected, token, offset)? {
-                    part.go_to(Part::after_init(kind));
+                    leave_init(part, kind);
                 }
                 Ok(())
             }
@@ -123,7 +139,7 @@ impl Draft {
             }
             Part::Cells => {
                 if self.table.is_cell_whole() && is_end(&token) {
-                    part.go_to(Part::Done);
+                    finish(part);
                     return Ok(());
                 }
                 self.table.step(token, offset)?;
@@ -143,7 +159,7 @@ impl Draft {
                 if self.proposition_read(
                     alloc, threads, quantifier, frames, operators, expected, token,
                 )? {
-                    part.go_to(Part::Done);
+                    finish(part);
                 }
                 Ok(())
             }
