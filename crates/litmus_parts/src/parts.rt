@@ -285,6 +285,7 @@ pub fn item_ended(part: &mut Part, kind: TextKind, token: &Token) -> Result<(), 
 }
 
 /// The step over the first token behind the table. Errors: the token is refused.
+#[inline(never)]
 pub fn tail_start(part: &mut Part, alloc: Global, token: &Token) -> Result<(), StepError>
     ensures { IsNextPart result part.new (tail_start token.now) }
 {
@@ -309,6 +310,7 @@ pub fn list_start(part: &mut Part, token: &Token) -> Result<(), StepError>
 }
 
 /// The step over the first token of the condition. Errors: the token is refused.
+#[inline(never)]
 pub fn quantifier_read(part: &mut Part, alloc: Global, token: &Token) -> Result<(), StepError>
     ensures { IsNextPart result part.new (quantifier_read token.now) }
 {
@@ -360,6 +362,7 @@ fn proposition(alloc: Global, quantifier: Quantifier) -> Part
 }
 
 /// The step over the end of the text. Errors: the token is refused.
+#[inline(never)]
 pub fn end_read(part: &mut Part, token: &Token) -> Result<(), StepError>
     ensures { IsNextPart result part.new (end_read token.now) }
 {
