@@ -1,6 +1,7 @@
 //! Names, as a text spells them.
 
-ghost use Rattle.std.specs.Prelude.{◌≡◌};
+ghost use Rattle.std.specs.Prelude.{◌≡◌, ◌<◌, [], ◌∷◌, length, slice_index};
+ghost use Rattle.std.specs.Int.{from_le_bytes, w64};
 ghost use Rattle.source_text.specs.Names.{key_of};
 
 use crate::letters::byte_at;
@@ -41,6 +42,7 @@ impl Model for Name {
 }
 
 // The key of a name with these bytes.
+#[inline(never)]
 fn key_of(bytes: &[u8]) -> u64
     ensures { result ≡ key_of bytes.now }
 {
@@ -54,6 +56,18 @@ fn key_of(bytes: &[u8]) -> u64
         byte_at(bytes, 5),
         byte_at(bytes, 6),
     ])
+}
+
+// The key of a name of so many bytes that is kept in place. Its first eight bytes are read at once.
+#[inline(always)]
+fn short_key(n: u32, short: &[u8; SHORT]) -> u64
+    ensures key { n < 256 → result ≡ from_le_bytes w64 (n ∷ slice_index short.now 0 ∷ slice_index short.now 1 ∷ slice_index short.now 2 ∷ slice_index short.now 3 ∷ slice_index short.now 4 ∷ slice_index short.now 5 ∷ slice_index short.now 6 ∷ []) }
+    ensures room { length short.now ≡ 16 }
+{
+    let first = u64::from_le_bytes([
+        short[0], short[1], short[2], short[3], short[4], short[5], short[6], short[7],
+    ]);
+    first.wrapping_mul(256).wrapping_add(u64::from(n))
 }
 
 impl Name {
@@ -88,20 +102,12 @@ impl Name {
     }
 
     /// The length and the first bytes of the name as one number: names with different keys are different.
+    #[inline(always)]
     pub fn key(&self) -> u64
         ensures { result ≡ key_of self.now }
     {
         match &self.bytes {
-            Bytes::Short(length, short) => u64::from_le_bytes([
-                *length as u8,
-                short[0],
-                short[1],
-                short[2],
-                short[3],
-                short[4],
-                short[5],
-                short[6],
-            ]),
+            Bytes::Short(length, short) => short_key(*length, short),
             Bytes::Long(long) => key_of(long.as_slice()),
         }
     }
