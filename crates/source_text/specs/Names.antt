@@ -20,3 +20,7 @@ key_bytes name = min (length name) 255 ∷ slice_index name 0 ∷ slice_index na
 -- the same as one number
 unfoldable pub key_of : List ℕ → ℕ
 key_of name = from_le_bytes w64 (key_bytes name)
+
+-- a byte, and the first seven bytes behind it
+abbrev pub behind : ℕ → List ℕ → List ℕ
+behind n bytes = n ∷ slice_index bytes 0 ∷ slice_index bytes 1 ∷ slice_index bytes 2 ∷ slice_index bytes 3 ∷ slice_index bytes 4 ∷ slice_index bytes 5 ∷ slice_index bytes 6 ∷ []

@@ -1,8 +1,8 @@
 //! Names, as a text spells them.
 
-ghost use Rattle.std.specs.Prelude.{◌≡◌, ◌<◌, [], ◌∷◌, length, slice_index};
+ghost use Rattle.std.specs.Prelude.{◌≡◌, ◌<◌, length};
 ghost use Rattle.std.specs.Int.{from_le_bytes, w64};
-ghost use Rattle.source_text.specs.Names.{key_of};
+ghost use Rattle.source_text.specs.Names.{key_of, behind};
 
 use crate::letters::byte_at;
 use std::alloc::{AllocError, Global};
@@ -61,7 +61,7 @@ fn key_of(bytes: &[u8]) -> u64
 // The key of a name of so many bytes that is kept in place. Its first eight bytes are read at once.
 #[inline(always)]
 fn short_key(n: u32, short: &[u8; SHORT]) -> u64
-    ensures key { n < 256 → result ≡ from_le_bytes w64 (n ∷ slice_index short.now 0 ∷ slice_index short.now 1 ∷ slice_index short.now 2 ∷ slice_index short.now 3 ∷ slice_index short.now 4 ∷ slice_index short.now 5 ∷ slice_index short.now 6 ∷ []) }
+    ensures key { n < 256 → result ≡ from_le_bytes w64 (behind n short.now) }
     ensures room { length short.now ≡ 16 }
 {
     let first = u64::from_le_bytes([
