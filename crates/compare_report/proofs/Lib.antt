@@ -1,3 +1,4 @@
 pub mod Labels
+pub mod Loops
 pub mod Merging
 pub mod Widths
