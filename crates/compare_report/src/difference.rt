@@ -303,7 +303,8 @@ fn put_tests(alloc: Global, text: &mut Vec<u8>, tests: &[TestPair<'_>]) -> Resul
 {
     let mut count: u64 = 0;
     for test in tests {
-        if put_test(alloc, text, test)? {
+        let is_told = put_test(alloc, text, test)?;
+        if is_told {
             count += 1;
         }
     }
