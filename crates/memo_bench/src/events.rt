@@ -1,7 +1,10 @@
 //! The calls that change a graph, returns aside, and what it shows.
 
-ghost use Rattle.std.specs.Prelude.{[], ◌≡◌, ◌+◌, ◌<◌, ◌≤◌, leb, ℕ, IsTrue, IsFalse, IfOk, OnOk, OnErr, IfErr, IfSome, IfNone, Err, Some};
+ghost use Rattle.std.specs.Prelude.{[], filter, ◌≡◌, ◌+◌, ◌<◌, ◌≤◌, leb, ℕ, IsTrue, IsFalse, IfOk, OnOk, OnErr, IfErr, IfSome, IfNone, Err, Some};
+ghost use Rattle.indexmap.specs.IndexMap.{spare};
 ghost use Rattle.memo_core.specs.declared.keys.Node.{Node};
+ghost use Rattle.memo_core.specs.Marks.{IsMarkedTo};
+ghost use Rattle.memo_core.specs.Views.{as_memos};
 ghost use Rattle.memo_core.specs.Step.{Has, Loses, Renews, Edits, IsWork};
 ghost use Rattle.memo_bench.specs.Clauses.{state_of, HasRightMemos, HasFreshClaims, IsMarked, GivesJob, IsSettledIn, IsRefused, ShowsStored, ShowsSolved};
 ghost use Rattle.memo_bench.specs.Told.{IsTold, OnNone};
@@ -15,12 +18,35 @@ use crate::work::{current_inputs, find_node};
 use indexmap::IndexMap;
 use memo_core::claims::{Claim, ClaimFault};
 use memo_core::keys::{Node, Output};
-use memo_core::table::stored_outputs;
+use memo_core::table::{Memos, stored_outputs};
 use memo_core::texts::Texts;
 use std::alloc::Global;
 use std::collections::BTreeMap;
 use std::sync::Arc;
 use value_store::{Store, StoreName, Token};
+
+/// Puts a prepared edit in place, drops what is kept of nodes that the texts don't keep, and marks what is settled.
+fn put_in_place<K: StoreName, T: Texts>(
+    texts: &mut T,
+    memos: &mut Memos<Token<K, T::Value>>,
+    waiting: &mut Vec<Node>,
+    prepared: T::Prepared,
+    number: u64,
+)
+    requires ready { T.is_ready texts.old prepared }
+    requires later { T.last texts.old < number }
+    ensures commits { T.commits texts.old prepared number texts.new }
+    ensures last { T.last texts.new ≤ number }
+    ensures memos { as_memos memos.new.entries ≡ filter (λ m. T.keeps texts.new m.node) (as_memos memos.old.entries) }
+    ensures marks { T.is_valid texts.new → IsMarkedTo (T.net texts.new) memos.new.entries [] }
+    ensures room { spare memos.old ≤ spare memos.new }
+{
+    texts.commit(prepared, number);
+    drop_gone(texts, memos);
+    waiting.clear();
+    let _ = waiting.reserve(texts.used_count());
+    settle_all(texts, memos, waiting);
+}
 
 impl<K: StoreName, T: Texts> Graph<K, T> {
     /// Nothing is kept and nothing is out yet.
@@ -111,11 +137,13 @@ impl<K: StoreName, T: Texts> Graph<K, T> {
         if !witness.tell(alloc, &self.texts, &prepared, number) {
             return Ok(None);
         }
-        self.texts.commit(prepared, number);
-        drop_gone(&self.texts, &mut self.memos);
-        self.waiting.clear();
-        let _ = self.waiting.reserve(self.texts.used_count());
-        settle_all(&self.texts, &mut self.memos, &mut self.waiting);
+        put_in_place::<K, T>(
+            &mut self.texts,
+            &mut self.memos,
+            &mut self.waiting,
+            prepared,
+            number,
+        );
         self.taken = number;
         Ok(Some(number))
     }
@@ -151,8 +179,8 @@ impl<K: StoreName, T: Texts> Graph<K, T> {
             Some(node) => node,
         };
         let number = self.taken + 1;
-        let job = job_of(alloc, &self.texts, &self.memos, &self.store, node, number)?;
         let inputs = current_inputs(alloc, &self.texts, &self.memos, node)?;
+        let job = job_of(alloc, &self.texts, &self.memos, &self.store, node, number)?;
         let claim = Claim { node, inputs };
         open_claim(&mut self.memos, &mut self.claims, number, claim)?;
         self.taken = number;

@@ -16,7 +16,6 @@ pub const LAST: u64 = 0x8000_0000_0000_0000;
 
 /// Texts, what is kept of computations on them, and what is handed out. Each accepted edit, each
 /// claim and each accepted return takes the next number.
-#[derive(Drop)]
 pub struct Graph<K: StoreName, T: Texts> {
     /// The texts.
     pub texts: T,
@@ -35,4 +34,18 @@ pub struct Graph<K: StoreName, T: Texts> {
     ghost small: { length claims.entries < 2 ^ 63 },
     ghost few: { taken + length claims.entries < 2 ^ 64 },
     ghost last: { T.last texts ≤ taken },
+}
+
+impl<K: StoreName, T: Texts> Drop for Graph<K, T> {
+    fn drop(self) {
+        let Graph {
+            texts: _,
+            memos: _,
+            claims: _,
+            taken: _,
+            waiting: _,
+            next: _,
+            store: _,
+        } = self;
+    }
 }

@@ -19,7 +19,6 @@ use std::sync::{Arc, Wait};
 use value_store::{Store, StoreFault, StoreName, Token};
 
 /// What is to be computed: a node, with its inputs and their values. It can be run by any thread.
-#[derive(Drop)]
 pub struct Job<K: StoreName, T: Texts> {
     /// The number of its claim.
     pub claim: u64,
@@ -36,8 +35,21 @@ pub struct Job<K: StoreName, T: Texts> {
     pub(crate) store: Arc<Store<K, T::Value>, Global>,
 }
 
+impl<K: StoreName, T: Texts> Drop for Job<K, T> {
+    fn drop(self) {
+        let Job {
+            claim: _,
+            node: _,
+            given: _,
+            keys: _,
+            values: _,
+            before: _,
+            store: _,
+        } = self;
+    }
+}
+
 /// A return: what was computed, from which inputs with which values.
-#[derive(Drop)]
 pub struct Done<K: StoreName, T: Texts> {
     /// The number of its claim.
     pub claim: u64,
@@ -53,6 +65,39 @@ pub struct Done<K: StoreName, T: Texts> {
     pub outputs: Vec<Output<Token<K, T::Value>>>,
     /// Empty, with room for the name of each output.
     pub names: Vec<u64>,
+}
+
+impl<K: StoreName, T: Texts> Drop for Done<K, T> {
+    fn drop(self) {
+        let Done {
+            claim: _,
+            node: _,
+            given: _,
+            keys: _,
+            values: _,
+            outputs: _,
+            names: _,
+        } = self;
+    }
+}
+
+// A node's inputs, and what shows the values of the outputs among them.
+type Held<K, V> = (Vec<Key>, Vec<Token<K, V>>);
+
+/// The inputs of a node with their present values. Errors: want of memory.
+fn inputs_of<K: StoreName, T: Texts>(
+    alloc: Global,
+    texts: &T,
+    memos: &Memos<Token<K, T::Value>>,
+    node: Node,
+) -> Result<Held<K, T::Value>, AllocError>
+    requires { values_at (at (as_memos memos.now.entries)) ((T.net texts.now).inputs node) ≢ None }
+    ensures keys { IfOk result (λ r. r.0.items ≡ (T.net texts.now).inputs node) }
+    ensures values { IfOk result (λ r. Some (shown_values r.1.items) ≡ values_at (at (as_memos memos.now.entries)) ((T.net texts.now).inputs node)) }
+{
+    let keys = present_keys(alloc, texts, node)?;
+    let values = present_values(alloc, texts, memos, node)?;
+    Ok((keys, values))
 }
 
 /// The job of a node under a number, with what it is given now and the present values of its inputs. Errors: want of memory.
@@ -71,11 +116,10 @@ pub(crate) fn job_of<K: StoreName, T: Texts>(
     ensures keys { IfOk result (λ job. job.keys.items ≡ (T.net texts.now).inputs node) }
     ensures values { IfOk result (λ job. Some (shown_values job.values.items) ≡ values_at (at (as_memos memos.now.entries)) ((T.net texts.now).inputs node)) }
 {
-    let keys = present_keys(alloc, texts, node)?;
-    let values = present_values(alloc, texts, memos, node)?;
     let given = texts.give(alloc, node)?;
-    let before = earlier_tokens(alloc, memos, node)?;
     let store = Arc::try_clone(store)?;
+    let before = earlier_tokens(alloc, memos, node)?;
+    let (keys, values) = inputs_of(alloc, texts, memos, node)?;
     Ok(Job {
         claim,
         node,
@@ -88,7 +132,7 @@ pub(crate) fn job_of<K: StoreName, T: Texts>(
 }
 
 // Outputs, and an empty list with room for their names.
-type Results<K, V> = (Vec<Output<Token<K, V>>>, Vec<u64>);
+pub(crate) type Results<K, V> = (Vec<Output<Token<K, V>>>, Vec<u64>);
 
 impl<K: StoreName, T: Texts> Job<K, T> {
     // The node's outputs in the store, with room for their names. Errors: want of memory, a full store.
@@ -157,6 +201,23 @@ impl<K: StoreName, T: Texts> Done<K, T> {
         ensures { result ≡ self.now.claim }
     {
         self.claim
+    }
+
+    /// What was computed, and the room for its names.
+    pub(crate) fn into_results(self) -> Results<K, T::Value>
+        ensures outputs { result.0 ≡ self.outputs }
+        ensures names { result.1 ≡ self.names }
+    {
+        let Done {
+            claim: _,
+            node: _,
+            given: _,
+            keys: _,
+            values: _,
+            outputs,
+            names,
+        } = self;
+        (outputs, names)
     }
 
     /// The same return once more.

@@ -77,15 +77,8 @@ impl<K: StoreName, T: Texts> Graph<K, T> {
             None => unreachable!(),
         };
         self.taken += 1;
-        let Done {
-            claim: _,
-            node,
-            given: _,
-            keys: _,
-            values: _,
-            mut outputs,
-            mut names,
-        } = done;
+        let node = done.node;
+        let (mut outputs, mut names) = done.into_results();
         let Claim { node: _, inputs } = claim;
         let memos = &self.memos;
         restamp_all::<K, T>(

@@ -293,6 +293,28 @@ fn token_for<R: Wait, K: StoreName, T: Texts>(
     }
 }
 
+/// Puts an output into the store, where its earlier token does not show it.
+fn put_one<R: Wait, K: StoreName, T: Texts>(
+    rt: &R,
+    store: &Store<K, T::Value>,
+    before: &[Output<Token<K, T::Value>>],
+    output: Output<T::Value>,
+) -> Result<Output<Token<K, T::Value>>, StoreFault>
+    ensures name { IfOk result (λ o. o.name ≡ output.name) }
+    ensures value { IfOk result (λ o. o.value.value ≡ output.value) }
+    ensures kept { IfOk result (λ o. KeepsToken before.now o.name o.value) }
+{
+    let name = output.name;
+    match token_for::<R, K, T>(rt, store, before, name, output.value) {
+        Ok(value) => Ok(Output {
+            name,
+            stamp: 0,
+            value,
+        }),
+        Err(fault) => Err(fault),
+    }
+}
+
 /// Puts outputs into the store, where their earlier tokens do not show them.
 pub fn put_all<R: Wait, K: StoreName, T: Texts>(
     rt: &R,
@@ -309,15 +331,9 @@ pub fn put_all<R: Wait, K: StoreName, T: Texts>(
         Err(_) => return Err(StoreFault::OutOfMemory),
     };
     for output in outputs {
-        let name = output.name;
-        let token = match token_for::<R, K, T>(rt, store, before, name, output.value) {
-            Ok(token) => token,
+        let kept = match put_one::<R, K, T>(rt, store, before, output) {
+            Ok(kept) => kept,
             Err(fault) => return Err(fault),
-        };
-        let kept = Output {
-            name,
-            stamp: 0,
-            value: token,
         };
         match all.push(kept) {
             Ok(()) => {}
