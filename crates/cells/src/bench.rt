@@ -19,9 +19,14 @@ use std::sync::Arc;
 use value_store::{Store, StoreName};
 
 /// Tests and models, with the outcome of each test under each model as far as it is known.
-#[derive(Drop)]
 pub struct Bench<K: StoreName, T: CellTexts> {
     graph: Graph<K, T>,
+}
+
+impl<K: StoreName, T: CellTexts> Drop for Bench<K, T> {
+    fn drop(self) {
+        let Bench { graph: _ } = self;
+    }
 }
 
 impl<K: StoreName, T: CellTexts> Model for Bench<K, T> {
@@ -126,8 +131,7 @@ impl<K: StoreName, T: CellTexts> Bench<K, T> {
     pub fn finish(&mut self, done: Done<K, T>) -> Finish
         ensures { Step (meaning T.net T.is_valid T.since T.makes T.keeps T.edited) self.old (Returned done result) self.new }
     {
-        let Done { done } = done;
-        self.graph.finish(done)
+        self.graph.finish(done.into_done())
     }
 
     /// Closes a claim, and says whether it was out. It takes no memory.

@@ -1,6 +1,7 @@
 //! What is handed out to be computed, and what comes back.
 
-ghost use Rattle.std.specs.Prelude.{◌≡◌, IfOk, IfErr};
+ghost use Rattle.std.specs.Prelude.{◌≡◌, ◌≤◌, IfOk, IfErr, length, vec_len, vec_capacity};
+ghost use Rattle.memo_bench.specs.Clauses.{IsComputed, return_from};
 ghost use Rattle.cells.specs.Views.{task_answered};
 
 use crate::texts::CellTexts;
@@ -15,9 +16,14 @@ use value_store::{StoreFault, StoreName};
 pub type RunFault = StoreFault;
 
 /// What is to be computed: a node, with its inputs and their values. Any thread can run it.
-#[derive(Drop)]
 pub struct Job<K: StoreName, T: CellTexts> {
     pub(crate) job: job::Job<K, T>,
+}
+
+impl<K: StoreName, T: CellTexts> Drop for Job<K, T> {
+    fn drop(self) {
+        let Job { job: _ } = self;
+    }
 }
 
 impl<K: StoreName, T: CellTexts> Model for Job<K, T> {
@@ -30,9 +36,14 @@ impl<K: StoreName, T: CellTexts> Model for Job<K, T> {
 }
 
 /// A return: what was computed, from which inputs with which values. Only `Job::run` makes it.
-#[derive(Drop)]
 pub struct Done<K: StoreName, T: CellTexts> {
     pub(crate) done: job::Done<K, T>,
+}
+
+impl<K: StoreName, T: CellTexts> Drop for Done<K, T> {
+    fn drop(self) {
+        let Done { done: _ } = self;
+    }
 }
 
 impl<K: StoreName, T: CellTexts> Model for Done<K, T> {
@@ -84,6 +95,17 @@ impl<K: StoreName, T: CellTexts> Done<K, T> {
         ensures { result ≡ self.now.claim }
     {
         self.done.claim_number()
+    }
+
+    /// What is returned to the graph.
+    pub(crate) fn into_done(self) -> job::Done<K, T>
+        ensures done { return_from result ≡ self }
+        ensures computed { IsComputed T.makes result }
+        ensures empty { vec_len result.names ≡ 0 }
+        ensures room { length result.outputs.items ≤ vec_capacity result.names }
+    {
+        let Done { done } = self;
+        done
     }
 
     /// The same return once more.

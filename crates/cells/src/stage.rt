@@ -13,10 +13,18 @@ use std::sync::Wait;
 use value_store::{StoreFault, StoreName};
 
 /// A job, before it is run and afterwards.
-#[derive(Drop)]
 pub enum Stage<K: StoreName, T: CellTexts> {
     Waiting(Job<K, T>),
     Ran(Done<K, T>),
+}
+
+impl<K: StoreName, T: CellTexts> Drop for Stage<K, T> {
+    fn drop(self) {
+        match self {
+            Stage::Waiting(_) => {},
+            Stage::Ran(_) => {},
+        }
+    }
 }
 
 /// Whether this is the job of a claim.
@@ -55,21 +63,19 @@ fn offer_again<K: StoreName, T: CellTexts>(
     (Stage::Ran(done), copy)
 }
 
-/// What is kept of a job, and what it makes. It is run the first time.
-fn offer_from<R: Wait, K: StoreName, T: CellTexts>(
-    rt: &R,
-    alloc: Global,
-    stage: Stage<K, T>,
-) -> (Stage<K, T>, Result<Done<K, T>, RunFault>)
-    ensures tasks { stage_tasks (Some result.0) ≡ stage_tasks (Some stage) }
-    ensures made { IfOk result.1 (λ done. stage_tasks (Some stage) ≡ task_answered done ∷ []) }
-{
-    match stage {
-        Stage::Ran(done) => offer_again(alloc, done),
-        Stage::Waiting(job) => match job.run(rt, alloc) {
-            Err((job, fault)) => (Stage::Waiting(job), Err(fault)),
-            Ok(done) => offer_again(alloc, done),
-        },
+impl<K: StoreName, T: CellTexts> Stage<K, T> {
+    /// What is kept of a job, and what it makes. It is run the first time.
+    fn offered<R: Wait>(self, rt: &R, alloc: Global) -> (Stage<K, T>, Result<Done<K, T>, RunFault>)
+        ensures tasks { stage_tasks (Some result.0) ≡ stage_tasks (Some self) }
+        ensures made { IfOk result.1 (λ done. stage_tasks (Some self) ≡ task_answered done ∷ []) }
+    {
+        match self {
+            Stage::Ran(done) => offer_again(alloc, done),
+            Stage::Waiting(job) => match job.run(rt, alloc) {
+                Err((job, fault)) => (Stage::Waiting(job), Err(fault)),
+                Ok(done) => offer_again(alloc, done),
+            },
+        }
     }
 }
 
@@ -87,7 +93,7 @@ fn offer<R: Wait, K: StoreName, T: CellTexts>(
     match stage.take() {
         None => unreachable!(),
         Some(before) => {
-            let (after, made) = offer_from(rt, alloc, before);
+            let (after, made) = before.offered(rt, alloc);
             drop(replace(stage, Some(after)));
             made
         }
